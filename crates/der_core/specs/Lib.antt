@@ -1,0 +1,2 @@
+pub mod DerElement
+pub mod Encoding

@@ -1,0 +1,9 @@
+//! Basic and distinguished encoding rules of ASN.1 (X.690), as far as certificates and signatures
+//! need them: elements of definite length with tag numbers below 31, at most 64 levels deep.
+#![tactic(auto)]
+
+mod octets;
+
+
+pub use octets::Octets;
+
