@@ -1,7 +1,6 @@
 -- Data values of X.690 as data: an element is primitive, with contents octets, or constructed, with elements in order (X.690 8.1.1).
-use Rattle.std.specs.Prelude.{◌≡◌, ℕ, ◌+◌, zero, suc, List, [], ◌∷◌, refl}
-use Rattle.std.proofs.Common.{sym, ap}
-use base.Stored.{Coded, Gv, gnil, gnum, gcons, num}
+use Rattle.std.specs.Prelude.{◌≡◌, ℕ, ◌+◌, List, [], ◌∷◌, Option, Some, None, refl}
+use Rattle.std.proofs.Common.{ap}
 
 -- An element's tag is its identifier octet.
 mutual
@@ -23,6 +22,20 @@ abbrev pub listed : DerElements → List DerElement
 listed Nil = []
 listed (Cons kid kids) = kid ∷ listed kids
 
+abbrev pub tag_of : DerElement → ℕ
+tag_of (Primitive tag content) = tag
+tag_of (Constructed tag kids) = tag
+
+-- the contents octets of a primitive element
+abbrev pub content_of : DerElement → Option (List ℕ)
+content_of (Primitive tag content) = Some content
+content_of (Constructed tag kids) = None
+
+-- the elements in a constructed element
+abbrev pub kids_of : DerElement → Option (List DerElement)
+kids_of (Primitive tag content) = None
+kids_of (Constructed tag kids) = Some (listed kids)
+
 -- how many elements there are, itself among them
 abbrev mutual
   pub element_count : DerElement → ℕ
@@ -40,3 +53,6 @@ listed-row (kid ∷ kids) = ap (λ rest. kid ∷ rest) (listed-row kids)
 pub row-listed : (kids : DerElements) → row (listed kids) ≡ kids
 row-listed Nil = refl
 row-listed (Cons kid kids) = ap (Cons kid) (row-listed kids)
+
+-- facts on lists of kids that proofs rest on
+pub ruleset kid_lists = (listed-row, row-listed)

@@ -1,2 +1,5 @@
 pub mod DerElement
+pub mod Codes
 pub mod Encoding
+pub mod TreeView
+pub mod TreeFalls

@@ -3,7 +3,7 @@
 #![tactic(auto)]
 
 mod octets;
-
+mod tree;
 
 pub use octets::Octets;
-
+pub use tree::{Tree, Trees};
