@@ -2,8 +2,9 @@
 //! need them: elements of definite length with tag numbers below 31, at most 64 levels deep.
 #![tactic(auto)]
 
+mod error;
 mod octets;
 
-
+pub use error::DerError;
 pub use octets::Octets;
 
