@@ -2,8 +2,12 @@
 //! need them: elements of definite length with tag numbers below 31, at most 64 levels deep.
 #![tactic(auto)]
 
+mod error;
 mod octets;
 mod tree;
+mod writing;
 
+pub use error::DerError;
 pub use octets::Octets;
 pub use tree::{Tree, Trees};
+pub use writing::write;

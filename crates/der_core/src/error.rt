@@ -1,0 +1,39 @@
+//! Why octets are not read, or a tree is not written.
+
+ghost use Rattle.std.specs.Prelude.{◌≡◌};
+ghost use Rattle.der_core.specs.declared.error.DerError.TheVariants.{Memory};
+
+use std::alloc::{AllocError, AllocFailed};
+use thiserror::Error;
+
+#[derive(Clone, Copy, Debug, PartialEq, Eq, Error)]
+pub enum DerError {
+    /// The octets begin with no element of the distinguished encoding rules.
+    #[error("the octets begin with no element in DER of at most 64 levels")]
+    Unread,
+    /// The tree to be written has more than 64 levels.
+    #[error("the tree is nested deeper than 64 levels and cannot be written")]
+    TooDeep,
+    /// Some contents of the tree to be written pass 4,294,967,295 octets.
+    #[error("some contents of the tree pass 4294967295 octets and cannot be written")]
+    TooLong,
+    /// There was no memory left.
+    #[error("out of memory")]
+    Memory,
+}
+
+impl From<AllocError> for DerError {
+    ghost from_gives = { λ _ e. e ≡ Memory };
+
+    fn from(_refused: AllocError) -> DerError {
+        DerError::Memory
+    }
+}
+
+impl<T: Drop> From<AllocFailed<T>> for DerError {
+    ghost from_gives = { λ _ e. e ≡ Memory };
+
+    fn from(_refused: AllocFailed<T>) -> DerError {
+        DerError::Memory
+    }
+}
