@@ -12,12 +12,12 @@ use std::marker::Model;
 #[cycle(tree)]
 #[derive(Debug, Drop)]
 pub struct Tree {
-    form: Form,
+    pub(crate) form: Form,
 }
 
 #[cycle(tree)]
 #[derive(Debug, Drop)]
-enum Form {
+pub(crate) enum Form {
     Primitive(u8, Octets),
     Constructed(u8, Vec<Tree>),
 }
