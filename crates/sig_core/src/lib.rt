@@ -5,7 +5,9 @@
 #![tactic(auto)]
 
 mod algorithm;
+mod hash;
 mod scheme;
 
 pub use algorithm::{SchemeKind, SigAlg};
+pub use hash::HashAlgorithm;
 pub use scheme::{Scheme, SchemeError, Verdict};

@@ -90,7 +90,8 @@ pub trait Scheme {
         // Accepted under every key that pairs with the secret.
         ensures accepted { IfOk result (λ sig. (key : List ℕ) → pair self.now (kind_of alg) key secret.now
             → judge self.now alg key msg.now sig.items ≡ Verdict.Accept) }
-        ensures refused { IsErrOf result SchemeError.Refused → signs self.now alg secret.now msg.now ≡ false };
+        ensures refused { IsErrOf result SchemeError.Refused
+            → signs self.now alg secret.now msg.now ≡ false };
 
     /// The public key of the secret.
     fn public_of(
@@ -100,7 +101,8 @@ pub trait Scheme {
         secret: &[u8],
     ) -> Result<Vec<u8>, SchemeError>
         ensures derived { IfOk result (λ key. derives self.now kind secret.now ≡ Some key.items) }
-        ensures refused { IsErrOf result SchemeError.Refused → derives self.now kind secret.now ≡ None };
+        ensures refused { IsErrOf result SchemeError.Refused
+            → derives self.now kind secret.now ≡ None };
 
     // A derived key pairs with its secret.
     ghost derived_pairs: { (scheme : Self) (kind : SchemeKind) (secret key : List ℕ)
