@@ -3,3 +3,4 @@ pub mod Codes
 pub mod Encoding
 pub mod TreeView
 pub mod TreeFalls
+pub mod Head

@@ -3,11 +3,11 @@
 #![tactic(auto)]
 
 mod error;
+mod fault;
+mod header;
 mod octets;
 mod tree;
-mod writing;
 
 pub use error::DerError;
 pub use octets::Octets;
 pub use tree::{Tree, Trees};
-pub use writing::write;
