@@ -4,3 +4,4 @@ pub mod Encoding
 pub mod TreeView
 pub mod TreeFalls
 pub mod Head
+pub mod Fronts
