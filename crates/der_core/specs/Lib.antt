@@ -5,3 +5,4 @@ pub mod TreeView
 pub mod TreeFalls
 pub mod Head
 pub mod Fronts
+pub mod Reading

@@ -1,6 +1,7 @@
 //! Identifier and length, before any contents are copied.
 
-ghost use Rattle.std.specs.Prelude.{◌≡◌, ◌≤◌, length, MatchResult};
+ghost use Rattle.std.specs.Prelude.{◌≡◌, ◌≤◌, ◌↔◌, length, IsTrue, MatchResult};
+ghost use Rattle.der_core.specs.Encoding.{form_bit};
 ghost use Rattle.der_core.specs.Head.{past_bound, number_from, long_length_at, length_at, contents_at, head_at};
 
 use crate::fault::DerFault;
@@ -11,6 +12,15 @@ pub struct Head<'a> {
     pub tag: u8,
     pub contents: &'a [u8],
     pub rest: &'a [u8],
+}
+
+impl Head<'_> {
+    /// Whether the contents are elements (X.690 8.1.2.5).
+    pub fn is_constructed(&self) -> bool
+        ensures { IsTrue result ↔ (form_bit self.now.tag ≡ 1) }
+    {
+        self.tag >> 5 & 1 == 1
+    }
 }
 
 /// The head of the element that octets begin with, if its tests hold in their order. The octets

@@ -6,6 +6,7 @@ mod error;
 mod fault;
 mod header;
 mod octets;
+mod reading;
 mod tree;
 
 pub use error::DerError;
