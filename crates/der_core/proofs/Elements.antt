@@ -1,6 +1,6 @@
 -- The steps of a reader of trees: a leaf, a branch, one more kid, and why there is none.
-use Rattle.std.proofs.Common.{◌≡◌, ℕ, zero, suc, ◌+◌, ◌-◌, ◌<◌, ◌≤◌, List, [], ◌∷◌, ◌++◌, length, Result, Ok, Err, refl, sym, ap, subst, ◌∙◌, append_assoc, arith}
-use Rattle.std.proofs.lemmas.List.{append-nil, length-append}
+use Rattle.std.proofs.Common.{◌≡◌, ℕ, ◌-◌, ◌<◌, List, [], ◌∷◌, ◌++◌, length, drop, Ok, Err, refl, sym, ap, subst, ◌∙◌, append_assoc, arith}
+use Rattle.std.proofs.lemmas.List.{append-nil, length-append, take_at, take-append-drop}
 use Rattle.der_core.specs.declared.error.DerError.{DerError}
 use Rattle.der_core.specs.declared.error.DerError.TheVariants as errors
 use Rattle.der_core.specs.declared.fault.DerFault.{DerFault}
@@ -8,7 +8,7 @@ use Rattle.der_core.specs.DerElement.{DerElement, Primitive, Constructed, DerEle
 use Rattle.der_core.specs.Encoding.{encoding, encodings, form_bit, IsDerWithin}
 use Rattle.der_core.specs.Fronts.{ok_is, some_octets, fronts}
 use Rattle.der_core.specs.Head.{head_at}
-use Rattle.der_core.specs.Reading.{AreDerWithin, HasElement, HasElements, RefusesUnread}
+use Rattle.der_core.specs.Reading.{AreDerWithin, HasElement, HasElements, IsFirst, RefusesUnread}
 use Rattle.der_core.proofs.Heads.{HasHead, contents_of, head_again}
 
 pub refuses_as : (P Q : Type 0) (e : DerError) → (P → Q) → RefusesUnread P e → RefusesUnread Q e
@@ -70,3 +70,27 @@ others levels octets after kid (Cons a elements) der parts all same =
 
 pub rest_goes_on : (levels : ℕ) (octets after : List ℕ) (kid : DerElement) → IsDerWithin levels kid → octets ≡ encoding kid ++ after → HasElements levels octets → HasElements levels after
 rest_goes_on levels octets after kid der parts has = others levels octets after kid has.0 der parts has.1 has.2
+
+-- ---- the first element of octets
+
+pub first_read : (octets rest : List ℕ) (a : DerElement) → IsDerWithin 64 a → octets ≡ encoding a ++ rest → IsFirst octets a (length octets - length rest)
+first_read octets rest a der parts =
+    let many : length octets - length rest ≡ length (encoding a) = omega (arith, ap length parts, length-append (encoding a) rest) in
+    record { der = der; many = many; front = rw (many, parts) (take_at (encoding a) rest (length (encoding a)) refl) }
+
+pub first_parts : (octets : List ℕ) (a : DerElement) (n : ℕ) → IsFirst octets a n → octets ≡ encoding a ++ drop n octets
+first_parts octets a n first = sym (take-append-drop n octets) ∙ ap (λ (o : List ℕ). o ++ drop n octets) first.front
+
+pub first_once : (octets : List ℕ) (a b : DerElement) (m n : ℕ) → IsFirst octets a m → IsFirst octets b n → (a ≡ b) × (m ≡ n)
+first_once octets a b m n first second =
+    let same = (fronts a b (drop m octets) (drop n octets) first.der.formed second.der.formed first.der.short second.der.short (sym (first_parts octets a m first) ∙ first_parts octets b n second)).0 in
+    (same, first.many ∙ ap (λ (t : DerElement). length (encoding t)) same ∙ sym second.many)
+
+pub first_stands : (octets : List ℕ) (a : DerElement) (n : ℕ) → IsFirst octets a n → HasElement 64 octets
+first_stands octets a n first = (a, drop n octets, first.der, first_parts octets a n first)
+
+pub only_memory : (octets : List ℕ) (a : DerElement) (n : ℕ) (e : DerError) → IsFirst octets a n → RefusesUnread (HasElement 64 octets → ⊥) e → e ≡ errors.Memory
+only_memory octets a n errors.Memory first refused = refl
+only_memory octets a n errors.Unread first refused = absurd (refused (first_stands octets a n first))
+only_memory octets a n errors.TooDeep first refused = absurd refused
+only_memory octets a n errors.TooLong first refused = absurd refused

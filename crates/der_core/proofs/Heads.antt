@@ -1,12 +1,12 @@
 -- A head that is read is that of an encoding, and that of an encoding is read.
-use Rattle.std.proofs.Common.{◌≡◌, ℕ, zero, suc, ◌+◌, ◌%◌, ◌^◌, ◌<◌, ◌≤◌, Bool, true, false, cond, ltb, eqb, List, [], ◌∷◌, ◌++◌, length, take, drop, Result, Ok, Err, refl, sym, ap, subst, ◌∙◌, append_assoc, arith, inl, inr}
+use Rattle.std.proofs.Common.{◌≡◌, ℕ, suc, ◌%◌, ◌^◌, ◌<◌, ◌≤◌, false, cond, ltb, eqb, List, [], ◌∷◌, ◌++◌, length, take, drop, Result, Ok, Err, refl, sym, ap, subst, ◌∙◌, append_assoc, arith}
 use Rattle.std.proofs.lemmas.Bool.{ltb-false, le-ltb, eqb-false, ne_eqb}
 use Rattle.std.proofs.lemmas.List.{take_at, drop_at, take-append-drop, length-append, length-take-le}
 use Rattle.der_core.specs.declared.fault.DerFault.{DerFault}
 use Rattle.der_core.specs.declared.fault.DerFault.TheVariants.{ReservedTag, HighTag, TooDeep}
-use Rattle.der_core.specs.DerElement.{DerElement, Primitive, Constructed, DerElements, Nil, Cons, tag_of}
+use Rattle.der_core.specs.DerElement.{DerElement, Primitive, Constructed, tag_of}
 use Rattle.der_core.specs.Encoding.{length_octets, framed, encoding, encodings, IsTag, IsDerWithin}
-use Rattle.der_core.specs.Fronts.{done, ok_is, length_again}
+use Rattle.der_core.specs.Fronts.{ok_is, length_again}
 use Rattle.der_core.specs.Head.{◌>>=◌, past_bound, length_at, contents_at, head_at}
 use Rattle.der_core.proofs.Lengths.{IsOctets, bind_ok, guard_ok, HasLength, length_taken}
 
@@ -65,7 +65,7 @@ contents_taken past octets contents rest fits e =
     let b = bind_ok (length_at past octets) (λ n. cond (ltb (length n.1) n.0) (Err past) (Ok (take n.0 n.1, drop n.0 n.1))) (contents, rest) e in
     let g = guard_ok (ltb (length b.0.1) b.0.0) past (Ok (take b.0.0 b.0.1, drop b.0.0 b.0.1)) (contents, rest) b.2 in
     subst (λ (p : List ℕ × List ℕ). HasContents octets p.0 p.1) (ok_is (take b.0.0 b.0.1, drop b.0.0 b.0.1) (contents, rest) g.1)
-      (length_then b.0.0 octets b.0.1 (length_taken past octets b.0.0 b.0.1 fits b.1) (ltb-false _ _ g.0))
+    (length_then b.0.0 octets b.0.1 (length_taken past octets b.0.0 b.0.1 fits b.1) (ltb-false _ _ g.0))
 
 pub head_taken : (levels : ℕ) (octets : List ℕ) (tag : ℕ) (contents rest : List ℕ) → IsOctets octets → head_at levels octets ≡ Ok (tag, contents, rest) → HasHead levels octets tag contents rest
 unfolding head_at

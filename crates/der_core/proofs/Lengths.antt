@@ -1,9 +1,9 @@
 -- A length that is read is spelled as it is written.
-use Rattle.std.proofs.Common.{◌≡◌, ℕ, zero, suc, ◌+◌, ◌*◌, ◌/◌, ◌%◌, ◌^◌, ◌<◌, ◌≤◌, Bool, true, false, cond, ltb, eqb, List, [], ◌∷◌, ◌++◌, length, get_or, take, drop, Result, Ok, Err, refl, sym, ap, subst, ◌∙◌, append_assoc, arith, inl, inr, ◌⊎◌}
+use Rattle.std.proofs.Common.{◌≡◌, ℕ, suc, ◌/◌, ◌%◌, ◌^◌, ◌<◌, ◌≤◌, Bool, true, false, cond, ltb, eqb, List, [], ◌∷◌, ◌++◌, length, get_or, take, drop, Result, Ok, Err, refl, sym, ap, ◌∙◌, arith, inl, inr, ◌⊎◌}
 use Rattle.std.proofs.lemmas.Bool.{cases_lt, cases_Bool, ltb-true, ltb-false, lt-ltb, le-ltb, eqb-true}
-use Rattle.std.proofs.lemmas.List.{take_at, drop_at, take-append-drop, length-append, length-take-le, get_or_append_left, get_or_past}
+use Rattle.std.proofs.lemmas.List.{take-append-drop, length-take-le, get_or_append_left, get_or_past}
 use Rattle.der_core.specs.declared.fault.DerFault.{DerFault}
-use Rattle.der_core.specs.declared.fault.DerFault.TheVariants.{Indefinite, NotShortest, WideLength}
+use Rattle.der_core.specs.declared.fault.DerFault.TheVariants.{NotShortest}
 use Rattle.der_core.specs.Encoding.{length_octets}
 use Rattle.der_core.specs.Fronts.{done, ok_is}
 use Rattle.der_core.specs.Head.{◌>>=◌, number_from, long_length_at, length_at}

@@ -1,6 +1,6 @@
 -- No encoding is a front of another: the octets of a length say where it ends, and a length where its contents end (X.690 8.1.1.4).
-use Rattle.std.specs.Prelude.{◌≡◌, ℕ, ◌+◌, ◌*◌, ◌/◌, ◌%◌, ◌^◌, ◌<◌, ◌≤◌, Bool, true, false, List, [], ◌∷◌, ◌++◌, length, take, drop, Result, Ok, refl}
-use Rattle.std.proofs.Common.{ltb, sym, ap, subst, ◌∙◌, append_assoc, arith, inl, inr}
+use Rattle.std.specs.Prelude.{◌≡◌, ℕ, ◌/◌, ◌%◌, ◌^◌, ◌<◌, ◌≤◌, true, false, List, [], ◌∷◌, ◌++◌, length, take, drop, Result, Ok, refl}
+use Rattle.std.proofs.Common.{ltb, sym, ap, ◌∙◌, append_assoc, arith, inl, inr}
 use Rattle.std.proofs.lemmas.Bool.{cases_lt, lt-ltb, le-ltb}
 use Rattle.std.proofs.lemmas.List.{take_at, drop_at, length-append}
 use Rattle.der_core.specs.declared.fault.DerFault.{DerFault}
@@ -46,7 +46,6 @@ length_again past n rest below =
           ]
     ]
 
-
 abbrev tail : List ℕ → List ℕ
 tail [] = []
 tail (octet ∷ octets) = octets
@@ -56,9 +55,10 @@ front_or_zero [] = 0
 front_or_zero (octet ∷ octets) = octet
 
 same_fronts : (a b x y : List ℕ) → length a ≡ length b → a ++ x ≡ b ++ y → (a ≡ b) × (x ≡ y)
-same_fronts a b x y len e =
-    (sym (take_at a x (length b) len) ∙ ap (take (length b)) e ∙ take_at b y (length b) refl,
-     sym (drop_at a x (length b) len) ∙ ap (drop (length b)) e ∙ drop_at b y (length b) refl)
+same_fronts a b x y len e = (
+  sym (take_at a x (length b) len) ∙ ap (take (length b)) e ∙ take_at b y (length b) refl,
+  sym (drop_at a x (length b) len) ∙ ap (drop (length b)) e ∙ drop_at b y (length b) refl,
+)
 
 same_lengths : (m n : ℕ) (x y : List ℕ) → m < 2 ^ 32 → n < 2 ^ 32 → length_octets m ++ x ≡ length_octets n ++ y → (m ≡ n) × (x ≡ y)
 same_lengths m n x y below below' e =

@@ -27,11 +27,9 @@ impl Head<'_> {
 /// end where the element has to end at the latest.
 #[tactic(auto, unfolding(crate::specs::Head::head_at))]
 pub fn head_of(octets: &[u8], levels: u8) -> Result<Head<'_>, DerFault>
-    ensures {
-        MatchResult result
-            (λ head. head_at levels octets.now ≡ Ok (head.tag, head.contents.now, head.rest.now))
-            (λ fault. head_at levels octets.now ≡ Err fault)
-    }
+    ensures { MatchResult result
+        (λ head. head_at levels octets.now ≡ Ok (head.tag, head.contents.now, head.rest.now))
+        (λ fault. head_at levels octets.now ≡ Err fault) }
 {
     let past = past_bound_of(levels);
     let Some((tag, octets)) = octets.split_first() else {
@@ -69,11 +67,9 @@ fn past_bound_of(levels: u8) -> DerFault
 /// The length that octets begin with, contents of that length, and the octets after them.
 #[tactic(auto, unfolding(crate::specs::Head::contents_at))]
 fn contents_of(octets: &[u8], past: DerFault) -> Result<(&[u8], &[u8]), DerFault>
-    ensures {
-        MatchResult result
-            (λ c. contents_at past octets.now ≡ Ok (c.0.now, c.1.now))
-            (λ fault. contents_at past octets.now ≡ Err fault)
-    }
+    ensures { MatchResult result
+        (λ c. contents_at past octets.now ≡ Ok (c.0.now, c.1.now))
+        (λ fault. contents_at past octets.now ≡ Err fault) }
 {
     let (length, octets) = length_of(octets, past)?;
     if octets.len() < length {
@@ -85,11 +81,9 @@ fn contents_of(octets: &[u8], past: DerFault) -> Result<(&[u8], &[u8]), DerFault
 /// The length that octets begin with, and the octets after it (X.690 8.1.3).
 #[tactic(auto, unfolding(crate::specs::Head::length_at))]
 fn length_of(octets: &[u8], past: DerFault) -> Result<(usize, &[u8]), DerFault>
-    ensures {
-        MatchResult result
-            (λ n. length_at past octets.now ≡ Ok (n.0, n.1.now))
-            (λ fault. length_at past octets.now ≡ Err fault)
-    }
+    ensures { MatchResult result
+        (λ n. length_at past octets.now ≡ Ok (n.0, n.1.now))
+        (λ fault. length_at past octets.now ≡ Err fault) }
 {
     let Some((first, octets)) = octets.split_first() else {
         return Err(past);
@@ -107,13 +101,16 @@ fn length_of(octets: &[u8], past: DerFault) -> Result<(usize, &[u8]), DerFault>
 
 /// A length in `count` octets, which has to be at least the one that needs so many (X.690 10.1).
 #[tactic(auto, unfolding(crate::specs::Head::long_length_at))]
-fn long_length_of(octets: &[u8], past: DerFault, count: usize, least: usize) -> Result<(usize, &[u8]), DerFault>
+fn long_length_of(
+    octets: &[u8],
+    past: DerFault,
+    count: usize,
+    least: usize,
+) -> Result<(usize, &[u8]), DerFault>
     requires { count ≤ 4 }
-    ensures {
-        MatchResult result
-            (λ n. long_length_at count least past octets.now ≡ Ok (n.0, n.1.now))
-            (λ fault. long_length_at count least past octets.now ≡ Err fault)
-    }
+    ensures { MatchResult result
+        (λ n. long_length_at count least past octets.now ≡ Ok (n.0, n.1.now))
+        (λ fault. long_length_at count least past octets.now ≡ Err fault) }
 {
     if octets.len() < count {
         return Err(past);

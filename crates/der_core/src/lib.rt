@@ -5,10 +5,13 @@
 mod error;
 mod fault;
 mod header;
+mod laws;
 mod octets;
 mod reading;
 mod tree;
 
 pub use error::DerError;
+pub use laws::no_encoding_begins_another;
 pub use octets::Octets;
+pub use reading::read_first;
 pub use tree::{Tree, Trees};

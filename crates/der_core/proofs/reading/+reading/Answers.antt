@@ -1,9 +1,9 @@
-use Rattle.std.proofs.Common.{◌≡◌, ℕ, ◌+◌, ◌-◌, ◌<◌, ◌≤◌, List, ◌++◌, length, sym, ap, ◌∙◌, append_assoc, arith, rules}
+use Rattle.std.proofs.Common.{◌≡◌, ℕ, ◌-◌, ◌<◌, List, ◌++◌, length, sym, ap, ◌∙◌, append_assoc, arith}
 use Rattle.std.proofs.lemmas.Bool.{iff_false, eqb-false}
 use Rattle.std.proofs.lemmas.Result.{err_from_is_err_and}
-use Rattle.der_core.specs.DerElement.{row, Primitive, Constructed}
-use Rattle.der_core.specs.Encoding.{encoding, encodings, IsDerWithin}
-use Rattle.der_core.specs.Reading.{AreDerWithin, HasElement, HasElements, RefusesUnread}
+use Rattle.der_core.specs.DerElement.{row}
+use Rattle.der_core.specs.Encoding.{encoding, encodings}
+use Rattle.der_core.specs.Reading.{HasElement, HasElements}
 use Rattle.der_core.proofs.Heads.{head_taken}
 use Rattle.der_core.proofs.Elements.{refuses_as, leaf_read, branch_read, push_read, encodings_push, no_head, no_kids, no_first, rest_goes_on}
 use Rattle.der_core.proofs.reading.+reading.Goals as goal
@@ -25,7 +25,7 @@ tree_of-returns-in_err-kids t c =
     let p = err_from_is_err_and c.from_residual.result c.from_residual.ensures.1 in
     let bit = c.is_constructed.ensures.0 c.if-is_constructed.true in
     rw (p.1, p.2) (refuses_as (HasElements (c.args.levels - 1) c.in-Ok.head.contents.now → ⊥) (HasElement c.args.levels c.args.octets.now → ⊥) c.in_err-kids.field-0.0
-      (no_kids c.args.levels c.in-Ok.head.tag c.args.octets.now c.in-Ok.head.contents.now c.in-Ok.head.rest.now c.in-Ok.ensures bit) c.in_err-kids.ensures)
+    (no_kids c.args.levels c.in-Ok.head.tag c.args.octets.now c.in-Ok.head.contents.now c.in-Ok.head.rest.now c.in-Ok.ensures bit) c.in_err-kids.ensures)
 
 pub tree_of-returns-in_ok-kids : goal.tree_of-returns-in_ok-kids
 tree_of-returns-in_ok-kids t c =
@@ -44,7 +44,7 @@ trees_of-returns-in_err-kid t c =
     let not_empty : length c.loop-rest.rest.now ≡ 0 → ⊥ = eqb-false _ _ (sym c.is_empty.ensures ∙ c.loop-rest-test.true) in
     let some : 0 < length c.loop-rest.rest.now = omega arith in
     rw (p.1, p.2) (refuses_as (HasElement c.args.levels c.loop-rest.rest.now → ⊥) (HasElements c.args.levels c.args.octets.now → ⊥) c.in_err-kid.field-0.0
-      (λ none has. no_first c.args.levels c.loop-rest.rest.now some none (c.loop-rest.invariant.goes_on has)) c.in_err-kid.ensures)
+    (λ none has. no_first c.args.levels c.loop-rest.rest.now some none (c.loop-rest.invariant.goes_on has)) c.in_err-kid.ensures)
 
 pub trees_of-loop-rest-preserved : goal.trees_of-loop-rest-preserved
 trees_of-loop-rest-preserved t c =
