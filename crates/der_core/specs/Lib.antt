@@ -6,3 +6,4 @@ pub mod TreeFalls
 pub mod Head
 pub mod Fronts
 pub mod Reading
+pub mod Writing

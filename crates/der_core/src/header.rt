@@ -5,6 +5,7 @@ ghost use Rattle.der_core.specs.Encoding.{form_bit};
 ghost use Rattle.der_core.specs.Head.{past_bound, number_from, long_length_at, length_at, contents_at, head_at};
 
 use crate::fault::DerFault;
+use crate::tree::LEVELS;
 
 /// An element as far as its head tells it, and the octets after it.
 #[derive(Clone, Copy)]
@@ -57,7 +58,7 @@ pub fn head_of(octets: &[u8], levels: u8) -> Result<Head<'_>, DerFault>
 fn past_bound_of(levels: u8) -> DerFault
     ensures { result ≡ past_bound levels }
 {
-    if levels == 64 {
+    if levels == LEVELS {
         DerFault::Truncated
     } else {
         DerFault::Overrun

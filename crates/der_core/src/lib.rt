@@ -9,9 +9,11 @@ mod laws;
 mod octets;
 mod reading;
 mod tree;
+mod writing;
 
 pub use error::DerError;
 pub use laws::no_encoding_begins_another;
 pub use octets::Octets;
 pub use reading::read_first;
 pub use tree::{Tree, Trees};
+pub use writing::write;

@@ -8,7 +8,7 @@ ghost use Rattle.der_core.specs.Reading.{AreDerWithin, HasElement, HasElements, 
 use crate::error::DerError;
 use crate::header::head_of;
 use crate::octets::Octets;
-use crate::tree::{Tree, Trees};
+use crate::tree::{Tree, Trees, LEVELS};
 use std::alloc::Global;
 
 /// The first element of the octets as a tree, and how many octets it takes.
@@ -20,7 +20,7 @@ pub fn read_first(alloc: Global, bytes: &[u8]) -> Result<(Tree, usize), DerError
     // It refuses for want of memory, or where the octets begin with no element.
     ensures refused { IfErr result (λ e. RefusesUnread (HasNoFirst bytes.now) e) }
 {
-    let (tree, rest) = tree_of(alloc, bytes, 64)?;
+    let (tree, rest) = tree_of(alloc, bytes, LEVELS)?;
     Ok((tree, bytes.len() - rest.len()))
 }
 

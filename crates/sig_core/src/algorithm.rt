@@ -1,0 +1,68 @@
+//! The algorithms of signatures.
+
+ghost use Rattle.std.specs.Prelude.{◌≡◌};
+ghost use Rattle.sig_core.specs.Algorithm.{name_of, kind_of};
+
+/// The kinds of keys: RSA, the named curves, and the Edwards and Montgomery forms of curve 25519.
+#[derive(Clone, Copy, PartialEq, Eq, Debug)]
+pub enum SchemeKind {
+    Rsa,
+    P256,
+    P384,
+    P521,
+    Ed25519,
+    X25519,
+}
+
+/// The algorithms of signatures: a kind of key and the digest that it signs.
+#[derive(Clone, Copy, PartialEq, Eq, Debug)]
+pub enum SigAlg {
+    RsaMd5,
+    RsaSha1,
+    RsaSha224,
+    RsaSha256,
+    RsaSha384,
+    RsaSha512,
+    P256Sha256,
+    P384Sha384,
+    P521Sha512,
+    Ed25519,
+}
+
+impl SigAlg {
+    /// The name of the algorithm, as a verdict table spells it.
+    pub fn name(self) -> &'static str
+        ensures { result.now ≡ name_of self }
+    {
+        match self {
+            SigAlg::RsaMd5 => "rsa-md5",
+            SigAlg::RsaSha1 => "rsa-sha1",
+            SigAlg::RsaSha224 => "rsa-sha224",
+            SigAlg::RsaSha256 => "rsa-sha256",
+            SigAlg::RsaSha384 => "rsa-sha384",
+            SigAlg::RsaSha512 => "rsa-sha512",
+            SigAlg::P256Sha256 => "p256-sha256",
+            SigAlg::P384Sha384 => "p384-sha384",
+            SigAlg::P521Sha512 => "p521-sha512",
+            SigAlg::Ed25519 => "ed25519",
+        }
+    }
+
+    /// The kind of key that the algorithm takes.
+    pub fn kind(self) -> SchemeKind
+        ensures { result ≡ kind_of self }
+    {
+        match self {
+            SigAlg::RsaMd5
+            | SigAlg::RsaSha1
+            | SigAlg::RsaSha224
+            | SigAlg::RsaSha256
+            | SigAlg::RsaSha384
+            | SigAlg::RsaSha512 => SchemeKind::Rsa,
+            SigAlg::P256Sha256 => SchemeKind::P256,
+            SigAlg::P384Sha384 => SchemeKind::P384,
+            SigAlg::P521Sha512 => SchemeKind::P521,
+            SigAlg::Ed25519 => SchemeKind::Ed25519,
+        }
+    }
+}

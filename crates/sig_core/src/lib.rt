@@ -1,0 +1,13 @@
+//! Digests, the algorithms of signatures, and what it means for a signature to be accepted.
+//!
+//! Whether a signature belongs to a key and a message is never computed here: a `Scheme` says so.
+//! The one scheme of this crate, `VerdictTable`, accepts exactly what the rows of a file name.
+#![tactic(auto)]
+
+mod algorithm;
+mod hash;
+mod scheme;
+
+pub use algorithm::{SchemeKind, SigAlg};
+pub use hash::HashAlgorithm;
+pub use scheme::{Scheme, SchemeError, Verdict};
