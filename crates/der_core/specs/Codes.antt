@@ -1,6 +1,6 @@
 -- Elements have codes: an injective map into trees of numbers, by which proofs tell elements apart.
-use Rattle.std.specs.Prelude.{◌≡◌, ℕ, zero, suc, List, [], ◌∷◌, refl}
-use Rattle.std.proofs.Common.{sym, ◌∙◌, ap}
+use Rattle.std.specs.Prelude.{◌≡◌, ℕ, List, refl}
+use Rattle.std.proofs.Common.{◌∙◌, ap}
 use Rattle.std.specs.Coded.{coded_list}
 use base.Stored.{Coded, Gv, gnil, gnum, gcons, num, coded_ℕ}
 use Rattle.der_core.specs.DerElement.{DerElement, Primitive, Constructed, DerElements, Nil, Cons}

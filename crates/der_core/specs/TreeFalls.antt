@@ -1,5 +1,5 @@
 -- A kid of a tree is smaller than the tree.
-use Rattle.std.specs.Prelude.{ℕ, ◌+◌, ◌≤◌, max, List, [], ◌∷◌}
+use Rattle.std.specs.Prelude.{◌+◌, ◌≤◌, max, List, [], ◌∷◌}
 use Rattle.std.proofs.Common.{arith}
 use denote.Param.Weighed.{most}
 use Rattle.der_core.specs.DerElement.{DerElement, element_count, elements_count, row}

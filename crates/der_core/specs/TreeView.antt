@@ -1,9 +1,7 @@
 -- What a tree of memory means: the element that it holds.
-use Rattle.std.specs.Prelude.{ℕ}
 use Rattle.der_core.specs.DerElement.{DerElement, Primitive, Constructed, row}
 use Rattle.der_core.specs.declared.tree.Form.{Form}
 use Rattle.der_core.specs.declared.tree.Form.TheVariants as forms
-use Rattle.der_core.specs.declared.tree.Tree.TheInside.{Inside}
 
 -- the element in one level of memory, whose kids are elements already
 abbrev pub element_of : Form → DerElement

@@ -3,11 +3,17 @@
 #![tactic(auto)]
 
 mod error;
+mod fault;
+mod header;
+mod laws;
 mod octets;
+mod reading;
 mod tree;
 mod writing;
 
 pub use error::DerError;
+pub use laws::no_encoding_begins_another;
 pub use octets::Octets;
+pub use reading::read_first;
 pub use tree::{Tree, Trees};
 pub use writing::write;

@@ -9,11 +9,8 @@ ghost use Rattle.der_core.specs.Encoding.{IsWellFormed, IsDer, IsShort, nesting,
 ghost use Rattle.der_core.specs.Writing.{RefusesToWrite, RefusesLong};
 
 use crate::error::DerError;
-use crate::tree::{Form, Tree};
+use crate::tree::{Form, Tree, LEVELS};
 use std::alloc::{AllocError, Global};
-
-/// How many levels an element may have.
-const LEVELS: u8 = 64;
 
 /// Writes a tree in DER, each length in its shortest form (X.690 8.1, 10.1).
 ///

@@ -1,0 +1,89 @@
+-- A head that is read is that of an encoding, and that of an encoding is read.
+use Rattle.std.proofs.Common.{◌≡◌, ℕ, suc, ◌%◌, ◌^◌, ◌<◌, ◌≤◌, false, cond, ltb, eqb, List, [], ◌∷◌, ◌++◌, length, take, drop, Result, Ok, Err, refl, sym, ap, subst, ◌∙◌, append_assoc, arith}
+use Rattle.std.proofs.lemmas.Bool.{ltb-false, le-ltb, eqb-false, ne_eqb}
+use Rattle.std.proofs.lemmas.List.{take_at, drop_at, take-append-drop, length-append, length-take-le}
+use Rattle.der_core.specs.declared.fault.DerFault.{DerFault}
+use Rattle.der_core.specs.declared.fault.DerFault.TheVariants.{ReservedTag, HighTag, TooDeep}
+use Rattle.der_core.specs.DerElement.{DerElement, Primitive, Constructed, tag_of}
+use Rattle.der_core.specs.Encoding.{length_octets, framed, encoding, encodings, IsTag, IsDerWithin}
+use Rattle.der_core.specs.Fronts.{ok_is, length_again}
+use Rattle.der_core.specs.Head.{◌>>=◌, past_bound, length_at, contents_at, head_at}
+use Rattle.der_core.proofs.Lengths.{IsOctets, bind_ok, guard_ok, HasLength, length_taken}
+
+-- ---- what was written is read again
+
+contents_again : (past : DerFault) (contents rest : List ℕ) → length contents < 2 ^ 32 → contents_at past ((length_octets (length contents) ++ contents) ++ rest) ≡ Ok (contents, rest)
+unfolding contents_at
+contents_again past contents rest short =
+    let regrouped : (length_octets (length contents) ++ contents) ++ rest ≡ length_octets (length contents) ++ (contents ++ rest) = append_assoc (length_octets (length contents)) contents rest in
+    let there : ltb (length (contents ++ rest)) (length contents) ≡ false = le-ltb _ _ (omega (arith, length-append contents rest)) in
+    rw (regrouped, length_again past (length contents) (contents ++ rest) short, there, take_at contents rest (length contents) refl, drop_at contents rest (length contents) refl) refl
+
+pub framed_again : (levels tag : ℕ) (contents rest : List ℕ) → 0 < levels → IsTag tag → length contents < 2 ^ 32 → head_at levels (framed tag contents ++ rest) ≡ Ok (tag, contents, rest)
+unfolding head_at
+framed_again levels tag contents rest some is_tag short =
+    let not_zero : eqb tag 0 ≡ false = ne_eqb _ _ is_tag.1 in
+    let not_high : eqb (tag % 32) 31 ≡ false = ne_eqb _ _ is_tag.2 in
+    let not_deep : eqb levels 0 ≡ false = ne_eqb _ _ (λ e. omega arith) in
+    rw (not_zero, not_high, not_deep, contents_again (past_bound levels) contents rest short) refl
+
+-- the contents of an element as octets
+abbrev pub contents_of : DerElement → List ℕ
+contents_of (Primitive tag content) = content
+contents_of (Constructed tag kids) = encodings kids
+
+pub head_again : (levels : ℕ) (a : DerElement) (rest : List ℕ) → IsDerWithin levels a → head_at levels (encoding a ++ rest) ≡ Ok (tag_of a, contents_of a, rest)
+head_again levels (Primitive tag content) rest der = framed_again levels tag content rest der.nested der.formed.0 der.short
+head_again levels (Constructed tag kids) rest der = framed_again levels tag (encodings kids) rest (omega (arith, der.nested)) der.formed.0 der.short.0
+
+-- ---- what was read is as it was written
+
+-- a head that was read from the front of octets
+pub record HasHead (levels : ℕ) (octets : List ℕ) (tag : ℕ) (contents rest : List ℕ) : Type 0 where
+  pub parts : octets ≡ framed tag contents ++ rest
+  pub is_tag : IsTag tag
+  pub short : length contents < 2 ^ 32
+  pub some : 0 < levels
+
+record HasContents (octets contents rest : List ℕ) : Type 0 where
+  parts : octets ≡ (length_octets (length contents) ++ contents) ++ rest
+  short : length contents < 2 ^ 32
+
+-- a length that was read, and so many octets after it
+length_then : (n : ℕ) (octets after : List ℕ) → HasLength octets n after → n ≤ length after → HasContents octets (take n after) (drop n after)
+length_then n octets after h enough =
+    let len : length (take n after) ≡ n = length-take-le n after enough in
+    let whole : after ≡ take n after ++ drop n after = sym (take-append-drop n after) in
+    record {
+      parts = h.parts ∙ ap (λ (o : List ℕ). length_octets n ++ o) whole ∙ sym (append_assoc (length_octets n) (take n after) (drop n after)) ∙ ap (λ (m : ℕ). (length_octets m ++ take n after) ++ drop n after) (sym len);
+      short = omega (arith, h.short);
+    }
+
+contents_taken : (past : DerFault) (octets contents rest : List ℕ) → IsOctets octets → contents_at past octets ≡ Ok (contents, rest) → HasContents octets contents rest
+unfolding contents_at
+contents_taken past octets contents rest fits e =
+    let b = bind_ok (length_at past octets) (λ n. cond (ltb (length n.1) n.0) (Err past) (Ok (take n.0 n.1, drop n.0 n.1))) (contents, rest) e in
+    let g = guard_ok (ltb (length b.0.1) b.0.0) past (Ok (take b.0.0 b.0.1, drop b.0.0 b.0.1)) (contents, rest) b.2 in
+    subst (λ (p : List ℕ × List ℕ). HasContents octets p.0 p.1) (ok_is (take b.0.0 b.0.1, drop b.0.0 b.0.1) (contents, rest) g.1)
+    (length_then b.0.0 octets b.0.1 (length_taken past octets b.0.0 b.0.1 fits b.1) (ltb-false _ _ g.0))
+
+pub head_taken : (levels : ℕ) (octets : List ℕ) (tag : ℕ) (contents rest : List ℕ) → IsOctets octets → head_at levels octets ≡ Ok (tag, contents, rest) → HasHead levels octets tag contents rest
+unfolding head_at
+head_taken levels [] tag contents rest fits e = absurd cc
+head_taken levels (first ∷ octets) tag contents rest fits e =
+    let after : IsOctets octets = λ i. fits (suc i) in
+    let last : Result (ℕ × List ℕ × List ℕ) DerFault = contents_at (past_bound levels) octets >>= λ c. Ok (first, c.0, c.1) in
+    let z = guard_ok (eqb first 0) ReservedTag (cond (eqb (first % 32) 31) (Err HighTag) (cond (eqb levels 0) (Err TooDeep) last)) (tag, contents, rest) e in
+    let h = guard_ok (eqb (first % 32) 31) HighTag (cond (eqb levels 0) (Err TooDeep) last) (tag, contents, rest) z.1 in
+    let d = guard_ok (eqb levels 0) TooDeep last (tag, contents, rest) h.1 in
+    let b = bind_ok (contents_at (past_bound levels) octets) (λ c. Ok (first, c.0, c.1)) (tag, contents, rest) d.1 in
+    let c = contents_taken (past_bound levels) octets b.0.0 b.0.1 after b.1 in
+    let made : ℕ × List ℕ × List ℕ = (first, b.0.0, b.0.1) in
+    let found : ℕ × List ℕ × List ℕ = (tag, contents, rest) in
+    let not_deep : levels ≡ 0 → ⊥ = eqb-false _ _ d.0 in
+    subst (λ (p : ℕ × List ℕ × List ℕ). HasHead levels (first ∷ octets) p.0 p.1 p.2) (ok_is made found b.2) (record {
+      parts = ap (λ (o : List ℕ). first ∷ o) c.parts;
+      is_tag = (fits 0, eqb-false _ _ z.0, eqb-false _ _ h.0);
+      short = c.short;
+      some = omega arith;
+    })

@@ -1,0 +1,53 @@
+-- What an element begins with: the tests of its identifier and length in order, and the first that fails (X.690 8.1.2, 8.1.3, 10.1).
+use Rattle.std.specs.Prelude.{ℕ, ◌+◌, ◌*◌, ◌%◌, ◌^◌, nat_lt, ◌==◌, if◌then◌else◌, List, [], ◌∷◌, length, take, drop, Result, Ok, Err}
+use Rattle.der_core.specs.declared.fault.DerFault.{DerFault}
+use Rattle.der_core.specs.declared.fault.DerFault.TheVariants.{Truncated, ReservedTag, HighTag, Indefinite, NotShortest, WideLength, TooDeep, Overrun}
+
+-- the step that follows where a step didn't fail
+infixl 10 ◌>>=◌
+abbrev pub ◌>>=◌ : {A B : Type 0} → Result A DerFault → (A → Result B DerFault) → Result B DerFault
+(Ok x) >>= f = f x
+(Err fault) >>= f = Err fault
+
+-- Octets are wanted past the bound: the outermost element, which has all 64 levels left, is cut off, an inner one runs over the contents that it is in.
+abbrev pub past_bound : ℕ → DerFault
+past_bound levels = if levels == 64 then Truncated else Overrun
+
+-- the number that octets write, the most significant first, after the digits that n stands for (X.690 8.1.3.5)
+abbrev pub number_from : ℕ → List ℕ → ℕ
+number_from n [] = n
+number_from n (octet ∷ octets) = number_from (n * 256 + octet) octets
+
+-- A length in so many further octets is one for which fewer don't do: it isn't below the least such number (X.690 10.1).
+unfoldable pub long_length_at : ℕ → ℕ → DerFault → List ℕ → Result (ℕ × List ℕ) DerFault
+long_length_at count least past octets =
+    if nat_lt (length octets) count then Err past
+    else (if nat_lt (number_from 0 (take count octets)) least then Err NotShortest
+    else Ok (number_from 0 (take count octets), drop count octets))
+
+-- the length that octets begin with, and the octets after it (X.690 8.1.3)
+unfoldable pub length_at : DerFault → List ℕ → Result (ℕ × List ℕ) DerFault
+length_at past [] = Err past
+length_at past (first ∷ rest) =
+    if nat_lt first 128 then Ok (first, rest)
+    else (if first == 128 then Err Indefinite
+    else (if first == 129 then long_length_at 1 (2 ^ 7) past rest
+    else (if first == 130 then long_length_at 2 (2 ^ 8) past rest
+    else (if first == 131 then long_length_at 3 (2 ^ 16) past rest
+    else (if first == 132 then long_length_at 4 (2 ^ 24) past rest
+    else Err WideLength)))))
+
+-- contents of the length that octets begin with, and the octets after them
+unfoldable pub contents_at : DerFault → List ℕ → Result (List ℕ × List ℕ) DerFault
+contents_at past octets = do
+  n ← length_at past octets
+  if nat_lt (length n.1) n.0 then Err past else Ok (take n.0 n.1, drop n.0 n.1)
+
+-- The tag, the contents and the octets after an element, of which octets up to its bound are given and how many levels are left.
+unfoldable pub head_at : ℕ → List ℕ → Result (ℕ × List ℕ × List ℕ) DerFault
+head_at levels [] = Err (past_bound levels)
+head_at levels (tag ∷ octets) =
+    if tag == 0 then Err ReservedTag
+    else (if tag % 32 == 31 then Err HighTag
+    else (if levels == 0 then Err TooDeep
+    else (contents_at (past_bound levels) octets >>= λ c. Ok (tag, c.0, c.1))))

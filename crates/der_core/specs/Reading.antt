@@ -1,0 +1,45 @@
+-- What octets begin with, as far as a reader of trees asks.
+use Rattle.std.specs.Prelude.{◌≡◌, ℕ, ◌≤◌, ◌⊎◌, List, ◌++◌, length, take, Result, Ok, Err}
+use Rattle.der_core.specs.declared.error.DerError.{DerError}
+use Rattle.der_core.specs.declared.error.DerError.TheVariants as errors
+use Rattle.der_core.specs.DerElement.{DerElement, DerElements}
+use Rattle.der_core.specs.Encoding.{encoding, encodings, AreWellFormed, deepest, AreShort, IsDerWithin, IsDer}
+
+-- elements in order, each of which is read within so many levels
+pub record AreDerWithin (levels : ℕ) (elements : DerElements) : Type 0 where
+  pub formed : AreWellFormed elements
+  pub nested : deepest elements ≤ levels
+  pub short : AreShort elements
+
+-- Octets begin with an element of at most so many levels.
+abbrev pub HasElement : ℕ → List ℕ → Type 0
+HasElement levels octets = (element : DerElement) × (rest : List ℕ) × IsDerWithin levels element × (octets ≡ encoding element ++ rest)
+
+-- Octets are elements of at most so many levels.
+abbrev pub HasElements : ℕ → List ℕ → Type 0
+HasElements levels octets = (elements : DerElements) × AreDerWithin levels elements × (octets ≡ encodings elements)
+
+-- The first n octets are the encoding of an element that is read.
+pub record IsFirst (octets : List ℕ) (element : DerElement) (n : ℕ) : Type 0 where
+  pub der : IsDer element
+  pub many : n ≡ length (encoding element)
+  pub front : take n octets ≡ encoding element
+
+-- No front of the octets is the encoding of an element that is read.
+abbrev pub HasNoFirst : List ℕ → Type 0
+HasNoFirst octets = (element : DerElement) (n : ℕ) → IsFirst octets element n → ⊥
+
+-- No encoding is a proper front of another: where two encodings begin the same octets they are of one element.
+abbrev pub IsPrefixFree : Type 0
+IsPrefixFree = (a b : DerElement) (x y : List ℕ) → IsDer a → IsDer b → encoding a ++ x ≡ encoding b ++ y → (a ≡ b) × (x ≡ y)
+
+-- The answer is a value, unless memory runs out.
+abbrev pub GivesUnlessMemory : {X : Type 0} → Result X DerError → X → Type 0
+GivesUnlessMemory result x = (result ≡ Ok x) ⊎ (result ≡ Err errors.Memory)
+
+-- A reader refuses for want of memory, or for a cause.
+abbrev pub RefusesUnread : Type 0 → DerError → Type 0
+RefusesUnread Cause errors.Memory = Unit {0}
+RefusesUnread Cause errors.Unread = Cause
+RefusesUnread Cause errors.TooDeep = ⊥
+RefusesUnread Cause errors.TooLong = ⊥
