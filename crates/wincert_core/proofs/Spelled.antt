@@ -1,5 +1,5 @@
 -- What stands at the front of octets is spelled there, and what is spelled there isn't refused.
-use Rattle.std.proofs.Common.{◌≡◌, ℕ, zero, suc, ◌+◌, ◌-◌, ◌<◌, ◌≤◌, ◌^◌, ◌∙◌, sym, ap, Bool, true, false, if◌then◌else◌, is_none, List, [], ◌∷◌, ◌++◌, length, drop, slice_range, get_or, refl, arith, length-take, length-drop, length-append, ltb-true, nat_lt, ◌==◌, append-nil, Ok, Err, Some, None}
+use Rattle.std.proofs.Common.{◌≡◌, ℕ, zero, suc, ◌+◌, ◌-◌, ◌<◌, ◌≤◌, ◌^◌, ◌∙◌, sym, ap, Bool, true, false, if◌then◌else◌, is_none, List, [], ◌∷◌, ◌++◌, length, drop, slice_range, get_or, refl, arith, length-take, length-drop, length-append, ltb-true, nat_lt, ◌==◌, append-nil, Option, Ok, Err, Some, None, ◌≢◌}
 use Rattle.std.proofs.lemmas.Grind.{common_steps}
 use Rattle.std.proofs.lemmas.List.{take-append-drop}
 use Rattle.std.specs.Int.{w16, w32, to_le_bytes, from_le_bytes}
@@ -9,7 +9,7 @@ use Rattle.wincert_core.specs.declared.kinds.RevisionType.TheVariants.{WinCertif
 use Rattle.wincert_core.specs.declared.kinds.CertificateType.{CertificateType}
 use Rattle.wincert_core.specs.declared.kinds.CertificateType.TheVariants.{WinCertTypeX509, WinCertTypePkcsSignedData, WinCertTypeReserved1, WinCertTypePkcs1Sign}
 use Rattle.wincert_core.specs.declared.error.WinCertificateError.{WinCertificateError}
-use Rattle.wincert_core.specs.declared.error.WinCertificateError.TheVariants.{TooLong}
+use Rattle.wincert_core.specs.declared.error.WinCertificateError.TheVariants.{TooLong, Memory}
 use Rattle.wincert_core.specs.Kinds.{revision_number, revision_numbered, type_number, type_numbered}
 use Rattle.wincert_core.specs.WinCert.{WinCert, FitsHeader, stated_length, header, spelling, BeginsWith, length_field, revision_field, type_field, with_padding}
 use Rattle.wincert_core.specs.Refusal.{first_refusal, encoded}
@@ -49,11 +49,11 @@ begins octets fits n r k n-is r-is k-is low high short =
     let enough : 8 ≤ length octets = omega (arith, low, high) in
     let front : octets ≡ header n (revision_number r) (type_number k) ++ drop 8 octets = cc (begins_with_header octets enough fits) in
     record {
-        later = later;
-        fits = omega (arith, long, short);
-        spelled = front
-            ∙ ap (λ rest. header n (revision_number r) (type_number k) ++ rest) (sym (take-append-drop (n - 8) (drop 8 octets)))
-            ∙ ap (λ m. header m (revision_number r) (type_number k) ++ (part ++ later)) long
+      later = later;
+      fits = omega (arith, long, short);
+      spelled = front
+          ∙ ap (λ rest. header n (revision_number r) (type_number k) ++ rest) (sym (take-append-drop (n - 8) (drop 8 octets)))
+          ∙ ap (λ m. header m (revision_number r) (type_number k) ++ (part ++ later)) long;
     }
 
 pub revision_numbered-number : (r : RevisionType) → revision_numbered (revision_number r) ≡ Some r
@@ -89,11 +89,11 @@ pub not_refused : (octets : List ℕ) (w : WinCert) → BeginsWith octets w → 
 unfolding first_refusal
 not_refused octets w front =
     let n : length_field octets ≡ stated_length w.certificate =
-        ap length_field front.spelled ∙ length_field-spelling w front.later front.fits in
+    ap length_field front.spelled ∙ length_field-spelling w front.later front.fits in
     let r : revision_numbered (revision_field octets) ≡ Some w.revision =
-        ap (λ o. revision_numbered (revision_field o)) front.spelled ∙ ap revision_numbered (revision_field-spelling w front.later) ∙ revision_numbered-number w.revision in
+    ap (λ o. revision_numbered (revision_field o)) front.spelled ∙ ap revision_numbered (revision_field-spelling w front.later) ∙ revision_numbered-number w.revision in
     let k : type_numbered (type_field octets) ≡ Some w.certificate_type =
-        ap (λ o. type_numbered (type_field o)) front.spelled ∙ ap type_numbered (type_field-spelling w front.later) ∙ type_numbered-number w.certificate_type in
+    ap (λ o. type_numbered (type_field o)) front.spelled ∙ ap type_numbered (type_field-spelling w front.later) ∙ type_numbered-number w.certificate_type in
     let long : stated_length w.certificate ≤ length octets = omega (arith, ap length front.spelled, length-append {A = ℕ} w.certificate front.later) in
     let whole : nat_lt (length octets) 8 ≡ false = lt_fails _ _ (omega (arith, long)) in
     let some : (length_field octets == 0) ≡ false = zero_fails _ (omega (arith, n)) in
@@ -110,7 +110,16 @@ pub read_back : (w : WinCert) (octets : List ℕ) → encoded w ≡ Ok octets �
 read_back w octets e =
     let parts : (nat_lt (stated_length (with_padding w).certificate) (2 ^ 32) ≡ true) × (spelling (with_padding w) ≡ octets) = ok_if _ _ TooLong e in
     record {
-        later = [];
-        fits = ltb-true _ _ parts.0;
-        spelled = sym parts.1 ∙ sym (append-nil (spelling (with_padding w)));
+      later = [];
+      fits = ltb-true _ _ parts.0;
+      spelled = sym parts.1 ∙ sym (append-nil (spelling (with_padding w)));
     }
+
+neither : (test : Bool) {x y : Option WinCertificateError} → (x ≡ Some Memory → ⊥) → (y ≡ Some Memory → ⊥) → (if test then x else y) ≡ Some Memory → ⊥
+neither true p q = p
+neither false p q = q
+
+-- No refusal of octets is want of memory.
+pub refuses_without_memory : (octets : List ℕ) → first_refusal octets ≡ Some Memory → ⊥
+unfolding first_refusal
+refuses_without_memory octets e = grind (arith, common_steps)

@@ -27,4 +27,4 @@ revision_numbered n =
 abbrev pub type_numbered : ℕ → Option CertificateType
 type_numbered n =
     find (λ certificate_type. type_number certificate_type == n)
-        (WinCertTypeX509 ∷ WinCertTypePkcsSignedData ∷ WinCertTypeReserved1 ∷ WinCertTypePkcs1Sign ∷ [])
+    (WinCertTypeX509 ∷ WinCertTypePkcsSignedData ∷ WinCertTypeReserved1 ∷ WinCertTypePkcs1Sign ∷ [])

@@ -10,3 +10,6 @@ mod wincert;
 pub use error::{WinCertificateError, WinCertificateResult};
 pub use kinds::{CertificateType, RevisionType};
 pub use wincert::{WinCertificate, certificate_of};
+
+#[cfg(test)]
+mod tests;

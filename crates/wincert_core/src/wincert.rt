@@ -1,6 +1,6 @@
 //! A certificate with what its header says of it.
 
-ghost use Rattle.std.specs.Prelude.{◌≡◌, ◌↔◌, ◌+◌, ◌≤◌, ◌<◌, ◌^◌, length, Ok, Err, IfOk, MatchResult, nat_eq};
+ghost use Rattle.std.specs.Prelude.{◌≡◌, ◌≢◌, Ok, Err, IfOk, IfErr, nat_eq};
 ghost use Rattle.std.specs.Ordering.{on};
 ghost use Rattle.std.specs.Cmp.Lexicographic.{pointwise};
 ghost use Rattle.std.specs.Cmp.Rules.{comparing};
@@ -150,9 +150,15 @@ impl Eq for WinCertificate {
     ghost laws = { Prim.search (comparing, rules) };
 }
 
-/// The certificate that `WinCertificate::decode` would keep, lent.
+/// The certificate that `WinCertificate::decode` would keep, lent, with the same refusals but for
+/// want of memory.
 pub fn certificate_of(bytes: &[u8]) -> WinCertificateResult<&[u8]>
-    ensures { MatchResult result (λ part. certificate_in bytes.now ≡ Ok part.now) (λ e. certificate_in bytes.now ≡ Err e) }
+    ensures lent { IfOk result (λ part. certificate_in bytes.now ≡ Ok part.now) }
+    ensures refused { IfErr result (λ e. certificate_in bytes.now ≡ Err e) }
+    ensures never_memory { result ≢ Err WinCertificateError.Memory }
+    // What is lent is spelled there, and what is spelled there is lent.
+    ensures spelled { IfOk result (λ part. (w : WinCert) × BeginsWith bytes.now w × (w.certificate ≡ part.now)) }
+    ensures only { (w : WinCert) → BeginsWith bytes.now w → certificate_in bytes.now ≡ Ok w.certificate }
 {
     let header = header_of(bytes)?;
     Ok(&bytes[HEADER_LENGTH..header.length])

@@ -7,7 +7,7 @@ returns-clause-spelled c =
     let fields = c.in_ok-header.ensures.fields in
     let bounds = c.in_ok-header.ensures.accepted in
     rw c.in_ok-certificate.ensures.items
-        (begins c.args.bytes.now (λ i. omega (arith, c.type_inv.bytes i)) _ _ _ fields.0 fields.1 fields.2 bounds.1 bounds.2 c.in_ok-header.ensures.short)
+    (begins c.args.bytes.now (λ i. omega (arith, c.type_inv.bytes i)) _ _ _ fields.0 fields.1 fields.2 bounds.1 bounds.2 c.in_ok-header.ensures.short)
 
 pub returns-in_err-header-clause-only : goal.returns-in_err-header-clause-only
 returns-in_err-header-clause-only c =
