@@ -1,1 +1,2 @@
 pub mod Kids
+pub mod Keys

@@ -1,9 +1,9 @@
 -- The plain form of signed data: one signer with an RSA key and SHA-256, one certificate, three signed attributes.
-use Rattle.std.specs.Prelude.{◌≡◌, ◌≢◌, ℕ, ◌+◌, ◌≤◌, List, [], ◌∷◌, ◌++◌, codes}
+use Rattle.std.specs.Prelude.{◌≡◌, ◌≢◌, ℕ, ◌+◌, ◌≤◌, List, [], ◌∷◌, ◌++◌, codes, Ok}
 use Rattle.sha2.specs.Sha256.{sha256}
 use Rattle.der_core.specs.DerElement.{DerElement, Primitive, row}
-use Rattle.der_core.specs.Encoding.{encoding, encodings, IsPaddedEncoding}
-use Rattle.wincert_core.specs.WinCert.{IsSignedPart}
+use Rattle.der_core.specs.Encoding.{encoding, encodings, IsDer, IsPaddedEncoding}
+use Rattle.wincert_core.specs.Refusal.{certificate_in}
 use Rattle.authenticode_core.specs.Asn1.{sequence, set, context, integer, bit_string, octet_string, null, object_identifier, utf8_string, utc_time}
 use Rattle.authenticode_core.specs.declared.identifiers.TheConstants.{RSA_ENCRYPTION, SHA256_WITH_RSA_ENCRYPTION, SIGNED_DATA, CONTENT_TYPE, MESSAGE_DIGEST, INDIRECT_DATA, OPUS_INFO, PE_IMAGE_DATA, SHA256, COMMON_NAME}
 
@@ -18,10 +18,6 @@ name text = sequence (set (sequence (object_identifier COMMON_NAME ∷ utf8_stri
 -- a Validity between two times of two-digit years (RFC 5280 4.1.2.5)
 abbrev pub validity : List ℕ → List ℕ → DerElement
 validity not_before not_after = sequence (utc_time not_before ∷ utc_time not_after ∷ [])
-
--- an RSAPublicKey (RFC 8017 A.1.1)
-abbrev pub rsa_public_key : List ℕ → List ℕ → DerElement
-rsa_public_key modulus exponent = sequence (integer modulus ∷ integer exponent ∷ [])
 
 -- the SubjectPublicKeyInfo of an RSA key (RFC 5280 4.1.2.7)
 abbrev pub public_key_info : List ℕ → DerElement
@@ -154,13 +150,25 @@ pub record IsNewYear (time : List ℕ) : Type 0 where
   pub digits : IsDigit tens × IsDigit units
   pub written : time ≡ tens ∷ units ∷ codes "0101000000Z"
 
--- the octets of an RSAPublicKey whose integers have contents
+-- an INTEGER with contents octets (X.690 8.3.1)
+pub record IsSomeInteger (element : DerElement) : Type 0 where
+  pub contents : List ℕ
+  pub some : contents ≢ []
+  pub written : element ≡ integer contents
+
+-- an RSAPublicKey, with its modulus and exponent (RFC 8017 A.1.1)
+pub record IsRsaPublicKey (element : DerElement) : Type 0 where
+  pub modulus : DerElement
+  pub exponent : DerElement
+  pub integers : IsSomeInteger modulus × IsSomeInteger exponent
+  pub written : element ≡ sequence (modulus ∷ exponent ∷ [])
+
+-- the octets of an RSAPublicKey, which is an input of its own
 pub record IsRsaKey (key : List ℕ) : Type 0 where
-  pub modulus : List ℕ
-  pub exponent : List ℕ
-  pub some_modulus : modulus ≢ []
-  pub some_exponent : exponent ≢ []
-  pub written : key ≡ encoding (rsa_public_key modulus exponent)
+  pub element : DerElement
+  pub public_key : IsRsaPublicKey element
+  pub der : IsDer element
+  pub encoded : key ≡ encoding element
 
 -- The contents octets of the indirect data, which the signed attributes bind by their digest.
 abbrev pub bound_contents : List ℕ → List ℕ
@@ -176,11 +184,11 @@ pub record IsPlain (p : SignatureParts) : Type 0 where
   pub key : IsRsaKey p.certificate.tbs.key
   pub bound : p.signer.message_digest ≡ sha256 (bound_contents p.file_hash)
 
--- The octets are a WIN_CERTIFICATE whose signed part is signed data of the plain form, with these parts.
+-- The octets begin with a WIN_CERTIFICATE whose certificate is signed data of the plain form, with these parts.
 pub record IsPlainForm (octets : List ℕ) (p : SignatureParts) : Type 0 where
-  pub part : List ℕ
-  pub header : IsSignedPart octets part
-  pub spelled : IsPaddedEncoding part (signed_content p)
+  pub certificate : List ℕ
+  pub named : certificate_in octets ≡ Ok certificate
+  pub spelled : IsPaddedEncoding certificate (signed_content p)
   pub plain : IsPlain p
 
 -- What the signature is over: the signed attributes as a SET (RFC 2315 9.3).

@@ -65,7 +65,14 @@ pub(crate) fn is_leaf(tree: &Tree, tag: u8, content: &[u8]) -> bool
     ensures { IsTrue result ↔ (tree.now ≡ Primitive tag content.now) }
 {
     match leaf_of(tree, tag) {
-        Some(found) => found == content,
+        Some(found) => is_same(found, content),
         None => false,
     }
+}
+
+/// Whether the octets are the same.
+pub(crate) fn is_same(a: &[u8], b: &[u8]) -> bool
+    ensures { IsTrue result ↔ (a.now ≡ b.now) }
+{
+    a == b
 }
