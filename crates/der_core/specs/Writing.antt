@@ -1,5 +1,5 @@
 -- What writing a tree answers.
-use Rattle.std.specs.Prelude.{◌≡◌, ℕ, ◌<◌, ◌≤◌}
+use Rattle.std.specs.Prelude.{◌<◌, ◌≤◌}
 use Rattle.der_core.specs.DerElement.{DerElement}
 use Rattle.der_core.specs.Encoding.{nesting, IsShort}
 use Rattle.der_core.specs.declared.error.DerError.{DerError}

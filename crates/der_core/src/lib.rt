@@ -8,6 +8,8 @@ mod header;
 mod laws;
 mod octets;
 mod reading;
+#[cfg(test)]
+mod tests;
 mod tree;
 mod writing;
 

@@ -8,7 +8,7 @@ ghost use Rattle.der_core.specs.Reading.{AreDerWithin, HasElement, HasElements, 
 use crate::error::DerError;
 use crate::header::head_of;
 use crate::octets::Octets;
-use crate::tree::{Tree, Trees, LEVELS};
+use crate::tree::{LEVELS, Tree, Trees};
 use std::alloc::Global;
 
 /// The first element of the octets as a tree, and how many octets it takes.
