@@ -10,11 +10,13 @@ abbrev pub RefusesToWrite : DerElement → DerError → Type 0
 RefusesToWrite element errors.TooDeep = 64 < nesting element
 RefusesToWrite element errors.TooLong = (nesting element ≤ 64) × (IsShort element → ⊥)
 RefusesToWrite element errors.Memory = Unit {0}
-RefusesToWrite element errors.Unread = ⊥
+RefusesToWrite element (errors.Malformed malformed) = ⊥
+RefusesToWrite element errors.Shape = ⊥
 
 -- Only long contents and want of memory keep a part from being written.
 abbrev pub RefusesLong : Type 0 → DerError → Type 0
 RefusesLong short errors.TooLong = short → ⊥
 RefusesLong short errors.Memory = Unit {0}
 RefusesLong short errors.TooDeep = ⊥
-RefusesLong short errors.Unread = ⊥
+RefusesLong short (errors.Malformed malformed) = ⊥
+RefusesLong short errors.Shape = ⊥
