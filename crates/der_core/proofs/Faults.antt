@@ -156,7 +156,7 @@ kids_refused levels tag at octets contents rest e found head bit refused =
 
 -- ---- the answer of a reader of the first element
 
-same_malformed : (m : Malformed) (at : ℕ) (fault : DerFault) → m.at ≡ at → m.fault ≡ fault → m ≡ record { at = at; fault = fault }
+pub same_malformed : (m : Malformed) (at : ℕ) (fault : DerFault) → m.at ≡ at → m.fault ≡ fault → m ≡ record { at = at; fault = fault }
 same_malformed m at fault p q =
     let first : m ≡ record { at = at; fault = m.fault } = ap (λ (a : ℕ). record { at = a; fault = m.fault }) p in
     first ∙ ap (λ (f : DerFault). record { at = at; fault = f }) q

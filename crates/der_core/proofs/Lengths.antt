@@ -118,7 +118,7 @@ pub record HasLength (octets : List ℕ) (n : ℕ) (rest : List ℕ) : Type 0 wh
   pub parts : octets ≡ length_octets n ++ rest
   pub short : n < 2 ^ 32
 
-IsOctets-front : (a b : List ℕ) → IsOctets (a ++ b) → IsOctets a
+pub IsOctets-front : (a b : List ℕ) → IsOctets (a ++ b) → IsOctets a
 IsOctets-front a b fits i =
     elim (cases_lt i (length a)) [
       | inl lt ↦ rw (get_or_append_left a b 0 i lt) at (fits i)
