@@ -1,10 +1,18 @@
--- Octets that are long enough begin with a header of the numbers that they state.
-use Rattle.std.proofs.Common.{◌≡◌, ℕ, zero, suc, ◌+◌, ◌-◌, ◌<◌, ◌≤◌, ◌^◌, ◌∙◌, sym, ap, IsTrue, List, [], ◌∷◌, ◌++◌, length, drop, slice_range, get_or, refl, arith, length-take, length-drop}
+-- What stands at the front of octets is spelled there, and what is spelled there isn't refused.
+use Rattle.std.proofs.Common.{◌≡◌, ℕ, zero, suc, ◌+◌, ◌-◌, ◌<◌, ◌≤◌, ◌^◌, ◌∙◌, sym, ap, Bool, true, false, if◌then◌else◌, is_none, List, [], ◌∷◌, ◌++◌, length, drop, slice_range, get_or, refl, arith, length-take, length-drop, length-append, ltb-true, nat_lt, ◌==◌, append-nil, Option, Ok, Err, Some, None, ◌≢◌}
 use Rattle.std.proofs.lemmas.Grind.{common_steps}
 use Rattle.std.proofs.lemmas.List.{take-append-drop}
 use Rattle.std.specs.Int.{w16, w32, to_le_bytes, from_le_bytes}
-use Rattle.std.proofs.lemmas.Nat.{le_bytes_2, le_bytes_4}
-use Rattle.wincert_core.specs.WinCert.{header, length_field, revision_field, type_field, current_revision, is_certificate_type, names_signed_part, IsSignedPart}
+use Rattle.std.proofs.lemmas.Nat.{le_bytes_2, le_bytes_4, from_le_bytes-to_le_bytes_4}
+use Rattle.wincert_core.specs.declared.kinds.RevisionType.{RevisionType}
+use Rattle.wincert_core.specs.declared.kinds.RevisionType.TheVariants.{WinCertificateRevision10, WinCertificateRevision20}
+use Rattle.wincert_core.specs.declared.kinds.CertificateType.{CertificateType}
+use Rattle.wincert_core.specs.declared.kinds.CertificateType.TheVariants.{WinCertTypeX509, WinCertTypePkcsSignedData, WinCertTypeReserved1, WinCertTypePkcs1Sign}
+use Rattle.wincert_core.specs.declared.error.WinCertificateError.{WinCertificateError}
+use Rattle.wincert_core.specs.declared.error.WinCertificateError.TheVariants.{TooLong, Memory}
+use Rattle.wincert_core.specs.Kinds.{revision_number, revision_numbered, type_number, type_numbered}
+use Rattle.wincert_core.specs.WinCert.{WinCert, FitsHeader, stated_length, header, spelling, BeginsWith, length_field, revision_field, type_field, with_padding}
+use Rattle.wincert_core.specs.Refusal.{first_refusal, encoded}
 
 fit_2 : (a b : ℕ) → a < 256 → b < 256 → (i : ℕ) → get_or (a ∷ b ∷ []) i 0 < 256
 fit_2 a b p q zero = p
@@ -22,32 +30,96 @@ two a b p q = le_bytes_2 (a ∷ b ∷ []) _ refl (fit_2 a b p q) refl
 four : (a b c d : ℕ) → a < 256 → b < 256 → c < 256 → d < 256 → to_le_bytes w32 (from_le_bytes w32 (a ∷ b ∷ c ∷ d ∷ [])) ≡ a ∷ b ∷ c ∷ d ∷ []
 four a b c d p q r s = le_bytes_4 (a ∷ b ∷ c ∷ d ∷ []) _ refl (fit_4 a b c d p q r s) refl
 
-pub begins_with_header : (octets : List ℕ) → 8 ≤ length octets → ((i : ℕ) → get_or octets i 0 < 256)
+-- Octets that are long enough begin with a header of the numbers that they state.
+begins_with_header : (octets : List ℕ) → 8 ≤ length octets → ((i : ℕ) → get_or octets i 0 < 256)
     → octets ≡ header (length_field octets) (revision_field octets) (type_field octets) ++ drop 8 octets
 begins_with_header (a ∷ b ∷ c ∷ d ∷ e ∷ f ∷ g ∷ h ∷ rest) enough fits =
     cc (four a b c d (fits 0) (fits 1) (fits 2) (fits 3), two e f (fits 4) (fits 5), two g h (fits 6) (fits 7))
 begins_with_header _ enough fits = absurd (omega arith)
 
-named_parts : (n r k a : ℕ) → IsTrue (names_signed_part n r k a) → (8 ≤ n) × (n ≤ a) × (r ≡ current_revision) × IsTrue (is_certificate_type k)
-named_parts n r k a named = (grind (arith, common_steps), grind (arith, common_steps), grind (arith, common_steps), grind (arith, common_steps))
-
-pub spelled_part : (octets : List ℕ) → ((i : ℕ) → get_or octets i 0 < 256) → (n r k : ℕ)
-    → n ≡ length_field octets → r ≡ revision_field octets → k ≡ type_field octets → n < 2 ^ 32
-    → IsTrue (names_signed_part n r k (length octets)) → IsSignedPart octets (slice_range octets 8 n)
-spelled_part octets fits n r k n-is r-is k-is small named =
-    let test : (8 ≤ n) × (n ≤ length octets) × (r ≡ current_revision) × IsTrue (is_certificate_type k) = named_parts n r k (length octets) named in
+-- A header that counts no more octets than there are names a certificate.
+pub begins : (octets : List ℕ) → ((i : ℕ) → get_or octets i 0 < 256) → (n : ℕ) (r : RevisionType) (k : CertificateType)
+    → n ≡ length_field octets → revision_number r ≡ revision_field octets → type_number k ≡ type_field octets
+    → 8 ≤ n → n ≤ length octets → n < 2 ^ 32
+    → BeginsWith octets (record { revision = r; certificate_type = k; certificate = slice_range octets 8 n })
+begins octets fits n r k n-is r-is k-is low high short =
     let part : List ℕ = slice_range octets 8 n in
     let later : List ℕ = drop (n - 8) (drop 8 octets) in
-    let long : n ≡ length (slice_range octets 8 n) + 8 = omega (arith, length-take {A = ℕ}, length-drop {A = ℕ}, test.0, test.1) in
-    let enough : 8 ≤ length octets = omega (arith, test.0, test.1) in
-    let begins : octets ≡ header n r k ++ drop 8 octets = cc (begins_with_header octets enough fits) in
+    let long : n ≡ length (slice_range octets 8 n) + 8 = omega (arith, length-take {A = ℕ}, length-drop {A = ℕ}, low, high) in
+    let enough : 8 ≤ length octets = omega (arith, low, high) in
+    let front : octets ≡ header n (revision_number r) (type_number k) ++ drop 8 octets = cc (begins_with_header octets enough fits) in
     record {
-      certificate_type = k;
       later = later;
-      known = test.3;
-      short = omega (arith, long, small);
-      spelled = begins
-          ∙ ap (λ rest. header n r k ++ rest) (sym (take-append-drop (n - 8) (drop 8 octets)))
-          ∙ ap (λ m. header m r k ++ (part ++ later)) long
-          ∙ ap (λ m. header (length part + 8) m k ++ (part ++ later)) test.2;
+      fits = omega (arith, long, short);
+      spelled = front
+          ∙ ap (λ rest. header n (revision_number r) (type_number k) ++ rest) (sym (take-append-drop (n - 8) (drop 8 octets)))
+          ∙ ap (λ m. header m (revision_number r) (type_number k) ++ (part ++ later)) long;
     }
+
+pub revision_numbered-number : (r : RevisionType) → revision_numbered (revision_number r) ≡ Some r
+revision_numbered-number WinCertificateRevision10 = refl
+revision_numbered-number WinCertificateRevision20 = refl
+
+pub type_numbered-number : (k : CertificateType) → type_numbered (type_number k) ≡ Some k
+type_numbered-number WinCertTypeX509 = refl
+type_numbered-number WinCertTypePkcsSignedData = refl
+type_numbered-number WinCertTypeReserved1 = refl
+type_numbered-number WinCertTypePkcs1Sign = refl
+
+pub revision_field-spelling : (w : WinCert) (later : List ℕ) → revision_field (spelling w ++ later) ≡ revision_number w.revision
+revision_field-spelling w later = elim w.revision as (λ r. revision_field (header (stated_length w.certificate) (revision_number r) (type_number w.certificate_type) ++ w.certificate ++ later) ≡ revision_number r) [ WinCertificateRevision10 ↦ refl | WinCertificateRevision20 ↦ refl ]
+
+pub type_field-spelling : (w : WinCert) (later : List ℕ) → type_field (spelling w ++ later) ≡ type_number w.certificate_type
+type_field-spelling w later = elim w.certificate_type as (λ k. type_field (header (stated_length w.certificate) (revision_number w.revision) (type_number k) ++ w.certificate ++ later) ≡ type_number k) [ WinCertTypeX509 ↦ refl | WinCertTypePkcsSignedData ↦ refl | WinCertTypeReserved1 ↦ refl | WinCertTypePkcs1Sign ↦ refl ]
+
+pub length_field-spelling : (w : WinCert) (later : List ℕ) → FitsHeader w.certificate → length_field (spelling w ++ later) ≡ stated_length w.certificate
+length_field-spelling w later fits = from_le_bytes-to_le_bytes_4 (stated_length w.certificate) fits
+
+skip : {A : Type 0} (test : Bool) (x : A) {y z : A} → test ≡ false → y ≡ z → (if test then x else y) ≡ z
+skip true x failed e = absurd (cc)
+skip false x _ e = e
+
+lt_fails : (a b : ℕ) → b ≤ a → nat_lt a b ≡ false
+lt_fails a b h = grind (arith, common_steps)
+
+zero_fails : (a : ℕ) → 0 < a → (a == 0) ≡ false
+zero_fails a h = grind (arith, common_steps)
+
+pub not_refused : (octets : List ℕ) (w : WinCert) → BeginsWith octets w → first_refusal octets ≡ None
+unfolding first_refusal
+not_refused octets w front =
+    let n : length_field octets ≡ stated_length w.certificate =
+    ap length_field front.spelled ∙ length_field-spelling w front.later front.fits in
+    let r : revision_numbered (revision_field octets) ≡ Some w.revision =
+    ap (λ o. revision_numbered (revision_field o)) front.spelled ∙ ap revision_numbered (revision_field-spelling w front.later) ∙ revision_numbered-number w.revision in
+    let k : type_numbered (type_field octets) ≡ Some w.certificate_type =
+    ap (λ o. type_numbered (type_field o)) front.spelled ∙ ap type_numbered (type_field-spelling w front.later) ∙ type_numbered-number w.certificate_type in
+    let long : stated_length w.certificate ≤ length octets = omega (arith, ap length front.spelled, length-append {A = ℕ} w.certificate front.later) in
+    let whole : nat_lt (length octets) 8 ≡ false = lt_fails _ _ (omega (arith, long)) in
+    let some : (length_field octets == 0) ≡ false = zero_fails _ (omega (arith, n)) in
+    let enough : nat_lt (length_field octets) 8 ≡ false = lt_fails _ _ (omega (arith, n)) in
+    let there : nat_lt (length octets) (length_field octets) ≡ false = lt_fails _ _ (omega (arith, n, long)) in
+    skip _ _ whole (skip _ _ some (skip _ _ (ap is_none r) (skip _ _ (ap is_none k) (skip _ _ enough (skip _ _ there refl)))))
+
+ok_if : {A : Type 0} (test : Bool) (x : A) {y : A} (error : WinCertificateError) → (if test then Ok x else Err error) ≡ Ok y → (test ≡ true) × (x ≡ y)
+ok_if true x error e = (refl, cc)
+ok_if false x error e = absurd (cc)
+
+-- What was written is read again.
+pub read_back : (w : WinCert) (octets : List ℕ) → encoded w ≡ Ok octets → BeginsWith octets (with_padding w)
+read_back w octets e =
+    let parts : (nat_lt (stated_length (with_padding w).certificate) (2 ^ 32) ≡ true) × (spelling (with_padding w) ≡ octets) = ok_if _ _ TooLong e in
+    record {
+      later = [];
+      fits = ltb-true _ _ parts.0;
+      spelled = sym parts.1 ∙ sym (append-nil (spelling (with_padding w)));
+    }
+
+neither : (test : Bool) {x y : Option WinCertificateError} → (x ≡ Some Memory → ⊥) → (y ≡ Some Memory → ⊥) → (if test then x else y) ≡ Some Memory → ⊥
+neither true p q = p
+neither false p q = q
+
+-- No refusal of octets is want of memory.
+pub refuses_without_memory : (octets : List ℕ) → first_refusal octets ≡ Some Memory → ⊥
+unfolding first_refusal
+refuses_without_memory octets e = grind (arith, common_steps)

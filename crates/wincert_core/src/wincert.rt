@@ -1,66 +1,165 @@
-//! A certificate behind its header.
+//! A certificate with what its header says of it.
 
-ghost use Rattle.std.specs.Prelude.{◌≡◌, ◌↔◌, Option, Some, None, IfSome, List, ℕ, IsTrue, slice_range, length, ◌<◌};
-ghost use Rattle.std.specs.Int.{w16, w32, from_le_bytes};
-ghost use Rattle.std.specs.Option.{option_copied};
-ghost use Rattle.wincert_core.specs.WinCert.{length_field, revision_field, type_field, names_signed_part, signed_part_of, IsSignedPart, is_certificate_type};
+ghost use Rattle.std.specs.Prelude.{◌≡◌, ◌≢◌, Ok, Err, IfOk, IfErr, nat_eq};
+ghost use Rattle.std.specs.Ordering.{on};
+ghost use Rattle.std.specs.Cmp.Lexicographic.{pointwise};
+ghost use Rattle.std.specs.Cmp.Rules.{comparing};
+ghost use Rattle.std.proofs.Common.{rules};
+ghost use Rattle.wincert_core.specs.WinCert.{WinCert, BeginsWith, stated_length, with_padding, kept};
+ghost use Rattle.wincert_core.specs.Refusal.{certificate_in, current, encoded, Gives};
 
-const HEADER_LENGTH: usize = 8;
+use crate::error::{WinCertificateError, WinCertificateResult};
+use crate::header::{HEADER_LENGTH, header_of};
+use crate::kinds::{CertificateType, RevisionType};
+use std::alloc::{AllocError, Global};
+use std::marker::Model;
 
-const CURRENT_REVISION: u16 = 0x0200;
+const ALIGNMENT: usize = 8;
 
-/// The numbers of a header.
-#[derive(Clone, Copy)]
-struct Header {
-    length: u32,
-    revision: u16,
-    certificate_type: u16,
+const MAX_LENGTH: usize = u32::MAX as usize;
+
+/// A certificate behind its header: signed data, most of the time, and the zeros that it was
+/// padded with.
+#[derive(Debug, Drop)]
+pub struct WinCertificate {
+    revision: RevisionType,
+    certificate_type: CertificateType,
+    certificate: Vec<u8>,
 }
 
-fn header_of(bytes: &[u8]) -> Option<Header>
-    ensures none { result ≡ None ↔ (length bytes.now < 8) }
-    ensures some { IfSome result (λ h. (h.length ≡ length_field bytes.now) × (h.revision ≡ revision_field bytes.now) × (h.certificate_type ≡ type_field bytes.now)) }
-{
-    let [l0, l1, l2, l3, r0, r1, t0, t1, ..] = bytes else {
-        return None;
-    };
-    Some(Header {
-        length: u32::from_le_bytes([*l0, *l1, *l2, *l3]),
-        revision: u16::from_le_bytes([*r0, *r1]),
-        certificate_type: u16::from_le_bytes([*t0, *t1]),
-    })
+impl Model for WinCertificate {
+    ghost use Rattle.wincert_core.specs.WinCert.{WinCert, FitsHeader};
+
+    ghost Value = { WinCert };
+
+    ghost view = { λ w. record { revision = w.revision; certificate_type = w.certificate_type; certificate = w.certificate.items } };
+
+    ghost invariant = { λ w. FitsHeader w.certificate.items };
 }
 
-fn is_certificate_type(number: u16) -> bool
-    ensures { result ≡ is_certificate_type number }
-{
-    matches!(number, 1 | 2 | 3 | 9)
+impl WinCertificate {
+    /// Reads the WIN_CERTIFICATE at the front of the octets. The certificate is all that the
+    /// stated length counts behind the header, padding too; later octets are left alone.
+    pub fn decode(alloc: Global, bytes: &[u8]) -> WinCertificateResult<WinCertificate>
+        // The certificate that the header names, or the first refusal.
+        ensures given { Gives (λ w. w.certificate) result (certificate_in bytes.now) }
+        // What is read is spelled there.
+        ensures spelled { IfOk result (λ w. BeginsWith bytes.now w) }
+        // What is spelled there is read.
+        ensures only { (w : WinCert) → BeginsWith bytes.now w → Gives (λ v. v) result (Ok w) }
+    {
+        let header = header_of(bytes)?;
+        let certificate = Vec::from_slice(alloc, &bytes[HEADER_LENGTH..header.length])?;
+        Ok(WinCertificate {
+            revision: header.revision,
+            certificate_type: header.certificate_type,
+            certificate,
+        })
+    }
+
+    /// Wraps a certificate in the current revision, 2.0.
+    pub fn from_certificate(
+        alloc: Global,
+        certificate: &[u8],
+        certificate_type: CertificateType,
+    ) -> WinCertificateResult<WinCertificate>
+        ensures { Gives (λ w. w) result (current certificate.now certificate_type) }
+    {
+        if MAX_LENGTH - HEADER_LENGTH < certificate.len() {
+            return Err(WinCertificateError::TooLong);
+        }
+        Ok(WinCertificate {
+            revision: RevisionType::WinCertificateRevision20,
+            certificate_type,
+            certificate: Vec::from_slice(alloc, certificate)?,
+        })
+    }
+
+    /// The octets that stand for it in a file: they end at a multiple of eight.
+    pub fn encode(self, alloc: Global) -> WinCertificateResult<Vec<u8>>
+        ensures given { Gives (λ v. v.items) result (encoded self) }
+        // Decoded again it is the same with the padding taken for a part of the certificate,
+        ensures read_back { IfOk result (λ v. BeginsWith v.items (with_padding self)) }
+        // and that is encoded as the same octets.
+        ensures again { IfOk result (λ v. encoded (with_padding self) ≡ Ok v.items) }
+    {
+        let length = self.certificate.len().next_multiple_of(ALIGNMENT) + HEADER_LENGTH;
+        let Ok(stated) = u32::try_from(length) else {
+            return Err(WinCertificateError::TooLong);
+        };
+        let mut octets = Vec::with_capacity(alloc, length)?;
+        octets.extend_from_slice(&stated.to_le_bytes())?;
+        octets.extend_from_slice(&self.revision.number().to_le_bytes())?;
+        octets.extend_from_slice(&self.certificate_type.number().to_le_bytes())?;
+        octets.extend_from_slice(&self.certificate)?;
+        octets.resize(length, 0)?;
+        Ok(octets)
+    }
+
+    /// The length that the header states before padding: eight more than the certificate's.
+    pub fn length(&self) -> u32
+        ensures { result ≡ stated_length self.now.certificate }
+    {
+        (self.certificate.len() + HEADER_LENGTH) as u32
+    }
+
+    pub fn revision(&self) -> RevisionType
+        ensures { result ≡ self.now.revision }
+    {
+        self.revision
+    }
+
+    pub fn certificate_type(&self) -> CertificateType
+        ensures { result ≡ self.now.certificate_type }
+    {
+        self.certificate_type
+    }
+
+    /// The certificate, and padding where it was decoded with some.
+    pub fn get_certificate(&self) -> &[u8]
+        ensures { result.now ≡ self.now.certificate }
+    {
+        &self.certificate
+    }
+
+    /// A copy of the value.
+    pub fn try_clone(&self, alloc: Global) -> Result<WinCertificate, AllocError>
+        ensures { IfOk result (λ copy. copy ≡ self.now) }
+    {
+        Ok(WinCertificate {
+            revision: self.revision,
+            certificate_type: self.certificate_type,
+            certificate: Vec::from_slice(alloc, &self.certificate)?,
+        })
+    }
 }
 
-/// Whether the header is of the current revision and a known type, and states the length of a
-/// front of so many octets.
-fn names_signed_part(header: Header, available: usize) -> bool
-    ensures { result ≡ names_signed_part header.length header.revision header.certificate_type available }
-{
-    HEADER_LENGTH <= header.length as usize
-        && header.length as usize <= available
-        && header.revision == CURRENT_REVISION
-        && is_certificate_type(header.certificate_type)
+impl PartialEq for WinCertificate {
+    ghost eq = { on kept (pointwise nat_eq) };
+
+    ghost laws = { Prim.search (comparing, rules) };
+
+    fn eq(&self, other: &WinCertificate) -> bool {
+        self.revision.number() == other.revision.number()
+            && self.certificate_type.number() == other.certificate_type.number()
+            && self.certificate.as_slice() == other.certificate.as_slice()
+    }
 }
 
-/// The certificate behind a header of revision 2.0 and a known type, up to the length that the
-/// header states.
-#[tactic(auto, unfolding(crate::specs::WinCert::signed_part_of))]
-pub fn signed_part(bytes: &[u8]) -> Option<&[u8]>
-    ensures part { option_copied result ≡ signed_part_of bytes.now }
-    // What is lent stands behind a header that states its length.
-    ensures spelled { IfSome result (λ part. IsSignedPart bytes.now part.now) }
-    ensures only { (part : List ℕ) → IsSignedPart bytes.now part → option_copied result ≡ Some part }
+impl Eq for WinCertificate {
+    ghost laws = { Prim.search (comparing, rules) };
+}
+
+/// The certificate that `WinCertificate::decode` would keep, lent, with the same refusals but for
+/// want of memory.
+pub fn certificate_of(bytes: &[u8]) -> WinCertificateResult<&[u8]>
+    ensures lent { IfOk result (λ part. certificate_in bytes.now ≡ Ok part.now) }
+    ensures refused { IfErr result (λ e. certificate_in bytes.now ≡ Err e) }
+    ensures never_memory { result ≢ Err WinCertificateError.Memory }
+    // What is lent is spelled there, and what is spelled there is lent.
+    ensures spelled { IfOk result (λ part. (w : WinCert) × BeginsWith bytes.now w × (w.certificate ≡ part.now)) }
+    ensures only { (w : WinCert) → BeginsWith bytes.now w → certificate_in bytes.now ≡ Ok w.certificate }
 {
     let header = header_of(bytes)?;
-    if names_signed_part(header, bytes.len()) {
-        Some(&bytes[HEADER_LENGTH..header.length as usize])
-    } else {
-        None
-    }
+    Ok(&bytes[HEADER_LENGTH..header.length])
 }

@@ -1,0 +1,10 @@
+use Rattle.std.proofs.Common.{List, subst, ◌∙◌}
+use Rattle.std.specs.Borrow.{Bor}
+use Rattle.der_core.specs.DerElement.{DerElement, Constructed, row}
+use Rattle.authenticode_core.specs.Reads.{Reads}
+use Rattle.authenticode_core.proofs.Kids.{Reads-kids}
+use Rattle.authenticode_core.proofs.element.branch_of.Goals as goal
+
+pub returns-then-tag : goal.returns-then-tag
+returns-then-tag c =
+    rw (← c.if-tag.true, c.tag.ensures) (Reads-kids c.args.tree.now c.kids.result c.kids.ensures)

@@ -1,0 +1,15 @@
+use Rattle.std.proofs.Common.{◌≡◌, ◌≢◌, ℕ, List, length, Option, Some, None, Result, Ok, Err, MatchResult, MatchOption, ap, sym, ◌∙◌, subst}
+use Rattle.std.specs.Result.{result_ok}
+use Rattle.std.specs.Array.{IsWholeChunk}
+use Rattle.std.specs.Borrow.{Bor}
+use Rattle.der_core.specs.DerElement.{Constructed, listed, row-listed}
+use Rattle.authenticode_core.proofs.Kids.{chunk_of_kids}
+use Rattle.authenticode_core.proofs.element.kids_of.Goals as goal
+
+pub returns : goal.returns
+returns g c =
+    rw c.ok.ensures.value (chunk_of_kids g.row.N c.in_ok-kids.kids.now c.in_ok-kids.ensures c.try_from.result c.try_from.ensures.1)
+
+pub returns-in_err-kids : goal.returns-in_err-kids
+returns-in_err-kids g c =
+    rw c.from_residual.ensures (λ kids size e. c.in_err-kids.ensures (listed kids) (e ∙ ap (Constructed c.args.tag) (sym (row-listed kids))))

@@ -1,0 +1,4 @@
+pub mod Asn1
+pub mod Reads
+pub mod PlainForm
+pub mod Views

@@ -1,0 +1,196 @@
+-- The plain form of signed data: one signer with an RSA key and SHA-256, one certificate, three signed attributes.
+use Rattle.std.specs.Prelude.{◌≡◌, ◌≢◌, ℕ, ◌+◌, ◌≤◌, List, [], ◌∷◌, ◌++◌, codes, Ok}
+use Rattle.sha2.specs.Sha256.{sha256}
+use Rattle.der_core.specs.DerElement.{DerElement, Primitive, row}
+use Rattle.der_core.specs.Encoding.{encoding, encodings, IsDer, IsPaddedEncoding}
+use Rattle.wincert_core.specs.Refusal.{certificate_in}
+use Rattle.authenticode_core.specs.Asn1.{sequence, set, context, integer, bit_string, octet_string, null, object_identifier, utf8_string, utc_time}
+use Rattle.authenticode_core.specs.declared.identifiers.TheConstants.{RSA_ENCRYPTION, SHA256_WITH_RSA_ENCRYPTION, SIGNED_DATA, CONTENT_TYPE, MESSAGE_DIGEST, INDIRECT_DATA, OPUS_INFO, PE_IMAGE_DATA, SHA256, COMMON_NAME}
+
+-- an AlgorithmIdentifier with NULL parameters (RFC 5280 4.1.1.2)
+abbrev pub algorithm : List ℕ → DerElement
+algorithm oid = sequence (object_identifier oid ∷ null ∷ [])
+
+-- a Name of one common name (RFC 5280 4.1.2.4)
+abbrev pub name : List ℕ → DerElement
+name text = sequence (set (sequence (object_identifier COMMON_NAME ∷ utf8_string text ∷ []) ∷ []) ∷ [])
+
+-- a Validity between two times of two-digit years (RFC 5280 4.1.2.5)
+abbrev pub validity : List ℕ → List ℕ → DerElement
+validity not_before not_after = sequence (utc_time not_before ∷ utc_time not_after ∷ [])
+
+-- the SubjectPublicKeyInfo of an RSA key (RFC 5280 4.1.2.7)
+abbrev pub public_key_info : List ℕ → DerElement
+public_key_info key = sequence (algorithm RSA_ENCRYPTION ∷ bit_string key ∷ [])
+
+-- what varies in the part of a certificate that is signed
+pub record TbsParts : Type 0 where
+  pub serial : List ℕ
+  pub issuer : List ℕ
+  pub not_before : List ℕ
+  pub not_after : List ℕ
+  pub subject : List ℕ
+  pub key : List ℕ
+
+-- the version of certificates that may have extensions (RFC 5280 4.1.2.1)
+abbrev pub version_3 : DerElement
+version_3 = context 0 (integer (2 ∷ []) ∷ [])
+
+-- a TBSCertificate of version 3 without extensions (RFC 5280 4.1.2)
+abbrev pub tbs_fields : TbsParts → List DerElement
+tbs_fields c =
+    version_3
+    ∷ integer c.serial
+    ∷ algorithm SHA256_WITH_RSA_ENCRYPTION
+    ∷ name c.issuer
+    ∷ validity c.not_before c.not_after
+    ∷ name c.subject
+    ∷ public_key_info c.key
+    ∷ []
+
+abbrev pub tbs_certificate : TbsParts → DerElement
+tbs_certificate c = sequence (tbs_fields c)
+
+pub record CertificateParts : Type 0 where
+  pub tbs : TbsParts
+  pub signature : List ℕ
+
+-- a Certificate (RFC 5280 4.1.1)
+abbrev pub certificate : CertificateParts → DerElement
+certificate c = sequence (tbs_certificate c.tbs ∷ algorithm SHA256_WITH_RSA_ENCRYPTION ∷ bit_string c.signature ∷ [])
+
+-- SpcIndirectDataContent: a portable executable, without page hashes, and the digest of the file (Authenticode)
+abbrev pub empty_link : DerElement
+empty_link = context 0 (context 2 (Primitive 128 [] ∷ []) ∷ [])
+
+abbrev pub image_data : DerElement
+image_data = sequence (object_identifier PE_IMAGE_DATA ∷ sequence (bit_string [] ∷ empty_link ∷ []) ∷ [])
+
+abbrev pub digest_info : List ℕ → DerElement
+digest_info file_hash = sequence (algorithm SHA256 ∷ octet_string file_hash ∷ [])
+
+abbrev pub indirect_data : List ℕ → DerElement
+indirect_data file_hash = sequence (image_data ∷ digest_info file_hash ∷ [])
+
+-- a ContentInfo of indirect data (RFC 2315 7)
+abbrev pub content_info : List ℕ → DerElement
+content_info file_hash = sequence (object_identifier INDIRECT_DATA ∷ context 0 (indirect_data file_hash ∷ []) ∷ [])
+
+-- an Attribute of one value (RFC 2986 4.1)
+abbrev pub attribute : List ℕ → DerElement → DerElement
+attribute oid value = sequence (object_identifier oid ∷ set (value ∷ []) ∷ [])
+
+-- the type of the content, no program's name, and the digest of the content (RFC 2985 5.3, Authenticode)
+abbrev pub no_program_name : DerElement
+no_program_name = sequence (context 1 (Primitive 128 [] ∷ []) ∷ [])
+
+abbrev pub attributes : List ℕ → List DerElement
+attributes message_digest =
+    attribute CONTENT_TYPE (object_identifier INDIRECT_DATA)
+    ∷ attribute OPUS_INFO no_program_name
+    ∷ attribute MESSAGE_DIGEST (octet_string message_digest)
+    ∷ []
+
+-- what varies in the signer
+pub record SignerParts : Type 0 where
+  pub issuer : List ℕ
+  pub serial : List ℕ
+  pub message_digest : List ℕ
+  pub signature : List ℕ
+
+-- IssuerAndSerialNumber (RFC 2315 6.7)
+abbrev pub issuer_and_serial_number : List ℕ → List ℕ → DerElement
+issuer_and_serial_number issuer serial = sequence (name issuer ∷ integer serial ∷ [])
+
+-- a SignerInfo of version 1, whose signature algorithm is named by its key's (RFC 2315 9.2)
+abbrev pub signer_fields : SignerParts → List DerElement
+signer_fields s =
+    integer (1 ∷ [])
+    ∷ issuer_and_serial_number s.issuer s.serial
+    ∷ algorithm SHA256
+    ∷ context 0 (attributes s.message_digest)
+    ∷ algorithm RSA_ENCRYPTION
+    ∷ octet_string s.signature
+    ∷ []
+
+abbrev pub signer_info : SignerParts → DerElement
+signer_info s = sequence (signer_fields s)
+
+-- what varies in the signed data
+pub record SignatureParts : Type 0 where
+  pub certificate : CertificateParts
+  pub file_hash : List ℕ
+  pub signer : SignerParts
+
+-- a SignedData of version 1, with one certificate, an empty list of revocation lists and one signer (RFC 2315 9.1)
+abbrev pub signed_data_fields : SignatureParts → List DerElement
+signed_data_fields p =
+    integer (1 ∷ [])
+    ∷ set (algorithm SHA256 ∷ [])
+    ∷ content_info p.file_hash
+    ∷ context 0 (certificate p.certificate ∷ [])
+    ∷ context 1 []
+    ∷ set (signer_info p.signer ∷ [])
+    ∷ []
+
+abbrev pub signed_data : SignatureParts → DerElement
+signed_data p = sequence (signed_data_fields p)
+
+-- a ContentInfo of it (RFC 2315 7)
+abbrev pub signed_content : SignatureParts → DerElement
+signed_content p = sequence (object_identifier SIGNED_DATA ∷ context 0 (signed_data p ∷ []) ∷ [])
+
+abbrev pub IsDigit : ℕ → Type 0
+IsDigit c = (48 ≤ c) × (c ≤ 57)
+
+-- the first moment of a year: YY0101000000Z
+pub record IsNewYear (time : List ℕ) : Type 0 where
+  pub tens : ℕ
+  pub units : ℕ
+  pub digits : IsDigit tens × IsDigit units
+  pub written : time ≡ tens ∷ units ∷ codes "0101000000Z"
+
+-- an INTEGER with contents octets (X.690 8.3.1)
+pub record IsSomeInteger (element : DerElement) : Type 0 where
+  pub contents : List ℕ
+  pub some : contents ≢ []
+  pub written : element ≡ integer contents
+
+-- an RSAPublicKey, with its modulus and exponent (RFC 8017 A.1.1)
+pub record IsRsaPublicKey (element : DerElement) : Type 0 where
+  pub modulus : DerElement
+  pub exponent : DerElement
+  pub integers : IsSomeInteger modulus × IsSomeInteger exponent
+  pub written : element ≡ sequence (modulus ∷ exponent ∷ [])
+
+-- the octets of an RSAPublicKey, which is an input of its own
+pub record IsRsaKey (key : List ℕ) : Type 0 where
+  pub element : DerElement
+  pub public_key : IsRsaPublicKey element
+  pub der : IsDer element
+  pub encoded : key ≡ encoding element
+
+-- The contents octets of the indirect data, which the signed attributes bind by their digest.
+abbrev pub bound_contents : List ℕ → List ℕ
+bound_contents file_hash = encodings (row (image_data ∷ digest_info file_hash ∷ []))
+
+-- what the parts keep
+pub record IsPlain (p : SignatureParts) : Type 0 where
+  pub issuer : p.signer.issuer ≡ p.certificate.tbs.issuer
+  pub serial : p.signer.serial ≡ p.certificate.tbs.serial
+  pub some_serial : p.certificate.tbs.serial ≢ []
+  pub not_before : IsNewYear p.certificate.tbs.not_before
+  pub not_after : IsNewYear p.certificate.tbs.not_after
+  pub key : IsRsaKey p.certificate.tbs.key
+  pub bound : p.signer.message_digest ≡ sha256 (bound_contents p.file_hash)
+
+-- The octets begin with a WIN_CERTIFICATE whose certificate is signed data of the plain form, with these parts.
+pub record IsPlainForm (octets : List ℕ) (p : SignatureParts) : Type 0 where
+  pub certificate : List ℕ
+  pub named : certificate_in octets ≡ Ok certificate
+  pub spelled : IsPaddedEncoding certificate (signed_content p)
+  pub plain : IsPlain p
+
+-- What the signature is over: the signed attributes as a SET (RFC 2315 9.3).
+abbrev pub signed_message : SignatureParts → List ℕ
+signed_message p = encoding (set (attributes p.signer.message_digest))

@@ -1,0 +1,66 @@
+//! What the check of a signature answers.
+
+ghost use Rattle.std.specs.Prelude.{◌≡◌, ◌++◌, ◌∷◌, [], OnOk, OnErr};
+
+use std::alloc::{AllocError, Global};
+use std::marker::Model;
+
+/// Places in a list of certificates, from 0.
+#[derive(Debug, Drop)]
+pub struct Places {
+    items: Vec<usize>,
+}
+
+impl Model for Places {
+    ghost use Rattle.std.specs.Prelude.{List, ℕ};
+
+    ghost Value = { List ℕ };
+
+    ghost view = { λ p. p.items.items };
+}
+
+impl Places {
+    /// No places.
+    pub fn new(alloc: Global) -> Places
+        ensures { result ≡ [] }
+    {
+        Places {
+            items: Vec::new(alloc),
+        }
+    }
+
+    pub fn push(&mut self, item: usize) -> Result<(), AllocError>
+        ensures ok { OnOk result (self.new ≡ self.old ++ item ∷ []) }
+        ensures err { OnErr result (self.new ≡ self.old) }
+    {
+        self.items.push(item)?;
+        Ok(())
+    }
+
+    pub fn as_slice(&self) -> &[usize]
+        ensures { result.now ≡ self.now }
+    {
+        &self.items
+    }
+}
+
+/// Why the expiry of a signer's certificate is excused.
+#[derive(Clone, Copy, Debug, PartialEq, Eq)]
+pub enum Excuse {
+    /// Nothing is excused.
+    None,
+    /// A certificate beside the signer's is for time stamping.
+    Bag,
+    /// A time-stamp token stands beside the signature.
+    Token,
+}
+
+/// What is said of a signature that is accepted.
+#[derive(Debug, Drop)]
+pub struct Accepted {
+    /// The place of the signer's certificate among the certificates.
+    pub signer: Option<usize>,
+    /// The places of the certificates that vouch for the signer's.
+    pub path: Places,
+    pub excuse: Excuse,
+}

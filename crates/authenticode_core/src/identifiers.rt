@@ -1,0 +1,37 @@
+//! Object identifiers, as the contents octets that X.690 8.19 gives them.
+
+/// rsaEncryption 1.2.840.113549.1.1.1 (RFC 8017, appendix C).
+pub(crate) const RSA_ENCRYPTION: [u8; 9] = [0x2A, 0x86, 0x48, 0x86, 0xF7, 0x0D, 0x01, 0x01, 0x01];
+
+/// sha256WithRSAEncryption 1.2.840.113549.1.1.11 (RFC 8017, appendix C).
+pub(crate) const SHA256_WITH_RSA_ENCRYPTION: [u8; 9] = [
+    0x2A, 0x86, 0x48, 0x86, 0xF7, 0x0D, 0x01, 0x01, 0x0B,
+];
+
+/// signedData 1.2.840.113549.1.7.2 (RFC 2315, section 14).
+pub(crate) const SIGNED_DATA: [u8; 9] = [0x2A, 0x86, 0x48, 0x86, 0xF7, 0x0D, 0x01, 0x07, 0x02];
+
+/// contentType 1.2.840.113549.1.9.3 (RFC 2985, section 5.3.1).
+pub(crate) const CONTENT_TYPE: [u8; 9] = [0x2A, 0x86, 0x48, 0x86, 0xF7, 0x0D, 0x01, 0x09, 0x03];
+
+/// messageDigest 1.2.840.113549.1.9.4 (RFC 2985, section 5.3.2).
+pub(crate) const MESSAGE_DIGEST: [u8; 9] = [0x2A, 0x86, 0x48, 0x86, 0xF7, 0x0D, 0x01, 0x09, 0x04];
+
+/// SPC_INDIRECT_DATA 1.3.6.1.4.1.311.2.1.4 (Windows Authenticode Portable Executable Signature Format).
+pub(crate) const INDIRECT_DATA: [u8; 10] = [
+    0x2B, 0x06, 0x01, 0x04, 0x01, 0x82, 0x37, 0x02, 0x01, 0x04,
+];
+
+/// SPC_SP_OPUS_INFO 1.3.6.1.4.1.311.2.1.12 (the same).
+pub(crate) const OPUS_INFO: [u8; 10] = [0x2B, 0x06, 0x01, 0x04, 0x01, 0x82, 0x37, 0x02, 0x01, 0x0C];
+
+/// SPC_PE_IMAGE_DATA 1.3.6.1.4.1.311.2.1.15 (the same).
+pub(crate) const PE_IMAGE_DATA: [u8; 10] = [
+    0x2B, 0x06, 0x01, 0x04, 0x01, 0x82, 0x37, 0x02, 0x01, 0x0F,
+];
+
+/// id-sha256 2.16.840.1.101.3.4.2.1 (RFC 5754, section 2.2).
+pub(crate) const SHA256: [u8; 9] = [0x60, 0x86, 0x48, 0x01, 0x65, 0x03, 0x04, 0x02, 0x01];
+
+/// id-at-commonName 2.5.4.3 (RFC 5280, appendix A.1).
+pub(crate) const COMMON_NAME: [u8; 3] = [0x55, 0x04, 0x03];

@@ -1,0 +1,68 @@
+//! The revisions and the types that a header can name.
+
+ghost use Rattle.std.specs.Prelude.{◌≡◌};
+ghost use Rattle.std.specs.Option.{ok_or};
+ghost use Rattle.wincert_core.specs.declared.error.WinCertificateError.TheVariants.{WrongRevisionValue, WrongCertificateType};
+ghost use Rattle.wincert_core.specs.Kinds.{revision_number, revision_numbered, type_number, type_numbered};
+
+use crate::error::WinCertificateError;
+
+#[derive(Clone, Copy, Debug, PartialEq, Eq)]
+pub enum RevisionType {
+    WinCertificateRevision10 = 0x0100,
+    WinCertificateRevision20 = 0x0200,
+}
+
+impl RevisionType {
+    pub(crate) fn number(self) -> u16
+        ensures { result ≡ revision_number self }
+    {
+        self as u16
+    }
+}
+
+impl TryFrom<u16> for RevisionType {
+    type Error = WinCertificateError;
+
+    ghost try_from_gives = { λ n r. r ≡ ok_or (revision_numbered n) (WrongRevisionValue n) };
+
+    fn try_from(number: u16) -> Result<Self, WinCertificateError> {
+        match number {
+            0x0100 => Ok(RevisionType::WinCertificateRevision10),
+            0x0200 => Ok(RevisionType::WinCertificateRevision20),
+            got => Err(WinCertificateError::WrongRevisionValue { got }),
+        }
+    }
+}
+
+#[derive(Clone, Copy, Debug, PartialEq, Eq)]
+pub enum CertificateType {
+    WinCertTypeX509 = 1,
+    WinCertTypePkcsSignedData = 2,
+    WinCertTypeReserved1 = 3,
+    WinCertTypePkcs1Sign = 9,
+}
+
+impl CertificateType {
+    pub(crate) fn number(self) -> u16
+        ensures { result ≡ type_number self }
+    {
+        self as u16
+    }
+}
+
+impl TryFrom<u16> for CertificateType {
+    type Error = WinCertificateError;
+
+    ghost try_from_gives = { λ n r. r ≡ ok_or (type_numbered n) (WrongCertificateType n) };
+
+    fn try_from(number: u16) -> Result<Self, WinCertificateError> {
+        match number {
+            1 => Ok(CertificateType::WinCertTypeX509),
+            2 => Ok(CertificateType::WinCertTypePkcsSignedData),
+            3 => Ok(CertificateType::WinCertTypeReserved1),
+            9 => Ok(CertificateType::WinCertTypePkcs1Sign),
+            got => Err(WinCertificateError::WrongCertificateType { got }),
+        }
+    }
+}
