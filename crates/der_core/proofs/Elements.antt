@@ -1,21 +1,13 @@
 -- The steps of a reader of trees: a leaf, a branch, one more kid, and why there is none.
 use Rattle.std.proofs.Common.{◌≡◌, ℕ, ◌-◌, ◌<◌, List, [], ◌∷◌, ◌++◌, length, drop, Ok, Err, refl, sym, ap, subst, ◌∙◌, append_assoc, arith}
 use Rattle.std.proofs.lemmas.List.{append-nil, length-append, take_at, take-append-drop}
-use Rattle.der_core.specs.declared.error.DerError.{DerError}
-use Rattle.der_core.specs.declared.error.DerError.TheVariants as errors
 use Rattle.der_core.specs.declared.fault.DerFault.{DerFault}
 use Rattle.der_core.specs.DerElement.{DerElement, Primitive, Constructed, DerElements, Nil, Cons, row, tag_of}
 use Rattle.der_core.specs.Encoding.{encoding, encodings, form_bit, IsDerWithin}
 use Rattle.der_core.specs.Fronts.{ok_is, some_octets, fronts}
 use Rattle.der_core.specs.Head.{head_at}
-use Rattle.der_core.specs.Reading.{AreDerWithin, HasElement, HasElements, IsFirst, RefusesUnread}
+use Rattle.der_core.specs.Reading.{AreDerWithin, HasElement, HasElements, IsFirst}
 use Rattle.der_core.proofs.Heads.{HasHead, contents_of, head_again}
-
-pub refuses_as : (P Q : Type 0) (e : DerError) → (P → Q) → RefusesUnread P e → RefusesUnread Q e
-refuses_as P Q errors.Memory f h = tt
-refuses_as P Q errors.Unread f h = f h
-refuses_as P Q errors.TooDeep f h = h
-refuses_as P Q errors.TooLong f h = h
 
 -- ---- what is read
 
@@ -88,9 +80,3 @@ first_once octets a b m n first second =
 
 pub first_stands : (octets : List ℕ) (a : DerElement) (n : ℕ) → IsFirst octets a n → HasElement 64 octets
 first_stands octets a n first = (a, drop n octets, first.der, first_parts octets a n first)
-
-pub only_memory : (octets : List ℕ) (a : DerElement) (n : ℕ) (e : DerError) → IsFirst octets a n → RefusesUnread (HasElement 64 octets → ⊥) e → e ≡ errors.Memory
-only_memory octets a n errors.Memory first refused = refl
-only_memory octets a n errors.Unread first refused = absurd (refused (first_stands octets a n first))
-only_memory octets a n errors.TooDeep first refused = absurd refused
-only_memory octets a n errors.TooLong first refused = absurd refused

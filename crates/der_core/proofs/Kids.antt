@@ -1,5 +1,5 @@
 -- A kid among its siblings.
-use Rattle.std.proofs.Common.{◌≡◌, ℕ, ◌+◌, ◌<◌, ◌≤◌, List, [], ◌∷◌, length, get_or, zero, suc, refl, arith, add-one}
+use Rattle.std.proofs.Common.{ℕ, ◌<◌, ◌≤◌, List, [], ◌∷◌, length, get_or, zero, suc, arith}
 use Rattle.der_core.specs.DerElement.{DerElement, row, element_count, elements_count}
 use Rattle.der_core.specs.Encoding.{IsShort, AreShort}
 

@@ -6,10 +6,7 @@ use Rattle.der_core.specs.declared.fault.DerFault.{DerFault}
 use Rattle.der_core.specs.declared.fault.DerFault.TheVariants.{NotShortest}
 use Rattle.der_core.specs.Encoding.{length_octets}
 use Rattle.der_core.specs.Fronts.{done, ok_is}
-use Rattle.der_core.specs.Head.{◌>>=◌, number_from, long_length_at, length_at}
-
-abbrev pub IsOctets : List ℕ → Type 0
-IsOctets octets = (i : ℕ) → get_or octets i 0 < 256
+use Rattle.der_core.specs.Head.{IsOctets, ◌>>=◌, number_from, long_length_at, length_at}
 
 -- which way a test went
 pub chosen : {A : Type 0} (b : Bool) (x y z : A) → cond b x y ≡ z → ((b ≡ true) × (x ≡ z)) ⊎ ((b ≡ false) × (y ≡ z))
@@ -121,7 +118,7 @@ pub record HasLength (octets : List ℕ) (n : ℕ) (rest : List ℕ) : Type 0 wh
   pub parts : octets ≡ length_octets n ++ rest
   pub short : n < 2 ^ 32
 
-IsOctets-front : (a b : List ℕ) → IsOctets (a ++ b) → IsOctets a
+pub IsOctets-front : (a b : List ℕ) → IsOctets (a ++ b) → IsOctets a
 IsOctets-front a b fits i =
     elim (cases_lt i (length a)) [
       | inl lt ↦ rw (get_or_append_left a b 0 i lt) at (fits i)

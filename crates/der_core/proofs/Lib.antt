@@ -1,6 +1,9 @@
 pub mod Lengths
 pub mod Heads
 pub mod Elements
+pub mod Faults
+pub mod Exact
+pub mod Decided
 pub mod Nesting
 pub mod Kids
 pub mod Refusals

@@ -7,4 +7,5 @@ pub RefusesLong-whole : {part whole : Type 0} → (whole → part) → (e : DerE
 RefusesLong-whole f errors.TooLong h = λ w. h (f w)
 RefusesLong-whole f errors.Memory h = tt
 RefusesLong-whole f errors.TooDeep h = absurd h
-RefusesLong-whole f errors.Unread h = absurd h
+RefusesLong-whole f (errors.Malformed malformed) h = absurd h
+RefusesLong-whole f errors.Shape h = absurd h

@@ -5,5 +5,7 @@ pub mod TreeView
 pub mod TreeFalls
 pub mod Head
 pub mod Fronts
+pub mod Fault
+pub mod InnerFault
 pub mod Reading
 pub mod Writing

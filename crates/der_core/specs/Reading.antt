@@ -1,7 +1,10 @@
 -- What octets begin with, as far as a reader of trees asks.
-use Rattle.std.specs.Prelude.{◌≡◌, ℕ, ◌≤◌, ◌⊎◌, List, ◌++◌, length, take, Result, Ok, Err}
+use Rattle.std.specs.Prelude.{◌≡◌, ℕ, ◌+◌, ◌<◌, ◌≤◌, ◌⊎◌, List, ◌++◌, length, take, Result, Ok, Err}
 use Rattle.der_core.specs.declared.error.DerError.{DerError}
 use Rattle.der_core.specs.declared.error.DerError.TheVariants as errors
+use Rattle.der_core.specs.declared.fault.DerFault.{DerFault}
+use Rattle.der_core.specs.declared.fault.DerFault.TheVariants.{Trailing}
+use Rattle.der_core.specs.Fault.{IsFirstFault}
 use Rattle.der_core.specs.DerElement.{DerElement, DerElements}
 use Rattle.der_core.specs.Encoding.{encoding, encodings, AreWellFormed, deepest, AreShort, IsDerWithin, IsDer}
 
@@ -29,6 +32,16 @@ pub record IsFirst (octets : List ℕ) (element : DerElement) (n : ℕ) : Type 0
 abbrev pub HasNoFirst : List ℕ → Type 0
 HasNoFirst octets = (element : DerElement) (n : ℕ) → IsFirst octets element n → ⊥
 
+-- Octets follow the first element, from a place on.
+pub record HasTrailing (octets : List ℕ) (place : ℕ) : Type 0 where
+  pub element : DerElement
+  pub first : IsFirst octets element place
+  pub more : place < length octets
+
+-- What is wrong with octets that are not one element: their first fault, or octets after the element.
+abbrev pub IsExactFault : List ℕ → ℕ → DerFault → Type 0
+IsExactFault octets place fault = IsFirstFault octets place fault ⊎ ((fault ≡ Trailing) × HasTrailing octets place)
+
 -- No encoding is a proper front of another: where two encodings begin the same octets they are of one element.
 abbrev pub IsPrefixFree : Type 0
 IsPrefixFree = (a b : DerElement) (x y : List ℕ) → IsDer a → IsDer b → encoding a ++ x ≡ encoding b ++ y → (a ≡ b) × (x ≡ y)
@@ -37,9 +50,22 @@ IsPrefixFree = (a b : DerElement) (x y : List ℕ) → IsDer a → IsDer b → e
 abbrev pub GivesUnlessMemory : {X : Type 0} → Result X DerError → X → Type 0
 GivesUnlessMemory result x = (result ≡ Ok x) ⊎ (result ≡ Err errors.Memory)
 
--- A reader refuses for want of memory, or for a cause.
-abbrev pub RefusesUnread : Type 0 → DerError → Type 0
-RefusesUnread Cause errors.Memory = Unit {0}
-RefusesUnread Cause errors.Unread = Cause
-RefusesUnread Cause errors.TooDeep = ⊥
-RefusesUnread Cause errors.TooLong = ⊥
+-- A reader refuses for want of memory, or with a fault at a place, counted from where its octets begin.
+abbrev pub RefusesFrom : ℕ → (ℕ → DerFault → Type 0) → DerError → Type 0
+RefusesFrom at Fault errors.Memory = Unit {0}
+RefusesFrom at Fault (errors.Malformed m) = (k : ℕ) × (m.at ≡ at + k) × Fault k m.fault
+RefusesFrom at Fault errors.Shape = ⊥
+RefusesFrom at Fault errors.TooDeep = ⊥
+RefusesFrom at Fault errors.TooLong = ⊥
+
+-- A reader refuses for want of memory, or with a fault at a place.
+abbrev pub RefusesMalformed : (ℕ → DerFault → Type 0) → DerError → Type 0
+RefusesMalformed Fault errors.Memory = Unit {0}
+RefusesMalformed Fault (errors.Malformed m) = Fault m.at m.fault
+RefusesMalformed Fault errors.Shape = ⊥
+RefusesMalformed Fault errors.TooDeep = ⊥
+RefusesMalformed Fault errors.TooLong = ⊥
+
+-- The answer is a fault at a place, unless memory runs out.
+abbrev pub FaultsUnlessMemory : {X : Type 0} → Result X DerError → ℕ → DerFault → Type 0
+FaultsUnlessMemory result at fault = (result ≡ Err (errors.Malformed (record { at = at; fault = fault }))) ⊎ (result ≡ Err errors.Memory)

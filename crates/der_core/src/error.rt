@@ -1,16 +1,20 @@
 //! Why octets are not read, or a tree is not written.
 
 ghost use Rattle.std.specs.Prelude.{◌≡◌};
-ghost use Rattle.der_core.specs.declared.error.DerError.TheVariants.{Memory};
+ghost use Rattle.der_core.specs.declared.error.DerError.TheVariants as errors;
 
+use crate::fault::Malformed;
 use std::alloc::{AllocError, AllocFailed};
 use thiserror::Error;
 
 #[derive(Clone, Copy, Debug, PartialEq, Eq, Error)]
 pub enum DerError {
-    /// The octets begin with no element of the distinguished encoding rules.
-    #[error("the octets begin with no element in DER of at most 64 levels")]
-    Unread,
+    /// The octets are no element of the distinguished encoding rules.
+    #[error("malformed DER: {0}")]
+    Malformed(Malformed),
+    /// The element is not of the structure that is read.
+    #[error("the element has another structure than the one that is read")]
+    Shape,
     /// The tree to be written has more than 64 levels.
     #[error("the tree is nested deeper than 64 levels and cannot be written")]
     TooDeep,
@@ -22,8 +26,16 @@ pub enum DerError {
     Memory,
 }
 
+impl From<Malformed> for DerError {
+    ghost from_gives = { λ malformed e. e ≡ errors.Malformed malformed };
+
+    fn from(malformed: Malformed) -> DerError {
+        DerError::Malformed(malformed)
+    }
+}
+
 impl From<AllocError> for DerError {
-    ghost from_gives = { λ _ e. e ≡ Memory };
+    ghost from_gives = { λ _ e. e ≡ errors.Memory };
 
     fn from(_refused: AllocError) -> DerError {
         DerError::Memory
@@ -31,7 +43,7 @@ impl From<AllocError> for DerError {
 }
 
 impl<T: Drop> From<AllocFailed<T>> for DerError {
-    ghost from_gives = { λ _ e. e ≡ Memory };
+    ghost from_gives = { λ _ e. e ≡ errors.Memory };
 
     fn from(_refused: AllocFailed<T>) -> DerError {
         DerError::Memory

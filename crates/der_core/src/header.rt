@@ -4,7 +4,7 @@ ghost use Rattle.std.specs.Prelude.{◌≡◌, ◌≤◌, ◌↔◌, length, IsT
 ghost use Rattle.der_core.specs.Encoding.{form_bit};
 ghost use Rattle.der_core.specs.Head.{past_bound, number_from, long_length_at, length_at, contents_at, head_at};
 
-use crate::fault::DerFault;
+use crate::fault::{DerFault, Malformed};
 use crate::tree::LEVELS;
 
 /// An element as far as its head tells it, and the octets after it.
@@ -24,10 +24,19 @@ impl Head<'_> {
     }
 }
 
-/// The head of the element that octets begin with, if its tests hold in their order. The octets
-/// end where the element has to end at the latest.
+/// The head of the element that octets at a place begin with, or the first test of it that fails.
+/// The octets end where the element has to end at the latest.
+pub fn head_of(octets: &[u8], at: usize, levels: u8) -> Result<Head<'_>, Malformed>
+    ensures {
+        MatchResult result
+        (λ head. head_at levels octets.now ≡ Ok (head.tag, head.contents.now, head.rest.now))
+        (λ m. (m.at ≡ at) × (head_at levels octets.now ≡ Err m.fault)) }
+{
+    tested_head(octets, levels).map_err(|fault| Malformed { at, fault })
+}
+
 #[tactic(auto, unfolding(crate::specs::Head::head_at))]
-pub fn head_of(octets: &[u8], levels: u8) -> Result<Head<'_>, DerFault>
+fn tested_head(octets: &[u8], levels: u8) -> Result<Head<'_>, DerFault>
     ensures { MatchResult result
         (λ head. head_at levels octets.now ≡ Ok (head.tag, head.contents.now, head.rest.now))
         (λ fault. head_at levels octets.now ≡ Err fault) }

@@ -8,12 +8,15 @@ mod header;
 mod laws;
 mod octets;
 mod reading;
+#[cfg(test)]
+mod tests;
 mod tree;
 mod writing;
 
 pub use error::DerError;
-pub use laws::no_encoding_begins_another;
+pub use fault::{DerFault, Malformed};
+pub use laws::{no_encoding_begins_another, one_first_fault};
 pub use octets::Octets;
-pub use reading::read_first;
+pub use reading::{read_exact, read_first};
 pub use tree::{Tree, Trees};
 pub use writing::write;

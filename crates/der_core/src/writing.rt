@@ -9,7 +9,7 @@ ghost use Rattle.der_core.specs.Encoding.{IsWellFormed, IsDer, IsShort, nesting,
 ghost use Rattle.der_core.specs.Writing.{RefusesToWrite, RefusesLong};
 
 use crate::error::DerError;
-use crate::tree::{Form, Tree, LEVELS};
+use crate::tree::{Form, LEVELS, Tree};
 use std::alloc::{AllocError, Global};
 
 /// Writes a tree in DER, each length in its shortest form (X.690 8.1, 10.1).

@@ -1,5 +1,4 @@
-use Rattle.std.proofs.Common.{◌≡◌, Some, arith, rules, sym, ap, ◌∙◌}
-use Rattle.der_core.specs.DerElement.{kids_of}
+use Rattle.std.proofs.Common.{arith, rules, ap}
 use Rattle.der_core.specs.Encoding.{nesting}
 use Rattle.der_core.proofs.Nesting.{nesting_is_positive, nesting-kids, deepest-drop, deepest-drop_all}
 use Rattle.der_core.proofs.writing.+is_nested_within.Goals as goal
