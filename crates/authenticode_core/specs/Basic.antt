@@ -1,11 +1,14 @@
 -- What basic validation of a signature file answers, and why.
-use Rattle.std.specs.Prelude.{◌≡◌, ◌≢◌, ℕ, List, [], Option, Some, None, Result, Ok, Err}
+use Rattle.std.specs.Prelude.{◌≡◌, ◌≢◌, ◌≤◌, ◌⊎◌, ℕ, drop, replicate, List, [], Option, Some, None, Result, Ok, Err}
 use Rattle.sig_core.specs.declared.algorithm.SigAlg.{SigAlg}
 use Rattle.sig_core.specs.declared.algorithm.SigAlg.TheVariants.{RsaSha256}
 use Rattle.sig_core.specs.declared.scheme.Verdict.{Verdict}
 use Rattle.sig_core.specs.declared.scheme.Verdict.TheVariants.{Accept}
 use Rattle.der_core.specs.DerElement.{DerElement}
 use Rattle.der_core.specs.Encoding.{IsPaddedEncoding}
+use Rattle.der_core.specs.Reading.{IsFirst}
+use Rattle.der_core.specs.Fault.{IsFirstFault}
+use Rattle.der_core.specs.declared.fault.DerFault.TheVariants.{Trailing}
 use Rattle.der_core.specs.declared.error.DerError.{DerError}
 use Rattle.der_core.specs.declared.error.DerError.TheVariants as der
 use Rattle.wincert_core.specs.Refusal.{certificate_in}
@@ -29,12 +32,24 @@ IsSigned judge p = judge RsaSha256 p.certificate.tbs.key (signed_message p) p.si
 abbrev pub accepted_first : Accepted
 accepted_first = record { signer = Some 0; path = []; excuse = excuses.None }
 
--- Why the octets of a certificate are no element with at most seven zeros after it.
+-- at most seven zeros, which align a WIN_CERTIFICATE
+abbrev pub IsPadding : List ℕ → Type 0
+IsPadding octets = (zeros : ℕ) × (zeros ≤ 7) × (octets ≡ replicate zeros 0)
+
+-- The first element takes so many octets, and what follows it is no padding.
+pub record HasTrailing (octets : List ℕ) (place : ℕ) : Type 0 where
+  pub element : DerElement
+  pub first : IsFirst octets element place
+  pub unpadded : IsPadding (drop place octets) → ⊥
+
+-- Why the octets of a certificate are no element with at most seven zeros after it: the first fault of an element, or other octets after it.
 abbrev pub IsUnread : List ℕ → DerError → Type 0
-IsUnread certificate der.Unread = (element : DerElement) → IsPaddedEncoding certificate element → ⊥
-IsUnread certificate der.Memory = ⊥
+IsUnread certificate (der.Malformed m) =
+    IsFirstFault certificate m.at m.fault ⊎ ((m.fault ≡ Trailing) × HasTrailing certificate m.at)
+IsUnread certificate der.Shape = ⊥
 IsUnread certificate der.TooDeep = ⊥
 IsUnread certificate der.TooLong = ⊥
+IsUnread certificate der.Memory = ⊥
 
 -- What is answered for parts of the plain form: the digest of the file is compared before the signature.
 abbrev pub IsJudged : Judge → SignatureParts → List ℕ → Result Accepted CheckError → Type 0
@@ -82,7 +97,8 @@ RefusesValue certificate (Authenticode e) = ⊥
 -- the refusal of a certificate that is not read
 abbrev pub unread_of : DerError → CheckError
 unread_of der.Memory = Memory
-unread_of der.Unread = Unread der.Unread
+unread_of (der.Malformed m) = Unread (der.Malformed m)
+unread_of der.Shape = Unread der.Shape
 unread_of der.TooDeep = Unread der.TooDeep
 unread_of der.TooLong = Unread der.TooLong
 

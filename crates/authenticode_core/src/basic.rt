@@ -1,11 +1,11 @@
 //! Basic validation: the form of the signed data, the digest of the file, the signature.
 
-ghost use Rattle.std.specs.Prelude.{◌≡◌, ◌⊎◌, ◌≤◌, ◌↔◌, ℕ, Ok, Err, replicate, Result, IsTrue, IfOk, MatchResult};
+ghost use Rattle.std.specs.Prelude.{◌≡◌, ◌↔◌, Ok, Result, IsTrue, IfOk, MatchResult};
 ghost use Rattle.der_core.specs.Encoding.{IsDer, IsPaddedEncoding};
 ghost use Rattle.wincert_core.specs.Refusal.{certificate_in};
 ghost use Rattle.authenticode_core.specs.PlainForm.{signed_content};
 ghost use Rattle.authenticode_core.specs.Views.{signature_parts};
-ghost use Rattle.authenticode_core.specs.Basic.{IsSigned, IsJudged, IsBasicAnswer, IsSameUnlessMemory, RefusesHeader, RefusesValue, unread_of};
+ghost use Rattle.authenticode_core.specs.Basic.{IsPadding, IsSigned, IsJudged, IsBasicAnswer, IsSameUnlessMemory, RefusesHeader, RefusesValue, unread_of};
 ghost use Rattle.authenticode_core.specs.declared.accepted.Accepted.{Accepted};
 ghost use Rattle.authenticode_core.specs.declared.error.CheckError.{CheckError};
 
@@ -15,7 +15,7 @@ use crate::error::{AuthenticodeError, CheckError};
 use crate::parts::PlainSignature;
 use crate::plain_form::plain_signature_of;
 use crate::plain_rules::{is_plain, signed_message_of};
-use der_core::{DerError, Octets, Tree, read_first};
+use der_core::{DerError, DerFault, Malformed, Octets, Tree, one_first_fault, read_first};
 use sig_core::{Scheme, SigAlg, Verdict};
 use std::alloc::{AllocError, Global};
 use wincert_core::certificate_of;
@@ -36,6 +36,7 @@ pub fn check_basic<S: Scheme>(
     ensures only { (other : Result Accepted CheckError) → IsBasicAnswer (S.judge scheme.now) bytes.now file_hash.now other
         → IsSameUnlessMemory result other }
 {
+    one_first_fault();
     answer(alloc, bytes, file_hash, scheme)
 }
 
@@ -74,9 +75,19 @@ fn value_of(alloc: Global, octets: &[u8]) -> Result<Tree, CheckError>
 {
     match read_first(alloc, octets) {
         Ok((tree, taken)) if is_padding(&octets[taken..]) => Ok(tree),
-        Ok(_) => Err(CheckError::Unread(DerError::Unread)),
+        Ok((_, taken)) => Err(trailing(taken)),
         Err(error) => Err(unread(error)),
     }
+}
+
+/// The refusal of octets after the element that are no padding.
+fn trailing(at: usize) -> CheckError
+    ensures { result ≡ CheckError.Unread (DerError.Malformed (record { at = at; fault = DerFault.Trailing })) }
+{
+    CheckError::Unread(DerError::Malformed(Malformed {
+        at,
+        fault: DerFault::Trailing,
+    }))
 }
 
 fn unread(error: DerError) -> CheckError
@@ -89,7 +100,7 @@ fn unread(error: DerError) -> CheckError
 }
 
 fn is_padding(octets: &[u8]) -> bool
-    ensures { IsTrue result ↔ ((zeros : ℕ) × (zeros ≤ 7) × (octets.now ≡ replicate zeros 0)) }
+    ensures { IsTrue result ↔ IsPadding octets.now }
 {
     octets.len() <= MOST_PADDING && octets.iter().all(|octet| *octet == 0)
 }
