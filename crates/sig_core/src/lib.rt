@@ -7,7 +7,10 @@
 mod algorithm;
 mod hash;
 mod scheme;
+mod verdict_row;
+mod verdict_table;
 
 pub use algorithm::{SchemeKind, SigAlg};
 pub use hash::HashAlgorithm;
 pub use scheme::{Scheme, SchemeError, Verdict};
+pub use verdict_table::{TableError, VerdictTable};
