@@ -7,6 +7,8 @@
 mod algorithm;
 mod hash;
 mod scheme;
+#[cfg(test)]
+mod tests;
 mod verdict_row;
 mod verdict_table;
 

@@ -81,7 +81,8 @@ impl VerdictTable {
         })
     }
 
-    fn has(&self, row: &VerdictRow) -> bool
+    // Whether a row of the table is this one.
+    fn contains(&self, row: &VerdictRow) -> bool
         ensures { IsTrue result ↔ Contains self.now row.now }
     {
         self.rows.contains(row)
@@ -143,7 +144,7 @@ impl Scheme for VerdictTable {
             msg: Sha256::digest(msg),
             sig: Sha256::digest(sig),
         };
-        if self.has(&row) {
+        if self.contains(&row) {
             Ok(Verdict::Accept)
         } else {
             Ok(Verdict::Reject)
