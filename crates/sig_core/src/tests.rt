@@ -105,7 +105,7 @@ fn digests(rt: HostRuntime) -> Result<(), Fail> {
 #[test]
 fn names_and_kinds(rt: HostRuntime) -> Result<(), Fail> {
     for (alg, name, kind) in ALGORITHMS {
-        assert_eq!(rt; alg.name(), name);
+        assert_eq!(rt; alg.name().as_bytes(), name.as_bytes());
         assert_eq!(rt; alg.kind(), kind, "{name}");
         let text = joined(rt.alloc(), &[name, " ", KEY, " ", MSG, " ", SIG, "\n"])?;
         let table = VerdictTable::parse(rt.alloc(), text.as_bytes())?;

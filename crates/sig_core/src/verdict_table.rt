@@ -158,6 +158,7 @@ impl Scheme for VerdictTable {
         _secret: &[u8],
         _msg: &[u8],
     ) -> Result<Vec<u8>, SchemeError> {
+        // Rows name signatures, and make none.
         Err(SchemeError::Refused)
     }
 
@@ -167,6 +168,7 @@ impl Scheme for VerdictTable {
         _kind: SchemeKind,
         _secret: &[u8],
     ) -> Result<Vec<u8>, SchemeError> {
+        // Nor do they know the keys of secrets.
         Err(SchemeError::Refused)
     }
 }
