@@ -17,13 +17,14 @@ table_once text a b ha hb =
 -- a table has no bad line
 pub no_bad_line : (text : List ℕ) (rows : List VerdictRow) (number : ℕ) → IsTable text rows → IsFirstBadLine text number → ⊥
 no_bad_line text rows number h bad =
-    bad.4 (sym (lines_once rows bad.0 [] bad.1 h.0 bad.2 nothing_begins bad.5
-    (append-nil (lines_of rows) ∙ sym h.1 ∙ bad.3)).1)
+    bad.more (sym (lines_once rows bad.before [] bad.rest h.0 bad.are_rows nothing_begins bad.bad
+    (append-nil (lines_of rows) ∙ sym h.1 ∙ bad.spelled)).1)
 
 -- the first bad line is determined
 pub bad_line_once : (text : List ℕ) (m n : ℕ) → IsFirstBadLine text m → IsFirstBadLine text n → m ≡ n
 bad_line_once text m n a b =
-    a.6 ∙ ap (λ rows. length rows + 1) (lines_once a.0 b.0 a.1 b.1 a.2 b.2 a.5 b.5 (sym a.3 ∙ b.3)).0 ∙ sym b.6
+    let same = lines_once a.before b.before a.rest b.rest a.are_rows b.are_rows a.bad b.bad (sym a.spelled ∙ b.spelled) in
+    a.counted ∙ ap (λ rows. length rows + 1) same.0 ∙ sym b.counted
 
 -- what refuses a table is want of memory
 pub cause_at_table : (text : List ℕ) (rows : List VerdictRow) (e : TableError) → IsTable text rows → IsCause text e → e ≡ Memory

@@ -1,6 +1,6 @@
 -- A table accepts exactly what a row names.
 use Rattle.std.proofs.Common.{◌≡◌, ℕ, Bool, true, false, List, refl, ap}
-use Rattle.std.specs.Prelude.{Contains}
+use Rattle.std.specs.Prelude.{Contains, ◌↔◌, if◌then◌else◌}
 use Rattle.std.specs.Bool.{Decides}
 use Rattle.std.specs.List.{list_any}
 use Rattle.std.proofs.lemmas.Bool.Decides.{Decides-and, Decides-like}
@@ -48,3 +48,15 @@ verdict_of-no_row rows alg key msg sig none =
     Bool-false : (b : Bool) → (b ≡ true → ⊥) → b ≡ false
     Bool-false true h = absurd (h refl)
     Bool-false false h = refl
+
+-- a signature is accepted exactly where a row names it
+pub accepted_by_row : (rows : List VerdictRow) (alg : SigAlg) (key msg sig : List ℕ)
+    → (verdict_of rows alg key msg sig ≡ Accept) ↔ Contains rows (row_of alg key msg sig)
+accepted_by_row rows alg key msg sig = (
+  λ accept. at_test (list_any (is_same_row (row_of alg key msg sig)) rows) (has_row-Decides rows (row_of alg key msg sig)) accept,
+  verdict_of-row rows alg key msg sig,
+)
+  where
+    at_test : (b : Bool) {P : Type 0} → Decides b P → (if b then Accept else Reject) ≡ Accept → P
+    at_test true d e = d.0 refl
+    at_test false d e = cc

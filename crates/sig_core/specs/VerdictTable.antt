@@ -46,10 +46,14 @@ BeginsWithNoLine text = (row : VerdictRow) (after : List ℕ) → IsRow row → 
 
 -- the line of this number is the first that spells no row: after the lines of the rows before it
 -- something is left, and that doesn't begin with a line. Lines are counted from 1
-abbrev pub IsFirstBadLine : List ℕ → ℕ → Type 0
-IsFirstBadLine text number =
-    (rows : List VerdictRow) × (rest : List ℕ) × AllByRecursion IsRow rows × (text ≡ lines_of rows ++ rest)
-    × (rest ≢ []) × BeginsWithNoLine rest × (number ≡ length rows + 1)
+pub record IsFirstBadLine (text : List ℕ) (number : ℕ) : Type 0 where
+  pub before : List VerdictRow
+  pub rest : List ℕ
+  pub are_rows : AllByRecursion IsRow before
+  pub spelled : text ≡ lines_of before ++ rest
+  pub more : rest ≢ []
+  pub bad : BeginsWithNoLine rest
+  pub counted : number ≡ length before + 1
 
 -- the row that accepts the signature
 abbrev pub row_of : SigAlg → List ℕ → List ℕ → List ℕ → VerdictRow
