@@ -5,7 +5,7 @@ use Rattle.std.specs.Prelude.{ℕ, ◌≡◌, ◌⊎◌, ◌+◌, ◌<◌, ◌�
 abbrev pub last_count : ℕ
 last_count = 18446744073709551615
 
--- a count goes on: it doesn't fall
+-- a count goes on: it doesn't fall, and stops at its last value
 pub record GoesOn (before now : ℕ) : Type 0 where
   pub no_fall : before ≤ now
   pub fits : now ≤ last_count
