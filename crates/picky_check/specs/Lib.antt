@@ -1,3 +1,4 @@
 pub mod Counts
 pub mod Shelf
 pub mod Sink
+pub mod Limits

@@ -1,10 +1,12 @@
 //! The command line over files and an output that callers hand in: words, files, report.
 #![tactic(auto)]
 
+mod error;
 mod files;
 mod shelf;
 mod sink;
 
-pub use files::write_report;
+pub use error::FileError;
+pub use files::{read_file, write_report};
 pub use shelf::{Failed, Shelf};
 pub use sink::Sink;

@@ -1,4 +1,4 @@
-use Rattle.std.proofs.Common.{◌≡◌, ◌≤◌, length, subst, sym, ap, ◌∙◌, arith}
+use Rattle.std.proofs.Common.{◌≡◌, length, subst, sym, ap, arith}
 use Rattle.std.proofs.lemmas.Result.{err_from_is_err_and}
 use Rattle.picky_check.specs.Sink.{Lowers}
 use Rattle.picky_check.proofs.Appending.{appends_nothing, appends_rest, appends_kept, lowers_nothing, lowers_more, used_up}
@@ -24,13 +24,14 @@ pub returns-in_err-done-clause-cut : goal.returns-in_err-done-clause-cut
 returns-in_err-done-clause-cut g c =
     let p = err_from_is_err_and c.from_residual.result c.from_residual.ensures.1 in
     let text = c.as_bytes-octets.ensures.value in
-    rw p.1
-      ( c.loop-done.done,
-        record {
-          short = omega (arith, c.loop-done-test.true, ap length text);
-          front = rw (sym text) (appends_kept _ _ _ _ c.loop-done.invariant.held c.in_err-done.ensures.kept);
-          full = used_up _ _ _ _ c.loop-done.invariant.room c.in_err-done.ensures.full;
-        } )
+    rw p.1 (
+      c.loop-done.done,
+      record {
+        short = omega (arith, c.loop-done-test.true, ap length text);
+        front = rw (sym text) (appends_kept _ _ _ _ c.loop-done.invariant.held c.in_err-done.ensures.kept);
+        full = used_up _ _ _ _ c.loop-done.invariant.room c.in_err-done.ensures.full;
+      },
+    )
 
 pub returns-in_err-done-clause-room : goal.returns-in_err-done-clause-room
 returns-in_err-done-clause-room g c has =
