@@ -3,10 +3,13 @@
 
 mod error;
 mod files;
+mod memory;
 mod shelf;
 mod sink;
+mod stored;
 
 pub use error::FileError;
 pub use files::{read_file, write_report};
+pub use memory::{MemShelf, MemSink};
 pub use shelf::{Failed, Shelf};
 pub use sink::Sink;
