@@ -4,3 +4,6 @@ pub mod Sink
 pub mod Limits
 pub mod Stored
 pub mod Memory
+pub mod Words
+pub mod Jobs
+pub mod Report
