@@ -22,8 +22,8 @@ pub struct DirShelf<'a, R: Files> {
 impl<'a, R: Files> DirShelf<'a, R> {
     /// No file is picked, and nothing is counted yet.
     pub fn new(rt: &'a R) -> Self
-        ensures none_given { result.given ≡ 0 }
-        ensures no_faults { result.faults ≡ 0 }
+        ensures none_given { ⟦<DirShelf<'a, R> as Shelf>⟧.given result ≡ 0 }
+        ensures no_faults { ⟦<DirShelf<'a, R> as Shelf>⟧.faults result ≡ 0 }
     {
         DirShelf {
             rt,
@@ -87,7 +87,7 @@ pub struct OutSink<'a, R: Print> {
 impl<'a, R: Print> OutSink<'a, R> {
     /// Nothing is counted yet.
     pub fn new(rt: &'a R) -> Self
-        ensures { result.faults ≡ 0 }
+        ensures { ⟦<OutSink<'a, R> as Sink>⟧.faults result ≡ 0 }
     {
         OutSink { rt, faults: 0 }
     }

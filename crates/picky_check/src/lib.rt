@@ -17,3 +17,6 @@ pub use files::{read_file, write_report};
 pub use memory::{MemShelf, MemSink};
 pub use shelf::{Failed, Shelf};
 pub use sink::Sink;
+
+#[cfg(test)]
+mod tests;
