@@ -1,6 +1,7 @@
 //! A shelf and a sink in memory, which tell all that they hold. Calls of the shelf can be set to fail.
 
-ghost use Rattle.std.specs.Prelude.{◌≡◌, ◌<◌, ◌≤◌, ◌+◌, ℕ, List, [], ◌∷◌, ◌++◌, length, Some, None, IfOk, OnOk, OnErr, IsOk, vec_capacity, drop};
+ghost use Rattle.std.specs.Prelude.{◌≡◌, ◌<◌, ◌≤◌, ◌+◌, ℕ, List, [], ◌∷◌, ◌++◌, length, Some, None, IfOk, OnOk, OnErr, IsOk, vec_capacity, drop, is_err, min, ◌==◌};
+ghost use Rattle.std.specs.List.{list_any};
 ghost use Rattle.picky_check.specs.Counts.{last_count, GoesOn, HasRisen};
 
 use crate::stored::{StoredFile, after, find_latest, octets_at};
@@ -44,6 +45,9 @@ impl Calls {
 
     // Counts a call, which fails where it is set to.
     fn begin(&mut self) -> Result<(), Failed>
+        ensures set { is_err result ≡ list_any (λ call. call == self.old.count) self.old.failing.items }
+        ensures next { self.new.count ≡ min (self.old.count + 1) last_count }
+        ensures same { self.new.failing ≡ self.old.failing }
         ensures counted { GoesOn self.old.faults self.new.faults }
         ensures cause { OnErr result (HasRisen self.old.faults self.new.faults) }
         ensures quiet { is_quiet_from_now self.old → IsOk result × is_quiet_from_now self.new }
