@@ -1,0 +1,9 @@
+pub mod Counts
+pub mod Shelf
+pub mod Sink
+pub mod Limits
+pub mod Stored
+pub mod Memory
+pub mod Words
+pub mod Jobs
+pub mod Report
