@@ -75,16 +75,6 @@ type_field-spelling w later = elim w.certificate_type as (λ k. type_field (head
 pub length_field-spelling : (w : WinCert) (later : List ℕ) → FitsHeader w.certificate → length_field (spelling w ++ later) ≡ stated_length w.certificate
 length_field-spelling w later fits = from_le_bytes-to_le_bytes_4 (stated_length w.certificate) fits
 
-skip : {A : Type 0} (test : Bool) (x : A) {y z : A} → test ≡ false → y ≡ z → (if test then x else y) ≡ z
-skip true x failed e = absurd (cc)
-skip false x _ e = e
-
-lt_fails : (a b : ℕ) → b ≤ a → nat_lt a b ≡ false
-lt_fails a b h = grind (arith, common_steps)
-
-zero_fails : (a : ℕ) → 0 < a → (a == 0) ≡ false
-zero_fails a h = grind (arith, common_steps)
-
 pub not_refused : (octets : List ℕ) (w : WinCert) → BeginsWith octets w → first_refusal octets ≡ None
 unfolding first_refusal
 not_refused octets w front =
@@ -95,11 +85,7 @@ not_refused octets w front =
     let k : type_numbered (type_field octets) ≡ Some w.certificate_type =
     ap (λ o. type_numbered (type_field o)) front.spelled ∙ ap type_numbered (type_field-spelling w front.later) ∙ type_numbered-number w.certificate_type in
     let long : stated_length w.certificate ≤ length octets = omega (arith, ap length front.spelled, length-append {A = ℕ} w.certificate front.later) in
-    let whole : nat_lt (length octets) 8 ≡ false = lt_fails _ _ (omega (arith, long)) in
-    let some : (length_field octets == 0) ≡ false = zero_fails _ (omega (arith, n)) in
-    let enough : nat_lt (length_field octets) 8 ≡ false = lt_fails _ _ (omega (arith, n)) in
-    let there : nat_lt (length octets) (length_field octets) ≡ false = lt_fails _ _ (omega (arith, n, long)) in
-    skip _ _ whole (skip _ _ some (skip _ _ (ap is_none r) (skip _ _ (ap is_none k) (skip _ _ enough (skip _ _ there refl)))))
+    grind (arith, common_steps, n, r, k, long)
 
 ok_if : {A : Type 0} (test : Bool) (x : A) {y : A} (error : WinCertificateError) → (if test then Ok x else Err error) ≡ Ok y → (test ≡ true) × (x ≡ y)
 ok_if true x error e = (refl, cc)
@@ -114,10 +100,6 @@ read_back w octets e =
       fits = ltb-true _ _ parts.0;
       spelled = sym parts.1 ∙ sym (append-nil (spelling (with_padding w)));
     }
-
-neither : (test : Bool) {x y : Option WinCertificateError} → (x ≡ Some Memory → ⊥) → (y ≡ Some Memory → ⊥) → (if test then x else y) ≡ Some Memory → ⊥
-neither true p q = p
-neither false p q = q
 
 -- No refusal of octets is want of memory.
 pub refuses_without_memory : (octets : List ℕ) → first_refusal octets ≡ Some Memory → ⊥

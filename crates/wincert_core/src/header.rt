@@ -32,6 +32,15 @@ fn fields_of(bytes: &[u8]) -> Option<Fields>
     })
 }
 
+fn too_short(got: usize) -> WinCertificateError
+    ensures { result ≡ WinCertificateError.WrongLength 8 got }
+{
+    WinCertificateError::WrongLength {
+        minimum: HEADER_LENGTH,
+        got,
+    }
+}
+
 /// A header that names a certificate among the octets behind it.
 #[derive(Clone, Copy)]
 pub(crate) struct Header {
@@ -50,10 +59,7 @@ pub(crate) fn header_of(bytes: &[u8]) -> WinCertificateResult<Header>
     ensures refused { IfErr result (λ e. first_refusal bytes.now ≡ Some e) }
 {
     let Some(fields) = fields_of(bytes) else {
-        return Err(WinCertificateError::WrongLength {
-            minimum: HEADER_LENGTH,
-            got: bytes.len(),
-        });
+        return Err(too_short(bytes.len()));
     };
     let length = fields.length as usize;
     if length == 0 {
@@ -62,10 +68,7 @@ pub(crate) fn header_of(bytes: &[u8]) -> WinCertificateResult<Header>
     let revision = RevisionType::try_from(fields.revision)?;
     let certificate_type = CertificateType::try_from(fields.certificate_type)?;
     if length < HEADER_LENGTH {
-        return Err(WinCertificateError::WrongLength {
-            minimum: HEADER_LENGTH,
-            got: length,
-        });
+        return Err(too_short(length));
     }
     if bytes.len() < length {
         return Err(WinCertificateError::Io {
