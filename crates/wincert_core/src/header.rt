@@ -20,7 +20,9 @@ struct Fields {
 
 fn fields_of(bytes: &[u8]) -> Option<Fields>
     ensures none { result ≡ None ↔ (length bytes.now < 8) }
-    ensures some { IfSome result (λ f. (f.length ≡ length_field bytes.now) × (f.revision ≡ revision_field bytes.now) × (f.certificate_type ≡ type_field bytes.now)) }
+    ensures some { IfSome result (λ f. (f.length ≡ length_field bytes.now)
+        × (f.revision ≡ revision_field bytes.now)
+        × (f.certificate_type ≡ type_field bytes.now)) }
 {
     let [l0, l1, l2, l3, r0, r1, t0, t1, ..] = bytes else {
         return None;
@@ -53,8 +55,11 @@ pub(crate) struct Header {
 /// so nothing is ever asked for by that length alone.
 #[tactic(auto, unfolding(crate::specs::Refusal::first_refusal))]
 pub(crate) fn header_of(bytes: &[u8]) -> WinCertificateResult<Header>
-    ensures accepted { IfOk result (λ h. (first_refusal bytes.now ≡ None) × (8 ≤ h.length) × (h.length ≤ length bytes.now)) }
-    ensures fields { IfOk result (λ h. (h.length ≡ length_field bytes.now) × (revision_number h.revision ≡ revision_field bytes.now) × (type_number h.certificate_type ≡ type_field bytes.now)) }
+    ensures accepted { IfOk result (λ h. (first_refusal bytes.now ≡ None)
+        × (8 ≤ h.length) × (h.length ≤ length bytes.now)) }
+    ensures fields { IfOk result (λ h. (h.length ≡ length_field bytes.now)
+        × (revision_number h.revision ≡ revision_field bytes.now)
+        × (type_number h.certificate_type ≡ type_field bytes.now)) }
     ensures short { IfOk result (λ h. h.length < 2 ^ 32) }
     ensures refused { IfErr result (λ e. first_refusal bytes.now ≡ Some e) }
 {
