@@ -7,7 +7,11 @@ use std::test::Fail;
 
 /// Octets, and how many of them the first element takes.
 const FIRSTS: [(&str, &[u8], usize); 4] = [
-    ("an integer in a sequence, and an octet after it", &[0x30, 3, 2, 1, 5, 0xFF], 5),
+    (
+        "an integer in a sequence, and an octet after it",
+        &[0x30, 3, 2, 1, 5, 0xFF],
+        5,
+    ),
     ("an empty sequence", &[0x30, 0], 2),
     ("two elements in a sequence", &[0x30, 5, 5, 0, 2, 1, 7], 7),
     ("an element of private class", &[0xC1, 1, 0xAA, 0, 0], 3),
@@ -22,23 +26,78 @@ const FAULTS: [(&str, &[u8], usize, DerFault); 24] = [
     ("127 in two octets", &[4, 0x81, 0x7F], 0, NotShortest),
     ("128 in three octets", &[4, 0x82, 0, 0x80], 0, NotShortest),
     ("255 in three octets", &[4, 0x82, 0, 0xFF], 0, NotShortest),
-    ("65535 in four octets", &[4, 0x83, 0, 0xFF, 0xFF], 0, NotShortest),
+    (
+        "65535 in four octets",
+        &[4, 0x83, 0, 0xFF, 0xFF],
+        0,
+        NotShortest,
+    ),
     ("a length of five octets", &[4, 0x85, 1], 0, WideLength),
     ("one octet of two", &[4, 2, 0xAA], 0, Truncated),
     ("no length", &[4], 0, Truncated),
     ("one octet of a length of two", &[4, 0x82, 1], 0, Truncated),
-    ("the greatest length, with nothing after it", &[4, 0x84, 0xFF, 0xFF, 0xFF, 0xFF], 0, Truncated),
-    ("128 octets, of which there are none", &[4, 0x81, 0x80], 0, Truncated),
-    ("an integer that runs over its sequence", &[0x30, 3, 2, 5, 1], 2, Overrun),
+    (
+        "the greatest length, with nothing after it",
+        &[4, 0x84, 0xFF, 0xFF, 0xFF, 0xFF],
+        0,
+        Truncated,
+    ),
+    (
+        "128 octets, of which there are none",
+        &[4, 0x81, 0x80],
+        0,
+        Truncated,
+    ),
+    (
+        "an integer that runs over its sequence",
+        &[0x30, 3, 2, 5, 1],
+        2,
+        Overrun,
+    ),
     ("a tag alone in a sequence", &[0x30, 1, 2], 2, Overrun),
-    ("one octet of a length in a sequence", &[0x30, 2, 4, 0x81, 0x80], 2, Overrun),
-    ("tag zero in the second of two", &[0x30, 4, 5, 0, 0, 0], 4, ReservedTag),
-    ("a fault in the second sequence of two", &[0x30, 8, 0x30, 2, 5, 0, 0x30, 2, 5, 0x80], 8, Indefinite),
-    ("a sequence that is cut off, and a fault inside", &[0x30, 4, 0, 0], 0, Truncated),
-    ("a reserved tag with an open length", &[0, 0x80], 0, ReservedTag),
+    (
+        "one octet of a length in a sequence",
+        &[0x30, 2, 4, 0x81, 0x80],
+        2,
+        Overrun,
+    ),
+    (
+        "tag zero in the second of two",
+        &[0x30, 4, 5, 0, 0, 0],
+        4,
+        ReservedTag,
+    ),
+    (
+        "a fault in the second sequence of two",
+        &[0x30, 8, 0x30, 2, 5, 0, 0x30, 2, 5, 0x80],
+        8,
+        Indefinite,
+    ),
+    (
+        "a sequence that is cut off, and a fault inside",
+        &[0x30, 4, 0, 0],
+        0,
+        Truncated,
+    ),
+    (
+        "a reserved tag with an open length",
+        &[0, 0x80],
+        0,
+        ReservedTag,
+    ),
     ("a high tag without a length", &[0x3F], 0, HighTag),
-    ("the first fault of two in a sequence", &[0x30, 4, 0x1F, 0, 0, 0], 2, HighTag),
-    ("a sequence in a sequence that runs over", &[0x30, 2, 0x30, 1, 5], 2, Overrun),
+    (
+        "the first fault of two in a sequence",
+        &[0x30, 4, 0x1F, 0, 0, 0],
+        2,
+        HighTag,
+    ),
+    (
+        "a sequence in a sequence that runs over",
+        &[0x30, 2, 0x30, 1, 5],
+        2,
+        Overrun,
+    ),
 ];
 
 #[test]
@@ -74,7 +133,10 @@ fn read_and_written(rt: HostRuntime) -> Result<(), Fail> {
         at: 5,
         fault: Trailing,
     };
-    assert_eq!(rt; read_exact(rt.alloc(), &octets).err(), Some(DerError::Malformed(trailing)));
+    assert_eq!(rt;
+        read_exact(rt.alloc(), &octets).err(),
+        Some(DerError::Malformed(trailing))
+    );
     Ok(())
 }
 
@@ -104,6 +166,27 @@ fn levels(rt: HostRuntime) -> Result<(), Fail> {
         at: 129,
         fault: TooDeep,
     };
-    assert_eq!(rt; read_first(rt.alloc(), &octets).err(), Some(DerError::Malformed(at_the_last)));
+    assert_eq!(rt;
+        read_first(rt.alloc(), &octets).err(),
+        Some(DerError::Malformed(at_the_last))
+    );
+    Ok(())
+}
+
+#[test]
+fn kept_octets(rt: HostRuntime) -> Result<(), Fail> {
+    let octets = [0x30, 3, 2, 1, 5];
+    let tree = read_exact(rt.alloc(), &octets)?;
+    let raw = Raw::from_tree(rt.alloc(), &tree)?;
+    assert_eq!(rt; raw.tag(), 0x30);
+    assert_eq!(rt; raw.nesting(), 2);
+    let kept = Octets::from_slice(rt.alloc(), raw.as_bytes())?;
+    assert_eq!(rt; kept.as_slice(), octets.as_slice());
+
+    let copy = raw.try_clone(rt.alloc())?;
+    assert_eq!(rt; copy.as_bytes(), octets.as_slice());
+    let again = copy.tree(rt.alloc())?;
+    let written = write(rt.alloc(), &again)?;
+    assert_eq!(rt; written.as_slice(), octets.as_slice());
     Ok(())
 }
