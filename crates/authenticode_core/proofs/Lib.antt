@@ -1,2 +1,5 @@
 pub mod Kids
 pub mod Keys
+pub mod Padded
+pub mod OneForm
+pub mod OneAnswer

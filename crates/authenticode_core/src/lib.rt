@@ -2,6 +2,7 @@
 #![tactic(auto)]
 
 mod accepted;
+mod basic;
 mod element;
 mod error;
 mod identifiers;
@@ -10,4 +11,5 @@ mod plain_form;
 mod plain_rules;
 
 pub use accepted::{Accepted, Excuse, Places};
+pub use basic::check_basic;
 pub use error::{AuthenticodeError, CheckError};

@@ -1,6 +1,7 @@
 //! The algorithms of signatures.
 
-ghost use Rattle.std.specs.Prelude.{◌≡◌};
+ghost use Rattle.std.specs.Prelude.{◌≡◌, IfSome};
+ghost use Rattle.sig_core.specs.declared.algorithm.SigAlg.{SigAlg};
 ghost use Rattle.sig_core.specs.Algorithm.{name_of, kind_of};
 
 /// The kinds of keys: RSA, the named curves, and the Edwards and Montgomery forms of curve 25519.
@@ -30,6 +31,33 @@ pub enum SigAlg {
 }
 
 impl SigAlg {
+    /// Every algorithm.
+    const ALL: [SigAlg; 10] = [
+        SigAlg::RsaMd5,
+        SigAlg::RsaSha1,
+        SigAlg::RsaSha224,
+        SigAlg::RsaSha256,
+        SigAlg::RsaSha384,
+        SigAlg::RsaSha512,
+        SigAlg::P256Sha256,
+        SigAlg::P384Sha384,
+        SigAlg::P521Sha512,
+        SigAlg::Ed25519,
+    ];
+
+    /// The algorithm of this name.
+    pub(crate) fn from_name(name: &[u8]) -> Option<SigAlg>
+        ensures named { (alg : SigAlg) → name_of alg ≡ name.now → result ≡ Some alg }
+        ensures name { IfSome result (λ alg. name_of alg ≡ name.now) }
+    {
+        for alg in SigAlg::ALL {
+            if alg.name().as_bytes() == name {
+                return Some(alg);
+            }
+        }
+        None
+    }
+
     /// The name of the algorithm, as a verdict table spells it.
     pub fn name(self) -> &'static str
         ensures { result.now ≡ name_of self }

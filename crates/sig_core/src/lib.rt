@@ -7,7 +7,12 @@
 mod algorithm;
 mod hash;
 mod scheme;
+#[cfg(test)]
+mod tests;
+mod verdict_row;
+mod verdict_table;
 
 pub use algorithm::{SchemeKind, SigAlg};
 pub use hash::HashAlgorithm;
 pub use scheme::{Scheme, SchemeError, Verdict};
+pub use verdict_table::{TableError, VerdictTable};

@@ -1,0 +1,109 @@
+-- What basic validation of a signature file answers, and why.
+use Rattle.std.specs.Prelude.{◌≡◌, ◌≢◌, ◌≤◌, ◌⊎◌, ℕ, drop, replicate, List, [], Option, Some, None, Result, Ok, Err}
+use Rattle.sig_core.specs.declared.algorithm.SigAlg.{SigAlg}
+use Rattle.sig_core.specs.declared.algorithm.SigAlg.TheVariants.{RsaSha256}
+use Rattle.sig_core.specs.declared.scheme.Verdict.{Verdict}
+use Rattle.sig_core.specs.declared.scheme.Verdict.TheVariants.{Accept}
+use Rattle.der_core.specs.DerElement.{DerElement}
+use Rattle.der_core.specs.Encoding.{IsPaddedEncoding}
+use Rattle.der_core.specs.Reading.{IsFirst}
+use Rattle.der_core.specs.Fault.{IsFirstFault}
+use Rattle.der_core.specs.declared.fault.DerFault.TheVariants.{Trailing}
+use Rattle.der_core.specs.declared.error.DerError.{DerError}
+use Rattle.der_core.specs.declared.error.DerError.TheVariants as der
+use Rattle.wincert_core.specs.Refusal.{certificate_in}
+use Rattle.authenticode_core.specs.PlainForm.{SignatureParts, IsPlainForm, IsPlain, signed_content, signed_message}
+use Rattle.authenticode_core.specs.declared.accepted.Accepted.{Accepted}
+use Rattle.authenticode_core.specs.declared.accepted.Excuse.TheVariants as excuses
+use Rattle.authenticode_core.specs.declared.error.CheckError.{CheckError}
+use Rattle.authenticode_core.specs.declared.error.CheckError.TheVariants.{Win, Unread, NotThisForm, Authenticode, Memory}
+use Rattle.authenticode_core.specs.declared.error.AuthenticodeError.{AuthenticodeError}
+use Rattle.authenticode_core.specs.declared.error.AuthenticodeError.TheVariants as authenticode
+
+-- A scheme's verdict on an algorithm, a key, a message and a signature.
+abbrev pub Judge : Type 0
+Judge = SigAlg → List ℕ → List ℕ → List ℕ → Verdict
+
+-- The signature of the signer over the signed attributes is accepted under the key of the certificate.
+abbrev pub IsSigned : Judge → SignatureParts → Type 0
+IsSigned judge p = judge RsaSha256 p.certificate.tbs.key (signed_message p) p.signer.signature ≡ Accept
+
+-- the first certificate signed, and nothing is said of who vouches for it
+abbrev pub accepted_first : Accepted
+accepted_first = record { signer = Some 0; path = []; excuse = excuses.None }
+
+-- at most seven zeros, which align a WIN_CERTIFICATE
+abbrev pub IsPadding : List ℕ → Type 0
+IsPadding octets = (zeros : ℕ) × (zeros ≤ 7) × (octets ≡ replicate zeros 0)
+
+-- The first element takes so many octets, and what follows it is no padding.
+pub record HasTrailing (octets : List ℕ) (place : ℕ) : Type 0 where
+  pub element : DerElement
+  pub first : IsFirst octets element place
+  pub unpadded : IsPadding (drop place octets) → ⊥
+
+-- Why the octets of a certificate are no element with at most seven zeros after it: the first fault of an element, or other octets after it.
+abbrev pub IsUnread : List ℕ → DerError → Type 0
+IsUnread certificate (der.Malformed m) =
+    IsFirstFault certificate m.at m.fault ⊎ ((m.fault ≡ Trailing) × HasTrailing certificate m.at)
+IsUnread certificate der.Shape = ⊥
+IsUnread certificate der.TooDeep = ⊥
+IsUnread certificate der.TooLong = ⊥
+IsUnread certificate der.Memory = ⊥
+
+-- What is answered for parts of the plain form: the digest of the file is compared before the signature.
+abbrev pub IsJudged : Judge → SignatureParts → List ℕ → Result Accepted CheckError → Type 0
+IsJudged judge p file_hash (Ok accepted) = (accepted ≡ accepted_first) × (p.file_hash ≡ file_hash) × IsSigned judge p
+IsJudged judge p file_hash (Err (Authenticode (authenticode.FileHashMismatch actual expected))) =
+    (actual ≡ p.file_hash) × (expected ≡ file_hash) × (actual ≢ expected)
+IsJudged judge p file_hash (Err (Authenticode authenticode.SignatureError)) =
+    (p.file_hash ≡ file_hash) × (IsSigned judge p → ⊥)
+IsJudged judge p file_hash (Err (Authenticode authenticode.Memory)) = ⊥
+IsJudged judge p file_hash (Err (Win e)) = ⊥
+IsJudged judge p file_hash (Err (Unread e)) = ⊥
+IsJudged judge p file_hash (Err NotThisForm) = ⊥
+IsJudged judge p file_hash (Err Memory) = Unit {0}
+
+-- Answers for parts, or one of the refusals before there are any, in this order: of the header, of the element, of the form.
+abbrev pub IsBasicAnswer : Judge → List ℕ → List ℕ → Result Accepted CheckError → Type 0
+IsBasicAnswer judge octets file_hash (Err (Win e)) = certificate_in octets ≡ Err e
+IsBasicAnswer judge octets file_hash (Err (Unread e)) =
+    (certificate : List ℕ) × (certificate_in octets ≡ Ok certificate) × IsUnread certificate e
+IsBasicAnswer judge octets file_hash (Err NotThisForm) =
+    (certificate : List ℕ) × (element : DerElement) × (certificate_in octets ≡ Ok certificate)
+    × IsPaddedEncoding certificate element × ((p : SignatureParts) → IsPlainForm octets p → ⊥)
+IsBasicAnswer judge octets file_hash (Err Memory) = Unit {0}
+IsBasicAnswer judge octets file_hash (Err (Authenticode e)) =
+    (p : SignatureParts) × IsPlainForm octets p × IsJudged judge p file_hash (Err (Authenticode e))
+IsBasicAnswer judge octets file_hash (Ok accepted) =
+    (p : SignatureParts) × IsPlainForm octets p × IsJudged judge p file_hash (Ok accepted)
+
+-- Why the octets begin with no WIN_CERTIFICATE.
+abbrev pub RefusesHeader : List ℕ → CheckError → Type 0
+RefusesHeader octets (Win e) = certificate_in octets ≡ Err e
+RefusesHeader octets (Unread e) = ⊥
+RefusesHeader octets NotThisForm = ⊥
+RefusesHeader octets (Authenticode e) = ⊥
+RefusesHeader octets Memory = ⊥
+
+-- Why a certificate is not read.
+abbrev pub RefusesValue : List ℕ → CheckError → Type 0
+RefusesValue certificate (Unread e) = IsUnread certificate e
+RefusesValue certificate Memory = Unit {0}
+RefusesValue certificate (Win e) = ⊥
+RefusesValue certificate NotThisForm = ⊥
+RefusesValue certificate (Authenticode e) = ⊥
+
+-- the refusal of a certificate that is not read
+abbrev pub unread_of : DerError → CheckError
+unread_of der.Memory = Memory
+unread_of (der.Malformed m) = Unread (der.Malformed m)
+unread_of der.Shape = Unread der.Shape
+unread_of der.TooDeep = Unread der.TooDeep
+unread_of der.TooLong = Unread der.TooLong
+
+-- Two answers are one, but where one of them is want of memory.
+abbrev pub IsSameUnlessMemory : Result Accepted CheckError → Result Accepted CheckError → Type 0
+IsSameUnlessMemory (Err Memory) b = Unit {0}
+IsSameUnlessMemory a (Err Memory) = Unit {0}
+IsSameUnlessMemory a b = a ≡ b

@@ -1,0 +1,44 @@
+use Rattle.std.proofs.Common.{◌≡◌, length, subst, sym, ap, arith}
+use Rattle.std.proofs.lemmas.Result.{err_from_is_err_and}
+use Rattle.picky_check.specs.Sink.{Lowers}
+use Rattle.picky_check.proofs.Appending.{appends_nothing, appends_rest, appends_kept, lowers_nothing, lowers_more, used_up}
+use Rattle.picky_check.proofs.files.write_report.Goals as goal
+
+pub loop-done-init : goal.loop-done-init
+loop-done-init g c = record {
+  within = omega arith;
+  held = appends_nothing _;
+  room = lowers_nothing _;
+  counted = omega arith;
+}
+
+pub loop-done-preserved : goal.loop-done-preserved
+loop-done-preserved g c = record {
+  within = grind arith;
+  held = appends_rest _ _ _ _ _ _ c.loop-done.invariant.held c.in_ok-done.ensures.appended;
+  room = lowers_more _ _ _ _ _ c.loop-done.invariant.room c.in_ok-done.ensures.lowered;
+  counted = omega (arith, c.loop-done.invariant.counted, c.in_ok-done.ensures.counted.no_fall);
+}
+
+pub returns-in_err-done-clause-cut : goal.returns-in_err-done-clause-cut
+returns-in_err-done-clause-cut g c =
+    let p = err_from_is_err_and c.from_residual.result c.from_residual.ensures.1 in
+    let text = c.as_bytes-octets.ensures.value in
+    rw p.1 (
+      c.loop-done.done,
+      record {
+        short = omega (arith, c.loop-done-test.true, ap length text);
+        front = rw (sym text) (appends_kept _ _ _ _ c.loop-done.invariant.held c.in_err-done.ensures.kept);
+        full = used_up _ _ _ _ c.loop-done.invariant.room c.in_err-done.ensures.full;
+      },
+    )
+
+pub returns-in_err-done-clause-room : goal.returns-in_err-done-clause-room
+returns-in_err-done-clause-room g c has =
+    let used : has.0 ≡ c.loop-done.done = used_up _ _ _ _ c.loop-done.invariant.room c.in_err-done.ensures.full has.0 has.1 in
+    absurd (omega (arith, used, has.2, c.loop-done-test.true, ap length c.as_bytes-octets.ensures.value))
+
+pub returns-clause-lowered : goal.returns-clause-lowered
+returns-clause-lowered g c =
+    let all : c.loop-done.done ≡ length c.args.text.now = omega (arith, c.loop-done-test.false, c.loop-done.invariant.within, ap length c.as_bytes-octets.ensures.value) in
+    subst (λ n. Lowers (g.O.Sink.room c.args.out.now) n (g.O.Sink.room c.loop-done.out)) all c.loop-done.invariant.room

@@ -1,0 +1,12 @@
+pub mod Counts
+pub mod Shelf
+pub mod Sink
+pub mod Limits
+pub mod Stored
+pub mod Memory
+pub mod Words
+pub mod Jobs
+pub mod Report
+pub mod Program
+pub mod Stops
+pub mod Inquiry

@@ -1,0 +1,57 @@
+-- Shelves and sinks in memory: what they hold and tell.
+use Rattle.std.specs.Prelude.{ℕ, List, ◌≡◌, ◌<◌, drop, Option, Some, if◌then◌else◌, bytes_eq, All}
+use Rattle.picky_check.specs.declared.memory.Calls.{Calls}
+use Rattle.picky_check.specs.declared.memory.MemShelf.{MemShelf}
+use Rattle.picky_check.specs.declared.memory.MemSink.{MemSink}
+use Rattle.picky_check.specs.Shelf.{Files, file_of}
+use Rattle.picky_check.specs.Stored.{latest, octets_at}
+
+-- what a shelf in memory tells of its files
+abbrev pub shelf_files : MemShelf → Option Files
+shelf_files shelf = Some (latest shelf.files.items)
+
+-- the file under the name is this one from now on, and the others stay
+abbrev pub AddsFile : Option Files → List ℕ → List ℕ → Option Files → Type 0
+AddsFile before name octets after = (other : List ℕ) → file_of after other ≡ (if bytes_eq name other then Some octets else file_of before other)
+
+-- what is left to read
+abbrev pub shelf_rest : MemShelf → List ℕ
+shelf_rest shelf = drop shelf.at (octets_at shelf.files.items shelf.picked)
+
+abbrev pub shelf_given : MemShelf → ℕ
+shelf_given shelf = shelf.given
+
+abbrev pub shelf_faults : MemShelf → ℕ
+shelf_faults shelf = shelf.calls.faults
+
+-- how many calls it has answered, which is the number of the next
+abbrev pub shelf_calls : MemShelf → ℕ
+shelf_calls shelf = shelf.calls.count
+
+-- the calls that are set to fail
+abbrev pub shelf_failing : MemShelf → List ℕ
+shelf_failing shelf = shelf.calls.failing.items
+
+-- no call from the next one on is set to fail
+abbrev pub is_quiet_from_now : Calls → Type 0
+is_quiet_from_now calls = All (λ call. call < calls.count) calls.failing.items
+
+abbrev pub shelf_is_quiet : MemShelf → Type 0
+shelf_is_quiet shelf = is_quiet_from_now shelf.calls
+
+-- what is left to read and the counts stay
+pub record KeepsPlace (before after : MemShelf) : Type 0 where
+  pub rest : shelf_rest after ≡ shelf_rest before
+  pub given : after.given ≡ before.given
+  pub faults : after.calls.faults ≡ before.calls.faults
+  pub calls : after.calls.count ≡ before.calls.count
+
+abbrev pub sink_held : MemSink → List ℕ
+sink_held sink = sink.octets.items
+
+-- how many octets it can still take
+abbrev pub sink_room : MemSink → ℕ
+sink_room sink = sink.room
+
+abbrev pub sink_faults : MemSink → ℕ
+sink_faults sink = sink.faults

@@ -1,0 +1,23 @@
+-- What a shelf tells of its files, and what its calls do.
+use Rattle.std.specs.Prelude.{ℕ, List, [], ◌≡◌, ◌<◌, ◌≤◌, length, take, drop, Option, Some, None}
+
+-- the files by name
+abbrev pub Files : Type 0
+Files = List ℕ → Option (List ℕ)
+
+-- the file of this name, where the shelf tells its files and has it
+abbrev pub file_of : Option Files → List ℕ → Option (List ℕ)
+file_of (Some files) name = files name
+file_of None name = None
+
+-- the file of this name is all that is left to read
+abbrev pub IsPicked : Option Files → List ℕ → Option (List ℕ) → Type 0
+IsPicked files name rest = (file : List ℕ) × (file_of files name ≡ Some file) × (rest ≡ Some file)
+
+-- n octets were moved: the first of those that were left, to the front of the piece
+pub record Moves (n : ℕ) (before piece : List ℕ) (after : Option (List ℕ)) : Type 0 where
+  pub within : n ≤ length before
+  pub front : take n piece ≡ take n before
+  pub rest : after ≡ Some (drop n before)
+  -- none for a piece that isn't empty, only at the end
+  pub none : n ≡ 0 → 0 < length piece → before ≡ []
