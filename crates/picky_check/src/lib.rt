@@ -4,10 +4,12 @@
 mod disk;
 mod error;
 mod files;
+mod inquiry;
 mod memory;
 mod report;
 mod shelf;
 mod sink;
+mod stop;
 mod stored;
 mod words;
 
