@@ -1,10 +1,10 @@
 -- Octets begin with an element, or have a fault: both can be found.
-use Rattle.std.proofs.Common.{◌≡◌, ℕ, zero, suc, ◌+◌, ◌-◌, ◌<◌, ◌≤◌, List, [], ◌∷◌, ◌++◌, length, get_or, Result, Ok, Err, refl, sym, ap, subst, ◌∙◌, arith, inl, inr, ◌⊎◌}
+use Rattle.std.proofs.Common.{◌≡◌, ℕ, zero, suc, ◌+◌, ◌-◌, ◌≤◌, List, [], ◌∷◌, ◌++◌, length, Result, Ok, Err, refl, ap, subst, ◌∙◌, arith, inl, inr, ◌⊎◌}
 use Rattle.std.proofs.lemmas.Bool.{cases_eq}
-use Rattle.std.proofs.lemmas.List.{length-append, nil_from_length}
+use Rattle.std.proofs.lemmas.List.{length-append}
 use Rattle.der_core.specs.declared.fault.DerFault.{DerFault}
-use Rattle.der_core.specs.DerElement.{DerElement, Primitive, Constructed, DerElements, Nil, Cons}
-use Rattle.der_core.specs.Encoding.{length_octets, encoding, encodings, form_bit, framed, IsDerWithin}
+use Rattle.der_core.specs.DerElement.{Primitive, Constructed, Nil, Cons}
+use Rattle.der_core.specs.Encoding.{length_octets, encoding, form_bit, framed}
 use Rattle.der_core.specs.Fault.{header_length, IsFirstFault}
 use Rattle.der_core.specs.Fronts.{some_octets}
 use Rattle.der_core.specs.Head.{IsOctets, head_at}
@@ -13,7 +13,7 @@ use Rattle.der_core.specs.Reading.{AreDerWithin, HasElement, HasElements, HasNoF
 use Rattle.der_core.proofs.Lengths.{IsOctets-front}
 use Rattle.der_core.proofs.Heads.{HasHead, head_taken}
 use Rattle.der_core.proofs.Elements.{leaf_read, branch_read, first_read}
-use Rattle.der_core.proofs.Faults.{first_fault, fault_of_kids}
+use Rattle.der_core.proofs.Faults.{first_fault}
 
 -- a fault somewhere
 abbrev SomeFault : ℕ → List ℕ → Type 0

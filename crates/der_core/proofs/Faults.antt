@@ -1,12 +1,12 @@
 -- The first fault of octets, seen from the elements around it.
-use Rattle.std.proofs.Common.{◌≡◌, ℕ, zero, suc, ◌+◌, ◌-◌, ◌<◌, ◌≤◌, List, [], ◌∷◌, ◌++◌, length, Result, Ok, Err, refl, sym, ap, subst, ◌∙◌, append_assoc, arith, zero-add, add-zero, add_assoc, inl, inr, ◌⊎◌}
+use Rattle.std.proofs.Common.{◌≡◌, ℕ, zero, suc, ◌+◌, ◌-◌, ◌<◌, ◌≤◌, List, [], ◌∷◌, ◌++◌, length, Result, Ok, Err, refl, sym, ap, subst, ◌∙◌, arith, zero-add, add-zero, add_assoc, inl, inr, ◌⊎◌}
 use Rattle.std.proofs.lemmas.List.{length-append}
 use Rattle.der_core.specs.declared.error.DerError.{DerError}
 use Rattle.der_core.specs.declared.error.DerError.TheVariants as errors
 use Rattle.der_core.specs.declared.fault.DerFault.{DerFault}
-use Rattle.der_core.specs.DerElement.{DerElement, DerElements}
+use Rattle.der_core.specs.DerElement.{DerElement}
 use Rattle.der_core.specs.declared.fault.Malformed.{Malformed}
-use Rattle.der_core.specs.Encoding.{length_octets, framed, encoding, encodings, form_bit, IsDerWithin}
+use Rattle.der_core.specs.Encoding.{length_octets, framed, encoding, form_bit, IsDerWithin}
 use Rattle.der_core.proofs.Heads.{HasHead}
 use Rattle.der_core.specs.Fault.{header_length, IsStart, Outermost, Within, After, IsFirstFault}
 use Rattle.der_core.specs.InnerFault.{ElementFault, KidsFault, Here, Inside, First, Next}
@@ -152,7 +152,7 @@ pub kids_refused : (levels tag at : ℕ) (octets contents rest : List ℕ) (e : 
 kids_refused levels tag at octets contents rest e found head bit refused =
     let lengths = head_lengths levels tag octets contents rest head in
     refuses_in at (at + (length octets - length rest - length contents)) (KidsFault (levels - 1) contents) (ElementFault levels octets) e
-      (λ k fault kids. (header_length contents + k, omega arith, fault_of_kids levels tag k octets contents rest fault found head.some bit kids)) refused
+    (λ k fault kids. (header_length contents + k, omega arith, fault_of_kids levels tag k octets contents rest fault found head.some bit kids)) refused
 
 -- ---- the answer of a reader of the first element
 

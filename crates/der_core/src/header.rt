@@ -27,8 +27,7 @@ impl Head<'_> {
 /// The head of the element that octets at a place begin with, or the first test of it that fails.
 /// The octets end where the element has to end at the latest.
 pub fn head_of(octets: &[u8], at: usize, levels: u8) -> Result<Head<'_>, Malformed>
-    ensures {
-        MatchResult result
+    ensures { MatchResult result
         (λ head. head_at levels octets.now ≡ Ok (head.tag, head.contents.now, head.rest.now))
         (λ m. (m.at ≡ at) × (head_at levels octets.now ≡ Err m.fault)) }
 {

@@ -9,13 +9,11 @@ ghost use Rattle.der_core.specs.declared.fault.DerFault.{DerFault};
 /// No encoding is a proper front of another.
 pub fn no_encoding_begins_another()
     ensures { IsPrefixFree }
-{
-}
+{}
 
 /// Octets have at most one first fault, and they have one exactly where they begin with no element.
 pub fn one_first_fault()
     ensures at_most_one { (octets : List ℕ) (p q : ℕ) (e f : DerFault) → IsFirstFault octets p e → IsFirstFault octets q f → (p ≡ q) × (e ≡ f) }
     ensures instead_of_an_element { (octets : List ℕ) (p : ℕ) (e : DerFault) → IsFirstFault octets p e → HasNoFirst octets }
     ensures where_no_element { (octets : List ℕ) → IsOctets octets → HasNoFirst octets → (p : ℕ) × (e : DerFault) × IsFirstFault octets p e }
-{
-}
+{}

@@ -2,3 +2,4 @@ pub mod Appending
 pub mod Reading
 pub mod Adding
 pub mod Reported
+pub mod Inquiries

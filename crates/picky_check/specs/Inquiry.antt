@@ -1,5 +1,5 @@
 -- What is found out about the files of a task, before anything is written.
-use Rattle.std.specs.Prelude.{◌≡◌, ◌≢◌, ◌⊎◌, ℕ, List, Option, IsSome, Result, Ok, Err, MatchResult, string_bytes}
+use Rattle.std.specs.Prelude.{◌≡◌, ◌≢◌, ◌⊎◌, ℕ, List, Option, IsSome, Result, Ok, Err, IfOk, IfErr, MatchResult, string_bytes}
 use Rattle.sig_core.specs.declared.verdict_row.VerdictRow.{VerdictRow}
 use Rattle.sig_core.specs.VerdictTable.{IsTable, IsFirstBadLine, verdict_of}
 use Rattle.authenticode_core.specs.declared.accepted.Accepted.{Accepted}
@@ -50,3 +50,14 @@ IsStopped files task quiet faults faults_now given given_now TooLong =
     RisesBeyond given given_now × (IsSome files → HasLongFile files task)
 IsStopped files task quiet faults faults_now given given_now Memory = Unit {0}
 IsStopped files task quiet faults faults_now given given_now Usage = ⊥
+
+-- What is found out about the files of a task, by a shelf that was quiet or not, and its counts before and after.
+pub record IsInquiry (files : Option Files) (quiet : Type 0) (faults faults_now given given_now : ℕ) (task : Task) (result : Result Report Stop) : Type 0 where
+  -- a report is that of the answer about the files, where they are told
+  pub reported : IfOk result (λ report. (answer : Result Accepted CheckError) × IsReportOf answer report × (IsSome files → IsAnswered files task answer))
+  -- without a report there is a cause
+  pub stopped : IfErr result (IsStopped files task quiet faults faults_now given given_now)
+  -- each answer is reported
+  pub answered : (answer : Result Accepted CheckError) → IsAnswered files task answer → quiet → (HasLongFile files task → ⊥) → GivesReport answer result
+  pub bad_table : HasBadTable files task → HasFiles files task → quiet → (HasLongFile files task → ⊥) → GivesStop BadTable result
+  pub too_long : HasLongFile files task → GivesStop TooLong result ⊎ (result ≡ Err Shelf)

@@ -6,6 +6,7 @@ mod error;
 mod files;
 mod inquiry;
 mod memory;
+mod program;
 mod report;
 mod shelf;
 mod sink;
@@ -17,6 +18,7 @@ pub use disk::{DirShelf, OutSink};
 pub use error::FileError;
 pub use files::{read_file, write_report};
 pub use memory::{MemShelf, MemSink};
+pub use program::run;
 pub use shelf::{Failed, Shelf};
 pub use sink::Sink;
 

@@ -1,4 +1,4 @@
-use Rattle.std.proofs.Common.{◌≡◌, ℕ, ◌+◌, ◌-◌, ◌<◌, ◌≤◌, List, ◌++◌, length, refl, sym, ap, ◌∙◌, append_assoc, arith}
+use Rattle.std.proofs.Common.{◌≡◌, ℕ, ◌+◌, ◌-◌, ◌<◌, List, ◌++◌, length, refl, sym, ap, ◌∙◌, append_assoc, arith}
 use Rattle.std.proofs.lemmas.Bool.{iff_false, eqb-false}
 use Rattle.std.proofs.lemmas.List.{length-append}
 use Rattle.std.proofs.lemmas.Result.{err_from_is_err_and}
@@ -61,7 +61,7 @@ trees_of-returns-in_err-kid t c =
     let whole : length c.args.octets.now ≡ length (encodings (row c.loop-rest.kids)) + length c.loop-rest.rest.now = ap length c.loop-rest.invariant.parts ∙ length-append (encodings (row c.loop-rest.kids)) c.loop-rest.rest.now in
     let before : ℕ = length c.args.octets.now - length c.loop-rest.rest.now in
     rw (p.1, p.2) (refuses_in c.args.at (c.args.at + before) (ElementFault c.args.levels c.loop-rest.rest.now) (KidsFault c.args.levels c.args.octets.now) c.in_err-kid.field-0.0
-      (λ k fault there. (before + k, omega arith, c.loop-rest.invariant.goes_on k (before + k) fault (omega arith) (First some there))) c.in_err-kid.ensures)
+    (λ k fault there. (before + k, omega arith, c.loop-rest.invariant.goes_on k (before + k) fault (omega arith) (First some there))) c.in_err-kid.ensures)
 
 pub trees_of-loop-rest-preserved : goal.trees_of-loop-rest-preserved
 trees_of-loop-rest-preserved t c =
