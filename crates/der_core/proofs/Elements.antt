@@ -11,11 +11,11 @@ use Rattle.der_core.proofs.Heads.{contents_of, head_again}
 
 -- ---- what is read
 
-pub leaf_read : (levels tag : ℕ) (octets content rest : List ℕ) → HasHead levels octets tag content rest → (form_bit tag ≡ 1 → ⊥) → IsDerWithin levels (Primitive tag content) × (octets ≡ encoding (Primitive tag content) ++ rest)
-leaf_read levels tag octets content rest head bit = (record { formed = (head.is_tag, omega (arith, bit)); nested = head.some; short = head.short }, head.parts)
+pub leaf_read : {levels tag : ℕ} {octets content rest : List ℕ} → HasHead levels octets tag content rest → (form_bit tag ≡ 1 → ⊥) → IsDerWithin levels (Primitive tag content) × (octets ≡ encoding (Primitive tag content) ++ rest)
+leaf_read head bit = (record { formed = (head.is_tag, omega (arith, bit)); nested = head.some; short = head.short }, head.parts)
 
-pub branch_read : (levels tag : ℕ) (octets contents rest : List ℕ) (kids : DerElements) → HasHead levels octets tag contents rest → form_bit tag ≡ 1 → AreDerWithin (levels - 1) kids → contents ≡ encodings kids → IsDerWithin levels (Constructed tag kids) × (octets ≡ encoding (Constructed tag kids) ++ rest)
-branch_read levels tag octets contents rest kids head bit read same =
+pub branch_read : {levels tag : ℕ} {octets contents rest : List ℕ} (kids : DerElements) → HasHead levels octets tag contents rest → form_bit tag ≡ 1 → AreDerWithin (levels - 1) kids → contents ≡ encodings kids → IsDerWithin levels (Constructed tag kids) × (octets ≡ encoding (Constructed tag kids) ++ rest)
+branch_read {levels} {tag} {octets} {rest = rest} kids head bit read same =
     let head' = subst (λ (o : List ℕ). HasHead levels octets tag o rest) same head in
     (record { formed = (head.is_tag, bit, read.formed); nested = omega (arith, read.nested, head.some); short = (head'.short, read.short) }, head'.parts)
 

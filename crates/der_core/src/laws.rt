@@ -23,5 +23,4 @@ pub fn one_first_fault()
 pub fn tests_of_a_head()
     ensures only_of_a_head { (levels tag : ℕ) (octets contents rest : List ℕ) → IsOctets octets → head_at levels octets ≡ Ok (tag, contents, rest) → HasHead levels octets tag contents rest }
     ensures of_each_head { (levels tag : ℕ) (octets contents rest : List ℕ) → HasHead levels octets tag contents rest → head_at levels octets ≡ Ok (tag, contents, rest) }
-{
-}
+{}
