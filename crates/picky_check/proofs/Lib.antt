@@ -3,3 +3,4 @@ pub mod Reading
 pub mod Adding
 pub mod Reported
 pub mod Inquiries
+pub mod Runs

@@ -10,3 +10,4 @@ pub mod Report
 pub mod Program
 pub mod Stops
 pub mod Inquiry
+pub mod Run
