@@ -1,5 +1,5 @@
 -- Octets that are one element, and what else they are refused for.
-use Rattle.std.proofs.Common.{◌≡◌, ℕ, ◌<◌, ◌≤◌, List, ◌++◌, length, take, drop, Result, Ok, Err, refl, sym, ap, ◌∙◌, arith, inl, inr, ◌⊎◌}
+use Rattle.std.proofs.Common.{◌≡◌, ℕ, ◌≤◌, List, length, drop, Result, Err, sym, ap, ◌∙◌, arith, inl, inr}
 use Rattle.std.proofs.lemmas.List.{take_all}
 use Rattle.der_core.specs.declared.error.DerError.{DerError}
 use Rattle.der_core.specs.declared.error.DerError.TheVariants as errors
@@ -9,7 +9,7 @@ use Rattle.der_core.specs.declared.fault.Malformed.{Malformed}
 use Rattle.der_core.specs.DerElement.{DerElement}
 use Rattle.der_core.specs.Encoding.{encoding, IsDer}
 use Rattle.der_core.specs.Fault.{IsFirstFault}
-use Rattle.der_core.specs.Reading.{IsFirst, HasTrailing, IsExactFault, GivesUnlessMemory, FaultsUnlessMemory}
+use Rattle.der_core.specs.Reading.{IsFirst, IsExactFault, GivesUnlessMemory, FaultsUnlessMemory}
 use Rattle.der_core.proofs.Elements.{first_parts, first_once}
 use Rattle.der_core.proofs.Faults.{same_malformed, no_fault_where_read}
 

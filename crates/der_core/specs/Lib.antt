@@ -9,3 +9,4 @@ pub mod Fault
 pub mod InnerFault
 pub mod Reading
 pub mod Writing
+pub mod Kept

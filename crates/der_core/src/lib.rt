@@ -7,6 +7,7 @@ mod fault;
 mod header;
 mod laws;
 mod octets;
+mod raw;
 mod reading;
 #[cfg(test)]
 mod tests;
@@ -15,8 +16,9 @@ mod writing;
 
 pub use error::DerError;
 pub use fault::{DerFault, Malformed};
-pub use laws::{no_encoding_begins_another, one_first_fault};
+pub use laws::{no_encoding_begins_another, one_first_fault, tests_of_a_head};
 pub use octets::Octets;
+pub use raw::Raw;
 pub use reading::{read_exact, read_first};
 pub use tree::{Tree, Trees};
 pub use writing::write;

@@ -12,7 +12,7 @@ use crate::error::DerError;
 use crate::fault::{DerFault, Malformed};
 use crate::header::head_of;
 use crate::octets::Octets;
-use crate::tree::{Tree, Trees, LEVELS};
+use crate::tree::{LEVELS, Tree, Trees};
 use std::alloc::Global;
 
 /// The first element of the octets as a tree, and how many octets it takes.
@@ -55,8 +55,7 @@ pub fn read_exact(alloc: Global, bytes: &[u8]) -> Result<Tree, DerError>
 #[cycle(reading)]
 fn tree_of(alloc: Global, octets: &[u8], at: usize, levels: u8) -> Result<(Tree, &[u8]), DerError>
     requires { at + length octets.now < 2 ^ 64 }
-    ensures {
-        MatchResult result
+    ensures { MatchResult result
         (λ x. IsDerWithin levels x.0 × (octets.now ≡ encoding x.0 ++ x.1.now))
         (RefusesFrom at (ElementFault levels octets.now)) }
 {
@@ -75,8 +74,7 @@ fn tree_of(alloc: Global, octets: &[u8], at: usize, levels: u8) -> Result<(Tree,
 #[cycle(reading)]
 fn trees_of(alloc: Global, octets: &[u8], at: usize, levels: u8) -> Result<Trees, DerError>
     requires { at + length octets.now < 2 ^ 64 }
-    ensures {
-        MatchResult result
+    ensures { MatchResult result
         (λ kids. AreDerWithin levels (row kids) × (octets.now ≡ encodings (row kids)))
         (RefusesFrom at (KidsFault levels octets.now)) }
 {

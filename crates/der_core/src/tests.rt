@@ -1,58 +1,119 @@
-//! Octets that begin with an element, and octets that do not.
+//! Octets that are elements and octets that are not: the first fault from left to right.
 
 use super::*;
+use DerFault::*;
 use std::alloc::{AllocError, Global};
 use std::test::Fail;
 
-/// Octets, and how many of them the first element takes, if there is one.
-const FIRSTS: [(&str, &[u8], Option<usize>); 19] = [
+/// Octets, and how many of them the first element takes.
+const FIRSTS: [(&str, &[u8], usize); 4] = [
     (
         "an integer in a sequence, and an octet after it",
         &[0x30, 3, 2, 1, 5, 0xFF],
-        Some(5),
+        5,
     ),
-    ("an empty sequence", &[0x30, 0], Some(2)),
+    ("an empty sequence", &[0x30, 0], 2),
+    ("two elements in a sequence", &[0x30, 5, 5, 0, 2, 1, 7], 7),
+    ("an element of private class", &[0xC1, 1, 0xAA, 0, 0], 3),
+];
+
+/// Octets, and their first fault with its place.
+const FAULTS: [(&str, &[u8], usize, DerFault); 24] = [
+    ("no octets", &[], 0, Truncated),
+    ("tag zero", &[0, 0], 0, ReservedTag),
+    ("a tag number that goes on", &[0x1F, 0], 0, HighTag),
+    ("a length that is left open", &[0x30, 0x80], 0, Indefinite),
+    ("127 in two octets", &[4, 0x81, 0x7F], 0, NotShortest),
+    ("128 in three octets", &[4, 0x82, 0, 0x80], 0, NotShortest),
+    ("255 in three octets", &[4, 0x82, 0, 0xFF], 0, NotShortest),
     (
-        "a string of 128 octets is too short here",
-        &[4, 0x81, 0x80],
-        None,
+        "65535 in four octets",
+        &[4, 0x83, 0, 0xFF, 0xFF],
+        0,
+        NotShortest,
     ),
-    ("no octets", &[], None),
-    ("tag zero is reserved", &[0, 0], None),
-    ("a tag number that goes on", &[0x1F, 0], None),
-    ("a length that is left open", &[0x30, 0x80], None),
-    ("127 in two octets", &[4, 0x81, 0x7F], None),
-    ("128 in three octets", &[4, 0x82, 0, 0x80], None),
-    ("255 in three octets", &[4, 0x82, 0, 0xFF], None),
-    ("65535 in four octets", &[4, 0x83, 0, 0xFF, 0xFF], None),
-    ("a length of five octets", &[4, 0x85, 1], None),
+    ("a length of five octets", &[4, 0x85, 1], 0, WideLength),
+    ("one octet of two", &[4, 2, 0xAA], 0, Truncated),
+    ("no length", &[4], 0, Truncated),
+    ("one octet of a length of two", &[4, 0x82, 1], 0, Truncated),
     (
         "the greatest length, with nothing after it",
         &[4, 0x84, 0xFF, 0xFF, 0xFF, 0xFF],
-        None,
+        0,
+        Truncated,
     ),
-    ("a length octet that nothing follows", &[4, 0x82, 1], None),
-    ("no length", &[4], None),
-    ("one octet of two", &[4, 2, 0xAA], None),
+    (
+        "128 octets, of which there are none",
+        &[4, 0x81, 0x80],
+        0,
+        Truncated,
+    ),
     (
         "an integer that runs over its sequence",
         &[0x30, 3, 2, 5, 1],
-        None,
+        2,
+        Overrun,
     ),
-    ("a tag alone in a sequence", &[0x30, 1, 2], None),
-    ("a fault in the second of two", &[0x30, 4, 5, 0, 0, 0], None),
+    ("a tag alone in a sequence", &[0x30, 1, 2], 2, Overrun),
+    (
+        "one octet of a length in a sequence",
+        &[0x30, 2, 4, 0x81, 0x80],
+        2,
+        Overrun,
+    ),
+    (
+        "tag zero in the second of two",
+        &[0x30, 4, 5, 0, 0, 0],
+        4,
+        ReservedTag,
+    ),
+    (
+        "a fault in the second sequence of two",
+        &[0x30, 8, 0x30, 2, 5, 0, 0x30, 2, 5, 0x80],
+        8,
+        Indefinite,
+    ),
+    (
+        "a sequence that is cut off, and a fault inside",
+        &[0x30, 4, 0, 0],
+        0,
+        Truncated,
+    ),
+    (
+        "a reserved tag with an open length",
+        &[0, 0x80],
+        0,
+        ReservedTag,
+    ),
+    ("a high tag without a length", &[0x3F], 0, HighTag),
+    (
+        "the first fault of two in a sequence",
+        &[0x30, 4, 0x1F, 0, 0, 0],
+        2,
+        HighTag,
+    ),
+    (
+        "a sequence in a sequence that runs over",
+        &[0x30, 2, 0x30, 1, 5],
+        2,
+        Overrun,
+    ),
 ];
 
 #[test]
 fn first_elements(rt: HostRuntime) {
     for (name, octets, taken) in FIRSTS {
-        match read_first(rt.alloc(), octets) {
-            Ok((_, read)) => assert_eq!(rt; Some(read), taken, "{name}"),
-            Err(refused) => {
-                assert_eq!(rt; refused, DerError::Unread, "{name}");
-                assert_eq!(rt; taken, None, "{name}");
-            }
-        }
+        let read = read_first(rt.alloc(), octets).ok().map(|(_, read)| read);
+        assert_eq!(rt; read, Some(taken), "{name}");
+    }
+}
+
+#[test]
+fn first_faults(rt: HostRuntime) {
+    for (name, octets, at, fault) in FAULTS {
+        let malformed = Some(DerError::Malformed(Malformed { at, fault }));
+        assert_eq!(rt; read_first(rt.alloc(), octets).err(), malformed, "{name}");
+        assert_eq!(rt; read_exact(rt.alloc(), octets).err(), malformed, "{name}");
     }
 }
 
@@ -64,10 +125,22 @@ fn read_and_written(rt: HostRuntime) -> Result<(), Fail> {
     assert_eq!(rt; written.as_slice(), &octets[..5]);
     assert_eq!(rt; taken, 5);
     assert_eq!(rt; tree.tag(), 0x30);
+
+    let again = read_exact(rt.alloc(), &octets[..5])?;
+    let written = write(rt.alloc(), &again)?;
+    assert_eq!(rt; written.as_slice(), &octets[..5]);
+    let trailing = Malformed {
+        at: 5,
+        fault: Trailing,
+    };
+    assert_eq!(rt;
+        read_exact(rt.alloc(), &octets).err(),
+        Some(DerError::Malformed(trailing))
+    );
     Ok(())
 }
 
-/// Sequences, each the only one in the one before, the first with 65 around the innermost or 64.
+/// Sequences, each the only one in the one before: 64 of them, or 65.
 fn nested_octets(alloc: Global, too_many: bool) -> Result<Vec<u8>, AllocError> {
     let mut octets = Vec::new(alloc);
     if too_many {
@@ -89,9 +162,48 @@ fn levels(rt: HostRuntime) -> Result<(), Fail> {
     assert_eq!(rt; written.as_slice(), octets.as_slice());
 
     let octets = nested_octets(rt.alloc(), true)?;
+    let at_the_last = Malformed {
+        at: 129,
+        fault: TooDeep,
+    };
     assert_eq!(rt;
         read_first(rt.alloc(), &octets).err(),
-        Some(DerError::Unread)
+        Some(DerError::Malformed(at_the_last))
     );
+    Ok(())
+}
+
+#[test]
+fn copies_of_trees(rt: HostRuntime) -> Result<(), Fail> {
+    let mut kids = Trees::new(rt.alloc());
+    kids.push(read_exact(rt.alloc(), &[5, 0])?)?;
+    kids.push(read_exact(rt.alloc(), &[0x31, 2, 4, 0])?)?;
+    let copies = kids.try_clone(rt.alloc())?;
+    let tree = Tree::branch(0x30, copies);
+    let Some([null, set]) = tree.kids() else {
+        return Err(Fail::from("there are two kids"));
+    };
+    assert_eq!(rt; null.tag(), 5);
+    assert_eq!(rt; null.content(), Some([].as_slice()));
+    assert_eq!(rt; set.tag(), 0x31);
+    assert_eq!(rt; set.content(), None);
+    Ok(())
+}
+
+#[test]
+fn kept_octets(rt: HostRuntime) -> Result<(), Fail> {
+    let octets = [0x30, 3, 2, 1, 5];
+    let tree = read_exact(rt.alloc(), &octets)?;
+    let raw = Raw::from_tree(rt.alloc(), &tree)?;
+    assert_eq!(rt; raw.tag(), 0x30);
+    assert_eq!(rt; raw.nesting(), 2);
+    let kept = Octets::from_slice(rt.alloc(), raw.as_bytes())?;
+    assert_eq!(rt; kept.as_slice(), octets.as_slice());
+
+    let copy = raw.try_clone(rt.alloc())?;
+    assert_eq!(rt; copy.as_bytes(), octets.as_slice());
+    let again = copy.tree(rt.alloc())?.try_clone(rt.alloc())?;
+    let written = write(rt.alloc(), &again)?;
+    assert_eq!(rt; written.as_slice(), octets.as_slice());
     Ok(())
 }

@@ -1,3 +1,6 @@
 pub mod Appending
 pub mod Reading
 pub mod Adding
+pub mod Reported
+pub mod Inquiries
+pub mod Runs

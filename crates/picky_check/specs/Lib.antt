@@ -7,3 +7,7 @@ pub mod Memory
 pub mod Words
 pub mod Jobs
 pub mod Report
+pub mod Program
+pub mod Stops
+pub mod Inquiry
+pub mod Run

@@ -1,9 +1,10 @@
 //! Whole files from a shelf, and whole reports to a sink.
 
-ghost use Rattle.std.specs.Prelude.{◌≡◌, ◌+◌, ◌<◌, ◌≤◌, ℕ, length, Some, IfOk, OnOk, OnErr, IsOk, IsSome, IsErrOf};
+ghost use Rattle.std.specs.Prelude.{◌≡◌, ◌⊎◌, ◌+◌, ◌<◌, ◌≤◌, ℕ, length, Some, IfOk, OnOk, OnErr, IsOk, IsSome, IsErrOf};
 ghost use Rattle.picky_check.specs.Counts.{GoesOn, HasRisen, RisesBy};
 ghost use Rattle.picky_check.specs.Limits.{longest_file, IsTooLong};
 ghost use Rattle.picky_check.specs.Shelf.{file_of};
+ghost use Rattle.picky_check.specs.Program.{IsLong, RisesBeyond};
 ghost use Rattle.picky_check.specs.Sink.{Appends, Lowers, HasRoom, IsCutShort};
 
 use crate::{Failed, FileError, Shelf, Sink};
@@ -59,4 +60,28 @@ pub fn write_report<O: Sink>(out: &mut O, text: &str) -> Result<(), Failed>
         done += out.write(&octets[done..])?;
     }
     Ok(())
+}
+
+/// Reads two whole files, in this order.
+pub(crate) fn read_both<F: Shelf>(
+    alloc: Global,
+    shelf: &mut F,
+    first: &str,
+    second: &str,
+) -> Result<(Vec<u8>, Vec<u8>), FileError>
+    ensures whole { IfOk result (λ both. IsSome (F.files shelf.old)
+        → (file_of (F.files shelf.old) first.now ≡ Some both.0.items) × (file_of (F.files shelf.old) second.now ≡ Some both.1.items)) }
+    ensures short { IfOk result (λ both. (length both.0.items ≤ longest_file) × (length both.1.items ≤ longest_file)) }
+
+    ensures too_long { IsErrOf result FileError.TooLong → IsSome (F.files shelf.old)
+        → IsLong (F.files shelf.old) first.now ⊎ IsLong (F.files shelf.old) second.now }
+    ensures more_given { IsErrOf result FileError.TooLong → RisesBeyond (F.given shelf.old) (F.given shelf.new) }
+
+    ensures cause { IsErrOf result FileError.Fault → HasRisen (F.faults shelf.old) (F.faults shelf.new) }
+    ensures no_fault { F.is_quiet shelf.old → IsSome (file_of (F.files shelf.old) first.now)
+        → IsSome (file_of (F.files shelf.old) second.now) → ¬ IsErrOf result FileError.Fault }
+{
+    let one = read_file(alloc, shelf, first)?;
+    let other = read_file(alloc, shelf, second)?;
+    Ok((one, other))
 }

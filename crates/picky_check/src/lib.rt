@@ -4,10 +4,13 @@
 mod disk;
 mod error;
 mod files;
+mod inquiry;
 mod memory;
+mod program;
 mod report;
 mod shelf;
 mod sink;
+mod stop;
 mod stored;
 mod words;
 
@@ -15,6 +18,7 @@ pub use disk::{DirShelf, OutSink};
 pub use error::FileError;
 pub use files::{read_file, write_report};
 pub use memory::{MemShelf, MemSink};
+pub use program::run;
 pub use shelf::{Failed, Shelf};
 pub use sink::Sink;
 

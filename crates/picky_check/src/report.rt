@@ -5,6 +5,13 @@ ghost use Rattle.picky_check.specs.Report.{accepted_line, refused_line, places_t
 
 use std::alloc::{AllocError, Global};
 
+/// What is written, and the status that the run ends with.
+#[derive(Debug, Drop)]
+pub(crate) struct Report {
+    pub(crate) status: u8,
+    pub(crate) line: String,
+}
+
 /// The line of an accepted signature: places in decimal, with commas between.
 pub(crate) fn accepted_line(
     alloc: Global,

@@ -6,7 +6,7 @@ use crate::{
 use std::alloc::{AllocError, Global};
 use std::fmt::Display;
 use std::test::Fail;
-use std::{fs, io};
+use std::{env, fs, io};
 
 const LINE: &str = "accepted signer=0 path= excuse=none\n";
 
@@ -109,8 +109,11 @@ fn stops_behind_the_longest_file(rt: HostRuntime) -> Result<(), Fail> {
         let mut shelf = MemShelf::new(alloc);
         shelf.add("f", &octets)?;
         match read_file(alloc, &mut shelf, "f") {
-            Ok(read) => assert!(rt; is_read && read.as_slice() == octets.as_slice(), "{size}"),
-            Err(error) => assert!(rt; !is_read && error == FileError::TooLong, "{size}"),
+            Err(FileError::TooLong) => assert!(rt; !is_read, "{size}"),
+            read => {
+                let read = read?;
+                assert!(rt; is_read && read.as_slice() == octets.as_slice(), "{size}");
+            }
         }
     }
     Ok(())
@@ -190,7 +193,8 @@ fn reports_are_lines(rt: HostRuntime) -> Result<(), Fail> {
 #[test]
 fn reads_files_of_the_disk(rt: HostRuntime) -> Result<(), Fail> {
     let alloc = rt.alloc();
-    let path = "/tmp/picky_check_reads_files_of_the_disk";
+    let path = env::temp_dir(&rt)?.join(alloc, "picky_check_reads_files_of_the_disk")?;
+    let path = path.to_str().expect(&rt, "a path is text");
     fs::write(&rt, path, b"octets")?;
     let mut shelf = DirShelf::new(&rt);
     let mut piece = [0; 4];

@@ -1,5 +1,5 @@
 -- What stands at the front of octets is spelled there, and what is spelled there isn't refused.
-use Rattle.std.proofs.Common.{◌≡◌, ℕ, zero, suc, ◌+◌, ◌-◌, ◌<◌, ◌≤◌, ◌^◌, ◌∙◌, sym, ap, Bool, true, false, if◌then◌else◌, is_none, List, [], ◌∷◌, ◌++◌, length, drop, slice_range, get_or, refl, arith, length-take, length-drop, length-append, ltb-true, nat_lt, ◌==◌, append-nil, Option, Ok, Err, Some, None, ◌≢◌}
+use Rattle.std.proofs.Common.{◌≡◌, ℕ, zero, suc, ◌+◌, ◌-◌, ◌<◌, ◌≤◌, ◌^◌, ◌∙◌, sym, ap, Bool, true, false, if◌then◌else◌, List, [], ◌∷◌, ◌++◌, length, drop, slice_range, get_or, refl, arith, length-take, length-drop, length-append, ltb-true, nat_lt, append-nil, Ok, Err, Some, None}
 use Rattle.std.proofs.lemmas.Grind.{common_steps}
 use Rattle.std.proofs.lemmas.List.{take-append-drop}
 use Rattle.std.specs.Int.{w16, w32, to_le_bytes, from_le_bytes}
@@ -11,7 +11,7 @@ use Rattle.wincert_core.specs.declared.kinds.CertificateType.TheVariants.{WinCer
 use Rattle.wincert_core.specs.declared.error.WinCertificateError.{WinCertificateError}
 use Rattle.wincert_core.specs.declared.error.WinCertificateError.TheVariants.{TooLong, Memory}
 use Rattle.wincert_core.specs.Kinds.{revision_number, revision_numbered, type_number, type_numbered}
-use Rattle.wincert_core.specs.WinCert.{WinCert, FitsHeader, stated_length, header, spelling, BeginsWith, length_field, revision_field, type_field, with_padding}
+use Rattle.wincert_core.specs.WinCert.{WinCert, stated_length, header, spelling, BeginsWith, length_field, revision_field, type_field, with_padding}
 use Rattle.wincert_core.specs.Refusal.{first_refusal, encoded}
 
 fit_2 : (a b : ℕ) → a < 256 → b < 256 → (i : ℕ) → get_or (a ∷ b ∷ []) i 0 < 256
@@ -56,50 +56,43 @@ begins octets fits n r k n-is r-is k-is low high short =
           ∙ ap (λ m. header m (revision_number r) (type_number k) ++ (part ++ later)) long;
     }
 
-pub revision_numbered-number : (r : RevisionType) → revision_numbered (revision_number r) ≡ Some r
+revision_numbered-number : (r : RevisionType) → revision_numbered (revision_number r) ≡ Some r
 revision_numbered-number WinCertificateRevision10 = refl
 revision_numbered-number WinCertificateRevision20 = refl
 
-pub type_numbered-number : (k : CertificateType) → type_numbered (type_number k) ≡ Some k
+type_numbered-number : (k : CertificateType) → type_numbered (type_number k) ≡ Some k
 type_numbered-number WinCertTypeX509 = refl
 type_numbered-number WinCertTypePkcsSignedData = refl
 type_numbered-number WinCertTypeReserved1 = refl
 type_numbered-number WinCertTypePkcs1Sign = refl
 
-pub revision_field-spelling : (w : WinCert) (later : List ℕ) → revision_field (spelling w ++ later) ≡ revision_number w.revision
-revision_field-spelling w later = elim w.revision as (λ r. revision_field (header (stated_length w.certificate) (revision_number r) (type_number w.certificate_type) ++ w.certificate ++ later) ≡ revision_number r) [ WinCertificateRevision10 ↦ refl | WinCertificateRevision20 ↦ refl ]
+-- A header states what it was spelled with.
+length_field-header : (n r k : ℕ) (rest : List ℕ) → n < 2 ^ 32 → length_field (header n r k ++ rest) ≡ n
+length_field-header n r k rest fits = from_le_bytes-to_le_bytes_4 n fits
 
-pub type_field-spelling : (w : WinCert) (later : List ℕ) → type_field (spelling w ++ later) ≡ type_number w.certificate_type
-type_field-spelling w later = elim w.certificate_type as (λ k. type_field (header (stated_length w.certificate) (revision_number w.revision) (type_number k) ++ w.certificate ++ later) ≡ type_number k) [ WinCertTypeX509 ↦ refl | WinCertTypePkcsSignedData ↦ refl | WinCertTypeReserved1 ↦ refl | WinCertTypePkcs1Sign ↦ refl ]
+revision_field-header : (n : ℕ) (r : RevisionType) (k : ℕ) (rest : List ℕ) → revision_field (header n (revision_number r) k ++ rest) ≡ revision_number r
+revision_field-header n WinCertificateRevision10 k rest = refl
+revision_field-header n WinCertificateRevision20 k rest = refl
 
-pub length_field-spelling : (w : WinCert) (later : List ℕ) → FitsHeader w.certificate → length_field (spelling w ++ later) ≡ stated_length w.certificate
-length_field-spelling w later fits = from_le_bytes-to_le_bytes_4 (stated_length w.certificate) fits
+type_field-header : (n r : ℕ) (k : CertificateType) (rest : List ℕ) → type_field (header n r (type_number k) ++ rest) ≡ type_number k
+type_field-header n r WinCertTypeX509 rest = refl
+type_field-header n r WinCertTypePkcsSignedData rest = refl
+type_field-header n r WinCertTypeReserved1 rest = refl
+type_field-header n r WinCertTypePkcs1Sign rest = refl
 
-skip : {A : Type 0} (test : Bool) (x : A) {y z : A} → test ≡ false → y ≡ z → (if test then x else y) ≡ z
-skip true x failed e = absurd (cc)
-skip false x _ e = e
-
-lt_fails : (a b : ℕ) → b ≤ a → nat_lt a b ≡ false
-lt_fails a b h = grind (arith, common_steps)
-
-zero_fails : (a : ℕ) → 0 < a → (a == 0) ≡ false
-zero_fails a h = grind (arith, common_steps)
-
+-- What is spelled at the front isn't refused.
 pub not_refused : (octets : List ℕ) (w : WinCert) → BeginsWith octets w → first_refusal octets ≡ None
 unfolding first_refusal
 not_refused octets w front =
+    let rest : List ℕ = w.certificate ++ front.later in
     let n : length_field octets ≡ stated_length w.certificate =
-    ap length_field front.spelled ∙ length_field-spelling w front.later front.fits in
+    ap length_field front.spelled ∙ length_field-header _ (revision_number w.revision) (type_number w.certificate_type) rest front.fits in
     let r : revision_numbered (revision_field octets) ≡ Some w.revision =
-    ap (λ o. revision_numbered (revision_field o)) front.spelled ∙ ap revision_numbered (revision_field-spelling w front.later) ∙ revision_numbered-number w.revision in
+    ap revision_numbered (ap revision_field front.spelled ∙ revision_field-header (stated_length w.certificate) w.revision (type_number w.certificate_type) rest) ∙ revision_numbered-number w.revision in
     let k : type_numbered (type_field octets) ≡ Some w.certificate_type =
-    ap (λ o. type_numbered (type_field o)) front.spelled ∙ ap type_numbered (type_field-spelling w front.later) ∙ type_numbered-number w.certificate_type in
+    ap type_numbered (ap type_field front.spelled ∙ type_field-header (stated_length w.certificate) (revision_number w.revision) w.certificate_type rest) ∙ type_numbered-number w.certificate_type in
     let long : stated_length w.certificate ≤ length octets = omega (arith, ap length front.spelled, length-append {A = ℕ} w.certificate front.later) in
-    let whole : nat_lt (length octets) 8 ≡ false = lt_fails _ _ (omega (arith, long)) in
-    let some : (length_field octets == 0) ≡ false = zero_fails _ (omega (arith, n)) in
-    let enough : nat_lt (length_field octets) 8 ≡ false = lt_fails _ _ (omega (arith, n)) in
-    let there : nat_lt (length octets) (length_field octets) ≡ false = lt_fails _ _ (omega (arith, n, long)) in
-    skip _ _ whole (skip _ _ some (skip _ _ (ap is_none r) (skip _ _ (ap is_none k) (skip _ _ enough (skip _ _ there refl)))))
+    grind (arith, common_steps, n, r, k, long)
 
 ok_if : {A : Type 0} (test : Bool) (x : A) {y : A} (error : WinCertificateError) → (if test then Ok x else Err error) ≡ Ok y → (test ≡ true) × (x ≡ y)
 ok_if true x error e = (refl, cc)
@@ -114,10 +107,6 @@ read_back w octets e =
       fits = ltb-true _ _ parts.0;
       spelled = sym parts.1 ∙ sym (append-nil (spelling (with_padding w)));
     }
-
-neither : (test : Bool) {x y : Option WinCertificateError} → (x ≡ Some Memory → ⊥) → (y ≡ Some Memory → ⊥) → (if test then x else y) ≡ Some Memory → ⊥
-neither true p q = p
-neither false p q = q
 
 -- No refusal of octets is want of memory.
 pub refuses_without_memory : (octets : List ℕ) → first_refusal octets ≡ Some Memory → ⊥

@@ -20,7 +20,9 @@ struct Fields {
 
 fn fields_of(bytes: &[u8]) -> Option<Fields>
     ensures none { result ≡ None ↔ (length bytes.now < 8) }
-    ensures some { IfSome result (λ f. (f.length ≡ length_field bytes.now) × (f.revision ≡ revision_field bytes.now) × (f.certificate_type ≡ type_field bytes.now)) }
+    ensures some { IfSome result (λ f. (f.length ≡ length_field bytes.now)
+        × (f.revision ≡ revision_field bytes.now)
+        × (f.certificate_type ≡ type_field bytes.now)) }
 {
     let [l0, l1, l2, l3, r0, r1, t0, t1, ..] = bytes else {
         return None;
@@ -30,6 +32,15 @@ fn fields_of(bytes: &[u8]) -> Option<Fields>
         revision: u16::from_le_bytes([*r0, *r1]),
         certificate_type: u16::from_le_bytes([*t0, *t1]),
     })
+}
+
+fn too_short(got: usize) -> WinCertificateError
+    ensures { result ≡ WinCertificateError.WrongLength 8 got }
+{
+    WinCertificateError::WrongLength {
+        minimum: HEADER_LENGTH,
+        got,
+    }
 }
 
 /// A header that names a certificate among the octets behind it.
@@ -44,16 +55,16 @@ pub(crate) struct Header {
 /// so nothing is ever asked for by that length alone.
 #[tactic(auto, unfolding(crate::specs::Refusal::first_refusal))]
 pub(crate) fn header_of(bytes: &[u8]) -> WinCertificateResult<Header>
-    ensures accepted { IfOk result (λ h. (first_refusal bytes.now ≡ None) × (8 ≤ h.length) × (h.length ≤ length bytes.now)) }
-    ensures fields { IfOk result (λ h. (h.length ≡ length_field bytes.now) × (revision_number h.revision ≡ revision_field bytes.now) × (type_number h.certificate_type ≡ type_field bytes.now)) }
+    ensures accepted { IfOk result (λ h. (first_refusal bytes.now ≡ None)
+        × (8 ≤ h.length) × (h.length ≤ length bytes.now)) }
+    ensures fields { IfOk result (λ h. (h.length ≡ length_field bytes.now)
+        × (revision_number h.revision ≡ revision_field bytes.now)
+        × (type_number h.certificate_type ≡ type_field bytes.now)) }
     ensures short { IfOk result (λ h. h.length < 2 ^ 32) }
     ensures refused { IfErr result (λ e. first_refusal bytes.now ≡ Some e) }
 {
     let Some(fields) = fields_of(bytes) else {
-        return Err(WinCertificateError::WrongLength {
-            minimum: HEADER_LENGTH,
-            got: bytes.len(),
-        });
+        return Err(too_short(bytes.len()));
     };
     let length = fields.length as usize;
     if length == 0 {
@@ -62,10 +73,7 @@ pub(crate) fn header_of(bytes: &[u8]) -> WinCertificateResult<Header>
     let revision = RevisionType::try_from(fields.revision)?;
     let certificate_type = CertificateType::try_from(fields.certificate_type)?;
     if length < HEADER_LENGTH {
-        return Err(WinCertificateError::WrongLength {
-            minimum: HEADER_LENGTH,
-            got: length,
-        });
+        return Err(too_short(length));
     }
     if bytes.len() < length {
         return Err(WinCertificateError::Io {

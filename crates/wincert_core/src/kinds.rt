@@ -7,9 +7,12 @@ ghost use Rattle.wincert_core.specs.Kinds.{revision_number, revision_numbered, t
 
 use crate::error::WinCertificateError;
 
+/// The layout of what the certificate holds.
 #[derive(Clone, Copy, Debug, PartialEq, Eq)]
 pub enum RevisionType {
+    /// 1.0, the layout before Authenticode.
     WinCertificateRevision10 = 0x0100,
+    /// 2.0, the current one.
     WinCertificateRevision20 = 0x0200,
 }
 
@@ -35,11 +38,15 @@ impl TryFrom<u16> for RevisionType {
     }
 }
 
+/// What the certificate holds.
 #[derive(Clone, Copy, Debug, PartialEq, Eq)]
 pub enum CertificateType {
+    /// An X.509 certificate.
     WinCertTypeX509 = 1,
+    /// Signed data of PKCS #7: an Authenticode signature.
     WinCertTypePkcsSignedData = 2,
     WinCertTypeReserved1 = 3,
+    /// A signature of PKCS #1.
     WinCertTypePkcs1Sign = 9,
 }
 

@@ -25,9 +25,7 @@ const DECODED: [Decoded; 7] = [
 #[test]
 fn decoding(rt: HostRuntime) -> Result<(), Fail> {
     for row in &DECODED {
-        let read = WinCertificate::decode(rt.alloc(), row.octets)
-            .ok()
-            .ok_or(row.name)?;
+        let read = WinCertificate::decode(rt.alloc(), row.octets)?;
         assert_eq!(rt; read.length(), row.length, "{}", row.name);
         assert_eq!(rt; read.revision(), row.revision, "{}", row.name);
         assert_eq!(rt;

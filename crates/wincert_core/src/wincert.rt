@@ -2,9 +2,8 @@
 
 ghost use Rattle.std.specs.Prelude.{◌≡◌, ◌≢◌, Ok, Err, IfOk, IfErr, nat_eq};
 ghost use Rattle.std.specs.Ordering.{on};
-ghost use Rattle.std.specs.Cmp.Lexicographic.{pointwise};
-ghost use Rattle.std.specs.Cmp.Rules.{comparing};
-ghost use Rattle.std.proofs.Common.{rules};
+ghost use Rattle.std.specs.Cmp.Lexicographic.{pointwise, nat_list_eq_equiv};
+ghost use Rattle.std.specs.Cmp.{on_per, on_equiv, partial_equiv_from_equiv};
 ghost use Rattle.wincert_core.specs.WinCert.{WinCert, BeginsWith, stated_length, with_padding, kept};
 ghost use Rattle.wincert_core.specs.Refusal.{certificate_in, current, encoded, Gives};
 
@@ -32,7 +31,11 @@ impl Model for WinCertificate {
 
     ghost Value = { WinCert };
 
-    ghost view = { λ w. record { revision = w.revision; certificate_type = w.certificate_type; certificate = w.certificate.items } };
+    ghost view = { λ w. record {
+      revision = w.revision;
+      certificate_type = w.certificate_type;
+      certificate = w.certificate.items;
+    } };
 
     ghost invariant = { λ w. FitsHeader w.certificate.items };
 }
@@ -137,7 +140,7 @@ impl WinCertificate {
 impl PartialEq for WinCertificate {
     ghost eq = { on kept (pointwise nat_eq) };
 
-    ghost laws = { Prim.search (comparing, rules) };
+    ghost laws = { on_per kept (partial_equiv_from_equiv nat_list_eq_equiv) };
 
     fn eq(&self, other: &WinCertificate) -> bool {
         self.revision.number() == other.revision.number()
@@ -147,7 +150,7 @@ impl PartialEq for WinCertificate {
 }
 
 impl Eq for WinCertificate {
-    ghost laws = { Prim.search (comparing, rules) };
+    ghost laws = { on_equiv kept nat_list_eq_equiv };
 }
 
 /// The certificate that `WinCertificate::decode` would keep, lent, with the same refusals but for
@@ -157,8 +160,10 @@ pub fn certificate_of(bytes: &[u8]) -> WinCertificateResult<&[u8]>
     ensures refused { IfErr result (λ e. certificate_in bytes.now ≡ Err e) }
     ensures never_memory { result ≢ Err WinCertificateError.Memory }
     // What is lent is spelled there, and what is spelled there is lent.
-    ensures spelled { IfOk result (λ part. (w : WinCert) × BeginsWith bytes.now w × (w.certificate ≡ part.now)) }
-    ensures only { (w : WinCert) → BeginsWith bytes.now w → certificate_in bytes.now ≡ Ok w.certificate }
+    ensures spelled { IfOk result (λ part.
+        (w : WinCert) × BeginsWith bytes.now w × (w.certificate ≡ part.now)) }
+    ensures only { (w : WinCert) → BeginsWith bytes.now w
+        → certificate_in bytes.now ≡ Ok w.certificate }
 {
     let header = header_of(bytes)?;
     Ok(&bytes[HEADER_LENGTH..header.length])

@@ -1,4 +1,4 @@
-use Rattle.std.proofs.Common.{◌≡◌, ℕ, length, Result, Err, ap, arith, inl, inr}
+use Rattle.std.proofs.Common.{length, Err, ap, arith, inl, inr}
 use Rattle.std.proofs.lemmas.Result.{err_from_is_err_and}
 use Rattle.der_core.proofs.Elements.{first_once}
 use Rattle.der_core.proofs.Exact.{whole_first, memory_only, fault_again, trailing_only, nothing_trails}

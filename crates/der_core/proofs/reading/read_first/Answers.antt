@@ -1,4 +1,4 @@
-use Rattle.std.proofs.Common.{◌≡◌, ℕ, ◌-◌, length, Result, Ok, Err, ap, inl, inr, ⊎_elim}
+use Rattle.std.proofs.Common.{◌-◌, length, Err, ap, inl, inr}
 use Rattle.std.proofs.lemmas.Result.{err_from_is_err_and}
 use Rattle.der_core.proofs.Elements.{first_read, first_once}
 use Rattle.der_core.proofs.Faults.{only_memory, refused_first, refused_as, no_fault_where_read}

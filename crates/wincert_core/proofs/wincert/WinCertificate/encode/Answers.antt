@@ -1,4 +1,4 @@
-use Rattle.std.proofs.Common.{arith, rules}
+use Rattle.std.proofs.Common.{arith}
 use Rattle.std.proofs.lemmas.Grind.{common_steps}
 use Rattle.wincert_core.proofs.Spelled.{read_back}
 use Rattle.wincert_core.proofs.wincert.WinCertificate.encode.Goals as goal

@@ -1,0 +1,21 @@
+"""Run a command, then print how it went on a line of its own.
+
+    python3 -I -S measure.py PATH [WORD ..]
+
+A newline and a last line follow what the command prints: the seconds from
+start to end, the greatest resident memory in octets, and the status.  What
+the system tells of the memory of a command counts that of the process that
+started it, so this script imports next to nothing, and is started by
+`basic.py` for every run.
+"""
+
+import os
+import sys
+from time import perf_counter
+
+begun = perf_counter()
+pid = os.posix_spawnp(sys.argv[1], sys.argv[1:], os.environ)
+_, status, usage = os.wait4(pid, 0)
+seconds = perf_counter() - begun
+print()
+print(seconds, usage.ru_maxrss * 1024, os.waitstatus_to_exitcode(status))

@@ -1,0 +1,48 @@
+-- A report of an answer is a report of each answer with the same cause.
+use Rattle.std.proofs.Common.{◌≡◌, ℕ, List, Option, Some, None, IsSome, Result, Ok, Err, refl, subst}
+use Rattle.authenticode_core.specs.declared.accepted.Accepted.{Accepted}
+use Rattle.authenticode_core.specs.declared.error.CheckError.{CheckError}
+use Rattle.authenticode_core.specs.declared.error.CheckError.TheVariants.{Win, Unread, NotThisForm, Authenticode, Memory}
+use Rattle.authenticode_core.specs.Basic.{IsSameUnlessMemory}
+use Rattle.picky_check.specs.declared.report.Report.{Report}
+use Rattle.picky_check.specs.declared.stop.Stop.{Stop}
+use Rattle.picky_check.specs.declared.stop.Stop.TheVariants as stop
+use Rattle.picky_check.specs.declared.error.FileError.{FileError}
+use Rattle.picky_check.specs.declared.error.FileError.TheVariants as file
+use Rattle.picky_check.specs.Stops.{stop_for_file}
+use Rattle.picky_check.specs.Shelf.{Files, file_of}
+use Rattle.picky_check.specs.Inquiry.{IsReported, GivesReport}
+
+-- what is reported is given, and want of memory gives any answer's place
+pub GivesReport-reported : (answer : Result Accepted CheckError) (result : Result Report Stop) → IsReported answer result → GivesReport answer result
+GivesReport-reported (Ok a) result h = h
+GivesReport-reported (Err (Win e)) result h = h
+GivesReport-reported (Err (Unread e)) result h = h
+GivesReport-reported (Err NotThisForm) result h = h
+GivesReport-reported (Err (Authenticode e)) result h = h
+GivesReport-reported (Err Memory) result h = tt
+
+want_of_memory : (answer : Result Accepted CheckError) (result : Result Report Stop) → IsReported (Err Memory) result → GivesReport answer result
+want_of_memory (Ok a) result h = rw h refl
+want_of_memory (Err (Win e)) result h = rw h refl
+want_of_memory (Err (Unread e)) result h = rw h refl
+want_of_memory (Err NotThisForm) result h = rw h refl
+want_of_memory (Err (Authenticode e)) result h = rw h refl
+want_of_memory (Err Memory) result h = tt
+
+pub GivesReport-same : (a b : Result Accepted CheckError) (result : Result Report Stop) → IsReported a result → IsSameUnlessMemory a b → GivesReport b result
+GivesReport-same (Err Memory) b result h same = want_of_memory b result h
+GivesReport-same a (Err Memory) result h same = tt
+GivesReport-same a b result h same = GivesReport-reported b result (subst (λ x. IsReported x result) same h)
+
+pub GivesReport-memory : (answer : Result Accepted CheckError) → GivesReport answer (Err stop.Memory)
+GivesReport-memory answer = want_of_memory answer (Err stop.Memory) refl
+
+-- a shelf that has a file tells its files
+pub told : (files : Option Files) (name file : List ℕ) → file_of files name ≡ Some file → IsSome files
+told (Some files) name file h = refl
+told None name file h = absurd cc
+
+pub is_there : (o : Option (List ℕ)) (file : List ℕ) → o ≡ Some file → IsSome o
+is_there (Some x) file h = refl
+is_there None file h = absurd cc

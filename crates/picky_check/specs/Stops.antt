@@ -1,0 +1,25 @@
+-- Why a run ends without a report.
+use Rattle.std.specs.Prelude.{◌≡◌, ℕ, IsSome, Option, List}
+use Rattle.sig_core.specs.declared.verdict_table.TableError.{TableError}
+use Rattle.sig_core.specs.declared.verdict_table.TableError.TheVariants as table
+use Rattle.picky_check.specs.declared.error.FileError.{FileError}
+use Rattle.picky_check.specs.declared.error.FileError.TheVariants as file
+use Rattle.picky_check.specs.declared.stop.Stop.{Stop}
+use Rattle.picky_check.specs.declared.stop.Stop.TheVariants.{Usage, BadTable, Shelf, TooLong, Memory}
+
+abbrev pub stop_for_file : FileError → Stop
+stop_for_file file.Fault = Shelf
+stop_for_file file.TooLong = TooLong
+stop_for_file file.Memory = Memory
+
+abbrev pub stop_for_table : TableError → Stop
+stop_for_table (table.BadLine number) = BadTable
+stop_for_table table.Memory = Memory
+
+-- the exit status
+abbrev pub status_for : Stop → ℕ
+status_for Usage = 2
+status_for BadTable = 3
+status_for Shelf = 4
+status_for TooLong = 6
+status_for Memory = 7

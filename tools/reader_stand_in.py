@@ -1,0 +1,52 @@
+#!/usr/bin/env python3
+"""A program that answers `compare_readers`, by the definition in `der_starts`.
+
+It stands in for a program under test when the comparison itself is tested.
+It reads each input by itself and shares no shortcut with the comparison.
+"""
+
+import sys
+from hashlib import sha256
+from pathlib import Path
+
+from compare_readers import blocks, cases_of, inputs, spelled
+from der_starts import Start, encoding_at, first_fault
+
+
+def answer_line(octets):
+    fault = first_fault(octets)
+    if fault:
+        first = exact = "%s %d" % fault
+    else:
+        taken = encoding_at(octets, Start(0, len(octets), 1))
+        first = f"ok {taken}"
+        exact = first if taken == len(octets) else f"Trailing {taken}"
+    return f"{first} {exact}\n"
+
+
+def answer_cases(path):
+    for case in cases_of(Path(path).read_bytes()):
+        yield answer_line(case)
+
+
+def answer_digests(prefix, count):
+    octets = b"" if prefix == "-" else bytes.fromhex(prefix)
+    for block in blocks(octets, int(count)):
+        lines = "".join(map(answer_line, inputs(*block)))
+        yield f"{spelled(block[0])} {sha256(lines.encode()).hexdigest()}\n"
+
+
+def main(arguments):
+    match arguments:
+        case ["cases", path]:
+            sys.stdout.writelines(answer_cases(path))
+        case ["digests", prefix, count]:
+            sys.stdout.writelines(answer_digests(prefix, count))
+        case _:
+            print("usage: reader_stand_in.py cases FILE | digests PREFIX COUNT", file=sys.stderr)
+            return 2
+    return 0
+
+
+if __name__ == "__main__":
+    sys.exit(main(sys.argv[1:]))
