@@ -58,7 +58,7 @@ impl Places {
 pub enum Excuse {
     /// Nothing is excused.
     None,
-    /// A certificate beside the signer's is for time stamping.
+    /// A certificate of the signature is for time stamping.
     Bag,
     /// A time-stamp token stands beside the signature.
     Token,

@@ -42,10 +42,10 @@ pub enum CheckError {
     #[error("{0}")]
     Win(WinCertificateError),
     /// The certificate of the WIN_CERTIFICATE is not one element in DER, with at most seven zeros after it.
-    #[error("the certificate is not one element in DER: {0}")]
+    #[error("the certificate of the WIN_CERTIFICATE is not read: {0}")]
     Unread(DerError),
     /// The element is not signed data of the plain form.
-    #[error("the signed data has not the form that is checked")]
+    #[error("the certificate is not signed data of the one form that is checked: one certificate, and one signer with an RSA key and SHA-256")]
     NotThisForm,
     #[error("{0}")]
     Authenticode(AuthenticodeError),

@@ -495,6 +495,38 @@ fn digests_and_tables(rt: HostRuntime) -> Result<(), Fail> {
     Ok(())
 }
 
+/// What is told of errors.
+#[test]
+fn texts(rt: HostRuntime) -> Result<(), Fail> {
+    let trailing = DerError::Malformed(Malformed {
+        at: 438,
+        fault: DerFault::Trailing,
+    });
+    for (error, want) in [
+        (
+            CheckError::Win(WinCertificateError::CertificateDataIsEmpty),
+            "the WIN_CERTIFICATE states the length 0, so it holds no certificate",
+        ),
+        (
+            CheckError::Unread(trailing),
+            "the certificate of the WIN_CERTIFICATE is not read: malformed DER: octets after the element at octet 438",
+        ),
+        (
+            CheckError::NotThisForm,
+            "the certificate is not signed data of the one form that is checked: one certificate, and one signer with an RSA key and SHA-256",
+        ),
+        (
+            CheckError::Authenticode(AuthenticodeError::SignatureError),
+            "the signature is not accepted under the signer's key",
+        ),
+        (CheckError::Memory, "out of memory"),
+    ] {
+        let text = format!(in rt.alloc(); "{error}")?;
+        assert_eq!(rt; text.as_str(), want);
+    }
+    Ok(())
+}
+
 /// What is told of a mismatch: both digests, as values and as text.
 #[test]
 fn mismatch(rt: HostRuntime) -> Result<(), Fail> {
