@@ -10,3 +10,5 @@ pub mod Report
 pub mod Program
 pub mod Stops
 pub mod Inquiry
+pub mod Run
+pub mod Headline
