@@ -1,5 +1,6 @@
 //! Rows of inputs and what is answered to them: words and files for a whole run, long elements
-//! for the reader and the writer. The expected values come from the standards and from the tools beside the crates.
+//! for the reader and the writer. The expected values come from the standards and from the tools
+//! beside the crates.
 #![tactic(auto)]
 
 #[cfg(test)]
