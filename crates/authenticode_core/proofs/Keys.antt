@@ -1,10 +1,9 @@
 -- Octets that were read are the octets of a key exactly where the tree is one.
-use Rattle.std.proofs.Common.{Bool, true, false, IsTrue, IfOk, MatchResult, ◌↔◌, ◌≡◌, ◌≢◌, ℕ, ◌⊎◌, List, length, take, Result, Ok, Err, refl, sym, ◌∙◌, ap, subst, inl, inr, arith}
+use Rattle.std.proofs.Common.{Bool, false, IsTrue, IfOk, MatchResult, ◌↔◌, ◌≡◌, ◌≢◌, ℕ, List, length, take, Result, Ok, Err, sym, ◌∙◌, ap, inl, inr, arith}
 use Rattle.std.proofs.lemmas.List.{take_all}
 use Rattle.der_core.specs.declared.error.DerError.{DerError}
 use Rattle.der_core.specs.declared.error.DerError.TheVariants.{Memory}
 use Rattle.der_core.specs.DerElement.{DerElement}
-use Rattle.der_core.specs.Encoding.{encoding}
 use Rattle.der_core.specs.Reading.{IsFirst, GivesUnlessMemory}
 use Rattle.authenticode_core.specs.PlainForm.{IsRsaKey, IsRsaPublicKey}
 

@@ -1,5 +1,5 @@
 -- An element whose kids were looked at is no other element.
-use Rattle.std.proofs.Common.{◌≡◌, ◌≢◌, ℕ, ◌+◌, ◌<◌, List, [], ◌∷◌, length, get_or, drop, Option, Some, None, Result, Ok, Err, MatchOption, MatchResult, refl, sym, ◌∙◌, ap, arith}
+use Rattle.std.proofs.Common.{◌≡◌, ◌≢◌, ℕ, ◌+◌, ◌<◌, List, [], ◌∷◌, length, get_or, drop, Option, Some, None, Result, Ok, Err, MatchOption, MatchResult, sym, ◌∙◌, ap, arith}
 use Rattle.std.proofs.lemmas.List.{at_drop_more, drop_all}
 use Rattle.std.specs.Result.{result_ok}
 use Rattle.std.specs.Array.{IsWholeChunk}

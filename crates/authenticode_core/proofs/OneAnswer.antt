@@ -1,5 +1,5 @@
 -- Each cause has one answer.
-use Rattle.std.proofs.Common.{◌≡◌, ◌≢◌, ◌⊎◌, ℕ, ◌+◌, ◌≤◌, List, ◌++◌, length, take, drop, Result, Ok, Err, inl, inr, refl, sym, ◌∙◌, ap, subst}
+use Rattle.std.proofs.Common.{◌≡◌, ℕ, List, ◌++◌, length, drop, Result, Ok, Err, inl, inr, refl, sym, ◌∙◌, ap, subst}
 use Rattle.std.specs.Prelude.{replicate}
 use Rattle.std.proofs.lemmas.List.{drop_at, take-append-drop}
 use Rattle.der_core.specs.DerElement.{DerElement}
@@ -14,13 +14,12 @@ use Rattle.der_core.specs.declared.error.DerError.TheVariants as der
 use Rattle.wincert_core.specs.Refusal.{certificate_in}
 use Rattle.wincert_core.specs.declared.error.WinCertificateError.{WinCertificateError}
 use Rattle.authenticode_core.specs.PlainForm.{SignatureParts, IsPlainForm, signed_content}
-use Rattle.authenticode_core.specs.Basic.{Judge, IsSigned, IsJudged, IsBasicAnswer, IsUnread, IsPadding, HasTrailing, IsSameUnlessMemory}
+use Rattle.authenticode_core.specs.Basic.{Judge, IsJudged, IsBasicAnswer, IsUnread, IsSameUnlessMemory}
 use Rattle.authenticode_core.specs.declared.accepted.Accepted.{Accepted}
 use Rattle.authenticode_core.specs.declared.error.CheckError.{CheckError}
 use Rattle.authenticode_core.specs.declared.error.CheckError.TheVariants.{Win, Unread, NotThisForm, Authenticode, Memory}
-use Rattle.authenticode_core.specs.declared.error.AuthenticodeError.{AuthenticodeError}
 use Rattle.authenticode_core.specs.declared.error.AuthenticodeError.TheVariants as authenticode
-use Rattle.authenticode_core.proofs.OneForm.{one_form, one_element}
+use Rattle.authenticode_core.proofs.OneForm.{one_form}
 use Rattle.authenticode_core.proofs.Padded.{IsFirst-padded}
 
 pub answer_of_judged : (judge : Judge) (octets file_hash : List ℕ) (p : SignatureParts) → IsPlainForm octets p → (r : Result Accepted CheckError) → IsJudged judge p file_hash r → IsBasicAnswer judge octets file_hash r

@@ -1,8 +1,8 @@
 -- Octets are signed data of the plain form in one way at most.
-use Rattle.std.proofs.Common.{◌≡◌, ℕ, List, [], ◌∷◌, ◌++◌, get_or, Ok, refl, sym, ◌∙◌, ap, subst}
+use Rattle.std.proofs.Common.{◌≡◌, ℕ, List, [], ◌∷◌, get_or, Ok, refl, sym, ◌∙◌, ap, subst}
 use Rattle.std.specs.Prelude.{replicate}
 use Rattle.der_core.specs.DerElement.{DerElement, Primitive, Constructed, listed}
-use Rattle.der_core.specs.Encoding.{encoding, IsPaddedEncoding}
+use Rattle.der_core.specs.Encoding.{IsPaddedEncoding}
 use Rattle.der_core.specs.Fronts.{fronts}
 use Rattle.wincert_core.specs.Refusal.{certificate_in}
 use Rattle.authenticode_core.specs.PlainForm.{TbsParts, CertificateParts, SignerParts, SignatureParts, IsPlainForm, signed_content}

@@ -1,17 +1,16 @@
 -- What is read of an encoding with zeros after it.
-use Rattle.std.proofs.Common.{◌≡◌, ℕ, ◌+◌, ◌<◌, ◌≤◌, ◌-◌, List, ◌++◌, length, length-drop, take, drop, Result, Ok, Err, inl, inr, refl, sym, ◌∙◌, ap, subst, arith}
+use Rattle.std.proofs.Common.{ℕ, ◌-◌, List, length, length-drop, take, drop, inl, inr, refl, sym, ◌∙◌, ap, subst, arith}
 use Rattle.std.specs.Prelude.{replicate}
-use Rattle.std.proofs.lemmas.List.{take_at, drop_at, take_all}
+use Rattle.std.proofs.lemmas.List.{take_at, take_all}
 use Rattle.der_core.specs.DerElement.{DerElement}
-use Rattle.der_core.specs.Encoding.{encoding, IsDer, IsPaddedEncoding}
-use Rattle.der_core.specs.Reading.{IsFirst, GivesUnlessMemory, RefusesMalformed}
+use Rattle.der_core.specs.Encoding.{encoding, IsPaddedEncoding}
+use Rattle.der_core.specs.Reading.{IsFirst, RefusesMalformed}
 use Rattle.der_core.specs.Fault.{IsFirstFault}
 use Rattle.der_core.specs.declared.fault.DerFault.TheVariants.{Trailing}
 use Rattle.der_core.specs.declared.error.DerError.{DerError}
 use Rattle.der_core.specs.declared.error.DerError.TheVariants as der
 use Rattle.authenticode_core.specs.Basic.{IsPadding, RefusesValue, unread_of}
 use Rattle.authenticode_core.specs.declared.error.CheckError.TheVariants.{Unread}
-use Rattle.authenticode_core.proofs.Keys.{given}
 
 pub IsFirst-padded : (octets : List ℕ) (element : DerElement) → IsPaddedEncoding octets element → IsFirst octets element (length (encoding element))
 IsFirst-padded octets element padded = record {

@@ -1,5 +1,5 @@
 -- What basic validation of a signature file answers, and why.
-use Rattle.std.specs.Prelude.{◌≡◌, ◌≢◌, ◌≤◌, ◌⊎◌, ℕ, drop, replicate, List, [], Option, Some, None, Result, Ok, Err}
+use Rattle.std.specs.Prelude.{◌≡◌, ◌≢◌, ◌≤◌, ◌⊎◌, ℕ, drop, replicate, List, [], Some, Result, Ok, Err}
 use Rattle.sig_core.specs.declared.algorithm.SigAlg.{SigAlg}
 use Rattle.sig_core.specs.declared.algorithm.SigAlg.TheVariants.{RsaSha256}
 use Rattle.sig_core.specs.declared.scheme.Verdict.{Verdict}
@@ -12,12 +12,11 @@ use Rattle.der_core.specs.declared.fault.DerFault.TheVariants.{Trailing}
 use Rattle.der_core.specs.declared.error.DerError.{DerError}
 use Rattle.der_core.specs.declared.error.DerError.TheVariants as der
 use Rattle.wincert_core.specs.Refusal.{certificate_in}
-use Rattle.authenticode_core.specs.PlainForm.{SignatureParts, IsPlainForm, IsPlain, signed_content, signed_message}
+use Rattle.authenticode_core.specs.PlainForm.{SignatureParts, IsPlainForm, signed_message}
 use Rattle.authenticode_core.specs.declared.accepted.Accepted.{Accepted}
 use Rattle.authenticode_core.specs.declared.accepted.Excuse.TheVariants as excuses
 use Rattle.authenticode_core.specs.declared.error.CheckError.{CheckError}
 use Rattle.authenticode_core.specs.declared.error.CheckError.TheVariants.{Win, Unread, NotThisForm, Authenticode, Memory}
-use Rattle.authenticode_core.specs.declared.error.AuthenticodeError.{AuthenticodeError}
 use Rattle.authenticode_core.specs.declared.error.AuthenticodeError.TheVariants as authenticode
 
 -- A scheme's verdict on an algorithm, a key, a message and a signature.

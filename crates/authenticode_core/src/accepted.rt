@@ -1,6 +1,6 @@
 //! What the check of a signature answers.
 
-ghost use Rattle.std.specs.Prelude.{◌≡◌, ◌++◌, ◌∷◌, [], OnOk, OnErr};
+ghost use Rattle.std.specs.Prelude.{◌≡◌, ◌++◌, ◌∷◌, [], IfOk, OnOk, OnErr};
 
 use std::alloc::{AllocError, Global};
 use std::marker::Model;
@@ -42,6 +42,15 @@ impl Places {
     {
         &self.items
     }
+
+    /// A copy of the value.
+    pub fn try_clone(&self, alloc: Global) -> Result<Places, AllocError>
+        ensures { IfOk result (λ copy. copy ≡ self.now) }
+    {
+        Ok(Places {
+            items: Vec::from_slice(alloc, &self.items)?,
+        })
+    }
 }
 
 /// Why the expiry of a signer's certificate is excused.
@@ -49,7 +58,7 @@ impl Places {
 pub enum Excuse {
     /// Nothing is excused.
     None,
-    /// A certificate beside the signer's is for time stamping.
+    /// A certificate of the signature is for time stamping.
     Bag,
     /// A time-stamp token stands beside the signature.
     Token,
@@ -63,4 +72,17 @@ pub struct Accepted {
     /// The places of the certificates that vouch for the signer's.
     pub path: Places,
     pub excuse: Excuse,
+}
+
+impl Accepted {
+    /// A copy of the value.
+    pub fn try_clone(&self, alloc: Global) -> Result<Accepted, AllocError>
+        ensures { IfOk result (λ copy. copy ≡ self.now) }
+    {
+        Ok(Accepted {
+            signer: self.signer,
+            path: self.path.try_clone(alloc)?,
+            excuse: self.excuse,
+        })
+    }
 }

@@ -9,6 +9,8 @@ mod identifiers;
 mod parts;
 mod plain_form;
 mod plain_rules;
+#[cfg(test)]
+mod tests;
 
 pub use accepted::{Accepted, Excuse, Places};
 pub use basic::check_basic;

@@ -20,13 +20,12 @@ const NEW_YEAR: [u8; 11] = *b"0101000000Z";
 fn is_new_year(time: &[u8]) -> bool
     ensures { IsTrue result ↔ IsNewYear time.now }
 {
-    let Some((tens, rest)) = time.split_first() else {
-        return false;
-    };
-    let Some((units, rest)) = rest.split_first() else {
-        return false;
-    };
-    is_digit(*tens) && is_digit(*units) && is_same(rest, &NEW_YEAR)
+    match time {
+        [tens, units, rest @ ..] => {
+            is_digit(*tens) && is_digit(*units) && is_same(rest, &NEW_YEAR)
+        }
+        _ => false,
+    }
 }
 
 fn is_digit(octet: u8) -> bool

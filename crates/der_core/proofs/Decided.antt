@@ -7,11 +7,11 @@ use Rattle.der_core.specs.DerElement.{Primitive, Constructed, Nil, Cons}
 use Rattle.der_core.specs.Encoding.{length_octets, encoding, form_bit, framed}
 use Rattle.der_core.specs.Fault.{header_length, IsFirstFault}
 use Rattle.der_core.specs.Fronts.{some_octets}
-use Rattle.der_core.specs.Head.{IsOctets, head_at}
+use Rattle.der_core.specs.Head.{IsOctets, head_at, HasHead}
 use Rattle.der_core.specs.InnerFault.{ElementFault, KidsFault, Here, Inside, First, Next}
 use Rattle.der_core.specs.Reading.{AreDerWithin, HasElement, HasElements, HasNoFirst}
 use Rattle.der_core.proofs.Lengths.{IsOctets-front}
-use Rattle.der_core.proofs.Heads.{HasHead, head_taken}
+use Rattle.der_core.proofs.Heads.{head_taken}
 use Rattle.der_core.proofs.Elements.{leaf_read, branch_read, first_read}
 use Rattle.der_core.proofs.Faults.{first_fault}
 
@@ -50,7 +50,7 @@ contents_fit levels tag octets contents rest head fits =
 branch_decided : (l tag : ℕ) (octets contents rest : List ℕ) → head_at (suc l) octets ≡ Ok (tag, contents, rest) → HasHead (suc l) octets tag contents rest → form_bit tag ≡ 1 → HasElements l contents ⊎ SomeKidsFault l contents → HasElement (suc l) octets ⊎ SomeFault (suc l) octets
 branch_decided l tag octets contents rest found head bit (inl kids) =
     let same : l ≡ suc l - 1 = omega arith in
-    let read = branch_read (suc l) tag octets contents rest kids.0 head bit (subst (λ (m : ℕ). AreDerWithin m kids.0) same kids.1) kids.2 in
+    let read = branch_read kids.0 head bit (subst (λ (m : ℕ). AreDerWithin m kids.0) same kids.1) kids.2 in
     inl (Constructed tag kids.0, rest, read.0, read.1)
 branch_decided l tag octets contents rest found head bit (inr fault) = inr (header_length contents + fault.0, fault.1, Inside found bit fault.2 refl)
 
@@ -60,7 +60,7 @@ headed l decide octets fits (Ok h) e =
     let head = head_taken (suc l) octets h.0 h.1 h.2 fits e in
     elim (cases_eq (form_bit h.0) 1) [
       | inl bit ↦ branch_decided l h.0 octets h.1 h.2 e head bit (kids_decided l (length h.1) h.1 decide (omega arith) (contents_fit (suc l) h.0 octets h.1 h.2 head fits))
-      | inr other ↦ let read = leaf_read (suc l) h.0 octets h.1 h.2 head other in inl (Primitive h.0 h.1, h.2, read.0, read.1)
+      | inr other ↦ let read = leaf_read head other in inl (Primitive h.0 h.1, h.2, read.0, read.1)
     ]
 
 no_levels : (octets : List ℕ) → IsOctets octets → (r : Result (ℕ × List ℕ × List ℕ) DerFault) → head_at 0 octets ≡ r → SomeFault 0 octets

@@ -5,17 +5,17 @@ use Rattle.der_core.specs.declared.fault.DerFault.{DerFault}
 use Rattle.der_core.specs.DerElement.{DerElement, Primitive, Constructed, DerElements, Nil, Cons, row, tag_of}
 use Rattle.der_core.specs.Encoding.{encoding, encodings, form_bit, IsDerWithin}
 use Rattle.der_core.specs.Fronts.{ok_is, some_octets, fronts}
-use Rattle.der_core.specs.Head.{head_at}
+use Rattle.der_core.specs.Head.{head_at, HasHead}
 use Rattle.der_core.specs.Reading.{AreDerWithin, HasElement, HasElements, IsFirst}
-use Rattle.der_core.proofs.Heads.{HasHead, contents_of, head_again}
+use Rattle.der_core.proofs.Heads.{contents_of, head_again}
 
 -- ---- what is read
 
-pub leaf_read : (levels tag : ℕ) (octets content rest : List ℕ) → HasHead levels octets tag content rest → (form_bit tag ≡ 1 → ⊥) → IsDerWithin levels (Primitive tag content) × (octets ≡ encoding (Primitive tag content) ++ rest)
-leaf_read levels tag octets content rest head bit = (record { formed = (head.is_tag, omega (arith, bit)); nested = head.some; short = head.short }, head.parts)
+pub leaf_read : {levels tag : ℕ} {octets content rest : List ℕ} → HasHead levels octets tag content rest → (form_bit tag ≡ 1 → ⊥) → IsDerWithin levels (Primitive tag content) × (octets ≡ encoding (Primitive tag content) ++ rest)
+leaf_read head bit = (record { formed = (head.is_tag, omega (arith, bit)); nested = head.some; short = head.short }, head.parts)
 
-pub branch_read : (levels tag : ℕ) (octets contents rest : List ℕ) (kids : DerElements) → HasHead levels octets tag contents rest → form_bit tag ≡ 1 → AreDerWithin (levels - 1) kids → contents ≡ encodings kids → IsDerWithin levels (Constructed tag kids) × (octets ≡ encoding (Constructed tag kids) ++ rest)
-branch_read levels tag octets contents rest kids head bit read same =
+pub branch_read : {levels tag : ℕ} {octets contents rest : List ℕ} (kids : DerElements) → HasHead levels octets tag contents rest → form_bit tag ≡ 1 → AreDerWithin (levels - 1) kids → contents ≡ encodings kids → IsDerWithin levels (Constructed tag kids) × (octets ≡ encoding (Constructed tag kids) ++ rest)
+branch_read {levels} {tag} {octets} {rest = rest} kids head bit read same =
     let head' = subst (λ (o : List ℕ). HasHead levels octets tag o rest) same head in
     (record { formed = (head.is_tag, bit, read.formed); nested = omega (arith, read.nested, head.some); short = (head'.short, read.short) }, head'.parts)
 

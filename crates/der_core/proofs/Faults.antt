@@ -7,11 +7,10 @@ use Rattle.der_core.specs.declared.fault.DerFault.{DerFault}
 use Rattle.der_core.specs.DerElement.{DerElement}
 use Rattle.der_core.specs.declared.fault.Malformed.{Malformed}
 use Rattle.der_core.specs.Encoding.{length_octets, framed, encoding, form_bit, IsDerWithin}
-use Rattle.der_core.proofs.Heads.{HasHead}
 use Rattle.der_core.specs.Fault.{header_length, IsStart, Outermost, Within, After, IsFirstFault}
 use Rattle.der_core.specs.InnerFault.{ElementFault, KidsFault, Here, Inside, First, Next}
 use Rattle.der_core.specs.Fronts.{ok_is, some_octets, fronts}
-use Rattle.der_core.specs.Head.{head_at}
+use Rattle.der_core.specs.Head.{head_at, HasHead}
 use Rattle.der_core.specs.Reading.{HasElement, HasElements, IsFirst, RefusesFrom, RefusesMalformed}
 use Rattle.der_core.proofs.Elements.{no_head, no_kids, no_first, rest_goes_on, first_stands}
 
@@ -141,16 +140,16 @@ refuses_in at at' P Q errors.Shape f h = h
 refuses_in at at' P Q errors.TooDeep f h = h
 refuses_in at at' P Q errors.TooLong f h = h
 
-pub head_lengths : (levels tag : ℕ) (octets contents rest : List ℕ) → HasHead levels octets tag contents rest → length octets ≡ header_length contents + length contents + length rest
-head_lengths levels tag octets contents rest head = omega (arith, ap length head.parts, length-append (framed tag contents) rest, length-append (length_octets (length contents)) contents)
+pub head_lengths : {levels tag : ℕ} {octets contents rest : List ℕ} → HasHead levels octets tag contents rest → length octets ≡ header_length contents + length contents + length rest
+head_lengths {tag = tag} {contents = contents} {rest = rest} head = omega (arith, ap length head.parts, length-append (framed tag contents) rest, length-append (length_octets (length contents)) contents)
 
 -- what the refusal of a head is
 pub head_refused : (levels at : ℕ) (octets : List ℕ) (m : Malformed) → m.at ≡ at → head_at levels octets ≡ Err m.fault → RefusesFrom at (ElementFault levels octets) (errors.Malformed m)
 head_refused levels at octets m same fails = (0, same ∙ sym (add-zero at), Here fails)
 
-pub kids_refused : (levels tag at : ℕ) (octets contents rest : List ℕ) (e : DerError) → head_at levels octets ≡ Ok (tag, contents, rest) → HasHead levels octets tag contents rest → form_bit tag ≡ 1 → RefusesFrom (at + (length octets - length rest - length contents)) (KidsFault (levels - 1) contents) e → RefusesFrom at (ElementFault levels octets) e
-kids_refused levels tag at octets contents rest e found head bit refused =
-    let lengths = head_lengths levels tag octets contents rest head in
+pub kids_refused : {levels tag : ℕ} {octets contents rest : List ℕ} (at : ℕ) (e : DerError) → head_at levels octets ≡ Ok (tag, contents, rest) → HasHead levels octets tag contents rest → form_bit tag ≡ 1 → RefusesFrom (at + (length octets - length rest - length contents)) (KidsFault (levels - 1) contents) e → RefusesFrom at (ElementFault levels octets) e
+kids_refused {levels} {tag} {octets} {contents} {rest} at e found head bit refused =
+    let lengths = head_lengths head in
     refuses_in at (at + (length octets - length rest - length contents)) (KidsFault (levels - 1) contents) (ElementFault levels octets) e
     (λ k fault kids. (header_length contents + k, omega arith, fault_of_kids levels tag k octets contents rest fault found head.some bit kids)) refused
 

@@ -7,7 +7,7 @@ use Rattle.der_core.specs.declared.fault.DerFault.TheVariants.{ReservedTag, High
 use Rattle.der_core.specs.DerElement.{DerElement, Primitive, Constructed, tag_of}
 use Rattle.der_core.specs.Encoding.{length_octets, framed, encoding, encodings, IsTag, IsDerWithin}
 use Rattle.der_core.specs.Fronts.{ok_is, length_again}
-use Rattle.der_core.specs.Head.{IsOctets, ◌>>=◌, past_bound, length_at, contents_at, head_at}
+use Rattle.der_core.specs.Head.{IsOctets, ◌>>=◌, past_bound, length_at, contents_at, head_at, HasHead}
 use Rattle.der_core.proofs.Lengths.{bind_ok, guard_ok, HasLength, length_taken}
 
 -- ---- what was written is read again
@@ -37,13 +37,6 @@ head_again levels (Primitive tag content) rest der = framed_again levels tag con
 head_again levels (Constructed tag kids) rest der = framed_again levels tag (encodings kids) rest (omega (arith, der.nested)) der.formed.0 der.short.0
 
 -- ---- what was read is as it was written
-
--- a head that was read from the front of octets
-pub record HasHead (levels : ℕ) (octets : List ℕ) (tag : ℕ) (contents rest : List ℕ) : Type 0 where
-  pub parts : octets ≡ framed tag contents ++ rest
-  pub is_tag : IsTag tag
-  pub short : length contents < 2 ^ 32
-  pub some : 0 < levels
 
 record HasContents (octets contents rest : List ℕ) : Type 0 where
   parts : octets ≡ (length_octets (length contents) ++ contents) ++ rest

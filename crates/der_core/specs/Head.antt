@@ -1,5 +1,6 @@
 -- What an element begins with: the tests of its identifier and length in order, and the first that fails (X.690 8.1.2, 8.1.3, 10.1).
-use Rattle.std.specs.Prelude.{ℕ, ◌+◌, ◌*◌, ◌%◌, ◌^◌, ◌<◌, nat_lt, ◌==◌, if◌then◌else◌, List, [], ◌∷◌, length, take, drop, slice_index, Result, Ok, Err}
+use Rattle.std.specs.Prelude.{◌≡◌, ℕ, ◌+◌, ◌*◌, ◌%◌, ◌^◌, ◌<◌, nat_lt, ◌==◌, if◌then◌else◌, List, [], ◌∷◌, ◌++◌, length, take, drop, slice_index, Result, Ok, Err}
+use Rattle.der_core.specs.Encoding.{framed, IsTag}
 use Rattle.der_core.specs.declared.fault.DerFault.{DerFault}
 use Rattle.der_core.specs.declared.fault.DerFault.TheVariants.{Truncated, ReservedTag, HighTag, Indefinite, NotShortest, WideLength, TooDeep, Overrun}
 
@@ -55,3 +56,10 @@ head_at levels (tag ∷ octets) =
     else (if tag % 32 == 31 then Err HighTag
     else (if levels == 0 then Err TooDeep
     else (contents_at (past_bound levels) octets >>= λ c. Ok (tag, c.0, c.1))))
+
+-- Octets begin with a tag, the shortest length of contents and these, where a level is left.
+pub record HasHead (levels : ℕ) (octets : List ℕ) (tag : ℕ) (contents rest : List ℕ) : Type 0 where
+  pub parts : octets ≡ framed tag contents ++ rest
+  pub is_tag : IsTag tag
+  pub short : length contents < 2 ^ 32
+  pub some : 0 < levels

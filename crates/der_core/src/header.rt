@@ -2,7 +2,7 @@
 
 ghost use Rattle.std.specs.Prelude.{◌≡◌, ◌≤◌, ◌↔◌, length, IsTrue, MatchResult};
 ghost use Rattle.der_core.specs.Encoding.{form_bit};
-ghost use Rattle.der_core.specs.Head.{past_bound, number_from, long_length_at, length_at, contents_at, head_at};
+ghost use Rattle.der_core.specs.Head.{past_bound, number_from, long_length_at, length_at, contents_at, head_at, HasHead};
 
 use crate::fault::{DerFault, Malformed};
 use crate::tree::LEVELS;
@@ -28,10 +28,14 @@ impl Head<'_> {
 /// The octets end where the element has to end at the latest.
 pub fn head_of(octets: &[u8], at: usize, levels: u8) -> Result<Head<'_>, Malformed>
     ensures { MatchResult result
-        (λ head. head_at levels octets.now ≡ Ok (head.tag, head.contents.now, head.rest.now))
+        (λ head. (head_at levels octets.now ≡ Ok (head.tag, head.contents.now, head.rest.now))
+        × HasHead levels octets.now head.tag head.contents.now head.rest.now)
         (λ m. (m.at ≡ at) × (head_at levels octets.now ≡ Err m.fault)) }
 {
-    tested_head(octets, levels).map_err(|fault| Malformed { at, fault })
+    match tested_head(octets, levels) {
+        Ok(head) => Ok(head),
+        Err(fault) => Err(Malformed { at, fault }),
+    }
 }
 
 #[tactic(auto, unfolding(crate::specs::Head::head_at))]

@@ -16,7 +16,7 @@ mod writing;
 
 pub use error::DerError;
 pub use fault::{DerFault, Malformed};
-pub use laws::{no_encoding_begins_another, one_first_fault};
+pub use laws::{no_encoding_begins_another, one_first_fault, tests_of_a_head};
 pub use octets::Octets;
 pub use raw::Raw;
 pub use reading::{read_exact, read_first};

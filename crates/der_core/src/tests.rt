@@ -174,6 +174,23 @@ fn levels(rt: HostRuntime) -> Result<(), Fail> {
 }
 
 #[test]
+fn copies_of_trees(rt: HostRuntime) -> Result<(), Fail> {
+    let mut kids = Trees::new(rt.alloc());
+    kids.push(read_exact(rt.alloc(), &[5, 0])?)?;
+    kids.push(read_exact(rt.alloc(), &[0x31, 2, 4, 0])?)?;
+    let copies = kids.try_clone(rt.alloc())?;
+    let tree = Tree::branch(0x30, copies);
+    let Some([null, set]) = tree.kids() else {
+        return Err(Fail::from("there are two kids"));
+    };
+    assert_eq!(rt; null.tag(), 5);
+    assert_eq!(rt; null.content(), Some([].as_slice()));
+    assert_eq!(rt; set.tag(), 0x31);
+    assert_eq!(rt; set.content(), None);
+    Ok(())
+}
+
+#[test]
 fn kept_octets(rt: HostRuntime) -> Result<(), Fail> {
     let octets = [0x30, 3, 2, 1, 5];
     let tree = read_exact(rt.alloc(), &octets)?;
@@ -185,7 +202,7 @@ fn kept_octets(rt: HostRuntime) -> Result<(), Fail> {
 
     let copy = raw.try_clone(rt.alloc())?;
     assert_eq!(rt; copy.as_bytes(), octets.as_slice());
-    let again = copy.tree(rt.alloc())?;
+    let again = copy.tree(rt.alloc())?.try_clone(rt.alloc())?;
     let written = write(rt.alloc(), &again)?;
     assert_eq!(rt; written.as_slice(), octets.as_slice());
     Ok(())

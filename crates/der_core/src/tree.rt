@@ -92,6 +92,35 @@ impl Tree {
             Form::Constructed(_, kids) => Some(kids.as_slice()),
         }
     }
+
+    /// A copy of the value.
+    pub fn try_clone(&self, alloc: Global) -> Result<Tree, AllocError>
+        ensures { IfOk result (λ copy. copy ≡ self.now) }
+    {
+        copy_of(alloc, self)
+    }
+}
+
+#[cycle(copying)]
+fn copy_of(alloc: Global, tree: &Tree) -> Result<Tree, AllocError>
+    ensures { IfOk result (λ copy. copy ≡ tree.now) }
+{
+    match &tree.form {
+        Form::Primitive(tag, content) => Ok(Tree::leaf(*tag, content.try_clone(alloc)?)),
+        Form::Constructed(tag, kids) => Ok(Tree::branch(*tag, copies_of(alloc, kids)?)),
+    }
+}
+
+/// A copy of each tree.
+#[cycle(copying)]
+fn copies_of(alloc: Global, kids: &[Tree]) -> Result<Trees, AllocError>
+    ensures { IfOk result (λ copies. copies ≡ kids.now) }
+{
+    let mut copies = Trees::new(alloc);
+    for kid in kids {
+        copies.push(copy_of(alloc, kid)?)?;
+    }
+    Ok(copies)
 }
 
 /// Trees in order, seen by contracts as the list of them.
@@ -135,5 +164,12 @@ impl Trees {
         ensures { result.now ≡ self.now }
     {
         &self.items
+    }
+
+    /// A copy of the value.
+    pub fn try_clone(&self, alloc: Global) -> Result<Trees, AllocError>
+        ensures { IfOk result (λ copy. copy ≡ self.now) }
+    {
+        copies_of(alloc, self.as_slice())
     }
 }

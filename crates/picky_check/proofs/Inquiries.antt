@@ -1,5 +1,5 @@
 -- What is found out about the files of a task follows from how they were read and what they say.
-use Rattle.std.proofs.Common.{◌≡◌, ◌⊎◌, ℕ, ◌<◌, ◌≤◌, List, length, Option, Some, IsSome, Result, Ok, Err, IfOk, IfErr, inl, inr, refl, ap, subst, arith}
+use Rattle.std.proofs.Common.{◌≡◌, ℕ, ◌≤◌, List, length, Option, Some, IsSome, Result, Err, IfOk, IfErr, inl, inr, refl, ap, subst, arith}
 use Rattle.std.proofs.lemmas.Result.{IfOk-weaker, IfErr-weaker}
 use Rattle.sig_core.specs.declared.verdict_row.VerdictRow.{VerdictRow}
 use Rattle.sig_core.specs.VerdictTable.{IsTable, IsFirstBadLine, verdict_of}
@@ -15,8 +15,8 @@ use Rattle.picky_check.specs.Counts.{HasRisen}
 use Rattle.picky_check.specs.Limits.{longest_file}
 use Rattle.picky_check.specs.Stops.{stop_for_file}
 use Rattle.picky_check.specs.Shelf.{Files, file_of}
-use Rattle.picky_check.specs.Words.{Task, Basic}
-use Rattle.picky_check.specs.Program.{IsLong, HasFiles, HasLongFile, RisesBeyond}
+use Rattle.picky_check.specs.Words.{Basic}
+use Rattle.picky_check.specs.Program.{IsLong, HasLongFile, RisesBeyond}
 use Rattle.picky_check.specs.Inquiry.{IsReportOf, GivesReport, GivesStop, StopsForText, IsStopped, IsInquiry}
 use Rattle.picky_check.proofs.Reported.{GivesReport-memory, told, is_there}
 

@@ -4,3 +4,4 @@ pub mod Adding
 pub mod Reported
 pub mod Inquiries
 pub mod Runs
+pub mod Vouching

@@ -7,9 +7,6 @@ use Rattle.authenticode_core.specs.Basic.{IsSameUnlessMemory}
 use Rattle.picky_check.specs.declared.report.Report.{Report}
 use Rattle.picky_check.specs.declared.stop.Stop.{Stop}
 use Rattle.picky_check.specs.declared.stop.Stop.TheVariants as stop
-use Rattle.picky_check.specs.declared.error.FileError.{FileError}
-use Rattle.picky_check.specs.declared.error.FileError.TheVariants as file
-use Rattle.picky_check.specs.Stops.{stop_for_file}
 use Rattle.picky_check.specs.Shelf.{Files, file_of}
 use Rattle.picky_check.specs.Inquiry.{IsReported, GivesReport}
 

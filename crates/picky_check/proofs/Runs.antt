@@ -1,5 +1,5 @@
 -- What a run does follows from what was found out about the files, and from what the sink took.
-use Rattle.std.proofs.Common.{◌≡◌, ◌≢◌, ◌⊎◌, ℕ, ◌<◌, ◌≤◌, List, length, Option, Some, None, IsSome, Result, Ok, Err, inl, inr, refl, sym, ◌∙◌, ap, subst, arith}
+use Rattle.std.proofs.Common.{◌≡◌, ◌≢◌, ◌⊎◌, ℕ, ◌<◌, ◌≤◌, List, Option, Some, None, IsSome, Result, Ok, Err, inl, inr, refl, sym, ◌∙◌, ap, subst, arith}
 use Rattle.std.specs.Prelude.{string_bytes}
 use Rattle.authenticode_core.specs.declared.accepted.Accepted.{Accepted}
 use Rattle.authenticode_core.specs.declared.error.CheckError.{CheckError}
@@ -9,12 +9,12 @@ use Rattle.picky_check.specs.declared.stop.Stop.{Stop}
 use Rattle.picky_check.specs.declared.stop.Stop.TheVariants as stop
 use Rattle.picky_check.specs.Counts.{HasRisen}
 use Rattle.picky_check.specs.Shelf.{Files}
-use Rattle.picky_check.specs.Sink.{Appends, Keeps, HasRoom, IsCutShort}
+use Rattle.picky_check.specs.Sink.{Appends}
 use Rattle.picky_check.specs.Stops.{status_for}
 use Rattle.picky_check.specs.Words.{Task, task_of}
-use Rattle.picky_check.specs.Program.{line_of, status_of, HasFiles, HasLongFile, HasBadTable, IsAnswered, RisesBeyond}
+use Rattle.picky_check.specs.Program.{line_of, status_of, IsAnswered}
 use Rattle.picky_check.specs.Inquiry.{IsReportOf, GivesReport, GivesStop, IsStopped, IsInquiry}
-use Rattle.picky_check.specs.Run.{IsRun, IsCut, Reports, ReportsInPart}
+use Rattle.picky_check.specs.Run.{IsRun, IsCut, Reports}
 
 -- words ask for a task, or for none
 by_task : (o : Option Task) → (o ≡ None) ⊎ ((task : Task) × (o ≡ Some task))

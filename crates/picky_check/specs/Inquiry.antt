@@ -1,11 +1,9 @@
 -- What is found out about the files of a task, before anything is written.
-use Rattle.std.specs.Prelude.{◌≡◌, ◌≢◌, ◌⊎◌, ℕ, List, Option, IsSome, Result, Ok, Err, IfOk, IfErr, MatchResult, string_bytes}
-use Rattle.sig_core.specs.declared.verdict_row.VerdictRow.{VerdictRow}
-use Rattle.sig_core.specs.VerdictTable.{IsTable, IsFirstBadLine, verdict_of}
+use Rattle.std.specs.Prelude.{◌≡◌, ◌⊎◌, ℕ, List, Option, IsSome, Result, Err, IfOk, IfErr, MatchResult, string_bytes}
+use Rattle.sig_core.specs.VerdictTable.{IsFirstBadLine}
 use Rattle.authenticode_core.specs.declared.accepted.Accepted.{Accepted}
 use Rattle.authenticode_core.specs.declared.error.CheckError.{CheckError}
 use Rattle.authenticode_core.specs.declared.error.CheckError.TheVariants as check
-use Rattle.authenticode_core.specs.Basic.{IsBasicAnswer}
 use Rattle.picky_check.specs.declared.stop.Stop.{Stop}
 use Rattle.picky_check.specs.declared.stop.Stop.TheVariants.{Usage, BadTable, Shelf, TooLong, Memory}
 use Rattle.picky_check.specs.declared.report.Report.{Report}

@@ -11,3 +11,4 @@ pub mod Program
 pub mod Stops
 pub mod Inquiry
 pub mod Run
+pub mod Headline

@@ -1,5 +1,5 @@
 -- What a run answers: the files that the words name, the answer about them, and the line that reports it.
-use Rattle.std.specs.Prelude.{◌≡◌, ◌≢◌, ◌⊎◌, ℕ, ◌+◌, ◌<◌, List, length, Option, Some, None, IsSome, Result, Ok, Err, codes, string_bytes}
+use Rattle.std.specs.Prelude.{◌≡◌, ◌⊎◌, ℕ, ◌+◌, ◌<◌, List, length, Option, Some, IsSome, Result, Ok, Err, codes}
 use Rattle.wincert_core.specs.declared.error.WinCertificateError.{WinCertificateError}
 use Rattle.wincert_core.specs.declared.error.WinCertificateError.TheVariants as win
 use Rattle.sig_core.specs.declared.verdict_row.VerdictRow.{VerdictRow}
@@ -12,7 +12,7 @@ use Rattle.authenticode_core.specs.declared.error.CheckError.TheVariants as chec
 use Rattle.authenticode_core.specs.declared.error.AuthenticodeError.{AuthenticodeError}
 use Rattle.authenticode_core.specs.declared.error.AuthenticodeError.TheVariants as authenticode
 use Rattle.authenticode_core.specs.Basic.{IsBasicAnswer}
-use Rattle.picky_check.specs.Counts.{last_count, HasRisen}
+use Rattle.picky_check.specs.Counts.{last_count}
 use Rattle.picky_check.specs.Limits.{longest_file}
 use Rattle.picky_check.specs.Report.{accepted_line, refused_line}
 use Rattle.picky_check.specs.Shelf.{Files, file_of}

@@ -1,5 +1,5 @@
 -- Why a run ends without a report.
-use Rattle.std.specs.Prelude.{◌≡◌, ℕ, IsSome, Option, List}
+use Rattle.std.specs.Prelude.{ℕ}
 use Rattle.sig_core.specs.declared.verdict_table.TableError.{TableError}
 use Rattle.sig_core.specs.declared.verdict_table.TableError.TheVariants as table
 use Rattle.picky_check.specs.declared.error.FileError.{FileError}

@@ -1,13 +1,14 @@
 //! A run of the program: words, files, report, and the status that it ends with.
 
-ghost use Rattle.std.specs.Prelude.{◌≡◌, ◌≢◌, ◌⊎◌, ◌<◌, ◌≤◌, length, Result, Ok, Err, Some, None, map, string_bytes, IsSome};
+ghost use Rattle.std.specs.Prelude.{◌≡◌, ◌≢◌, ◌⊎◌, ◌<◌, ◌≤◌, ℕ, List, length, Result, Ok, Err, Some, None, map, string_bytes, IsSome};
 ghost use Rattle.authenticode_core.specs.declared.accepted.Accepted.{Accepted};
 ghost use Rattle.authenticode_core.specs.declared.error.CheckError.{CheckError};
 ghost use Rattle.picky_check.specs.Counts.{HasRisen};
+ghost use Rattle.picky_check.specs.Headline.{IsVouchedFor};
 ghost use Rattle.picky_check.specs.Program.{line_of, status_of, HasFiles, HasLongFile, HasBadTable, IsAnswered, RisesBeyond};
 ghost use Rattle.picky_check.specs.Run.{IsRun, IsCut, Reports, ReportsInPart};
 ghost use Rattle.picky_check.specs.Sink.{Appends, Keeps, HasRoom};
-ghost use Rattle.picky_check.specs.Words.{Task, task_of};
+ghost use Rattle.picky_check.specs.Words.{Task, Basic, task_of};
 
 use crate::inquiry::inquire;
 use crate::report::Report;
@@ -31,8 +32,11 @@ use std::alloc::Global;
 pub fn run<F: Shelf, O: Sink>(alloc: Global, words: &[String], shelf: &mut F, out: &mut O) -> u8
     ensures bounded { result ≤ 7 }
 
-    // Acceptance means vouched for: by the verdicts of the table that the words name, the answer about
-    // the signature file that they name, with the hash that they give, is Ok; and the line says so.
+    // Acceptance means vouched for.
+    ensures vouched_for { result ≡ 0 → IsSome (F.files shelf.old) → (signature table hash : List ℕ)
+        × (task_of (map string_bytes words.now) ≡ Some (Basic signature table hash)) × IsVouchedFor (F.files shelf.old) signature table hash }
+
+    // A report is the answer about the files, and its line was written.
     ensures accepted { result ≡ 0 → (a : Accepted)
         × Reports (map string_bytes words.now) (F.files shelf.old) (O.held out.old) (O.held out.new) (Ok a) }
     ensures refused { result ≡ 1 → (e : CheckError) × (e ≢ CheckError.Memory)

@@ -1,4 +1,4 @@
-use Rattle.std.proofs.Common.{refl, subst}
+use Rattle.std.proofs.Common.{subst}
 use Rattle.std.proofs.lemmas.Bool.{false≢true}
 use Rattle.der_core.specs.Encoding.{IsPaddedEncoding}
 use Rattle.authenticode_core.specs.PlainForm.{IsPlain, IsPlainForm}

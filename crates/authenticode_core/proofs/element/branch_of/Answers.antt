@@ -1,7 +1,3 @@
-use Rattle.std.proofs.Common.{List, subst, ◌∙◌}
-use Rattle.std.specs.Borrow.{Bor}
-use Rattle.der_core.specs.DerElement.{DerElement, Constructed, row}
-use Rattle.authenticode_core.specs.Reads.{Reads}
 use Rattle.authenticode_core.proofs.Kids.{Reads-kids}
 use Rattle.authenticode_core.proofs.element.branch_of.Goals as goal
 

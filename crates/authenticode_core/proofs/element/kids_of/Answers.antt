@@ -1,7 +1,4 @@
-use Rattle.std.proofs.Common.{◌≡◌, ◌≢◌, ℕ, List, length, Option, Some, None, Result, Ok, Err, MatchResult, MatchOption, ap, sym, ◌∙◌, subst}
-use Rattle.std.specs.Result.{result_ok}
-use Rattle.std.specs.Array.{IsWholeChunk}
-use Rattle.std.specs.Borrow.{Bor}
+use Rattle.std.proofs.Common.{ap, sym, ◌∙◌}
 use Rattle.der_core.specs.DerElement.{Constructed, listed, row-listed}
 use Rattle.authenticode_core.proofs.Kids.{chunk_of_kids}
 use Rattle.authenticode_core.proofs.element.kids_of.Goals as goal

@@ -5,7 +5,6 @@ use Rattle.std.proofs.lemmas.Result.{err_from_is_err_and}
 use Rattle.der_core.specs.DerElement.{row}
 use Rattle.der_core.specs.Encoding.{encoding, encodings}
 use Rattle.der_core.specs.InnerFault.{ElementFault, KidsFault, First, Next}
-use Rattle.der_core.proofs.Heads.{head_taken}
 use Rattle.der_core.proofs.Elements.{leaf_read, branch_read, push_read, encodings_push}
 use Rattle.der_core.proofs.Faults.{refuses_in, head_lengths, head_refused, kids_refused}
 use Rattle.der_core.proofs.reading.+reading.Goals as goal
@@ -17,41 +16,35 @@ tree_of-returns-in_err-head t c =
 
 pub tree_of-overflow_sub-inner : goal.tree_of-overflow_sub-inner
 tree_of-overflow_sub-inner t c =
-    let head = head_taken c.args.levels c.args.octets.now c.in_ok-head.head.tag c.in_ok-head.head.contents.now c.in_ok-head.head.rest.now (λ i. omega (arith, c.type_inv.octets i)) c.in_ok-head.ensures in
-    omega (arith, head_lengths c.args.levels c.in_ok-head.head.tag c.args.octets.now c.in_ok-head.head.contents.now c.in_ok-head.head.rest.now head)
+    omega (arith, head_lengths c.in_ok-head.ensures.1)
 
 pub tree_of-overflow_sub-inner-then-is_constructed : goal.tree_of-overflow_sub-inner-then-is_constructed
 tree_of-overflow_sub-inner-then-is_constructed t c =
-    let head = head_taken c.args.levels c.args.octets.now c.in_ok-head.head.tag c.in_ok-head.head.contents.now c.in_ok-head.head.rest.now (λ i. omega (arith, c.type_inv.octets i)) c.in_ok-head.ensures in
-    omega (arith, head_lengths c.args.levels c.in_ok-head.head.tag c.args.octets.now c.in_ok-head.head.contents.now c.in_ok-head.head.rest.now head)
+    omega (arith, head_lengths c.in_ok-head.ensures.1)
 
 pub tree_of-overflow_sub-levels : goal.tree_of-overflow_sub-levels
 tree_of-overflow_sub-levels t c =
-    (head_taken c.args.levels c.args.octets.now c.in_ok-head.head.tag c.in_ok-head.head.contents.now c.in_ok-head.head.rest.now (λ i. omega (arith, c.type_inv.octets i)) c.in_ok-head.ensures).some
+    c.in_ok-head.ensures.1.some
 
 pub tree_of-trees_of-requires : goal.tree_of-trees_of-requires
 tree_of-trees_of-requires t c =
-    let head = head_taken c.args.levels c.args.octets.now c.in_ok-head.head.tag c.in_ok-head.head.contents.now c.in_ok-head.head.rest.now (λ i. omega (arith, c.type_inv.octets i)) c.in_ok-head.ensures in
-    let lengths = head_lengths c.args.levels c.in_ok-head.head.tag c.args.octets.now c.in_ok-head.head.contents.now c.in_ok-head.head.rest.now head in
-    (omega (arith, head.some, c.decreases), omega (arith, c.requires))
+    let lengths = head_lengths c.in_ok-head.ensures.1 in
+    (omega (arith, c.in_ok-head.ensures.1.some, c.decreases), omega (arith, c.requires))
 
 pub tree_of-returns-in_err-kids : goal.tree_of-returns-in_err-kids
 tree_of-returns-in_err-kids t c =
     let p = err_from_is_err_and c.from_residual-in_err-kids.result c.from_residual-in_err-kids.ensures.1 in
-    let head = head_taken c.args.levels c.args.octets.now c.in_ok-head.head.tag c.in_ok-head.head.contents.now c.in_ok-head.head.rest.now (λ i. omega (arith, c.type_inv.octets i)) c.in_ok-head.ensures in
     let bit = c.is_constructed.ensures.0 c.if-is_constructed.true in
-    rw (p.1, p.2) (kids_refused c.args.levels c.in_ok-head.head.tag c.args.at c.args.octets.now c.in_ok-head.head.contents.now c.in_ok-head.head.rest.now c.in_err-kids.field-0.0 c.in_ok-head.ensures head bit c.in_err-kids.ensures)
+    rw (p.1, p.2) (kids_refused c.args.at c.in_err-kids.field-0.0 c.in_ok-head.ensures.0 c.in_ok-head.ensures.1 bit c.in_err-kids.ensures)
 
 pub tree_of-returns-in_ok-kids : goal.tree_of-returns-in_ok-kids
 tree_of-returns-in_ok-kids t c =
-    let head = head_taken c.args.levels c.args.octets.now c.in_ok-head.head.tag c.in_ok-head.head.contents.now c.in_ok-head.head.rest.now (λ i. omega (arith, c.type_inv.octets i)) c.in_ok-head.ensures in
     let bit = c.is_constructed.ensures.0 c.if-is_constructed.true in
-    rw c.branch-head-then-is_constructed.ensures (branch_read c.args.levels c.in_ok-head.head.tag c.args.octets.now c.in_ok-head.head.contents.now c.in_ok-head.head.rest.now (row c.in_ok-kids.kids) head bit c.in_ok-kids.ensures.0 c.in_ok-kids.ensures.1)
+    rw c.branch-head-then-is_constructed.ensures (branch_read (row c.in_ok-kids.kids) c.in_ok-head.ensures.1 bit c.in_ok-kids.ensures.0 c.in_ok-kids.ensures.1)
 
 pub tree_of-returns-in_ok-content : goal.tree_of-returns-in_ok-content
 tree_of-returns-in_ok-content t c =
-    let head = head_taken c.args.levels c.args.octets.now c.in_ok-head.head.tag c.in_ok-head.head.contents.now c.in_ok-head.head.rest.now (λ i. omega (arith, c.type_inv.octets i)) c.in_ok-head.ensures in
-    rw (c.leaf.ensures, c.in_ok-content.ensures) (leaf_read c.args.levels c.in_ok-head.head.tag c.args.octets.now c.in_ok-head.head.contents.now c.in_ok-head.head.rest.now head (iff_false c.is_constructed.ensures c.if-is_constructed.false))
+    rw (c.leaf.ensures, c.in_ok-content.ensures) (leaf_read c.in_ok-head.ensures.1 (iff_false c.is_constructed.ensures c.if-is_constructed.false))
 
 pub trees_of-returns-in_err-kid : goal.trees_of-returns-in_err-kid
 trees_of-returns-in_err-kid t c =

@@ -1,4 +1,4 @@
-use Rattle.std.proofs.Common.{Err, ap, sym, ◌∙◌}
+use Rattle.std.proofs.Common.{Err, ap}
 use Rattle.std.proofs.lemmas.Result.{err_from_is_err_and}
 use Rattle.picky_check.proofs.Inquiries.{IsInquiry-unread, IsInquiry-read}
 use Rattle.picky_check.proofs.inquiry.check_files.Goals as goal

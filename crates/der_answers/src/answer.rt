@@ -1,0 +1,71 @@
+//! The answers of the reader to some octets.
+
+ghost use Rattle.std.specs.Prelude.{◌≡◌, length, IfOk};
+ghost use Rattle.der_core.specs.Encoding.{IsWellFormed, encoding};
+ghost use Rattle.der_answers.specs.Answer.{IsFirstAnswer, IsExactAnswer};
+
+use der_core::{DerError, Malformed, Tree, read_exact, read_first, write};
+use std::alloc::Global;
+use std::fmt;
+
+/// What a call of the reader answers.
+#[derive(Clone, Copy, Debug)]
+pub enum Answer {
+    /// An element was read that takes so many octets, and writing it gives them.
+    Read(usize),
+    /// An element was read, and writing it gives other octets, which no proof lets come.
+    Rewritten,
+    /// The octets are refused.
+    Refused(Malformed),
+}
+
+impl fmt::Display for Answer {
+    fn fmt<W: fmt::Write>(&self, f: &mut fmt::Formatter<W>) -> fmt::Result {
+        match self {
+            Answer::Read(taken) => write!(f, "ok {taken}"),
+            Answer::Rewritten => write!(f, "Rewritten"),
+            Answer::Refused(Malformed { at, fault }) => write!(f, "{fault:?} {at}"),
+        }
+    }
+}
+
+/// Adds the answers of `read_first` and `read_exact`, as a line.
+pub fn push_answers(alloc: Global, lines: &mut String, octets: &[u8]) -> Result<(), DerError> {
+    let first = first_answer(alloc, octets)?;
+    let exact = exact_answer(alloc, octets)?;
+    writeln!(lines, "{first} {exact}")?;
+    Ok(())
+}
+
+fn first_answer(alloc: Global, octets: &[u8]) -> Result<Answer, DerError>
+    ensures { IfOk result (IsFirstAnswer octets.now) }
+{
+    match read_first(alloc, octets) {
+        Ok((tree, taken)) => answer_of(alloc, &tree, &octets[..taken]),
+        Err(DerError::Malformed(malformed)) => Ok(Answer::Refused(malformed)),
+        Err(error) => Err(error),
+    }
+}
+
+fn exact_answer(alloc: Global, octets: &[u8]) -> Result<Answer, DerError>
+    ensures { IfOk result (IsExactAnswer octets.now) }
+{
+    match read_exact(alloc, octets) {
+        Ok(tree) => answer_of(alloc, &tree, octets),
+        Err(DerError::Malformed(malformed)) => Ok(Answer::Refused(malformed)),
+        Err(error) => Err(error),
+    }
+}
+
+/// The answer where a tree was read, and the octets that it took.
+fn answer_of(alloc: Global, tree: &Tree, taken: &[u8]) -> Result<Answer, DerError>
+    requires formed { IsWellFormed tree.now }
+    requires spelled { taken.now ≡ encoding tree.now }
+    ensures { IfOk result (λ answer. answer ≡ Answer.Read (length taken.now)) }
+{
+    if write(alloc, tree)?.as_slice() == taken {
+        Ok(Answer::Read(taken.len()))
+    } else {
+        Ok(Answer::Rewritten)
+    }
+}

@@ -1,0 +1,36 @@
+//! What the reader of DER makes of many inputs, for a comparison with another reader.
+//!
+//! ```text
+//! der_answers cases FILE
+//! der_answers digests PREFIX COUNT
+//! ```
+//!
+//! `tools/compare_readers.py` says what the words ask for and what is printed.
+#![tactic(auto)]
+
+mod answer;
+mod blocks;
+mod cases;
+mod family;
+mod request;
+
+use anyhow::Result;
+use request::Request;
+use std::io::{BufWriter, Write};
+use std::{env, fs, io};
+
+fn main(rt: HostRuntime) -> Result<()> {
+    let words: Vec<String> = env::args(&rt)?.skip(1).collect(rt.alloc())?;
+    let mut out = BufWriter::new(rt.alloc(), io::writer(&rt))?;
+    match Request::from_words(rt.alloc(), &words)? {
+        Request::Cases { path } => {
+            let file = fs::read(&rt, path)?;
+            cases::print_answers(rt.alloc(), &file, &mut out)?;
+        }
+        Request::Digests(family) => {
+            blocks::print_digests(rt.alloc(), &family, &mut out)?;
+        }
+    }
+    out.flush()?;
+    Ok(())
+}
