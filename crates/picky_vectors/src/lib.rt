@@ -1,12 +1,14 @@
-//! Rows of inputs and what is answered to them: words and files for a whole run, long elements
-//! for the reader and the writer. The expected values come from the standards and from the tools
-//! beside the crates.
+//! Rows of inputs and what is answered to them: words and files for a whole run, octets for the
+//! readers of elements. The expected values come from the standards and from the tools beside the
+//! crates.
 #![tactic(auto)]
 
 #[cfg(test)]
 mod answers;
 #[cfg(test)]
 mod elements;
+#[cfg(test)]
+mod hostile;
 #[cfg(test)]
 mod limits;
 #[cfg(test)]
