@@ -1,7 +1,7 @@
 //! The answers of the reader to some octets.
 
-ghost use Rattle.std.specs.Prelude.{◌≡◌, length, IfOk};
-ghost use Rattle.der_core.specs.Encoding.{IsWellFormed, encoding};
+ghost use Rattle.std.specs.Prelude.{◌≡◌, length, IfOk, IfErr};
+ghost use Rattle.der_core.specs.Encoding.{IsDer, encoding};
 ghost use Rattle.der_answers.specs.Answer.{IsFirstAnswer, IsExactAnswer};
 
 use der_core::{DerError, Malformed, Tree, read_exact, read_first, write};
@@ -38,7 +38,8 @@ pub fn push_answers(alloc: Global, lines: &mut String, octets: &[u8]) -> Result<
 }
 
 fn first_answer(alloc: Global, octets: &[u8]) -> Result<Answer, DerError>
-    ensures { IfOk result (IsFirstAnswer octets.now) }
+    ensures answer { IfOk result (IsFirstAnswer octets.now) }
+    ensures memory { IfErr result (λ error. error ≡ DerError.Memory) }
 {
     match read_first(alloc, octets) {
         Ok((tree, taken)) => answer_of(alloc, &tree, &octets[..taken]),
@@ -48,7 +49,8 @@ fn first_answer(alloc: Global, octets: &[u8]) -> Result<Answer, DerError>
 }
 
 fn exact_answer(alloc: Global, octets: &[u8]) -> Result<Answer, DerError>
-    ensures { IfOk result (IsExactAnswer octets.now) }
+    ensures answer { IfOk result (IsExactAnswer octets.now) }
+    ensures memory { IfErr result (λ error. error ≡ DerError.Memory) }
 {
     match read_exact(alloc, octets) {
         Ok(tree) => answer_of(alloc, &tree, octets),
@@ -59,9 +61,10 @@ fn exact_answer(alloc: Global, octets: &[u8]) -> Result<Answer, DerError>
 
 /// The answer where a tree was read, and the octets that it took.
 fn answer_of(alloc: Global, tree: &Tree, taken: &[u8]) -> Result<Answer, DerError>
-    requires formed { IsWellFormed tree.now }
+    requires der { IsDer tree.now }
     requires spelled { taken.now ≡ encoding tree.now }
-    ensures { IfOk result (λ answer. answer ≡ Answer.Read (length taken.now)) }
+    ensures answer { IfOk result (λ answer. answer ≡ Answer.Read (length taken.now)) }
+    ensures memory { IfErr result (λ error. error ≡ DerError.Memory) }
 {
     if write(alloc, tree)?.as_slice() == taken {
         Ok(Answer::Read(taken.len()))

@@ -13,6 +13,8 @@ mod blocks;
 mod cases;
 mod family;
 mod request;
+#[cfg(test)]
+mod tests;
 
 use anyhow::Result;
 use request::Request;
