@@ -3,7 +3,7 @@
 
 Usage:
 
-    python3 bench/basic.py [--repetitions N] PROGRAM
+    python3 bench/basic.py [--repetitions N] [--processor] PROGRAM
 
 makes signature files of 1, 4 and 16 MiB by `tools/first_path.py`, once with
 the bulk in a name and once with the bulk in a modulus, and runs in turn
@@ -18,6 +18,9 @@ table is printed, and the status is 1 where a limit is passed, else 0:
            openssl for the same file in the same run;
   growth   from 4 to 16 MiB the median grows at most 5 times;
   memory   the greatest resident memory is at most 6 times the file.
+
+Time is that on the clock.  On a machine that is busy with other things it
+says little: `--processor` takes the time that processors worked instead.
 
 Resident memory is what the system tells when the command ends.  It counts
 what the process had that started the command (`measure.py`, some 9 MiB), so
@@ -50,9 +53,13 @@ MOST_TIME = 12
 MOST_GROWTH = 5
 MOST_MEMORY = 6
 
+# What starts the commands has not always the same memory.
+UNSEEN = MIB // 2
+
 
 class Run(NamedTuple):
-    seconds: float
+    clock: float
+    processor: float
     resident: int
 
 
@@ -99,10 +106,10 @@ def measured(words, expected=None):
     """Run a command, and see that it prints what is expected."""
     printed = subprocess.run([*MEASURE, *words], check=True, stdout=subprocess.PIPE).stdout
     output, _, figures = printed.rstrip(b"\n").rpartition(b"\n")
-    seconds, resident, status = figures.split()
+    clock, processor, resident, status = figures.split()
     if int(status) != 0 or expected not in (None, output):
         sys.exit(f"{' '.join(words)}: status {int(status)}, printed {output!r}")
-    return Run(float(seconds), int(resident))
+    return Run(float(clock), float(processor), int(resident))
 
 
 def openssl(case):
@@ -131,39 +138,41 @@ def runs(program, cases, repetitions):
 
 # The report.
 
-def seconds(measurements):
-    return median(run.seconds for run in measurements)
+def seconds(measurements, time):
+    return median(getattr(run, time) for run in measurements)
 
 
 def judged(value, limit):
     return f"{value:.2f}" if value <= limit else f"**{value:.2f}**"
 
 
-def report(rounds, floor):
-    """Print the table; whether every limit is kept."""
+def report(rounds, time, floor):
+    """Print the table, by one of the times of a Run; whether every limit is kept."""
     kept = True
     print(f"| bulk in | MiB | openssl ms | basic ms | time, at most {MOST_TIME} "
           f"| growth from 4 to 16 MiB, at most {MOST_GROWTH} "
           f"| resident MiB | memory, at most {MOST_MEMORY} |")
     print("|---|---:|---:|---:|---:|---:|---:|---:|")
-    medians = {(case.bulk, case.size): seconds(checks) for case, (_, checks) in rounds.items()}
+    medians = {}
     for case, (digests, checks) in rounds.items():
         octets = case.size * MIB
         resident = max(run.resident for run in checks)
-        ratio = seconds(checks) / seconds(digests)
+        digest, check = seconds(digests, time), seconds(checks, time)
+        medians[case.bulk, case.size] = check
+        ratio = check / digest
         kept &= ratio <= MOST_TIME
         growth = memory = ""
         if case.size == 16:
             growing = medians[case.bulk, 16] / medians[case.bulk, 4]
             kept &= growing <= MOST_GROWTH
             growth = judged(growing, MOST_GROWTH)
-        if resident > floor:
+        if resident > floor + UNSEEN:
             kept &= resident <= MOST_MEMORY * octets
             memory = judged(resident / octets, MOST_MEMORY)
         else:
-            memory = f"under {floor / octets:.2f}"
-        print(f"| {case.bulk} | {case.size} | {1000 * seconds(digests):.1f} "
-              f"| {1000 * seconds(checks):.1f} | {judged(ratio, MOST_TIME)} "
+            memory = f"under {resident / octets:.2f}"
+        print(f"| {case.bulk} | {case.size} | {1000 * digest:.1f} | {1000 * check:.1f} "
+              f"| {judged(ratio, MOST_TIME)} "
               f"| {growth} | {resident / MIB:.1f} | {memory} |")
     return kept
 
@@ -171,6 +180,9 @@ def report(rounds, floor):
 def main():
     parser = argparse.ArgumentParser(description="Time and memory of `picky basic`.")
     parser.add_argument("--repetitions", type=int, default=7)
+    parser.add_argument("--processor", dest="time", action="store_const",
+                        const="processor", default="clock",
+                        help="judge by the time that processors worked")
     parser.add_argument("program", help="path of the executable")
     options = parser.parse_args()
     with tempfile.TemporaryDirectory() as name:
@@ -178,7 +190,7 @@ def main():
         make_files(folder)
         rounds = runs(options.program, cases_in(folder), options.repetitions)
         floor = max(measured(["true"]).resident for _ in range(3))
-    return 0 if report(rounds, floor) else 1
+    return 0 if report(rounds, options.time, floor) else 1
 
 
 if __name__ == "__main__":

@@ -3,7 +3,8 @@
     python3 -I -S measure.py PATH [WORD ..]
 
 A newline and a last line follow what the command prints: the seconds from
-start to end, the greatest resident memory in octets, and the status.  What
+start to end, the seconds that processors worked for it, the greatest resident
+memory in octets, and the status.  What
 the system tells of the memory of a command counts that of the process that
 started it, so this script imports next to nothing, and is started by
 `basic.py` for every run.
@@ -18,4 +19,5 @@ pid = os.posix_spawnp(sys.argv[1], sys.argv[1:], os.environ)
 _, status, usage = os.wait4(pid, 0)
 seconds = perf_counter() - begun
 print()
-print(seconds, usage.ru_maxrss * 1024, os.waitstatus_to_exitcode(status))
+processor = usage.ru_utime + usage.ru_stime
+print(seconds, processor, usage.ru_maxrss * 1024, os.waitstatus_to_exitcode(status))

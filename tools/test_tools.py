@@ -6,6 +6,7 @@
 import unittest
 from hashlib import sha256
 from itertools import product
+from pathlib import Path
 from unittest.mock import patch
 
 import compare_readers
@@ -20,6 +21,9 @@ from der_reader import (
 from der_starts import first_fault
 from first_path import FILE_HASH, SignatureFile, signature_file, verdict_line
 from hostile_inputs import ROWS, constant_rows
+from stored_answers import stored_files
+
+CRATES = Path(__file__).resolve().parent.parent / "crates"
 
 
 def chain(levels):
@@ -150,6 +154,13 @@ def asked(*words):
             return list(reader_stand_in.answer_cases(path))
         case ["digests", prefix, count]:
             return list(reader_stand_in.answer_digests(prefix, count))
+
+
+class StoredAnswersTest(unittest.TestCase):
+
+    def test_stored_files(self):
+        for path, octets in stored_files().items():
+            self.assertEqual((CRATES / "der_answers" / path).read_bytes(), octets, path)
 
 
 class ComparisonTest(unittest.TestCase):
