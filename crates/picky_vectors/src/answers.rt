@@ -3,6 +3,8 @@
 use crate::signature::{
     ACCEPTED, HASH, HEADER, ROW, VALUE, accepted_file, answer, octets, shelf_of,
 };
+use std::alloc::{AllocError, Global};
+use std::process::Abort;
 use std::test::Fail;
 
 const ROOM: usize = 100;
@@ -14,7 +16,7 @@ const CERTIFICATES_ALONE: &[&str] = &[
 
 // Signature files as a header, a certificate and octets after it, the status and the line.
 #[rattlefmt::skip]
-const FILES: [(&str, &str, &[&str], &str, u8, &str); 28] = [
+const FILES: &[(&str, &str, &[&str], &str, u8, &str)] = &[
     ("the accepted file",         HEADER,             VALUE, "",                 0, ACCEPTED),
     ("revision 1.0",              "be01000000010200", VALUE, "",                 0, ACCEPTED),
     ("type 1",                    "be01000000020100", VALUE, "",                 0, ACCEPTED),
@@ -57,7 +59,7 @@ const REJECTED: &str = "refused SignatureError\n";
 
 // Tables in pieces, the status and the line.
 #[rattlefmt::skip]
-const TABLES: [(&str, &[&str], u8, &str); 17] = [
+const TABLES: &[(&str, &[&str], u8, &str)] = &[
     ("the accepting row",       &["rsa-sha256 ", KEY, " ", MESSAGE, " ", SIGNATURE, "\n"],   0, ACCEPTED),
     ("behind another row",      &["ed25519 ", KEY, " ", KEY, " ", KEY, "\n", ROW],           0, ACCEPTED),
     ("the row twice",           &[ROW, ROW],                                                 0, ACCEPTED),
@@ -91,7 +93,7 @@ const OCTETS_65: &str =
 
 // Words on the accepted file `s` and its table `t`, the status and the line.
 #[rattlefmt::skip]
-const WORDS: [(&str, &[&str], u8, &str); 26] = [
+const WORDS: &[(&str, &[&str], u8, &str)] = &[
     ("the accepted words",        &["basic", "s", "t", HASH],               0, ACCEPTED),
     ("upper-case digits",         &["basic", "s", "t", UPPER_HASH],         0, ACCEPTED),
     ("the last octet differs",    &["basic", "s", "t", OTHER_HASH],         1, OTHER),
@@ -122,45 +124,87 @@ const WORDS: [(&str, &[&str], u8, &str); 26] = [
 
 #[test]
 fn signature_files_are_judged(rt: HostRuntime) -> Result<(), Fail> {
-    let alloc = rt.alloc();
     for (why, header, value, after, status, line) in FILES {
-        let mut file = octets(alloc, &[header])?;
-        file.append(&mut octets(alloc, value)?)?;
-        file.append(&mut octets(alloc, &[after])?)?;
-        let mut shelf = shelf_of(alloc, &file, ROW.as_bytes())?;
-        let (got, written) = answer(alloc, &["basic", "s", "t", HASH], &mut shelf, ROOM)?;
-        assert_eq!(rt; got, status, "{why}");
-        assert_eq!(rt; written.as_slice(), line.as_bytes(), "{why}");
+        let file = joined(rt.alloc(), header, value, after)?;
+        is_answered(
+            &rt,
+            rt.alloc(),
+            why,
+            &["basic", "s", "t", HASH],
+            &file,
+            ROW.as_bytes(),
+            *status,
+            line,
+        )?;
     }
     Ok(())
+}
+
+fn joined(alloc: Global, header: &str, value: &[&str], after: &str) -> Result<Vec<u8>, Fail> {
+    let mut file = octets(alloc, &[header])?;
+    file.append(&mut octets(alloc, value)?)?;
+    file.append(&mut octets(alloc, &[after])?)?;
+    Ok(file)
 }
 
 #[test]
 fn tables_decide(rt: HostRuntime) -> Result<(), Fail> {
-    let alloc = rt.alloc();
-    let file = accepted_file(alloc)?;
+    let file = accepted_file(rt.alloc())?;
     for (why, pieces, status, line) in TABLES {
-        let mut table = Vec::new(alloc);
-        for piece in pieces {
-            table.extend_from_slice(piece.as_bytes())?;
-        }
-        let mut shelf = shelf_of(alloc, &file, &table)?;
-        let (got, written) = answer(alloc, &["basic", "s", "t", HASH], &mut shelf, ROOM)?;
-        assert_eq!(rt; got, status, "{why}");
-        assert_eq!(rt; written.as_slice(), line.as_bytes(), "{why}");
+        let table = text(rt.alloc(), pieces)?;
+        is_answered(
+            &rt,
+            rt.alloc(),
+            why,
+            &["basic", "s", "t", HASH],
+            &file,
+            table.as_bytes(),
+            *status,
+            line,
+        )?;
     }
     Ok(())
 }
 
+fn text(alloc: Global, pieces: &[&str]) -> Result<String, AllocError> {
+    let mut text = String::new(alloc);
+    for piece in pieces {
+        text.push_str(piece)?;
+    }
+    Ok(text)
+}
+
 #[test]
 fn words_name_the_files_and_the_hash(rt: HostRuntime) -> Result<(), Fail> {
-    let alloc = rt.alloc();
-    let file = accepted_file(alloc)?;
+    let file = accepted_file(rt.alloc())?;
     for (why, words, status, line) in WORDS {
-        let mut shelf = shelf_of(alloc, &file, ROW.as_bytes())?;
-        let (got, written) = answer(alloc, words, &mut shelf, ROOM)?;
-        assert_eq!(rt; got, status, "{why}");
-        assert_eq!(rt; written.as_slice(), line.as_bytes(), "{why}");
+        is_answered(
+            &rt,
+            rt.alloc(),
+            why,
+            words,
+            &file,
+            ROW.as_bytes(),
+            *status,
+            line,
+        )?;
     }
+    Ok(())
+}
+
+fn is_answered(
+    rt: &impl Abort,
+    alloc: Global,
+    why: &str,
+    words: &[&str],
+    signature: &[u8],
+    table: &[u8],
+    status: u8,
+    line: &str,
+) -> Result<(), Fail> {
+    let mut shelf = shelf_of(alloc, signature, table)?;
+    let (got, written) = answer(alloc, words, &mut shelf, ROOM)?;
+    assert_eq!(rt; got, status, "{why}");
+    assert_eq!(rt; written.as_slice(), line.as_bytes(), "{why}");
     Ok(())
 }

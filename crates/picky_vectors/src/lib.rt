@@ -1,5 +1,6 @@
 //! Rows of inputs and what is answered to them: words and files for a whole run, octets for the
-//! readers. The expected values come from the standards and from the tools beside the crates.
+//! readers of elements. The expected values come from the standards and from the tools beside the
+//! crates.
 #![tactic(auto)]
 
 #[cfg(test)]
