@@ -7,6 +7,7 @@ use std::{env, io};
 
 // The words ask for nothing: one of them is not UTF-8.
 const USAGE: u8 = 2;
+
 const OUT_OF_MEMORY: u8 = 7;
 
 fn main(rt: HostRuntime) -> ExitCode {
