@@ -246,8 +246,11 @@ def line(row):
 
 def constant(name, rows):
     """A constant in Rattle whose text has a line for each row."""
-    lines = "\n".join(map(line, rows))
-    return f'const {name}: &str = "{lines}";\n'
+    opening = f"const {name}: &str ="
+    first, *others = map(line, rows)
+    gap = " " if len(f'{opening} "{first}') <= 100 else "\n    "
+    lines = "\n".join([first, *others])
+    return f'{opening}{gap}"{lines}";\n'
 
 
 def main(arguments):
