@@ -3,12 +3,12 @@
 
 Usage:
 
-    python3 tools/hostile_inputs.py first     the rows for `read_first`
-    python3 tools/hostile_inputs.py exact     the rows for `read_exact`
+    python3 tools/hostile_inputs.py
 
-prints rows of a constant table in Rattle: octets in hexadecimal, ``ok`` or
-the fault, the number of octets taken or the place of the fault, and as a
-comment why the row is there.
+prints the tables of `crates/picky_vectors/src/hostile.rt`, a line for each
+row: octets in hexadecimal, what `read_first` and what `read_exact` answers,
+and why the row is there.  An answer is ``ok`` and the number of octets that
+are taken, or the fault and its place.
 
 The answers were worked out by hand from the rules in `der_reader` and then
 confirmed by that reader and by the definition in `der_starts`;
@@ -226,22 +226,39 @@ LEVELS = [
         "63 levels, then 64, inside one parent"),
 ]
 
-ROWS = [*IDENTIFIERS, *LENGTHS, *FIRST_KIDS, *LATER_KIDS, *READ, *FOLLOWED, *LEVELS]
+TABLES = {
+    "IDENTIFIERS": IDENTIFIERS,
+    "LENGTHS": LENGTHS,
+    "FIRST_KIDS": FIRST_KIDS,
+    "LATER_KIDS": LATER_KIDS,
+    "READ": READ,
+    "FOLLOWED": FOLLOWED,
+    "LEVELS": LEVELS,
+}
+
+ROWS = [row for rows in TABLES.values() for row in rows]
 
 
-def constant_rows(reader):
-    """Rows of a constant table: of `read_first` or of `read_exact`."""
-    for row in ROWS:
-        answer, number = getattr(row, reader).split()
-        yield f'("{row.octets}", "{answer}", {number}), // {row.why}'
+def line(row):
+    """The fields of a row, none of which but the last has a semicolon."""
+    return ";".join((bytes.fromhex(row.octets).hex(), row.first, row.exact, row.why))
+
+
+def constant(name, rows):
+    """A constant in Rattle whose text has a line for each row."""
+    opening = f"const {name}: &str ="
+    first, *others = map(line, rows)
+    gap = " " if len(f'{opening} "{first}') <= 100 else "\n    "
+    lines = "\n".join([first, *others])
+    return f'{opening}{gap}"{lines}";\n'
 
 
 def main(arguments):
-    if arguments not in (["first"], ["exact"]):
-        print("usage: hostile_inputs.py first|exact", file=sys.stderr)
+    if arguments:
+        print("usage: hostile_inputs.py", file=sys.stderr)
         return 2
-    for line in constant_rows(arguments[0]):
-        print("   ", line)
+    for name, rows in TABLES.items():
+        print(constant(name, rows))
     return 0
 
 
