@@ -1,8 +1,10 @@
 -- Shelves and sinks in memory: what they hold and tell.
-use Rattle.std.specs.Prelude.{ℕ, List, ◌≡◌, ◌<◌, drop, Option, Some, if◌then◌else◌, bytes_eq, All}
+use Rattle.std.specs.Prelude.{ℕ, Bool, ◌+◌, ◌==◌, min, List, ◌≡◌, ◌<◌, drop, Option, Some, if◌then◌else◌, bytes_eq, All}
 use Rattle.picky_check.specs.declared.memory.Calls.{Calls}
 use Rattle.picky_check.specs.declared.memory.MemShelf.{MemShelf}
 use Rattle.picky_check.specs.declared.memory.MemSink.{MemSink}
+use Rattle.std.specs.List.{list_any}
+use Rattle.picky_check.specs.Counts.{last_count}
 use Rattle.picky_check.specs.Shelf.{Files, file_of}
 use Rattle.picky_check.specs.Stored.{latest, octets_at}
 
@@ -31,6 +33,15 @@ shelf_calls shelf = shelf.calls.count
 -- the calls that are set to fail
 abbrev pub shelf_failing : MemShelf → List ℕ
 shelf_failing shelf = shelf.calls.failing.items
+
+-- the next call is set to fail
+abbrev pub is_set_to_fail : MemShelf → Bool
+is_set_to_fail shelf = list_any (λ call. call == shelf_calls shelf) (shelf_failing shelf)
+
+-- a call more was answered
+pub record IsNextCall (before after : MemShelf) : Type 0 where
+  pub calls : shelf_calls after ≡ min (shelf_calls before + 1) last_count
+  pub failing : shelf_failing after ≡ shelf_failing before
 
 -- no call from the next one on is set to fail
 abbrev pub is_quiet_from_now : Calls → Type 0

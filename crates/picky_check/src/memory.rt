@@ -1,8 +1,8 @@
 //! A shelf and a sink in memory, which tell all that they hold. Calls of the shelf can be set to fail.
 
-ghost use Rattle.std.specs.Prelude.{◌≡◌, ◌<◌, ◌≤◌, ◌+◌, ℕ, List, [], ◌∷◌, ◌++◌, length, Some, None, IfOk, OnOk, OnErr, IsOk, vec_capacity, drop, is_err, min, ◌==◌};
+ghost use Rattle.std.specs.Prelude.{◌≡◌, ◌<◌, ◌≤◌, ◌+◌, ℕ, List, [], ◌∷◌, ◌++◌, length, Some, None, IfOk, OnOk, OnErr, IsOk, IsErr, IsSome, true, false, vec_capacity, drop, is_err, min, ◌==◌};
 ghost use Rattle.std.specs.List.{list_any};
-ghost use Rattle.picky_check.specs.Counts.{last_count, GoesOn, HasRisen};
+ghost use Rattle.picky_check.specs.Counts.{last_count, GoesOn, HasRisen, RisesBy};
 
 use crate::stored::{StoredFile, after, find_latest, octets_at};
 use crate::{Failed, Shelf, Sink};
@@ -124,7 +124,8 @@ impl MemShelf {
 }
 
 impl Shelf for MemShelf {
-    ghost use Rattle.picky_check.specs.Memory.{shelf_files, shelf_rest, shelf_given, shelf_faults, shelf_is_quiet};
+    ghost use Rattle.picky_check.specs.Shelf.{file_of, IsPicked, Moves};
+    ghost use Rattle.picky_check.specs.Memory.{shelf_files, shelf_rest, shelf_given, shelf_faults, shelf_is_quiet, is_set_to_fail, IsNextCall};
 
     ghost files = { shelf_files };
 
@@ -136,7 +137,18 @@ impl Shelf for MemShelf {
 
     ghost is_quiet = { shelf_is_quiet };
 
-    fn pick(&mut self, name: &str) -> Result<(), Failed> {
+    fn pick(&mut self, name: &str) -> Result<(), Failed>
+        ensures picked { OnOk result (IsPicked (shelf_files self.old) name.now (Some (shelf_rest self.new))) }
+        ensures same { shelf_files self.new ≡ shelf_files self.old }
+        ensures none_given { RisesBy 0 (shelf_given self.old) (shelf_given self.new) }
+        ensures counted { GoesOn (shelf_faults self.old) (shelf_faults self.new) }
+        ensures cause { OnErr result (HasRisen (shelf_faults self.old) (shelf_faults self.new)) }
+        ensures quiet { shelf_is_quiet self.old → IsSome (file_of (shelf_files self.old) name.now) → IsOk result × shelf_is_quiet self.new }
+        ensures fails { is_set_to_fail self.old ≡ true → IsErr result }
+        ensures answers { is_set_to_fail self.old ≡ false → IsSome (file_of (shelf_files self.old) name.now) → IsOk result }
+        ensures next { IsNextCall self.old self.new }
+        ensures left { OnErr result (shelf_rest self.new ≡ shelf_rest self.old) }
+    {
         self.calls.begin()?;
         let Some(place) = find_latest(&self.files, name) else {
             return Err(self.calls.fail());
@@ -146,7 +158,19 @@ impl Shelf for MemShelf {
         Ok(())
     }
 
-    fn read(&mut self, into: &mut [u8]) -> Result<usize, Failed> {
+    fn read(&mut self, into: &mut [u8]) -> Result<usize, Failed>
+        ensures bound { IfOk result (λ n. n ≤ length into.old) }
+        ensures moved { IfOk result (λ n. Moves n (shelf_rest self.old) into.new (Some (shelf_rest self.new))) }
+        ensures same { shelf_files self.new ≡ shelf_files self.old }
+        ensures given { IfOk result (λ n. RisesBy n (shelf_given self.old) (shelf_given self.new)) }
+        ensures kept { GoesOn (shelf_given self.old) (shelf_given self.new) }
+        ensures counted { GoesOn (shelf_faults self.old) (shelf_faults self.new) }
+        ensures cause { OnErr result (HasRisen (shelf_faults self.old) (shelf_faults self.new)) }
+        ensures quiet { shelf_is_quiet self.old → IsOk result × shelf_is_quiet self.new }
+        ensures fails { is_err result ≡ is_set_to_fail self.old }
+        ensures next { IsNextCall self.old self.new }
+        ensures left { OnErr result ((shelf_rest self.new ≡ shelf_rest self.old) × (shelf_given self.new ≡ shelf_given self.old)) }
+    {
         self.calls.begin()?;
         let rest = after(octets_at(&self.files, self.picked), self.at);
         let count = rest.len().min(into.len());

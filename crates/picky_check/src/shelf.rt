@@ -4,8 +4,11 @@ ghost use Rattle.std.specs.Prelude.{◌≡◌, ◌<◌, ◌≤◌, ℕ, List, Op
 ghost use Rattle.picky_check.specs.Counts.{GoesOn, HasRisen, RisesBy};
 ghost use Rattle.picky_check.specs.Shelf.{Files, file_of, IsPicked, Moves};
 
+use thiserror::Error;
+
 /// The outside failed.
-#[derive(Clone, Copy, Debug, PartialEq, Eq)]
+#[derive(Clone, Copy, Debug, PartialEq, Eq, Error)]
+#[error("the outside failed")]
 pub struct Failed;
 
 /// Files that are picked by name and read piece by piece.
