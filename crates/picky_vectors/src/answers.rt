@@ -115,6 +115,7 @@ const WORDS: &[(&str, &[&str], u8, &str)] = &[
     ("an empty command",          &["", "s", "t", HASH],                    2, ""),
     ("no words, and no files",    &["basic", "x", "y", "zz"],               2, ""),
     ("no signature file",         &["basic", "x", "t", HASH],               4, ""),
+    ("before a bad table",        &["basic", "x", "s", HASH],               4, ""),
     ("no table",                  &["basic", "s", "x", HASH],               4, ""),
     ("neither",                   &["basic", "x", "y", HASH],               4, ""),
     ("an empty name",             &["basic", "", "t", HASH],                4, ""),

@@ -1,6 +1,10 @@
-//! Elements whose length needs several octets, read and written.
+//! Elements whose length needs several octets, and elements at the greatest depth, read and written.
 
-use der_core::{read_exact, read_first, write};
+ghost use Rattle.std.specs.Prelude.{IfOk};
+ghost use Rattle.der_core.specs.Encoding.{IsWellFormed};
+
+use der_core::{DerError, Raw, Tree, Trees, read_exact, read_first, write};
+use std::alloc::{AllocError, Global};
 use std::test::Fail;
 
 // The identifier and the length of an element, and how many octets are in it.
@@ -31,4 +35,35 @@ fn long_elements_are_read_and_written(rt: HostRuntime) -> Result<(), Fail> {
         );
     }
     Ok(())
+}
+
+// 64 levels, the most that are read and written: each element has the next alone.
+const DEEPEST: &str =
+    "307e307c307a30783076307430723070306e306c306a30683066306430623060305e305c305a30583056305430523050304e304c304a30483046304430423040303e303c303a30383036303430323030302e302c302a30283026302430223020301e301c301a30183016301430123010300e300c300a30083006300430023000";
+
+#[test]
+fn a_tree_of_65_levels_is_not_written(rt: HostRuntime) -> Result<(), Fail> {
+    let alloc = rt.alloc();
+    let octets = crate::signature::octets(alloc, &[DEEPEST])?;
+    let deepest = read_exact(alloc, &octets)?;
+    assert!(rt; write(alloc, &deepest)?.as_slice() == octets.as_slice());
+    assert_eq!(rt; Raw::from_tree(alloc, &deepest)?.nesting(), 64);
+
+    let deeper = wrapped(alloc, deepest)?;
+    assert_eq!(rt; write(alloc, &deeper).err(), Some(DerError::TooDeep));
+    assert_eq!(rt;
+        Raw::from_tree(alloc, &deeper).err(),
+        Some(DerError::TooDeep)
+    );
+    Ok(())
+}
+
+// The tree as the one kid of a sequence.
+fn wrapped(alloc: Global, tree: Tree) -> Result<Tree, AllocError>
+    requires { IsWellFormed tree }
+    ensures { IfOk result (λ wrapper. IsWellFormed wrapper) }
+{
+    let mut kids = Trees::new(alloc);
+    kids.push(tree)?;
+    Ok(Tree::branch(0x30, kids))
 }
