@@ -4,6 +4,7 @@ ghost use Rattle.std.specs.Prelude.{◌≡◌, ◌≢◌, Ok, Err, IfOk, IfErr, 
 ghost use Rattle.std.specs.Ordering.{on};
 ghost use Rattle.std.specs.Cmp.Lexicographic.{pointwise, nat_list_eq_equiv};
 ghost use Rattle.std.specs.Cmp.{on_per, on_equiv, partial_equiv_from_equiv};
+ghost use Rattle.wincert_core.specs.declared.error.WinCertificateError.{WinCertificateError};
 ghost use Rattle.wincert_core.specs.WinCert.{WinCert, BeginsWith, stated_length, with_padding, kept};
 ghost use Rattle.wincert_core.specs.Refusal.{certificate_in, current, encoded, Gives};
 
@@ -46,6 +47,8 @@ impl WinCertificate {
     pub fn decode(alloc: Global, bytes: &[u8]) -> WinCertificateResult<WinCertificate>
         // The certificate that the header names, or the first refusal.
         ensures given { Gives (λ w. w.certificate) result (certificate_in bytes.now) }
+        // A refusal comes before memory is asked for.
+        ensures refused { (error : WinCertificateError) → certificate_in bytes.now ≡ Err error → result ≡ Err error }
         // What is read is spelled there.
         ensures spelled { IfOk result (λ w. BeginsWith bytes.now w) }
         // What is spelled there is read.
