@@ -1,0 +1,62 @@
+//! Why a text is not a value.
+
+ghost use Rattle.std.specs.Prelude.{◌≡◌};
+ghost use Rattle.asn1_types.specs.declared.error.TextError.TheVariants as text;
+ghost use Rattle.asn1_types.specs.declared.error.CharSetError.TheVariants as char_set;
+
+use std::alloc::{AllocError, AllocFailed};
+use thiserror::Error;
+
+/// Why a text is no object identifier.
+#[derive(Clone, Copy, Debug, PartialEq, Eq, Error)]
+pub enum TextError {
+    /// The text is not the dotted decimal form of an identifier.
+    #[error("the text is not an object identifier in dotted decimal form")]
+    BadText,
+    /// There was no memory left.
+    #[error("out of memory")]
+    Memory,
+}
+
+/// Why a text is not in the character set of a string type.
+#[derive(Clone, Copy, Debug, PartialEq, Eq, Error)]
+pub enum CharSetError {
+    /// A character is outside the character set.
+    #[error("a character is outside the character set of the string")]
+    CharSet,
+    /// There was no memory left.
+    #[error("out of memory")]
+    Memory,
+}
+
+impl From<AllocError> for TextError {
+    ghost from_gives = { λ _ e. e ≡ text.Memory };
+
+    fn from(_refused: AllocError) -> TextError {
+        TextError::Memory
+    }
+}
+
+impl<T: Drop> From<AllocFailed<T>> for TextError {
+    ghost from_gives = { λ _ e. e ≡ text.Memory };
+
+    fn from(_refused: AllocFailed<T>) -> TextError {
+        TextError::Memory
+    }
+}
+
+impl From<AllocError> for CharSetError {
+    ghost from_gives = { λ _ e. e ≡ char_set.Memory };
+
+    fn from(_refused: AllocError) -> CharSetError {
+        CharSetError::Memory
+    }
+}
+
+impl<T: Drop> From<AllocFailed<T>> for CharSetError {
+    ghost from_gives = { λ _ e. e ≡ char_set.Memory };
+
+    fn from(_refused: AllocFailed<T>) -> CharSetError {
+        CharSetError::Memory
+    }
+}

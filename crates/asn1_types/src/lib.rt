@@ -1,0 +1,11 @@
+//! Values of ASN.1 by their contents octets (X.690 section 8): object identifiers, integers, bit
+//! strings, IA5 strings and both times.
+#![tactic(auto)]
+
+mod bit_string;
+mod error;
+mod integer;
+
+pub use bit_string::BitString;
+pub use error::{CharSetError, TextError};
+pub use integer::IntegerAsn1;
