@@ -43,7 +43,7 @@ mutual
   AreShort-prop Nil = Unit-prop
   AreShort-prop (Cons kid kids) = ×_prop (IsShort-prop kid) (AreShort-prop kids)
 
-IsDerWithin-prop : (levels : ℕ) (element : DerElement) → IsProp (IsDerWithin levels element)
+pub IsDerWithin-prop : (levels : ℕ) (element : DerElement) → IsProp (IsDerWithin levels element)
 IsDerWithin-prop levels element = hlevel (le_prop, IsWellFormed-prop element, IsShort-prop element)
 
 IsKept-prop : (octets : List ℕ) (levels : ℕ) (element : DerElement) → IsProp (IsKept octets levels element)

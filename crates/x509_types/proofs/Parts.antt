@@ -1,0 +1,53 @@
+-- Elements by their kids: what is known of an element whose kids were looked at.
+use Rattle.std.proofs.Common.{subst, ℕ, length-append, ◌≡◌, ◌≢◌, ◌≤◌, length, refl, arith, List, [], ◌∷◌, Option, Some, None, sym, ◌∙◌, ap}
+use Rattle.std.specs.Option.{option_copied}
+use Rattle.std.specs.Borrow.{Bor}
+use Rattle.der_core.specs.DerElement.{DerElement, Primitive, Constructed, DerElements, Nil, Cons, row, listed, row-listed, listed-row, tag_of, kids_of}
+use Rattle.der_core.specs.Encoding.{encoding, encodings, IsDer}
+use Rattle.x509_types.specs.Bounds.{AreDer}
+use Rattle.x509_types.specs.Shape.{HasMore, RefusesShape}
+use Rattle.der_core.specs.declared.error.DerError.{DerError}
+use Rattle.der_core.specs.declared.error.DerError.TheVariants as errors
+
+-- an element with kids is constructed
+pub with_kids : (t : DerElement) (kids : List DerElement) → kids_of t ≡ Some kids → t ≡ Constructed (tag_of t) (row kids)
+with_kids (Primitive tag content) kids e = absurd cc
+with_kids (Constructed tag ks) kids e =
+    let same : listed ks ≡ kids = cc in
+    ap (Constructed tag) (sym (row-listed ks) ∙ ap row same)
+
+-- an element without kids is not constructed
+pub without_kids : (t : DerElement) → kids_of t ≡ None → (tag : _) (kids : DerElements) → t ≢ Constructed tag kids
+without_kids (Primitive tag content) e tag' kids same = absurd cc
+without_kids (Constructed tag ks) e tag' kids same = absurd cc
+
+-- elements that aren't none have a first
+pub has_more : (kids : List DerElement) → 1 ≤ length kids → HasMore kids
+has_more [] some = absurd (omega arith)
+has_more (kid ∷ kids) some = record { kid = kid; rest = kids; are = refl }
+
+within : (tag : ℕ) (kids : DerElements) → IsDer (Constructed tag kids) → AreDer (listed kids)
+within tag Nil der = tt
+within tag (Cons kid kids) der =
+    let here : IsDer kid = record { formed = der.formed.2.0; nested = omega arith; short = der.short.1.0 } in
+    let after : IsDer (Constructed tag kids) = record {
+      formed = (der.formed.0, der.formed.1, der.formed.2.1);
+      nested = omega arith;
+      short = (omega (arith, length-append (encoding kid) (encodings kids)), der.short.1.1);
+    } in
+    (here, within tag kids after)
+
+-- each kid of an element in bounds is in bounds
+pub kids_in_bounds : (t : DerElement) (kids : List DerElement) → kids_of t ≡ Some kids → IsDer t → AreDer kids
+kids_in_bounds (Primitive tag content) kids e der = absurd cc
+kids_in_bounds (Constructed tag ks) kids e der =
+    let same : listed ks ≡ kids = cc in
+    subst AreDer same (within tag ks der)
+
+-- a refusal of the shape of one thing is one of another, if this has no value where that has none
+pub refuses_as : {X Y : Type 0} (P : X → Type 0) (Q : Y → Type 0) (e : DerError) → (((x : X) → P x → ⊥) → (y : Y) → Q y → ⊥) → RefusesShape P e → RefusesShape Q e
+refuses_as P Q errors.Shape none refused = none refused
+refuses_as P Q errors.Memory none refused = tt
+refuses_as P Q (errors.Malformed malformed) none refused = absurd refused
+refuses_as P Q errors.TooDeep none refused = absurd refused
+refuses_as P Q errors.TooLong none refused = absurd refused

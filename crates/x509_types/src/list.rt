@@ -1,0 +1,51 @@
+//! Values of one structure in order.
+
+ghost use Rattle.std.specs.Prelude.{◌≡◌, ◌++◌, ◌∷◌, [], IfOk, OnOk, OnErr};
+
+use std::alloc::{AllocError, Global};
+use std::marker::Model;
+
+/// Values in order, as a SEQUENCE OF or a SET OF holds them. Contracts see the list of them.
+#[derive(Debug, Drop)]
+pub struct ListOf<T> {
+    items: Vec<T>,
+}
+
+impl<T> Model for ListOf<T> {
+    ghost use Rattle.std.specs.Prelude.{List};
+    ghost use Rattle.std.specs.Coded.{coded_list};
+
+    ghost Value = { List T };
+
+    ghost coded = { coded_list T.code };
+
+    ghost view = { λ l. l.items.items };
+}
+
+impl<T> ListOf<T> {
+    /// No values.
+    pub fn new(alloc: Global) -> ListOf<T>
+        ensures { result ≡ [] }
+    {
+        ListOf {
+            items: Vec::new(alloc),
+        }
+    }
+
+    /// Appends a value.
+    pub fn push(&mut self, item: T) -> Result<(), AllocError>
+        where T: Drop
+        ensures ok { OnOk result (self.new ≡ self.old ++ item ∷ []) }
+        ensures err { OnErr result (self.new ≡ self.old) }
+    {
+        self.items.push(item)?;
+        Ok(())
+    }
+
+    /// The values in order.
+    pub fn as_slice(&self) -> &[T]
+        ensures { result.now ≡ self.now }
+    {
+        &self.items
+    }
+}

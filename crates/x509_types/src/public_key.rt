@@ -1,0 +1,47 @@
+//! Public keys.
+
+ghost use Rattle.std.specs.Prelude.{◌≡◌, [], IfOk, MatchResult};
+ghost use Rattle.der_core.specs.Encoding.{IsDer};
+ghost use Rattle.x509_types.specs.Shape.{RefusesShape, IsWritten};
+
+use crate::structure::Structure;
+use crate::shape::{Kids, integer_of, integer_tree};
+use crate::tag::SEQUENCE;
+use asn1_types::IntegerAsn1;
+use der_core::{DerError, Tree, Trees};
+use std::alloc::{AllocError, Global};
+
+/// An RSA public key (RFC 8017 A.1.1).
+#[derive(Debug, Drop)]
+pub struct RsaPublicKey {
+    pub modulus: IntegerAsn1,
+    pub public_exponent: IntegerAsn1,
+}
+
+impl Structure for RsaPublicKey {
+    ghost use Rattle.x509_types.specs.RsaPublicKey.{rsa_public_key};
+
+    ghost spells = { λ element key. element ≡ rsa_public_key key };
+
+    ghost written = { rsa_public_key };
+
+    ghost inner = { λ _. [] };
+
+    fn read(alloc: Global, tree: &Tree) -> Result<RsaPublicKey, DerError> {
+        let mut kids = Kids::of(tree, SEQUENCE)?;
+        let modulus = integer_of(alloc, kids.next()?)?;
+        let public_exponent = integer_of(alloc, kids.next()?)?;
+        kids.end()?;
+        Ok(RsaPublicKey {
+            modulus,
+            public_exponent,
+        })
+    }
+
+    fn write(&self, alloc: Global) -> Result<Tree, DerError> {
+        let mut kids = Trees::new(alloc);
+        kids.push(integer_tree(alloc, &self.modulus)?)?;
+        kids.push(integer_tree(alloc, &self.public_exponent)?)?;
+        Ok(Tree::branch(SEQUENCE, kids))
+    }
+}

@@ -1,0 +1,152 @@
+//! Readers and writers that all structures share.
+
+ghost use Rattle.std.specs.Prelude.{◌≡◌, ◌≢◌, [], ◌∷◌, List, IfOk, IfSome, MatchResult, MatchOption};
+ghost use Rattle.std.specs.Option.{option_copied};
+ghost use Rattle.der_core.specs.DerElement.{DerElements, Primitive, Constructed, row, tag_of};
+ghost use Rattle.der_core.specs.Encoding.{IsDer};
+ghost use Rattle.x509_types.specs.Bounds.{AreDer, AreDer-prop};
+ghost use Rattle.x509_types.specs.Shape.{RefusesShape, IsWritten, BeginsOtherwise, HasMore};
+ghost use Rattle.x509_types.specs.Elements.{integer};
+ghost use Rattle.der_core.specs.declared.error.DerError.TheVariants as errors;
+
+use crate::tag::INTEGER;
+use asn1_types::IntegerAsn1;
+use der_core::{DerError, Octets, Raw, Tree, Trees};
+use std::alloc::{AllocError, Global};
+
+/// The elements in a constructed element that aren't read yet.
+#[derive(Drop)]
+pub struct Kids<'a> {
+    pub rest: &'a [Tree],
+    ghost bounded: { AreDer rest.now } by { AreDer-prop rest.now },
+}
+
+impl<'a> Kids<'a> {
+    /// The elements in a constructed element of this tag.
+    pub fn of(tree: &'a Tree, tag: u8) -> Result<Kids<'a>, DerError>
+        requires { IsDer tree.now }
+        ensures { MatchResult result
+            (λ kids. tree.now ≡ Constructed tag (row kids.rest.now))
+            (RefusesShape (λ kids. tree.now ≡ Constructed tag kids)) }
+    {
+        if tree.tag() != tag {
+            return Err(DerError::Shape);
+        }
+        match tree.kids() {
+            Some(rest) => Ok(Kids { rest }),
+            None => Err(DerError::Shape),
+        }
+    }
+
+    /// The next element.
+    pub fn next(&mut self) -> Result<&'a Tree, DerError>
+        ensures { MatchResult result
+            (λ kid. IsDer kid.now × (self.old.rest.now ≡ kid.now ∷ self.new.rest.now))
+            (λ e. (e ≡ errors.Shape) × (self.old.rest.now ≡ [])) }
+    {
+        match self.rest {
+            [kid, rest @ ..] => {
+                self.rest = rest;
+                Ok(kid)
+            }
+            [] => Err(DerError::Shape),
+        }
+    }
+
+    /// The next element, where it has this tag.
+    pub fn next_tagged(&mut self, tag: u8) -> Option<&'a Tree>
+        ensures { MatchOption result
+            ((self.new.rest.now ≡ self.old.rest.now) × BeginsOtherwise tag self.old.rest.now)
+            (λ kid. IsDer kid.now × (self.old.rest.now ≡ kid.now ∷ self.new.rest.now) × (tag_of kid.now ≡ tag)) }
+    {
+        match self.rest {
+            [kid, rest @ ..] => {
+                if kid.tag() != tag {
+                    return None;
+                }
+                self.rest = rest;
+                Some(kid)
+            }
+            [] => None,
+        }
+    }
+
+    /// The next element, where there is one.
+    pub fn next_any(&mut self) -> Option<&'a Tree>
+        ensures { MatchOption result
+            ((self.new.rest.now ≡ self.old.rest.now) × (self.old.rest.now ≡ []))
+            (λ kid. IsDer kid.now × (self.old.rest.now ≡ kid.now ∷ self.new.rest.now)) }
+    {
+        match self.rest {
+            [kid, rest @ ..] => {
+                self.rest = rest;
+                Some(kid)
+            }
+            [] => None,
+        }
+    }
+
+    /// There are no further elements.
+    pub fn end(&self) -> Result<(), DerError>
+        ensures { MatchResult result
+            (λ _. self.now.rest.now ≡ [])
+            (λ e. (e ≡ errors.Shape) × HasMore self.now.rest.now) }
+    {
+        match self.rest {
+            [] => Ok(()),
+            [_, ..] => Err(DerError::Shape),
+        }
+    }
+}
+
+/// The contents octets of a primitive element of this tag.
+pub fn leaf_of(tree: &Tree, tag: u8) -> Result<&[u8], DerError>
+    ensures { MatchResult result
+        (λ content. tree.now ≡ Primitive tag content.now)
+        (RefusesShape (λ content. tree.now ≡ Primitive tag content)) }
+{
+    if tree.tag() != tag {
+        return Err(DerError::Shape);
+    }
+    match tree.content() {
+        Some(content) => Ok(content),
+        None => Err(DerError::Shape),
+    }
+}
+
+/// The integer of an INTEGER.
+pub fn integer_of(alloc: Global, tree: &Tree) -> Result<IntegerAsn1, DerError>
+    ensures { MatchResult result (IsWritten integer tree.now) (RefusesShape (IsWritten integer tree.now)) }
+{
+    IntegerAsn1::from_content(alloc, leaf_of(tree, INTEGER)?)
+}
+
+/// The INTEGER of an integer.
+pub fn integer_tree(alloc: Global, value: &IntegerAsn1) -> Result<Tree, AllocError>
+    ensures { IfOk result (λ tree. tree ≡ integer value.now) }
+{
+    let content = Octets::from_slice(alloc, value.as_signed_bytes_be())?;
+    Ok(Tree::leaf(INTEGER, content))
+}
+
+/// The element, kept as it is.
+pub fn kept(alloc: Global, tree: &Tree) -> Result<Raw, AllocError>
+    requires { IsDer tree.now }
+    ensures { IfOk result (λ raw. raw ≡ tree.now) }
+{
+    match Raw::from_tree(alloc, tree) {
+        Ok(raw) => Ok(raw),
+        Err(_) => Err(AllocError),
+    }
+}
+
+/// The element where there is one, kept as it is.
+pub fn kept_option(alloc: Global, tree: Option<&Tree>) -> Result<Option<Raw>, AllocError>
+    requires { IfSome tree (λ t. IsDer t.now) }
+    ensures { IfOk result (λ raw. raw ≡ option_copied tree.entry) }
+{
+    match tree {
+        Some(tree) => Ok(Some(kept(alloc, tree)?)),
+        None => Ok(None),
+    }
+}

@@ -1,0 +1,58 @@
+//! What all structures have in common.
+
+ghost use Rattle.std.specs.Prelude.{◌≡◌, List, flat_map, MatchResult};
+ghost use Rattle.der_core.specs.DerElement.{DerElement};
+ghost use Rattle.der_core.specs.Encoding.{IsDer};
+ghost use Rattle.der_core.specs.declared.error.DerError.TheVariants as errors;
+ghost use Rattle.x509_types.specs.Shape.{RefusesShape, RefusesInner};
+ghost use Rattle.x509_types.specs.Bounds.{AreDer};
+ghost use Rattle.x509_types.specs.Each.{AreEach, AreWritten};
+
+use crate::list::ListOf;
+use crate::shape::Kids;
+use der_core::{DerError, Tree, Trees};
+use std::alloc::{AllocError, Global};
+
+/// A structure of ASN.1: a type whose values are read from elements and written as elements.
+pub trait Structure: Sized + Drop {
+    ghost spells: { DerElement → Self → Type 0 };
+
+    ghost written: { Self → DerElement };
+
+    ghost inner: { Self → List DerElement };
+
+    /// The value that an element spells, `Shape` exactly where it spells none.
+    fn read(alloc: Global, tree: &Tree) -> Result<Self, DerError>
+        requires { IsDer tree.now }
+        ensures { MatchResult result (spells tree.now) (RefusesShape (spells tree.now)) };
+
+    /// The element that is written for the value, and spells it.
+    fn write(&self, alloc: Global) -> Result<Tree, DerError>
+        ensures { MatchResult result
+            (λ tree. (tree ≡ written self.now) × spells tree self.now × AreDer (inner self.now))
+            (RefusesInner (inner self.now)) };
+}
+
+/// The values of the elements, one for each.
+pub fn read_each<T: Structure>(alloc: Global, mut kids: Kids<'_>) -> Result<ListOf<T>, DerError>
+    ensures { MatchResult result (AreEach T.spells kids.entry.rest.now) (RefusesShape (AreEach T.spells kids.entry.rest.now)) }
+{
+    let mut values = ListOf::new(alloc);
+    while let Some(kid) = kids.next_any() {
+        values.push(T::read(alloc, kid)?)?;
+    }
+    Ok(values)
+}
+
+/// The elements of the values, one for each.
+pub fn write_each<T: Structure>(alloc: Global, values: &ListOf<T>) -> Result<Trees, DerError>
+    ensures { MatchResult result (AreWritten T.spells T.written T.inner values.now) (RefusesInner (flat_map T.inner values.now)) }
+{
+    let mut kids = Trees::new(alloc);
+    let mut rest = values.as_slice();
+    while let Some((value, others)) = rest.split_first() {
+        kids.push(value.write(alloc)?)?;
+        rest = others;
+    }
+    Ok(kids)
+}
