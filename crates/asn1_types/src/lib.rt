@@ -10,4 +10,4 @@ mod integer;
 pub use bit_string::BitString;
 pub use error::{CharSetError, TextError};
 pub use ia5_string::Ia5String;
-pub use integer::IntegerAsn1;
+pub use integer::{IntegerAsn1, one_shortest_integer};
