@@ -10,7 +10,7 @@ use std::alloc::{AllocError, Global};
 const MAX_UNUSED: u8 = 7;
 
 /// A BIT STRING: octets, and how many bits of the last one aren't used (X.690 8.6).
-#[derive(Debug, Drop)]
+#[derive(Debug, PartialEq, Eq, Drop)]
 pub struct BitString {
     unused: u8,
     payload: Octets,

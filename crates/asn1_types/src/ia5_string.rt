@@ -11,7 +11,7 @@ use std::alloc::{AllocError, Global};
 use std::str;
 
 /// An IA5String: octets of at most 127 each (X.680 41), which are a text.
-#[derive(Debug, Drop)]
+#[derive(Debug, PartialEq, Eq, Drop)]
 pub struct Ia5String {
     text: Octets,
     ghost ascii: { IsIa5 text } by { Prim.hlevel props },

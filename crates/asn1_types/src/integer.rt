@@ -9,7 +9,7 @@ use der_core::{DerError, Octets};
 use std::alloc::{AllocError, Global};
 
 /// An INTEGER as its contents octets, in two's complement, the most significant first (X.690 8.3).
-#[derive(Debug, Drop)]
+#[derive(Debug, PartialEq, Eq, Drop)]
 pub struct IntegerAsn1 {
     contents: Octets,
     ghost formed: { IsInteger contents },
