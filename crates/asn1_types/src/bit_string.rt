@@ -1,6 +1,8 @@
 //! Strings of bits.
 
-ghost use Rattle.std.specs.Prelude.{◌≡◌, List, ℕ, [], ◌∷◌, IfOk, MatchResult};
+ghost use Rattle.std.specs.Prelude.{◌≡◌, ◌↔◌, ◌&&◌, ◌==◌, List, ℕ, [], ◌∷◌, IfOk, IsTrue, MatchResult, bytes_eq};
+ghost use Rattle.std.proofs.Common.{rules};
+ghost use Rattle.std.specs.Cmp.Rules.{comparing};
 ghost use Rattle.asn1_types.specs.Contents.{RefusesContents};
 ghost use Rattle.asn1_types.specs.BitString.{IsBitString, HasBitString};
 
@@ -10,7 +12,7 @@ use std::alloc::{AllocError, Global};
 const MAX_UNUSED: u8 = 7;
 
 /// A BIT STRING: octets, and how many bits of the last one aren't used (X.690 8.6).
-#[derive(Debug, PartialEq, Eq, Drop)]
+#[derive(Debug, Drop)]
 pub struct BitString {
     unused: u8,
     payload: Octets,
@@ -79,4 +81,21 @@ impl BitString {
             payload: self.payload.try_clone(alloc)?,
         })
     }
+}
+
+impl PartialEq for BitString {
+    ghost eq = { λ a b. a.unused == b.unused && bytes_eq a.payload b.payload };
+
+    ghost laws = { Prim.search (comparing, rules) };
+
+    fn eq(&self, other: &BitString) -> bool
+        ensures value { result ≡ (self.now.unused == other.now.unused && bytes_eq self.now.payload other.now.payload) }
+        ensures same { IsTrue result ↔ (self.now ≡ other.now) }
+    {
+        self.unused == other.unused && self.payload == other.payload
+    }
+}
+
+impl Eq for BitString {
+    ghost laws = { Prim.search (comparing, rules) };
 }

@@ -1,6 +1,8 @@
 //! Strings of the seven-bit alphabet.
 
-ghost use Rattle.std.specs.Prelude.{◌≡◌, IfOk, MatchResult};
+ghost use Rattle.std.specs.Prelude.{◌≡◌, ◌↔◌, IfOk, IsTrue, MatchResult, bytes_eq};
+ghost use Rattle.std.proofs.Common.{rules};
+ghost use Rattle.std.specs.Cmp.Rules.{comparing};
 ghost use Rattle.std.proofs.Props.{props};
 ghost use Rattle.asn1_types.specs.Contents.{RefusesContents};
 ghost use Rattle.asn1_types.specs.Ia5String.{IsIa5, RefusesCharSet};
@@ -11,7 +13,7 @@ use std::alloc::{AllocError, Global};
 use std::str;
 
 /// An IA5String: octets of at most 127 each (X.680 41), which are a text.
-#[derive(Debug, PartialEq, Eq, Drop)]
+#[derive(Debug, Drop)]
 pub struct Ia5String {
     text: Octets,
     ghost ascii: { IsIa5 text } by { Prim.hlevel props },
@@ -61,4 +63,21 @@ impl Ia5String {
             text: self.text.try_clone(alloc)?,
         })
     }
+}
+
+impl PartialEq for Ia5String {
+    ghost eq = { λ a b. bytes_eq a.text b.text };
+
+    ghost laws = { Prim.search (comparing, rules) };
+
+    fn eq(&self, other: &Ia5String) -> bool
+        ensures value { result ≡ bytes_eq self.now.text other.now.text }
+        ensures same { IsTrue result ↔ (self.now ≡ other.now) }
+    {
+        self.text == other.text
+    }
+}
+
+impl Eq for Ia5String {
+    ghost laws = { Prim.search (comparing, rules) };
 }

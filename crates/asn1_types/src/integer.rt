@@ -1,6 +1,8 @@
 //! Integers of any size.
 
-ghost use Rattle.std.specs.Prelude.{◌≡◌, ◌≢◌, ◌<◌, ◌≤◌, List, ℕ, [], ◌∷◌, length, slice_index, IfOk, MatchResult};
+ghost use Rattle.std.specs.Prelude.{◌≡◌, ◌↔◌, ◌≢◌, ◌<◌, ◌≤◌, List, ℕ, [], ◌∷◌, length, slice_index, IfOk, IsTrue, MatchResult, bytes_eq};
+ghost use Rattle.std.proofs.Common.{rules};
+ghost use Rattle.std.specs.Cmp.Rules.{comparing};
 ghost use Rattle.asn1_types.specs.Contents.{RefusesContents};
 ghost use Rattle.asn1_types.specs.Integer.{IsInteger, number_of, IsUnsignedInteger, unsigned_octets};
 ghost use Rattle.der_core.specs.Head.{IsOctets};
@@ -9,7 +11,7 @@ use der_core::{DerError, Octets};
 use std::alloc::{AllocError, Global};
 
 /// An INTEGER as its contents octets, in two's complement, the most significant first (X.690 8.3).
-#[derive(Debug, PartialEq, Eq, Drop)]
+#[derive(Debug, Drop)]
 pub struct IntegerAsn1 {
     contents: Octets,
     ghost formed: { IsInteger contents },
@@ -75,6 +77,23 @@ impl IntegerAsn1 {
             contents: self.contents.try_clone(alloc)?,
         })
     }
+}
+
+impl PartialEq for IntegerAsn1 {
+    ghost eq = { λ a b. bytes_eq a.contents b.contents };
+
+    ghost laws = { Prim.search (comparing, rules) };
+
+    fn eq(&self, other: &IntegerAsn1) -> bool
+        ensures value { result ≡ bytes_eq self.now.contents other.now.contents }
+        ensures same { IsTrue result ↔ (self.now ≡ other.now) }
+    {
+        self.contents == other.contents
+    }
+}
+
+impl Eq for IntegerAsn1 {
+    ghost laws = { Prim.search (comparing, rules) };
 }
 
 /// The octets from the first that isn't zero on.
