@@ -1,11 +1,15 @@
 //! Strings of bits.
 
-ghost use Rattle.std.specs.Prelude.{◌≡◌, List, ℕ, [], ◌∷◌, IfOk, MatchResult};
+ghost use Rattle.std.specs.Prelude.{◌≡◌, ◌↔◌, ◌&&◌, ◌==◌, List, ℕ, [], ◌∷◌, IfOk, IsTrue, MatchResult, bytes_eq};
+ghost use Rattle.std.proofs.Common.{rules};
+ghost use Rattle.std.specs.Cmp.Rules.{comparing};
 ghost use Rattle.asn1_types.specs.Contents.{RefusesContents};
-ghost use Rattle.asn1_types.specs.BitString.{IsBitString};
+ghost use Rattle.asn1_types.specs.BitString.{IsBitString, HasBitString};
 
 use der_core::{DerError, Octets};
 use std::alloc::{AllocError, Global};
+
+const MAX_UNUSED: u8 = 7;
 
 /// A BIT STRING: octets, and how many bits of the last one aren't used (X.690 8.6).
 #[derive(Debug, Drop)]
@@ -16,6 +20,34 @@ pub struct BitString {
 }
 
 impl BitString {
+    /// The string of these contents octets. It is `Shape` exactly where the first isn't a count of
+    /// unused bits, which is at most seven and zero where nothing follows (X.690 8.6.2).
+    pub fn from_content(alloc: Global, bytes: &[u8]) -> Result<BitString, DerError>
+        ensures { MatchResult result
+            (λ bits. bytes.now ≡ bits.unused ∷ bits.payload)
+            (RefusesContents (HasBitString bytes.now)) }
+    {
+        let [unused, payload @ ..] = bytes else {
+            return Err(DerError::Shape);
+        };
+        if *unused > MAX_UNUSED || (payload.is_empty() && *unused != 0) {
+            return Err(DerError::Shape);
+        }
+        Ok(BitString {
+            unused: *unused,
+            payload: Octets::from_slice(alloc, payload)?,
+        })
+    }
+
+    /// The contents octets: the count of unused bits, then the octets that hold the bits.
+    pub fn to_content(&self, alloc: Global) -> Result<Octets, AllocError>
+        ensures { IfOk result (λ content. content ≡ self.now.unused ∷ self.now.payload) }
+    {
+        let mut content = Vec::from_slice(alloc, &[self.unused])?;
+        content.extend_from_slice(self.payload_view())?;
+        Ok(Octets::from(content))
+    }
+
     /// The string of all bits of the octets.
     pub fn with_bytes(alloc: Global, bytes: &[u8]) -> Result<BitString, AllocError>
         ensures { IfOk result (λ bits. (bits.unused ≡ 0) × (bits.payload ≡ bytes.now)) }
@@ -49,4 +81,21 @@ impl BitString {
             payload: self.payload.try_clone(alloc)?,
         })
     }
+}
+
+impl PartialEq for BitString {
+    ghost eq = { λ a b. a.unused == b.unused && bytes_eq a.payload b.payload };
+
+    ghost laws = { Prim.search (comparing, rules) };
+
+    fn eq(&self, other: &BitString) -> bool
+        ensures value { result ≡ (self.now.unused == other.now.unused && bytes_eq self.now.payload other.now.payload) }
+        ensures same { IsTrue result ↔ (self.now ≡ other.now) }
+    {
+        self.unused == other.unused && self.payload == other.payload
+    }
+}
+
+impl Eq for BitString {
+    ghost laws = { Prim.search (comparing, rules) };
 }

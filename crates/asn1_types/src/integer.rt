@@ -1,8 +1,11 @@
 //! Integers of any size.
 
-ghost use Rattle.std.specs.Prelude.{◌≡◌, ◌≢◌, List, ℕ, [], ◌∷◌, IfOk, MatchResult};
+ghost use Rattle.std.specs.Prelude.{◌≡◌, ◌↔◌, ◌≢◌, ◌<◌, ◌≤◌, List, ℕ, [], ◌∷◌, length, slice_index, IfOk, IsTrue, MatchResult, bytes_eq};
+ghost use Rattle.std.proofs.Common.{rules};
+ghost use Rattle.std.specs.Cmp.Rules.{comparing};
 ghost use Rattle.asn1_types.specs.Contents.{RefusesContents};
-ghost use Rattle.asn1_types.specs.Integer.{IsInteger};
+ghost use Rattle.asn1_types.specs.Integer.{IsInteger, number_of, IsUnsignedInteger, unsigned_octets};
+ghost use Rattle.der_core.specs.Head.{IsOctets};
 
 use der_core::{DerError, Octets};
 use std::alloc::{AllocError, Global};
@@ -29,6 +32,36 @@ impl IntegerAsn1 {
         })
     }
 
+    /// The number that the octets write, the most significant first, in its shortest contents: zeros
+    /// before the number are dropped, no octets are the number 0, and a zero is put before a first
+    /// octet of 0x80 or more, as the first bit is the sign (X.690 8.3.2, 8.3.3).
+    pub fn from_bytes_be_unsigned(alloc: Global, bytes: &[u8]) -> Result<IntegerAsn1, AllocError>
+        ensures { IfOk result (λ integer. IsUnsignedInteger (number_of bytes.now) integer.contents) }
+    {
+        let digits = without_zeros(bytes);
+        let mut contents = Vec::new(alloc);
+        // The first bit would be 1, or there would be no octet.
+        if !matches!(digits, [0..=0x7F, ..]) {
+            contents.push(0)?;
+        }
+        contents.extend_from_slice(digits)?;
+        Ok(IntegerAsn1 {
+            contents: Octets::from(contents),
+        })
+    }
+
+    /// The contents octets without a first octet of zero where more than one stands. Read without a
+    /// sign they write the same number.
+    pub fn as_unsigned_bytes_be(&self) -> &[u8]
+        ensures octets { result.now ≡ unsigned_octets self.now.contents }
+        ensures number { number_of result.now ≡ number_of self.now.contents }
+    {
+        match self.contents.as_slice() {
+            [0, rest @ ..] if !rest.is_empty() => rest,
+            contents => contents,
+        }
+    }
+
     /// The contents octets.
     pub fn as_signed_bytes_be(&self) -> &[u8]
         ensures { result.now ≡ self.now.contents }
@@ -45,3 +78,43 @@ impl IntegerAsn1 {
         })
     }
 }
+
+impl PartialEq for IntegerAsn1 {
+    ghost eq = { λ a b. bytes_eq a.contents b.contents };
+
+    ghost laws = { Prim.search (comparing, rules) };
+
+    fn eq(&self, other: &IntegerAsn1) -> bool
+        ensures value { result ≡ bytes_eq self.now.contents other.now.contents }
+        ensures same { IsTrue result ↔ (self.now ≡ other.now) }
+    {
+        self.contents == other.contents
+    }
+}
+
+impl Eq for IntegerAsn1 {
+    ghost laws = { Prim.search (comparing, rules) };
+}
+
+/// The octets from the first that isn't zero on.
+fn without_zeros(octets: &[u8]) -> &[u8]
+    ensures number { number_of result.now ≡ number_of octets.now }
+    ensures no_zero { result.now ≢ [] → 0 < slice_index result.now 0 }
+{
+    let mut rest = octets;
+    while let [0, after @ ..] = rest {
+        rest = after;
+    }
+    rest
+}
+
+/// A number that isn't negative has one shortest contents, and none of its contents are shorter: no
+/// zeros stand before it but the one that 0 is, or that a first octet of 0x80 or more needs.
+pub fn one_shortest_integer()
+    ensures one { (number : ℕ) (a b : List ℕ) → IsOctets a → IsOctets b → IsUnsignedInteger number a → IsUnsignedInteger number b → a ≡ b }
+    ensures none_shorter { (number : ℕ) (a b : List ℕ) → IsOctets b → IsUnsignedInteger number a → IsInteger b → slice_index b 0 < 128 → number_of b ≡ number → length a ≤ length b }
+    ensures zeros_before { (octets : List ℕ) → number_of (0 ∷ octets) ≡ number_of octets }
+    ensures zero { IsUnsignedInteger (number_of []) (0 ∷ []) }
+    ensures low { (first : ℕ) (octets : List ℕ) → 0 < first → first < 128 → IsUnsignedInteger (number_of (first ∷ octets)) (first ∷ octets) }
+    ensures high { (first : ℕ) (octets : List ℕ) → 128 ≤ first → IsUnsignedInteger (number_of (first ∷ octets)) (0 ∷ first ∷ octets) }
+{}

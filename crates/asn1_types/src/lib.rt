@@ -4,8 +4,10 @@
 
 mod bit_string;
 mod error;
+mod ia5_string;
 mod integer;
 
 pub use bit_string::BitString;
 pub use error::{CharSetError, TextError};
-pub use integer::IntegerAsn1;
+pub use ia5_string::Ia5String;
+pub use integer::{IntegerAsn1, one_shortest_integer};

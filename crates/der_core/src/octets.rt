@@ -1,6 +1,8 @@
 //! Octets that a value owns.
 
-ghost use Rattle.std.specs.Prelude.{◌≡◌, IfOk};
+ghost use Rattle.std.specs.Prelude.{◌≡◌, ◌↔◌, IfOk, IsTrue, nat_eq};
+ghost use Rattle.std.specs.Cmp.Lexicographic.{pointwise, nat_list_eq_equiv};
+ghost use Rattle.std.specs.Cmp.{partial_equiv_from_equiv};
 
 use std::alloc::{AllocError, Global};
 use std::marker::Model;
@@ -41,4 +43,30 @@ impl Octets {
     {
         Octets::from_slice(alloc, self.as_slice())
     }
+}
+
+/// The octets of a vector, which are not copied.
+impl From<Vec<u8>> for Octets {
+    ghost from_gives = { λ bytes octets. octets ≡ bytes.items };
+
+    fn from(bytes: Vec<u8>) -> Octets {
+        Octets { bytes }
+    }
+}
+
+impl PartialEq for Octets {
+    ghost eq = { pointwise nat_eq };
+
+    ghost laws = { partial_equiv_from_equiv nat_list_eq_equiv };
+
+    fn eq(&self, other: &Octets) -> bool
+        ensures value { result ≡ pointwise nat_eq self.now other.now }
+        ensures same { IsTrue result ↔ (self.now ≡ other.now) }
+    {
+        self.as_slice() == other.as_slice()
+    }
+}
+
+impl Eq for Octets {
+    ghost laws = { nat_list_eq_equiv };
 }

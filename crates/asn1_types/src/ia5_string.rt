@@ -1,0 +1,83 @@
+//! Strings of the seven-bit alphabet.
+
+ghost use Rattle.std.specs.Prelude.{◌≡◌, ◌↔◌, IfOk, IsTrue, MatchResult, bytes_eq};
+ghost use Rattle.std.proofs.Common.{rules};
+ghost use Rattle.std.specs.Cmp.Rules.{comparing};
+ghost use Rattle.std.proofs.Props.{props};
+ghost use Rattle.asn1_types.specs.Contents.{RefusesContents};
+ghost use Rattle.asn1_types.specs.Ia5String.{IsIa5, RefusesCharSet};
+
+use crate::error::CharSetError;
+use der_core::{DerError, Octets};
+use std::alloc::{AllocError, Global};
+use std::str;
+
+/// An IA5String: octets of at most 127 each (X.680 41), which are a text.
+#[derive(Debug, Drop)]
+pub struct Ia5String {
+    text: Octets,
+    ghost ascii: { IsIa5 text } by { Prim.hlevel props },
+}
+
+impl Ia5String {
+    /// The string of this text, `CharSet` exactly where an octet of it is past 127.
+    pub fn from_string(alloc: Global, text: &str) -> Result<Ia5String, CharSetError>
+        ensures { MatchResult result
+            (λ string. string.text ≡ text.now)
+            (RefusesCharSet (IsIa5 text.now)) }
+    {
+        if !text.is_ascii() {
+            return Err(CharSetError::CharSet);
+        }
+        Ok(Ia5String {
+            text: Octets::from_slice(alloc, text.as_bytes())?,
+        })
+    }
+
+    /// The string of these contents octets, `Shape` exactly where one is past 127.
+    pub fn from_content(alloc: Global, bytes: &[u8]) -> Result<Ia5String, DerError>
+        ensures { MatchResult result
+            (λ string. string.text ≡ bytes.now)
+            (RefusesContents (IsIa5 bytes.now)) }
+    {
+        if !bytes.is_ascii() {
+            return Err(DerError::Shape);
+        }
+        Ok(Ia5String {
+            text: Octets::from_slice(alloc, bytes)?,
+        })
+    }
+
+    /// The text, whose octets are the contents octets.
+    pub fn as_str(&self) -> &str
+        ensures { result.now ≡ self.now.text }
+    {
+        str::from_utf8(self.text.as_slice()).unwrap()
+    }
+
+    /// A copy of the value.
+    pub fn try_clone(&self, alloc: Global) -> Result<Ia5String, AllocError>
+        ensures { IfOk result (λ copy. copy ≡ self.now) }
+    {
+        Ok(Ia5String {
+            text: self.text.try_clone(alloc)?,
+        })
+    }
+}
+
+impl PartialEq for Ia5String {
+    ghost eq = { λ a b. bytes_eq a.text b.text };
+
+    ghost laws = { Prim.search (comparing, rules) };
+
+    fn eq(&self, other: &Ia5String) -> bool
+        ensures value { result ≡ bytes_eq self.now.text other.now.text }
+        ensures same { IsTrue result ↔ (self.now ≡ other.now) }
+    {
+        self.text == other.text
+    }
+}
+
+impl Eq for Ia5String {
+    ghost laws = { Prim.search (comparing, rules) };
+}
