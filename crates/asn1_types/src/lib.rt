@@ -5,7 +5,9 @@
 mod bit_string;
 mod error;
 mod integer;
+mod oid;
 
 pub use bit_string::BitString;
 pub use error::{CharSetError, TextError};
 pub use integer::IntegerAsn1;
+pub use oid::ObjectIdentifier;
