@@ -2,3 +2,7 @@ pub mod Contents
 pub mod Integer
 pub mod BitString
 pub mod Ia5String
+pub mod Subidentifier
+pub mod ObjectIdentifier
+pub mod SubidentifierReading
+pub mod OneIdentifier

@@ -6,8 +6,10 @@ mod bit_string;
 mod error;
 mod ia5_string;
 mod integer;
+mod oid;
 
 pub use bit_string::BitString;
 pub use error::{CharSetError, TextError};
 pub use ia5_string::Ia5String;
 pub use integer::{IntegerAsn1, one_shortest_integer};
+pub use oid::ObjectIdentifier;

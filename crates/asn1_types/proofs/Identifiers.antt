@@ -1,0 +1,60 @@
+-- Octets are the contents of an identifier where they are subidentifiers, one at least.
+use Rattle.std.proofs.Common.{◌≡◌, ◌≢◌, ◌↔◌, ℕ, Bool, true, false, not, IsTrue, eqb, length, refl, ◌+◌, ◌-◌, ◌*◌, ◌/◌, ◌%◌, ◌<◌, ◌≤◌, List, [], ◌∷◌, sym, ap, ◌∙◌, inl, inr, arith}
+use Rattle.std.proofs.lemmas.Bool.{cases_lt, eqb-true, eqb-false, false≢true}
+use Rattle.std.proofs.lemmas.List.{nil_from_length}
+use Rattle.std.specs.List.{AllByRecursion, flat_map}
+use Rattle.asn1_types.specs.Subidentifier.{IsSubidentifier, subidentifier, AreSubidentifiers, BeginsWithNoSubidentifier}
+use Rattle.asn1_types.specs.SubidentifierReading.{subidentifier_some}
+use Rattle.asn1_types.specs.ObjectIdentifier.{IsArcs, IsIdentifier, contents_of}
+use Rattle.asn1_types.proofs.Subidentifiers.{are_none}
+
+-- the identifier whose first two arcs make a number
+from_numbers : (octets : List ℕ) (n : ℕ) (ns : List ℕ) → AllByRecursion IsSubidentifier (n ∷ ns)
+    → octets ≡ flat_map subidentifier (n ∷ ns) → IsIdentifier octets
+from_numbers octets n ns all spelled =
+    elim (cases_lt n 80) [
+      | inl low ↦ by_arcs (n / 40) (n % 40) (omega arith) (λ _. omega arith) (omega arith)
+      | inr high ↦ by_arcs 2 (n - 80) (omega arith) (λ less. absurd (omega arith)) (omega arith)
+    ]
+  where
+    by_arcs : (first second : ℕ) → first ≤ 2 → (first < 2 → second ≤ 39) → 40 * first + second ≡ n → IsIdentifier octets
+    by_arcs first second low within number = record {
+      arcs = first ∷ second ∷ ns;
+      are_arcs = (low, within, (omega arith, all.1));
+      spelled = spelled ∙ ap (λ m. flat_map subidentifier (m ∷ ns)) (sym number);
+    }
+
+numbers_of : (octets arcs : List ℕ) → IsArcs arcs → octets ≡ contents_of arcs → AreSubidentifiers octets × (octets ≢ [])
+numbers_of octets [] h e = absurd h
+numbers_of octets (x ∷ []) h e = absurd h
+numbers_of octets (x ∷ y ∷ xs) h e = (
+  record { numbers = (40 * x + y) ∷ xs; bounded = h.2; spelled = e },
+  λ none. subidentifier_some (40 * x + y) (flat_map subidentifier xs) (sym e ∙ none),
+)
+
+-- contents octets are subidentifiers, and not none
+pub contents_are : (octets : List ℕ) → IsIdentifier octets → AreSubidentifiers octets × (octets ≢ [])
+contents_are octets identifier = numbers_of octets identifier.arcs identifier.are_arcs identifier.spelled
+
+pub contents_from : (octets : List ℕ) → AreSubidentifiers octets → octets ≢ [] → IsIdentifier octets
+contents_from octets are some = by_numbers are.numbers are.bounded are.spelled
+  where
+    by_numbers : (numbers : List ℕ) → AllByRecursion IsSubidentifier numbers → octets ≡ flat_map subidentifier numbers → IsIdentifier octets
+    by_numbers [] all spelled = absurd (some spelled)
+    by_numbers (n ∷ ns) all spelled = from_numbers octets n ns all spelled
+
+-- all octets are subidentifiers: they are the contents of an identifier unless there are none
+pub all_read : (octets : List ℕ) (empty : Bool) → empty ≡ eqb (length octets) 0 → AreSubidentifiers octets
+    → IsTrue (not empty) ↔ IsIdentifier octets
+all_read octets true e are =
+    let none : octets ≡ [] = nil_from_length octets (eqb-true _ _ (sym e)) in
+    (λ t. absurd (false≢true t), λ identifier. absurd ((contents_are octets identifier).1 none))
+all_read octets false e are =
+    (λ t. contents_from octets are (λ none. eqb-false _ _ (sym e) (ap length none)), λ identifier. refl)
+
+-- octets are left that begin with no subidentifier
+pub some_left : (octets rest : List ℕ) (empty : Bool) → empty ≡ eqb (length rest) 0 → empty ≡ false
+    → BeginsWithNoSubidentifier rest → (AreSubidentifiers octets → AreSubidentifiers rest) → IsTrue empty ↔ IsIdentifier octets
+some_left octets rest empty e left begins down =
+    let some : rest ≢ [] = λ none. eqb-false _ _ (sym e ∙ left) (ap length none) in
+    (λ t. absurd (false≢true (sym left ∙ t)), λ identifier. absurd (are_none rest begins some (down (contents_are octets identifier).0)))

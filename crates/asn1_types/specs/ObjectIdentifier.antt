@@ -1,0 +1,36 @@
+-- Object identifiers: arcs, their contents octets and their dotted text (X.690 8.19, RFC 4512 1.4).
+use Rattle.std.specs.Prelude.{◌≡◌, ℕ, ◌+◌, ◌*◌, ◌<◌, ◌≤◌, List, [], ◌∷◌, map}
+use Rattle.std.specs.List.{AllByRecursion, flat_map, join_with_byte}
+use Rattle.std.specs.Fmt.{decimal}
+use Rattle.asn1_types.specs.Subidentifier.{IsSubidentifier, subidentifier}
+
+-- The numbers that the subidentifiers of arcs hold: the first two arcs are one number (X.690 8.19.4).
+abbrev pub subidentifiers_of : List ℕ → List ℕ
+subidentifiers_of [] = []
+subidentifiers_of (first ∷ []) = []
+subidentifiers_of (first ∷ second ∷ more) = (40 * first + second) ∷ more
+
+-- Arcs of an identifier: at least two, the first at most 2, the second at most 39 under a first of 0 or 1 (X.690 8.19.4),
+-- each number of the subidentifiers in bounds.
+abbrev pub IsArcs : List ℕ → Type 0
+IsArcs [] = ⊥
+IsArcs (first ∷ []) = ⊥
+IsArcs (first ∷ second ∷ more) =
+    (first ≤ 2) × (first < 2 → second ≤ 39) × AllByRecursion IsSubidentifier (subidentifiers_of (first ∷ second ∷ more))
+
+-- The contents octets of arcs: their subidentifiers in order (X.690 8.19.2).
+abbrev pub contents_of : List ℕ → List ℕ
+contents_of arcs = flat_map subidentifier (subidentifiers_of arcs)
+
+abbrev pub dot : ℕ
+dot = 46
+
+-- The text of arcs: their decimal digits, with dots between.
+abbrev pub dotted : List ℕ → List ℕ
+dotted arcs = join_with_byte dot (map decimal arcs)
+
+-- Octets are the contents octets of an identifier where they are those of arcs.
+pub record IsIdentifier (contents : List ℕ) : Type 0 where
+  pub arcs : List ℕ
+  pub are_arcs : IsArcs arcs
+  pub spelled : contents ≡ contents_of arcs

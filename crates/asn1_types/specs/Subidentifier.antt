@@ -1,0 +1,28 @@
+-- Subidentifiers, the parts of the contents octets of an OBJECT IDENTIFIER (X.690 8.19.2).
+use Rattle.std.specs.Prelude.{◌≡◌, ◌≢◌, ℕ, ◌+◌, ◌/◌, ◌%◌, ◌^◌, ◌<◌, List, [], ◌∷◌, ◌++◌, map}
+use Rattle.std.specs.List.{AllByRecursion, flat_map}
+use Rattle.std.specs.Int.Digits.{digits_of}
+
+-- A number that a subidentifier holds here. X.690 sets no bound; this library reads 128 bits.
+abbrev pub IsSubidentifier : ℕ → Type 0
+IsSubidentifier number = number < 2 ^ 128
+
+-- The octets before the last one: the digits of a number in base 128, the most significant first and no zero in front,
+-- each with bit 8 set.
+abbrev pub leading_octets : ℕ → List ℕ
+leading_octets number = map (λ digit. 128 + digit) (digits_of 128 number)
+
+-- The octets of a subidentifier: all digits of the number in base 128, bit 8 set in all but the last.
+unfoldable pub subidentifier : ℕ → List ℕ
+subidentifier number = leading_octets (number / 128) ++ (number % 128 ∷ [])
+
+-- The octets don't begin with a subidentifier.
+abbrev pub BeginsWithNoSubidentifier : List ℕ → Type 0
+BeginsWithNoSubidentifier octets =
+    (number : ℕ) (after : List ℕ) → IsSubidentifier number → octets ≢ subidentifier number ++ after
+
+-- The octets are subidentifiers, one after another.
+pub record AreSubidentifiers (octets : List ℕ) : Type 0 where
+  pub numbers : List ℕ
+  pub bounded : AllByRecursion IsSubidentifier numbers
+  pub spelled : octets ≡ flat_map subidentifier numbers
