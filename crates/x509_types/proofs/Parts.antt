@@ -51,3 +51,9 @@ refuses_as P Q errors.Memory none refused = tt
 refuses_as P Q (errors.Malformed malformed) none refused = absurd refused
 refuses_as P Q errors.TooDeep none refused = absurd refused
 refuses_as P Q errors.TooLong none refused = absurd refused
+
+-- an element has its kids once
+pub same_kids : (t : DerElement) (tag tag' : ℕ) (kids kids' : List DerElement) → t ≡ Constructed tag (row kids) → t ≡ Constructed tag' (row kids') → kids ≡ kids'
+same_kids t tag tag' kids kids' is is' =
+    let same : row kids ≡ row kids' = cc in
+    sym (listed-row kids) ∙ ap listed same ∙ listed-row kids'

@@ -1,11 +1,12 @@
 -- Values in order and the elements that spell them: one more, none left, and one that has no value.
-use Rattle.std.proofs.Common.{◌≡◌, List, [], ◌∷◌, ◌++◌, refl, sym, ◌∙◌, ap, subst, append_assoc, append-nil, map, flat_map}
+use Rattle.std.proofs.Common.{◌≡◌, ℕ, Result, Ok, Err, MatchResult, List, [], ◌∷◌, ◌++◌, refl, sym, ◌∙◌, ap, subst, append_assoc, append-nil, map, flat_map}
 use Rattle.std.proofs.lemmas.List.{map-append}
 use Rattle.std.proofs.lemmas.Grind.{flat_map-append}
-use Rattle.der_core.specs.DerElement.{DerElement}
-use Rattle.x509_types.specs.Each.{AreEach, AreFirst, AreWritten, AreFirstWritten}
+use Rattle.der_core.specs.DerElement.{DerElement, Constructed, row}
+use Rattle.x509_types.proofs.Parts.{refuses_as, same_kids}
+use Rattle.x509_types.specs.Each.{AreEach, AreFirst, AreWritten, AreFirstWritten, IsListOf, IsWrittenList}
 use Rattle.x509_types.specs.Bounds.{AreDer}
-use Rattle.x509_types.specs.Shape.{RefusesInner}
+use Rattle.x509_types.specs.Shape.{RefusesInner, RefusesShape}
 use Rattle.x509_types.proofs.Inner.{AreDer-append, refuses_among}
 use Rattle.der_core.specs.declared.error.DerError.{DerError}
 
@@ -82,3 +83,50 @@ written_not spells written inner all rest rest' elements value e so_far next ref
     let parts : flat_map inner all ≡ flat_map inner first ++ (inner value ++ flat_map inner rest') =
         ap (flat_map inner) (so_far.parts ∙ ap (λ r. first ++ r) next) ∙ flat_map-append inner first (value ∷ rest') in
     subst (λ i. RefusesInner i e) (sym parts) (refuses_among (flat_map inner first) (inner value) (flat_map inner rest') e so_far.done.bounded refused)
+
+-- what is read of the kids is read of the element around them
+pub list_around : {X : Type 0} (spells : DerElement → X → Type 0) (t : DerElement) (tag : ℕ) (kids : List DerElement) → t ≡ Constructed tag (row kids)
+    → (r : Result (List X) DerError) → MatchResult r (AreEach spells kids) (RefusesShape (AreEach spells kids))
+    → MatchResult r (IsListOf tag spells t) (RefusesShape (IsListOf tag spells t))
+list_around spells t tag kids holds (Ok values) each = record { kids = kids; holds = holds; each = each }
+list_around spells t tag kids holds (Err e) refused =
+    refuses_as (AreEach spells kids) (IsListOf tag spells t) e
+      (λ none values list. none values (subst (λ ks. AreEach spells ks values) (same_kids t tag tag list.kids kids list.holds holds) list.each))
+      refused
+
+-- where an element spells a value by being the one that is written for it, so do elements in order
+pub each_written : {X : Type 0} (written : X → DerElement) (elements : List DerElement) (values : List X)
+    → AreEach (λ element value. element ≡ written value) elements values → elements ≡ map written values
+each_written written [] [] each = refl
+each_written written [] (v ∷ values) each = absurd each
+each_written written (e ∷ elements) [] each = absurd each
+each_written written (e ∷ elements) (v ∷ values) each =
+    ap (λ x. x ∷ elements) each.0 ∙ ap (λ xs. written v ∷ xs) (each_written written elements values each.1)
+
+pub written_each : {X : Type 0} (written : X → DerElement) (values : List X) → AreEach (λ element value. element ≡ written value) (map written values) values
+written_each written [] = tt
+written_each written (v ∷ values) = (refl, written_each written values)
+
+-- so the element around them is the one that is written for the list
+pub list_written : {X : Type 0} (written : X → DerElement) (tag : ℕ) (t : DerElement)
+    → (r : Result (List X) DerError) → MatchResult r (IsListOf tag (λ element value. element ≡ written value) t) (RefusesShape (IsListOf tag (λ element value. element ≡ written value) t))
+    → MatchResult r (λ values. t ≡ Constructed tag (row (map written values))) (RefusesShape (λ (values : List X). t ≡ Constructed tag (row (map written values))))
+list_written written tag t (Ok values) list = list.holds ∙ ap (λ kids. Constructed tag (row kids)) (each_written written list.kids values list.each)
+list_written written tag t (Err e) refused =
+    refuses_as (IsListOf tag (λ element value. element ≡ written value) t) (λ values. t ≡ Constructed tag (row (map written values))) e
+      (λ none values is. none values (record { kids = map written values; holds = is; each = written_each written values }))
+      refused
+
+abbrev no_element : List DerElement
+no_element = []
+
+none_inner : {X : Type 0} (values : List X) → flat_map (λ (value : X). no_element) values ≡ []
+none_inner [] = refl
+none_inner (v ∷ values) = none_inner values
+
+-- a list of values without inner elements is written as it is
+pub plain_list : {X : Type 0} (written : X → DerElement) (tag : ℕ) (values : List X)
+    → (r : Result DerElement DerError) → MatchResult r (IsWrittenList tag (λ element value. element ≡ written value) written (λ value. no_element) values) (RefusesInner (flat_map (λ value. no_element) values))
+    → MatchResult r (λ tree. (tree ≡ Constructed tag (row (map written values))) × (tree ≡ Constructed tag (row (map written values))) × AreDer []) (RefusesInner [])
+plain_list written tag values (Ok tree) list = (list.is, list.is, tt)
+plain_list written tag values (Err e) refused = subst (λ inner. RefusesInner inner e) (none_inner values) refused

@@ -4,3 +4,7 @@ pub mod Each
 pub mod Elements
 pub mod RsaPublicKey
 pub mod AlgorithmIdentifier
+pub mod DirectoryString
+pub mod OtherValue
+pub mod AttributeValue
+pub mod Name

@@ -5,16 +5,17 @@ ghost use Rattle.der_core.specs.Encoding.{IsDer};
 ghost use Rattle.x509_types.specs.Shape.{RefusesShape, IsWritten};
 
 use crate::structure::Structure;
-use crate::shape::{Kids, integer_of, integer_tree, kept_option};
+use crate::leaf::{read_oid, write_oid};
+use crate::shape::{Kids, kept_option};
 use crate::tag::SEQUENCE;
-use asn1_types::IntegerAsn1;
+use asn1_types::ObjectIdentifier;
 use der_core::{DerError, Raw, Tree, Trees};
 use std::alloc::{AllocError, Global};
 
 /// An algorithm by its identifier, with its parameters (RFC 5280 4.1.1.2).
 #[derive(Debug, Drop)]
 pub struct AlgorithmIdentifier {
-    oid: IntegerAsn1,
+    oid: ObjectIdentifier,
     parameters: Option<Raw>,
 }
 
@@ -29,7 +30,7 @@ impl Structure for AlgorithmIdentifier {
 
     fn read(alloc: Global, tree: &Tree) -> Result<AlgorithmIdentifier, DerError> {
         let mut kids = Kids::of(tree, SEQUENCE)?;
-        let oid = integer_of(alloc, kids.next()?)?;
+        let oid = read_oid(alloc, kids.next()?)?;
         let parameters = kept_option(alloc, kids.next_any())?;
         kids.end()?;
         Ok(AlgorithmIdentifier { oid, parameters })
@@ -37,10 +38,21 @@ impl Structure for AlgorithmIdentifier {
 
     fn write(&self, alloc: Global) -> Result<Tree, DerError> {
         let mut kids = Trees::new(alloc);
-        kids.push(integer_tree(alloc, &self.oid)?)?;
+        kids.push(write_oid(alloc, &self.oid)?)?;
         if let Some(parameters) = &self.parameters {
             kids.push(parameters.tree(alloc)?)?;
         }
         Ok(Tree::branch(SEQUENCE, kids))
+    }
+
+    fn try_clone(&self, alloc: Global) -> Result<AlgorithmIdentifier, AllocError> {
+        let parameters = match &self.parameters {
+            Some(parameters) => Some(parameters.try_clone(alloc)?),
+            None => None,
+        };
+        Ok(AlgorithmIdentifier {
+            oid: self.oid.try_clone(alloc)?,
+            parameters,
+        })
     }
 }

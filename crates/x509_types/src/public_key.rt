@@ -5,7 +5,8 @@ ghost use Rattle.der_core.specs.Encoding.{IsDer};
 ghost use Rattle.x509_types.specs.Shape.{RefusesShape, IsWritten};
 
 use crate::structure::Structure;
-use crate::shape::{Kids, integer_of, integer_tree};
+use crate::leaf::{read_integer, write_integer};
+use crate::shape::Kids;
 use crate::tag::SEQUENCE;
 use asn1_types::IntegerAsn1;
 use der_core::{DerError, Tree, Trees};
@@ -29,8 +30,8 @@ impl Structure for RsaPublicKey {
 
     fn read(alloc: Global, tree: &Tree) -> Result<RsaPublicKey, DerError> {
         let mut kids = Kids::of(tree, SEQUENCE)?;
-        let modulus = integer_of(alloc, kids.next()?)?;
-        let public_exponent = integer_of(alloc, kids.next()?)?;
+        let modulus = read_integer(alloc, kids.next()?)?;
+        let public_exponent = read_integer(alloc, kids.next()?)?;
         kids.end()?;
         Ok(RsaPublicKey {
             modulus,
@@ -40,8 +41,15 @@ impl Structure for RsaPublicKey {
 
     fn write(&self, alloc: Global) -> Result<Tree, DerError> {
         let mut kids = Trees::new(alloc);
-        kids.push(integer_tree(alloc, &self.modulus)?)?;
-        kids.push(integer_tree(alloc, &self.public_exponent)?)?;
+        kids.push(write_integer(alloc, &self.modulus)?)?;
+        kids.push(write_integer(alloc, &self.public_exponent)?)?;
         Ok(Tree::branch(SEQUENCE, kids))
+    }
+
+    fn try_clone(&self, alloc: Global) -> Result<RsaPublicKey, AllocError> {
+        Ok(RsaPublicKey {
+            modulus: self.modulus.try_clone(alloc)?,
+            public_exponent: self.public_exponent.try_clone(alloc)?,
+        })
     }
 }

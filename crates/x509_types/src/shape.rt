@@ -6,12 +6,9 @@ ghost use Rattle.der_core.specs.DerElement.{DerElements, Primitive, Constructed,
 ghost use Rattle.der_core.specs.Encoding.{IsDer};
 ghost use Rattle.x509_types.specs.Bounds.{AreDer, AreDer-prop};
 ghost use Rattle.x509_types.specs.Shape.{RefusesShape, IsWritten, BeginsOtherwise, HasMore};
-ghost use Rattle.x509_types.specs.Elements.{integer};
 ghost use Rattle.der_core.specs.declared.error.DerError.TheVariants as errors;
 
-use crate::tag::INTEGER;
-use asn1_types::IntegerAsn1;
-use der_core::{DerError, Octets, Raw, Tree, Trees};
+use der_core::{DerError, Raw, Tree};
 use std::alloc::{AllocError, Global};
 
 /// The elements in a constructed element that aren't read yet.
@@ -97,36 +94,6 @@ impl<'a> Kids<'a> {
             [_, ..] => Err(DerError::Shape),
         }
     }
-}
-
-/// The contents octets of a primitive element of this tag.
-pub fn leaf_of(tree: &Tree, tag: u8) -> Result<&[u8], DerError>
-    ensures { MatchResult result
-        (λ content. tree.now ≡ Primitive tag content.now)
-        (RefusesShape (λ content. tree.now ≡ Primitive tag content)) }
-{
-    if tree.tag() != tag {
-        return Err(DerError::Shape);
-    }
-    match tree.content() {
-        Some(content) => Ok(content),
-        None => Err(DerError::Shape),
-    }
-}
-
-/// The integer of an INTEGER.
-pub fn integer_of(alloc: Global, tree: &Tree) -> Result<IntegerAsn1, DerError>
-    ensures { MatchResult result (IsWritten integer tree.now) (RefusesShape (IsWritten integer tree.now)) }
-{
-    IntegerAsn1::from_content(alloc, leaf_of(tree, INTEGER)?)
-}
-
-/// The INTEGER of an integer.
-pub fn integer_tree(alloc: Global, value: &IntegerAsn1) -> Result<Tree, AllocError>
-    ensures { IfOk result (λ tree. tree ≡ integer value.now) }
-{
-    let content = Octets::from_slice(alloc, value.as_signed_bytes_be())?;
-    Ok(Tree::leaf(INTEGER, content))
 }
 
 /// The element, kept as it is.

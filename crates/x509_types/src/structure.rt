@@ -1,12 +1,12 @@
 //! What all structures have in common.
 
-ghost use Rattle.std.specs.Prelude.{◌≡◌, List, flat_map, MatchResult};
+ghost use Rattle.std.specs.Prelude.{◌≡◌, List, flat_map, IfOk, MatchOption, MatchResult};
 ghost use Rattle.der_core.specs.DerElement.{DerElement};
 ghost use Rattle.der_core.specs.Encoding.{IsDer};
 ghost use Rattle.der_core.specs.declared.error.DerError.TheVariants as errors;
 ghost use Rattle.x509_types.specs.Shape.{RefusesShape, RefusesInner};
 ghost use Rattle.x509_types.specs.Bounds.{AreDer};
-ghost use Rattle.x509_types.specs.Each.{AreEach, AreWritten};
+ghost use Rattle.x509_types.specs.Each.{AreEach, AreWritten, IsListOf, IsWrittenList};
 
 use crate::list::ListOf;
 use crate::shape::Kids;
@@ -31,6 +31,22 @@ pub trait Structure: Sized + Drop {
         ensures { MatchResult result
             (λ tree. (tree ≡ written self.now) × spells tree self.now × AreDer (inner self.now))
             (RefusesInner (inner self.now)) };
+
+    /// A copy of the value.
+    fn try_clone(&self, alloc: Global) -> Result<Self, AllocError>
+        ensures { IfOk result (λ copy. copy ≡ self.now) };
+}
+
+/// The value of the element, where it spells one.
+pub fn read_if<T: Structure>(alloc: Global, tree: &Tree) -> Result<Option<T>, AllocError>
+    requires { IsDer tree.now }
+    ensures { IfOk result (λ found. MatchOption found ((value : T) → T.spells tree.now value → ⊥) (T.spells tree.now)) }
+{
+    match T::read(alloc, tree) {
+        Ok(value) => Ok(Some(value)),
+        Err(DerError::Shape) => Ok(None),
+        Err(_) => Err(AllocError),
+    }
 }
 
 /// The values of the elements, one for each.
@@ -55,4 +71,30 @@ pub fn write_each<T: Structure>(alloc: Global, values: &ListOf<T>) -> Result<Tre
         rest = others;
     }
     Ok(kids)
+}
+
+/// The values in a SEQUENCE OF or a SET OF, by its tag.
+pub fn read_list<T: Structure>(alloc: Global, tree: &Tree, tag: u8) -> Result<ListOf<T>, DerError>
+    requires { IsDer tree.now }
+    ensures { MatchResult result (IsListOf tag T.spells tree.now) (RefusesShape (IsListOf tag T.spells tree.now)) }
+{
+    read_each(alloc, Kids::of(tree, tag)?)
+}
+
+/// The SEQUENCE OF or the SET OF of the values, by its tag.
+pub fn write_list<T: Structure>(alloc: Global, values: &ListOf<T>, tag: u8) -> Result<Tree, DerError>
+    ensures { MatchResult result (IsWrittenList tag T.spells T.written T.inner values.now) (RefusesInner (flat_map T.inner values.now)) }
+{
+    Ok(Tree::branch(tag, write_each(alloc, values)?))
+}
+
+/// A copy of each value.
+pub fn copy_each<T: Structure>(alloc: Global, values: &ListOf<T>) -> Result<ListOf<T>, AllocError>
+    ensures { IfOk result (λ copies. copies ≡ values.now) }
+{
+    let mut copies = ListOf::new(alloc);
+    for value in values.as_slice() {
+        copies.push(value.try_clone(alloc)?)?;
+    }
+    Ok(copies)
 }
