@@ -30,7 +30,7 @@ mutual
   IsWellFormed-prop (Primitive tag content) = hlevel (IsTag-prop, same_numbers)
   IsWellFormed-prop (Constructed tag kids) = hlevel (IsTag-prop, same_numbers, AreWellFormed-prop kids)
 
-  AreWellFormed-prop : (elements : DerElements) → IsProp (AreWellFormed elements)
+  pub AreWellFormed-prop : (elements : DerElements) → IsProp (AreWellFormed elements)
   AreWellFormed-prop Nil = Unit-prop
   AreWellFormed-prop (Cons kid kids) = ×_prop (IsWellFormed-prop kid) (AreWellFormed-prop kids)
 

@@ -47,7 +47,8 @@ impl Raw {
 
     /// The tree that was kept.
     pub fn tree(&self, alloc: Global) -> Result<Tree, AllocError>
-        ensures { IfOk result (λ tree. tree ≡ self.now) }
+        ensures kept { IfOk result (λ tree. tree ≡ self.now) }
+        ensures der { IfOk result IsDer }
     {
         read_exact(alloc, &self.octets).map_err(|_| AllocError)
     }

@@ -1,9 +1,9 @@
 -- Elements by their kids: what is known of an element whose kids were looked at.
-use Rattle.std.proofs.Common.{subst, ℕ, length-append, ◌≡◌, ◌≢◌, ◌≤◌, length, refl, arith, List, [], ◌∷◌, Option, Some, None, sym, ◌∙◌, ap}
+use Rattle.std.proofs.Common.{◌++◌, Result, Ok, Err, OnOk, OnErr, subst, ℕ, length-append, ◌≡◌, ◌≢◌, ◌≤◌, length, refl, arith, List, [], ◌∷◌, Option, Some, None, sym, ◌∙◌, ap}
 use Rattle.std.specs.Option.{option_copied}
 use Rattle.std.specs.Borrow.{Bor}
 use Rattle.der_core.specs.DerElement.{DerElement, Primitive, Constructed, DerElements, Nil, Cons, row, listed, row-listed, listed-row, tag_of, kids_of}
-use Rattle.der_core.specs.Encoding.{encoding, encodings, IsDer}
+use Rattle.der_core.specs.Encoding.{encoding, encodings, IsDer, IsWellFormed, AreWellFormed}
 use Rattle.x509_types.specs.Bounds.{AreDer}
 use Rattle.x509_types.specs.Shape.{HasMore, RefusesShape}
 use Rattle.der_core.specs.declared.error.DerError.{DerError}
@@ -57,3 +57,13 @@ pub same_kids : (t : DerElement) (tag tag' : ℕ) (kids kids' : List DerElement)
 same_kids t tag tag' kids kids' is is' =
     let same : row kids ≡ row kids' = cc in
     sym (listed-row kids) ∙ ap listed same ∙ listed-row kids'
+
+well_formed-append : (kids : List DerElement) (kid : DerElement) → AreWellFormed (row kids) → IsWellFormed kid → AreWellFormed (row (kids ++ kid ∷ []))
+well_formed-append [] kid formed one = (one, tt)
+well_formed-append (k ∷ kids) kid formed one = (formed.0, well_formed-append kids kid formed.1 one)
+
+-- one more well formed element, or as many as before
+pub well_formed_more : {E : Type 0} (old new : List DerElement) (kid : DerElement) (r : Result (Unit {0}) E) → OnOk r (new ≡ old ++ kid ∷ []) → OnErr r (new ≡ old)
+    → AreWellFormed (row old) → IsWellFormed kid → AreWellFormed (row new)
+well_formed_more old new kid (Ok done) ok err formed one = subst (λ ks. AreWellFormed (row ks)) (sym ok) (well_formed-append old kid formed one)
+well_formed_more old new kid (Err e) ok err formed one = subst (λ ks. AreWellFormed (row ks)) (sym err) formed

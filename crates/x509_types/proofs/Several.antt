@@ -5,6 +5,7 @@ use Rattle.std.proofs.lemmas.Grind.{flat_map-append}
 use Rattle.der_core.specs.DerElement.{DerElement, Constructed, row}
 use Rattle.x509_types.proofs.Parts.{refuses_as, same_kids}
 use Rattle.x509_types.specs.Each.{AreEach, AreFirst, AreWritten, AreFirstWritten, IsListOf, IsWrittenList}
+use Rattle.der_core.specs.Encoding.{IsWellFormed}
 use Rattle.x509_types.specs.Bounds.{AreDer}
 use Rattle.x509_types.specs.Shape.{RefusesInner, RefusesShape}
 use Rattle.x509_types.proofs.Inner.{AreDer-append, refuses_among}
@@ -127,6 +128,6 @@ none_inner (v ∷ values) = none_inner values
 -- a list of values without inner elements is written as it is
 pub plain_list : {X : Type 0} (written : X → DerElement) (tag : ℕ) (values : List X)
     → (r : Result DerElement DerError) → MatchResult r (IsWrittenList tag (λ element value. element ≡ written value) written (λ value. no_element) values) (RefusesInner (flat_map (λ value. no_element) values))
-    → MatchResult r (λ tree. (tree ≡ Constructed tag (row (map written values))) × (tree ≡ Constructed tag (row (map written values))) × AreDer []) (RefusesInner [])
-plain_list written tag values (Ok tree) list = (list.is, list.is, tt)
+    → MatchResult r (λ tree. (tree ≡ Constructed tag (row (map written values))) × (tree ≡ Constructed tag (row (map written values))) × IsWellFormed tree × AreDer []) (RefusesInner [])
+plain_list written tag values (Ok tree) list = (list.is, list.is, list.formed, tt)
 plain_list written tag values (Err e) refused = subst (λ inner. RefusesInner inner e) (none_inner values) refused

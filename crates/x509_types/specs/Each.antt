@@ -1,6 +1,7 @@
 -- Values of one structure in order, and the elements that spell them.
 use Rattle.std.specs.Prelude.{◌≡◌, ⊤, ℕ, List, [], ◌∷◌, ◌++◌, map, flat_map}
 use Rattle.der_core.specs.DerElement.{DerElement, Constructed, row}
+use Rattle.der_core.specs.Encoding.{IsWellFormed}
 use Rattle.x509_types.specs.Bounds.{AreDer}
 
 -- each element spells the value at its place, and there are as many of them
@@ -38,4 +39,5 @@ pub record AreFirstWritten {X : Type 0} (spells : DerElement → X → Type 0) (
 pub record IsWrittenList {X : Type 0} (tag : ℕ) (spells : DerElement → X → Type 0) (written : X → DerElement) (inner : X → List DerElement) (values : List X) (element : DerElement) : Type 0 where
   pub is : element ≡ Constructed tag (row (map written values))
   pub spelled : IsListOf tag spells element values
+  pub formed : IsWellFormed element
   pub bounded : AreDer (flat_map inner values)

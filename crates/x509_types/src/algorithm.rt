@@ -6,10 +6,10 @@ ghost use Rattle.x509_types.specs.Shape.{RefusesShape, IsWritten};
 
 use crate::structure::Structure;
 use crate::leaf::{read_oid, write_oid};
-use crate::shape::{Kids, kept_option};
+use crate::shape::{Kids, NewKids, kept_option};
 use crate::tag::SEQUENCE;
 use asn1_types::ObjectIdentifier;
-use der_core::{DerError, Raw, Tree, Trees};
+use der_core::{DerError, Raw, Tree};
 use std::alloc::{AllocError, Global};
 
 /// An algorithm by its identifier, with its parameters (RFC 5280 4.1.1.2).
@@ -37,12 +37,12 @@ impl Structure for AlgorithmIdentifier {
     }
 
     fn write(&self, alloc: Global) -> Result<Tree, DerError> {
-        let mut kids = Trees::new(alloc);
+        let mut kids = NewKids::new(alloc);
         kids.push(write_oid(alloc, &self.oid)?)?;
         if let Some(parameters) = &self.parameters {
             kids.push(parameters.tree(alloc)?)?;
         }
-        Ok(Tree::branch(SEQUENCE, kids))
+        Ok(kids.into_branch(SEQUENCE))
     }
 
     fn try_clone(&self, alloc: Global) -> Result<AlgorithmIdentifier, AllocError> {

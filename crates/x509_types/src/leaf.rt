@@ -2,6 +2,7 @@
 
 ghost use Rattle.std.specs.Prelude.{◌≡◌, List, ℕ, IfOk, MatchResult};
 ghost use Rattle.der_core.specs.DerElement.{Primitive};
+ghost use Rattle.der_core.specs.Encoding.{IsWellFormed, IsTag, form_bit};
 ghost use Rattle.x509_types.specs.Shape.{RefusesShape, IsWritten};
 ghost use Rattle.x509_types.specs.Elements.{integer, object_identifier, bit_string};
 
@@ -36,7 +37,8 @@ pub fn read_octets(alloc: Global, tree: &Tree, tag: u8) -> Result<Octets, DerErr
 
 /// The leaf of a tag and contents octets.
 pub fn leaf(alloc: Global, tag: u8, content: &[u8]) -> Result<Tree, AllocError>
-    ensures { IfOk result (λ tree. tree ≡ Primitive tag content.now) }
+    requires { IsTag tag × (form_bit tag ≡ 0) }
+    ensures { IfOk result (λ tree. (tree ≡ Primitive tag content.now) × IsWellFormed tree) }
 {
     Ok(Tree::leaf(tag, Octets::from_slice(alloc, content)?))
 }
@@ -49,7 +51,7 @@ pub fn read_integer(alloc: Global, tree: &Tree) -> Result<IntegerAsn1, DerError>
 }
 
 pub fn write_integer(alloc: Global, value: &IntegerAsn1) -> Result<Tree, AllocError>
-    ensures { IfOk result (λ tree. tree ≡ integer value.now) }
+    ensures { IfOk result (λ tree. (tree ≡ integer value.now) × IsWellFormed tree) }
 {
     leaf(alloc, INTEGER, value.as_signed_bytes_be())
 }
@@ -62,7 +64,7 @@ pub fn read_oid(alloc: Global, tree: &Tree) -> Result<ObjectIdentifier, DerError
 }
 
 pub fn write_oid(alloc: Global, value: &ObjectIdentifier) -> Result<Tree, AllocError>
-    ensures { IfOk result (λ tree. tree ≡ object_identifier value.now) }
+    ensures { IfOk result (λ tree. (tree ≡ object_identifier value.now) × IsWellFormed tree) }
 {
     leaf(alloc, OBJECT_IDENTIFIER, value.as_bytes())
 }
@@ -75,7 +77,7 @@ pub fn read_bit_string(alloc: Global, tree: &Tree) -> Result<BitString, DerError
 }
 
 pub fn write_bit_string(alloc: Global, value: &BitString) -> Result<Tree, AllocError>
-    ensures { IfOk result (λ tree. tree ≡ bit_string value.now) }
+    ensures { IfOk result (λ tree. (tree ≡ bit_string value.now) × IsWellFormed tree) }
 {
     Ok(Tree::leaf(BIT_STRING, value.to_content(alloc)?))
 }

@@ -5,11 +5,11 @@ ghost use Rattle.std.specs.Prelude.{◌≡◌, []};
 use crate::attribute_value::AttributeValue;
 use crate::leaf::{read_oid, write_oid};
 use crate::list::ListOf;
-use crate::shape::Kids;
+use crate::shape::{Kids, NewKids};
 use crate::structure::{Structure, copy_each, read_list, write_list};
 use crate::tag::{SEQUENCE, SET};
 use asn1_types::ObjectIdentifier;
-use der_core::{DerError, Tree, Trees};
+use der_core::{DerError, Tree};
 use std::alloc::{AllocError, Global};
 
 /// One attribute of a name: its type and its value.
@@ -43,10 +43,10 @@ impl Structure for AttributeTypeAndValue {
     }
 
     fn write(&self, alloc: Global) -> Result<Tree, DerError> {
-        let mut kids = Trees::new(alloc);
+        let mut kids = NewKids::new(alloc);
         kids.push(write_oid(alloc, &self.ty)?)?;
         kids.push(self.value.write(alloc)?)?;
-        Ok(Tree::branch(SEQUENCE, kids))
+        Ok(kids.into_branch(SEQUENCE))
     }
 
     fn try_clone(&self, alloc: Global) -> Result<AttributeTypeAndValue, AllocError> {

@@ -6,10 +6,10 @@ ghost use Rattle.x509_types.specs.Shape.{RefusesShape, IsWritten};
 
 use crate::structure::Structure;
 use crate::leaf::{read_integer, write_integer};
-use crate::shape::Kids;
+use crate::shape::{Kids, NewKids};
 use crate::tag::SEQUENCE;
 use asn1_types::IntegerAsn1;
-use der_core::{DerError, Tree, Trees};
+use der_core::{DerError, Tree};
 use std::alloc::{AllocError, Global};
 
 /// An RSA public key (RFC 8017 A.1.1).
@@ -40,10 +40,10 @@ impl Structure for RsaPublicKey {
     }
 
     fn write(&self, alloc: Global) -> Result<Tree, DerError> {
-        let mut kids = Trees::new(alloc);
+        let mut kids = NewKids::new(alloc);
         kids.push(write_integer(alloc, &self.modulus)?)?;
         kids.push(write_integer(alloc, &self.public_exponent)?)?;
-        Ok(Tree::branch(SEQUENCE, kids))
+        Ok(kids.into_branch(SEQUENCE))
     }
 
     fn try_clone(&self, alloc: Global) -> Result<RsaPublicKey, AllocError> {

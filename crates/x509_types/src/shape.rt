@@ -1,14 +1,15 @@
 //! Readers and writers that all structures share.
 
-ghost use Rattle.std.specs.Prelude.{◌≡◌, ◌≢◌, [], ◌∷◌, List, IfOk, IfSome, MatchResult, MatchOption};
+ghost use Rattle.std.specs.Prelude.{◌≡◌, ◌≢◌, [], ◌∷◌, ◌++◌, List, IfOk, OnOk, IfSome, MatchResult, MatchOption};
 ghost use Rattle.std.specs.Option.{option_copied};
 ghost use Rattle.der_core.specs.DerElement.{DerElements, Primitive, Constructed, row, tag_of};
-ghost use Rattle.der_core.specs.Encoding.{IsDer};
+ghost use Rattle.der_core.specs.Encoding.{IsDer, IsWellFormed, AreWellFormed, IsTag, form_bit};
+ghost use Rattle.der_core.specs.Kept.{AreWellFormed-prop};
 ghost use Rattle.x509_types.specs.Bounds.{AreDer, AreDer-prop};
 ghost use Rattle.x509_types.specs.Shape.{RefusesShape, IsWritten, BeginsOtherwise, HasMore};
 ghost use Rattle.der_core.specs.declared.error.DerError.TheVariants as errors;
 
-use der_core::{DerError, Raw, Tree};
+use der_core::{DerError, Raw, Tree, Trees};
 use std::alloc::{AllocError, Global};
 
 /// The elements in a constructed element that aren't read yet.
@@ -93,6 +94,42 @@ impl<'a> Kids<'a> {
             [] => Ok(()),
             [_, ..] => Err(DerError::Shape),
         }
+    }
+}
+
+/// The elements of a constructed element that is being written.
+#[derive(Drop)]
+pub struct NewKids {
+    kids: Trees,
+    ghost formed: { AreWellFormed (row kids) } by { AreWellFormed-prop (row kids) },
+}
+
+impl NewKids {
+    /// No elements.
+    pub fn new(alloc: Global) -> NewKids
+        ensures { result.kids ≡ [] }
+    {
+        NewKids {
+            kids: Trees::new(alloc),
+        }
+    }
+
+    /// Appends an element.
+    pub fn push(&mut self, kid: Tree) -> Result<(), AllocError>
+        requires { IsWellFormed kid }
+        ensures { OnOk result (self.new.kids ≡ self.old.kids ++ kid ∷ []) }
+    {
+        self.kids.push(kid)
+    }
+
+    /// The element around them.
+    pub fn into_branch(self, tag: u8) -> Tree
+        requires { IsTag tag × (form_bit tag ≡ 1) }
+        ensures branch { result ≡ Constructed tag (row self.kids) }
+        ensures formed { IsWellFormed result }
+    {
+        let NewKids { kids } = self;
+        Tree::branch(tag, kids)
     }
 }
 

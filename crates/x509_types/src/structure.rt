@@ -2,15 +2,15 @@
 
 ghost use Rattle.std.specs.Prelude.{◌≡◌, List, flat_map, IfOk, MatchOption, MatchResult};
 ghost use Rattle.der_core.specs.DerElement.{DerElement};
-ghost use Rattle.der_core.specs.Encoding.{IsDer};
+ghost use Rattle.der_core.specs.Encoding.{IsDer, IsWellFormed, IsTag, form_bit};
 ghost use Rattle.der_core.specs.declared.error.DerError.TheVariants as errors;
 ghost use Rattle.x509_types.specs.Shape.{RefusesShape, RefusesInner};
 ghost use Rattle.x509_types.specs.Bounds.{AreDer};
 ghost use Rattle.x509_types.specs.Each.{AreEach, AreWritten, IsListOf, IsWrittenList};
 
 use crate::list::ListOf;
-use crate::shape::Kids;
-use der_core::{DerError, Tree, Trees};
+use crate::shape::{Kids, NewKids};
+use der_core::{DerError, Tree};
 use std::alloc::{AllocError, Global};
 
 /// A structure of ASN.1: a type whose values are read from elements and written as elements.
@@ -29,7 +29,7 @@ pub trait Structure: Sized + Drop {
     /// The element that is written for the value, and spells it.
     fn write(&self, alloc: Global) -> Result<Tree, DerError>
         ensures { MatchResult result
-            (λ tree. (tree ≡ written self.now) × spells tree self.now × AreDer (inner self.now))
+            (λ tree. (tree ≡ written self.now) × spells tree self.now × IsWellFormed tree × AreDer (inner self.now))
             (RefusesInner (inner self.now)) };
 
     /// A copy of the value.
@@ -61,10 +61,10 @@ pub fn read_each<T: Structure>(alloc: Global, mut kids: Kids<'_>) -> Result<List
 }
 
 /// The elements of the values, one for each.
-pub fn write_each<T: Structure>(alloc: Global, values: &ListOf<T>) -> Result<Trees, DerError>
-    ensures { MatchResult result (AreWritten T.spells T.written T.inner values.now) (RefusesInner (flat_map T.inner values.now)) }
+pub fn write_each<T: Structure>(alloc: Global, values: &ListOf<T>) -> Result<NewKids, DerError>
+    ensures { MatchResult result (λ new. AreWritten T.spells T.written T.inner values.now new.kids) (RefusesInner (flat_map T.inner values.now)) }
 {
-    let mut kids = Trees::new(alloc);
+    let mut kids = NewKids::new(alloc);
     let mut rest = values.as_slice();
     while let Some((value, others)) = rest.split_first() {
         kids.push(value.write(alloc)?)?;
@@ -83,9 +83,10 @@ pub fn read_list<T: Structure>(alloc: Global, tree: &Tree, tag: u8) -> Result<Li
 
 /// The SEQUENCE OF or the SET OF of the values, by its tag.
 pub fn write_list<T: Structure>(alloc: Global, values: &ListOf<T>, tag: u8) -> Result<Tree, DerError>
+    requires { IsTag tag × (form_bit tag ≡ 1) }
     ensures { MatchResult result (IsWrittenList tag T.spells T.written T.inner values.now) (RefusesInner (flat_map T.inner values.now)) }
 {
-    Ok(Tree::branch(tag, write_each(alloc, values)?))
+    Ok(write_each(alloc, values)?.into_branch(tag))
 }
 
 /// A copy of each value.
