@@ -1,3 +1,5 @@
 pub mod Parts
 pub mod Several
 pub mod Inner
+pub mod Parameters
+pub mod Keys

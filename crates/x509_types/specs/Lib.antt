@@ -8,3 +8,6 @@ pub mod DirectoryString
 pub mod OtherValue
 pub mod AttributeValue
 pub mod Name
+pub mod KeyKind
+pub mod SubjectKey
+pub mod PublicKeyInfo

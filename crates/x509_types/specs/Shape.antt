@@ -1,6 +1,7 @@
 -- What it means that an element is read as a value of a structure, and that a value is written as an element.
 use Rattle.std.specs.Prelude.{◌≡◌, ◌≢◌, ⊤, ℕ, List, [], ◌∷◌, ◌++◌, Result, Ok, Err}
 use Rattle.der_core.specs.DerElement.{DerElement, tag_of}
+use Rattle.der_core.specs.Encoding.{encoding, IsDer}
 use Rattle.der_core.specs.Writing.{RefusesToWrite}
 use Rattle.der_core.specs.declared.error.DerError.{DerError}
 use Rattle.der_core.specs.declared.error.DerError.TheVariants as errors
@@ -42,3 +43,10 @@ RefusesInner inner errors.TooLong = IsFirstUnwritable inner errors.TooLong
 RefusesInner inner errors.Memory = ⊤
 RefusesInner inner (errors.Malformed malformed) = ⊥
 RefusesInner inner errors.Shape = ⊥
+
+-- A string holds the encoding of an element, all of it, that spells the value.
+pub record IsWithin {X : Type 0} (spells : DerElement → X → Type 0) (octets : List ℕ) (value : X) : Type 0 where
+  pub element : DerElement
+  pub der : IsDer element
+  pub encoded : octets ≡ encoding element
+  pub spelled : spells element value

@@ -1,15 +1,14 @@
 //! Identifiers of algorithms.
 
-ghost use Rattle.std.specs.Prelude.{◌≡◌, [], IfOk, MatchResult};
-ghost use Rattle.der_core.specs.Encoding.{IsDer};
-ghost use Rattle.x509_types.specs.Shape.{RefusesShape, IsWritten};
+ghost use Rattle.std.specs.Prelude.{◌≡◌, [], Some, IfOk};
+ghost use Rattle.std.specs.Option.{option_copied};
+ghost use Rattle.x509_types.specs.Elements.{null};
 
 use crate::structure::Structure;
-use crate::leaf::{read_oid, write_oid};
-use crate::shape::{Kids, NewKids, kept_option};
-use crate::tag::SEQUENCE;
+use crate::shape::{Kids, NewKids, kept, kept_option};
+use crate::tag::{NULL, SEQUENCE};
 use asn1_types::ObjectIdentifier;
-use der_core::{DerError, Raw, Tree};
+use der_core::{DerError, Octets, Raw, Tree};
 use std::alloc::{AllocError, Global};
 
 /// An algorithm by its identifier, with its parameters (RFC 5280 4.1.1.2).
@@ -17,6 +16,40 @@ use std::alloc::{AllocError, Global};
 pub struct AlgorithmIdentifier {
     oid: ObjectIdentifier,
     parameters: Option<Raw>,
+}
+
+impl AlgorithmIdentifier {
+    /// The algorithm of this identifier, with these parameters.
+    pub fn new(oid: ObjectIdentifier, parameters: Option<Raw>) -> AlgorithmIdentifier
+        ensures { (result.oid ≡ oid) × (result.parameters ≡ parameters) }
+    {
+        AlgorithmIdentifier { oid, parameters }
+    }
+
+    /// The algorithm of this identifier, with NULL parameters.
+    pub fn with_null(alloc: Global, oid: ObjectIdentifier) -> Result<AlgorithmIdentifier, AllocError>
+        ensures { IfOk result (λ a. (a.oid ≡ oid) × (a.parameters ≡ Some null)) }
+    {
+        let null = Tree::leaf(NULL, Octets::from_slice(alloc, &[])?);
+        Ok(AlgorithmIdentifier {
+            oid,
+            parameters: Some(kept(alloc, &null)?),
+        })
+    }
+
+    /// The identifier of the algorithm.
+    pub fn oid(&self) -> &ObjectIdentifier
+        ensures { result.now ≡ self.now.oid }
+    {
+        &self.oid
+    }
+
+    /// The parameters of the algorithm, any element.
+    pub fn parameters(&self) -> Option<&Raw>
+        ensures { option_copied result ≡ self.now.parameters }
+    {
+        self.parameters.as_ref()
+    }
 }
 
 impl Structure for AlgorithmIdentifier {
@@ -30,7 +63,7 @@ impl Structure for AlgorithmIdentifier {
 
     fn read(alloc: Global, tree: &Tree) -> Result<AlgorithmIdentifier, DerError> {
         let mut kids = Kids::of(tree, SEQUENCE)?;
-        let oid = read_oid(alloc, kids.next()?)?;
+        let oid = ObjectIdentifier::read(alloc, kids.next()?)?;
         let parameters = kept_option(alloc, kids.next_any())?;
         kids.end()?;
         Ok(AlgorithmIdentifier { oid, parameters })
@@ -38,7 +71,7 @@ impl Structure for AlgorithmIdentifier {
 
     fn write(&self, alloc: Global) -> Result<Tree, DerError> {
         let mut kids = NewKids::new(alloc);
-        kids.push(write_oid(alloc, &self.oid)?)?;
+        kids.push(self.oid.write(alloc)?)?;
         if let Some(parameters) = &self.parameters {
             kids.push(parameters.tree(alloc)?)?;
         }

@@ -3,35 +3,11 @@
 ghost use Rattle.std.specs.Prelude.{◌≡◌, [], IfOk, MatchResult};
 
 use crate::directory_string::DirectoryString;
-use crate::leaf::{leaf, leaf_of};
 use crate::other_value::OtherValue;
 use crate::structure::{Structure, read_if};
-use crate::tag::IA5_STRING;
 use asn1_types::Ia5String;
 use der_core::{DerError, Tree};
 use std::alloc::{AllocError, Global};
-
-impl Structure for Ia5String {
-    ghost use Rattle.x509_types.specs.Elements.{ia5_string};
-
-    ghost spells = { λ element string. element ≡ ia5_string string };
-
-    ghost written = { ia5_string };
-
-    ghost inner = { λ _. [] };
-
-    fn read(alloc: Global, tree: &Tree) -> Result<Ia5String, DerError> {
-        Ia5String::from_content(alloc, leaf_of(tree, IA5_STRING)?)
-    }
-
-    fn write(&self, alloc: Global) -> Result<Tree, DerError> {
-        Ok(leaf(alloc, IA5_STRING, self.as_str().as_bytes())?)
-    }
-
-    fn try_clone(&self, alloc: Global) -> Result<Ia5String, AllocError> {
-        Ia5String::try_clone(self, alloc)
-    }
-}
 
 /// The value of an attribute of a name (RFC 5280 4.1.2.4): a string of a type that is known here,
 /// or any other element.

@@ -1,13 +1,13 @@
 //! Primitive elements: their contents as values.
 
-ghost use Rattle.std.specs.Prelude.{◌≡◌, List, ℕ, IfOk, MatchResult};
+ghost use Rattle.std.specs.Prelude.{◌≡◌, ◌↔◌, IsTrue, List, ℕ, [], IfOk, MatchResult};
 ghost use Rattle.der_core.specs.DerElement.{Primitive};
 ghost use Rattle.der_core.specs.Encoding.{IsWellFormed, IsTag, form_bit};
-ghost use Rattle.x509_types.specs.Shape.{RefusesShape, IsWritten};
-ghost use Rattle.x509_types.specs.Elements.{integer, object_identifier, bit_string};
+ghost use Rattle.x509_types.specs.Shape.{RefusesShape};
 
-use crate::tag::{BIT_STRING, INTEGER, OBJECT_IDENTIFIER};
-use asn1_types::{BitString, IntegerAsn1, ObjectIdentifier};
+use crate::structure::Structure;
+use crate::tag::{BIT_STRING, IA5_STRING, INTEGER, OBJECT_IDENTIFIER};
+use asn1_types::{BitString, Ia5String, IntegerAsn1, ObjectIdentifier};
 use der_core::{DerError, Octets, Tree};
 use std::alloc::{AllocError, Global};
 
@@ -43,41 +43,97 @@ pub fn leaf(alloc: Global, tag: u8, content: &[u8]) -> Result<Tree, AllocError>
     Ok(Tree::leaf(tag, Octets::from_slice(alloc, content)?))
 }
 
-/// The value of an INTEGER (X.690 8.3).
-pub fn read_integer(alloc: Global, tree: &Tree) -> Result<IntegerAsn1, DerError>
-    ensures { MatchResult result (IsWritten integer tree.now) (RefusesShape (IsWritten integer tree.now)) }
+/// Whether the octets are the same.
+pub fn is_same(a: &[u8], b: &[u8]) -> bool
+    ensures { IsTrue result ↔ (a.now ≡ b.now) }
 {
-    IntegerAsn1::from_content(alloc, leaf_of(tree, INTEGER)?)
+    a == b
 }
 
-pub fn write_integer(alloc: Global, value: &IntegerAsn1) -> Result<Tree, AllocError>
-    ensures { IfOk result (λ tree. (tree ≡ integer value.now) × IsWellFormed tree) }
-{
-    leaf(alloc, INTEGER, value.as_signed_bytes_be())
+impl Structure for IntegerAsn1 {
+    ghost use Rattle.x509_types.specs.Elements.{integer};
+
+    ghost spells = { λ element value. element ≡ integer value };
+
+    ghost written = { integer };
+
+    ghost inner = { λ _. [] };
+
+    fn read(alloc: Global, tree: &Tree) -> Result<IntegerAsn1, DerError> {
+        IntegerAsn1::from_content(alloc, leaf_of(tree, INTEGER)?)
+    }
+
+    fn write(&self, alloc: Global) -> Result<Tree, DerError> {
+        Ok(leaf(alloc, INTEGER, self.as_signed_bytes_be())?)
+    }
+
+    fn try_clone(&self, alloc: Global) -> Result<IntegerAsn1, AllocError> {
+        IntegerAsn1::try_clone(self, alloc)
+    }
 }
 
-/// The value of an OBJECT IDENTIFIER (X.690 8.19).
-pub fn read_oid(alloc: Global, tree: &Tree) -> Result<ObjectIdentifier, DerError>
-    ensures { MatchResult result (IsWritten object_identifier tree.now) (RefusesShape (IsWritten object_identifier tree.now)) }
-{
-    ObjectIdentifier::from_content(alloc, leaf_of(tree, OBJECT_IDENTIFIER)?)
+impl Structure for BitString {
+    ghost use Rattle.x509_types.specs.Elements.{bit_string};
+
+    ghost spells = { λ element value. element ≡ bit_string value };
+
+    ghost written = { bit_string };
+
+    ghost inner = { λ _. [] };
+
+    fn read(alloc: Global, tree: &Tree) -> Result<BitString, DerError> {
+        BitString::from_content(alloc, leaf_of(tree, BIT_STRING)?)
+    }
+
+    fn write(&self, alloc: Global) -> Result<Tree, DerError> {
+        Ok(Tree::leaf(BIT_STRING, self.to_content(alloc)?))
+    }
+
+    fn try_clone(&self, alloc: Global) -> Result<BitString, AllocError> {
+        BitString::try_clone(self, alloc)
+    }
 }
 
-pub fn write_oid(alloc: Global, value: &ObjectIdentifier) -> Result<Tree, AllocError>
-    ensures { IfOk result (λ tree. (tree ≡ object_identifier value.now) × IsWellFormed tree) }
-{
-    leaf(alloc, OBJECT_IDENTIFIER, value.as_bytes())
+impl Structure for ObjectIdentifier {
+    ghost use Rattle.x509_types.specs.Elements.{object_identifier};
+
+    ghost spells = { λ element value. element ≡ object_identifier value };
+
+    ghost written = { object_identifier };
+
+    ghost inner = { λ _. [] };
+
+    fn read(alloc: Global, tree: &Tree) -> Result<ObjectIdentifier, DerError> {
+        ObjectIdentifier::from_content(alloc, leaf_of(tree, OBJECT_IDENTIFIER)?)
+    }
+
+    fn write(&self, alloc: Global) -> Result<Tree, DerError> {
+        Ok(leaf(alloc, OBJECT_IDENTIFIER, self.as_bytes())?)
+    }
+
+    fn try_clone(&self, alloc: Global) -> Result<ObjectIdentifier, AllocError> {
+        ObjectIdentifier::try_clone(self, alloc)
+    }
 }
 
-/// The value of a BIT STRING (X.690 8.6).
-pub fn read_bit_string(alloc: Global, tree: &Tree) -> Result<BitString, DerError>
-    ensures { MatchResult result (IsWritten bit_string tree.now) (RefusesShape (IsWritten bit_string tree.now)) }
-{
-    BitString::from_content(alloc, leaf_of(tree, BIT_STRING)?)
-}
+impl Structure for Ia5String {
+    ghost use Rattle.x509_types.specs.Elements.{ia5_string};
 
-pub fn write_bit_string(alloc: Global, value: &BitString) -> Result<Tree, AllocError>
-    ensures { IfOk result (λ tree. (tree ≡ bit_string value.now) × IsWellFormed tree) }
-{
-    Ok(Tree::leaf(BIT_STRING, value.to_content(alloc)?))
+    ghost spells = { λ element value. element ≡ ia5_string value };
+
+    ghost written = { ia5_string };
+
+    ghost inner = { λ _. [] };
+
+    fn read(alloc: Global, tree: &Tree) -> Result<Ia5String, DerError> {
+        Ia5String::from_content(alloc, leaf_of(tree, IA5_STRING)?)
+    }
+
+    fn write(&self, alloc: Global) -> Result<Tree, DerError> {
+        Ok(leaf(alloc, IA5_STRING, self.as_str().as_bytes())?)
+    }
+
+    fn try_clone(&self, alloc: Global) -> Result<Ia5String, AllocError> {
+        Ia5String::try_clone(self, alloc)
+    }
 }

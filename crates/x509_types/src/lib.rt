@@ -4,6 +4,9 @@
 mod algorithm;
 mod attribute_value;
 mod directory_string;
+mod identifiers;
+mod key_info;
+mod key_kind;
 mod leaf;
 mod list;
 mod name;
@@ -11,13 +14,17 @@ mod other_value;
 mod public_key;
 mod shape;
 mod structure;
+mod subject_key;
 mod tag;
 
 pub use algorithm::AlgorithmIdentifier;
 pub use attribute_value::AttributeValue;
 pub use directory_string::DirectoryString;
+pub use key_info::SubjectPublicKeyInfo;
+pub use key_kind::KeyKind;
 pub use list::ListOf;
 pub use name::{AttributeTypeAndValue, Name, RelativeDistinguishedName};
 pub use other_value::OtherValue;
 pub use public_key::RsaPublicKey;
 pub use structure::Structure;
+pub use subject_key::SubjectKey;

@@ -3,7 +3,6 @@
 ghost use Rattle.std.specs.Prelude.{◌≡◌, []};
 
 use crate::attribute_value::AttributeValue;
-use crate::leaf::{read_oid, write_oid};
 use crate::list::ListOf;
 use crate::shape::{Kids, NewKids};
 use crate::structure::{Structure, copy_each, read_list, write_list};
@@ -36,7 +35,7 @@ impl Structure for AttributeTypeAndValue {
 
     fn read(alloc: Global, tree: &Tree) -> Result<AttributeTypeAndValue, DerError> {
         let mut kids = Kids::of(tree, SEQUENCE)?;
-        let ty = read_oid(alloc, kids.next()?)?;
+        let ty = ObjectIdentifier::read(alloc, kids.next()?)?;
         let value = AttributeValue::read(alloc, kids.next()?)?;
         kids.end()?;
         Ok(AttributeTypeAndValue { ty, value })
@@ -44,7 +43,7 @@ impl Structure for AttributeTypeAndValue {
 
     fn write(&self, alloc: Global) -> Result<Tree, DerError> {
         let mut kids = NewKids::new(alloc);
-        kids.push(write_oid(alloc, &self.ty)?)?;
+        kids.push(self.ty.write(alloc)?)?;
         kids.push(self.value.write(alloc)?)?;
         Ok(kids.into_branch(SEQUENCE))
     }

@@ -5,7 +5,6 @@ ghost use Rattle.der_core.specs.Encoding.{IsDer};
 ghost use Rattle.x509_types.specs.Shape.{RefusesShape, IsWritten};
 
 use crate::structure::Structure;
-use crate::leaf::{read_integer, write_integer};
 use crate::shape::{Kids, NewKids};
 use crate::tag::SEQUENCE;
 use asn1_types::IntegerAsn1;
@@ -13,7 +12,7 @@ use der_core::{DerError, Tree};
 use std::alloc::{AllocError, Global};
 
 /// An RSA public key (RFC 8017 A.1.1).
-#[derive(Debug, Drop)]
+#[derive(Debug, Drop, PartialEq, Eq)]
 pub struct RsaPublicKey {
     pub modulus: IntegerAsn1,
     pub public_exponent: IntegerAsn1,
@@ -30,8 +29,8 @@ impl Structure for RsaPublicKey {
 
     fn read(alloc: Global, tree: &Tree) -> Result<RsaPublicKey, DerError> {
         let mut kids = Kids::of(tree, SEQUENCE)?;
-        let modulus = read_integer(alloc, kids.next()?)?;
-        let public_exponent = read_integer(alloc, kids.next()?)?;
+        let modulus = IntegerAsn1::read(alloc, kids.next()?)?;
+        let public_exponent = IntegerAsn1::read(alloc, kids.next()?)?;
         kids.end()?;
         Ok(RsaPublicKey {
             modulus,
@@ -41,8 +40,8 @@ impl Structure for RsaPublicKey {
 
     fn write(&self, alloc: Global) -> Result<Tree, DerError> {
         let mut kids = NewKids::new(alloc);
-        kids.push(write_integer(alloc, &self.modulus)?)?;
-        kids.push(write_integer(alloc, &self.public_exponent)?)?;
+        kids.push(self.modulus.write(alloc)?)?;
+        kids.push(self.public_exponent.write(alloc)?)?;
         Ok(kids.into_branch(SEQUENCE))
     }
 

@@ -3,13 +3,13 @@
 ghost use Rattle.std.specs.Prelude.{◌≡◌, ◌≢◌, [], ◌∷◌, ◌++◌, List, IfOk, OnOk, IfSome, MatchResult, MatchOption};
 ghost use Rattle.std.specs.Option.{option_copied};
 ghost use Rattle.der_core.specs.DerElement.{DerElements, Primitive, Constructed, row, tag_of};
-ghost use Rattle.der_core.specs.Encoding.{IsDer, IsWellFormed, AreWellFormed, IsTag, form_bit};
+ghost use Rattle.der_core.specs.Encoding.{encoding, IsDer, IsWellFormed, AreWellFormed, IsTag, form_bit};
 ghost use Rattle.der_core.specs.Kept.{AreWellFormed-prop};
 ghost use Rattle.x509_types.specs.Bounds.{AreDer, AreDer-prop};
-ghost use Rattle.x509_types.specs.Shape.{RefusesShape, IsWritten, BeginsOtherwise, HasMore};
+ghost use Rattle.x509_types.specs.Shape.{RefusesShape, RefusesInner, BeginsOtherwise, HasMore};
 ghost use Rattle.der_core.specs.declared.error.DerError.TheVariants as errors;
 
-use der_core::{DerError, Raw, Tree, Trees};
+use der_core::{DerError, Raw, Tree, Trees, read_exact, write};
 use std::alloc::{AllocError, Global};
 
 /// The elements in a constructed element that aren't read yet.
@@ -153,4 +153,27 @@ pub fn kept_option(alloc: Global, tree: Option<&Tree>) -> Result<Option<Raw>, Al
         Some(tree) => Ok(Some(kept(alloc, tree)?)),
         None => Ok(None),
     }
+}
+
+/// The element whose encoding a string's octets are, all of them (X.690 8.1.1).
+pub fn read_inner(alloc: Global, octets: &[u8]) -> Result<Tree, DerError>
+    ensures { MatchResult result
+        (λ element. IsDer element × (octets.now ≡ encoding element))
+        (RefusesShape (λ element. IsDer element × (octets.now ≡ encoding element))) }
+{
+    match read_exact(alloc, octets) {
+        Ok(element) => Ok(element),
+        Err(DerError::Memory) => Err(DerError::Memory),
+        Err(_) => Err(DerError::Shape),
+    }
+}
+
+/// The encoding of an element, for a string to hold.
+pub fn write_inner(alloc: Global, element: &Tree) -> Result<Vec<u8>, DerError>
+    requires { IsWellFormed element.now }
+    ensures { MatchResult result
+        (λ octets. IsDer element.now × (octets.items ≡ encoding element.now))
+        (RefusesInner (element.now ∷ [])) }
+{
+    write(alloc, element)
 }

@@ -1,15 +1,15 @@
 //! What all structures have in common.
 
-ghost use Rattle.std.specs.Prelude.{◌≡◌, List, flat_map, IfOk, MatchOption, MatchResult};
+ghost use Rattle.std.specs.Prelude.{◌≡◌, [], ◌∷◌, ◌++◌, List, flat_map, IfOk, MatchOption, MatchResult};
 ghost use Rattle.der_core.specs.DerElement.{DerElement};
-ghost use Rattle.der_core.specs.Encoding.{IsDer, IsWellFormed, IsTag, form_bit};
+ghost use Rattle.der_core.specs.Encoding.{encoding, IsDer, IsWellFormed, IsTag, form_bit};
 ghost use Rattle.der_core.specs.declared.error.DerError.TheVariants as errors;
-ghost use Rattle.x509_types.specs.Shape.{RefusesShape, RefusesInner};
+ghost use Rattle.x509_types.specs.Shape.{RefusesShape, RefusesInner, IsWithin};
 ghost use Rattle.x509_types.specs.Bounds.{AreDer};
 ghost use Rattle.x509_types.specs.Each.{AreEach, AreWritten, IsListOf, IsWrittenList};
 
 use crate::list::ListOf;
-use crate::shape::{Kids, NewKids};
+use crate::shape::{Kids, NewKids, read_inner, write_inner};
 use der_core::{DerError, Tree};
 use std::alloc::{AllocError, Global};
 
@@ -47,6 +47,24 @@ pub fn read_if<T: Structure>(alloc: Global, tree: &Tree) -> Result<Option<T>, Al
         Err(DerError::Shape) => Ok(None),
         Err(_) => Err(AllocError),
     }
+}
+
+/// The value in a string, whose octets are the encoding of one element.
+pub fn read_within<T: Structure>(alloc: Global, octets: &[u8]) -> Result<T, DerError>
+    ensures { MatchResult result (IsWithin T.spells octets.now) (RefusesShape (IsWithin T.spells octets.now)) }
+{
+    let element = read_inner(alloc, octets)?;
+    T::read(alloc, &element)
+}
+
+/// The encoding of the element of a value, for a string to hold.
+pub fn write_within<T: Structure>(alloc: Global, value: &T) -> Result<Vec<u8>, DerError>
+    ensures { MatchResult result
+        (λ octets. (octets.items ≡ encoding (T.written value.now)) × IsDer (T.written value.now) × IsWithin T.spells octets.items value.now × AreDer (T.inner value.now))
+        (RefusesInner (T.inner value.now ++ T.written value.now ∷ [])) }
+{
+    let element = value.write(alloc)?;
+    write_inner(alloc, &element)
 }
 
 /// The values of the elements, one for each.

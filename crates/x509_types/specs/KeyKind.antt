@@ -1,0 +1,58 @@
+-- The kinds of public keys, by the identifiers of their algorithms.
+use Rattle.std.specs.Prelude.{◌≡◌, ℕ, List, Option, Some, None, ⊤, Bool, IsTrue, ◌||◌, bytes_eq}
+use Rattle.std.specs.Coded.{×_prop, Unit-prop, Coded-set, coded_ℕ, coded_bool}
+use Rattle.der_core.specs.Codes.{coded_element}
+use Rattle.asn1_types.specs.OneIdentifier.{IsIdentifier-prop}
+use Rattle.der_core.specs.DerElement.{DerElement, Primitive, Constructed}
+use Rattle.asn1_types.specs.ObjectIdentifier.{IsIdentifier}
+use Rattle.x509_types.specs.Elements.{null}
+use Rattle.x509_types.specs.declared.algorithm.AlgorithmIdentifier.{AlgorithmIdentifier}
+use Rattle.x509_types.specs.declared.identifiers.TheConstants.{RSA_ENCRYPTION, EC_PUBLIC_KEY, X25519, X448, ED25519, ED448, ML_DSA_44, ML_DSA_65, ML_DSA_87}
+use Rattle.x509_types.specs.declared.key_kind.KeyKind.{KeyKind}
+use Rattle.x509_types.specs.declared.key_kind.KeyKind.TheVariants as kinds
+
+-- whether an identifier names this kind of keys (RFC 3279 2.3.1, RFC 5480 2.1.1, RFC 8410 3, RFC 9881 2)
+abbrev pub names_kind : KeyKind → List ℕ → Bool
+names_kind kinds.Rsa oid = bytes_eq oid RSA_ENCRYPTION
+names_kind kinds.Ec oid = bytes_eq oid EC_PUBLIC_KEY
+names_kind kinds.Ed oid = bytes_eq oid X25519 || bytes_eq oid X448 || bytes_eq oid ED25519 || bytes_eq oid ED448
+names_kind kinds.Mldsa oid = bytes_eq oid ML_DSA_44 || bytes_eq oid ML_DSA_65 || bytes_eq oid ML_DSA_87
+
+-- The element is an OBJECT IDENTIFIER.
+abbrev pub IsOid : DerElement → Type 0
+IsOid (Primitive tag contents) = (tag ≡ 6) × IsIdentifier contents
+IsOid (Constructed tag kids) = ⊥
+
+-- The parameters of keys: none or NULL of RSA (RFC 3279 2.3.1), a named curve of a point (RFC 5480 2.1.1), any of the others.
+abbrev pub MayHave : KeyKind → Option DerElement → Type 0
+MayHave kinds.Rsa None = ⊤
+MayHave kinds.Rsa (Some parameters) = parameters ≡ null
+MayHave kinds.Ec None = ⊥
+MayHave kinds.Ec (Some parameters) = IsOid parameters
+MayHave kinds.Ed parameters = ⊤
+MayHave kinds.Mldsa parameters = ⊤
+
+-- The algorithm is for keys of this kind.
+pub record IsAlgorithmOf (kind : KeyKind) (algorithm : AlgorithmIdentifier) : Type 0 where
+  pub named : IsTrue (names_kind kind algorithm.oid.contents)
+  pub parameters : MayHave kind algorithm.parameters
+
+-- ---- there is one reason for that
+
+IsOid-prop : (element : DerElement) → IsProp (IsOid element)
+IsOid-prop (Primitive tag contents) = ×_prop (Coded-set coded_ℕ tag 6) (IsIdentifier-prop contents)
+IsOid-prop (Constructed tag kids) = λ a b. absurd a
+
+MayHave-prop : (kind : KeyKind) (parameters : Option DerElement) → IsProp (MayHave kind parameters)
+MayHave-prop kinds.Rsa None = Unit-prop
+MayHave-prop kinds.Rsa (Some parameters) = Coded-set coded_element parameters null
+MayHave-prop kinds.Ec None = λ a b. absurd a
+MayHave-prop kinds.Ec (Some parameters) = IsOid-prop parameters
+MayHave-prop kinds.Ed parameters = Unit-prop
+MayHave-prop kinds.Mldsa parameters = Unit-prop
+
+same_bools : (a b : Bool) → IsProp (a ≡ b)
+same_bools a b = Coded-set coded_bool a b
+
+pub IsAlgorithmOf-prop : (kind : KeyKind) (algorithm : AlgorithmIdentifier) → IsProp (IsAlgorithmOf kind algorithm)
+IsAlgorithmOf-prop kind algorithm = hlevel (same_bools, MayHave-prop kind algorithm.parameters)
