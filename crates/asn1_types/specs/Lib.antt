@@ -1,3 +1,5 @@
 pub mod Contents
 pub mod Integer
 pub mod BitString
+pub mod Calendar
+pub mod Time

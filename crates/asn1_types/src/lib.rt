@@ -3,9 +3,17 @@
 #![tactic(auto)]
 
 mod bit_string;
+mod calendar;
+mod digits;
 mod error;
+mod generalized_time;
 mod integer;
+#[cfg(test)]
+mod time_tests;
+mod utc_time;
 
 pub use bit_string::BitString;
 pub use error::{CharSetError, TextError};
+pub use generalized_time::GeneralizedTime;
 pub use integer::IntegerAsn1;
+pub use utc_time::UTCTime;
