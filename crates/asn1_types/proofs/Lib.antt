@@ -1,1 +1,1 @@
-mod Times
+pub mod Times

@@ -74,7 +74,7 @@ same_number m n hm hn e =
     let ones : 48 + m % 10 ≡ 48 + n % 10 = cc in
     omega arith
 
-day_below : {year month day hour minute second : ℕ} → IsMoment year month day hour minute second → day < 100
+pub day_below : {year month day hour minute second : ℕ} → IsMoment year month day hour minute second → day < 100
 day_below h = search (rules, arith)
 
 -- Seven pairs of digits and `Z` are the contents of the time with their numbers.

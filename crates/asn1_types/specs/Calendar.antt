@@ -1,7 +1,7 @@
 -- The Gregorian calendar of the years 0 to 9999 and the time of day in universal time, to the second (ISO 8601, X.680 46).
 use Rattle.std.specs.Prelude.{ℕ, ◌%◌, ◌≤◌, Bool, ◌&&◌, ◌||◌, ◌==◌, not, if◌then◌else◌}
 
--- Each fourth year has a leap day, but of the years that end a century each fourth alone.
+-- Each fourth year has a leap day, year 0 too, but of the years that end a century each fourth alone.
 abbrev pub is_leap_year : ℕ → Bool
 is_leap_year year = (year % 4 == 0) && (not (year % 100 == 0) || (year % 400 == 0))
 

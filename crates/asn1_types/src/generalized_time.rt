@@ -5,6 +5,7 @@ ghost use Rattle.asn1_types.specs.Calendar.{IsMoment};
 
 use crate::calendar::is_moment;
 use crate::digits::{digits_of, number_at};
+use crate::utc_time::UTCTime;
 
 /// A GeneralizedTime as certificates have it: universal time of the years 0 to 9999, to the second
 /// (X.690 11.7, RFC 5280 4.1.2.5.2).
@@ -24,14 +25,7 @@ impl GeneralizedTime {
     ghost use Rattle.asn1_types.specs.Time.{generalized_contents, generalized_fields};
 
     /// The time with these fields, None exactly where the moment doesn't exist.
-    pub fn new(
-        year: u16,
-        month: u8,
-        day: u8,
-        hour: u8,
-        minute: u8,
-        second: u8,
-    ) -> Option<GeneralizedTime>
+    pub fn new(year: u16, month: u8, day: u8, hour: u8, minute: u8, second: u8) -> Option<Self>
         ensures exists { IsSome result ↔ IsMoment year month day hour minute second }
         ensures given { IfSome result
             (λ time. generalized_fields time ≡ year ∷ month ∷ day ∷ hour ∷ minute ∷ second ∷ []) }
@@ -50,7 +44,7 @@ impl GeneralizedTime {
     }
 
     /// The time with these contents octets, None exactly where they are those of no time.
-    pub fn from_content(bytes: &[u8]) -> Option<GeneralizedTime>
+    pub fn from_content(bytes: &[u8]) -> Option<Self>
         ensures read { MatchOption result
             ((time : GeneralizedTime) → bytes.now ≢ generalized_contents time)
             (λ time. bytes.now ≡ generalized_contents time) }
@@ -128,5 +122,22 @@ impl GeneralizedTime {
         ensures { result ≡ self.now.second }
     {
         self.second
+    }
+}
+
+impl From<UTCTime> for GeneralizedTime {
+    ghost use Rattle.asn1_types.specs.Time.{generalized_fields, utc_fields};
+
+    ghost from_gives = { λ utc time. generalized_fields time ≡ utc_fields utc };
+
+    fn from(utc: UTCTime) -> GeneralizedTime {
+        GeneralizedTime {
+            year: utc.year(),
+            month: utc.month(),
+            day: utc.day(),
+            hour: utc.hour(),
+            minute: utc.minute(),
+            second: utc.second(),
+        }
     }
 }

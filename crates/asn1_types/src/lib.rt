@@ -8,6 +8,7 @@ mod digits;
 mod error;
 mod generalized_time;
 mod integer;
+mod time_laws;
 #[cfg(test)]
 mod time_tests;
 mod utc_time;
@@ -16,4 +17,5 @@ pub use bit_string::BitString;
 pub use error::{CharSetError, TextError};
 pub use generalized_time::GeneralizedTime;
 pub use integer::IntegerAsn1;
+pub use time_laws::times_are_ordered_by_their_fields;
 pub use utc_time::UTCTime;

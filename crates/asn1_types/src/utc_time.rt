@@ -59,7 +59,7 @@ impl UTCTime {
     }
 
     /// The time with these contents octets, None exactly where they are those of no time.
-    pub fn from_content(bytes: &[u8]) -> Option<UTCTime>
+    pub fn from_content(bytes: &[u8]) -> Option<Self>
         ensures read { MatchOption result
             ((time : UTCTime) → bytes.now ≢ utc_contents time)
             (λ time. bytes.now ≡ utc_contents time) }
