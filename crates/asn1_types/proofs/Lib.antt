@@ -1,3 +1,4 @@
 pub mod Numbers
 pub mod Subidentifiers
 pub mod Identifiers
+pub mod Times

@@ -6,3 +6,5 @@ pub mod Subidentifier
 pub mod ObjectIdentifier
 pub mod SubidentifierReading
 pub mod OneIdentifier
+pub mod Calendar
+pub mod Time

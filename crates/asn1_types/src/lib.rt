@@ -3,13 +3,25 @@
 #![tactic(auto)]
 
 mod bit_string;
+mod calendar;
+mod digits;
 mod error;
+mod generalized_time;
 mod ia5_string;
 mod integer;
 mod oid;
+mod time_laws;
+#[cfg(test)]
+mod time_tests;
+mod utc_time;
+#[cfg(test)]
+mod value_tests;
 
 pub use bit_string::BitString;
 pub use error::{CharSetError, TextError};
+pub use generalized_time::GeneralizedTime;
 pub use ia5_string::Ia5String;
 pub use integer::{IntegerAsn1, one_shortest_integer};
 pub use oid::ObjectIdentifier;
+pub use time_laws::times_are_ordered_by_their_fields;
+pub use utc_time::UTCTime;

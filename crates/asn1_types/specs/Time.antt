@@ -1,0 +1,33 @@
+-- Both times and their contents octets: decimal digits, then `Z` for universal time (X.690 11.7, 11.8).
+use Rattle.std.specs.Prelude.{ℕ, ◌+◌, ◌/◌, ◌%◌, ◌<◌, ◌≡◌, List, [], ◌∷◌, ◌++◌, codes, slice_index}
+use Rattle.asn1_types.specs.declared.generalized_time.GeneralizedTime.{GeneralizedTime}
+use Rattle.asn1_types.specs.declared.utc_time.UTCTime.{UTCTime}
+
+-- A number below 100 as two digits.
+abbrev pub two_digits : ℕ → List ℕ
+two_digits n = (48 + n / 10) ∷ (48 + n % 10) ∷ []
+
+-- Two of the octets, from a place on, are the digits of this number.
+abbrev pub IsPair : List ℕ → ℕ → ℕ → Type 0
+IsPair octets at n = (n < 100) × (two_digits n ≡ slice_index octets at ∷ slice_index octets (at + 1) ∷ [])
+
+-- MMDDHHMMSSZ, the end of both.
+abbrev pub from_month : ℕ → ℕ → ℕ → ℕ → ℕ → List ℕ
+from_month month day hour minute second =
+    two_digits month ++ two_digits day ++ two_digits hour ++ two_digits minute ++ two_digits second ++ codes "Z"
+
+-- YYYYMMDDHHMMSSZ (X.690 11.7, RFC 5280 4.1.2.5.2).
+abbrev pub generalized_contents : GeneralizedTime → List ℕ
+generalized_contents t =
+    two_digits (t.year / 100) ++ two_digits (t.year % 100) ++ from_month t.month t.day t.hour t.minute t.second
+
+-- YYMMDDHHMMSSZ (X.690 11.8, RFC 5280 4.1.2.5.1).
+abbrev pub utc_contents : UTCTime → List ℕ
+utc_contents t = two_digits (t.year % 100) ++ from_month t.month t.day t.hour t.minute t.second
+
+-- The fields, the year first.
+abbrev pub generalized_fields : GeneralizedTime → List ℕ
+generalized_fields t = t.year ∷ t.month ∷ t.day ∷ t.hour ∷ t.minute ∷ t.second ∷ []
+
+abbrev pub utc_fields : UTCTime → List ℕ
+utc_fields t = t.year ∷ t.month ∷ t.day ∷ t.hour ∷ t.minute ∷ t.second ∷ []

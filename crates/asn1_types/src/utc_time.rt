@@ -1,0 +1,139 @@
+//! Times with two digits of the year.
+
+ghost use Rattle.std.specs.Prelude.{◌≡◌, ◌≢◌, ◌↔◌, ◌%◌, ◌<◌, [], ◌∷◌, IsSome, IfSome, MatchOption, Some};
+ghost use Rattle.asn1_types.specs.Calendar.{IsMoment, IsUtcYear};
+
+use crate::calendar::is_moment;
+use crate::digits::{digits_of, number_at};
+
+/// A UTCTime as certificates have it: universal time of the years 1950 to 2049, to the second
+/// (X.690 11.8, RFC 5280 4.1.2.5.1).
+#[derive(Clone, Copy, PartialEq, Eq, PartialOrd, Ord, Hash, Debug)]
+pub struct UTCTime {
+    year: u16,
+    month: u8,
+    day: u8,
+    hour: u8,
+    minute: u8,
+    second: u8,
+    pub ghost exists: { IsMoment year month day hour minute second },
+    pub ghost of_years: { IsUtcYear year },
+}
+
+// The year that its last two digits stand for.
+fn full_year(last_digits: u8) -> u16
+    requires { last_digits < 100 }
+    ensures of_years { IsUtcYear result }
+    ensures digits { result % 100 ≡ last_digits }
+{
+    if last_digits < 50 {
+        2000 + u16::from(last_digits)
+    } else {
+        1900 + u16::from(last_digits)
+    }
+}
+
+impl UTCTime {
+    ghost use Rattle.asn1_types.specs.declared.utc_time.UTCTime.{UTCTime};
+    ghost use Rattle.asn1_types.specs.Time.{utc_contents, utc_fields};
+
+    /// The time with these fields, None exactly where the moment doesn't exist or the year isn't
+    /// one of 1950 to 2049.
+    pub fn new(year: u16, month: u8, day: u8, hour: u8, minute: u8, second: u8) -> Option<UTCTime>
+        ensures exists { IsSome result
+            ↔ (IsMoment year month day hour minute second × IsUtcYear year) }
+        ensures given { IfSome result
+            (λ time. utc_fields time ≡ year ∷ month ∷ day ∷ hour ∷ minute ∷ second ∷ []) }
+    {
+        if year < 1950 || year > 2049 || !is_moment(year, month, day, hour, minute, second) {
+            return None;
+        }
+        Some(UTCTime {
+            year,
+            month,
+            day,
+            hour,
+            minute,
+            second,
+        })
+    }
+
+    /// The time with these contents octets, None exactly where they are those of no time.
+    pub fn from_content(bytes: &[u8]) -> Option<Self>
+        ensures read { MatchOption result
+            ((time : UTCTime) → bytes.now ≢ utc_contents time)
+            (λ time. bytes.now ≡ utc_contents time) }
+        ensures only { (time : UTCTime)
+            → bytes.now ≡ utc_contents time → result ≡ Some time }
+    {
+        if bytes.len() != 13 || bytes[12] != b'Z' {
+            return None;
+        }
+        let last_digits = number_at(bytes, 0)?;
+        UTCTime::new(
+            full_year(last_digits),
+            number_at(bytes, 2)?,
+            number_at(bytes, 4)?,
+            number_at(bytes, 6)?,
+            number_at(bytes, 8)?,
+            number_at(bytes, 10)?,
+        )
+    }
+
+    /// The contents octets.
+    pub fn to_content(&self) -> [u8; 13]
+        ensures { result ≡ utc_contents self.now }
+    {
+        let [y1, y2] = digits_of((self.year % 100) as u8);
+        let [month1, month2] = digits_of(self.month);
+        let [day1, day2] = digits_of(self.day);
+        let [h1, h2] = digits_of(self.hour);
+        let [m1, m2] = digits_of(self.minute);
+        let [s1, s2] = digits_of(self.second);
+        [
+            y1, y2, month1, month2, day1, day2, h1, h2, m1, m2, s1, s2, b'Z',
+        ]
+    }
+
+    /// The year, from 1950 to 2049.
+    pub fn year(&self) -> u16
+        ensures { result ≡ self.now.year }
+    {
+        self.year
+    }
+
+    /// The month, from 1 for January to 12.
+    pub fn month(&self) -> u8
+        ensures { result ≡ self.now.month }
+    {
+        self.month
+    }
+
+    /// The day of the month, from 1.
+    pub fn day(&self) -> u8
+        ensures { result ≡ self.now.day }
+    {
+        self.day
+    }
+
+    /// The hour, from 0 to 23.
+    pub fn hour(&self) -> u8
+        ensures { result ≡ self.now.hour }
+    {
+        self.hour
+    }
+
+    /// The minute, from 0 to 59.
+    pub fn minute(&self) -> u8
+        ensures { result ≡ self.now.minute }
+    {
+        self.minute
+    }
+
+    /// The second, from 0 to 59.
+    pub fn second(&self) -> u8
+        ensures { result ≡ self.now.second }
+    {
+        self.second
+    }
+}

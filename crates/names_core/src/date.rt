@@ -1,0 +1,147 @@
+//! Dates with a time of day, in universal time.
+
+ghost use Rattle.std.specs.Prelude.{◌≡◌, ◌↔◌, [], ◌∷◌, IsSome, IfSome, Some};
+ghost use Rattle.asn1_types.specs.declared.generalized_time.GeneralizedTime.{GeneralizedTime};
+ghost use Rattle.asn1_types.specs.Calendar.{IsCalendarDate, IsMoment, IsUtcYear};
+ghost use Rattle.asn1_types.specs.Time.{generalized_fields, utc_fields};
+ghost use Rattle.names_core.specs.Date.{date_text};
+
+use asn1_types::{GeneralizedTime, UTCTime};
+use std::fmt;
+use std::marker::Model;
+
+/// A moment of the years 0 to 9999 in universal time, to the second. Contracts see it as its
+/// GeneralizedTime. Dates are ordered by year, month, day, hour, minute and second, in this order.
+#[derive(Clone, Copy, PartialEq, Eq, PartialOrd, Ord, Hash, Debug)]
+pub struct UtcDate {
+    time: GeneralizedTime,
+}
+
+impl Model for UtcDate {
+    ghost Value = { GeneralizedTime };
+
+    ghost view = { λ date. date.time };
+
+    ghost inverse = { λ time. record { time = time } };
+}
+
+impl UtcDate {
+    /// The date with these fields, None exactly where the moment doesn't exist.
+    pub fn new(year: u16, month: u8, day: u8, hour: u8, minute: u8, second: u8) -> Option<UtcDate>
+        ensures exists { IsSome result ↔ IsMoment year month day hour minute second }
+        ensures given { IfSome result
+            (λ date. generalized_fields date ≡ year ∷ month ∷ day ∷ hour ∷ minute ∷ second ∷ []) }
+    {
+        let time = GeneralizedTime::new(year, month, day, hour, minute, second)?;
+        Some(UtcDate { time })
+    }
+
+    /// The first second of a day, None exactly where the day doesn't exist.
+    pub fn ymd(year: u16, month: u8, day: u8) -> Option<Self>
+        ensures exists { IsSome result ↔ IsCalendarDate year month day }
+        ensures given { IfSome result
+            (λ date. generalized_fields date ≡ year ∷ month ∷ day ∷ 0 ∷ 0 ∷ 0 ∷ []) }
+    {
+        UtcDate::new(year, month, day, 0, 0, 0)
+    }
+
+    /// The date as a UTCTime, None exactly where the year isn't one of 1950 to 2049.
+    pub fn utc_time(&self) -> Option<UTCTime>
+        ensures exists { IsSome result ↔ IsUtcYear self.now.year }
+        ensures given { IfSome result (λ time. utc_fields time ≡ generalized_fields self.now) }
+    {
+        UTCTime::new(
+            self.year(),
+            self.month(),
+            self.day(),
+            self.hour(),
+            self.minute(),
+            self.second(),
+        )
+    }
+
+    /// The year, from 0 to 9999.
+    pub fn year(&self) -> u16
+        ensures { result ≡ self.now.year }
+    {
+        self.time.year()
+    }
+
+    /// The month, from 1 for January to 12.
+    pub fn month(&self) -> u8
+        ensures { result ≡ self.now.month }
+    {
+        self.time.month()
+    }
+
+    /// The day of the month, from 1.
+    pub fn day(&self) -> u8
+        ensures { result ≡ self.now.day }
+    {
+        self.time.day()
+    }
+
+    /// The hour, from 0 to 23.
+    pub fn hour(&self) -> u8
+        ensures { result ≡ self.now.hour }
+    {
+        self.time.hour()
+    }
+
+    /// The minute, from 0 to 59.
+    pub fn minute(&self) -> u8
+        ensures { result ≡ self.now.minute }
+    {
+        self.time.minute()
+    }
+
+    /// The second, from 0 to 59.
+    pub fn second(&self) -> u8
+        ensures { result ≡ self.now.second }
+    {
+        self.time.second()
+    }
+}
+
+impl From<GeneralizedTime> for UtcDate {
+    ghost from_gives = { λ time date. date ≡ time };
+
+    fn from(time: GeneralizedTime) -> UtcDate {
+        UtcDate { time }
+    }
+}
+
+impl From<UtcDate> for GeneralizedTime {
+    ghost from_gives = { λ date time. time ≡ date };
+
+    fn from(date: UtcDate) -> GeneralizedTime {
+        date.time
+    }
+}
+
+impl From<UTCTime> for UtcDate {
+    ghost from_gives = { λ time date. generalized_fields date ≡ utc_fields time };
+
+    fn from(time: UTCTime) -> UtcDate {
+        UtcDate {
+            time: GeneralizedTime::from(time),
+        }
+    }
+}
+
+impl fmt::Display for UtcDate {
+    ghost output = { λ date. Some (date_text date) };
+
+    fn fmt<W: fmt::Write>(&self, f: &mut fmt::Formatter<W>) -> fmt::Result {
+        write!(
+            f,
+            "{:04}-{:02}-{:02} {:02}:{:02}:{:02}",
+            self.year(),
+            self.month(),
+            self.day(),
+            self.hour(),
+            self.minute(),
+            self.second()
+        )
+    }
+}
