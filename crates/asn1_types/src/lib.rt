@@ -6,6 +6,8 @@ mod bit_string;
 mod error;
 mod ia5_string;
 mod integer;
+#[cfg(test)]
+mod value_tests;
 
 pub use bit_string::BitString;
 pub use error::{CharSetError, TextError};
