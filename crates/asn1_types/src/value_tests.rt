@@ -1,13 +1,18 @@
 //! Contents octets of integers, bit strings and IA5 strings. The written elements are those that
 //! `openssl asn1parse -genstr` writes, the refused ones those that X.690 8.3 and 8.6 exclude.
 
+ghost use Rattle.der_core.specs.DerElement.{Primitive};
+ghost use Rattle.der_core.specs.Encoding.{IsWellFormed};
+
 use super::*;
 use der_core::{DerError, Octets, Tree, write};
 use std::alloc::Global;
 use std::test::Fail;
 
 /// The element of a tag and these contents octets, written.
-fn written(alloc: Global, tag: u8, contents: &[u8]) -> Result<Vec<u8>, DerError> {
+fn written(alloc: Global, tag: u8, contents: &[u8]) -> Result<Vec<u8>, DerError>
+    requires { IsWellFormed (Primitive tag contents.now) }
+{
     let leaf = Tree::leaf(tag, Octets::from_slice(alloc, contents)?);
     write(alloc, &leaf)
 }
