@@ -1,7 +1,7 @@
 //! Octets that a value owns.
 
-ghost use Rattle.std.specs.Prelude.{◌≡◌, ◌↔◌, IfOk, IsTrue, nat_eq};
-ghost use Rattle.std.specs.Cmp.Lexicographic.{pointwise, nat_list_eq_equiv};
+ghost use Rattle.std.specs.Prelude.{◌≡◌, ◌↔◌, IfOk, IsTrue, bytes_eq};
+ghost use Rattle.std.specs.Cmp.Lexicographic.{nat_list_eq_equiv};
 ghost use Rattle.std.specs.Cmp.{partial_equiv_from_equiv};
 
 use std::alloc::{AllocError, Global};
@@ -55,12 +55,12 @@ impl From<Vec<u8>> for Octets {
 }
 
 impl PartialEq for Octets {
-    ghost eq = { pointwise nat_eq };
+    ghost eq = { bytes_eq };
 
     ghost laws = { partial_equiv_from_equiv nat_list_eq_equiv };
 
     fn eq(&self, other: &Octets) -> bool
-        ensures value { result ≡ pointwise nat_eq self.now other.now }
+        ensures value { result ≡ bytes_eq self.now other.now }
         ensures same { IsTrue result ↔ (self.now ≡ other.now) }
     {
         self.as_slice() == other.as_slice()

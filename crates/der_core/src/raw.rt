@@ -1,8 +1,8 @@
 //! Elements that are kept as octets.
 
-ghost use Rattle.std.specs.Prelude.{◌≡◌, ◌↔◌, ◌≤◌, IfOk, IsTrue, MatchResult, nat_eq};
+ghost use Rattle.std.specs.Prelude.{◌≡◌, ◌↔◌, ◌≤◌, IfOk, IsTrue, MatchResult, bytes_eq};
 ghost use Rattle.std.specs.Ordering.{on};
-ghost use Rattle.std.specs.Cmp.Lexicographic.{pointwise, nat_list_eq_equiv};
+ghost use Rattle.std.specs.Cmp.Lexicographic.{nat_list_eq_equiv};
 ghost use Rattle.std.specs.Cmp.{on_per, on_equiv, partial_equiv_from_equiv};
 ghost use Rattle.der_core.specs.DerElement.{DerElement, tag_of};
 ghost use Rattle.der_core.specs.Encoding.{encoding, nesting, IsWellFormed, IsDer};
@@ -94,12 +94,12 @@ impl Raw {
 
 /// Elements are equal exactly where their octets are.
 impl PartialEq for Raw {
-    ghost eq = { on encoding (pointwise nat_eq) };
+    ghost eq = { on encoding bytes_eq };
 
     ghost laws = { on_per encoding (partial_equiv_from_equiv nat_list_eq_equiv) };
 
     fn eq(&self, other: &Raw) -> bool
-        ensures value { result ≡ pointwise nat_eq (encoding self.now) (encoding other.now) }
+        ensures value { result ≡ bytes_eq (encoding self.now) (encoding other.now) }
         ensures same { IsTrue result ↔ (self.now ≡ other.now) }
     {
         self.as_bytes() == other.as_bytes()

@@ -207,3 +207,18 @@ fn kept_octets(rt: HostRuntime) -> Result<(), Fail> {
     assert_eq!(rt; written.as_slice(), octets.as_slice());
     Ok(())
 }
+
+#[test]
+fn equal_values(rt: HostRuntime) -> Result<(), Fail> {
+    let mut items = Vec::new(rt.alloc());
+    items.extend_from_slice(&[2, 1, 5])?;
+    let octets = Octets::from(items);
+    assert_eq!(rt; octets, Octets::from_slice(rt.alloc(), &[2, 1, 5])?);
+    assert!(rt; octets != Octets::from_slice(rt.alloc(), &[2, 1])?);
+
+    let five = Raw::from_tree(rt.alloc(), &read_exact(rt.alloc(), octets.as_slice())?)?;
+    let six = Raw::from_tree(rt.alloc(), &read_exact(rt.alloc(), &[2, 1, 6])?)?;
+    assert_eq!(rt; five, five.try_clone(rt.alloc())?);
+    assert!(rt; five != six);
+    Ok(())
+}
