@@ -1,2 +1,4 @@
 pub mod Subidentifiers
 pub mod Identifiers
+pub mod Decimals
+pub mod Dotted

@@ -10,4 +10,4 @@ mod oid;
 pub use bit_string::BitString;
 pub use error::{CharSetError, TextError};
 pub use integer::IntegerAsn1;
-pub use oid::ObjectIdentifier;
+pub use oid::{ObjectIdentifier, text_and_contents_agree};
