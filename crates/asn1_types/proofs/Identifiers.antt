@@ -1,11 +1,12 @@
 -- Octets are the contents of an identifier where they are subidentifiers, one at least.
-use Rattle.std.proofs.Common.{◌≡◌, ◌≢◌, ◌↔◌, ℕ, Bool, true, false, not, IsTrue, eqb, length, refl, ◌+◌, ◌-◌, ◌*◌, ◌/◌, ◌%◌, ◌<◌, ◌≤◌, List, [], ◌∷◌, sym, ap, ◌∙◌, inl, inr, arith}
+use Rattle.std.proofs.Common.{◌≡◌, ◌≢◌, ◌↔◌, ℕ, Bool, true, false, not, IsTrue, eqb, length, refl, ◌+◌, ◌-◌, ◌*◌, ◌/◌, ◌%◌, ◌<◌, ◌≤◌, List, [], ◌∷◌, ◌++◌, suc, get_or, take, drop, sym, ap, ap₂, ◌∙◌, inl, inr, arith}
 use Rattle.std.proofs.lemmas.Bool.{cases_lt, eqb-true, eqb-false, false≢true}
-use Rattle.std.proofs.lemmas.List.{nil_from_length}
+use Rattle.std.proofs.lemmas.List.{nil_from_length, take_all}
 use Rattle.std.specs.List.{AllByRecursion, flat_map}
 use Rattle.asn1_types.specs.Subidentifier.{IsSubidentifier, subidentifier, AreSubidentifiers, BeginsWithNoSubidentifier}
 use Rattle.asn1_types.specs.SubidentifierReading.{subidentifier_some}
-use Rattle.asn1_types.specs.ObjectIdentifier.{IsArcs, IsIdentifier, contents_of}
+use Rattle.asn1_types.specs.ObjectIdentifier.{IsRoot, IsArcs, IsIdentifier, contents_of}
+use Rattle.asn1_types.specs.OneIdentifier.{contents_once}
 use Rattle.asn1_types.proofs.Subidentifiers.{are_none}
 
 -- the identifier whose first two arcs make a number
@@ -20,7 +21,7 @@ from_numbers octets n ns all spelled =
     by_arcs : (first second : ℕ) → first ≤ 2 → (first < 2 → second ≤ 39) → 40 * first + second ≡ n → IsIdentifier octets
     by_arcs first second low within number = record {
       arcs = first ∷ second ∷ ns;
-      are_arcs = (low, within, (omega arith, all.1));
+      are_arcs = (record { first_low = low; second_low = within; bounded = omega arith }, all.1);
       spelled = spelled ∙ ap (λ m. flat_map subidentifier (m ∷ ns)) (sym number);
     }
 
@@ -28,7 +29,7 @@ numbers_of : (octets arcs : List ℕ) → IsArcs arcs → octets ≡ contents_of
 numbers_of octets [] h e = absurd h
 numbers_of octets (x ∷ []) h e = absurd h
 numbers_of octets (x ∷ y ∷ xs) h e = (
-  record { numbers = (40 * x + y) ∷ xs; bounded = h.2; spelled = e },
+  record { numbers = (40 * x + y) ∷ xs; bounded = (h.0.bounded, h.1); spelled = e },
   λ none. subidentifier_some (40 * x + y) (flat_map subidentifier xs) (sym e ∙ none),
 )
 
@@ -58,3 +59,24 @@ pub some_left : (octets rest : List ℕ) (empty : Bool) → empty ≡ eqb (lengt
 some_left octets rest empty e left begins down =
     let some : rest ≢ [] = λ none. eqb-false _ _ (sym e ∙ left) (ap length none) in
     (λ t. absurd (false≢true (sym left ∙ t)), λ identifier. absurd (are_none rest begins some (down (contents_are octets identifier).0)))
+
+-- arcs with the contents octets of an identifier are its arcs
+pub arcs_are : (contents : List ℕ) (identifier : IsIdentifier contents) (arcs : List ℕ) → IsArcs arcs → contents ≡ contents_of arcs
+    → identifier.arcs ≡ arcs
+arcs_are contents identifier arcs h e =
+    contents_once identifier.arcs arcs identifier.are_arcs h (sym identifier.spelled ∙ e)
+
+-- each number of a list is in bounds
+pub bounded_from : (numbers : List ℕ) → ((i : ℕ) → IsSubidentifier (get_or numbers i 0)) → AllByRecursion IsSubidentifier numbers
+bounded_from [] each = tt
+bounded_from (n ∷ ns) each = (each 0, bounded_from ns (λ i. each (suc i)))
+
+-- two numbers that make a root, and more numbers, are arcs
+pub arcs_made : (arcs octets : List ℕ) (root : ℕ) → 2 ≤ length arcs → IsRoot (get_or arcs 0 0) (get_or arcs 1 0)
+    → root ≡ 40 * get_or arcs 0 0 + get_or arcs 1 0 → ((i : ℕ) → IsSubidentifier (get_or arcs i 0))
+    → octets ≡ subidentifier root ++ flat_map subidentifier (take (length arcs - 2) (drop 2 arcs))
+    → IsArcs arcs × (octets ≡ contents_of arcs)
+arcs_made [] octets root two is_root made each e = absurd (omega arith)
+arcs_made (x ∷ []) octets root two is_root made each e = absurd (omega arith)
+arcs_made (x ∷ y ∷ xs) octets root two is_root made each e =
+    ((is_root, bounded_from xs (λ i. each (suc (suc i)))), e ∙ ap₂ (λ n ns. subidentifier n ++ flat_map subidentifier ns) made (take_all (length (x ∷ y ∷ xs) - 2) xs (omega arith)))

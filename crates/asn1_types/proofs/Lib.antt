@@ -2,3 +2,5 @@ pub mod Numbers
 pub mod Subidentifiers
 pub mod Identifiers
 pub mod Times
+pub mod Decimals
+pub mod Dotted

@@ -1,7 +1,9 @@
 -- Object identifiers: arcs, their contents octets and their dotted text (X.690 8.19, RFC 4512 1.4).
-use Rattle.std.specs.Prelude.{◌≡◌, ℕ, ◌+◌, ◌*◌, ◌<◌, ◌≤◌, List, [], ◌∷◌, map}
+use Rattle.std.specs.Prelude.{◌≡◌, ⊤, ℕ, ◌+◌, ◌*◌, ◌<◌, ◌≤◌, List, [], ◌∷◌, map}
 use Rattle.std.specs.List.{AllByRecursion, flat_map, join_with_byte}
 use Rattle.std.specs.Fmt.{decimal}
+use Rattle.asn1_types.specs.declared.error.TextError.{TextError}
+use Rattle.asn1_types.specs.declared.error.TextError.TheVariants.{BadText, Memory}
 use Rattle.asn1_types.specs.Subidentifier.{IsSubidentifier, subidentifier}
 
 -- The numbers that the subidentifiers of arcs hold: the first two arcs are one number (X.690 8.19.4).
@@ -10,13 +12,18 @@ subidentifiers_of [] = []
 subidentifiers_of (first ∷ []) = []
 subidentifiers_of (first ∷ second ∷ more) = (40 * first + second) ∷ more
 
--- Arcs of an identifier: at least two, the first at most 2, the second at most 39 under a first of 0 or 1 (X.690 8.19.4),
--- each number of the subidentifiers in bounds.
+-- The first two arcs: the first is at most 2, the second at most 39 under a first of 0 or 1 (X.690 8.19.4), and the number
+-- that they make is in bounds.
+pub record IsRoot (first second : ℕ) : Type 0 where
+  pub first_low : first ≤ 2
+  pub second_low : first < 2 → second ≤ 39
+  pub bounded : IsSubidentifier (40 * first + second)
+
+-- Arcs of an identifier: at least two, each number of the subidentifiers in bounds.
 abbrev pub IsArcs : List ℕ → Type 0
 IsArcs [] = ⊥
 IsArcs (first ∷ []) = ⊥
-IsArcs (first ∷ second ∷ more) =
-    (first ≤ 2) × (first < 2 → second ≤ 39) × AllByRecursion IsSubidentifier (subidentifiers_of (first ∷ second ∷ more))
+IsArcs (first ∷ second ∷ more) = IsRoot first second × AllByRecursion IsSubidentifier more
 
 -- The contents octets of arcs: their subidentifiers in order (X.690 8.19.2).
 abbrev pub contents_of : List ℕ → List ℕ
@@ -34,3 +41,14 @@ pub record IsIdentifier (contents : List ℕ) : Type 0 where
   pub arcs : List ℕ
   pub are_arcs : IsArcs arcs
   pub spelled : contents ≡ contents_of arcs
+
+-- The text is that of an identifier's arcs.
+pub record IsDottedText (text : List ℕ) : Type 0 where
+  pub arcs : List ℕ
+  pub are_arcs : IsArcs arcs
+  pub printed : text ≡ dotted arcs
+
+-- A text is refused exactly where it is that of no identifier; besides there is want of memory.
+abbrev pub RefusesText : Type 0 → TextError → Type 0
+RefusesText formed BadText = formed → ⊥
+RefusesText formed Memory = ⊤

@@ -6,10 +6,14 @@ use Rattle.std.proofs.Common.{sym, ap, ◌∙◌, arith}
 use mathlib.Core.HLevel.{Σ_prop_path}
 use Rattle.asn1_types.specs.Subidentifier.{IsSubidentifier}
 use Rattle.asn1_types.specs.SubidentifierReading.{subidentifiers_once}
-use Rattle.asn1_types.specs.ObjectIdentifier.{IsArcs, IsIdentifier, subidentifiers_of, contents_of}
+use Rattle.asn1_types.specs.ObjectIdentifier.{IsRoot, IsArcs, IsIdentifier, subidentifiers_of, contents_of}
 
-first_two : (a b c d : ℕ) → a ≤ 2 → c ≤ 2 → (a < 2 → b ≤ 39) → (c < 2 → d ≤ 39) → 40 * a + b ≡ 40 * c + d → (a ≡ c) × (b ≡ d)
-first_two a b c d ha hc hb hd e = (grind arith, grind arith)
+-- The first two arcs stand in the number that they make.
+pub first_two : (a b c d : ℕ) → IsRoot a b → IsRoot c d → 40 * a + b ≡ 40 * c + d → (a ≡ c) × (b ≡ d)
+first_two a b c d h k e = both h.first_low k.first_low h.second_low k.second_low
+  where
+    both : a ≤ 2 → c ≤ 2 → (a < 2 → b ≤ 39) → (c < 2 → d ≤ 39) → (a ≡ c) × (b ≡ d)
+    both ha hc hb hd = (grind arith, grind arith)
 
 -- Arcs with the same subidentifiers are the same.
 pub same_arcs : (a b : List ℕ) → IsArcs a → IsArcs b → subidentifiers_of a ≡ subidentifiers_of b → a ≡ b
@@ -20,7 +24,7 @@ same_arcs (x ∷ y ∷ xs) (u ∷ []) h k e = absurd k
 same_arcs (x ∷ y ∷ xs) (u ∷ v ∷ us) h k e =
     let number : 40 * x + y ≡ 40 * u + v = cc in
     let more : xs ≡ us = cc in
-    let two = first_two x y u v h.0 k.0 h.1 k.1 number in
+    let two = first_two x y u v h.0 k.0 number in
     let first = two.0 in
     let second = two.1 in
     cc
@@ -32,7 +36,7 @@ contents_once a b h k e = same_arcs a b h k (subidentifiers_once (subidentifiers
 IsArcs-prop : (arcs : List ℕ) → IsProp (IsArcs arcs)
 IsArcs-prop [] = λ h k. absurd h
 IsArcs-prop (x ∷ []) = λ h k. absurd h
-IsArcs-prop (x ∷ y ∷ xs) = hlevel (le_prop, AllByRecursion-prop IsSubidentifier (λ n. le_prop) ((40 * x + y) ∷ xs))
+IsArcs-prop (x ∷ y ∷ xs) = hlevel (le_prop, AllByRecursion-prop IsSubidentifier (λ n. le_prop) xs)
 
 abbrev Named : List ℕ → List ℕ → Type 0
 Named contents arcs = IsArcs arcs × (contents ≡ contents_of arcs)

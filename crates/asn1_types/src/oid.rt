@@ -1,13 +1,19 @@
 //! Object identifiers.
 
-ghost use Rattle.std.specs.Prelude.{◌≡◌, ◌↔◌, IsTrue, List, ℕ, [], ◌∷◌, ◌++◌, IfOk, MatchOption, MatchResult};
+ghost use Rattle.std.specs.Prelude.{◌≡◌, ◌↔◌, IsTrue, IfOk, MatchResult, string_bytes};
 ghost use Rattle.asn1_types.specs.Contents.{RefusesContents};
-ghost use Rattle.asn1_types.specs.Subidentifier.{IsSubidentifier, subidentifier, BeginsWithNoSubidentifier};
-ghost use Rattle.asn1_types.specs.ObjectIdentifier.{IsIdentifier};
+ghost use Rattle.asn1_types.specs.ObjectIdentifier.{IsIdentifier, IsArcs, contents_of, dotted, IsDottedText, RefusesText};
 ghost use Rattle.asn1_types.specs.OneIdentifier.{IsIdentifier-prop};
 
+mod arcs;
+mod subidentifier;
+mod traits;
+
+use crate::TextError;
+use arcs::{arcs_of, root_of};
 use der_core::{DerError, Octets};
 use std::alloc::{AllocError, Global};
+use subidentifier::{split_subidentifier, subidentifiers};
 
 /// An OBJECT IDENTIFIER as its contents octets, the subidentifiers of its arcs (X.690 8.19). Each
 /// subidentifier is below 2^128.
@@ -18,6 +24,17 @@ pub struct ObjectIdentifier {
 }
 
 impl ObjectIdentifier {
+    /// The identifier of a text: its arcs in decimal digits without leading zeros, joined by dots.
+    /// `BadText` exactly where the text is that of no identifier.
+    pub fn from_text(alloc: Global, text: &str) -> Result<ObjectIdentifier, TextError>
+        ensures { MatchResult result
+            (λ identifier. text.now ≡ dotted identifier.formed.arcs)
+            (RefusesText (IsDottedText text.now)) }
+    {
+        let arcs = arcs_of(alloc, text)?;
+        ObjectIdentifier::from_arcs(alloc, &arcs)
+    }
+
     /// The identifier of these contents octets, `Shape` exactly where there is none.
     pub fn from_content(alloc: Global, bytes: &[u8]) -> Result<ObjectIdentifier, DerError>
         ensures { MatchResult result
@@ -30,6 +47,30 @@ impl ObjectIdentifier {
         Ok(ObjectIdentifier {
             contents: Octets::from_slice(alloc, bytes)?,
         })
+    }
+
+    fn from_arcs(alloc: Global, arcs: &[u128]) -> Result<ObjectIdentifier, TextError>
+        ensures { MatchResult result
+            (λ identifier. IsArcs arcs.now × (identifier.contents ≡ contents_of arcs.now))
+            (RefusesText (IsArcs arcs.now)) }
+    {
+        let [first, second, more @ ..] = arcs else {
+            return Err(TextError::BadText);
+        };
+        let Some(root) = root_of(*first, *second) else {
+            return Err(TextError::BadText);
+        };
+        let contents = subidentifiers(alloc, root, more)?;
+        Ok(ObjectIdentifier {
+            contents: Octets::from_slice(alloc, &contents)?,
+        })
+    }
+
+    /// The dotted text.
+    pub fn to_text(&self, alloc: Global) -> Result<String, AllocError>
+        ensures { IfOk result (λ text. string_bytes text ≡ dotted self.now.formed.arcs) }
+    {
+        self.to_string(alloc)
     }
 
     /// The contents octets.
@@ -49,6 +90,12 @@ impl ObjectIdentifier {
     }
 }
 
+/// Two identifiers have the same text exactly where they have the same contents octets. So a text
+/// whose octets are read again prints as it was, and octets whose text is read again are the same.
+pub fn text_and_contents_agree(a: &ObjectIdentifier, b: &ObjectIdentifier)
+    ensures { (dotted a.now.formed.arcs ≡ dotted b.now.formed.arcs) ↔ (a.now.contents ≡ b.now.contents) }
+{}
+
 /// Whether octets are the contents of an identifier.
 fn is_identifier(octets: &[u8]) -> bool
     ensures { IsTrue result ↔ IsIdentifier octets.now }
@@ -58,30 +105,4 @@ fn is_identifier(octets: &[u8]) -> bool
         rest = after;
     }
     rest.is_empty() && !octets.is_empty()
-}
-
-/// The greatest number of a subidentifier behind which another octet has room.
-const GREATEST_LEADING: u128 = u128::MAX >> 7;
-
-/// The number of the subidentifier that begins the octets, and the octets after it.
-fn split_subidentifier(octets: &[u8]) -> Option<(u128, &[u8])>
-    ensures { MatchOption result (BeginsWithNoSubidentifier octets.now)
-        (λ split. IsSubidentifier split.0 × (octets.now ≡ subidentifier split.0 ++ split.1.now)) }
-{
-    let mut number: u128 = 0;
-    let mut rest = octets;
-    while let Some((octet, after)) = rest.split_first() {
-        if number == 0 && *octet == 0x80 {
-            return None;
-        }
-        if number > GREATEST_LEADING {
-            return None;
-        }
-        number = number * 128 + u128::from(*octet % 128);
-        if *octet < 128 {
-            return Some((number, after));
-        }
-        rest = after;
-    }
-    None
 }

@@ -1,8 +1,8 @@
 use Rattle.std.proofs.Common.{◌+◌, ◌*◌, ◌%◌, ◌<◌, arith}
 use Rattle.std.proofs.lemmas.List.{nil_from_length}
 use Rattle.asn1_types.proofs.Subidentifiers.{one_more, last_one, none_padded, none_too_great, none_cut_short}
-use Rattle.asn1_types.proofs.oid.split_subidentifier.Goals.{else-number-eq0-via-then-number-eq0+else-octet, else-number-eq0-via-else-number-eq0}
-use Rattle.asn1_types.proofs.oid.split_subidentifier.Goals as goal
+use Rattle.asn1_types.proofs.oid.subidentifier.split_subidentifier.Goals.{else-number-eq0-via-then-number-eq0+else-octet, else-number-eq0-via-else-number-eq0}
+use Rattle.asn1_types.proofs.oid.subidentifier.split_subidentifier.Goals as goal
 
 pub returns-then-octet : goal.returns-then-octet
 returns-then-octet c =

@@ -1,6 +1,6 @@
 use Rattle.std.proofs.Common.{◌≡◌, ◌++◌, length}
 use Rattle.asn1_types.specs.Subidentifier.{leading_octets}
-use Rattle.asn1_types.proofs.oid.split_subidentifier.Given as goal
+use Rattle.asn1_types.proofs.oid.subidentifier.split_subidentifier.Given as goal
 
 -- what was read are the leading octets of the number
 abbrev pub invariant-loop-octet : goal.invariant-loop-octet

@@ -1,0 +1,59 @@
+//! The arcs of an identifier, in its text and in its first subidentifier.
+
+ghost use Rattle.std.specs.Prelude.{◌≡◌, ◌≢◌, List, ℕ, [], ◌∷◌, ◌+◌, ◌*◌, MatchOption, MatchResult};
+ghost use Rattle.std.specs.Fmt.{decimal};
+ghost use Rattle.std.specs.List.{AllByRecursion};
+ghost use Rattle.asn1_types.specs.Subidentifier.{IsSubidentifier};
+ghost use Rattle.asn1_types.specs.ObjectIdentifier.{IsRoot, dotted, IsDottedText, RefusesText};
+
+use crate::TextError;
+use std::alloc::Global;
+
+/// The numbers whose dotted text this is, `BadText` only where it is that of no identifier.
+pub fn arcs_of(alloc: Global, text: &str) -> Result<Vec<u128>, TextError>
+    ensures { MatchResult result
+        (λ arcs. AllByRecursion IsSubidentifier arcs.items × (text.now ≡ dotted arcs.items))
+        (RefusesText (IsDottedText text.now)) }
+{
+    let mut arcs = Vec::new(alloc);
+    for piece in text.split('.') {
+        let Some(arc) = arc_of(piece) else {
+            return Err(TextError::BadText);
+        };
+        arcs.push(arc)?;
+    }
+    Ok(arcs)
+}
+
+/// The number whose decimal digits are the text.
+fn arc_of(text: &str) -> Option<u128>
+    ensures { MatchOption result
+        ((arc : ℕ) → IsSubidentifier arc → text.now ≢ decimal arc)
+        (λ arc. IsSubidentifier arc × (text.now ≡ decimal arc)) }
+{
+    // `parse` also reads a sign, and zeros before other digits.
+    if text.len() > 1 && text.as_bytes()[0] < b'1' {
+        return None;
+    }
+    text.parse().ok()
+}
+
+/// The number that the first two arcs make (X.690 8.19.4).
+pub fn root_of(first: u128, second: u128) -> Option<u128>
+    ensures { MatchOption result
+        (IsRoot first second → ⊥)
+        (λ root. IsRoot first second × (root ≡ 40 * first + second)) }
+{
+    if first > 2 || (first < 2 && second > 39) {
+        return None;
+    }
+    (40 * first).checked_add(second)
+}
+
+/// The first two arcs that make a number.
+pub fn first_arcs(root: u128) -> (u128, u128)
+    ensures { IsRoot result.0 result.1 × (root ≡ 40 * result.0 + result.1) }
+{
+    let first = (root / 40).min(2);
+    (first, root - 40 * first)
+}

@@ -1,0 +1,65 @@
+//! Subidentifiers, of which the contents octets of an identifier consist (X.690 8.19.2).
+
+ghost use Rattle.std.specs.Prelude.{◌≡◌, List, ℕ, [], ◌∷◌, ◌++◌, IfOk, OnOk, MatchOption};
+ghost use Rattle.std.specs.List.{flat_map};
+ghost use Rattle.asn1_types.specs.Subidentifier.{IsSubidentifier, leading_octets, subidentifier, BeginsWithNoSubidentifier};
+
+use std::alloc::{AllocError, Global};
+
+/// The greatest number of a subidentifier behind which another octet has room.
+const GREATEST_LEADING: u128 = u128::MAX >> 7;
+
+/// The number of the subidentifier that begins the octets, and the octets after it.
+pub fn split_subidentifier(octets: &[u8]) -> Option<(u128, &[u8])>
+    ensures { MatchOption result (BeginsWithNoSubidentifier octets.now)
+        (λ split. IsSubidentifier split.0 × (octets.now ≡ subidentifier split.0 ++ split.1.now)) }
+{
+    let mut number: u128 = 0;
+    let mut rest = octets;
+    while let Some((octet, after)) = rest.split_first() {
+        // Octets 80 in front would be zeros before the first digit.
+        if number == 0 && *octet == 0x80 {
+            return None;
+        }
+        if number > GREATEST_LEADING {
+            return None;
+        }
+        number = number * 128 + u128::from(*octet % 128);
+        if *octet < 128 {
+            return Some((number, after));
+        }
+        rest = after;
+    }
+    None
+}
+
+/// The subidentifiers of these numbers, one after another.
+pub fn subidentifiers(alloc: Global, first: u128, more: &[u128]) -> Result<Vec<u8>, AllocError>
+    ensures { IfOk result (λ octets. octets.items ≡ flat_map subidentifier (first ∷ more.now)) }
+{
+    let mut octets = Vec::new(alloc);
+    put_subidentifier(&mut octets, first)?;
+    for number in more {
+        put_subidentifier(&mut octets, *number)?;
+    }
+    Ok(octets)
+}
+
+fn put_subidentifier(octets: &mut Vec<u8>, number: u128) -> Result<(), AllocError>
+    ensures { OnOk result (octets.new.items ≡ octets.old.items ++ subidentifier number) }
+{
+    put_leading(octets, number / 128)?;
+    octets.push((number % 128) as u8)?;
+    Ok(())
+}
+
+/// Appends the octets before the last one of a subidentifier.
+fn put_leading(octets: &mut Vec<u8>, number: u128) -> Result<(), AllocError>
+    ensures { OnOk result (octets.new.items ≡ octets.old.items ++ leading_octets number) }
+{
+    if number > 0 {
+        put_leading(octets, number / 128)?;
+        octets.push(128 + (number % 128) as u8)?;
+    }
+    Ok(())
+}
