@@ -3,3 +3,4 @@ pub mod Several
 pub mod Inner
 pub mod Parameters
 pub mod Keys
+pub mod Equal

@@ -7,6 +7,7 @@ mod directory_string;
 mod identifiers;
 mod key_info;
 mod key_kind;
+mod laws;
 mod leaf;
 mod list;
 mod name;

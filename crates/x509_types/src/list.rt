@@ -1,6 +1,7 @@
 //! Values of one structure in order.
 
 ghost use Rattle.std.specs.Prelude.{◌≡◌, ◌++◌, ◌∷◌, [], IfOk, OnOk, OnErr};
+ghost use Rattle.std.specs.Cmp.Lexicographic.{pointwise, lists_per, lists_equiv};
 
 use std::alloc::{AllocError, Global};
 use std::marker::Model;
@@ -48,4 +49,18 @@ impl<T> ListOf<T> {
     {
         &self.items
     }
+}
+
+impl<T: PartialEq> PartialEq for ListOf<T> {
+    ghost eq = { pointwise T.eq };
+
+    ghost laws = { lists_per T.laws };
+
+    fn eq(&self, other: &Self) -> bool {
+        self.items == other.items
+    }
+}
+
+impl<T: Eq> Eq for ListOf<T> {
+    ghost laws = { lists_equiv T.Eq.laws };
 }
