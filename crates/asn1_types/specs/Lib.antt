@@ -5,3 +5,4 @@ pub mod Subidentifier
 pub mod ObjectIdentifier
 pub mod SubidentifierReading
 pub mod OneIdentifier
+pub mod KnownIdentifiers

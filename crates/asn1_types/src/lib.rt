@@ -6,6 +6,9 @@ mod bit_string;
 mod error;
 mod integer;
 mod oid;
+#[cfg(test)]
+mod oid_tests;
+pub mod oids;
 
 pub use bit_string::BitString;
 pub use error::{CharSetError, TextError};
