@@ -21,10 +21,9 @@ import subprocess
 import sys
 import tempfile
 
-# Constant, name, dotted text.  The names are those of the documents that
-# define the identifiers.
+# Where the identifiers are defined, then constant, name there, dotted text.
 KNOWN = [
-    ("PKCS #1 (RFC 8017, RFC 4055)", [
+    ("RFC 8017 appendix C, RFC 4055 section 5", [
         ("RSA_ENCRYPTION", "rsaEncryption", "1.2.840.113549.1.1.1"),
         ("MD5_WITH_RSA_ENCRYPTION", "md5WithRSAEncryption", "1.2.840.113549.1.1.4"),
         ("SHA1_WITH_RSA_ENCRYPTION", "sha1WithRSAEncryption", "1.2.840.113549.1.1.5"),
@@ -33,7 +32,7 @@ KNOWN = [
         ("SHA512_WITH_RSA_ENCRYPTION", "sha512WithRSAEncryption", "1.2.840.113549.1.1.13"),
         ("SHA224_WITH_RSA_ENCRYPTION", "sha224WithRSAEncryption", "1.2.840.113549.1.1.14"),
     ]),
-    ("Elliptic curves (RFC 5480, RFC 5758)", [
+    ("RFC 5480 section 2, RFC 5758 section 3.2", [
         ("EC_PUBLIC_KEY", "id-ecPublicKey", "1.2.840.10045.2.1"),
         ("ECDSA_WITH_SHA256", "ecdsa-with-SHA256", "1.2.840.10045.4.3.2"),
         ("ECDSA_WITH_SHA384", "ecdsa-with-SHA384", "1.2.840.10045.4.3.3"),
@@ -42,18 +41,18 @@ KNOWN = [
         ("SECP384R1", "secp384r1", "1.3.132.0.34"),
         ("SECP521R1", "secp521r1", "1.3.132.0.35"),
     ]),
-    ("Edwards and Montgomery curves (RFC 8410)", [
+    ("RFC 8410 section 3", [
         ("X25519", "id-X25519", "1.3.101.110"),
         ("X448", "id-X448", "1.3.101.111"),
         ("ED25519", "id-Ed25519", "1.3.101.112"),
         ("ED448", "id-Ed448", "1.3.101.113"),
     ]),
-    ("ML-DSA (RFC 9881)", [
+    ("RFC 9881 section 2", [
         ("ML_DSA_44", "id-ml-dsa-44", "2.16.840.1.101.3.4.3.17"),
         ("ML_DSA_65", "id-ml-dsa-65", "2.16.840.1.101.3.4.3.18"),
         ("ML_DSA_87", "id-ml-dsa-87", "2.16.840.1.101.3.4.3.19"),
     ]),
-    ("Digests (RFC 8017)", [
+    ("RFC 8017 appendix B.1", [
         ("MD5", "id-md5", "1.2.840.113549.2.5"),
         ("SHA1", "id-sha1", "1.3.14.3.2.26"),
         ("SHA256", "id-sha256", "2.16.840.1.101.3.4.2.1"),
@@ -61,37 +60,37 @@ KNOWN = [
         ("SHA512", "id-sha512", "2.16.840.1.101.3.4.2.3"),
         ("SHA224", "id-sha224", "2.16.840.1.101.3.4.2.4"),
     ]),
-    ("Purposes of a key (RFC 5280 4.2.1.12, Microsoft)", [
+    ("RFC 5280 section 4.2.1.12, Microsoft", [
         ("KP_CODE_SIGNING", "id-kp-codeSigning", "1.3.6.1.5.5.7.3.3"),
         ("KP_TIME_STAMPING", "id-kp-timeStamping", "1.3.6.1.5.5.7.3.8"),
         ("KP_LIFETIME_SIGNING", "szOID_KP_LIFETIME_SIGNING", "1.3.6.1.4.1.311.10.3.13"),
     ]),
-    ("Contents of signed data (RFC 5652)", [
+    ("RFC 5652 sections 4 and 5.1", [
         ("DATA", "id-data", "1.2.840.113549.1.7.1"),
         ("SIGNED_DATA", "id-signedData", "1.2.840.113549.1.7.2"),
     ]),
-    ("Attributes (RFC 2985)", [
+    ("RFC 2985 section 5", [
         ("EMAIL_ADDRESS", "emailAddress", "1.2.840.113549.1.9.1"),
         ("CONTENT_TYPE", "contentType", "1.2.840.113549.1.9.3"),
         ("MESSAGE_DIGEST", "messageDigest", "1.2.840.113549.1.9.4"),
         ("COUNTERSIGNATURE", "counterSignature", "1.2.840.113549.1.9.6"),
         ("EXTENSION_REQUEST", "extensionRequest", "1.2.840.113549.1.9.14"),
     ]),
-    ("Authenticode (Microsoft)", [
+    ("Microsoft, Authenticode", [
         ("SPC_INDIRECT_DATA", "SPC_INDIRECT_DATA_OBJID", "1.3.6.1.4.1.311.2.1.4"),
         ("SPC_SP_OPUS_INFO", "SPC_SP_OPUS_INFO_OBJID", "1.3.6.1.4.1.311.2.1.12"),
         ("SPC_PE_IMAGE_DATA", "SPC_PE_IMAGE_DATA_OBJID", "1.3.6.1.4.1.311.2.1.15"),
         ("SPC_TIME_STAMP_REQUEST", "SPC_TIME_STAMP_REQUEST_OBJID", "1.3.6.1.4.1.311.3.2.1"),
         ("RFC3161_COUNTER_SIGN", "szOID_RFC3161_counterSign", "1.3.6.1.4.1.311.3.3.1"),
     ]),
-    ("Trust lists and the attributes of their entries (Microsoft)", [
+    ("Microsoft, certificate trust lists", [
         ("CTL", "szOID_CTL", "1.3.6.1.4.1.311.10.1"),
         ("CERT_SUBJECT_NAME_MD5_HASH", "CERT_SUBJECT_NAME_MD5_HASH_PROP_ID", "1.3.6.1.4.1.311.10.11.29"),
         ("CERT_DISALLOWED_FILETIME", "CERT_DISALLOWED_FILETIME_PROP_ID", "1.3.6.1.4.1.311.10.11.104"),
         ("CERT_PROP_ID_126", "CERT_PROP_ID_126", "1.3.6.1.4.1.311.10.11.126"),
         ("CERT_PROP_ID_127", "CERT_PROP_ID_127", "1.3.6.1.4.1.311.10.11.127"),
     ]),
-    ("Attributes of names (X.520, RFC 5280 appendix A)", [
+    ("X.520, RFC 5280 appendix A.1", [
         ("AT_COMMON_NAME", "id-at-commonName", "2.5.4.3"),
         ("AT_SURNAME", "id-at-surname", "2.5.4.4"),
         ("AT_SERIAL_NUMBER", "id-at-serialNumber", "2.5.4.5"),
@@ -103,7 +102,7 @@ KNOWN = [
         ("AT_ORGANIZATIONAL_UNIT_NAME", "id-at-organizationalUnitName", "2.5.4.11"),
         ("AT_GIVEN_NAME", "id-at-givenName", "2.5.4.42"),
     ]),
-    ("Extensions of certificates (RFC 5280 4.2.1)", [
+    ("RFC 5280 section 4.2.1", [
         ("CE_SUBJECT_KEY_IDENTIFIER", "id-ce-subjectKeyIdentifier", "2.5.29.14"),
         ("CE_KEY_USAGE", "id-ce-keyUsage", "2.5.29.15"),
         ("CE_SUBJECT_ALT_NAME", "id-ce-subjectAltName", "2.5.29.17"),
@@ -255,13 +254,14 @@ def checked(texts):
 
 
 def print_known():
-    for title, rows in KNOWN:
-        print(f"// {title}.")
-        for constant, _, text in rows:
+    for source, rows in KNOWN:
+        for constant, name, text in rows:
             octets = "".join(f"\\x{octet:02X}" for octet in contents(text))
+            print(f"/// `{name}` ({source}).")
             print(f'pub const {constant}: &[u8] = b"{octets}";')
-        print()
+            print()
     count = sum(len(rows) for _, rows in KNOWN)
+    print("/// The rows of the table.")
     print("#[rattlefmt::skip]")
     print(f"pub static TABLE: [KnownRow; {count}] = [")
     for _, rows in KNOWN:

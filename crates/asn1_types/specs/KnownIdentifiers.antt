@@ -11,6 +11,7 @@ pub record KnownRow : Type 0 where
   pub text : List ℕ
   pub contents : List ℕ
 
+-- The row of a name, a text and contents octets.
 abbrev pub known_row : List ℕ → List ℕ → List ℕ → KnownRow
 known_row name text contents = record { name = name; text = text; contents = contents }
 

@@ -77,146 +77,199 @@ pub fn rows_agree()
     ensures apart { AllPairs Differ known_rows }
 {}
 
-// PKCS #1 (RFC 8017, RFC 4055).
+/// `rsaEncryption` (RFC 8017 appendix C, RFC 4055 section 5).
 pub const RSA_ENCRYPTION: &[u8] = b"\x2A\x86\x48\x86\xF7\x0D\x01\x01\x01";
 
+/// `md5WithRSAEncryption` (RFC 8017 appendix C, RFC 4055 section 5).
 pub const MD5_WITH_RSA_ENCRYPTION: &[u8] = b"\x2A\x86\x48\x86\xF7\x0D\x01\x01\x04";
 
+/// `sha1WithRSAEncryption` (RFC 8017 appendix C, RFC 4055 section 5).
 pub const SHA1_WITH_RSA_ENCRYPTION: &[u8] = b"\x2A\x86\x48\x86\xF7\x0D\x01\x01\x05";
 
+/// `sha256WithRSAEncryption` (RFC 8017 appendix C, RFC 4055 section 5).
 pub const SHA256_WITH_RSA_ENCRYPTION: &[u8] = b"\x2A\x86\x48\x86\xF7\x0D\x01\x01\x0B";
 
+/// `sha384WithRSAEncryption` (RFC 8017 appendix C, RFC 4055 section 5).
 pub const SHA384_WITH_RSA_ENCRYPTION: &[u8] = b"\x2A\x86\x48\x86\xF7\x0D\x01\x01\x0C";
 
+/// `sha512WithRSAEncryption` (RFC 8017 appendix C, RFC 4055 section 5).
 pub const SHA512_WITH_RSA_ENCRYPTION: &[u8] = b"\x2A\x86\x48\x86\xF7\x0D\x01\x01\x0D";
 
+/// `sha224WithRSAEncryption` (RFC 8017 appendix C, RFC 4055 section 5).
 pub const SHA224_WITH_RSA_ENCRYPTION: &[u8] = b"\x2A\x86\x48\x86\xF7\x0D\x01\x01\x0E";
 
-// Elliptic curves (RFC 5480, RFC 5758).
+/// `id-ecPublicKey` (RFC 5480 section 2, RFC 5758 section 3.2).
 pub const EC_PUBLIC_KEY: &[u8] = b"\x2A\x86\x48\xCE\x3D\x02\x01";
 
+/// `ecdsa-with-SHA256` (RFC 5480 section 2, RFC 5758 section 3.2).
 pub const ECDSA_WITH_SHA256: &[u8] = b"\x2A\x86\x48\xCE\x3D\x04\x03\x02";
 
+/// `ecdsa-with-SHA384` (RFC 5480 section 2, RFC 5758 section 3.2).
 pub const ECDSA_WITH_SHA384: &[u8] = b"\x2A\x86\x48\xCE\x3D\x04\x03\x03";
 
+/// `ecdsa-with-SHA512` (RFC 5480 section 2, RFC 5758 section 3.2).
 pub const ECDSA_WITH_SHA512: &[u8] = b"\x2A\x86\x48\xCE\x3D\x04\x03\x04";
 
+/// `secp256r1` (RFC 5480 section 2, RFC 5758 section 3.2).
 pub const SECP256R1: &[u8] = b"\x2A\x86\x48\xCE\x3D\x03\x01\x07";
 
+/// `secp384r1` (RFC 5480 section 2, RFC 5758 section 3.2).
 pub const SECP384R1: &[u8] = b"\x2B\x81\x04\x00\x22";
 
+/// `secp521r1` (RFC 5480 section 2, RFC 5758 section 3.2).
 pub const SECP521R1: &[u8] = b"\x2B\x81\x04\x00\x23";
 
-// Edwards and Montgomery curves (RFC 8410).
+/// `id-X25519` (RFC 8410 section 3).
 pub const X25519: &[u8] = b"\x2B\x65\x6E";
 
+/// `id-X448` (RFC 8410 section 3).
 pub const X448: &[u8] = b"\x2B\x65\x6F";
 
+/// `id-Ed25519` (RFC 8410 section 3).
 pub const ED25519: &[u8] = b"\x2B\x65\x70";
 
+/// `id-Ed448` (RFC 8410 section 3).
 pub const ED448: &[u8] = b"\x2B\x65\x71";
 
-// ML-DSA (RFC 9881).
+/// `id-ml-dsa-44` (RFC 9881 section 2).
 pub const ML_DSA_44: &[u8] = b"\x60\x86\x48\x01\x65\x03\x04\x03\x11";
 
+/// `id-ml-dsa-65` (RFC 9881 section 2).
 pub const ML_DSA_65: &[u8] = b"\x60\x86\x48\x01\x65\x03\x04\x03\x12";
 
+/// `id-ml-dsa-87` (RFC 9881 section 2).
 pub const ML_DSA_87: &[u8] = b"\x60\x86\x48\x01\x65\x03\x04\x03\x13";
 
-// Digests (RFC 8017).
+/// `id-md5` (RFC 8017 appendix B.1).
 pub const MD5: &[u8] = b"\x2A\x86\x48\x86\xF7\x0D\x02\x05";
 
+/// `id-sha1` (RFC 8017 appendix B.1).
 pub const SHA1: &[u8] = b"\x2B\x0E\x03\x02\x1A";
 
+/// `id-sha256` (RFC 8017 appendix B.1).
 pub const SHA256: &[u8] = b"\x60\x86\x48\x01\x65\x03\x04\x02\x01";
 
+/// `id-sha384` (RFC 8017 appendix B.1).
 pub const SHA384: &[u8] = b"\x60\x86\x48\x01\x65\x03\x04\x02\x02";
 
+/// `id-sha512` (RFC 8017 appendix B.1).
 pub const SHA512: &[u8] = b"\x60\x86\x48\x01\x65\x03\x04\x02\x03";
 
+/// `id-sha224` (RFC 8017 appendix B.1).
 pub const SHA224: &[u8] = b"\x60\x86\x48\x01\x65\x03\x04\x02\x04";
 
-// Purposes of a key (RFC 5280 4.2.1.12, Microsoft).
+/// `id-kp-codeSigning` (RFC 5280 section 4.2.1.12, Microsoft).
 pub const KP_CODE_SIGNING: &[u8] = b"\x2B\x06\x01\x05\x05\x07\x03\x03";
 
+/// `id-kp-timeStamping` (RFC 5280 section 4.2.1.12, Microsoft).
 pub const KP_TIME_STAMPING: &[u8] = b"\x2B\x06\x01\x05\x05\x07\x03\x08";
 
+/// `szOID_KP_LIFETIME_SIGNING` (RFC 5280 section 4.2.1.12, Microsoft).
 pub const KP_LIFETIME_SIGNING: &[u8] = b"\x2B\x06\x01\x04\x01\x82\x37\x0A\x03\x0D";
 
-// Contents of signed data (RFC 5652).
+/// `id-data` (RFC 5652 sections 4 and 5.1).
 pub const DATA: &[u8] = b"\x2A\x86\x48\x86\xF7\x0D\x01\x07\x01";
 
+/// `id-signedData` (RFC 5652 sections 4 and 5.1).
 pub const SIGNED_DATA: &[u8] = b"\x2A\x86\x48\x86\xF7\x0D\x01\x07\x02";
 
-// Attributes (RFC 2985).
+/// `emailAddress` (RFC 2985 section 5).
 pub const EMAIL_ADDRESS: &[u8] = b"\x2A\x86\x48\x86\xF7\x0D\x01\x09\x01";
 
+/// `contentType` (RFC 2985 section 5).
 pub const CONTENT_TYPE: &[u8] = b"\x2A\x86\x48\x86\xF7\x0D\x01\x09\x03";
 
+/// `messageDigest` (RFC 2985 section 5).
 pub const MESSAGE_DIGEST: &[u8] = b"\x2A\x86\x48\x86\xF7\x0D\x01\x09\x04";
 
+/// `counterSignature` (RFC 2985 section 5).
 pub const COUNTERSIGNATURE: &[u8] = b"\x2A\x86\x48\x86\xF7\x0D\x01\x09\x06";
 
+/// `extensionRequest` (RFC 2985 section 5).
 pub const EXTENSION_REQUEST: &[u8] = b"\x2A\x86\x48\x86\xF7\x0D\x01\x09\x0E";
 
-// Authenticode (Microsoft).
+/// `SPC_INDIRECT_DATA_OBJID` (Microsoft, Authenticode).
 pub const SPC_INDIRECT_DATA: &[u8] = b"\x2B\x06\x01\x04\x01\x82\x37\x02\x01\x04";
 
+/// `SPC_SP_OPUS_INFO_OBJID` (Microsoft, Authenticode).
 pub const SPC_SP_OPUS_INFO: &[u8] = b"\x2B\x06\x01\x04\x01\x82\x37\x02\x01\x0C";
 
+/// `SPC_PE_IMAGE_DATA_OBJID` (Microsoft, Authenticode).
 pub const SPC_PE_IMAGE_DATA: &[u8] = b"\x2B\x06\x01\x04\x01\x82\x37\x02\x01\x0F";
 
+/// `SPC_TIME_STAMP_REQUEST_OBJID` (Microsoft, Authenticode).
 pub const SPC_TIME_STAMP_REQUEST: &[u8] = b"\x2B\x06\x01\x04\x01\x82\x37\x03\x02\x01";
 
+/// `szOID_RFC3161_counterSign` (Microsoft, Authenticode).
 pub const RFC3161_COUNTER_SIGN: &[u8] = b"\x2B\x06\x01\x04\x01\x82\x37\x03\x03\x01";
 
-// Trust lists and the attributes of their entries (Microsoft).
+/// `szOID_CTL` (Microsoft, certificate trust lists).
 pub const CTL: &[u8] = b"\x2B\x06\x01\x04\x01\x82\x37\x0A\x01";
 
+/// `CERT_SUBJECT_NAME_MD5_HASH_PROP_ID` (Microsoft, certificate trust lists).
 pub const CERT_SUBJECT_NAME_MD5_HASH: &[u8] = b"\x2B\x06\x01\x04\x01\x82\x37\x0A\x0B\x1D";
 
+/// `CERT_DISALLOWED_FILETIME_PROP_ID` (Microsoft, certificate trust lists).
 pub const CERT_DISALLOWED_FILETIME: &[u8] = b"\x2B\x06\x01\x04\x01\x82\x37\x0A\x0B\x68";
 
+/// `CERT_PROP_ID_126` (Microsoft, certificate trust lists).
 pub const CERT_PROP_ID_126: &[u8] = b"\x2B\x06\x01\x04\x01\x82\x37\x0A\x0B\x7E";
 
+/// `CERT_PROP_ID_127` (Microsoft, certificate trust lists).
 pub const CERT_PROP_ID_127: &[u8] = b"\x2B\x06\x01\x04\x01\x82\x37\x0A\x0B\x7F";
 
-// Attributes of names (X.520, RFC 5280 appendix A).
+/// `id-at-commonName` (X.520, RFC 5280 appendix A.1).
 pub const AT_COMMON_NAME: &[u8] = b"\x55\x04\x03";
 
+/// `id-at-surname` (X.520, RFC 5280 appendix A.1).
 pub const AT_SURNAME: &[u8] = b"\x55\x04\x04";
 
+/// `id-at-serialNumber` (X.520, RFC 5280 appendix A.1).
 pub const AT_SERIAL_NUMBER: &[u8] = b"\x55\x04\x05";
 
+/// `id-at-countryName` (X.520, RFC 5280 appendix A.1).
 pub const AT_COUNTRY_NAME: &[u8] = b"\x55\x04\x06";
 
+/// `id-at-localityName` (X.520, RFC 5280 appendix A.1).
 pub const AT_LOCALITY_NAME: &[u8] = b"\x55\x04\x07";
 
+/// `id-at-stateOrProvinceName` (X.520, RFC 5280 appendix A.1).
 pub const AT_STATE_OR_PROVINCE_NAME: &[u8] = b"\x55\x04\x08";
 
+/// `id-at-streetAddress` (X.520, RFC 5280 appendix A.1).
 pub const AT_STREET_ADDRESS: &[u8] = b"\x55\x04\x09";
 
+/// `id-at-organizationName` (X.520, RFC 5280 appendix A.1).
 pub const AT_ORGANIZATION_NAME: &[u8] = b"\x55\x04\x0A";
 
+/// `id-at-organizationalUnitName` (X.520, RFC 5280 appendix A.1).
 pub const AT_ORGANIZATIONAL_UNIT_NAME: &[u8] = b"\x55\x04\x0B";
 
+/// `id-at-givenName` (X.520, RFC 5280 appendix A.1).
 pub const AT_GIVEN_NAME: &[u8] = b"\x55\x04\x2A";
 
-// Extensions of certificates (RFC 5280 4.2.1).
+/// `id-ce-subjectKeyIdentifier` (RFC 5280 section 4.2.1).
 pub const CE_SUBJECT_KEY_IDENTIFIER: &[u8] = b"\x55\x1D\x0E";
 
+/// `id-ce-keyUsage` (RFC 5280 section 4.2.1).
 pub const CE_KEY_USAGE: &[u8] = b"\x55\x1D\x0F";
 
+/// `id-ce-subjectAltName` (RFC 5280 section 4.2.1).
 pub const CE_SUBJECT_ALT_NAME: &[u8] = b"\x55\x1D\x11";
 
+/// `id-ce-issuerAltName` (RFC 5280 section 4.2.1).
 pub const CE_ISSUER_ALT_NAME: &[u8] = b"\x55\x1D\x12";
 
+/// `id-ce-basicConstraints` (RFC 5280 section 4.2.1).
 pub const CE_BASIC_CONSTRAINTS: &[u8] = b"\x55\x1D\x13";
 
+/// `id-ce-authorityKeyIdentifier` (RFC 5280 section 4.2.1).
 pub const CE_AUTHORITY_KEY_IDENTIFIER: &[u8] = b"\x55\x1D\x23";
 
+/// `id-ce-extKeyUsage` (RFC 5280 section 4.2.1).
 pub const CE_EXT_KEY_USAGE: &[u8] = b"\x55\x1D\x25";
 
+/// The rows of the table.
 #[rattlefmt::skip]
 pub static TABLE: [KnownRow; 64] = [
     ("rsaEncryption", "1.2.840.113549.1.1.1", RSA_ENCRYPTION),
