@@ -4,7 +4,6 @@
 mod algorithm;
 mod attribute_value;
 mod directory_string;
-mod identifiers;
 mod key_info;
 mod key_kind;
 mod laws;
