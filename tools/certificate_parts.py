@@ -76,7 +76,8 @@ TEXT_OPTIONS = "sep_comma_plus,esc_2253,esc_ctrl,esc_msb,oid,show_type"
 ELEMENT_OPTIONS = "sep_comma_plus,oid,dump_all,dump_der"
 
 SOURCE_HEAD = """\
-//! Subject names and public keys that openssl put into certificates, with what it says of them.
+//! Subject names and public keys of certificates, made with openssl, and what it says of them.
+//! Where it doesn't read a name, the printed text was worked out by hand.
 //! `tools/certificate_parts.py` makes this file with fresh keys, and compares it with openssl.
 """
 
