@@ -4,3 +4,4 @@ pub mod Inner
 pub mod Parameters
 pub mod Keys
 pub mod Equal
+pub mod Once
