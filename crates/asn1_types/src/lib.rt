@@ -17,5 +17,5 @@ pub use bit_string::BitString;
 pub use error::{CharSetError, TextError};
 pub use generalized_time::GeneralizedTime;
 pub use integer::IntegerAsn1;
-pub use time_laws::times_are_ordered_by_their_fields;
+pub use time_laws::times_are_their_fields;
 pub use utc_time::UTCTime;
