@@ -7,4 +7,4 @@ mod laws;
 mod tests;
 
 pub use date::UtcDate;
-pub use laws::dates_are_ordered_by_their_fields;
+pub use laws::dates_are_their_fields;
