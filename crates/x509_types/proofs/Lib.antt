@@ -1,3 +1,5 @@
+mod Texts
+mod AttributeTypes
 pub mod Parts
 pub mod Several
 pub mod Inner

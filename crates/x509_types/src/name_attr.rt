@@ -1,0 +1,98 @@
+//! Attribute types of names.
+
+ghost use Rattle.std.specs.Prelude.{◌≡◌, [], ◌∷◌, IfOk, IfSome, Some};
+ghost use Rattle.asn1_types.specs.ObjectIdentifier.{contents_of};
+ghost use Rattle.x509_types.specs.declared.name_attr.NameAttr.{NameAttr};
+ghost use Rattle.x509_types.specs.NameAttr.{attribute_arc, attribute_arcs, attribute_word};
+
+use asn1_types::ObjectIdentifier;
+use der_core::DerError;
+use std::alloc::{AllocError, Global};
+
+/// An attribute type that names are made of, under id-at of X.520 (RFC 5280 A.1).
+#[derive(Clone, Copy, PartialEq, Eq, Debug)]
+pub enum NameAttr {
+    CommonName,
+    Surname,
+    SerialNumber,
+    CountryName,
+    LocalityName,
+    StateOrProvinceName,
+    StreetName,
+    OrganizationName,
+    OrganizationalUnitName,
+    GivenName,
+}
+
+impl NameAttr {
+    /// Every attribute type.
+    const ALL: [NameAttr; 10] = [
+        NameAttr::CommonName,
+        NameAttr::Surname,
+        NameAttr::SerialNumber,
+        NameAttr::CountryName,
+        NameAttr::LocalityName,
+        NameAttr::StateOrProvinceName,
+        NameAttr::StreetName,
+        NameAttr::OrganizationName,
+        NameAttr::OrganizationalUnitName,
+        NameAttr::GivenName,
+    ];
+
+    /// The attribute type that an identifier names, by its contents octets.
+    pub fn from_oid(contents: &[u8]) -> Option<NameAttr>
+        ensures named { (attr : NameAttr) → contents_of (attribute_arcs attr) ≡ contents.now → result ≡ Some attr }
+        ensures name { IfSome result (λ attr. contents_of (attribute_arcs attr) ≡ contents.now) }
+    {
+        for attr in NameAttr::ALL {
+            if attr.oid_of() == contents {
+                return Some(attr);
+            }
+        }
+        None
+    }
+
+    /// The contents octets of the identifier.
+    pub fn oid_of(self) -> &'static [u8]
+        ensures { result.now ≡ contents_of (attribute_arcs self) }
+    {
+        self.row().0
+    }
+
+    /// The word that is printed for the type.
+    pub fn word(self) -> &'static str
+        ensures { result.now ≡ attribute_word self }
+    {
+        self.row().1
+    }
+
+    /// The contents octets of the identifier, and the word.
+    fn row(self) -> (&'static [u8], &'static str)
+        ensures octets { result.0.now ≡ 0x55 ∷ 0x04 ∷ attribute_arc self ∷ [] }
+        ensures word { result.1.now ≡ attribute_word self }
+    {
+        match self {
+            NameAttr::CommonName => (&[0x55, 0x04, 0x03], "CN"),
+            NameAttr::Surname => (&[0x55, 0x04, 0x04], "SN"),
+            NameAttr::SerialNumber => (&[0x55, 0x04, 0x05], "SERIALNUMBER"),
+            NameAttr::CountryName => (&[0x55, 0x04, 0x06], "C"),
+            NameAttr::LocalityName => (&[0x55, 0x04, 0x07], "L"),
+            NameAttr::StateOrProvinceName => (&[0x55, 0x04, 0x08], "ST"),
+            NameAttr::StreetName => (&[0x55, 0x04, 0x09], "STREET"),
+            NameAttr::OrganizationName => (&[0x55, 0x04, 0x0A], "O"),
+            NameAttr::OrganizationalUnitName => (&[0x55, 0x04, 0x0B], "OU"),
+            NameAttr::GivenName => (&[0x55, 0x04, 0x2A], "GN"),
+        }
+    }
+
+    /// The identifier.
+    pub fn to_oid(self, alloc: Global) -> Result<ObjectIdentifier, AllocError>
+        ensures { IfOk result (λ identifier. identifier.formed.arcs ≡ attribute_arcs self) }
+    {
+        match ObjectIdentifier::from_content(alloc, self.oid_of()) {
+            Ok(identifier) => Ok(identifier),
+            Err(DerError::Shape) => unreachable!(),
+            Err(_) => Err(AllocError),
+        }
+    }
+}
