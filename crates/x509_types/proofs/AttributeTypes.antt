@@ -1,5 +1,5 @@
 -- An attribute type and its identifier give each other.
-use Rattle.std.proofs.Common.{◌≡◌, ℕ, ◌<◌, ◌≤◌, List, [], ◌∷◌, get_or, refl, sym, ap, ◌∙◌, lit<, arith, Some}
+use Rattle.std.proofs.Common.{◌≡◌, ◌↔◌, ℕ, ◌<◌, ◌≤◌, List, [], ◌∷◌, get_or, refl, sym, ap, ◌∙◌, lit<, arith, Some}
 use Rattle.std.specs.Prelude.{Option, find}
 use Rattle.std.specs.Str.{bytes_eq}
 use Rattle.asn1_types.specs.Subidentifier.{subidentifier}
@@ -7,7 +7,7 @@ use Rattle.asn1_types.specs.ObjectIdentifier.{IsArcs, IsIdentifier, IsRoot, cont
 use Rattle.asn1_types.specs.OneIdentifier.{contents_once}
 use Rattle.x509_types.specs.declared.name_attr.NameAttr.{NameAttr}
 use Rattle.x509_types.specs.declared.name_attr.NameAttr.TheVariants.{CommonName, Surname, SerialNumber, CountryName, LocalityName, StateOrProvinceName, StreetName, OrganizationName, OrganizationalUnitName, GivenName}
-use Rattle.x509_types.specs.NameAttr.{attribute_arc, attribute_arcs}
+use Rattle.x509_types.specs.NameAttr.{attribute_arc, attribute_arcs, attribute_type, attribute_types}
 
 -- the contents octets of the identifiers
 pub contents_of-type : (attr : NameAttr) → 0x55 ∷ 0x04 ∷ attribute_arc attr ∷ [] ≡ contents_of (attribute_arcs attr)
@@ -46,14 +46,15 @@ pub arcs_from_contents : (contents arcs : List ℕ) (identifier : IsIdentifier c
 arcs_from_contents contents arcs identifier are spelled =
     contents_once identifier.arcs arcs identifier.are_arcs are (sym identifier.spelled ∙ spelled)
 
+pub type_by_contents : (attr : NameAttr) (contents : List ℕ) (identifier : IsIdentifier contents)
+    → (contents ≡ contents_of (attribute_arcs attr)) ↔ (identifier.arcs ≡ attribute_arcs attr)
+type_by_contents attr contents identifier =
+    (λ same. arcs_from_contents contents (attribute_arcs attr) identifier (IsArcs-type attr) same, λ same. identifier.spelled ∙ ap contents_of same)
+
 pub IsIdentifier-type : (attr : NameAttr) → IsIdentifier (contents_of (attribute_arcs attr))
 IsIdentifier-type attr = record { arcs = attribute_arcs attr; are_arcs = IsArcs-type attr; spelled = refl }
 
--- the types in the order of the code, and where each stands
-abbrev pub attribute_types : List NameAttr
-attribute_types =
-    CommonName ∷ Surname ∷ SerialNumber ∷ CountryName ∷ LocalityName ∷ StateOrProvinceName ∷ StreetName ∷ OrganizationName ∷ OrganizationalUnitName ∷ GivenName ∷ []
-
+-- where each stands among them
 abbrev pub place : NameAttr → ℕ
 place CommonName = 0
 place Surname = 1
@@ -90,25 +91,22 @@ get_or-place OrganizationName d = refl
 get_or-place OrganizationalUnitName d = refl
 get_or-place GivenName d = refl
 
--- the type of arcs
-abbrev pub type_of : List ℕ → Option NameAttr
-type_of arcs = find (λ attr. bytes_eq (attribute_arcs attr) arcs) attribute_types
-
-pub type_of-type : (attr : NameAttr) → type_of (attribute_arcs attr) ≡ Some attr
-type_of-type CommonName = refl
-type_of-type Surname = refl
-type_of-type SerialNumber = refl
-type_of-type CountryName = refl
-type_of-type LocalityName = refl
-type_of-type StateOrProvinceName = refl
-type_of-type StreetName = refl
-type_of-type OrganizationName = refl
-type_of-type OrganizationalUnitName = refl
-type_of-type GivenName = refl
+-- the arcs of a type are those of no other
+pub attribute_type-arcs : (attr : NameAttr) → attribute_type (attribute_arcs attr) ≡ Some attr
+attribute_type-arcs CommonName = refl
+attribute_type-arcs Surname = refl
+attribute_type-arcs SerialNumber = refl
+attribute_type-arcs CountryName = refl
+attribute_type-arcs LocalityName = refl
+attribute_type-arcs StateOrProvinceName = refl
+attribute_type-arcs StreetName = refl
+attribute_type-arcs OrganizationName = refl
+attribute_type-arcs OrganizationalUnitName = refl
+attribute_type-arcs GivenName = refl
 
 -- no two types have one identifier
 pub types_by_contents : (a b : NameAttr) → contents_of (attribute_arcs a) ≡ contents_of (attribute_arcs b) → a ≡ b
 types_by_contents a b e =
     let arcs = contents_once (attribute_arcs a) (attribute_arcs b) (IsArcs-type a) (IsArcs-type b) e in
-    let n = sym (type_of-type a) ∙ ap type_of arcs ∙ type_of-type b in
+    let n = sym (attribute_type-arcs a) ∙ ap attribute_type arcs ∙ attribute_type-arcs b in
     cc

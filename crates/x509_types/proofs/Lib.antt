@@ -1,4 +1,7 @@
 mod Texts
+mod Hexadecimal
+mod Joined
+mod TypeWords
 mod AttributeTypes
 pub mod Parts
 pub mod Several

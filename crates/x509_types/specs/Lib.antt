@@ -10,6 +10,7 @@ pub mod AttributeValue
 pub mod Name
 pub mod Text
 pub mod NameAttr
+pub mod NameText
 pub mod KeyKind
 pub mod SubjectKey
 pub mod PublicKeyInfo

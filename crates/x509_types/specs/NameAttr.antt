@@ -1,5 +1,5 @@
 -- The attribute types of names that have a word of their own.
-use Rattle.std.specs.Prelude.{ℕ, List, [], ◌∷◌, codes}
+use Rattle.std.specs.Prelude.{ℕ, Option, List, [], ◌∷◌, find, bytes_eq, codes}
 use Rattle.x509_types.specs.declared.name_attr.NameAttr.{NameAttr}
 use Rattle.x509_types.specs.declared.name_attr.NameAttr.TheVariants as attributes
 
@@ -32,3 +32,11 @@ attribute_word attributes.StreetName = codes "STREET"
 attribute_word attributes.OrganizationName = codes "O"
 attribute_word attributes.OrganizationalUnitName = codes "OU"
 attribute_word attributes.GivenName = codes "GN"
+
+abbrev pub attribute_types : List NameAttr
+attribute_types =
+    attributes.CommonName ∷ attributes.Surname ∷ attributes.SerialNumber ∷ attributes.CountryName ∷ attributes.LocalityName ∷ attributes.StateOrProvinceName ∷ attributes.StreetName ∷ attributes.OrganizationName ∷ attributes.OrganizationalUnitName ∷ attributes.GivenName ∷ []
+
+-- the attribute type with these arcs
+abbrev pub attribute_type : List ℕ → Option NameAttr
+attribute_type arcs = find (λ attr. bytes_eq (attribute_arcs attr) arcs) attribute_types

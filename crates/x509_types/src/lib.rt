@@ -11,6 +11,7 @@ mod leaf;
 mod list;
 mod name;
 mod name_attr;
+mod name_text;
 mod other_value;
 mod public_key;
 mod shape;

@@ -42,10 +42,34 @@ impl<T> ListOf<T> {
         Ok(())
     }
 
+    /// Where the list takes its memory.
+    pub fn allocator(&self) -> Global {
+        *self.items.allocator()
+    }
+
     /// The values in order.
     pub fn as_slice(&self) -> &[T]
         ensures { result.now ≡ self.now }
     {
         &self.items
     }
+}
+
+/// Lists are equal where they have as many values, each equal to the one at its place.
+impl<T: PartialEq> PartialEq for ListOf<T> {
+    ghost use Rattle.std.specs.Cmp.Lexicographic.{pointwise, lists_per};
+
+    ghost eq = { pointwise T.eq };
+
+    ghost laws = { lists_per T.laws };
+
+    fn eq(&self, other: &ListOf<T>) -> bool {
+        self.items == other.items
+    }
+}
+
+impl<T: Eq> Eq for ListOf<T> {
+    ghost use Rattle.std.specs.Cmp.Lexicographic.{lists_equiv};
+
+    ghost laws = { lists_equiv T.Eq.laws };
 }

@@ -12,7 +12,7 @@ use der_core::{DerError, Tree};
 use std::alloc::{AllocError, Global};
 
 /// One attribute of a name: its type and its value.
-#[derive(Debug, Drop)]
+#[derive(Debug, Drop, PartialEq, Eq)]
 pub struct AttributeTypeAndValue {
     pub ty: ObjectIdentifier,
     pub value: AttributeValue,

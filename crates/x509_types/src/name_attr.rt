@@ -1,10 +1,11 @@
 //! Attribute types of names.
 
-ghost use Rattle.std.specs.Prelude.{◌≡◌, [], ◌∷◌, IfOk, IfSome, Some};
+ghost use Rattle.std.specs.Prelude.{◌≡◌, ◌↔◌, IsTrue, [], ◌∷◌, IfOk, IfSome, Some};
 ghost use Rattle.asn1_types.specs.ObjectIdentifier.{contents_of};
 ghost use Rattle.x509_types.specs.declared.name_attr.NameAttr.{NameAttr};
 ghost use Rattle.x509_types.specs.NameAttr.{attribute_arc, attribute_arcs, attribute_word};
 
+use crate::leaf::is_same;
 use asn1_types::ObjectIdentifier;
 use der_core::DerError;
 use std::alloc::{AllocError, Global};
@@ -50,6 +51,13 @@ impl NameAttr {
             }
         }
         None
+    }
+
+    /// Whether the identifier is that of the attribute type.
+    pub fn names(self, ty: &ObjectIdentifier) -> bool
+        ensures { IsTrue result ↔ (ty.now.formed.arcs ≡ attribute_arcs self) }
+    {
+        is_same(ty.as_bytes(), self.oid_of())
     }
 
     /// The contents octets of the identifier.
