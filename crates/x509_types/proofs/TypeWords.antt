@@ -26,10 +26,10 @@ pub word_of_other : (contents : List ℕ) (identifier : IsIdentifier contents) �
     → (identifier.arcs ≡ email_address → ⊥) → type_word identifier.arcs ≡ dotted identifier.arcs
 word_of_other contents identifier other no_email =
     ap (λ found. word_or_dotted found identifier.arcs)
-      (find_none (λ attr. bytes_eq (attribute_arcs attr) identifier.arcs) attribute_types
-        (λ attr same. other attr (ap contents_of ((bytes_eq-Decides (attribute_arcs attr) identifier.arcs).0 same) ∙ sym identifier.spelled)))
+    (find_none (λ attr. bytes_eq (attribute_arcs attr) identifier.arcs) attribute_types
+    (λ attr same. other attr (ap contents_of ((bytes_eq-Decides (attribute_arcs attr) identifier.arcs).0 same) ∙ sym identifier.spelled)))
     ∙ ap (λ email. if email then codes "EMAIL" else dotted identifier.arcs)
-      (false_from_ne_true (bytes_eq identifier.arcs email_address) (λ same. no_email ((bytes_eq-Decides identifier.arcs email_address).0 same)))
+    (false_from_ne_true (bytes_eq identifier.arcs email_address) (λ same. no_email ((bytes_eq-Decides identifier.arcs email_address).0 same)))
 
 IsArcs-email : IsArcs email_address
 IsArcs-email = search rules
@@ -37,6 +37,9 @@ IsArcs-email = search rules
 contents_of-email : contents_of email_address ≡ EMAIL_ADDRESS
 unfolding subidentifier
 contents_of-email = refl
+
+pub IsIdentifier-email : IsIdentifier EMAIL_ADDRESS
+IsIdentifier-email = record { arcs = email_address; are_arcs = IsArcs-email; spelled = sym contents_of-email }
 
 pub email_by_contents : (contents : List ℕ) (identifier : IsIdentifier contents) → (contents ≡ EMAIL_ADDRESS) ↔ (identifier.arcs ≡ email_address)
 email_by_contents contents identifier = (

@@ -4,6 +4,7 @@
 mod algorithm;
 mod attribute_value;
 mod directory_string;
+mod email;
 mod identifiers;
 mod key_info;
 mod key_kind;
@@ -23,6 +24,7 @@ mod text;
 pub use algorithm::AlgorithmIdentifier;
 pub use attribute_value::AttributeValue;
 pub use directory_string::DirectoryString;
+pub use email::email_address;
 pub use key_info::SubjectPublicKeyInfo;
 pub use key_kind::KeyKind;
 pub use list::ListOf;

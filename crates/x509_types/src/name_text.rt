@@ -1,13 +1,12 @@
 //! The texts of names.
 
-ghost use Rattle.std.specs.Prelude.{Some, ◌++◌, codes, IsTrue, ◌↔◌, ◌≡◌};
+ghost use Rattle.std.specs.Prelude.{Some, ◌++◌, codes};
 ghost use Rattle.std.specs.Fmt.{WritesOnOk};
 ghost use Rattle.der_core.specs.Encoding.{encoding};
-ghost use Rattle.x509_types.specs.NameText.{attribute_text, email_address, hexadecimal, name_text, set_text, type_word, value_text};
+ghost use Rattle.x509_types.specs.NameText.{attribute_text, hexadecimal, name_text, set_text, type_word, value_text};
 
 use crate::attribute_value::AttributeValue;
-use crate::identifiers::EMAIL_ADDRESS;
-use crate::leaf::is_same;
+use crate::email::is_email_address;
 use crate::name::{AttributeTypeAndValue, Name, RelativeDistinguishedName};
 use crate::name_attr::NameAttr;
 use crate::other_value::OtherValue;
@@ -65,12 +64,6 @@ fn write_type<W: fmt::Write>(ty: &ObjectIdentifier, f: &mut fmt::Formatter<W>) -
         return f.write_str("EMAIL");
     }
     ty.fmt(f)
-}
-
-fn is_email_address(ty: &ObjectIdentifier) -> bool
-    ensures { IsTrue result ↔ (ty.now.formed.arcs ≡ email_address) }
-{
-    is_same(ty.as_bytes(), &EMAIL_ADDRESS)
 }
 
 impl fmt::Display for RelativeDistinguishedName {

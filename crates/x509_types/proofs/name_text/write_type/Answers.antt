@@ -12,5 +12,5 @@ pub returns : goal.returns
 returns g c =
     let ty = c.args.ty.now in
     let other = word_of_other ty.contents ty.formed (λ attr named. c.in_default.not-Some attr (c.from_oid.ensures.named attr (named ∙ sym c.as_bytes.ensures)))
-      (iff_false c.is_email_address.ensures c.if-is_email_address.false) in
+    (iff_false c.is_email_address.ensures c.if-is_email_address.false) in
     rw other c.fmt.ensures.writes
