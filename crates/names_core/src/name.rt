@@ -18,7 +18,7 @@ use x509_types::{
 };
 
 /// A name of the directory, to be made, searched and printed.
-#[derive(Debug, Drop)]
+#[derive(Debug, Drop, PartialEq, Eq)]
 pub struct DirectoryName {
     name: Name,
 }
