@@ -4,3 +4,5 @@ pub mod Identifiers
 pub mod Times
 pub mod Decimals
 pub mod Dotted
+pub mod KnownTable
+pub mod KnownRows

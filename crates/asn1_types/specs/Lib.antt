@@ -8,3 +8,4 @@ pub mod SubidentifierReading
 pub mod OneIdentifier
 pub mod Calendar
 pub mod Time
+pub mod KnownIdentifiers

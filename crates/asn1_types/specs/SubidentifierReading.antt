@@ -15,6 +15,7 @@ read_after number [] = None
 read_after number (octet ∷ rest) =
     cond (ltb octet 128) (Some (number * 128 + octet, rest)) (read_after (number * 128 + (octet - 128)) rest)
 
+-- The last of the leading octets.
 pub leading_step : (number : ℕ) → 0 < number
     → leading_octets number ≡ leading_octets (number / 128) ++ ((128 + number % 128) ∷ [])
 leading_step number positive =
@@ -36,10 +37,12 @@ read_leading_by (suc bound) (suc n) rest le =
     ∙ ap (λ t. cond t (Some (number / 128 * 128 + (128 + number % 128), rest)) (read_after (number / 128 * 128 + (128 + number % 128 - 128)) rest)) high
     ∙ ap (λ n. read_after n rest) whole
 
+-- Leading octets are read as their number.
 pub read_leading : (number : ℕ) (rest : List ℕ)
     → read_after 0 (leading_octets number ++ rest) ≡ read_after number rest
 read_leading number rest = read_leading_by number number rest (omega arith)
 
+-- A subidentifier is read as its number, and what is behind it is left.
 pub read_subidentifier : (number : ℕ) (rest : List ℕ)
     → read_after 0 (subidentifier number ++ rest) ≡ Some (number, rest)
 unfolding subidentifier

@@ -3,6 +3,7 @@
 ghost use Rattle.std.specs.Prelude.{◌≡◌, ◌↔◌, IsTrue, IfOk, MatchResult, string_bytes};
 ghost use Rattle.asn1_types.specs.Contents.{RefusesContents};
 ghost use Rattle.asn1_types.specs.ObjectIdentifier.{IsIdentifier, IsArcs, contents_of, dotted, IsDottedText, RefusesText};
+ghost use Rattle.asn1_types.specs.KnownIdentifiers.{is_known};
 ghost use Rattle.asn1_types.specs.OneIdentifier.{IsIdentifier-prop};
 
 mod arcs;
@@ -46,6 +47,16 @@ impl ObjectIdentifier {
         }
         Ok(ObjectIdentifier {
             contents: Octets::from_slice(alloc, bytes)?,
+        })
+    }
+
+    /// The identifier of a row of the table, by the row's contents octets.
+    pub fn from_known(alloc: Global, contents: &[u8]) -> Result<ObjectIdentifier, AllocError>
+        requires { IsTrue (is_known contents.now) }
+        ensures { IfOk result (λ identifier. identifier.contents ≡ contents.now) }
+    {
+        Ok(ObjectIdentifier {
+            contents: Octets::from_slice(alloc, contents)?,
         })
     }
 

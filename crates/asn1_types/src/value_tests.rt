@@ -6,7 +6,7 @@ ghost use Rattle.der_core.specs.Encoding.{IsWellFormed};
 
 use super::*;
 use der_core::{DerError, Octets, Tree, write};
-use std::alloc::Global;
+use std::alloc::{AllocError, Global};
 use std::test::Fail;
 
 /// The element of a tag and these contents octets, written.
@@ -185,4 +185,22 @@ fn outside_the_alphabet(rt: HostRuntime) {
         let refusal = Ia5String::from_content(rt.alloc(), octets).err();
         assert_eq!(rt; refusal, Some(DerError::Shape), "{octets:?}");
     }
+}
+
+#[test]
+fn texts_of_errors(rt: HostRuntime) -> Result<(), Fail> {
+    let char_set = format!(in rt.alloc(); "{}", CharSetError::CharSet)?;
+    assert_eq!(rt;
+        char_set.as_str(),
+        "a character is outside the character set of the string"
+    );
+    let bad_text = format!(in rt.alloc(); "{}", TextError::BadText)?;
+    assert_eq!(rt;
+        bad_text.as_str(),
+        "the text is not an object identifier in dotted decimal form"
+    );
+    let no_memory = CharSetError::from(AllocError);
+    let want = format!(in rt.alloc(); "{no_memory}, {}", TextError::from(AllocError))?;
+    assert_eq!(rt; want.as_str(), "out of memory, out of memory");
+    Ok(())
 }

@@ -9,5 +9,5 @@ mod name;
 mod tests;
 
 pub use date::UtcDate;
-pub use laws::dates_are_ordered_by_their_fields;
+pub use laws::dates_are_their_fields;
 pub use name::{DirectoryName, NameList};

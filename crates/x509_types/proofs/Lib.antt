@@ -8,3 +8,5 @@ pub mod Several
 pub mod Inner
 pub mod Parameters
 pub mod Keys
+pub mod Equal
+pub mod Once

@@ -6,7 +6,7 @@ use Rattle.std.proofs.lemmas.Slice.Eq.{bytes_eq-Decides}
 use Rattle.asn1_types.specs.Subidentifier.{subidentifier}
 use Rattle.asn1_types.specs.ObjectIdentifier.{IsArcs, IsIdentifier, contents_of, dotted}
 use Rattle.x509_types.specs.declared.name_attr.NameAttr.{NameAttr}
-use Rattle.x509_types.specs.declared.identifiers.TheConstants.{EMAIL_ADDRESS}
+use Rattle.asn1_types.specs.declared.oids.TheConstants.{EMAIL_ADDRESS}
 use Rattle.x509_types.specs.NameAttr.{attribute_arcs, attribute_type, attribute_types, attribute_word}
 use Rattle.x509_types.specs.NameText.{email_address, type_word, word_or_dotted}
 use Rattle.x509_types.proofs.AttributeTypes.{IsArcs-type, arcs_from_contents, attribute_type-arcs}
@@ -34,14 +34,14 @@ word_of_other contents identifier other no_email =
 IsArcs-email : IsArcs email_address
 IsArcs-email = search rules
 
-contents_of-email : contents_of email_address ≡ EMAIL_ADDRESS
+contents_of-email : contents_of email_address ≡ EMAIL_ADDRESS.now
 unfolding subidentifier
 contents_of-email = refl
 
-pub IsIdentifier-email : IsIdentifier EMAIL_ADDRESS
+pub IsIdentifier-email : IsIdentifier EMAIL_ADDRESS.now
 IsIdentifier-email = record { arcs = email_address; are_arcs = IsArcs-email; spelled = sym contents_of-email }
 
-pub email_by_contents : (contents : List ℕ) (identifier : IsIdentifier contents) → (contents ≡ EMAIL_ADDRESS) ↔ (identifier.arcs ≡ email_address)
+pub email_by_contents : (contents : List ℕ) (identifier : IsIdentifier contents) → (contents ≡ EMAIL_ADDRESS.now) ↔ (identifier.arcs ≡ email_address)
 email_by_contents contents identifier = (
   λ same. arcs_from_contents contents email_address identifier IsArcs-email (same ∙ sym contents_of-email),
   λ same. identifier.spelled ∙ ap contents_of same ∙ contents_of-email,

@@ -7,16 +7,16 @@ use Rattle.der_core.specs.DerElement.{DerElement, Primitive, Constructed}
 use Rattle.asn1_types.specs.ObjectIdentifier.{IsIdentifier}
 use Rattle.x509_types.specs.Elements.{null}
 use Rattle.x509_types.specs.declared.algorithm.AlgorithmIdentifier.{AlgorithmIdentifier}
-use Rattle.x509_types.specs.declared.identifiers.TheConstants.{RSA_ENCRYPTION, EC_PUBLIC_KEY, X25519, X448, ED25519, ED448, ML_DSA_44, ML_DSA_65, ML_DSA_87}
+use Rattle.asn1_types.specs.declared.oids.TheConstants.{RSA_ENCRYPTION, EC_PUBLIC_KEY, X25519, X448, ED25519, ED448, ML_DSA_44, ML_DSA_65, ML_DSA_87}
 use Rattle.x509_types.specs.declared.key_kind.KeyKind.{KeyKind}
 use Rattle.x509_types.specs.declared.key_kind.KeyKind.TheVariants as kinds
 
 -- whether an identifier names this kind of keys (RFC 3279 2.3.1, RFC 5480 2.1.1, RFC 8410 3, RFC 9881 2)
 abbrev pub names_kind : KeyKind → List ℕ → Bool
-names_kind kinds.Rsa oid = bytes_eq oid RSA_ENCRYPTION
-names_kind kinds.Ec oid = bytes_eq oid EC_PUBLIC_KEY
-names_kind kinds.Ed oid = bytes_eq oid X25519 || bytes_eq oid X448 || bytes_eq oid ED25519 || bytes_eq oid ED448
-names_kind kinds.Mldsa oid = bytes_eq oid ML_DSA_44 || bytes_eq oid ML_DSA_65 || bytes_eq oid ML_DSA_87
+names_kind kinds.Rsa oid = bytes_eq oid RSA_ENCRYPTION.now
+names_kind kinds.Ec oid = bytes_eq oid EC_PUBLIC_KEY.now
+names_kind kinds.Ed oid = bytes_eq oid X25519.now || bytes_eq oid X448.now || bytes_eq oid ED25519.now || bytes_eq oid ED448.now
+names_kind kinds.Mldsa oid = bytes_eq oid ML_DSA_44.now || bytes_eq oid ML_DSA_65.now || bytes_eq oid ML_DSA_87.now
 
 -- The element is an OBJECT IDENTIFIER.
 abbrev pub IsOid : DerElement → Type 0

@@ -12,7 +12,7 @@ use der_core::{DerError, Octets, Raw, Tree};
 use std::alloc::{AllocError, Global};
 
 /// An algorithm by its identifier, with its parameters (RFC 5280 4.1.1.2).
-#[derive(Debug, Drop)]
+#[derive(Debug, Drop, PartialEq, Eq)]
 pub struct AlgorithmIdentifier {
     oid: ObjectIdentifier,
     parameters: Option<Raw>,

@@ -3,9 +3,9 @@
 ghost use Rattle.std.specs.Prelude.{◌≡◌, ◌↔◌, IfOk, IsTrue};
 ghost use Rattle.x509_types.specs.NameText.{email_address};
 
-use crate::identifiers::EMAIL_ADDRESS;
 use crate::leaf::is_same;
 use asn1_types::ObjectIdentifier;
+use asn1_types::oids::EMAIL_ADDRESS;
 use der_core::DerError;
 use std::alloc::{AllocError, Global};
 
@@ -13,7 +13,7 @@ use std::alloc::{AllocError, Global};
 pub fn email_address(alloc: Global) -> Result<ObjectIdentifier, AllocError>
     ensures { IfOk result (λ identifier. identifier.formed.arcs ≡ email_address) }
 {
-    match ObjectIdentifier::from_content(alloc, &EMAIL_ADDRESS) {
+    match ObjectIdentifier::from_content(alloc, EMAIL_ADDRESS) {
         Ok(identifier) => Ok(identifier),
         Err(DerError::Shape) => unreachable!(),
         Err(_) => Err(AllocError),
@@ -24,5 +24,5 @@ pub fn email_address(alloc: Global) -> Result<ObjectIdentifier, AllocError>
 pub fn is_email_address(ty: &ObjectIdentifier) -> bool
     ensures { IsTrue result ↔ (ty.now.formed.arcs ≡ email_address) }
 {
-    is_same(ty.as_bytes(), &EMAIL_ADDRESS)
+    is_same(ty.as_bytes(), EMAIL_ADDRESS)
 }

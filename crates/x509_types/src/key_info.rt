@@ -13,7 +13,7 @@ use der_core::{DerError, Tree};
 use std::alloc::{AllocError, Global};
 
 /// A public key with its algorithm (RFC 5280 4.1.2.7), which is one for keys of its kind.
-#[derive(Debug, Drop)]
+#[derive(Debug, Drop, PartialEq, Eq)]
 pub struct SubjectPublicKeyInfo {
     pub algorithm: AlgorithmIdentifier,
     pub subject_public_key: SubjectKey,

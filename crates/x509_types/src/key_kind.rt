@@ -7,12 +7,12 @@ ghost use Rattle.x509_types.specs.Elements.{null};
 ghost use Rattle.x509_types.specs.KeyKind.{names_kind, IsAlgorithmOf, MayHave, IsOid};
 
 use crate::algorithm::AlgorithmIdentifier;
-use crate::identifiers::{
-    EC_PUBLIC_KEY, ED448, ED25519, ML_DSA_44, ML_DSA_65, ML_DSA_87, RSA_ENCRYPTION, X448, X25519,
-};
 use crate::leaf::is_same;
 use crate::structure::read_if;
 use crate::tag::NULL;
+use asn1_types::oids::{
+    EC_PUBLIC_KEY, ED448, ED25519, ML_DSA_44, ML_DSA_65, ML_DSA_87, RSA_ENCRYPTION, X448, X25519,
+};
 use asn1_types::ObjectIdentifier;
 use der_core::{DerError, Raw};
 use std::alloc::{AllocError, Global};
@@ -57,18 +57,18 @@ impl KeyKind {
         ensures { result ≡ names_kind self oid.now }
     {
         match self {
-            KeyKind::Rsa => oid == RSA_ENCRYPTION.as_slice(),
-            KeyKind::Ec => oid == EC_PUBLIC_KEY.as_slice(),
+            KeyKind::Rsa => oid == RSA_ENCRYPTION,
+            KeyKind::Ec => oid == EC_PUBLIC_KEY,
             KeyKind::Ed => {
-                oid == X25519.as_slice()
-                    || oid == X448.as_slice()
-                    || oid == ED25519.as_slice()
-                    || oid == ED448.as_slice()
+                oid == X25519
+                    || oid == X448
+                    || oid == ED25519
+                    || oid == ED448
             }
             KeyKind::Mldsa => {
-                oid == ML_DSA_44.as_slice()
-                    || oid == ML_DSA_65.as_slice()
-                    || oid == ML_DSA_87.as_slice()
+                oid == ML_DSA_44
+                    || oid == ML_DSA_65
+                    || oid == ML_DSA_87
             }
         }
     }

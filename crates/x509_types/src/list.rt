@@ -1,6 +1,7 @@
 //! Values of one structure in order.
 
 ghost use Rattle.std.specs.Prelude.{◌≡◌, ◌++◌, ◌∷◌, [], IfOk, OnOk, OnErr};
+ghost use Rattle.std.specs.Cmp.Lexicographic.{pointwise, lists_per, lists_equiv};
 
 use std::alloc::{AllocError, Global};
 use std::marker::Model;
@@ -34,8 +35,7 @@ impl<T> ListOf<T> {
 
     /// Appends a value.
     pub fn push(&mut self, item: T) -> Result<(), AllocError>
-    where
-        T: Drop,
+        where T: Drop
         ensures ok { OnOk result (self.new ≡ self.old ++ item ∷ []) }
         ensures err { OnErr result (self.new ≡ self.old) }
     {
@@ -56,21 +56,16 @@ impl<T> ListOf<T> {
     }
 }
 
-/// Lists are equal where they have as many values, each equal to the one at its place.
 impl<T: PartialEq> PartialEq for ListOf<T> {
-    ghost use Rattle.std.specs.Cmp.Lexicographic.{pointwise, lists_per};
-
     ghost eq = { pointwise T.eq };
 
     ghost laws = { lists_per T.laws };
 
-    fn eq(&self, other: &ListOf<T>) -> bool {
+    fn eq(&self, other: &Self) -> bool {
         self.items == other.items
     }
 }
 
 impl<T: Eq> Eq for ListOf<T> {
-    ghost use Rattle.std.specs.Cmp.Lexicographic.{lists_equiv};
-
     ghost laws = { lists_equiv T.Eq.laws };
 }

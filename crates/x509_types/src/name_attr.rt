@@ -6,7 +6,7 @@ ghost use Rattle.x509_types.specs.declared.name_attr.NameAttr.{NameAttr};
 ghost use Rattle.x509_types.specs.NameAttr.{attribute_arc, attribute_arcs, attribute_word};
 
 use crate::leaf::is_same;
-use asn1_types::ObjectIdentifier;
+use asn1_types::{ObjectIdentifier, oids};
 use der_core::DerError;
 use std::alloc::{AllocError, Global};
 
@@ -80,16 +80,16 @@ impl NameAttr {
         ensures word { result.1.now ≡ attribute_word self }
     {
         match self {
-            NameAttr::CommonName => (&[0x55, 0x04, 0x03], "CN"),
-            NameAttr::Surname => (&[0x55, 0x04, 0x04], "SN"),
-            NameAttr::SerialNumber => (&[0x55, 0x04, 0x05], "SERIALNUMBER"),
-            NameAttr::CountryName => (&[0x55, 0x04, 0x06], "C"),
-            NameAttr::LocalityName => (&[0x55, 0x04, 0x07], "L"),
-            NameAttr::StateOrProvinceName => (&[0x55, 0x04, 0x08], "ST"),
-            NameAttr::StreetName => (&[0x55, 0x04, 0x09], "STREET"),
-            NameAttr::OrganizationName => (&[0x55, 0x04, 0x0A], "O"),
-            NameAttr::OrganizationalUnitName => (&[0x55, 0x04, 0x0B], "OU"),
-            NameAttr::GivenName => (&[0x55, 0x04, 0x2A], "GN"),
+            NameAttr::CommonName => (oids::AT_COMMON_NAME, "CN"),
+            NameAttr::Surname => (oids::AT_SURNAME, "SN"),
+            NameAttr::SerialNumber => (oids::AT_SERIAL_NUMBER, "SERIALNUMBER"),
+            NameAttr::CountryName => (oids::AT_COUNTRY_NAME, "C"),
+            NameAttr::LocalityName => (oids::AT_LOCALITY_NAME, "L"),
+            NameAttr::StateOrProvinceName => (oids::AT_STATE_OR_PROVINCE_NAME, "ST"),
+            NameAttr::StreetName => (oids::AT_STREET_ADDRESS, "STREET"),
+            NameAttr::OrganizationName => (oids::AT_ORGANIZATION_NAME, "O"),
+            NameAttr::OrganizationalUnitName => (oids::AT_ORGANIZATIONAL_UNIT_NAME, "OU"),
+            NameAttr::GivenName => (oids::AT_GIVEN_NAME, "GN"),
         }
     }
 
