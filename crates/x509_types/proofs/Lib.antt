@@ -1,3 +1,8 @@
+mod Texts
+mod Hexadecimal
+mod Joined
+mod TypeWords
+mod AttributeTypes
 pub mod Parts
 pub mod Several
 pub mod Inner

@@ -43,6 +43,11 @@ impl<T> ListOf<T> {
         Ok(())
     }
 
+    /// Where the list takes its memory.
+    pub fn allocator(&self) -> Global {
+        *self.items.allocator()
+    }
+
     /// The values in order.
     pub fn as_slice(&self) -> &[T]
         ensures { result.now ≡ self.now }
