@@ -16,12 +16,15 @@ mod shape;
 mod structure;
 mod subject_key;
 mod tag;
+#[cfg(test)]
+mod tests;
 
 pub use algorithm::AlgorithmIdentifier;
 pub use attribute_value::AttributeValue;
 pub use directory_string::DirectoryString;
 pub use key_info::SubjectPublicKeyInfo;
 pub use key_kind::KeyKind;
+pub use laws::{equal_algorithms_have_equal_octets, equal_names_have_equal_octets};
 pub use list::ListOf;
 pub use name::{AttributeTypeAndValue, Name, RelativeDistinguishedName};
 pub use other_value::OtherValue;
