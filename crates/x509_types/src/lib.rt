@@ -20,6 +20,8 @@ mod structure;
 mod subject_key;
 mod tag;
 mod text;
+#[cfg(test)]
+mod text_tests;
 
 pub use algorithm::AlgorithmIdentifier;
 pub use attribute_value::AttributeValue;
