@@ -54,9 +54,13 @@ fn common_names(rt: HostRuntime) -> Result<(), Fail> {
 #[test]
 fn made_and_printed(rt: HostRuntime) -> Result<(), Fail> {
     let mut name = DirectoryName::new_common_name(rt.alloc(), "A")?;
+    let octets = write(rt.alloc(), &name.write(rt.alloc())?)?;
+    assert_eq!(rt; octets.as_slice(), COMMON_NAME_A.as_slice());
     let sets = Name::from(name.try_clone(rt.alloc())?);
     let octets = write(rt.alloc(), &sets.write(rt.alloc())?)?;
     assert_eq!(rt; octets.as_slice(), COMMON_NAME_A.as_slice());
+    let tree = read_exact(rt.alloc(), &COMMON_NAME_A)?;
+    assert!(rt; DirectoryName::read(rt.alloc(), &tree)? == name);
     let a = DirectoryString::from_text(rt.alloc(), "A")?;
     assert!(rt; name.find_common_name() == Some(&a));
     name.add_email(Ia5String::from_string(rt.alloc(), "a@b")?)?;
@@ -114,5 +118,6 @@ fn lists(rt: HostRuntime) -> Result<(), Fail> {
     };
     assert!(rt; *first == DirectoryName::new(rt.alloc()));
     assert!(rt; *second == name_of(rt.alloc(), &COMMON_NAME_A)?);
+    assert!(rt; names == names.try_clone(rt.alloc())?);
     Ok(())
 }
