@@ -5,6 +5,7 @@ use crate::certificate_parts::{KEYS, NAMES};
 use crate::signature::octets;
 use asn1_types::IntegerAsn1;
 use der_core::{read_exact, write};
+use names_core::DirectoryName;
 use std::alloc::Global;
 use std::process::Abort;
 use std::test::Fail;
@@ -29,6 +30,9 @@ fn is_name(rt: &impl Abort, alloc: Global, row: &str) -> Result<(), Fail> {
     let name = Name::read(alloc, &read_exact(alloc, &spelled)?)?;
     let written = write(alloc, &name.write(alloc)?)?;
     assert!(rt; written == spelled, "{label}");
+    let text = octets(alloc, &[fields.next().unwrap_or_default()])?;
+    let printed = format!(in alloc; "{}", DirectoryName::from(name))?;
+    assert!(rt; printed.as_bytes() == text.as_slice(), "{label}");
     Ok(())
 }
 

@@ -87,14 +87,14 @@ values_same (values.Other x) (values.Other y) dx dy = kept_same x.element y.elem
 both_same : (p q : Bool) (x y x' y' : DerElement) → IsTrue p ↔ (x ≡ x') → IsTrue q ↔ (y ≡ y') → IsTrue (p && q) ↔ (sequence (x ∷ y ∷ []) ≡ sequence (x' ∷ y' ∷ []))
 both_same p q x y x' y' h k = (
   λ t.
-    let parts = and_parts p q t in
-    let first = h.0 parts.0 in
-    let second = k.0 parts.1 in
-    cc,
+      let parts = and_parts p q t in
+      let first = h.0 parts.0 in
+      let second = k.0 parts.1 in
+      cc,
   λ e.
-    let first : x ≡ x' = cc in
-    let second : y ≡ y' = cc in
-    and_from p q (h.1 first) (k.1 second),
+      let first : x ≡ x' = cc in
+      let second : y ≡ y' = cc in
+      and_from p q (h.1 first) (k.1 second),
 )
 
 attributes_same : (a b : AttributeTypeAndValue) → IsDer (attribute_type_and_value a) → IsDer (attribute_type_and_value b) → IsTrue (attribute_eq.eq-value.it a b) ↔ (attribute_type_and_value a ≡ attribute_type_and_value b)
@@ -102,7 +102,7 @@ attributes_same a b da db =
     let va : IsDer (attribute_value a.value) = (kids_in_bounds (attribute_type_and_value a) (object_identifier a.ty ∷ attribute_value a.value ∷ []) refl da).1.0 in
     let vb : IsDer (attribute_value b.value) = (kids_in_bounds (attribute_type_and_value b) (object_identifier b.ty ∷ attribute_value b.value ∷ []) refl db).1.0 in
     both_same (bytes_eq a.ty.contents b.ty.contents) (value_eq.eq-value.it a.value b.value) (object_identifier a.ty) (attribute_value a.value) (object_identifier b.ty) (attribute_value b.value)
-      (leaves_same 6 a.ty.contents b.ty.contents) (values_same a.value b.value va vb)
+    (leaves_same 6 a.ty.contents b.ty.contents) (values_same a.value b.value va vb)
 
 -- of lists, if each of their values is equal so
 each_same : {X : Type 0} (eq : X → X → Bool) (written : X → DerElement)
@@ -113,16 +113,17 @@ each_same eq written one [] (y ∷ ys) dx dy = unlike (λ e. absurd cc)
 each_same eq written one (x ∷ xs) [] dx dy = unlike (λ e. absurd cc)
 each_same eq written one (x ∷ xs) (y ∷ ys) dx dy =
     let here = one x y dx.0 dy.0 in
-    let rest = each_same eq written one xs ys dx.1 dy.1 in
-    (λ t.
-      let parts = and_parts (eq x y) (pointwise eq xs ys) t in
-      let first = here.0 parts.0 in
-      let others = rest.0 parts.1 in
-      cc,
-     λ e.
-      let first : written x ≡ written y = cc in
-      let others : map written xs ≡ map written ys = cc in
-      and_from (eq x y) (pointwise eq xs ys) (here.1 first) (rest.1 others))
+    let rest = each_same eq written one xs ys dx.1 dy.1 in (
+      λ t.
+          let parts = and_parts (eq x y) (pointwise eq xs ys) t in
+          let first = here.0 parts.0 in
+          let others = rest.0 parts.1 in
+          cc,
+      λ e.
+          let first : written x ≡ written y = cc in
+          let others : map written xs ≡ map written ys = cc in
+          and_from (eq x y) (pointwise eq xs ys) (here.1 first) (rest.1 others),
+    )
 
 lists_same : {X : Type 0} (eq : X → X → Bool) (written : X → DerElement) (tag : ℕ)
     → ((a b : X) → IsDer (written a) → IsDer (written b) → IsTrue (eq a b) ↔ (written a ≡ written b))
@@ -131,9 +132,10 @@ lists_same : {X : Type 0} (eq : X → X → Bool) (written : X → DerElement) (
 lists_same eq written tag one xs ys dx dy =
     let x : AreDer (map written xs) = kids_in_bounds (Constructed tag (row (map written xs))) (map written xs) (ap Some (listed-row (map written xs))) dx in
     let y : AreDer (map written ys) = kids_in_bounds (Constructed tag (row (map written ys))) (map written ys) (ap Some (listed-row (map written ys))) dy in
-    let same = each_same eq written one xs ys x y in
-    (λ t. ap (λ kids. Constructed tag (row kids)) (same.0 t),
-     λ e. same.1 (same_kids (Constructed tag (row (map written xs))) tag tag (map written xs) (map written ys) refl e))
+    let same = each_same eq written one xs ys x y in (
+      λ t. ap (λ kids. Constructed tag (row kids)) (same.0 t),
+      λ e. same.1 (same_kids (Constructed tag (row (map written xs))) tag tag (map written xs) (map written ys) refl e),
+    )
 
 names_same : (a b : List (List AttributeTypeAndValue)) → IsDer (name a) → IsDer (name b) → IsTrue (pointwise (pointwise attribute_eq.eq-value.it) a b) ↔ (name a ≡ name b)
 names_same = lists_same (pointwise attribute_eq.eq-value.it) relative_distinguished_name 48 (lists_same attribute_eq.eq-value.it attribute_type_and_value 49 attributes_same)
@@ -160,17 +162,18 @@ algorithms_same a b da db =
     let pa : AreDer kids_a = kids_in_bounds (algorithm_identifier a) kids_a (ap Some (listed-row kids_a)) da in
     let pb : AreDer kids_b = kids_in_bounds (algorithm_identifier b) kids_b (ap Some (listed-row kids_b)) db in
     let oids = leaves_same 6 a.oid.contents b.oid.contents in
-    let parameters = parameters_same a.parameters b.parameters pa.1 pb.1 in
-    (λ t.
-      let parts = and_parts (bytes_eq a.oid.contents b.oid.contents) _ t in
-      let first = oids.0 parts.0 in
-      let others = parameters.0 parts.1 in
-      ap (λ k. sequence (k ∷ option_to_list a.parameters)) first ∙ ap (λ ks. sequence (object_identifier b.oid ∷ ks)) others,
-     λ e.
-      let kids : kids_a ≡ kids_b = same_kids (algorithm_identifier a) 48 48 kids_a kids_b refl e in
-      let first : object_identifier a.oid ≡ object_identifier b.oid = cc in
-      let others : option_to_list a.parameters ≡ option_to_list b.parameters = cc in
-      and_from (bytes_eq a.oid.contents b.oid.contents) _ (oids.1 first) (parameters.1 others))
+    let parameters = parameters_same a.parameters b.parameters pa.1 pb.1 in (
+      λ t.
+          let parts = and_parts (bytes_eq a.oid.contents b.oid.contents) _ t in
+          let first = oids.0 parts.0 in
+          let others = parameters.0 parts.1 in
+          ap (λ k. sequence (k ∷ option_to_list a.parameters)) first ∙ ap (λ ks. sequence (object_identifier b.oid ∷ ks)) others,
+      λ e.
+          let kids : kids_a ≡ kids_b = same_kids (algorithm_identifier a) 48 48 kids_a kids_b refl e in
+          let first : object_identifier a.oid ≡ object_identifier b.oid = cc in
+          let others : option_to_list a.parameters ≡ option_to_list b.parameters = cc in
+          and_from (bytes_eq a.oid.contents b.oid.contents) _ (oids.1 first) (parameters.1 others),
+    )
 
 pub algorithms_by_octets : (a b : AlgorithmIdentifier) → IsDer (algorithm_identifier a) → IsDer (algorithm_identifier b) → IsTrue (algorithm_eq.eq-value.it a b) ↔ (encoding (algorithm_identifier a) ≡ encoding (algorithm_identifier b))
 algorithms_by_octets a b da db = octets_alike _ (algorithm_identifier a) (algorithm_identifier b) da db (algorithms_same a b da db)

@@ -54,7 +54,7 @@ pub nothing_within : {X : Type 0} (spells : DerElement → X → Type 0) (octets
     → RefusesShape (λ (element : DerElement). IsDer element × (octets ≡ encoding element)) e → RefusesShape (IsWithin spells octets) e
 nothing_within spells octets e refused =
     refuses_as (λ (element : DerElement). IsDer element × (octets ≡ encoding element)) (IsWithin spells octets) e
-      (λ none value within. none within.element (within.der, within.encoded)) refused
+    (λ none value within. none within.element (within.der, within.encoded)) refused
 
 -- what is read of the element in a string is read of the string
 pub read_in_string : {X : Type 0} (spells : DerElement → X → Type 0) (octets : List ℕ) (element : DerElement) → IsDer element → octets ≡ encoding element
@@ -62,5 +62,5 @@ pub read_in_string : {X : Type 0} (spells : DerElement → X → Type 0) (octets
 read_in_string spells octets element der encoded (Ok value) spelled = record { element = element; der = der; encoded = encoded; spelled = spelled }
 read_in_string spells octets element der encoded (Err e) refused =
     refuses_as (spells element) (IsWithin spells octets) e
-      (λ none value within. none value (subst (λ x. spells x value) (same_element within.element element within.der der (sym within.encoded ∙ encoded)) within.spelled))
-      refused
+    (λ none value within. none value (subst (λ x. spells x value) (same_element within.element element within.der der (sym within.encoded ∙ encoded)) within.spelled))
+    refused

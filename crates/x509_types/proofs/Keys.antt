@@ -22,7 +22,7 @@ rsa_key_in_bits t payload bits (Ok key) within =
     (bits ∙ ap (λ p. Primitive 3 (0 ∷ p)) octets, (subst IsDer within.spelled within.der, tt))
 rsa_key_in_bits t payload bits (Err e) refused =
     refuses_as (IsRsaKey payload) (λ key. IsSubjectKey t (keys.Rsa key)) e
-      (λ none key is.
-        let octets : payload ≡ encoding (rsa_public_key key) = cc (bits, is.0) in
-        none key (record { element = rsa_public_key key; der = is.1.0; encoded = octets; spelled = refl }))
-      refused
+    (λ none key is.
+    let octets : payload ≡ encoding (rsa_public_key key) = cc (bits, is.0) in
+    none key (record { element = rsa_public_key key; der = is.1.0; encoded = octets; spelled = refl }))
+    refused

@@ -82,7 +82,7 @@ pub written_not : {X : Type 0} (spells : DerElement → X → Type 0) (written :
 written_not spells written inner all rest rest' elements value e so_far next refused =
     let first = so_far.first in
     let parts : flat_map inner all ≡ flat_map inner first ++ (inner value ++ flat_map inner rest') =
-        ap (flat_map inner) (so_far.parts ∙ ap (λ r. first ++ r) next) ∙ flat_map-append inner first (value ∷ rest') in
+    ap (flat_map inner) (so_far.parts ∙ ap (λ r. first ++ r) next) ∙ flat_map-append inner first (value ∷ rest') in
     subst (λ i. RefusesInner i e) (sym parts) (refuses_among (flat_map inner first) (inner value) (flat_map inner rest') e so_far.done.bounded refused)
 
 -- what is read of the kids is read of the element around them
@@ -92,8 +92,8 @@ pub list_around : {X : Type 0} (spells : DerElement → X → Type 0) (t : DerEl
 list_around spells t tag kids holds (Ok values) each = record { kids = kids; holds = holds; each = each }
 list_around spells t tag kids holds (Err e) refused =
     refuses_as (AreEach spells kids) (IsListOf tag spells t) e
-      (λ none values list. none values (subst (λ ks. AreEach spells ks values) (same_kids t tag tag list.kids kids list.holds holds) list.each))
-      refused
+    (λ none values list. none values (subst (λ ks. AreEach spells ks values) (same_kids t tag tag list.kids kids list.holds holds) list.each))
+    refused
 
 -- where an element spells a value by being the one that is written for it, so do elements in order
 pub each_written : {X : Type 0} (written : X → DerElement) (elements : List DerElement) (values : List X)
@@ -115,8 +115,8 @@ pub list_written : {X : Type 0} (written : X → DerElement) (tag : ℕ) (t : De
 list_written written tag t (Ok values) list = list.holds ∙ ap (λ kids. Constructed tag (row kids)) (each_written written list.kids values list.each)
 list_written written tag t (Err e) refused =
     refuses_as (IsListOf tag (λ element value. element ≡ written value) t) (λ values. t ≡ Constructed tag (row (map written values))) e
-      (λ none values is. none values (record { kids = map written values; holds = is; each = written_each written values }))
-      refused
+    (λ none values is. none values (record { kids = map written values; holds = is; each = written_each written values }))
+    refused
 
 abbrev no_element : List DerElement
 no_element = []

@@ -4,8 +4,8 @@ ghost use Rattle.std.specs.Prelude.{◌≡◌, [], Some, IfOk};
 ghost use Rattle.std.specs.Option.{option_copied};
 ghost use Rattle.x509_types.specs.Elements.{null};
 
-use crate::structure::Structure;
 use crate::shape::{Kids, NewKids, kept, kept_option};
+use crate::structure::Structure;
 use crate::tag::{NULL, SEQUENCE};
 use asn1_types::ObjectIdentifier;
 use der_core::{DerError, Octets, Raw, Tree};
@@ -27,7 +27,10 @@ impl AlgorithmIdentifier {
     }
 
     /// The algorithm of this identifier, with NULL parameters.
-    pub fn with_null(alloc: Global, oid: ObjectIdentifier) -> Result<AlgorithmIdentifier, AllocError>
+    pub fn with_null(
+        alloc: Global,
+        oid: ObjectIdentifier,
+    ) -> Result<AlgorithmIdentifier, AllocError>
         ensures { IfOk result (λ a. (a.oid ≡ oid) × (a.parameters ≡ Some null)) }
     {
         let null = Tree::leaf(NULL, Octets::from_slice(alloc, &[])?);

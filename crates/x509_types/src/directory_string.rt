@@ -25,10 +25,7 @@ impl DirectoryString {
     pub fn from_text(alloc: Global, text: &str) -> Result<DirectoryString, AllocError>
         ensures { IfOk result (λ string. string ≡ Utf8String text.now) }
     {
-        Ok(DirectoryString::Utf8String(Octets::from_slice(
-            alloc,
-            text.as_bytes(),
-        )?))
+        Ok(DirectoryString::Utf8String(Octets::from_slice(alloc, text.as_bytes())?))
     }
 }
 
@@ -48,21 +45,13 @@ impl Structure for DirectoryString {
                 tree,
                 PRINTABLE_STRING,
             )?)),
-            UTF8_STRING => Ok(DirectoryString::Utf8String(read_octets(
-                alloc,
-                tree,
-                UTF8_STRING,
-            )?)),
+            UTF8_STRING => Ok(DirectoryString::Utf8String(read_octets(alloc, tree, UTF8_STRING)?)),
             TELETEX_STRING => Ok(DirectoryString::TeletexString(read_octets(
                 alloc,
                 tree,
                 TELETEX_STRING,
             )?)),
-            BMP_STRING => Ok(DirectoryString::BmpString(read_octets(
-                alloc,
-                tree,
-                BMP_STRING,
-            )?)),
+            BMP_STRING => Ok(DirectoryString::BmpString(read_octets(alloc, tree, BMP_STRING)?)),
             _ => Err(DerError::Shape),
         }
     }

@@ -10,10 +10,10 @@ use crate::algorithm::AlgorithmIdentifier;
 use crate::leaf::is_same;
 use crate::structure::read_if;
 use crate::tag::NULL;
+use asn1_types::ObjectIdentifier;
 use asn1_types::oids::{
     EC_PUBLIC_KEY, ED448, ED25519, ML_DSA_44, ML_DSA_65, ML_DSA_87, RSA_ENCRYPTION, X448, X25519,
 };
-use asn1_types::ObjectIdentifier;
 use der_core::{DerError, Raw};
 use std::alloc::{AllocError, Global};
 
@@ -59,17 +59,8 @@ impl KeyKind {
         match self {
             KeyKind::Rsa => oid == RSA_ENCRYPTION,
             KeyKind::Ec => oid == EC_PUBLIC_KEY,
-            KeyKind::Ed => {
-                oid == X25519
-                    || oid == X448
-                    || oid == ED25519
-                    || oid == ED448
-            }
-            KeyKind::Mldsa => {
-                oid == ML_DSA_44
-                    || oid == ML_DSA_65
-                    || oid == ML_DSA_87
-            }
+            KeyKind::Ed => { oid == X25519 || oid == X448 || oid == ED25519 || oid == ED448 }
+            KeyKind::Mldsa => { oid == ML_DSA_44 || oid == ML_DSA_65 || oid == ML_DSA_87 }
         }
     }
 

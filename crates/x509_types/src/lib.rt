@@ -19,6 +19,8 @@ mod shape;
 mod structure;
 mod subject_key;
 mod tag;
+#[cfg(test)]
+mod tests;
 mod text;
 #[cfg(test)]
 mod text_tests;
@@ -29,6 +31,10 @@ pub use directory_string::DirectoryString;
 pub use email::email_address;
 pub use key_info::SubjectPublicKeyInfo;
 pub use key_kind::KeyKind;
+pub use laws::{
+    each_element_spells_one_value, equal_algorithms_have_equal_octets,
+    equal_names_have_equal_octets,
+};
 pub use list::ListOf;
 pub use name::{AttributeTypeAndValue, Name, RelativeDistinguishedName};
 pub use name_attr::NameAttr;

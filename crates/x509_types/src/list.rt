@@ -36,7 +36,8 @@ impl<T> ListOf<T> {
 
     /// Appends a value.
     pub fn push(&mut self, item: T) -> Result<(), AllocError>
-        where T: Drop
+    where
+        T: Drop,
         ensures ok { OnOk result (self.new ≡ self.old ++ item ∷ []) }
         ensures err { OnErr result (self.new ≡ self.old) }
     {

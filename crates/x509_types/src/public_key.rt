@@ -4,8 +4,8 @@ ghost use Rattle.std.specs.Prelude.{◌≡◌, [], IfOk, MatchResult};
 ghost use Rattle.der_core.specs.Encoding.{IsDer};
 ghost use Rattle.x509_types.specs.Shape.{RefusesShape, IsWritten};
 
-use crate::structure::Structure;
 use crate::shape::{Kids, NewKids};
+use crate::structure::Structure;
 use crate::tag::SEQUENCE;
 use asn1_types::IntegerAsn1;
 use der_core::{DerError, Tree};

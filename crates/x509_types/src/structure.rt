@@ -105,7 +105,11 @@ pub fn read_list<T: Structure>(alloc: Global, tree: &Tree, tag: u8) -> Result<Li
 }
 
 /// The SEQUENCE OF or the SET OF of the values, by its tag.
-pub fn write_list<T: Structure>(alloc: Global, values: &ListOf<T>, tag: u8) -> Result<Tree, DerError>
+pub fn write_list<T: Structure>(
+    alloc: Global,
+    values: &ListOf<T>,
+    tag: u8,
+) -> Result<Tree, DerError>
     requires { IsTag tag × (form_bit tag ≡ 1) }
     ensures { MatchResult result (IsWrittenList tag T.spells T.written T.inner values.now) (RefusesInner (flat_map T.inner values.now)) }
 {

@@ -46,7 +46,11 @@ impl SubjectKey {
     }
 
     /// The key that an element holds, by the algorithm beside it.
-    pub(crate) fn read_for(alloc: Global, algorithm: &AlgorithmIdentifier, tree: &Tree) -> Result<SubjectKey, DerError>
+    pub(crate) fn read_for(
+        alloc: Global,
+        algorithm: &AlgorithmIdentifier,
+        tree: &Tree,
+    ) -> Result<SubjectKey, DerError>
         requires { IsDer tree.now }
         ensures { MatchResult result
             (λ key. IsAlgorithmOf (kind_of key) algorithm.now × IsSubjectKey tree.now key)

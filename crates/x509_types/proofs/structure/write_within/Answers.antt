@@ -14,5 +14,5 @@ pub returns : goal.returns
 returns g c =
     let w = c.in_ok-element.ensures in
     MatchResult-weaker c.write_inner.result c.write_inner.ensures
-      (λ octets o. (o.1 ∙ ap encoding w.0, subst IsDer w.0 o.0, record { element = c.in_ok-element.element; der = o.0; encoded = o.1; spelled = w.1 }, w.3))
-      (λ e refused. refuses_last (g.T.Structure.inner c.args.value.now) _ e w.3 (subst (λ x. RefusesInner (x ∷ []) e) w.0 refused))
+    (λ octets o. (o.1 ∙ ap encoding w.0, subst IsDer w.0 o.0, record { element = c.in_ok-element.element; der = o.0; encoded = o.1; spelled = w.1 }, w.3))
+    (λ e refused. refuses_last (g.T.Structure.inner c.args.value.now) _ e w.3 (subst (λ x. RefusesInner (x ∷ []) e) w.0 refused))
