@@ -6,6 +6,8 @@ mod date;
 mod laws;
 mod name;
 #[cfg(test)]
+mod name_tests;
+#[cfg(test)]
 mod tests;
 
 pub use date::UtcDate;

@@ -10,6 +10,7 @@ ghost use Rattle.names_core.specs.DirectoryName.{IsExtended, utf8_value, first_c
 
 use crate::common_name::first_common_name;
 use asn1_types::{Ia5String, ObjectIdentifier};
+use der_core::{DerError, Tree};
 use std::alloc::{AllocError, Global};
 use std::fmt::{self, Display};
 use x509_types::{
@@ -119,5 +120,30 @@ impl fmt::Display for DirectoryName {
 
     fn fmt<W: fmt::Write>(&self, f: &mut fmt::Formatter<W>) -> fmt::Result {
         self.name.fmt(f)
+    }
+}
+
+/// A name of the directory is read and written as the Name that it holds.
+impl Structure for DirectoryName {
+    ghost use Rattle.x509_types.specs.Name.{name};
+
+    ghost spells = { λ element made. element ≡ name made.name };
+
+    ghost written = { λ made. name made.name };
+
+    ghost inner = { λ _. [] };
+
+    fn read(alloc: Global, tree: &Tree) -> Result<DirectoryName, DerError> {
+        Ok(DirectoryName {
+            name: Name::read(alloc, tree)?,
+        })
+    }
+
+    fn write(&self, alloc: Global) -> Result<Tree, DerError> {
+        self.name.write(alloc)
+    }
+
+    fn try_clone(&self, alloc: Global) -> Result<DirectoryName, AllocError> {
+        DirectoryName::try_clone(self, alloc)
     }
 }

@@ -22,6 +22,8 @@ mod tag;
 #[cfg(test)]
 mod tests;
 mod text;
+#[cfg(test)]
+mod text_tests;
 
 pub use algorithm::AlgorithmIdentifier;
 pub use attribute_value::AttributeValue;

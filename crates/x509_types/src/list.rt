@@ -3,6 +3,7 @@
 ghost use Rattle.std.specs.Prelude.{◌≡◌, ◌++◌, ◌∷◌, [], IfOk, OnOk, OnErr};
 ghost use Rattle.std.specs.Cmp.Lexicographic.{pointwise, lists_per, lists_equiv};
 
+use crate::structure::{Structure, copy_each};
 use std::alloc::{AllocError, Global};
 use std::marker::Model;
 
@@ -54,6 +55,15 @@ impl<T> ListOf<T> {
         ensures { result.now ≡ self.now }
     {
         &self.items
+    }
+}
+
+impl<T: Structure> ListOf<T> {
+    /// A copy of the value.
+    pub fn try_clone(&self, alloc: Global) -> Result<ListOf<T>, AllocError>
+        ensures { IfOk result (λ copy. copy ≡ self.now) }
+    {
+        copy_each(alloc, self)
     }
 }
 
