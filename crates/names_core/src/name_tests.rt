@@ -43,7 +43,10 @@ fn common_names(rt: HostRuntime) -> Result<(), Fail> {
     for (row, element, first) in FIRST {
         let name = name_of(rt.alloc(), element)?;
         let want = match first {
-            Some(octets) => Some(DirectoryString::Utf8String(Octets::from_slice(rt.alloc(), octets)?)),
+            Some(octets) => Some(DirectoryString::Utf8String(Octets::from_slice(
+                rt.alloc(),
+                octets,
+            )?)),
             None => None,
         };
         assert!(rt; name.find_common_name() == want.as_ref(), "{row}");
@@ -75,7 +78,10 @@ fn three_sets(rt: HostRuntime) -> Result<(), Fail> {
     name.add_attr(NameAttr::StateOrProvinceName, "SomeState")?;
     name.add_attr(NameAttr::CountryName, "SomeCountry")?;
     let printed = name.to_string(rt.alloc())?;
-    assert_eq!(rt; printed.as_str(), "CN=CommonName,ST=SomeState,C=SomeCountry");
+    assert_eq!(rt;
+        printed.as_str(),
+        "CN=CommonName,ST=SomeState,C=SomeCountry"
+    );
     Ok(())
 }
 

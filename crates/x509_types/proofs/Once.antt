@@ -176,10 +176,10 @@ named_ec : (P : List ℕ → Type 0) → P EC_PUBLIC_KEY.now → (oid : List ℕ
 named_ec P a0 oid named = at_same P oid EC_PUBLIC_KEY.now named a0
 
 named_ed : (P : List ℕ → Type 0) → P X25519.now → P X448.now → P ED25519.now → P ED448.now → (oid : List ℕ) → IsTrue (names_kind kinds.Ed oid) → P oid
-named_ed P a0 a1 a2 a3 oid named = elim (or_cases _ _ named) [ | inl l3 ↦ elim (or_cases _ _ l3) [ | inl l2 ↦ elim (or_cases _ _ l2) [ | inl l1 ↦ at_same P oid X25519.now l1 a0 | inr r1 ↦ at_same P oid X448.now r1 a1 ] | inr r2 ↦ at_same P oid ED25519.now r2 a2 ] | inr r3 ↦ at_same P oid ED448.now r3 a3 ]
+named_ed P a0 a1 a2 a3 oid named = elim (or_cases _ _ named) [ inl l3 ↦ elim (or_cases _ _ l3) [ inl l2 ↦ elim (or_cases _ _ l2) [ inl l1 ↦ at_same P oid X25519.now l1 a0 | inr r1 ↦ at_same P oid X448.now r1 a1 ] | inr r2 ↦ at_same P oid ED25519.now r2 a2 ] | inr r3 ↦ at_same P oid ED448.now r3 a3 ]
 
 named_mldsa : (P : List ℕ → Type 0) → P ML_DSA_44.now → P ML_DSA_65.now → P ML_DSA_87.now → (oid : List ℕ) → IsTrue (names_kind kinds.Mldsa oid) → P oid
-named_mldsa P a0 a1 a2 oid named = elim (or_cases _ _ named) [ | inl l2 ↦ elim (or_cases _ _ l2) [ | inl l1 ↦ at_same P oid ML_DSA_44.now l1 a0 | inr r1 ↦ at_same P oid ML_DSA_65.now r1 a1 ] | inr r2 ↦ at_same P oid ML_DSA_87.now r2 a2 ]
+named_mldsa P a0 a1 a2 oid named = elim (or_cases _ _ named) [ inl l2 ↦ elim (or_cases _ _ l2) [ inl l1 ↦ at_same P oid ML_DSA_44.now l1 a0 | inr r1 ↦ at_same P oid ML_DSA_65.now r1 a1 ] | inr r2 ↦ at_same P oid ML_DSA_87.now r2 a2 ]
 
 -- an identifier names one kind
 one_kind : (k l : KeyKind) (oid : List ℕ) → IsTrue (names_kind k oid) → IsTrue (names_kind l oid) → k ≡ l
@@ -241,8 +241,8 @@ info_of algorithm key fits = record { algorithm = algorithm; subject_public_key 
 same_info : (a b : SubjectPublicKeyInfo) → a.algorithm ≡ b.algorithm → a.subject_public_key ≡ b.subject_public_key → a ≡ b
 same_info a b algorithm key =
     let with_key : (h : IsAlgorithmOf (kind_of b.subject_public_key) a.algorithm) → a ≡ info_of a.algorithm b.subject_public_key h =
-        subst (λ (k : SubjectKey). (h : IsAlgorithmOf (kind_of k) a.algorithm) → a ≡ info_of a.algorithm k h) key
-          (λ h. ap (info_of a.algorithm a.subject_public_key) (IsAlgorithmOf-prop (kind_of a.subject_public_key) a.algorithm a.fits h)) in
+    subst (λ (k : SubjectKey). (h : IsAlgorithmOf (kind_of k) a.algorithm) → a ≡ info_of a.algorithm k h) key
+    (λ h. ap (info_of a.algorithm a.subject_public_key) (IsAlgorithmOf-prop (kind_of a.subject_public_key) a.algorithm a.fits h)) in
     subst (λ (x : AlgorithmIdentifier). (h : IsAlgorithmOf (kind_of b.subject_public_key) x) → a ≡ info_of x b.subject_public_key h) algorithm with_key b.fits
 
 pub infos_once : (element : DerElement) (a b : SubjectPublicKeyInfo) → IsPublicKeyInfo element a → IsPublicKeyInfo element b → a ≡ b
@@ -252,6 +252,6 @@ infos_once element a b is_a is_b =
     let second : subject_public_key a.subject_public_key ≡ subject_public_key b.subject_public_key = cc in
     let algorithm = algorithms_once a.algorithm b.algorithm first in
     let named : IsTrue (names_kind (kind_of a.subject_public_key) b.algorithm.oid.contents) =
-        subst (λ (x : AlgorithmIdentifier). IsTrue (names_kind (kind_of a.subject_public_key) x.oid.contents)) algorithm a.fits.named in
+    subst (λ (x : AlgorithmIdentifier). IsTrue (names_kind (kind_of a.subject_public_key) x.oid.contents)) algorithm a.fits.named in
     let kind = one_kind (kind_of a.subject_public_key) (kind_of b.subject_public_key) b.algorithm.oid.contents named b.fits.named in
     same_info a b algorithm (keys_once a.subject_public_key b.subject_public_key kind second is_a.1 is_b.1)

@@ -12,7 +12,8 @@ use crate::tag::SEQUENCE;
 use der_core::{DerError, Tree};
 use std::alloc::{AllocError, Global};
 
-/// A public key with its algorithm (RFC 5280 4.1.2.7), which is one for keys of its kind.
+/// A public key with its algorithm (RFC 5280 4.1.2.7), which is one for keys of its kind. An
+/// algorithm of no known kind has no public key here: it is `Shape`.
 #[derive(Debug, Drop, PartialEq, Eq)]
 pub struct SubjectPublicKeyInfo {
     pub algorithm: AlgorithmIdentifier,

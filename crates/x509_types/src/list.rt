@@ -7,7 +7,8 @@ use crate::structure::{Structure, copy_each};
 use std::alloc::{AllocError, Global};
 use std::marker::Model;
 
-/// Values in order, as a SEQUENCE OF or a SET OF holds them. Contracts see the list of them.
+/// Values in order, as a SEQUENCE OF or a SET OF holds them (X.690 8.10, 8.12). Contracts see the
+/// list of them.
 #[derive(Debug, Drop)]
 pub struct ListOf<T> {
     items: Vec<T>,

@@ -133,7 +133,7 @@ impl NewKids {
     }
 }
 
-/// The element, kept as it is.
+/// The element, kept as it is. One in bounds is refused for want of memory alone.
 pub fn kept(alloc: Global, tree: &Tree) -> Result<Raw, AllocError>
     requires { IsDer tree.now }
     ensures { IfOk result (λ raw. raw ≡ tree.now) }

@@ -42,7 +42,7 @@ pub trait Structure: Sized + Drop {
         ensures { IfOk result (λ copy. copy ≡ self.now) };
 }
 
-/// The value of the element, where it spells one.
+/// The value of the element, where it spells one. Besides `Shape` there is want of memory alone.
 pub fn read_if<T: Structure>(alloc: Global, tree: &Tree) -> Result<Option<T>, AllocError>
     requires { IsDer tree.now }
     ensures { IfOk result (λ found. MatchOption found ((value : T) → T.spells tree.now value → ⊥) (T.spells tree.now)) }

@@ -84,7 +84,11 @@ fn types(rt: HostRuntime) -> Result<(), Fail> {
     for (attr, text, word) in TYPES {
         let identifier = ObjectIdentifier::from_text(rt.alloc(), text)?;
         assert_eq!(rt; attr.oid_of(), identifier.as_bytes(), "{text}");
-        assert_eq!(rt; NameAttr::from_oid(identifier.as_bytes()), Some(attr), "{text}");
+        assert_eq!(rt;
+            NameAttr::from_oid(identifier.as_bytes()),
+            Some(attr),
+            "{text}"
+        );
         assert!(rt; attr.names(&identifier), "{text}");
         assert_eq!(rt; attr.word(), word, "{text}");
         let made = attr.to_oid(rt.alloc())?;
