@@ -1,10 +1,9 @@
 -- An element is the one of at most one value of each structure.
 use Rattle.std.proofs.Common.{◌≡◌, IsTrue, ℕ, List, [], ◌∷◌, Option, Some, None, map, refl, sym, ◌∙◌, ap, subst, arith}
 use Rattle.std.specs.Prelude.{option_to_list}
-use Rattle.std.specs.Coded.{le_prop, Π_prop}
 use Rattle.std.proofs.Props.{props}
-use Rattle.der_core.specs.DerElement.{DerElement, Primitive, Constructed, row, listed, listed-row, tag_of}
-use Rattle.der_core.specs.Encoding.{encoding, IsDer}
+use Rattle.der_core.specs.DerElement.{DerElement, Constructed, row}
+use Rattle.der_core.specs.Encoding.{encoding}
 use Rattle.asn1_types.specs.ObjectIdentifier.{IsIdentifier}
 use Rattle.asn1_types.specs.OneIdentifier.{IsIdentifier-prop}
 use Rattle.asn1_types.specs.Integer.{IsInteger}
@@ -15,7 +14,7 @@ use Rattle.asn1_types.specs.declared.integer.IntegerAsn1.{IntegerAsn1}
 use Rattle.asn1_types.specs.declared.bit_string.BitString.{BitString}
 use Rattle.asn1_types.specs.declared.ia5_string.Ia5String.{Ia5String}
 use Rattle.x509_types.specs.Bounds.{AreDer}
-use Rattle.x509_types.specs.Elements.{object_identifier, integer, bit_string, ia5_string, sequence}
+use Rattle.x509_types.specs.Elements.{object_identifier, bit_string}
 use Rattle.x509_types.specs.DirectoryString.{directory_string}
 use Rattle.x509_types.specs.OtherValue.{IsOtherValue}
 use Rattle.x509_types.specs.AttributeValue.{attribute_value}
@@ -33,7 +32,7 @@ use Rattle.x509_types.specs.declared.public_key.RsaPublicKey.{RsaPublicKey}
 use Rattle.x509_types.specs.KeyKind.{names_kind, IsAlgorithmOf, IsAlgorithmOf-prop}
 use Rattle.x509_types.specs.declared.key_kind.KeyKind.{KeyKind}
 use Rattle.x509_types.specs.declared.key_kind.KeyKind.TheVariants as kinds
-use Rattle.std.specs.Prelude.{bytes_eq, ◌||◌}
+use Rattle.std.specs.Prelude.{bytes_eq}
 use Rattle.std.proofs.Common.{inl, inr}
 use Rattle.std.proofs.lemmas.Bool.{or_cases}
 use Rattle.std.proofs.lemmas.Slice.Eq.{bytes_eq-Decides}

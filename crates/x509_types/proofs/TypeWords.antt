@@ -1,13 +1,13 @@
 -- The words of attribute types, by the contents octets of their identifiers.
-use Rattle.std.proofs.Common.{◌≡◌, ◌↔◌, ℕ, Bool, true, false, List, [], ◌∷◌, rules, refl, sym, ap, ◌∙◌, Some, None}
-use Rattle.std.specs.Prelude.{Option, find, bytes_eq, if◌then◌else◌, codes}
+use Rattle.std.proofs.Common.{◌≡◌, ◌↔◌, ℕ, Bool, true, List, [], ◌∷◌, rules, refl, sym, ap, ◌∙◌, None}
+use Rattle.std.specs.Prelude.{find, bytes_eq, if◌then◌else◌, codes}
 use Rattle.std.proofs.lemmas.Bool.{false_from_ne_true}
 use Rattle.std.proofs.lemmas.Slice.Eq.{bytes_eq-Decides}
 use Rattle.asn1_types.specs.Subidentifier.{subidentifier}
 use Rattle.asn1_types.specs.ObjectIdentifier.{IsArcs, IsIdentifier, contents_of, dotted}
 use Rattle.x509_types.specs.declared.name_attr.NameAttr.{NameAttr}
 use Rattle.asn1_types.specs.declared.oids.TheConstants.{EMAIL_ADDRESS}
-use Rattle.x509_types.specs.NameAttr.{attribute_arcs, attribute_type, attribute_types, attribute_word}
+use Rattle.x509_types.specs.NameAttr.{attribute_arcs, attribute_types, attribute_word}
 use Rattle.x509_types.specs.NameText.{email_address, type_word, word_or_dotted}
 use Rattle.x509_types.proofs.AttributeTypes.{IsArcs-type, arcs_from_contents, attribute_type-arcs}
 

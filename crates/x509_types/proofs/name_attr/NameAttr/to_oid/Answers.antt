@@ -1,5 +1,4 @@
 use Rattle.std.proofs.Common.{◌∙◌, sym, subst}
-use Rattle.asn1_types.specs.Contents.{RefusesContents}
 use Rattle.asn1_types.specs.ObjectIdentifier.{IsIdentifier}
 use Rattle.x509_types.proofs.AttributeTypes.{arcs_from_contents, IsArcs-type, IsIdentifier-type}
 use Rattle.x509_types.proofs.name_attr.NameAttr.to_oid.Goals as goal

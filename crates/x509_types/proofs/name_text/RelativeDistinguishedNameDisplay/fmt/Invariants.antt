@@ -1,4 +1,4 @@
-use Rattle.std.proofs.Common.{◌∷◌, ◌++◌, take}
+use Rattle.std.proofs.Common.{◌∷◌, take}
 use Rattle.std.specs.Prelude.{flat_map}
 use Rattle.std.specs.Fmt.{HasWritten, IsPlainFormatter}
 use Rattle.x509_types.specs.NameText.{attribute_text, plus}
