@@ -1,8 +1,11 @@
 -- An attribute type and its identifier give each other.
-use Rattle.std.proofs.Common.{◌≡◌, ◌↔◌, ℕ, ◌<◌, List, [], ◌∷◌, get_or, refl, sym, ap, ◌∙◌, lit<, arith, Some}
+use Rattle.std.proofs.Common.{◌≡◌, ◌↔◌, IsTrue, ℕ, ◌<◌, ◌≤◌, List, [], ◌∷◌, get_or, refl, sym, ap, ◌∙◌, lit<, arith, Some}
+use Rattle.std.specs.Prelude.{Option, find}
+use Rattle.std.specs.Str.{bytes_eq}
 use Rattle.asn1_types.specs.Subidentifier.{subidentifier}
-use Rattle.asn1_types.specs.ObjectIdentifier.{IsArcs, IsIdentifier, contents_of}
+use Rattle.asn1_types.specs.ObjectIdentifier.{IsArcs, IsIdentifier, IsRoot, contents_of}
 use Rattle.asn1_types.specs.OneIdentifier.{contents_once}
+use Rattle.asn1_types.specs.KnownIdentifiers.{is_known}
 use Rattle.x509_types.specs.declared.name_attr.NameAttr.{NameAttr}
 use Rattle.x509_types.specs.declared.name_attr.NameAttr.TheVariants.{CommonName, Surname, SerialNumber, CountryName, LocalityName, StateOrProvinceName, StreetName, OrganizationName, OrganizationalUnitName, GivenName}
 use Rattle.x509_types.specs.NameAttr.{attribute_arc, attribute_arcs, attribute_type, attribute_types}
@@ -48,9 +51,6 @@ pub type_by_contents : (attr : NameAttr) (contents : List ℕ) (identifier : IsI
     → (contents ≡ contents_of (attribute_arcs attr)) ↔ (identifier.arcs ≡ attribute_arcs attr)
 type_by_contents attr contents identifier =
     (λ same. arcs_from_contents contents (attribute_arcs attr) identifier (IsArcs-type attr) same, λ same. identifier.spelled ∙ ap contents_of same)
-
-pub IsIdentifier-type : (attr : NameAttr) → IsIdentifier (contents_of (attribute_arcs attr))
-IsIdentifier-type attr = record { arcs = attribute_arcs attr; are_arcs = IsArcs-type attr; spelled = refl }
 
 -- where each stands among them
 abbrev pub place : NameAttr → ℕ
@@ -108,3 +108,17 @@ types_by_contents a b e =
     let arcs = contents_once (attribute_arcs a) (attribute_arcs b) (IsArcs-type a) (IsArcs-type b) e in
     let n = sym (attribute_type-arcs a) ∙ ap attribute_type arcs ∙ attribute_type-arcs b in
     cc
+
+-- the table of identifiers has each of them
+pub is_known-type : (attr : NameAttr) → IsTrue (is_known (contents_of (attribute_arcs attr)))
+unfolding subidentifier
+is_known-type CommonName = refl
+is_known-type Surname = refl
+is_known-type SerialNumber = refl
+is_known-type CountryName = refl
+is_known-type LocalityName = refl
+is_known-type StateOrProvinceName = refl
+is_known-type StreetName = refl
+is_known-type OrganizationName = refl
+is_known-type OrganizationalUnitName = refl
+is_known-type GivenName = refl

@@ -38,9 +38,6 @@ contents_of-email : contents_of email_address ≡ EMAIL_ADDRESS.now
 unfolding subidentifier
 contents_of-email = refl
 
-pub IsIdentifier-email : IsIdentifier EMAIL_ADDRESS.now
-IsIdentifier-email = record { arcs = email_address; are_arcs = IsArcs-email; spelled = sym contents_of-email }
-
 pub email_by_contents : (contents : List ℕ) (identifier : IsIdentifier contents) → (contents ≡ EMAIL_ADDRESS.now) ↔ (identifier.arcs ≡ email_address)
 email_by_contents contents identifier = (
   λ same. arcs_from_contents contents email_address identifier IsArcs-email (same ∙ sym contents_of-email),

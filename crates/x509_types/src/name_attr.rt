@@ -7,7 +7,6 @@ ghost use Rattle.x509_types.specs.NameAttr.{attribute_arc, attribute_arcs, attri
 
 use crate::leaf::is_same;
 use asn1_types::{ObjectIdentifier, oids};
-use der_core::DerError;
 use std::alloc::{AllocError, Global};
 
 /// An attribute type that names are made of, under id-at of X.520 (RFC 5280 A.1).
@@ -97,10 +96,6 @@ impl NameAttr {
     pub fn to_oid(self, alloc: Global) -> Result<ObjectIdentifier, AllocError>
         ensures { IfOk result (λ identifier. identifier.formed.arcs ≡ attribute_arcs self) }
     {
-        match ObjectIdentifier::from_content(alloc, self.oid_of()) {
-            Ok(identifier) => Ok(identifier),
-            Err(DerError::Shape) => unreachable!(),
-            Err(_) => Err(AllocError),
-        }
+        ObjectIdentifier::from_known(alloc, self.oid_of())
     }
 }

@@ -1,12 +1,14 @@
-use Rattle.std.proofs.Common.{◌∙◌, sym, subst}
-use Rattle.asn1_types.specs.ObjectIdentifier.{IsIdentifier}
-use Rattle.x509_types.proofs.AttributeTypes.{arcs_from_contents, IsArcs-type, IsIdentifier-type}
+use Rattle.std.proofs.Common.{IsTrue, ◌∙◌, sym, subst}
+use Rattle.std.proofs.lemmas.Result.{IfOk-weaker}
+use Rattle.asn1_types.specs.KnownIdentifiers.{is_known}
+use Rattle.x509_types.proofs.AttributeTypes.{is_known-type, type_by_contents}
 use Rattle.x509_types.proofs.name_attr.NameAttr.to_oid.Goals as goal
 
-pub unreachable-requires : goal.unreachable-requires
-unreachable-requires c =
-    let refused = rw c.in-Err-Shape.field-0-is at c.in-Err-Shape.ensures in
-    refused (subst IsIdentifier (sym c.oid_of.ensures) (IsIdentifier-type c.args.self))
+pub from_known-requires : goal.from_known-requires
+from_known-requires c = subst (λ contents. IsTrue (is_known contents)) (sym c.oid_of.ensures) (is_known-type c.args.self)
 
-pub returns-in-Ok : goal.returns-in-Ok
-returns-in-Ok c = arcs_from_contents _ _ c.in-Ok.identifier.formed (IsArcs-type c.args.self) (c.in-Ok.ensures ∙ c.oid_of.ensures)
+pub returns : goal.returns
+returns c =
+    IfOk-weaker c.from_known.result _ _
+    (λ identifier contents. (type_by_contents c.args.self identifier.contents identifier.formed).0 (contents ∙ c.oid_of.ensures))
+    c.from_known.ensures
