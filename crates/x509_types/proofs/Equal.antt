@@ -1,13 +1,12 @@
 -- Values are equal where the elements that are written for them are.
-use Rattle.std.proofs.Common.{◌≡◌, ◌↔◌, IsTrue, ℕ, Bool, true, false, ◌&&◌, List, [], ◌∷◌, Option, Some, None, map, refl, sym, ◌∙◌, ap, subst, arith}
+use Rattle.std.proofs.Common.{◌≡◌, ◌↔◌, IsTrue, ℕ, Bool, false, ◌&&◌, List, [], ◌∷◌, Option, Some, None, map, refl, sym, ◌∙◌, ap, arith}
 use Rattle.std.specs.Prelude.{bytes_eq, option_to_list}
 use Rattle.std.specs.Option.{option_eq}
 use Rattle.std.specs.Cmp.Lexicographic.{pointwise}
 use Rattle.std.proofs.lemmas.Slice.Eq.{bytes_eq-Decides}
 use Rattle.std.proofs.lemmas.Bool.{and_parts, and_from}
-use Rattle.der_core.specs.DerElement.{DerElement, Primitive, Constructed, row, listed, listed-row, tag_of}
+use Rattle.der_core.specs.DerElement.{DerElement, Primitive, Constructed, row, listed-row, tag_of}
 use Rattle.der_core.specs.Encoding.{encoding, IsDer}
-use Rattle.asn1_types.specs.declared.oid.ObjectIdentifier.{ObjectIdentifier}
 use Rattle.asn1_types.specs.declared.ia5_string.Ia5String.{Ia5String}
 use Rattle.x509_types.specs.Bounds.{AreDer}
 use Rattle.x509_types.specs.Elements.{object_identifier, ia5_string, sequence}
@@ -18,7 +17,6 @@ use Rattle.x509_types.specs.declared.directory_string.DirectoryString.{Directory
 use Rattle.x509_types.specs.declared.directory_string.DirectoryString.TheVariants as strings
 use Rattle.x509_types.specs.declared.attribute_value.AttributeValue.{AttributeValue}
 use Rattle.x509_types.specs.declared.attribute_value.AttributeValue.TheVariants as values
-use Rattle.x509_types.specs.declared.other_value.OtherValue.{OtherValue}
 use Rattle.x509_types.specs.declared.name.AttributeTypeAndValue.{AttributeTypeAndValue}
 use Rattle.x509_types.specs.declared.algorithm.AlgorithmIdentifier.{AlgorithmIdentifier}
 use Rattle.x509_types.specs.AlgorithmIdentifier.{algorithm_identifier}

@@ -1,5 +1,5 @@
 -- Parameters of algorithms by their octets.
-use Rattle.std.proofs.Common.{◌≡◌, ◌≢◌, ◌↔◌, IsTrue, List, [], ◌∷◌, ◌++◌, Option, Some, None, MatchOption, refl, sym, ◌∙◌, ap, subst, append-nil, arith, rules}
+use Rattle.std.proofs.Common.{◌≡◌, ◌↔◌, IsTrue, [], ◌∷◌, ◌++◌, Option, Some, None, MatchOption, refl, sym, ◌∙◌, ap, subst, arith}
 use Rattle.std.specs.Option.{is_some}
 use Rattle.der_core.specs.DerElement.{DerElement, Primitive, Constructed}
 use Rattle.der_core.specs.Encoding.{encoding, IsWellFormed, IsDer, length_octets}

@@ -1,7 +1,5 @@
 -- Elements by their kids: what is known of an element whose kids were looked at.
-use Rattle.std.proofs.Common.{◌++◌, Result, Ok, Err, OnOk, OnErr, subst, ℕ, length-append, ◌≡◌, ◌≢◌, ◌≤◌, length, refl, arith, List, [], ◌∷◌, Option, Some, None, sym, ◌∙◌, ap}
-use Rattle.std.specs.Option.{option_copied}
-use Rattle.std.specs.Borrow.{Bor}
+use Rattle.std.proofs.Common.{◌++◌, Result, Ok, Err, OnOk, OnErr, subst, ℕ, length-append, ◌≡◌, ◌≢◌, ◌≤◌, length, refl, arith, List, [], ◌∷◌, Some, None, sym, ◌∙◌, ap}
 use Rattle.der_core.specs.DerElement.{DerElement, Primitive, Constructed, DerElements, Nil, Cons, row, listed, row-listed, listed-row, tag_of, kids_of}
 use Rattle.der_core.specs.Encoding.{encoding, encodings, IsDer, IsWellFormed, AreWellFormed}
 use Rattle.x509_types.specs.Bounds.{AreDer}

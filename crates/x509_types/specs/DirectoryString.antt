@@ -1,4 +1,5 @@
--- DirectoryString ::= CHOICE { teletexString, printableString, utf8String, bmpString } (RFC 5280 4.1.2.4)
+-- DirectoryString ::= CHOICE { teletexString TeletexString, printableString PrintableString, universalString UniversalString,
+-- utf8String UTF8String, bmpString BMPString } (RFC 5280 4.1.2.4), without universalString. Empty strings are read, too.
 use Rattle.der_core.specs.DerElement.{DerElement, Primitive}
 use Rattle.x509_types.specs.declared.directory_string.DirectoryString.{DirectoryString}
 use Rattle.x509_types.specs.declared.directory_string.DirectoryString.TheVariants as strings

@@ -23,7 +23,8 @@ abbrev pub IsOid : DerElement → Type 0
 IsOid (Primitive tag contents) = (tag ≡ 6) × IsIdentifier contents
 IsOid (Constructed tag kids) = ⊥
 
--- The parameters of keys: none or NULL of RSA (RFC 3279 2.3.1), a named curve of a point (RFC 5480 2.1.1), any of the others.
+-- The parameters of keys: NULL of RSA (RFC 3279 2.3.1), which may be left out here, a named curve of a point (RFC 5480 2.1.1),
+-- any of the others (none in RFC 8410 3 and RFC 9881 2).
 abbrev pub MayHave : KeyKind → Option DerElement → Type 0
 MayHave kinds.Rsa None = ⊤
 MayHave kinds.Rsa (Some parameters) = parameters ≡ null

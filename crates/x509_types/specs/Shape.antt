@@ -1,5 +1,5 @@
 -- What it means that an element is read as a value of a structure, and that a value is written as an element.
-use Rattle.std.specs.Prelude.{◌≡◌, ◌≢◌, ⊤, ℕ, List, [], ◌∷◌, ◌++◌, Result, Ok, Err}
+use Rattle.std.specs.Prelude.{◌≡◌, ◌≢◌, ⊤, ℕ, List, [], ◌∷◌, ◌++◌}
 use Rattle.der_core.specs.DerElement.{DerElement, tag_of}
 use Rattle.der_core.specs.Encoding.{encoding, IsDer}
 use Rattle.der_core.specs.Writing.{RefusesToWrite}
@@ -14,10 +14,6 @@ RefusesShape Is errors.Memory = ⊤
 RefusesShape Is (errors.Malformed malformed) = ⊥
 RefusesShape Is errors.TooDeep = ⊥
 RefusesShape Is errors.TooLong = ⊥
-
--- the element is one of this value
-abbrev pub IsWritten : {X : Type 0} → (X → DerElement) → DerElement → X → Type 0
-IsWritten written element value = element ≡ written value
 
 -- the first of the elements, where there is one, has another tag
 abbrev pub BeginsOtherwise : ℕ → List DerElement → Type 0

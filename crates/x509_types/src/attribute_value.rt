@@ -1,6 +1,6 @@
 //! Values of the attributes that names are made of.
 
-ghost use Rattle.std.specs.Prelude.{◌≡◌, [], IfOk, MatchResult};
+ghost use Rattle.std.specs.Prelude.{◌≡◌, []};
 
 use crate::directory_string::DirectoryString;
 use crate::other_value::OtherValue;
@@ -13,12 +13,13 @@ use std::alloc::{AllocError, Global};
 /// or any other element.
 #[derive(Debug, Drop, PartialEq, Eq)]
 pub enum AttributeValue {
+    /// A DirectoryString (RFC 5280 4.1.2.4).
     DirectoryString(DirectoryString),
+    /// An IA5String, as an e-mail address or a domain component has it (RFC 5280 4.1.2.4, 4.1.2.6).
     Ia5String(Ia5String),
+    /// Any other element, as an IA5String with an octet past 127.
     Other(OtherValue),
 }
-
-impl AttributeValue {}
 
 impl Structure for AttributeValue {
     ghost use Rattle.x509_types.specs.AttributeValue.{attribute_value};

@@ -1,6 +1,6 @@
 //! The strings of names.
 
-ghost use Rattle.std.specs.Prelude.{◌≡◌, [], IfOk, MatchResult};
+ghost use Rattle.std.specs.Prelude.{◌≡◌, [], IfOk};
 
 use crate::leaf::{leaf, read_octets};
 use crate::structure::Structure;
@@ -12,9 +12,13 @@ use std::alloc::{AllocError, Global};
 /// UniversalString isn't among them: it is kept as another value.
 #[derive(Debug, Drop, PartialEq, Eq)]
 pub enum DirectoryString {
+    /// A PrintableString (X.680 41).
     PrintableString(Octets),
+    /// A UTF8String (X.680 41).
     Utf8String(Octets),
+    /// A TeletexString, also called T61String (X.680 41).
     TeletexString(Octets),
+    /// A BMPString, two octets a character (X.680 41).
     BmpString(Octets),
 }
 

@@ -1,6 +1,5 @@
 //! Public keys of subjects with their algorithms.
 
-ghost use Rattle.std.specs.Prelude.{◌≡◌};
 ghost use Rattle.x509_types.specs.SubjectKey.{kind_of};
 ghost use Rattle.x509_types.specs.KeyKind.{IsAlgorithmOf, IsAlgorithmOf-prop};
 
@@ -12,7 +11,8 @@ use crate::tag::SEQUENCE;
 use der_core::{DerError, Tree};
 use std::alloc::{AllocError, Global};
 
-/// A public key with its algorithm (RFC 5280 4.1.2.7), which is one for keys of its kind.
+/// A public key with its algorithm (RFC 5280 4.1.2.7), which is one for keys of its kind. An
+/// algorithm of no known kind has no public key here: it is `Shape`.
 #[derive(Debug, Drop, PartialEq, Eq)]
 pub struct SubjectPublicKeyInfo {
     pub algorithm: AlgorithmIdentifier,

@@ -20,9 +20,9 @@ use std::alloc::{AllocError, Global};
 /// A kind of public keys.
 #[derive(Clone, Copy, Debug, PartialEq, Eq)]
 pub enum KeyKind {
-    /// RSA (RFC 3279 2.3.1).
+    /// RSA, its parameters NULL or absent (RFC 3279 2.3.1).
     Rsa,
-    /// A point of a named curve (RFC 5480 2.1).
+    /// A point of a named curve (RFC 5480 2.1.1).
     Ec,
     /// The Edwards and Montgomery curves 25519 and 448 (RFC 8410 3).
     Ed,

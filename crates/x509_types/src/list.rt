@@ -1,12 +1,13 @@
 //! Values of one structure in order.
 
-ghost use Rattle.std.specs.Prelude.{◌≡◌, ◌++◌, ◌∷◌, [], IfOk, OnOk, OnErr};
+ghost use Rattle.std.specs.Prelude.{◌≡◌, ◌++◌, ◌∷◌, [], OnOk, OnErr};
 ghost use Rattle.std.specs.Cmp.Lexicographic.{pointwise, lists_per, lists_equiv};
 
 use std::alloc::{AllocError, Global};
 use std::marker::Model;
 
-/// Values in order, as a SEQUENCE OF or a SET OF holds them. Contracts see the list of them.
+/// Values in order, as a SEQUENCE OF or a SET OF holds them (X.690 8.10, 8.12). Contracts see the
+/// list of them.
 #[derive(Debug, Drop)]
 pub struct ListOf<T> {
     items: Vec<T>,

@@ -11,17 +11,18 @@ use asn1_types::ObjectIdentifier;
 use der_core::{DerError, Tree};
 use std::alloc::{AllocError, Global};
 
-/// One attribute of a name: its type and its value.
+/// One attribute of a name: its type and its value (RFC 5280 4.1.2.4).
 #[derive(Debug, Drop, PartialEq, Eq)]
 pub struct AttributeTypeAndValue {
     pub ty: ObjectIdentifier,
     pub value: AttributeValue,
 }
 
-/// A set of attributes, its members in the order that stands.
+/// A set of attributes, its members in the order that stands (RFC 5280 4.1.2.4). An empty one is
+/// read, too.
 pub type RelativeDistinguishedName = ListOf<AttributeTypeAndValue>;
 
-/// A name: sets of attributes, from the top of the directory down.
+/// A name: sets of attributes, from the top of the directory down (RFC 5280 4.1.2.4).
 pub type Name = ListOf<RelativeDistinguishedName>;
 
 impl Structure for AttributeTypeAndValue {

@@ -1,8 +1,8 @@
 //! Readers and writers that all structures share.
 
-ghost use Rattle.std.specs.Prelude.{◌≡◌, ◌≢◌, [], ◌∷◌, ◌++◌, List, IfOk, OnOk, IfSome, MatchResult, MatchOption};
+ghost use Rattle.std.specs.Prelude.{◌≡◌, [], ◌∷◌, ◌++◌, IfOk, OnOk, IfSome, MatchResult, MatchOption};
 ghost use Rattle.std.specs.Option.{option_copied};
-ghost use Rattle.der_core.specs.DerElement.{DerElements, Primitive, Constructed, row, tag_of};
+ghost use Rattle.der_core.specs.DerElement.{Constructed, row, tag_of};
 ghost use Rattle.der_core.specs.Encoding.{encoding, IsDer, IsWellFormed, AreWellFormed, IsTag, form_bit};
 ghost use Rattle.der_core.specs.Kept.{AreWellFormed-prop};
 ghost use Rattle.x509_types.specs.Bounds.{AreDer, AreDer-prop};
@@ -133,7 +133,7 @@ impl NewKids {
     }
 }
 
-/// The element, kept as it is.
+/// The element, kept as it is. One in bounds is refused for want of memory alone.
 pub fn kept(alloc: Global, tree: &Tree) -> Result<Raw, AllocError>
     requires { IsDer tree.now }
     ensures { IfOk result (λ raw. raw ≡ tree.now) }

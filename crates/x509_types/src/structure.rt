@@ -15,18 +15,22 @@ use std::alloc::{AllocError, Global};
 
 /// A structure of ASN.1: a type whose values are read from elements and written as elements.
 pub trait Structure: Sized + Drop {
+    // which elements are one of which value
     ghost spells: { DerElement → Self → Type 0 };
 
+    // the element that is written for a value
     ghost written: { Self → DerElement };
 
+    // what of a value is written into a string, as an element of its own
     ghost inner: { Self → List DerElement };
 
-    /// The value that an element spells, `Shape` exactly where it spells none.
+    /// The value that an element spells. It is `Shape` exactly where the element spells none.
     fn read(alloc: Global, tree: &Tree) -> Result<Self, DerError>
         requires { IsDer tree.now }
         ensures { MatchResult result (spells tree.now) (RefusesShape (spells tree.now)) };
 
-    /// The element that is written for the value, and spells it.
+    /// The element that is written for the value, and spells it. It is `TooDeep` or `TooLong` exactly
+    /// where something in it that is written into a string as an element of its own is refused so.
     fn write(&self, alloc: Global) -> Result<Tree, DerError>
         ensures { MatchResult result
             (λ tree. (tree ≡ written self.now) × spells tree self.now × IsWellFormed tree × AreDer (inner self.now))
@@ -37,7 +41,7 @@ pub trait Structure: Sized + Drop {
         ensures { IfOk result (λ copy. copy ≡ self.now) };
 }
 
-/// The value of the element, where it spells one.
+/// The value of the element, where it spells one. Besides `Shape` there is want of memory alone.
 pub fn read_if<T: Structure>(alloc: Global, tree: &Tree) -> Result<Option<T>, AllocError>
     requires { IsDer tree.now }
     ensures { IfOk result (λ found. MatchOption found ((value : T) → T.spells tree.now value → ⊥) (T.spells tree.now)) }

@@ -19,7 +19,7 @@ use asn1_types::BitString;
 use der_core::{DerError, Octets, Tree};
 use std::alloc::{AllocError, Global};
 
-/// A public key, as its algorithm has it.
+/// A public key, as its algorithm has it (RFC 5280 4.1.2.7).
 #[derive(Debug, Drop, PartialEq, Eq)]
 pub enum SubjectKey {
     /// A key of RSA (RFC 3279 2.3.1).

@@ -1,4 +1,4 @@
-use Rattle.std.proofs.Common.{◌≡◌, ℕ, length}
+use Rattle.std.proofs.Common.{length}
 use Rattle.x509_types.specs.Each.{AreFirst}
 use Rattle.x509_types.proofs.structure.read_each.Given as goal
 
