@@ -15,10 +15,6 @@ RefusesShape Is (errors.Malformed malformed) = ⊥
 RefusesShape Is errors.TooDeep = ⊥
 RefusesShape Is errors.TooLong = ⊥
 
--- the element is one of this value
-abbrev pub IsWritten : {X : Type 0} → (X → DerElement) → DerElement → X → Type 0
-IsWritten written element value = element ≡ written value
-
 -- the first of the elements, where there is one, has another tag
 abbrev pub BeginsOtherwise : ℕ → List DerElement → Type 0
 BeginsOtherwise tag [] = ⊤

@@ -1,6 +1,6 @@
 //! Values of the attributes that names are made of.
 
-ghost use Rattle.std.specs.Prelude.{◌≡◌, [], IfOk, MatchResult};
+ghost use Rattle.std.specs.Prelude.{◌≡◌, []};
 
 use crate::directory_string::DirectoryString;
 use crate::other_value::OtherValue;

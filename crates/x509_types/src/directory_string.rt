@@ -1,6 +1,6 @@
 //! The strings of names.
 
-ghost use Rattle.std.specs.Prelude.{◌≡◌, [], IfOk, MatchResult};
+ghost use Rattle.std.specs.Prelude.{◌≡◌, [], IfOk};
 
 use crate::leaf::{leaf, read_octets};
 use crate::structure::Structure;

@@ -1,6 +1,5 @@
 //! Public keys of subjects with their algorithms.
 
-ghost use Rattle.std.specs.Prelude.{◌≡◌};
 ghost use Rattle.x509_types.specs.SubjectKey.{kind_of};
 ghost use Rattle.x509_types.specs.KeyKind.{IsAlgorithmOf, IsAlgorithmOf-prop};
 

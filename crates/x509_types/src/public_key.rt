@@ -1,8 +1,6 @@
 //! Public keys.
 
-ghost use Rattle.std.specs.Prelude.{◌≡◌, [], IfOk, MatchResult};
-ghost use Rattle.der_core.specs.Encoding.{IsDer};
-ghost use Rattle.x509_types.specs.Shape.{RefusesShape, IsWritten};
+ghost use Rattle.std.specs.Prelude.{◌≡◌, []};
 
 use crate::shape::{Kids, NewKids};
 use crate::structure::Structure;

@@ -1,8 +1,8 @@
 //! Readers and writers that all structures share.
 
-ghost use Rattle.std.specs.Prelude.{◌≡◌, ◌≢◌, [], ◌∷◌, ◌++◌, List, IfOk, OnOk, IfSome, MatchResult, MatchOption};
+ghost use Rattle.std.specs.Prelude.{◌≡◌, [], ◌∷◌, ◌++◌, IfOk, OnOk, IfSome, MatchResult, MatchOption};
 ghost use Rattle.std.specs.Option.{option_copied};
-ghost use Rattle.der_core.specs.DerElement.{DerElements, Primitive, Constructed, row, tag_of};
+ghost use Rattle.der_core.specs.DerElement.{Constructed, row, tag_of};
 ghost use Rattle.der_core.specs.Encoding.{encoding, IsDer, IsWellFormed, AreWellFormed, IsTag, form_bit};
 ghost use Rattle.der_core.specs.Kept.{AreWellFormed-prop};
 ghost use Rattle.x509_types.specs.Bounds.{AreDer, AreDer-prop};
