@@ -1,9 +1,7 @@
 -- An attribute type and its identifier give each other.
-use Rattle.std.proofs.Common.{◌≡◌, ◌↔◌, IsTrue, ℕ, ◌<◌, ◌≤◌, List, [], ◌∷◌, get_or, refl, sym, ap, ◌∙◌, lit<, arith, Some}
-use Rattle.std.specs.Prelude.{Option, find}
-use Rattle.std.specs.Str.{bytes_eq}
+use Rattle.std.proofs.Common.{◌≡◌, ◌↔◌, IsTrue, ℕ, ◌<◌, List, [], ◌∷◌, get_or, refl, sym, ap, ◌∙◌, lit<, arith, Some}
 use Rattle.asn1_types.specs.Subidentifier.{subidentifier}
-use Rattle.asn1_types.specs.ObjectIdentifier.{IsArcs, IsIdentifier, IsRoot, contents_of}
+use Rattle.asn1_types.specs.ObjectIdentifier.{IsArcs, IsIdentifier, contents_of}
 use Rattle.asn1_types.specs.OneIdentifier.{contents_once}
 use Rattle.asn1_types.specs.KnownIdentifiers.{is_known}
 use Rattle.x509_types.specs.declared.name_attr.NameAttr.{NameAttr}
