@@ -9,7 +9,7 @@ use Rattle.x509_types.specs.declared.attribute_value.AttributeValue.TheVariants 
 use Rattle.x509_types.specs.declared.name_attr.NameAttr.TheVariants as attributes
 use Rattle.x509_types.specs.NameAttr.{attribute_arcs}
 
--- the value of a text
+-- a text as a UTF8String
 abbrev pub utf8_value : List ℕ → AttributeValue
 utf8_value text = values.DirectoryString (strings.Utf8String text)
 
@@ -20,6 +20,7 @@ pub record IsExtended (arcs : List ℕ) (value : AttributeValue) (earlier later 
   pub typed : attribute.ty.formed.arcs ≡ arcs
   pub valued : attribute.value ≡ value
 
+-- the string that a value is
 abbrev pub string_of : AttributeValue → Option DirectoryString
 string_of (values.DirectoryString string) = Some string
 string_of (values.Ia5String string) = None
@@ -33,5 +34,6 @@ common_name_of attribute = if bytes_eq attribute.ty.formed.arcs (attribute_arcs 
 abbrev pub common_names : List (List AttributeTypeAndValue) → List DirectoryString
 common_names sets = filter_map common_name_of (flat_map (λ members. members) sets)
 
+-- the first of them
 abbrev pub first_common_name : List (List AttributeTypeAndValue) → Option DirectoryString
 first_common_name sets = slice_get (common_names sets) 0

@@ -33,6 +33,7 @@ attribute_word attributes.OrganizationName = codes "O"
 attribute_word attributes.OrganizationalUnitName = codes "OU"
 attribute_word attributes.GivenName = codes "GN"
 
+-- every attribute type
 abbrev pub attribute_types : List NameAttr
 attribute_types =
     attributes.CommonName ∷ attributes.Surname ∷ attributes.SerialNumber ∷ attributes.CountryName ∷ attributes.LocalityName ∷ attributes.StateOrProvinceName ∷ attributes.StreetName ∷ attributes.OrganizationName ∷ attributes.OrganizationalUnitName ∷ attributes.GivenName ∷ []

@@ -19,6 +19,7 @@ hexadecimal octets = flat_map (λ octet. digit_glyph false (octet / 16) ∷ digi
 abbrev pub email_address : List ℕ
 email_address = 1 ∷ 2 ∷ 840 ∷ 113549 ∷ 1 ∷ 9 ∷ 1 ∷ []
 
+-- the word of a type that has one, else `EMAIL` or the dotted text
 abbrev pub word_or_dotted : Option NameAttr → List ℕ → List ℕ
 word_or_dotted (Some attr) arcs = attribute_word attr
 word_or_dotted None arcs = if bytes_eq arcs email_address then codes "EMAIL" else dotted arcs
@@ -33,12 +34,15 @@ value_text (values.DirectoryString string) = text_of string
 value_text (values.Ia5String string) = string.text
 value_text (values.Other other) = codes "#" ++ hexadecimal (encoding other.element)
 
+-- word, `=` and value
 abbrev pub attribute_text : AttributeTypeAndValue → List ℕ
 attribute_text attribute = type_word attribute.ty.formed.arcs ++ codes "=" ++ value_text attribute.value
 
+-- what stands between sets
 abbrev pub comma : ℕ
 comma = 44
 
+-- what stands between the members of a set
 abbrev pub plus : ℕ
 plus = 43
 

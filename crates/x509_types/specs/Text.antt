@@ -5,6 +5,7 @@ use Rattle.std.specs.Str.{is_utf8}
 use Rattle.x509_types.specs.declared.directory_string.DirectoryString.{DirectoryString}
 use Rattle.x509_types.specs.declared.directory_string.DirectoryString.TheVariants as strings
 
+-- what is printed for what is no character
 abbrev pub question_mark : ℕ
 question_mark = 63
 
@@ -12,6 +13,7 @@ question_mark = 63
 abbrev pub ascii_or_mark : ℕ → ℕ
 ascii_or_mark octet = if nat_lt octet 128 then octet else question_mark
 
+-- octets as ASCII
 abbrev pub ascii_text : List ℕ → List ℕ
 ascii_text octets = map ascii_or_mark octets
 
@@ -33,6 +35,7 @@ bmp_text [] = []
 bmp_text (last ∷ []) = question_mark ∷ []
 bmp_text (high ∷ low ∷ rest) = encode_utf8 (unit_character (256 * high + low)) ++ bmp_text rest
 
+-- the text of a string by its type
 abbrev pub text_of : DirectoryString → List ℕ
 text_of (strings.Utf8String octets) = utf8_text octets
 text_of (strings.PrintableString octets) = ascii_text octets
