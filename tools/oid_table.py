@@ -5,9 +5,11 @@ Usage:
 
     python3 tools/oid_table.py known
     python3 tools/oid_table.py tests
+    python3 tools/oid_table.py check
 
 `known` prints the constants and the table of `crates/asn1_types/src/oids.rt`,
-`tests` the tables of `crates/asn1_types/src/oid_tests.rt`.
+`tests` the tables of `crates/asn1_types/src/oid_tests.rt`.  `check` says
+whether both files have what is printed here.
 
 The octets are made by the rule of X.690 8.19: the first two arcs a and b are
 the one number 40a + b; each number is written in base 128, the most
@@ -16,10 +18,13 @@ significant digit first, with bit 8 set in all octets but the last.  Where
 `openssl asn1parse -genstr OID:TEXT` writes; it prints how many were.
 """
 
+import pathlib
 import shutil
 import subprocess
 import sys
 import tempfile
+
+SOURCES = pathlib.Path(__file__).resolve().parent.parent / "crates/asn1_types/src"
 
 # Where the identifiers are defined, then constant, name there, dotted text.
 KNOWN = [
@@ -253,46 +258,63 @@ def checked(texts):
     return count
 
 
-def print_known():
+def known():
+    """The lines of the constants and the table."""
     for source, rows in KNOWN:
         for constant, name, text in rows:
             octets = "".join(f"\\x{octet:02X}" for octet in contents(text))
-            print(f"/// `{name}` ({source}).")
-            print(f'pub const {constant}: &[u8] = b"{octets}";')
-            print()
+            yield f"/// `{name}` ({source})."
+            yield f'pub const {constant}: &[u8] = b"{octets}";'
+            yield ""
     count = sum(len(rows) for _, rows in KNOWN)
-    print("/// The rows of the table.")
-    print("#[rattlefmt::skip]")
-    print(f"pub static TABLE: [KnownRow; {count}] = [")
+    yield "/// The rows of the table."
+    yield "#[rattlefmt::skip]"
+    yield f"pub static TABLE: [KnownRow; {count}] = ["
     for _, rows in KNOWN:
         for constant, name, text in rows:
-            print(f'    ("{name}", "{text}", {constant}),')
-    print("];")
+            yield f'    ("{name}", "{text}", {constant}),'
+    yield "];"
 
 
-def print_rows(name, about, rows):
-    print(f"/// {about}")
-    print(f'const {name}: &str = "' + "\n".join(";".join(row) for row in rows) + '";')
-    print()
+def rows_of(name, about, rows):
+    """The lines of a constant with a line a row."""
+    yield f"/// {about}"
+    yield f'const {name}: &str = "' + "\n".join(";".join(row) for row in rows) + '";'
+    yield ""
 
 
-def print_tests():
-    print_rows("READ", "Texts of identifiers, their contents octets, and why each row is there.",
-               [(text, contents(text).hex(), why) for text, why in READ])
-    print_rows("BAD_TEXTS", "Texts of no identifier, and why each row is there.", BAD_TEXTS)
-    print_rows("BAD_CONTENTS", "Octets that are the contents of no identifier, and why each row is there.",
-               [(octets.replace(" ", "").lower(), why) for octets, why in BAD_CONTENTS])
+def tests():
+    """The lines of the tests' tables."""
+    read = [(text, contents(text).hex(), why) for text, why in READ]
+    bad_contents = [(octets.replace(" ", "").lower(), why) for octets, why in BAD_CONTENTS]
+    yield from rows_of("READ", "Texts of identifiers, their contents octets, and why each row is there.", read)
+    yield from rows_of("BAD_TEXTS", "Texts of no identifier, and why each row is there.", BAD_TEXTS)
+    yield from rows_of(
+        "BAD_CONTENTS", "Octets that are the contents of no identifier, and why each row is there.", bad_contents)
+
+
+def stands_in(lines, file):
+    """Whether the lines stand in the file as they are here."""
+    return "\n".join(lines).strip() in (SOURCES / file).read_text(encoding="utf-8")
 
 
 def main():
-    if sys.argv[1:] == ["known"]:
-        print_known()
-        texts = [text for _, rows in KNOWN for _, _, text in rows]
-    elif sys.argv[1:] == ["tests"]:
-        print_tests()
-        texts = [text for text, _ in READ]
-    else:
-        sys.exit(__doc__)
+    known_texts = [text for _, rows in KNOWN for _, _, text in rows]
+    read_texts = [text for text, _ in READ]
+    match sys.argv[1:]:
+        case ["known"]:
+            print("\n".join(known()))
+            texts = known_texts
+        case ["tests"]:
+            print("\n".join(tests()))
+            texts = read_texts
+        case ["check"]:
+            for lines, file in (known(), "oids.rt"), (tests(), "oid_tests.rt"):
+                if not stands_in(lines, file):
+                    sys.exit(f"{file} has other rows")
+            texts = known_texts + read_texts
+        case _:
+            sys.exit(__doc__)
     print(f"{checked(texts)} of {len(texts)} rows are as openssl writes them", file=sys.stderr)
 
 

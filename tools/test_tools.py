@@ -7,11 +7,25 @@ import unittest
 from hashlib import sha256
 from itertools import product
 from pathlib import Path
+from shutil import which
+from tempfile import TemporaryDirectory
 from unittest.mock import patch
 
+import certificate_parts
 import compare_readers
 import der_reader
 import reader_stand_in
+from certificate_cases import (
+    AGREED, AGREEMENT_KEYS, GENERATED, KEY_LABELS, LABELS, REQUESTED, SIGNING_KEYS, WRITTEN,
+    Key, Requested,
+)
+from certificate_making import (
+    OpensslError, certificate_around, make_key, requested_certificate, written_name,
+)
+from certificate_parts import (
+    TEXT_OPTIONS, WORDS, complaints, made_rows, parts, printed, rows_of, said_subject, source,
+    unescaped, unsigned, written_rows,
+)
 from compare_readers import Comparison, block_line, case_file, cases_of, inputs, spelled
 from der_cases import mutations
 from der_reader import (
@@ -19,7 +33,10 @@ from der_reader import (
     encoding, exact_answer, first_answer, read_exact, read_first, write,
 )
 from der_starts import first_fault
-from first_path import FILE_HASH, SignatureFile, signature_file, verdict_line
+from first_path import (
+    FILE_HASH, SignatureFile, identifier, name, sequence, set_of, signature_file, utf8_string,
+    verdict_line,
+)
 from hostile_inputs import ROWS, TABLES, constant, line
 from stored_answers import stored_files
 
@@ -206,6 +223,193 @@ class ComparisonTest(unittest.TestCase):
             comparison = compare_readers.compare(["program"], 0, 1, ())
         self.assertEqual(comparison.different, 1)
         self.assertTrue(comparison.shown[0].endswith("got no line"))
+
+
+def dotted(octets):
+    """The text of an OBJECT IDENTIFIER's contents."""
+    numbers, number = [], 0
+    for octet in octets:
+        number = number << 7 | octet & 0x7F
+        if octet < 0x80:
+            numbers.append(number)
+            number = 0
+    first = min(numbers[0] // 40, 2)
+    return ".".join(map(str, (first, numbers[0] - 40 * first, *numbers[1:])))
+
+
+def octet_text(octets):
+    return "".join(chr(octet) if octet < 0x80 else "?" for octet in octets)
+
+
+def pair_text(pair):
+    number = int.from_bytes(pair, "big")
+    return "?" if len(pair) < 2 or 0xD800 <= number <= 0xDFFF else chr(number)
+
+
+def value_text(value):
+    """The text of a name's value, from its octets alone."""
+    octets = value.contents if isinstance(value, Primitive) else b""
+    match value.tag:
+        case 0x0C:
+            try:
+                return octets.decode("utf-8")
+            except UnicodeDecodeError:
+                return octet_text(octets)
+        case 0x13 | 0x14:
+            return octet_text(octets)
+        case 0x1E:
+            return "".join(pair_text(octets[i:i + 2]) for i in range(0, len(octets), 2))
+        case 0x16 if octets.isascii():
+            return octets.decode("ascii")
+        case _:
+            return "#" + write(value).hex()
+
+
+def member_text(member):
+    kind, value = member.kids
+    word = dotted(kind.contents)
+    return f"{WORDS.get(word, word)}={value_text(value)}"
+
+
+def name_text(tree):
+    return ",".join("+".join(map(member_text, members.kids)) for members in tree.kids)
+
+
+STORED_PARTS = (CRATES / "picky_vectors/src/certificate_parts.rt").read_text(encoding="ascii")
+
+
+class CertificatePartsTest(unittest.TestCase):
+
+    def setUp(self):
+        self.names, self.keys = rows_of(STORED_PARTS)
+
+    def test_parts_of_a_certificate(self):
+        made = SignatureFile(subject=b"B" * 200)
+        taken = parts(made.certificate())
+        self.assertEqual(taken.name, name(b"B" * 200))
+        self.assertEqual(read_exact(taken.key).kids[1].contents, b"\0" + made.public_key())
+        self.assertEqual(parts(certificate_around(*taken)), taken)
+        # A certificate of version 1 doesn't say so.
+        to_be_signed, *others = read_exact(made.certificate()).kids
+        first = Constructed(0x30, (Constructed(0x30, to_be_signed.kids[1:]), *others))
+        self.assertEqual(parts(write(first)), taken)
+
+    def test_printed(self):
+        for said, elements, text in (
+            ("", "", ""),
+            ("2.5.4.3=UTF8STRING:A", "2.5.4.3=#0C0141", "CN=A"),
+            ("1.2.3=UTF8STRING:=,2.5.4.5=PRINTABLESTRING:7", "1.2.3=#,2.5.4.5=#",
+             "1.2.3==,SERIALNUMBER=7"),
+            ("2.5.4.3=UTF8STRING:\\,\\\\+2.5.4.9=UTF8STRING:\\+,1.2=UTF8STRING:", "a=#+b=#,c=#",
+             "CN=,\\+STREET=+,1.2="),
+            ("2.5.4.3=T61STRING:a\\E9\\,", "2.5.4.3=#", "CN=a?,"),
+            ("2.5.4.3=IA5STRING:a\\E9", "2.5.4.3=#160261E9", "CN=#160261e9"),
+            ("2.5.4.3=BIT STRING:ab", "2.5.4.3=#0303006162", "CN=#0303006162"),
+        ):
+            self.assertEqual(printed(said, elements), text)
+
+    def test_unescaped(self):
+        for said, text in (
+            (r"\ a\,b\+\"\<\>\;\ ", ' a,b+"<>; '),
+            (r"\#\\0A\\\0A\7F", "#\\0A\\\n\x7f"),
+            (r"\E9\C3\A9", "\u00e9\u00c3\u00a9"),
+            (r"\U00E90\W0001F51100", "\u00e90\U0001f51100"),
+        ):
+            self.assertEqual(unescaped(said), text)
+
+    def test_numbers(self):
+        self.assertEqual(list(map(unsigned, (3, 255, 256, 65537))), ["03", "ff", "0100", "010001"])
+
+    def test_labels(self):
+        self.assertEqual([row.label for row in self.names], LABELS)
+        self.assertEqual([row.label for row in self.keys], KEY_LABELS)
+        self.assertEqual(len(set(LABELS)), len(LABELS))
+        self.assertEqual(len(set(KEY_LABELS)), len(KEY_LABELS))
+        self.assertFalse(any(set('|"\n\\') & set(label) for label in LABELS + KEY_LABELS))
+
+    def test_layout_of_the_stored_file(self):
+        self.assertEqual(source(self.names, self.keys), STORED_PARTS)
+
+    def test_stored_names_by_their_octets(self):
+        tags = set()
+        for row in self.names:
+            with self.subTest(row.label):
+                tree = read_exact(bytes.fromhex(row.octets))
+                self.assertEqual(name_text(tree), bytes.fromhex(row.text).decode())
+                tags |= {member.kids[1].tag for members in tree.kids for member in members.kids}
+        self.assertLessEqual({0x0C, 0x13, 0x14, 0x16, 0x1E}, tags)
+
+    def test_stored_keys_by_their_octets(self):
+        for row in self.keys:
+            with self.subTest(row.label):
+                algorithm, key = read_exact(bytes.fromhex(row.octets)).kids
+                kind = dotted(algorithm.kids[0].contents)
+                if row.kind == "rsa":
+                    self.assertEqual(kind, "1.2.840.113549.1.1.1")
+                    numbers = (int.from_bytes(number.contents, "big")
+                               for number in read_exact(key.contents[1:]).kids)
+                    self.assertEqual(row.numbers, tuple(map(unsigned, numbers)))
+                elif row.kind == "ec":
+                    self.assertEqual(kind, "1.2.840.10045.2.1")
+                else:
+                    self.assertIn(kind, {f"1.3.101.{arc}" for arc in (110, 111, 112, 113)})
+        self.assertEqual({row.kind for row in self.keys}, {"rsa", "ec", "ed"})
+
+    def test_written_names(self):
+        self.assertEqual(written_rows(), self.names[-len(WRITTEN):])
+        self.assertEqual(written_name(()), sequence())
+        member = sequence(identifier("2.5.4.3"), utf8_string(b"A"))
+        self.assertEqual(written_name(((), (("2.5.4.3", "0C0141"),))),
+                         sequence(set_of(), set_of(member)))
+
+
+@unittest.skipUnless(which("openssl"), "openssl isn't there")
+class CertificatesByOpensslTest(unittest.TestCase):
+
+    def test_stored_file(self):
+        self.assertEqual(list(complaints(STORED_PARTS)), [])
+
+    def test_wrong_rows(self):
+        names, keys = rows_of(STORED_PARTS)
+        wrong = names[0]._replace(text="434e3d42"), names[-1]._replace(text="434e3d42")
+        modulus, exponent = keys[0].numbers
+        others = keys[0]._replace(numbers=(modulus, "03")), keys[-1]._replace(kind="ec")
+        found = list(complaints(source(wrong, others)))
+        self.assertEqual([complaint.split(":")[0] for complaint in found], [
+            "the labels aren't those of the cases",
+            names[0].label, names[-1].label, keys[0].label, keys[-1].label])
+
+    def test_words(self):
+        subject = "".join(f"/{attribute}=US" for attribute in WORDS)
+        with TemporaryDirectory() as folder:
+            key = Path(folder, "key.pem")
+            make_key(Key("", "ED25519"), key)
+            certificate = requested_certificate(Requested("", subject), key, Path(folder))
+        said = said_subject(certificate, "sep_comma_plus,sname")
+        self.assertEqual(said.upper().replace("EMAILADDRESS", "EMAIL"),
+                         ",".join(f"{word}=US" for word in WORDS.values()))
+
+    def test_made_rows(self):
+        tables = {"SIGNING_KEYS": SIGNING_KEYS[-2:], "AGREEMENT_KEYS": AGREEMENT_KEYS[:1],
+                  "REQUESTED": REQUESTED[-3:], "AGREED": AGREED[:1], "GENERATED": GENERATED[:1],
+                  "WRITTEN": WRITTEN[:1]}
+        with patch.multiple(certificate_parts, **tables), TemporaryDirectory() as folder:
+            names, keys = made_rows(Path(folder))
+        stored, _ = rows_of(STORED_PARTS)
+        labels = [row.label for row in names]
+        cases = REQUESTED[-3:] + AGREED[:1] + GENERATED[:1] + WRITTEN[:1]
+        self.assertEqual(labels, [case.label for case in cases])
+        self.assertEqual(names, [row for row in stored if row.label in labels])
+        self.assertEqual([row.label for row in keys], ["Ed25519 again", "Ed448", "X25519"])
+
+    def test_refusals(self):
+        with self.assertRaises(OpensslError):
+            said_subject(certificate_around(sequence(sequence())), TEXT_OPTIONS)
+        with TemporaryDirectory() as folder:
+            key = Path(folder, "key.pem")
+            make_key(Key("", "ED25519"), key)
+            with self.assertRaisesRegex(OpensslError, "Skipping"):
+                requested_certificate(Requested("", "/nothing=a"), key, Path(folder))
 
 
 if __name__ == "__main__":

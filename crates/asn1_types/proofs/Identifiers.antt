@@ -3,11 +3,11 @@ use Rattle.std.proofs.Common.{◌≡◌, ◌≢◌, ◌↔◌, ℕ, Bool, true, 
 use Rattle.std.proofs.lemmas.Bool.{cases_lt, eqb-true, eqb-false, false≢true}
 use Rattle.std.proofs.lemmas.List.{nil_from_length, take_all}
 use Rattle.std.specs.List.{AllByRecursion, flat_map}
-use Rattle.asn1_types.specs.Subidentifier.{IsSubidentifier, subidentifier, AreSubidentifiers, BeginsWithNoSubidentifier}
+use Rattle.asn1_types.specs.Subidentifier.{IsSubidentifier, subidentifier, BeginsWithNoSubidentifier}
 use Rattle.asn1_types.specs.SubidentifierReading.{subidentifier_some}
 use Rattle.asn1_types.specs.ObjectIdentifier.{IsRoot, IsArcs, IsIdentifier, contents_of}
 use Rattle.asn1_types.specs.OneIdentifier.{contents_once}
-use Rattle.asn1_types.proofs.Subidentifiers.{are_none}
+use Rattle.asn1_types.proofs.Subidentifiers.{AreSubidentifiers, are_none}
 
 -- the identifier whose first two arcs make a number
 from_numbers : (octets : List ℕ) (n : ℕ) (ns : List ℕ) → AllByRecursion IsSubidentifier (n ∷ ns)

@@ -29,6 +29,7 @@ IsArcs (first ∷ second ∷ more) = IsRoot first second × AllByRecursion IsSub
 abbrev pub contents_of : List ℕ → List ℕ
 contents_of arcs = flat_map subidentifier (subidentifiers_of arcs)
 
+-- The octet between two arcs of a text.
 abbrev pub dot : ℕ
 dot = 46
 

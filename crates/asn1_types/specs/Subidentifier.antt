@@ -1,6 +1,5 @@
 -- Subidentifiers, the parts of the contents octets of an OBJECT IDENTIFIER (X.690 8.19.2).
-use Rattle.std.specs.Prelude.{◌≡◌, ◌≢◌, ℕ, ◌+◌, ◌/◌, ◌%◌, ◌^◌, ◌<◌, List, [], ◌∷◌, ◌++◌, map}
-use Rattle.std.specs.List.{AllByRecursion, flat_map}
+use Rattle.std.specs.Prelude.{◌≢◌, ℕ, ◌+◌, ◌/◌, ◌%◌, ◌^◌, ◌<◌, List, [], ◌∷◌, ◌++◌, map}
 use Rattle.std.specs.Int.Digits.{digits_of}
 
 -- A number that a subidentifier holds here. X.690 sets no bound; this library reads 128 bits.
@@ -20,9 +19,3 @@ subidentifier number = leading_octets (number / 128) ++ (number % 128 ∷ [])
 abbrev pub BeginsWithNoSubidentifier : List ℕ → Type 0
 BeginsWithNoSubidentifier octets =
     (number : ℕ) (after : List ℕ) → IsSubidentifier number → octets ≢ subidentifier number ++ after
-
--- The octets are subidentifiers, one after another.
-pub record AreSubidentifiers (octets : List ℕ) : Type 0 where
-  pub numbers : List ℕ
-  pub bounded : AllByRecursion IsSubidentifier numbers
-  pub spelled : octets ≡ flat_map subidentifier numbers

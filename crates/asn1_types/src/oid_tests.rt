@@ -2,7 +2,7 @@
 //! octets with what `openssl asn1parse -genstr` writes.
 
 use crate::oids::{self, TABLE};
-use crate::{ObjectIdentifier, TextError};
+use crate::{ObjectIdentifier, TextError, text_and_contents_agree};
 use der_core::DerError;
 use std::alloc::{AllocError, Global};
 use std::hash::{DefaultHasher, Hash, Hasher};
@@ -193,6 +193,8 @@ fn known_identifiers(rt: HostRuntime) -> Result<(), Fail> {
     assert_eq!(rt; copy.as_bytes(), oids::SHA256);
     assert!(rt; copy == sha256);
     assert_eq!(rt; hash_of(&copy), hash_of(&sha256));
+    text_and_contents_agree(&copy, &sha256);
+    oids::rows_agree();
 
     let sha384 = ObjectIdentifier::from_known(rt.alloc(), oids::SHA384)?;
     assert!(rt; sha384 != sha256);

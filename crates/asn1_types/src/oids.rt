@@ -15,7 +15,8 @@ pub struct KnownOid {
     pub contents: &'static [u8],
 }
 
-/// A row of the table: name, dotted text and contents octets.
+/// A row of the table: name, dotted text and contents octets. It is a tuple because contracts can't
+/// name a constant of structs that hold references.
 pub type KnownRow = (&'static str, &'static str, &'static [u8]);
 
 /// What the table has for these contents octets.

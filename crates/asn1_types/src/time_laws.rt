@@ -9,8 +9,8 @@ ghost use Rattle.asn1_types.specs.Time.{generalized_fields, utc_fields};
 
 use crate::{GeneralizedTime, UTCTime};
 
-/// Times are ordered by their fields, the year first, and equal times are the same.
-pub fn times_are_ordered_by_their_fields()
+/// A time is its fields: times are ordered by them, the year first, and equal times are the same.
+pub fn times_are_their_fields()
     ensures order { (a b : GeneralizedTime) → ⟦<GeneralizedTime as Ord>⟧.cmp a b
         ≡ slice_cmp nat_cmp (generalized_fields a) (generalized_fields b) }
     ensures equal { (a b : GeneralizedTime)

@@ -1,1 +1,2 @@
 mod Padding
+mod CommonNames

@@ -27,7 +27,7 @@ impl Model for UtcDate {
 
 impl UtcDate {
     /// The date with these fields, None exactly where the moment doesn't exist.
-    pub fn new(year: u16, month: u8, day: u8, hour: u8, minute: u8, second: u8) -> Option<UtcDate>
+    pub fn new(year: u16, month: u8, day: u8, hour: u8, minute: u8, second: u8) -> Option<Self>
         ensures exists { IsSome result ↔ IsMoment year month day hour minute second }
         ensures given { IfSome result
             (λ date. generalized_fields date ≡ year ∷ month ∷ day ∷ hour ∷ minute ∷ second ∷ []) }

@@ -1,10 +1,15 @@
-//! Dates as X.509 has them, on top of the values of ASN.1.
+//! Dates and names as X.509 has them, on top of the values of ASN.1.
 #![tactic(auto)]
 
+mod common_name;
 mod date;
 mod laws;
+mod name;
+#[cfg(test)]
+mod name_tests;
 #[cfg(test)]
 mod tests;
 
 pub use date::UtcDate;
-pub use laws::dates_are_ordered_by_their_fields;
+pub use laws::dates_are_their_fields;
+pub use name::{DirectoryName, NameList};

@@ -7,25 +7,30 @@ use std::test::Fail;
 
 type Fields = (u16, u8, u8, u8, u8, u8);
 
-// Fields and the printed text, None where the moment doesn't exist.
+// Fields and the printed text.
 #[rattlefmt::skip]
-const TEXTS: [(Fields, Option<&str>); 16] = [
-    ((2023, 6, 30, 12, 34, 56), Some("2023-06-30 12:34:56")),
-    ((2020, 12, 20, 0, 0, 0), Some("2020-12-20 00:00:00")),
-    ((2004, 2, 29, 23, 59, 59), Some("2004-02-29 23:59:59")),
-    ((1970, 1, 1, 0, 0, 0), Some("1970-01-01 00:00:00")),
-    ((9999, 12, 31, 23, 59, 59), Some("9999-12-31 23:59:59")),
-    ((1000, 10, 10, 10, 10, 10), Some("1000-10-10 10:10:10")),
-    ((999, 9, 9, 9, 9, 9), Some("0999-09-09 09:09:09")),
-    ((99, 1, 2, 3, 4, 5), Some("0099-01-02 03:04:05")),
-    ((1, 1, 1, 0, 0, 1), Some("0001-01-01 00:00:01")),
-    ((0, 2, 29, 0, 0, 0), Some("0000-02-29 00:00:00")),
-    ((1900, 2, 29, 0, 0, 0), None),
-    ((2023, 4, 31, 0, 0, 0), None),
-    ((2023, 1, 1, 24, 0, 0), None),
-    ((2023, 1, 1, 0, 60, 0), None),
-    ((2016, 12, 31, 23, 59, 60), None),
-    ((10000, 1, 1, 0, 0, 0), None),
+const TEXTS: [(Fields, &str); 10] = [
+    ((2023, 6, 30, 12, 34, 56), "2023-06-30 12:34:56"),
+    ((2020, 12, 20, 0, 0, 0), "2020-12-20 00:00:00"),
+    ((2004, 2, 29, 23, 59, 59), "2004-02-29 23:59:59"),
+    ((1970, 1, 1, 0, 0, 0), "1970-01-01 00:00:00"),
+    ((9999, 12, 31, 23, 59, 59), "9999-12-31 23:59:59"),
+    ((1000, 10, 10, 10, 10, 10), "1000-10-10 10:10:10"),
+    ((999, 9, 9, 9, 9, 9), "0999-09-09 09:09:09"),
+    ((99, 1, 2, 3, 4, 5), "0099-01-02 03:04:05"),
+    ((1, 1, 1, 0, 0, 1), "0001-01-01 00:00:01"),
+    ((0, 2, 29, 0, 0, 0), "0000-02-29 00:00:00"),
+];
+
+// Fields of moments that don't exist.
+#[rattlefmt::skip]
+const NO_DATES: [Fields; 6] = [
+    (1900, 2, 29, 0, 0, 0),
+    (2023, 4, 31, 0, 0, 0),
+    (2023, 1, 1, 24, 0, 0),
+    (2023, 1, 1, 0, 60, 0),
+    (2016, 12, 31, 23, 59, 60),
+    (10000, 1, 1, 0, 0, 0),
 ];
 
 // Days, and whether they exist.
@@ -91,14 +96,25 @@ fn fields_of(date: UtcDate) -> Fields {
 #[test]
 fn texts(rt: HostRuntime) -> Result<(), Fail> {
     for (fields, text) in TEXTS {
-        let date = date_of(fields);
-        assert_eq!(rt; date.map(fields_of), text.map(|_| fields), "{fields:?}");
-        if let (Some(date), Some(text)) = (date, text) {
-            let printed = format!(in rt.alloc(); "{date}")?;
-            assert_eq!(rt; printed.as_str(), text);
-        }
+        let Some(date) = date_of(fields) else {
+            return Err(Fail::from(text));
+        };
+        let printed = format!(in rt.alloc(); "{date}")?;
+        assert_eq!(rt; printed.as_bytes(), text.as_bytes(), "{text}");
+        assert_eq!(rt; fields_of(date), fields, "{text}");
     }
     Ok(())
+}
+
+#[test]
+fn no_dates(rt: HostRuntime) {
+    for (year, month, day, hour, minute, second) in NO_DATES {
+        let date = UtcDate::new(year, month, day, hour, minute, second);
+        assert!(rt;
+            date.is_none(),
+            "{year} {month} {day} {hour} {minute} {second}"
+        );
+    }
 }
 
 #[test]
@@ -144,9 +160,14 @@ fn utc_times(rt: HostRuntime) {
 }
 
 #[test]
-fn generalized_times(rt: HostRuntime) {
-    let time = GeneralizedTime::from_content(b"19491231235958Z");
-    let date = time.map(UtcDate::from);
-    assert_eq!(rt; date.map(fields_of), Some((1949, 12, 31, 23, 59, 58)));
-    assert_eq!(rt; date.map(GeneralizedTime::from), time);
+fn generalized_times(rt: HostRuntime) -> Result<(), Fail> {
+    let contents = b"19491231235958Z";
+    let Some(time) = GeneralizedTime::from_content(contents) else {
+        return Err(Fail::from("the octets are no time"));
+    };
+    let date = UtcDate::from(time);
+    assert_eq!(rt; fields_of(date), (1949, 12, 31, 23, 59, 58));
+    let back = GeneralizedTime::from(date);
+    assert_eq!(rt; back.to_content().as_slice(), contents.as_slice());
+    Ok(())
 }

@@ -40,7 +40,7 @@ unlike none = (λ t. absurd cc, λ p. absurd (none p))
 leaves_same : (tag : ℕ) (a b : List ℕ) → IsTrue (bytes_eq a b) ↔ (Primitive tag a ≡ Primitive tag b)
 leaves_same tag a b = (λ t. ap (Primitive tag) ((octets_same a b).0 t), λ e. (octets_same a b).1 cc)
 
-other_tags : (s t : ℕ) (a b : List ℕ) → (s ≡ t → ⊥) → Primitive s a ≡ Primitive t b → ⊥
+pub other_tags : (s t : ℕ) (a b : List ℕ) → (s ≡ t → ⊥) → Primitive s a ≡ Primitive t b → ⊥
 other_tags s t a b other e = other (ap tag_of e)
 
 unlike_tags : (s t : ℕ) (a b : List ℕ) → (s ≡ t → ⊥) → IsTrue false ↔ (Primitive s a ≡ Primitive t b)
@@ -64,7 +64,7 @@ strings_same (strings.BmpString x) (strings.PrintableString y) = unlike_tags 30 
 strings_same (strings.BmpString x) (strings.TeletexString y) = unlike_tags 30 20 x y (λ e. omega arith)
 strings_same (strings.BmpString x) (strings.BmpString y) = leaves_same 30 x y
 
-no_ia5 : (a : DirectoryString) (b : Ia5String) → directory_string a ≡ ia5_string b → ⊥
+pub no_ia5 : (a : DirectoryString) (b : Ia5String) → directory_string a ≡ ia5_string b → ⊥
 no_ia5 (strings.Utf8String x) b e = other_tags 12 22 x b.text (λ e. omega arith) e
 no_ia5 (strings.PrintableString x) b e = other_tags 19 22 x b.text (λ e. omega arith) e
 no_ia5 (strings.TeletexString x) b e = other_tags 20 22 x b.text (λ e. omega arith) e

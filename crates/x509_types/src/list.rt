@@ -1,8 +1,9 @@
 //! Values of one structure in order.
 
-ghost use Rattle.std.specs.Prelude.{◌≡◌, ◌++◌, ◌∷◌, [], OnOk, OnErr};
+ghost use Rattle.std.specs.Prelude.{◌≡◌, ◌++◌, ◌∷◌, [], IfOk, OnOk, OnErr};
 ghost use Rattle.std.specs.Cmp.Lexicographic.{pointwise, lists_per, lists_equiv};
 
+use crate::structure::{Structure, copy_each};
 use std::alloc::{AllocError, Global};
 use std::marker::Model;
 
@@ -45,11 +46,25 @@ impl<T> ListOf<T> {
         Ok(())
     }
 
+    /// Where the list takes its memory.
+    pub fn allocator(&self) -> Global {
+        *self.items.allocator()
+    }
+
     /// The values in order.
     pub fn as_slice(&self) -> &[T]
         ensures { result.now ≡ self.now }
     {
         &self.items
+    }
+}
+
+impl<T: Structure> ListOf<T> {
+    /// A copy of the value.
+    pub fn try_clone(&self, alloc: Global) -> Result<ListOf<T>, AllocError>
+        ensures { IfOk result (λ copy. copy ≡ self.now) }
+    {
+        copy_each(alloc, self)
     }
 }
 

@@ -15,22 +15,23 @@ use std::alloc::{AllocError, Global};
 
 /// A structure of ASN.1: a type whose values are read from elements and written as elements.
 pub trait Structure: Sized + Drop {
-    // which elements are one of which value
+    // The element is one of this value.
     ghost spells: { DerElement → Self → Type 0 };
 
-    // the element that is written for a value
+    // The element that is written for a value.
     ghost written: { Self → DerElement };
 
-    // what of a value is written into a string, as an element of its own
+    // The elements that are written into strings of it, from left to right.
     ghost inner: { Self → List DerElement };
 
-    /// The value that an element spells. It is `Shape` exactly where the element spells none.
+    /// The value that an element spells, `Shape` exactly where it spells none. The element is in
+    /// bounds, as every element is that was read.
     fn read(alloc: Global, tree: &Tree) -> Result<Self, DerError>
         requires { IsDer tree.now }
         ensures { MatchResult result (spells tree.now) (RefusesShape (spells tree.now)) };
 
-    /// The element that is written for the value, and spells it. It is `TooDeep` or `TooLong` exactly
-    /// where something in it that is written into a string as an element of its own is refused so.
+    /// The element of the value, which spells it. It is refused as `TooDeep` or `TooLong` exactly
+    /// where `der_core::write` so refuses the first element that can't be written into a string.
     fn write(&self, alloc: Global) -> Result<Tree, DerError>
         ensures { MatchResult result
             (λ tree. (tree ≡ written self.now) × spells tree self.now × IsWellFormed tree × AreDer (inner self.now))

@@ -1,5 +1,5 @@
 use Rattle.std.proofs.Common.{◌↔◌, length}
-use Rattle.asn1_types.specs.Subidentifier.{AreSubidentifiers}
+use Rattle.asn1_types.proofs.Subidentifiers.{AreSubidentifiers}
 use Rattle.asn1_types.proofs.oid.is_identifier.Given as goal
 
 -- the octets are subidentifiers where the rest is

@@ -1,0 +1,37 @@
+-- Names of the directory as lists of sets of attributes (RFC 5280 4.1.2.4).
+use Rattle.std.specs.Prelude.{◌≡◌, ℕ, bytes_eq, if◌then◌else◌, Option, Some, None, List, [], ◌∷◌, ◌++◌, flat_map, filter_map}
+use Rattle.std.specs.List.{slice_get}
+use Rattle.x509_types.specs.declared.name.AttributeTypeAndValue.{AttributeTypeAndValue}
+use Rattle.x509_types.specs.declared.directory_string.DirectoryString.{DirectoryString}
+use Rattle.x509_types.specs.declared.directory_string.DirectoryString.TheVariants as strings
+use Rattle.x509_types.specs.declared.attribute_value.AttributeValue.{AttributeValue}
+use Rattle.x509_types.specs.declared.attribute_value.AttributeValue.TheVariants as values
+use Rattle.x509_types.specs.declared.name_attr.NameAttr.TheVariants as attributes
+use Rattle.x509_types.specs.NameAttr.{attribute_arcs}
+
+-- the value of a text
+abbrev pub utf8_value : List ℕ → AttributeValue
+utf8_value text = values.DirectoryString (strings.Utf8String text)
+
+-- The later name has one more set at its end, of one attribute, which has these arcs as its type and this value.
+pub record IsExtended (arcs : List ℕ) (value : AttributeValue) (earlier later : List (List AttributeTypeAndValue)) : Type 0 where
+  pub attribute : AttributeTypeAndValue
+  pub appended : later ≡ earlier ++ (attribute ∷ []) ∷ []
+  pub typed : attribute.ty.formed.arcs ≡ arcs
+  pub valued : attribute.value ≡ value
+
+abbrev pub string_of : AttributeValue → Option DirectoryString
+string_of (values.DirectoryString string) = Some string
+string_of (values.Ia5String string) = None
+string_of (values.Other other) = None
+
+-- the string of a common name; another kind of value is none
+abbrev pub common_name_of : AttributeTypeAndValue → Option DirectoryString
+common_name_of attribute = if bytes_eq attribute.ty.formed.arcs (attribute_arcs attributes.CommonName) then string_of attribute.value else None
+
+-- the common names among the attributes of all sets, in their order
+abbrev pub common_names : List (List AttributeTypeAndValue) → List DirectoryString
+common_names sets = filter_map common_name_of (flat_map (λ members. members) sets)
+
+abbrev pub first_common_name : List (List AttributeTypeAndValue) → Option DirectoryString
+first_common_name sets = slice_get (common_names sets) 0

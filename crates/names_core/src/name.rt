@@ -1,0 +1,149 @@
+//! Names of the directory.
+
+ghost use Rattle.std.specs.Prelude.{◌≡◌, ◌↔◌, [], IsTrue, Some, IfOk, OnOk, OnErr};
+ghost use Rattle.std.specs.Option.{option_copied};
+ghost use Rattle.x509_types.specs.declared.name_attr.NameAttr.TheVariants as attributes;
+ghost use Rattle.x509_types.specs.declared.attribute_value.AttributeValue.TheVariants as values;
+ghost use Rattle.x509_types.specs.NameAttr.{attribute_arcs};
+ghost use Rattle.x509_types.specs.NameText.{email_address, name_text};
+ghost use Rattle.names_core.specs.DirectoryName.{IsExtended, utf8_value, first_common_name};
+
+use crate::common_name::first_common_name;
+use asn1_types::{Ia5String, ObjectIdentifier};
+use der_core::{DerError, Tree};
+use std::alloc::{AllocError, Global};
+use std::fmt::{self, Display};
+use x509_types::{
+    AttributeTypeAndValue, AttributeValue, DirectoryString, ListOf, Name, NameAttr, Structure,
+    email_address,
+};
+
+/// A name of the directory, to be made, searched and printed.
+#[derive(Debug, Drop, PartialEq, Eq)]
+pub struct DirectoryName {
+    name: Name,
+}
+
+/// Names in order.
+pub type NameList = ListOf<DirectoryName>;
+
+impl DirectoryName {
+    /// The empty name.
+    pub fn new(alloc: Global) -> DirectoryName
+        ensures { result.name ≡ [] }
+    {
+        DirectoryName {
+            name: ListOf::new(alloc),
+        }
+    }
+
+    /// The name of one common name.
+    pub fn new_common_name(alloc: Global, name: &str) -> Result<DirectoryName, AllocError>
+        ensures { IfOk result
+            (λ made. IsExtended (attribute_arcs attributes.CommonName) (utf8_value name.now) [] made.name) }
+    {
+        let mut made = DirectoryName::new(alloc);
+        made.add_attr(NameAttr::CommonName, name)?;
+        Ok(made)
+    }
+
+    /// The first attribute that is a common name, its sets and their members in order. One whose
+    /// value is no DirectoryString is passed over.
+    pub fn find_common_name(&self) -> Option<&DirectoryString>
+        ensures { option_copied result ≡ first_common_name self.now.name }
+    {
+        first_common_name(self.name.as_slice())
+    }
+
+    /// Appends a set of one attribute of this type, whose value is the text as a UTF8String.
+    pub fn add_attr(&mut self, attr: NameAttr, value: &str) -> Result<(), AllocError>
+        ensures ok { OnOk result
+            (IsExtended (attribute_arcs attr) (utf8_value value.now) self.old.name self.new.name) }
+        ensures err { OnErr result (self.new ≡ self.old) }
+    {
+        let alloc = self.name.allocator();
+        let ty = attr.to_oid(alloc)?;
+        let string = DirectoryString::from_text(alloc, value)?;
+        self.add(ty, AttributeValue::DirectoryString(string))
+    }
+
+    /// Appends a set of one attribute, an email address (RFC 2985 5.2.1).
+    pub fn add_email(&mut self, value: Ia5String) -> Result<(), AllocError>
+        ensures ok { OnOk result
+            (IsExtended email_address (values.Ia5String value) self.old.name self.new.name) }
+        ensures err { OnErr result (self.new ≡ self.old) }
+    {
+        let ty = email_address(self.name.allocator())?;
+        self.add(ty, AttributeValue::Ia5String(value))
+    }
+
+    /// Appends a set of one attribute.
+    fn add(&mut self, ty: ObjectIdentifier, value: AttributeValue) -> Result<(), AllocError>
+        ensures ok { OnOk result (IsExtended ty.formed.arcs value self.old.name self.new.name) }
+        ensures err { OnErr result (self.new ≡ self.old) }
+    {
+        let mut set = ListOf::new(self.name.allocator());
+        set.push(AttributeTypeAndValue { ty, value })?;
+        self.name.push(set)?;
+        Ok(())
+    }
+
+    /// A copy of the value.
+    pub fn try_clone(&self, alloc: Global) -> Result<DirectoryName, AllocError>
+        ensures { IfOk result (λ copy. copy ≡ self.now) }
+    {
+        Ok(DirectoryName {
+            name: self.name.try_clone(alloc)?,
+        })
+    }
+}
+
+impl From<Name> for DirectoryName {
+    ghost from_gives = { λ name made. made.name ≡ name };
+
+    fn from(name: Name) -> DirectoryName {
+        DirectoryName { name }
+    }
+}
+
+impl From<DirectoryName> for Name {
+    ghost from_gives = { λ made name. name ≡ made.name };
+
+    fn from(made: DirectoryName) -> Name {
+        let DirectoryName { name } = made;
+        name
+    }
+}
+
+impl fmt::Display for DirectoryName {
+    ghost output = { λ made. Some (name_text made.name) };
+
+    fn fmt<W: fmt::Write>(&self, f: &mut fmt::Formatter<W>) -> fmt::Result {
+        self.name.fmt(f)
+    }
+}
+
+/// A name of the directory is read and written as the Name that it holds.
+impl Structure for DirectoryName {
+    ghost use Rattle.x509_types.specs.Name.{name};
+
+    ghost spells = { λ element made. element ≡ name made.name };
+
+    ghost written = { λ made. name made.name };
+
+    ghost inner = { λ _. [] };
+
+    fn read(alloc: Global, tree: &Tree) -> Result<DirectoryName, DerError> {
+        Ok(DirectoryName {
+            name: Name::read(alloc, tree)?,
+        })
+    }
+
+    fn write(&self, alloc: Global) -> Result<Tree, DerError> {
+        self.name.write(alloc)
+    }
+
+    fn try_clone(&self, alloc: Global) -> Result<DirectoryName, AllocError> {
+        DirectoryName::try_clone(self, alloc)
+    }
+}

@@ -1,0 +1,42 @@
+-- The attribute types of names that have a word of their own.
+use Rattle.std.specs.Prelude.{ℕ, Option, List, [], ◌∷◌, find, bytes_eq, codes}
+use Rattle.x509_types.specs.declared.name_attr.NameAttr.{NameAttr}
+use Rattle.x509_types.specs.declared.name_attr.NameAttr.TheVariants as attributes
+
+-- the last arc of the identifier, under id-at of X.520 (RFC 5280 A.1; X.520 6.2.3 for the street)
+abbrev pub attribute_arc : NameAttr → ℕ
+attribute_arc attributes.CommonName = 3
+attribute_arc attributes.Surname = 4
+attribute_arc attributes.SerialNumber = 5
+attribute_arc attributes.CountryName = 6
+attribute_arc attributes.LocalityName = 7
+attribute_arc attributes.StateOrProvinceName = 8
+attribute_arc attributes.StreetName = 9
+attribute_arc attributes.OrganizationName = 10
+attribute_arc attributes.OrganizationalUnitName = 11
+attribute_arc attributes.GivenName = 42
+
+-- the identifier
+abbrev pub attribute_arcs : NameAttr → List ℕ
+attribute_arcs attr = 2 ∷ 5 ∷ 4 ∷ attribute_arc attr ∷ []
+
+-- the word that is printed for the type
+abbrev pub attribute_word : NameAttr → List ℕ
+attribute_word attributes.CommonName = codes "CN"
+attribute_word attributes.Surname = codes "SN"
+attribute_word attributes.SerialNumber = codes "SERIALNUMBER"
+attribute_word attributes.CountryName = codes "C"
+attribute_word attributes.LocalityName = codes "L"
+attribute_word attributes.StateOrProvinceName = codes "ST"
+attribute_word attributes.StreetName = codes "STREET"
+attribute_word attributes.OrganizationName = codes "O"
+attribute_word attributes.OrganizationalUnitName = codes "OU"
+attribute_word attributes.GivenName = codes "GN"
+
+abbrev pub attribute_types : List NameAttr
+attribute_types =
+    attributes.CommonName ∷ attributes.Surname ∷ attributes.SerialNumber ∷ attributes.CountryName ∷ attributes.LocalityName ∷ attributes.StateOrProvinceName ∷ attributes.StreetName ∷ attributes.OrganizationName ∷ attributes.OrganizationalUnitName ∷ attributes.GivenName ∷ []
+
+-- the attribute type with these arcs
+abbrev pub attribute_type : List ℕ → Option NameAttr
+attribute_type arcs = find (λ attr. bytes_eq (attribute_arcs attr) arcs) attribute_types

@@ -1,0 +1,51 @@
+-- The text of a name.
+use Rattle.std.specs.Prelude.{ℕ, ◌/◌, ◌%◌, false, if◌then◌else◌, Option, Some, None, List, [], ◌∷◌, ◌++◌, map, flat_map, bytes_eq, codes}
+use Rattle.std.specs.List.{join_with_byte}
+use Rattle.std.specs.Fmt.{digit_glyph}
+use Rattle.der_core.specs.Encoding.{encoding}
+use Rattle.asn1_types.specs.ObjectIdentifier.{dotted}
+use Rattle.x509_types.specs.Text.{text_of}
+use Rattle.x509_types.specs.NameAttr.{attribute_type, attribute_word}
+use Rattle.x509_types.specs.declared.name_attr.NameAttr.{NameAttr}
+use Rattle.x509_types.specs.declared.attribute_value.AttributeValue.{AttributeValue}
+use Rattle.x509_types.specs.declared.attribute_value.AttributeValue.TheVariants as values
+use Rattle.x509_types.specs.declared.name.AttributeTypeAndValue.{AttributeTypeAndValue}
+
+-- two digits an octet, in lower case
+abbrev pub hexadecimal : List ℕ → List ℕ
+hexadecimal octets = flat_map (λ octet. digit_glyph false (octet / 16) ∷ digit_glyph false (octet % 16) ∷ []) octets
+
+-- emailAddress (RFC 2985 5.2.1)
+abbrev pub email_address : List ℕ
+email_address = 1 ∷ 2 ∷ 840 ∷ 113549 ∷ 1 ∷ 9 ∷ 1 ∷ []
+
+abbrev pub word_or_dotted : Option NameAttr → List ℕ → List ℕ
+word_or_dotted (Some attr) arcs = attribute_word attr
+word_or_dotted None arcs = if bytes_eq arcs email_address then codes "EMAIL" else dotted arcs
+
+-- the word of the attribute type with these arcs, or their dotted text
+abbrev pub type_word : List ℕ → List ℕ
+type_word arcs = word_or_dotted (attribute_type arcs) arcs
+
+-- a string's text, or the octets of another element after `#`
+abbrev pub value_text : AttributeValue → List ℕ
+value_text (values.DirectoryString string) = text_of string
+value_text (values.Ia5String string) = string.text
+value_text (values.Other other) = codes "#" ++ hexadecimal (encoding other.element)
+
+abbrev pub attribute_text : AttributeTypeAndValue → List ℕ
+attribute_text attribute = type_word attribute.ty.formed.arcs ++ codes "=" ++ value_text attribute.value
+
+abbrev pub comma : ℕ
+comma = 44
+
+abbrev pub plus : ℕ
+plus = 43
+
+-- the members with `+` between
+abbrev pub set_text : List AttributeTypeAndValue → List ℕ
+set_text members = join_with_byte plus (map attribute_text members)
+
+-- the sets with `,` between
+abbrev pub name_text : List (List AttributeTypeAndValue) → List ℕ
+name_text sets = join_with_byte comma (map set_text sets)

@@ -1,0 +1,28 @@
+//! The attribute type emailAddress (RFC 2985 5.2.1).
+
+ghost use Rattle.std.specs.Prelude.{◌≡◌, ◌↔◌, IfOk, IsTrue};
+ghost use Rattle.x509_types.specs.NameText.{email_address};
+
+use crate::leaf::is_same;
+use asn1_types::ObjectIdentifier;
+use asn1_types::oids::EMAIL_ADDRESS;
+use der_core::DerError;
+use std::alloc::{AllocError, Global};
+
+/// The identifier of emailAddress.
+pub fn email_address(alloc: Global) -> Result<ObjectIdentifier, AllocError>
+    ensures { IfOk result (λ identifier. identifier.formed.arcs ≡ email_address) }
+{
+    match ObjectIdentifier::from_content(alloc, EMAIL_ADDRESS) {
+        Ok(identifier) => Ok(identifier),
+        Err(DerError::Shape) => unreachable!(),
+        Err(_) => Err(AllocError),
+    }
+}
+
+/// Whether the identifier is emailAddress.
+pub fn is_email_address(ty: &ObjectIdentifier) -> bool
+    ensures { IsTrue result ↔ (ty.now.formed.arcs ≡ email_address) }
+{
+    is_same(ty.as_bytes(), EMAIL_ADDRESS)
+}

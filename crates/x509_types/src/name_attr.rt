@@ -1,0 +1,106 @@
+//! Attribute types of names.
+
+ghost use Rattle.std.specs.Prelude.{◌≡◌, ◌↔◌, IsTrue, [], ◌∷◌, IfOk, IfSome, Some};
+ghost use Rattle.asn1_types.specs.ObjectIdentifier.{contents_of};
+ghost use Rattle.x509_types.specs.declared.name_attr.NameAttr.{NameAttr};
+ghost use Rattle.x509_types.specs.NameAttr.{attribute_arc, attribute_arcs, attribute_word};
+
+use crate::leaf::is_same;
+use asn1_types::{ObjectIdentifier, oids};
+use der_core::DerError;
+use std::alloc::{AllocError, Global};
+
+/// An attribute type that names are made of, under id-at of X.520 (RFC 5280 A.1).
+#[derive(Clone, Copy, PartialEq, Eq, Debug)]
+pub enum NameAttr {
+    CommonName,
+    Surname,
+    SerialNumber,
+    CountryName,
+    LocalityName,
+    StateOrProvinceName,
+    StreetName,
+    OrganizationName,
+    OrganizationalUnitName,
+    GivenName,
+}
+
+impl NameAttr {
+    /// Every attribute type.
+    const ALL: [NameAttr; 10] = [
+        NameAttr::CommonName,
+        NameAttr::Surname,
+        NameAttr::SerialNumber,
+        NameAttr::CountryName,
+        NameAttr::LocalityName,
+        NameAttr::StateOrProvinceName,
+        NameAttr::StreetName,
+        NameAttr::OrganizationName,
+        NameAttr::OrganizationalUnitName,
+        NameAttr::GivenName,
+    ];
+
+    /// The attribute type that an identifier names, by its contents octets.
+    pub fn from_oid(contents: &[u8]) -> Option<NameAttr>
+        ensures named { (attr : NameAttr) → contents_of (attribute_arcs attr) ≡ contents.now → result ≡ Some attr }
+        ensures name { IfSome result (λ attr. contents_of (attribute_arcs attr) ≡ contents.now) }
+    {
+        for attr in NameAttr::ALL {
+            if attr.oid_of() == contents {
+                return Some(attr);
+            }
+        }
+        None
+    }
+
+    /// Whether the identifier is that of the attribute type.
+    pub fn names(self, ty: &ObjectIdentifier) -> bool
+        ensures { IsTrue result ↔ (ty.now.formed.arcs ≡ attribute_arcs self) }
+    {
+        is_same(ty.as_bytes(), self.oid_of())
+    }
+
+    /// The contents octets of the identifier.
+    pub fn oid_of(self) -> &'static [u8]
+        ensures { result.now ≡ contents_of (attribute_arcs self) }
+    {
+        self.row().0
+    }
+
+    /// The word that is printed for the type.
+    pub fn word(self) -> &'static str
+        ensures { result.now ≡ attribute_word self }
+    {
+        self.row().1
+    }
+
+    /// The contents octets of the identifier, and the word.
+    fn row(self) -> (&'static [u8], &'static str)
+        ensures octets { result.0.now ≡ 0x55 ∷ 0x04 ∷ attribute_arc self ∷ [] }
+        ensures word { result.1.now ≡ attribute_word self }
+    {
+        match self {
+            NameAttr::CommonName => (oids::AT_COMMON_NAME, "CN"),
+            NameAttr::Surname => (oids::AT_SURNAME, "SN"),
+            NameAttr::SerialNumber => (oids::AT_SERIAL_NUMBER, "SERIALNUMBER"),
+            NameAttr::CountryName => (oids::AT_COUNTRY_NAME, "C"),
+            NameAttr::LocalityName => (oids::AT_LOCALITY_NAME, "L"),
+            NameAttr::StateOrProvinceName => (oids::AT_STATE_OR_PROVINCE_NAME, "ST"),
+            NameAttr::StreetName => (oids::AT_STREET_ADDRESS, "STREET"),
+            NameAttr::OrganizationName => (oids::AT_ORGANIZATION_NAME, "O"),
+            NameAttr::OrganizationalUnitName => (oids::AT_ORGANIZATIONAL_UNIT_NAME, "OU"),
+            NameAttr::GivenName => (oids::AT_GIVEN_NAME, "GN"),
+        }
+    }
+
+    /// The identifier.
+    pub fn to_oid(self, alloc: Global) -> Result<ObjectIdentifier, AllocError>
+        ensures { IfOk result (λ identifier. identifier.formed.arcs ≡ attribute_arcs self) }
+    {
+        match ObjectIdentifier::from_content(alloc, self.oid_of()) {
+            Ok(identifier) => Ok(identifier),
+            Err(DerError::Shape) => unreachable!(),
+            Err(_) => Err(AllocError),
+        }
+    }
+}
