@@ -187,6 +187,7 @@ fn unlike_keys(rt: HostRuntime) -> Result<(), Fail> {
             "{row}"
         );
     }
+    each_element_spells_one_value();
     Ok(())
 }
 
