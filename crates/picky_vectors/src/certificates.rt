@@ -25,14 +25,14 @@ fn names_are_read_and_written(rt: HostRuntime) -> Result<(), Fail> {
 /// A label, the octets of a name, its text.
 fn is_name(rt: &impl Abort, alloc: Global, row: &str) -> Result<(), Fail> {
     let mut fields = row.split('|');
-    let label = fields.next().unwrap_or_default();
+    let _label = fields.next();
     let spelled = octets(alloc, &[fields.next().unwrap_or_default()])?;
     let name = Name::read(alloc, &read_exact(alloc, &spelled)?)?;
     let written = write(alloc, &name.write(alloc)?)?;
-    assert!(rt; written == spelled, "{label}");
+    assert!(rt; written == spelled, "{row}");
     let text = octets(alloc, &[fields.next().unwrap_or_default()])?;
     let printed = format!(in alloc; "{}", DirectoryName::from(name))?;
-    assert!(rt; printed.as_bytes() == text.as_slice(), "{label}");
+    assert!(rt; printed.as_bytes() == text.as_slice(), "{row}");
     Ok(())
 }
 
@@ -51,22 +51,22 @@ fn keys_are_read_and_written(rt: HostRuntime) -> Result<(), Fail> {
 /// and exponent.
 fn is_key(rt: &impl Abort, alloc: Global, row: &str) -> Result<(), Fail> {
     let mut fields = row.split('|');
-    let label = fields.next().unwrap_or_default();
+    let _label = fields.next();
     let kind = fields.next().unwrap_or_default();
     let spelled = octets(alloc, &[fields.next().unwrap_or_default()])?;
     let info = SubjectPublicKeyInfo::read(alloc, &read_exact(alloc, &spelled)?)?;
     let written = write(alloc, &info.write(alloc)?)?;
-    assert!(rt; written == spelled, "{label}");
+    assert!(rt; written == spelled, "{row}");
     match &info.subject_public_key {
         SubjectKey::Rsa(key) => {
-            assert_eq!(rt; kind, "rsa", "{label}");
+            assert_eq!(rt; kind, "rsa", "{row}");
             for integer in [&key.modulus, &key.public_exponent] {
-                is_number(rt, alloc, integer, fields.next().unwrap_or_default(), label)?;
+                is_number(rt, alloc, integer, fields.next().unwrap_or_default())?;
             }
         }
-        SubjectKey::Ec(_) => assert_eq!(rt; kind, "ec", "{label}"),
-        SubjectKey::Ed(_) => assert_eq!(rt; kind, "ed", "{label}"),
-        SubjectKey::Mldsa(_) => assert_eq!(rt; kind, "mldsa", "{label}"),
+        SubjectKey::Ec(_) => assert_eq!(rt; kind, "ec", "{row}"),
+        SubjectKey::Ed(_) => assert_eq!(rt; kind, "ed", "{row}"),
+        SubjectKey::Mldsa(_) => assert_eq!(rt; kind, "mldsa", "{row}"),
     }
     Ok(())
 }
@@ -76,12 +76,11 @@ fn is_number(
     alloc: Global,
     integer: &IntegerAsn1,
     digits: &str,
-    label: &str,
 ) -> Result<(), Fail> {
     let number = octets(alloc, &[digits])?;
     assert!(rt;
         integer.as_unsigned_bytes_be() == number.as_slice(),
-        "{label}"
+        "{row}"
     );
     Ok(())
 }
