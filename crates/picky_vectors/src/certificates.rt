@@ -80,7 +80,7 @@ fn is_number(
     let number = octets(alloc, &[digits])?;
     assert!(rt;
         integer.as_unsigned_bytes_be() == number.as_slice(),
-        "{row}"
+        "{digits}"
     );
     Ok(())
 }
