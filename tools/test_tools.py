@@ -400,7 +400,7 @@ class CertificatesByOpensslTest(unittest.TestCase):
         cases = REQUESTED[-3:] + AGREED[:1] + GENERATED[:1] + WRITTEN[:1]
         self.assertEqual(labels, [case.label for case in cases])
         self.assertEqual(names, [row for row in stored if row.label in labels])
-        self.assertEqual([row.label for row in keys], ["Ed25519 again", "Ed448", "X25519"])
+        self.assertEqual([row.label for row in keys], ["Ed448", "Ed448 again", "X25519"])
 
     def test_refusals(self):
         with self.assertRaises(OpensslError):

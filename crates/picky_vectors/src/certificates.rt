@@ -43,7 +43,7 @@ fn keys_are_read_and_written(rt: HostRuntime) -> Result<(), Fail> {
         is_key(&rt, rt.alloc(), row)?;
         rows = rows.saturating_add(1);
     }
-    assert_eq!(rt; rows, 20);
+    assert_eq!(rt; rows, 31);
     Ok(())
 }
 
