@@ -1,8 +1,6 @@
 -- The first fault of octets, seen from the elements around it.
 use Rattle.std.proofs.Common.{◌≡◌, ℕ, zero, suc, ◌+◌, ◌-◌, ◌<◌, ◌≤◌, List, [], ◌∷◌, ◌++◌, length, Result, Ok, Err, refl, sym, ap, subst, ◌∙◌, arith, zero-add, add-zero, add_assoc, inl, inr, ◌⊎◌}
 use Rattle.std.proofs.lemmas.List.{length-append}
-use Rattle.der_core.specs.declared.error.DerError.{DerError}
-use Rattle.der_core.specs.declared.error.DerError.TheVariants as errors
 use Rattle.der_core.specs.declared.fault.DerFault.{DerFault}
 use Rattle.der_core.specs.DerElement.{DerElement}
 use Rattle.der_core.specs.declared.fault.Malformed.{Malformed}
@@ -11,7 +9,7 @@ use Rattle.der_core.specs.Fault.{header_length, IsStart, Outermost, Within, Afte
 use Rattle.der_core.specs.InnerFault.{ElementFault, KidsFault, Here, Inside, First, Next}
 use Rattle.der_core.specs.Fronts.{ok_is, some_octets, fronts}
 use Rattle.der_core.specs.Head.{head_at, HasHead}
-use Rattle.der_core.specs.Reading.{HasElement, HasElements, IsFirst, RefusesFrom, RefusesMalformed}
+use Rattle.der_core.specs.Reading.{HasElement, HasElements, IsFirst, IsFaultFrom}
 use Rattle.der_core.proofs.Elements.{no_head, no_kids, no_first, rest_goes_on, first_stands}
 
 -- ---- there is no element where there is a fault
@@ -133,24 +131,20 @@ fault_of_kids (suc l) tag k octets contents rest fault head some bit kids =
     let same : suc l - 1 ≡ l = omega arith in
     Inside head bit (subst (λ (m : ℕ). KidsFault m contents k fault) same kids) refl
 
-pub refuses_in : (at at' : ℕ) (P Q : ℕ → DerFault → Type 0) (e : DerError) → ((k : ℕ) (fault : DerFault) → P k fault → (n : ℕ) × (at' + k ≡ at + n) × Q n fault) → RefusesFrom at' P e → RefusesFrom at Q e
-refuses_in at at' P Q errors.Memory f h = tt
-refuses_in at at' P Q (errors.Malformed m) f h = let q = f h.0 m.fault h.2 in (q.0, h.1 ∙ q.1, q.2)
-refuses_in at at' P Q errors.Shape f h = h
-refuses_in at at' P Q errors.TooDeep f h = h
-refuses_in at at' P Q errors.TooLong f h = h
+pub fault_in : (at at' : ℕ) (P Q : ℕ → DerFault → Type 0) (m : Malformed) → ((k : ℕ) (fault : DerFault) → P k fault → (n : ℕ) × (at' + k ≡ at + n) × Q n fault) → IsFaultFrom at' P m → IsFaultFrom at Q m
+fault_in at at' P Q m f h = let q = f h.0 m.fault h.2 in (q.0, h.1 ∙ q.1, q.2)
 
 pub head_lengths : {levels tag : ℕ} {octets contents rest : List ℕ} → HasHead levels octets tag contents rest → length octets ≡ header_length contents + length contents + length rest
 head_lengths {tag = tag} {contents = contents} {rest = rest} head = omega (arith, ap length head.parts, length-append (framed tag contents) rest, length-append (length_octets (length contents)) contents)
 
 -- what the refusal of a head is
-pub head_refused : (levels at : ℕ) (octets : List ℕ) (m : Malformed) → m.at ≡ at → head_at levels octets ≡ Err m.fault → RefusesFrom at (ElementFault levels octets) (errors.Malformed m)
+pub head_refused : (levels at : ℕ) (octets : List ℕ) (m : Malformed) → m.at ≡ at → head_at levels octets ≡ Err m.fault → IsFaultFrom at (ElementFault levels octets) m
 head_refused levels at octets m same fails = (0, same ∙ sym (add-zero at), Here fails)
 
-pub kids_refused : {levels tag : ℕ} {octets contents rest : List ℕ} (at : ℕ) (e : DerError) → head_at levels octets ≡ Ok (tag, contents, rest) → HasHead levels octets tag contents rest → form_bit tag ≡ 1 → RefusesFrom (at + (length octets - length rest - length contents)) (KidsFault (levels - 1) contents) e → RefusesFrom at (ElementFault levels octets) e
-kids_refused {levels} {tag} {octets} {contents} {rest} at e found head bit refused =
+pub kids_refused : {levels tag : ℕ} {octets contents rest : List ℕ} (at : ℕ) (m : Malformed) → head_at levels octets ≡ Ok (tag, contents, rest) → HasHead levels octets tag contents rest → form_bit tag ≡ 1 → IsFaultFrom (at + (length octets - length rest - length contents)) (KidsFault (levels - 1) contents) m → IsFaultFrom at (ElementFault levels octets) m
+kids_refused {levels} {tag} {octets} {contents} {rest} at m found head bit refused =
     let lengths = head_lengths head in
-    refuses_in at (at + (length octets - length rest - length contents)) (KidsFault (levels - 1) contents) (ElementFault levels octets) e
+    fault_in at (at + (length octets - length rest - length contents)) (KidsFault (levels - 1) contents) (ElementFault levels octets) m
     (λ k fault kids. (header_length contents + k, omega arith, fault_of_kids levels tag k octets contents rest fault found head.some bit kids)) refused
 
 -- ---- the answer of a reader of the first element
@@ -160,28 +154,28 @@ same_malformed m at fault p q =
     let first : m ≡ record { at = at; fault = m.fault } = ap (λ (a : ℕ). record { at = a; fault = m.fault }) p in
     first ∙ ap (λ (f : DerFault). record { at = at; fault = f }) q
 
-pub only_memory : (octets : List ℕ) (a : DerElement) (n : ℕ) (e : DerError) → IsFirst octets a n → RefusesFrom 0 (ElementFault 64 octets) e → e ≡ errors.Memory
-only_memory octets a n errors.Memory first refused = refl
-only_memory octets a n (errors.Malformed m) first refused = absurd (no_element refused.2 (first_stands octets a n first))
-only_memory octets a n errors.Shape first refused = absurd refused
-only_memory octets a n errors.TooDeep first refused = absurd refused
-only_memory octets a n errors.TooLong first refused = absurd refused
+pub refused_first : (at : ℕ) (octets : List ℕ) (m : Malformed) → IsFaultFrom at (ElementFault 64 octets) m → IsFaultFrom at (IsFirstFault octets) m
+refused_first at octets m refused = (refused.0, refused.1, first_fault octets refused.0 m.fault refused.2)
 
-pub refused_first : (octets : List ℕ) (e : DerError) → RefusesFrom 0 (ElementFault 64 octets) e → RefusesMalformed (IsFirstFault octets) e
-refused_first octets errors.Memory refused = tt
-refused_first octets (errors.Malformed m) refused = subst (λ (k : ℕ). IsFirstFault octets k m.fault) (sym (zero-add refused.0) ∙ sym refused.1) (first_fault octets refused.0 m.fault refused.2)
-refused_first octets errors.Shape refused = refused
-refused_first octets errors.TooDeep refused = refused
-refused_first octets errors.TooLong refused = refused
+-- a fault counted from the beginning is at its place
+pub from_beginning : (P : ℕ → DerFault → Type 0) (m : Malformed) → IsFaultFrom 0 P m → P m.at m.fault
+from_beginning P m there = subst (λ (k : ℕ). P k m.fault) (sym (zero-add there.0) ∙ sym there.1) there.2
 
-pub refused_as : (octets : List ℕ) (at : ℕ) (fault : DerFault) (e : DerError) → IsFirstFault octets at fault → RefusesFrom 0 (ElementFault 64 octets) e → (e ≡ errors.Malformed (record { at = at; fault = fault })) ⊎ (e ≡ errors.Memory)
-refused_as octets at fault errors.Memory first refused = inr refl
-refused_as octets at fault (errors.Malformed m) first refused =
-    let same = one_fault 64 refused.0 at octets m.fault fault refused.2 (outermost_fault octets at fault first) in
-    inl (ap errors.Malformed (same_malformed m at fault (refused.1 ∙ zero-add refused.0 ∙ same.0) same.1))
-refused_as octets at fault errors.Shape first refused = absurd refused
-refused_as octets at fault errors.TooDeep first refused = absurd refused
-refused_as octets at fault errors.TooLong first refused = absurd refused
+-- octets have one first fault
+pub first_fault_once : (octets : List ℕ) (p q : ℕ) (e f : DerFault) → IsFirstFault octets p e → IsFirstFault octets q f → (p ≡ q) × (e ≡ f)
+first_fault_once octets p q e f first second = one_fault 64 p q octets e f (outermost_fault octets p e first) (outermost_fault octets q f second)
+
+-- so a refusal with it is the one with any
+pub refused_as : (octets : List ℕ) (at : ℕ) (fault : DerFault) (m : Malformed) → IsFirstFault octets at fault → IsFirstFault octets m.at m.fault → m ≡ record { at = at; fault = fault }
+refused_as octets at fault m first refused =
+    let same = first_fault_once octets m.at at m.fault fault refused first in
+    same_malformed m at fault same.0 same.1
+
+-- a refusal that counts from a place on is the one with any first fault
+pub refused_from : (octets : List ℕ) (place k : ℕ) (fault : DerFault) (m : Malformed) → IsFirstFault octets k fault → IsFaultFrom place (IsFirstFault octets) m → m ≡ record { at = place + k; fault = fault }
+refused_from octets place k fault m first refused =
+    let same = first_fault_once octets refused.0 k m.fault fault refused.2 first in
+    same_malformed m (place + k) fault (refused.1 ∙ ap (λ (i : ℕ). place + i) same.0) same.1
 
 pub no_fault_where_read : (octets rest : List ℕ) (a : DerElement) (at : ℕ) (fault : DerFault) → IsDerWithin 64 a → octets ≡ encoding a ++ rest → IsFirstFault octets at fault → ⊥
 no_fault_where_read octets rest a at fault der parts first = no_element (outermost_fault octets at fault first) (a, rest, der, parts)

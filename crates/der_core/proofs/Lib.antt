@@ -5,5 +5,7 @@ pub mod Faults
 pub mod Exact
 pub mod Decided
 pub mod Nesting
-pub mod Kids
+pub mod Siblings
 pub mod Refusals
+pub mod InOctets
+pub mod Cursors

@@ -94,7 +94,7 @@ mutual
       let f = framed_fronts s t (encodings kids) (encodings kids') x y short.0 short'.0 e in
       (ap (λ n. Constructed n kids) f.0 ∙ ap (Constructed t) (same_kids kids kids' formed.2 formed'.2 short.1 short'.1 f.1), f.2)
 
-  same_kids : (ks ls : DerElements) → AreWellFormed ks → AreWellFormed ls → AreShort ks → AreShort ls → encodings ks ≡ encodings ls → ks ≡ ls
+  pub same_kids : (ks ls : DerElements) → AreWellFormed ks → AreWellFormed ls → AreShort ks → AreShort ls → encodings ks ≡ encodings ls → ks ≡ ls
   same_kids Nil Nil formed formed' short short' e = refl
   same_kids Nil (Cons b ls) formed formed' short short' e = absurd (omega (arith, some_octets b, length-append (encoding b) (encodings ls), ap length e))
   same_kids (Cons a ks) Nil formed formed' short short' e = absurd (omega (arith, some_octets a, length-append (encoding a) (encodings ks), ap length e))

@@ -39,7 +39,7 @@ mutual
   IsShort-prop (Primitive tag content) = le_prop
   IsShort-prop (Constructed tag kids) = ×_prop le_prop (AreShort-prop kids)
 
-  AreShort-prop : (elements : DerElements) → IsProp (AreShort elements)
+  pub AreShort-prop : (elements : DerElements) → IsProp (AreShort elements)
   AreShort-prop Nil = Unit-prop
   AreShort-prop (Cons kid kids) = ×_prop (IsShort-prop kid) (AreShort-prop kids)
 

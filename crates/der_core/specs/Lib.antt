@@ -10,3 +10,6 @@ pub mod InnerFault
 pub mod Reading
 pub mod Writing
 pub mod Kept
+pub mod Placed
+pub mod Cursor
+pub mod Facts

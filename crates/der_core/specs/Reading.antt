@@ -4,6 +4,7 @@ use Rattle.der_core.specs.declared.error.DerError.{DerError}
 use Rattle.der_core.specs.declared.error.DerError.TheVariants as errors
 use Rattle.der_core.specs.declared.fault.DerFault.{DerFault}
 use Rattle.der_core.specs.declared.fault.DerFault.TheVariants.{Trailing}
+use Rattle.der_core.specs.declared.fault.Malformed.{Malformed}
 use Rattle.der_core.specs.Fault.{IsFirstFault}
 use Rattle.der_core.specs.DerElement.{DerElement, DerElements}
 use Rattle.der_core.specs.Encoding.{encoding, encodings, AreWellFormed, deepest, AreShort, IsDerWithin, IsDer}
@@ -50,13 +51,9 @@ IsPrefixFree = (a b : DerElement) (x y : List ℕ) → IsDer a → IsDer b → e
 abbrev pub GivesUnlessMemory : {X : Type 0} → Result X DerError → X → Type 0
 GivesUnlessMemory result x = (result ≡ Ok x) ⊎ (result ≡ Err errors.Memory)
 
--- A reader refuses for want of memory, or with a fault at a place, counted from where its octets begin.
-abbrev pub RefusesFrom : ℕ → (ℕ → DerFault → Type 0) → DerError → Type 0
-RefusesFrom at Fault errors.Memory = Unit {0}
-RefusesFrom at Fault (errors.Malformed m) = (k : ℕ) × (m.at ≡ at + k) × Fault k m.fault
-RefusesFrom at Fault errors.Shape = ⊥
-RefusesFrom at Fault errors.TooDeep = ⊥
-RefusesFrom at Fault errors.TooLong = ⊥
+-- The fault is at a place, counted from where its octets begin.
+abbrev pub IsFaultFrom : ℕ → (ℕ → DerFault → Type 0) → Malformed → Type 0
+IsFaultFrom at Fault m = (k : ℕ) × (m.at ≡ at + k) × Fault k m.fault
 
 -- A reader refuses for want of memory, or with a fault at a place.
 abbrev pub RefusesMalformed : (ℕ → DerFault → Type 0) → DerError → Type 0
@@ -65,7 +62,3 @@ RefusesMalformed Fault (errors.Malformed m) = Fault m.at m.fault
 RefusesMalformed Fault errors.Shape = ⊥
 RefusesMalformed Fault errors.TooDeep = ⊥
 RefusesMalformed Fault errors.TooLong = ⊥
-
--- The answer is a fault at a place, unless memory runs out.
-abbrev pub FaultsUnlessMemory : {X : Type 0} → Result X DerError → ℕ → DerFault → Type 0
-FaultsUnlessMemory result at fault = (result ≡ Err (errors.Malformed (record { at = at; fault = fault }))) ⊎ (result ≡ Err errors.Memory)

@@ -20,8 +20,15 @@ impl Head<'_> {
     pub fn is_constructed(&self) -> bool
         ensures { IsTrue result ↔ (form_bit self.now.tag ≡ 1) }
     {
-        self.tag >> 5 & 1 == 1
+        is_constructed(self.tag)
     }
+}
+
+/// Whether an element of this tag is constructed (X.690 8.1.2.5).
+pub fn is_constructed(tag: u8) -> bool
+    ensures { IsTrue result ↔ (form_bit tag ≡ 1) }
+{
+    tag >> 5 & 1 == 1
 }
 
 /// The head of the element that octets at a place begin with, or the first test of it that fails.

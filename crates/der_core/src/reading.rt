@@ -1,19 +1,20 @@
 //! Octets as trees.
 
-ghost use Rattle.std.specs.Prelude.{◌≡◌, ◌≢◌, ℕ, ◌+◌, ◌^◌, ◌<◌, ◌++◌, length, MatchResult, IfOk, IfErr};
-ghost use Rattle.der_core.specs.DerElement.{DerElement, row};
-ghost use Rattle.der_core.specs.Encoding.{encoding, encodings, IsDerWithin, IsDer};
+ghost use Rattle.std.specs.Prelude.{◌≡◌, ℕ, length, Err, MatchResult, IfOk, IfErr};
+ghost use Rattle.der_core.specs.DerElement.{DerElement};
+ghost use Rattle.der_core.specs.Encoding.{encoding, IsDer};
 ghost use Rattle.der_core.specs.Fault.{IsFirstFault};
-ghost use Rattle.der_core.specs.Reading.{AreDerWithin, IsFirst, IsExactFault, GivesUnlessMemory, FaultsUnlessMemory, RefusesMalformed, RefusesFrom};
+ghost use Rattle.der_core.specs.Reading.{IsFirst, IsExactFault, GivesUnlessMemory, RefusesMalformed};
 ghost use Rattle.der_core.specs.declared.fault.DerFault.{DerFault};
-ghost use Rattle.der_core.specs.InnerFault.{ElementFault, KidsFault};
+ghost use Rattle.der_core.specs.declared.error.DerError.TheVariants as errors;
 
+use crate::elem::Elem;
 use crate::error::DerError;
-use crate::fault::{DerFault, Malformed};
-use crate::header::head_of;
+use crate::kids::Kids;
 use crate::octets::Octets;
-use crate::tree::{LEVELS, Tree, Trees};
-use std::alloc::Global;
+use crate::testing::{exact_of, first_of};
+use crate::tree::{Tree, Trees};
+use std::alloc::{AllocError, Global};
 
 /// The first element of the octets as a tree, and how many octets it takes.
 pub fn read_first(alloc: Global, bytes: &[u8]) -> Result<(Tree, usize), DerError>
@@ -23,11 +24,12 @@ pub fn read_first(alloc: Global, bytes: &[u8]) -> Result<(Tree, usize), DerError
     ensures only { (t : DerElement) (n : ℕ) → IsFirst bytes.now t n → GivesUnlessMemory result (t, n) }
     // It refuses for want of memory, or with the first fault from left to right.
     ensures refused { IfErr result (RefusesMalformed (IsFirstFault bytes.now)) }
-    // Octets with a fault are refused with it, unless memory runs out.
-    ensures faulty { (at : ℕ) (fault : DerFault) → IsFirstFault bytes.now at fault → FaultsUnlessMemory result at fault }
+    // Octets with a fault are refused with it, whatever memory there is.
+    ensures faulty { (at : ℕ) (fault : DerFault) → IsFirstFault bytes.now at fault → result ≡ Err (errors.Malformed (record { at = at; fault = fault })) }
 {
-    let (tree, rest) = tree_of(alloc, bytes, 0, LEVELS)?;
-    Ok((tree, bytes.len() - rest.len()))
+    let elem = first_of(bytes)?;
+    let tree = tree_of(alloc, elem)?;
+    Ok((tree, elem.whole.len()))
 }
 
 /// The element that the octets are, as a tree.
@@ -38,52 +40,32 @@ pub fn read_exact(alloc: Global, bytes: &[u8]) -> Result<Tree, DerError>
     ensures only { (t : DerElement) → IsDer t → bytes.now ≡ encoding t → GivesUnlessMemory result t }
     // It refuses for want of memory, with the first fault, or at the first octet after the element.
     ensures refused { IfErr result (RefusesMalformed (IsExactFault bytes.now)) }
-    // Octets with a fault, or with more of them than the element, are refused so, unless memory runs out.
-    ensures faulty { (at : ℕ) (fault : DerFault) → IsExactFault bytes.now at fault → FaultsUnlessMemory result at fault }
+    // Octets with a fault, or with more of them than the element, are refused so, whatever memory there is.
+    ensures faulty { (at : ℕ) (fault : DerFault) → IsExactFault bytes.now at fault → result ≡ Err (errors.Malformed (record { at = at; fault = fault })) }
 {
-    let (tree, taken) = read_first(alloc, bytes)?;
-    if taken < bytes.len() {
-        return Err(DerError::Malformed(Malformed {
-            at: taken,
-            fault: DerFault::Trailing,
-        }));
-    }
-    Ok(tree)
+    let elem = exact_of(bytes)?;
+    Ok(tree_of(alloc, elem)?)
 }
 
-/// The element that octets at a place begin with, of at most `levels` levels, and the octets after it.
-#[cycle(reading)]
-fn tree_of(alloc: Global, octets: &[u8], at: usize, levels: u8) -> Result<(Tree, &[u8]), DerError>
-    requires { at + length octets.now < 2 ^ 64 }
-    ensures { MatchResult result
-        (λ x. IsDerWithin levels x.0 × (octets.now ≡ encoding x.0 ++ x.1.now))
-        (RefusesFrom at (ElementFault levels octets.now)) }
+/// An element as a tree.
+#[cycle(building)]
+pub(crate) fn tree_of(alloc: Global, elem: Elem<'_>) -> Result<Tree, AllocError>
+    ensures { IfOk result (λ tree. tree ≡ elem.entry.is.0) }
 {
-    let head = head_of(octets, at, levels)?;
-    if head.is_constructed() {
-        let inner = at + (octets.len() - head.rest.len() - head.contents.len());
-        let kids = trees_of(alloc, head.contents, inner, levels - 1)?;
-        Ok((Tree::branch(head.tag, kids), head.rest))
-    } else {
-        let content = Octets::from_slice(alloc, head.contents)?;
-        Ok((Tree::leaf(head.tag, content), head.rest))
+    match Kids::within(elem) {
+        Some(kids) => Ok(Tree::branch(elem.tag, trees_of(alloc, kids)?)),
+        None => Ok(Tree::leaf(elem.tag, Octets::from_slice(alloc, elem.content)?)),
     }
 }
 
-/// The elements that octets at a place are, each of at most `levels` levels.
-#[cycle(reading)]
-fn trees_of(alloc: Global, octets: &[u8], at: usize, levels: u8) -> Result<Trees, DerError>
-    requires { at + length octets.now < 2 ^ 64 }
-    ensures { MatchResult result
-        (λ kids. AreDerWithin levels (row kids) × (octets.now ≡ encodings (row kids)))
-        (RefusesFrom at (KidsFault levels octets.now)) }
+/// Elements as trees.
+#[cycle(building)]
+fn trees_of(alloc: Global, mut kids: Kids<'_>) -> Result<Trees, AllocError>
+    ensures { IfOk result (λ trees. trees ≡ kids.entry.are.0) }
 {
-    let mut kids = Trees::new(alloc);
-    let mut rest = octets;
-    while !rest.is_empty() {
-        let (kid, after) = tree_of(alloc, rest, at + (octets.len() - rest.len()), levels)?;
-        kids.push(kid)?;
-        rest = after;
+    let mut trees = Trees::new(alloc);
+    while let Some(kid) = kids.next() {
+        trees.push(tree_of(alloc, kid)?)?;
     }
-    Ok(kids)
+    Ok(trees)
 }

@@ -1,29 +1,27 @@
-use Rattle.std.proofs.Common.{◌-◌, length, Err, ap, inl, inr}
+use Rattle.std.proofs.Common.{Err, ap, ◌∙◌, inl, inr}
 use Rattle.std.proofs.lemmas.Result.{err_from_is_err_and}
-use Rattle.der_core.proofs.Elements.{first_read, first_once}
-use Rattle.der_core.proofs.Faults.{only_memory, refused_first, refused_as, no_fault_where_read}
+use Rattle.der_core.specs.declared.error.DerError.TheVariants as errors
+use Rattle.der_core.proofs.Elements.{first_once}
+use Rattle.der_core.proofs.Exact.{no_fault_where_first}
+use Rattle.der_core.proofs.Faults.{refused_as}
 use Rattle.der_core.proofs.reading.read_first.Goals as goal
 
-pub returns-in_err-tree-clause-only : goal.returns-in_err-tree-clause-only
-returns-in_err-tree-clause-only c = λ a n first.
-    let p = err_from_is_err_and c.from_residual.result c.from_residual.ensures.1 in
-    inr (rw (p.1, p.2) (ap Err (only_memory c.args.bytes.now a n c.in_err-tree.field-0.0 first c.in_err-tree.ensures)))
+pub returns-in_err-elem-clause-only : goal.returns-in_err-elem-clause-only
+returns-in_err-elem-clause-only c = λ a n first. absurd (no_fault_where_first c.args.bytes.now a n _ _ first c.in_err-elem.ensures)
 
-pub returns-in_err-tree-clause-refused : goal.returns-in_err-tree-clause-refused
-returns-in_err-tree-clause-refused c =
+pub returns-in_err-elem-clause-faulty : goal.returns-in_err-elem-clause-faulty
+returns-in_err-elem-clause-faulty c = λ at fault first.
     let p = err_from_is_err_and c.from_residual.result c.from_residual.ensures.1 in
-    rw (p.1, p.2) (refused_first c.args.bytes.now c.in_err-tree.field-0.0 c.in_err-tree.ensures)
+    rw (p.1, p.2) (ap Err (ap errors.Malformed (refused_as c.args.bytes.now at fault c.in_err-elem.field-0.0 first c.in_err-elem.ensures)))
 
 pub returns-in_err-tree-clause-faulty : goal.returns-in_err-tree-clause-faulty
-returns-in_err-tree-clause-faulty c = λ at fault first.
-    let p = err_from_is_err_and c.from_residual.result c.from_residual.ensures.1 in
-    rw (p.1, p.2) (elim (refused_as c.args.bytes.now at fault c.in_err-tree.field-0.0 first c.in_err-tree.ensures) [ inl e ↦ inl (ap Err e) | inr e ↦ inr (ap Err e) ])
+returns-in_err-tree-clause-faulty c = λ at fault first. absurd (no_fault_where_first c.args.bytes.now _ _ at fault c.in_ok-elem.ensures first)
 
 pub returns-clause-only : goal.returns-clause-only
 returns-clause-only c = λ a n first.
-    let read = first_read c.args.bytes.now c.in_ok-tree.rest.now c.in_ok-tree.tree c.in_ok-tree.ensures.0 c.in_ok-tree.ensures.1 in
-    let same = first_once c.args.bytes.now c.in_ok-tree.tree a (length c.args.bytes.now - length c.in_ok-tree.rest.now) n read first in
-    inl (rw (same.0, same.1))
+    let same = first_once c.args.bytes.now _ a _ n c.in_ok-elem.ensures first in
+    let tree = c.in_ok-tree.ensures ∙ same.0 in
+    inl (rw (tree, same.1))
 
 pub returns-clause-faulty : goal.returns-clause-faulty
-returns-clause-faulty c = λ at fault first. absurd (no_fault_where_read c.args.bytes.now c.in_ok-tree.rest.now c.in_ok-tree.tree at fault c.in_ok-tree.ensures.0 c.in_ok-tree.ensures.1 first)
+returns-clause-faulty c = λ at fault first. absurd (no_fault_where_first c.args.bytes.now _ _ at fault c.in_ok-elem.ensures first)

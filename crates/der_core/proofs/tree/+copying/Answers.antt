@@ -1,6 +1,6 @@
 use Rattle.std.proofs.Common.{ap, arith}
 use Rattle.der_core.specs.DerElement.{element_count}
-use Rattle.der_core.proofs.Kids.{count-kid}
+use Rattle.der_core.proofs.Siblings.{count-kid}
 use Rattle.der_core.proofs.tree.+copying.Goals as goal
 
 pub copies_of-copy_of-requires : goal.copies_of-copy_of-requires

@@ -2,7 +2,7 @@ use Rattle.std.proofs.Common.{◌-◌, subst, sym, ap, arith}
 use Rattle.std.proofs.lemmas.Result.{err_from_is_err_and}
 use Rattle.der_core.specs.DerElement.{element_count, row}
 use Rattle.der_core.specs.Encoding.{IsShort, AreShort}
-use Rattle.der_core.proofs.Kids.{count-kid, IsShort-kid}
+use Rattle.der_core.proofs.Siblings.{count-kid, IsShort-kid}
 use Rattle.der_core.proofs.Refusals.{RefusesLong-whole}
 use Rattle.der_core.proofs.writing.+put.Goals as goal
 

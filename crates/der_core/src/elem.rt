@@ -1,0 +1,13 @@
+//! Elements where their octets lie.
+
+ghost use Rattle.der_core.specs.Placed.{HasElem, HasElem-prop};
+
+/// An element in bounds where its octets lie: its identifier octet, all of its octets, and its
+/// contents octets (X.690 8.1.1).
+#[derive(Clone, Copy)]
+pub struct Elem<'a> {
+    pub tag: u8,
+    pub whole: &'a [u8],
+    pub content: &'a [u8],
+    pub ghost is: { HasElem whole.now tag content.now } by { HasElem-prop whole.now tag content.now },
+}

@@ -1,0 +1,89 @@
+//! Octets tested for elements where they lie, without memory.
+
+ghost use Rattle.std.specs.Prelude.{◌≡◌, ◌+◌, ◌^◌, ◌<◌, ◌++◌, length, MatchResult};
+ghost use Rattle.der_core.specs.DerElement.{DerElement};
+ghost use Rattle.der_core.specs.Encoding.{encoding, IsDer, IsDerWithin};
+ghost use Rattle.der_core.specs.Fault.{IsFirstFault};
+ghost use Rattle.der_core.specs.InnerFault.{ElementFault, KidsFault};
+ghost use Rattle.der_core.specs.Reading.{HasElements, IsFirst, IsExactFault, IsFaultFrom};
+
+use crate::elem::Elem;
+use crate::fault::{DerFault, Malformed};
+use crate::header::head_of;
+use crate::kids::Kids;
+use crate::tree::LEVELS;
+
+/// The element that octets begin with, or their first fault.
+pub(crate) fn first_of(bytes: &[u8]) -> Result<Elem<'_>, Malformed>
+    ensures { MatchResult result
+        (λ elem. IsFirst bytes.now elem.is.0 (length elem.whole.now))
+        (λ m. IsFirstFault bytes.now m.at m.fault) }
+{
+    first_from(bytes, 0)
+}
+
+/// The element that octets at a place begin with, or their first fault.
+pub(crate) fn first_from(bytes: &[u8], at: usize) -> Result<Elem<'_>, Malformed>
+    requires { at + length bytes.now < 2 ^ 64 }
+    ensures { MatchResult result
+        (λ elem. IsFirst bytes.now elem.is.0 (length elem.whole.now))
+        (IsFaultFrom at (IsFirstFault bytes.now)) }
+{
+    let rest = after_element(bytes, at, LEVELS)?;
+    let (whole, _) = bytes.split_at(bytes.len() - rest.len());
+    let mut one = Kids { rest: whole };
+    match one.next() {
+        Some(elem) => Ok(elem),
+        None => unreachable!(),
+    }
+}
+
+/// The element that octets are, all of them; else their first fault, or octets after the element.
+pub(crate) fn exact_of(bytes: &[u8]) -> Result<Elem<'_>, Malformed>
+    ensures { MatchResult result
+        (λ elem. bytes.now ≡ encoding elem.is.0)
+        (λ m. IsExactFault bytes.now m.at m.fault) }
+{
+    let elem = first_of(bytes)?;
+    if elem.whole.len() < bytes.len() {
+        return Err(Malformed {
+            at: elem.whole.len(),
+            fault: DerFault::Trailing,
+        });
+    }
+    Ok(elem)
+}
+
+/// The octets after the element that octets at a place begin with, of at most `levels` levels.
+#[cycle(testing)]
+fn after_element(octets: &[u8], at: usize, levels: u8) -> Result<&[u8], Malformed>
+    requires { at + length octets.now < 2 ^ 64 }
+    ensures { MatchResult result
+        (λ rest. (t : DerElement) × IsDerWithin levels t × (octets.now ≡ encoding t ++ rest.now))
+        (IsFaultFrom at (ElementFault levels octets.now)) }
+{
+    let head = head_of(octets, at, levels)?;
+    if head.is_constructed() {
+        let inner = at + (octets.len() - head.rest.len() - head.contents.len());
+        test_elements(head.contents, inner, levels - 1)?;
+        Ok(head.rest)
+    } else {
+        Ok(head.rest)
+    }
+}
+
+/// Tests that octets at a place are elements, each of at most `levels` levels.
+#[cycle(testing)]
+fn test_elements(octets: &[u8], at: usize, levels: u8) -> Result<(), Malformed>
+    requires { at + length octets.now < 2 ^ 64 }
+    ensures { MatchResult result
+        (λ _. HasElements levels octets.now)
+        (IsFaultFrom at (KidsFault levels octets.now)) }
+{
+    let mut rest = octets;
+    while !rest.is_empty() {
+        let after = after_element(rest, at + (octets.len() - rest.len()), levels)?;
+        rest = after;
+    }
+    Ok(())
+}
