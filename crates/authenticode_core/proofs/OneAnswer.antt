@@ -4,7 +4,7 @@ use Rattle.std.specs.Prelude.{replicate}
 use Rattle.std.proofs.lemmas.List.{drop_at, take-append-drop}
 use Rattle.der_core.specs.DerElement.{DerElement}
 use Rattle.der_core.specs.Encoding.{encoding, IsPaddedEncoding}
-use Rattle.der_core.specs.Fronts.{fronts}
+use Rattle.der_core.specs.Facts.Fronts.{fronts}
 use Rattle.der_core.specs.Fault.{IsFirstFault}
 use Rattle.der_core.specs.Reading.{IsFirst, HasNoFirst}
 use Rattle.der_core.specs.declared.fault.DerFault.{DerFault}

@@ -3,7 +3,7 @@ use Rattle.std.proofs.Common.{◌≡◌, ℕ, List, [], ◌∷◌, get_or, Ok, r
 use Rattle.std.specs.Prelude.{replicate}
 use Rattle.der_core.specs.DerElement.{DerElement, Primitive, Constructed, listed}
 use Rattle.der_core.specs.Encoding.{IsPaddedEncoding}
-use Rattle.der_core.specs.Fronts.{fronts}
+use Rattle.der_core.specs.Facts.Fronts.{fronts}
 use Rattle.wincert_core.specs.Refusal.{certificate_in}
 use Rattle.authenticode_core.specs.PlainForm.{TbsParts, CertificateParts, SignerParts, SignatureParts, IsPlainForm, signed_content}
 

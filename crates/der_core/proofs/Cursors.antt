@@ -3,8 +3,9 @@ use Rattle.std.proofs.Common.{◌≡◌, ℕ, ◌+◌, ◌<◌, ◌≤◌, List,
 use Rattle.std.proofs.lemmas.List.{length-append, take_at, length-take}
 use Rattle.der_core.specs.DerElement.{DerElement, DerElements, Nil, Cons, row, listed, row-listed}
 use Rattle.der_core.specs.Encoding.{encoding, encodings, nesting, IsDer, AreWellFormed, AreShort}
-use Rattle.der_core.specs.Fronts.{some_octets, fronts, same_kids}
+use Rattle.der_core.specs.Facts.Fronts.{some_octets, fronts, same_kids}
 use Rattle.der_core.specs.Placed.{AreDer, IsElem, AreElems, HasElems}
+use Rattle.der_core.specs.Facts.Placed.{all_formed, all_short}
 use Rattle.der_core.specs.Reading.{AreDerWithin, IsFirst}
 use Rattle.der_core.specs.Cursor.{BeginsAt, AreInner, WereTested}
 use Rattle.der_core.proofs.Elements.{first_parts}
@@ -26,14 +27,6 @@ tested_elements level octets tested inner =
     let t = tested inner in
     (listed t.0, (each_der t.0 t.1.0, t.1.1 ∙ ap encodings (sym (row-listed t.0))))
 
-formed_all : (kids : List DerElement) → AreDer kids → AreWellFormed (row kids)
-formed_all [] der = tt
-formed_all (kid ∷ kids) der = (der.0.formed, formed_all kids der.1)
-
-short_all : (kids : List DerElement) → AreDer kids → AreShort (row kids)
-short_all [] der = tt
-short_all (kid ∷ kids) der = (der.0.short, short_all kids der.1)
-
 deep_first : (elements : DerElements) (element : DerElement) (others : DerElements) → AreDerWithin 63 elements → elements ≡ Cons element others → nesting element ≤ 63
 deep_first Nil element others der are = absurd cc
 deep_first (Cons kid kids) element others der are = let same : kid ≡ element = cc in omega (arith, der.nested, ap nesting same)
@@ -43,7 +36,7 @@ pub begins_there : (level : ℕ) (octets whole : List ℕ) (tag : ℕ) (content 
     → 1 < level → level ≤ 2 → WereTested level octets → elements ≡ element ∷ others → BeginsAt level octets element (length whole)
 begins_there level octets whole tag content elements element others k e inner low tested are =
     let t = tested inner in
-    let same : row elements ≡ t.0 = same_kids (row elements) t.0 (formed_all elements k.0) t.1.0.formed (short_all elements k.0) t.1.0.short (sym k.1 ∙ t.1.1) in
+    let same : row elements ≡ t.0 = same_kids (row elements) t.0 (all_formed elements k.0) t.1.0.formed (all_short elements k.0) t.1.0.short (sym k.1 ∙ t.1.1) in
     let deep = deep_first t.0 element (row others) t.1.0 (sym same ∙ ap row are) in
     let parts : octets ≡ encoding element ++ encodings (row others) = k.1 ∙ ap (λ es. encodings (row es)) are in
     record {

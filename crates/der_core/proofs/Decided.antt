@@ -6,9 +6,9 @@ use Rattle.der_core.specs.declared.fault.DerFault.{DerFault}
 use Rattle.der_core.specs.DerElement.{Primitive, Constructed, Nil, Cons}
 use Rattle.der_core.specs.Encoding.{length_octets, encoding, form_bit, framed}
 use Rattle.der_core.specs.Fault.{header_length, IsFirstFault}
-use Rattle.der_core.specs.Fronts.{some_octets}
+use Rattle.der_core.specs.Facts.Fronts.{some_octets}
 use Rattle.der_core.specs.Head.{IsOctets, head_at, HasHead}
-use Rattle.der_core.specs.InnerFault.{ElementFault, KidsFault, Here, Inside, First, Next}
+use Rattle.der_core.specs.Facts.InnerFault.{ElementFault, KidsFault, Here, Inside, First, Next}
 use Rattle.der_core.specs.Reading.{AreDerWithin, HasElement, HasElements, HasNoFirst}
 use Rattle.der_core.proofs.Lengths.{IsOctets-front}
 use Rattle.der_core.proofs.Heads.{head_taken}

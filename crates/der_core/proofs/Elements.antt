@@ -4,7 +4,7 @@ use Rattle.std.proofs.lemmas.List.{append-nil, length-append, take_at, take-appe
 use Rattle.der_core.specs.declared.fault.DerFault.{DerFault}
 use Rattle.der_core.specs.DerElement.{DerElement, Primitive, Constructed, DerElements, Nil, Cons, row, tag_of}
 use Rattle.der_core.specs.Encoding.{encoding, encodings, form_bit, IsDerWithin}
-use Rattle.der_core.specs.Fronts.{ok_is, some_octets, fronts}
+use Rattle.der_core.specs.Facts.Fronts.{ok_is, some_octets, fronts}
 use Rattle.der_core.specs.Head.{head_at, HasHead}
 use Rattle.der_core.specs.Reading.{AreDerWithin, HasElement, HasElements, IsFirst}
 use Rattle.der_core.proofs.Heads.{contents_of, head_again}

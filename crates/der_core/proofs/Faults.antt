@@ -6,8 +6,8 @@ use Rattle.der_core.specs.DerElement.{DerElement}
 use Rattle.der_core.specs.declared.fault.Malformed.{Malformed}
 use Rattle.der_core.specs.Encoding.{length_octets, framed, encoding, form_bit, IsDerWithin}
 use Rattle.der_core.specs.Fault.{header_length, IsStart, Outermost, Within, After, IsFirstFault}
-use Rattle.der_core.specs.InnerFault.{ElementFault, KidsFault, Here, Inside, First, Next}
-use Rattle.der_core.specs.Fronts.{ok_is, some_octets, fronts}
+use Rattle.der_core.specs.Facts.InnerFault.{ElementFault, KidsFault, Here, Inside, First, Next}
+use Rattle.der_core.specs.Facts.Fronts.{ok_is, some_octets, fronts}
 use Rattle.der_core.specs.Head.{head_at, HasHead}
 use Rattle.der_core.specs.Reading.{HasElement, HasElements, IsFirst, IsFaultFrom}
 use Rattle.der_core.proofs.Elements.{no_head, no_kids, no_first, rest_goes_on, first_stands}

@@ -6,7 +6,7 @@ use Rattle.der_core.specs.declared.fault.DerFault.{DerFault}
 use Rattle.der_core.specs.declared.fault.DerFault.TheVariants.{ReservedTag, HighTag, TooDeep}
 use Rattle.der_core.specs.DerElement.{DerElement, Primitive, Constructed, tag_of}
 use Rattle.der_core.specs.Encoding.{length_octets, framed, encoding, encodings, IsTag, IsDerWithin}
-use Rattle.der_core.specs.Fronts.{ok_is, length_again}
+use Rattle.der_core.specs.Facts.Fronts.{ok_is, length_again}
 use Rattle.der_core.specs.Head.{IsOctets, ◌>>=◌, past_bound, length_at, contents_at, head_at, HasHead}
 use Rattle.der_core.proofs.Lengths.{bind_ok, guard_ok, HasLength, length_taken}
 

@@ -4,10 +4,12 @@ use Rattle.std.proofs.lemmas.List.{append-nil, length-append, take_at}
 use Rattle.der_core.specs.declared.fault.DerFault.{DerFault}
 use Rattle.der_core.specs.DerElement.{DerElement, Primitive, Constructed, DerElements, Nil, Cons, row, listed, row-listed, listed-row, tag_of, kids_of}
 use Rattle.der_core.specs.Encoding.{encoding, encodings, form_bit, IsDer, IsDerWithin}
-use Rattle.der_core.specs.Fronts.{ok_is, some_octets, fronts}
+use Rattle.der_core.specs.Facts.Fronts.{ok_is, some_octets, fronts}
 use Rattle.der_core.specs.Reading.{HasElements, AreDerWithin, IsFirst}
 use Rattle.der_core.specs.Head.{head_at, HasHead}
-use Rattle.der_core.specs.Placed.{contents_octets, AreDer, IsElem, HasElem, AreElems, HasElems, HasElem-prop, HasElems-prop, same_elements}
+use Rattle.der_core.specs.Placed.{contents_octets, AreDer, IsElem, HasElem, AreElems, HasElems}
+use Rattle.der_core.specs.Facts.Placed.{HasElem-prop, HasElems-prop, same_elements}
+use Rattle.der_core.specs.Kept.{IsKept, Kept}
 use Rattle.der_core.proofs.Heads.{contents_of, head_again}
 
 contents_same : (a : DerElement) → contents_of a ≡ contents_octets a
@@ -154,3 +156,16 @@ not_none octets rest front a elements k parts is none =
     let many : length (encoding a) ≡ length octets - length rest = omega (arith, ap length parts, length-append (encoding a) rest) in
     let here : front ≡ encoding a = is ∙ ap (take (length octets - length rest)) parts ∙ take_at (encoding a) rest (length octets - length rest) many in
     omega (arith, some_octets a, ap length here, ap length (some_left front (elements, k) none))
+
+-- ---- octets that are kept
+
+pub one_kept : (octets lent : List ℕ) → Kept octets → lent ≡ octets → HasElems lent
+one_kept octets lent kept same = (kept.0 ∷ [], ((kept.1.0, tt), same ∙ kept.1.1 ∙ sym (append-nil (encoding kept.0))))
+
+pub kept_first : (octets lent : List ℕ) (element : DerElement) (elements : List DerElement) (e : DerElement) (others : List DerElement) → IsKept octets element → lent ≡ octets → AreElems lent elements → elements ≡ e ∷ others → e ≡ element
+kept_first octets lent element elements e others kept same are parts =
+    let one : elements ≡ element ∷ [] = same_elements elements (element ∷ []) are.0 (kept.0, tt) (sym are.1 ∙ same ∙ kept.1 ∙ sym (append-nil (encoding element))) in
+    cc
+
+pub kept_not_none : (octets lent : List ℕ) (element : DerElement) (elements : List DerElement) → IsKept octets element → lent ≡ octets → AreElems lent elements → elements ≡ [] → ⊥
+kept_not_none octets lent element elements kept same are none = omega (arith, some_octets element, ap length kept.1, ap length same, ap length (some_left lent (elements, are) none))

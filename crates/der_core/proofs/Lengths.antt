@@ -5,7 +5,7 @@ use Rattle.std.proofs.lemmas.List.{take-append-drop, length-take-le, get_or_appe
 use Rattle.der_core.specs.declared.fault.DerFault.{DerFault}
 use Rattle.der_core.specs.declared.fault.DerFault.TheVariants.{NotShortest}
 use Rattle.der_core.specs.Encoding.{length_octets}
-use Rattle.der_core.specs.Fronts.{done, ok_is}
+use Rattle.der_core.specs.Facts.Fronts.{done, ok_is}
 use Rattle.der_core.specs.Head.{IsOctets, ◌>>=◌, number_from, long_length_at, length_at}
 
 -- which way a test went

@@ -1,2 +1,9 @@
--- Lemmas that facts of values rest on. Nothing in this folder needs reading: no clause cites it.
+-- Lemmas that facts of values rest on. Nothing in this folder needs reading: no public clause cites it.
+pub mod Codes
+pub mod TreeFalls
+pub mod Fronts
+pub mod InnerFault
+pub mod InBounds
+pub mod Kept
+pub mod Placed
 pub mod Cursor

@@ -1,12 +1,8 @@
 pub mod DerElement
-pub mod Codes
 pub mod Encoding
 pub mod TreeView
-pub mod TreeFalls
 pub mod Head
-pub mod Fronts
 pub mod Fault
-pub mod InnerFault
 pub mod Reading
 pub mod Writing
 pub mod Kept

@@ -1,6 +1,7 @@
 //! Elements where their octets lie.
 
-ghost use Rattle.der_core.specs.Placed.{HasElem, HasElem-prop};
+ghost use Rattle.der_core.specs.Placed.{HasElem};
+ghost use Rattle.der_core.specs.Facts.Placed.{HasElem-prop};
 
 /// An element in bounds where its octets lie: its identifier octet, all of its octets, and its
 /// contents octets (X.690 8.1.1).

@@ -2,7 +2,8 @@
 
 ghost use Rattle.std.specs.Prelude.{◌≡◌, ◌≢◌, ◌↔◌, IsTrue, [], ◌∷◌, Some, None, MatchOption};
 ghost use Rattle.der_core.specs.DerElement.{kids_of};
-ghost use Rattle.der_core.specs.Placed.{HasElems, HasElems-prop};
+ghost use Rattle.der_core.specs.Placed.{HasElems};
+ghost use Rattle.der_core.specs.Facts.Placed.{HasElems-prop};
 
 use crate::elem::Elem;
 use crate::header::{head_of, is_constructed};

@@ -1,105 +1,121 @@
 //! Elements that are kept as octets.
 
-ghost use Rattle.std.specs.Prelude.{◌≡◌, ◌↔◌, ◌≤◌, IfOk, IsTrue, MatchResult, bytes_eq};
+ghost use Rattle.std.specs.Prelude.{◌≡◌, ◌↔◌, IfOk, IsTrue, MatchResult, bytes_eq};
 ghost use Rattle.std.specs.Ordering.{on};
 ghost use Rattle.std.specs.Cmp.Lexicographic.{nat_list_eq_equiv};
 ghost use Rattle.std.specs.Cmp.{on_per, on_equiv, partial_equiv_from_equiv};
-ghost use Rattle.der_core.specs.DerElement.{DerElement, tag_of};
+ghost use Rattle.der_core.specs.DerElement.{tag_of};
 ghost use Rattle.der_core.specs.Encoding.{encoding, nesting, IsWellFormed, IsDer};
-ghost use Rattle.der_core.specs.Kept.{Kept, Kept-prop, IsKept};
+ghost use Rattle.der_core.specs.Kept.{Kept, IsKept};
+ghost use Rattle.der_core.specs.Facts.Kept.{Kept-prop};
 ghost use Rattle.der_core.specs.Writing.{RefusesToWrite};
 
+use crate::elem::Elem;
 use crate::error::DerError;
-use crate::reading::read_exact;
+use crate::kids::Kids;
+use crate::reading::tree_of;
 use crate::tree::Tree;
 use crate::writing::write;
 use std::alloc::{AllocError, Global};
 use std::marker::Model;
 
-/// One element, kept with its octets and its nesting. Contracts see it as the element.
+/// One element, kept with its octets. Contracts see it as the element, which is in bounds.
 #[derive(Debug, Drop)]
 pub struct Raw {
     octets: Vec<u8>,
-    nesting: u8,
-    ghost kept: { Kept octets.items nesting } by { Kept-prop octets.items nesting },
+    ghost kept: { Kept octets.items } by { Kept-prop octets.items },
 }
 
 impl Model for Raw {
-    ghost use Rattle.der_core.specs.DerElement.{DerElement};
-    ghost use Rattle.der_core.specs.Codes.{coded_element};
+    ghost use Rattle.der_core.specs.Kept.{KeptElement};
+    ghost use Rattle.der_core.specs.Facts.Kept.{coded_kept};
 
-    ghost Value = { DerElement };
+    ghost Value = { KeptElement };
 
-    ghost coded = { coded_element };
+    ghost coded = { coded_kept };
 
-    ghost view = { λ r. r.kept.0 };
+    ghost view = { λ r. record { element = r.kept.0; der = r.kept.1.0 } };
 }
 
 impl Raw {
     /// The element of a tree, kept as its encoding. It is refused as `write` refuses it.
     pub fn from_tree(alloc: Global, tree: &Tree) -> Result<Raw, DerError>
         requires { IsWellFormed tree.now }
-        ensures { MatchResult result (λ raw. IsDer tree.now × (raw ≡ tree.now)) (RefusesToWrite tree.now) }
+        ensures { MatchResult result (λ raw. IsDer tree.now × (raw.element ≡ tree.now)) (RefusesToWrite tree.now) }
     {
-        let octets = write(alloc, tree)?;
-        Ok(Raw::keep(octets, nesting_of(tree)))
+        Ok(Raw::keep(write(alloc, tree)?))
+    }
+
+    /// The element that lies in octets, kept as a copy of them.
+    pub fn from_elem(alloc: Global, elem: Elem<'_>) -> Result<Raw, AllocError>
+        ensures { IfOk result (λ raw. raw.element ≡ elem.entry.is.0) }
+    {
+        Ok(Raw::keep(Vec::from_slice(alloc, elem.whole)?))
+    }
+
+    /// The kept element, where its octets lie.
+    pub fn elem(&self) -> Elem<'_>
+        ensures { result.is.0 ≡ self.now.element }
+    {
+        let mut one = Kids { rest: &self.octets };
+        match one.next() {
+            Some(elem) => elem,
+            None => unreachable!(),
+        }
     }
 
     /// The tree that was kept.
     pub fn tree(&self, alloc: Global) -> Result<Tree, AllocError>
-        ensures kept { IfOk result (λ tree. tree ≡ self.now) }
-        ensures der { IfOk result IsDer }
+        ensures { IfOk result (λ tree. tree ≡ self.now.element) }
     {
-        read_exact(alloc, &self.octets).map_err(|_| AllocError)
+        tree_of(alloc, self.elem())
     }
 
     /// The octets of the kept element.
     pub fn as_bytes(&self) -> &[u8]
-        ensures kept { result.now ≡ encoding self.now }
-        ensures der { IsDer self.now }
+        ensures { result.now ≡ encoding self.now.element }
     {
         &self.octets
     }
 
     /// The identifier octet of the kept element.
     pub fn tag(&self) -> u8
-        ensures { result ≡ tag_of self.now }
+        ensures { result ≡ tag_of self.now.element }
     {
-        self.octets[0]
+        self.elem().tag
     }
 
     /// How many levels the kept element has.
     pub fn nesting(&self) -> u8
-        ensures { result ≡ nesting self.now }
+        ensures { result ≡ nesting self.now.element }
     {
-        self.nesting
+        nesting_at(self.elem())
     }
 
     /// A copy of the value.
     pub fn try_clone(&self, alloc: Global) -> Result<Raw, AllocError>
         ensures { IfOk result (λ copy. copy ≡ self.now) }
     {
-        let octets = Vec::from_slice(alloc, &self.octets)?;
-        Ok(Raw::keep(octets, self.nesting))
+        Ok(Raw::keep(Vec::from_slice(alloc, &self.octets)?))
     }
 
-    /// Octets that are the encoding of an element with so many levels.
-    fn keep(octets: Vec<u8>, nesting: u8) -> Raw
-        requires { Kept octets.items nesting }
-        ensures { IsKept octets.items nesting result }
+    /// Octets that are the encoding of an element in bounds.
+    fn keep(octets: Vec<u8>) -> Raw
+        requires { Kept octets.items }
+        ensures { IsKept octets.items result.element }
     {
-        Raw { octets, nesting }
+        Raw { octets }
     }
 }
 
 /// Elements are equal exactly where their octets are.
 impl PartialEq for Raw {
-    ghost eq = { on encoding bytes_eq };
+    ghost eq = { on (λ kept. encoding kept.element) bytes_eq };
 
-    ghost laws = { on_per encoding (partial_equiv_from_equiv nat_list_eq_equiv) };
+    ghost laws = { on_per (λ kept. encoding kept.element) (partial_equiv_from_equiv nat_list_eq_equiv) };
 
     fn eq(&self, other: &Raw) -> bool
-        ensures value { result ≡ bytes_eq (encoding self.now) (encoding other.now) }
+        ensures value { result ≡ bytes_eq (encoding self.now.element) (encoding other.now.element) }
         ensures same { IsTrue result ↔ (self.now ≡ other.now) }
     {
         self.as_bytes() == other.as_bytes()
@@ -107,20 +123,19 @@ impl PartialEq for Raw {
 }
 
 impl Eq for Raw {
-    ghost laws = { on_equiv encoding nat_list_eq_equiv };
+    ghost laws = { on_equiv (λ kept. encoding kept.element) nat_list_eq_equiv };
 }
 
-/// How many levels a tree has that isn't too deep to be written.
-fn nesting_of(tree: &Tree) -> u8
-    requires { nesting tree.now ≤ 64 }
-    ensures { result ≡ nesting tree.now }
+/// How many levels an element has, itself among them.
+fn nesting_at(elem: Elem<'_>) -> u8
+    ensures { result ≡ nesting elem.entry.is.0 }
 {
-    let Some(kids) = tree.kids() else {
+    let Some(mut kids) = Kids::within(elem) else {
         return 1;
     };
     let mut deepest = 0;
-    for kid in kids {
-        deepest = nesting_of(kid).max(deepest);
+    while let Some(kid) = kids.next() {
+        deepest = nesting_at(kid).max(deepest);
     }
     deepest + 1
 }

@@ -4,7 +4,7 @@ ghost use Rattle.std.specs.Prelude.{◌≡◌, ◌+◌, ◌^◌, ◌<◌, ◌++�
 ghost use Rattle.der_core.specs.DerElement.{DerElement};
 ghost use Rattle.der_core.specs.Encoding.{encoding, IsDer, IsDerWithin};
 ghost use Rattle.der_core.specs.Fault.{IsFirstFault};
-ghost use Rattle.der_core.specs.InnerFault.{ElementFault, KidsFault};
+ghost use Rattle.der_core.specs.Facts.InnerFault.{ElementFault, KidsFault};
 ghost use Rattle.der_core.specs.Reading.{HasElements, IsFirst, IsExactFault, IsFaultFrom};
 
 use crate::elem::Elem;

@@ -27,7 +27,7 @@ pub(crate) enum Form {
 
 impl Model for Tree {
     ghost use Rattle.der_core.specs.DerElement.{DerElement, element_count};
-    ghost use Rattle.der_core.specs.Codes.{coded_element};
+    ghost use Rattle.der_core.specs.Facts.Codes.{coded_element};
 
     ghost Value = { DerElement };
 
@@ -39,7 +39,7 @@ impl Model for Tree {
 
     ghost size = { element_count };
 
-    ghost use Rattle.der_core.specs.TreeFalls.{kids_are_fewer};
+    ghost use Rattle.der_core.specs.Facts.TreeFalls.{kids_are_fewer};
 
     ghost size_decreases = { λ a h. kids_are_fewer a.form };
 }
@@ -133,7 +133,7 @@ impl Model for Trees {
     ghost use Rattle.std.specs.Prelude.{List};
     ghost use Rattle.std.specs.Coded.{coded_list};
     ghost use Rattle.der_core.specs.DerElement.{DerElement};
-    ghost use Rattle.der_core.specs.Codes.{coded_element};
+    ghost use Rattle.der_core.specs.Facts.Codes.{coded_element};
 
     ghost Value = { List DerElement };
 

@@ -7,7 +7,7 @@ use Rattle.x509_types.specs.Bounds.{AreDer}
 use Rattle.x509_types.specs.Shape.{IsFirstUnwritable, RefusesInner, RefusesShape, IsWithin}
 use Rattle.der_core.specs.Encoding.{encoding, IsDer}
 use Rattle.der_core.specs.Writing.{RefusesToWrite}
-use Rattle.der_core.specs.Fronts.{fronts}
+use Rattle.der_core.specs.Facts.Fronts.{fronts}
 use Rattle.x509_types.proofs.Parts.{refuses_as}
 
 pub AreDer-append : (a b : List DerElement) → AreDer a → AreDer b → AreDer (a ++ b)

@@ -3,7 +3,7 @@ use Rattle.std.proofs.Common.{◌≡◌, ◌↔◌, IsTrue, [], ◌∷◌, ◌++
 use Rattle.std.specs.Option.{is_some}
 use Rattle.der_core.specs.DerElement.{DerElement, Primitive, Constructed}
 use Rattle.der_core.specs.Encoding.{encoding, IsWellFormed, IsDer, length_octets}
-use Rattle.der_core.specs.Fronts.{fronts}
+use Rattle.der_core.specs.Facts.Fronts.{fronts}
 use Rattle.asn1_types.specs.declared.oid.ObjectIdentifier.{ObjectIdentifier}
 use Rattle.x509_types.specs.Elements.{null, object_identifier}
 use Rattle.x509_types.specs.KeyKind.{IsOid}

@@ -1,20 +1,17 @@
 -- That octets were tested is a fact for one reason.
 use Rattle.std.specs.Prelude.{ℕ, List}
-use Rattle.std.specs.Coded.{×_prop, le_prop, Coded-set, coded_ℕ, coded_list}
+use Rattle.std.specs.Coded.{×_prop, le_prop}
 use Rattle.std.proofs.Common.{◌≡◌, sym, ◌∙◌}
 use mathlib.Core.HLevel.{Σ_prop_path}
 use Rattle.der_core.specs.DerElement.{DerElements}
 use Rattle.der_core.specs.Encoding.{encodings}
-use Rattle.der_core.specs.Fronts.{same_kids}
-use Rattle.der_core.specs.Kept.{AreWellFormed-prop, AreShort-prop}
+use Rattle.der_core.specs.Facts.Fronts.{same_kids}
+use Rattle.der_core.specs.Facts.InBounds.{same_octets, AreWellFormed-prop, AreShort-prop}
 use Rattle.der_core.specs.Reading.{AreDerWithin}
 use Rattle.der_core.specs.Cursor.{AreInner, WereTested}
 
 AreDerWithin-prop : (levels : ℕ) (elements : DerElements) → IsProp (AreDerWithin levels elements)
 AreDerWithin-prop levels elements = hlevel (le_prop, AreWellFormed-prop elements, AreShort-prop elements)
-
-same_octets : (a b : List ℕ) → IsProp (a ≡ b)
-same_octets a b = Coded-set (coded_list coded_ℕ) a b
 
 AreInner-prop : (octets : List ℕ) (elements : DerElements) → IsProp (AreInner octets elements)
 AreInner-prop octets elements = ×_prop (AreDerWithin-prop 63 elements) (same_octets octets (encodings elements))

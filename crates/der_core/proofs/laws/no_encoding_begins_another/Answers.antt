@@ -1,4 +1,4 @@
-use Rattle.der_core.specs.Fronts.{fronts}
+use Rattle.der_core.specs.Facts.Fronts.{fronts}
 use Rattle.der_core.proofs.laws.no_encoding_begins_another.Goals as goal
 
 pub returns : goal.returns

@@ -4,8 +4,8 @@ use Rattle.std.proofs.lemmas.List.{length-append}
 use Rattle.std.proofs.lemmas.Result.{err_from_is_err_and}
 use Rattle.der_core.specs.DerElement.{Primitive, Constructed}
 use Rattle.der_core.specs.Encoding.{encoding}
-use Rattle.der_core.specs.Fronts.{some_octets}
-use Rattle.der_core.specs.InnerFault.{ElementFault, KidsFault, First, Next}
+use Rattle.der_core.specs.Facts.Fronts.{some_octets}
+use Rattle.der_core.specs.Facts.InnerFault.{ElementFault, KidsFault, First, Next}
 use Rattle.der_core.proofs.Elements.{leaf_read, branch_read}
 use Rattle.der_core.proofs.Faults.{fault_in, head_lengths, head_refused, kids_refused}
 use Rattle.der_core.proofs.InOctets.{no_length, one_more_first, no_elements}

@@ -1,7 +1,7 @@
 use Rattle.std.proofs.Common.{◌≡◌, ℕ, ◌+◌, ◌*◌, ◌≤◌, length}
 use Rattle.der_core.specs.Reading.{HasElements}
 use Rattle.der_core.specs.declared.fault.DerFault.{DerFault}
-use Rattle.der_core.specs.InnerFault.{KidsFault}
+use Rattle.der_core.specs.Facts.InnerFault.{KidsFault}
 use Rattle.der_core.proofs.testing.+testing.Given as goal
 
 abbrev pub decreases-after_element : goal.decreases-after_element

@@ -1,11 +1,11 @@
-use Rattle.std.proofs.Common.{◌≡◌, ℕ, List, ◌∙◌, subst}
-use Rattle.der_core.specs.Kept.{IsKept, kept_once}
+use Rattle.std.proofs.Common.{sym, ap, ◌∙◌}
+use Rattle.der_core.specs.Kept.{KeptElement}
+use Rattle.der_core.specs.Facts.Kept.{same_encoded, same_kept}
 use Rattle.der_core.proofs.raw.Raw.try_clone.Goals as goal
 
 pub returns : goal.returns
 returns c =
-    let kept = c.self.inside.kept in
-    let same = c.in_ok-octets.ensures.items ∙ c.deref.ensures.value in
-    let again = subst (λ (octets : List ℕ). IsKept octets c.self.inside.nesting c.keep.result) same c.keep.ensures in
-    let found : c.keep.result ≡ kept.0 = kept_once c.self.inside.octets.items c.self.inside.nesting c.keep.result kept.0 again kept.1 in
-    found ∙ c.self.view_is
+    let mine = c.self.inside.kept in
+    let kept = c.keep.ensures in
+    let same = c.in_ok-from_slice.ensures.items ∙ c.deref.ensures.value in
+    same_kept _ _ (same_encoded _ mine.0 kept.0 mine.1.0 (sym kept.1 ∙ same ∙ mine.1.1) ∙ ap (λ (k : KeptElement). k.element) c.self.view_is)

@@ -1,0 +1,39 @@
+-- Octets are those of one element, or of one list of elements, for one reason.
+use Rattle.std.specs.Prelude.{◌≡◌, ℕ, List, [], ◌∷◌, ◌++◌}
+use Rattle.std.specs.Coded.{×_prop, Unit-prop}
+use Rattle.std.proofs.Common.{sym, ap, ◌∙◌}
+use mathlib.Core.HLevel.{Σ_prop_path}
+use Rattle.der_core.specs.DerElement.{DerElement, row, listed, listed-row}
+use Rattle.der_core.specs.Encoding.{encodings, AreWellFormed, AreShort}
+use Rattle.der_core.specs.Placed.{AreDer, IsElem, HasElem, AreElems, HasElems}
+use Rattle.der_core.specs.Facts.Fronts.{fronts, same_kids}
+use Rattle.der_core.specs.Facts.InBounds.{same_numbers, same_octets, IsDerWithin-prop}
+
+pub AreDer-prop : (kids : List DerElement) → IsProp (AreDer kids)
+AreDer-prop [] = Unit-prop
+AreDer-prop (kid ∷ kids) = ×_prop (IsDerWithin-prop 64 kid) (AreDer-prop kids)
+
+IsElem-prop : (whole : List ℕ) (tag : ℕ) (content : List ℕ) (element : DerElement) → IsProp (IsElem whole tag content element)
+IsElem-prop whole tag content element = hlevel (IsDerWithin-prop 64 element, same_octets, same_numbers)
+
+pub HasElem-prop : (whole : List ℕ) (tag : ℕ) (content : List ℕ) → IsProp (HasElem whole tag content)
+HasElem-prop whole tag content a b =
+    Σ_prop_path (IsElem-prop whole tag content) (fronts a.0 b.0 [] [] a.1.0.formed b.1.0.formed a.1.0.short b.1.0.short (ap (λ o. o ++ []) (sym a.1.1 ∙ b.1.1))).0
+
+pub all_formed : (kids : List DerElement) → AreDer kids → AreWellFormed (row kids)
+all_formed [] der = tt
+all_formed (kid ∷ kids) der = (der.0.formed, all_formed kids der.1)
+
+pub all_short : (kids : List DerElement) → AreDer kids → AreShort (row kids)
+all_short [] der = tt
+all_short (kid ∷ kids) der = (der.0.short, all_short kids der.1)
+
+pub same_elements : (a b : List DerElement) → AreDer a → AreDer b → encodings (row a) ≡ encodings (row b) → a ≡ b
+same_elements a b der der' e =
+    sym (listed-row a) ∙ ap listed (same_kids (row a) (row b) (all_formed a der) (all_formed b der') (all_short a der) (all_short b der') e) ∙ listed-row b
+
+AreElems-prop : (octets : List ℕ) (elements : List DerElement) → IsProp (AreElems octets elements)
+AreElems-prop octets elements = ×_prop (AreDer-prop elements) (same_octets octets (encodings (row elements)))
+
+pub HasElems-prop : (octets : List ℕ) → IsProp (HasElems octets)
+HasElems-prop octets a b = Σ_prop_path (AreElems-prop octets) (same_elements a.0 b.0 a.1.0 b.1.0 (sym a.1.1 ∙ b.1.1))
