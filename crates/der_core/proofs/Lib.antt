@@ -9,3 +9,8 @@ pub mod Siblings
 pub mod Refusals
 pub mod InOctets
 pub mod Cursors
+pub mod SoFar
+pub mod Parts
+pub mod Inner
+pub mod Several
+pub mod Values

@@ -7,3 +7,4 @@ pub mod InBounds
 pub mod Kept
 pub mod Placed
 pub mod Cursor
+pub mod Grammars

@@ -8,4 +8,9 @@ pub mod Writing
 pub mod Kept
 pub mod Placed
 pub mod Cursor
+pub mod Elements
+pub mod Refusals
+pub mod Structure
+pub mod Default
+pub mod Each
 pub mod Facts

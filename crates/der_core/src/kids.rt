@@ -1,12 +1,17 @@
 //! The elements in an element, where their octets lie.
 
 ghost use Rattle.std.specs.Prelude.{◌≡◌, ◌≢◌, ◌↔◌, IsTrue, [], ◌∷◌, Some, None, MatchOption};
-ghost use Rattle.der_core.specs.DerElement.{kids_of};
+ghost use Rattle.der_core.specs.DerElement.{DerElements, Constructed, row, tag_of, kids_of};
+ghost use Rattle.der_core.specs.Default.{HasBadFlag, TakesDefault};
+ghost use Rattle.der_core.specs.Structure.{Fits, BeginsOtherwise, BeginsUnfit, HasMore};
 ghost use Rattle.der_core.specs.Placed.{HasElems};
 ghost use Rattle.der_core.specs.Facts.Placed.{HasElems-prop};
 
 use crate::elem::Elem;
 use crate::header::{head_of, is_constructed};
+use crate::leaves::boolean_at;
+use crate::structure::Structure;
+use crate::tag::BOOLEAN;
 use crate::tree::LEVELS;
 
 /// Elements in bounds, one after another, that aren't read yet.
@@ -53,5 +58,67 @@ impl<'a> Kids<'a> {
             whole,
             content: head.contents,
         })
+    }
+
+    /// The elements in a constructed element of this tag.
+    pub fn of(elem: Elem<'a>, tag: u8) -> Option<Kids<'a>>
+        ensures { MatchOption result
+            ((kids : DerElements) → elem.entry.is.0 ≢ Constructed tag kids)
+            (λ kids. elem.entry.is.0 ≡ Constructed tag (row kids.are.0)) }
+    {
+        if elem.tag != tag {
+            return None;
+        }
+        match Kids::within(elem) {
+            Some(kids) => Some(kids),
+            None => None,
+        }
+    }
+
+    /// The next element, where it has this tag.
+    pub fn next_tagged(&mut self, tag: u8) -> Option<Elem<'a>>
+        ensures { MatchOption result
+            ((self.new.are.0 ≡ self.old.are.0) × BeginsOtherwise tag self.old.are.0)
+            (λ elem. (self.old.are.0 ≡ elem.is.0 ∷ self.new.are.0) × (tag_of elem.is.0 ≡ tag)) }
+    {
+        let mut ahead = *self;
+        let elem = ahead.next()?;
+        if elem.tag != tag {
+            return None;
+        }
+        *self = ahead;
+        Some(elem)
+    }
+
+    /// The next element, where it has the shape of a structure.
+    pub fn next_as<T: Structure>(&mut self) -> Option<Elem<'a>>
+        ensures { MatchOption result
+            (BeginsUnfit T.spells self.old.are.0)
+            (λ elem. (self.old.are.0 ≡ elem.is.0 ∷ self.new.are.0) × Fits T.spells elem.is.0) }
+    {
+        let elem = self.next()?;
+        if T::has_shape(elem) { Some(elem) } else { None }
+    }
+
+    /// The flag of a BOOLEAN DEFAULT FALSE, given or left out (X.690 11.5).
+    pub fn next_default_false(&mut self) -> Option<bool>
+        ensures { MatchOption result
+            (HasBadFlag self.old.are.0)
+            (λ b. TakesDefault self.old.are.0 b self.new.are.0) }
+    {
+        match self.next_tagged(BOOLEAN) {
+            None => Some(false),
+            Some(elem) => match boolean_at(elem) {
+                Some(b) => Some(b),
+                None => None,
+            },
+        }
+    }
+
+    /// There are no further elements.
+    pub fn end(&self) -> Option<()>
+        ensures { MatchOption result (HasMore self.now.are.0) (λ _. self.now.are.0 ≡ []) }
+    {
+        if self.is_empty() { Some(()) } else { None }
     }
 }

@@ -1,0 +1,49 @@
+//! Primitive elements: their contents, and elements of contents.
+
+ghost use Rattle.std.specs.Prelude.{◌≡◌, ◌≢◌, IfOk, List, ℕ, Bool, MatchOption};
+ghost use Rattle.der_core.specs.DerElement.{Primitive};
+ghost use Rattle.der_core.specs.Encoding.{IsWellFormed, IsTag, form_bit};
+ghost use Rattle.der_core.specs.Default.{IsBoolean};
+
+use crate::elem::Elem;
+use crate::kids::Kids;
+use crate::octets::Octets;
+use crate::tag::BOOLEAN;
+use crate::tree::Tree;
+use std::alloc::{AllocError, Global};
+
+/// The contents octets of a primitive element of this tag.
+pub fn leaf_at<'a>(elem: Elem<'a>, tag: u8) -> Option<&'a [u8]>
+    ensures { MatchOption result
+        ((content : List ℕ) → elem.entry.is.0 ≢ Primitive tag content)
+        (λ content. elem.entry.is.0 ≡ Primitive tag content.now) }
+{
+    if elem.tag != tag {
+        return None;
+    }
+    match Kids::within(elem) {
+        Some(_) => None,
+        None => Some(elem.content),
+    }
+}
+
+/// The value of a BOOLEAN: one octet, zero for false, any other for true (X.690 8.2).
+pub fn boolean_at(elem: Elem<'_>) -> Option<bool>
+    ensures { MatchOption result
+        ((b : Bool) → IsBoolean elem.entry.is.0 b → ⊥)
+        (IsBoolean elem.entry.is.0) }
+{
+    let content = leaf_at(elem, BOOLEAN)?;
+    match content {
+        [octet] => Some(*octet != 0),
+        _ => None,
+    }
+}
+
+/// The primitive element of a tag and contents octets.
+pub fn leaf(alloc: Global, tag: u8, content: &[u8]) -> Result<Tree, AllocError>
+    requires { IsTag tag × (form_bit tag ≡ 0) }
+    ensures { IfOk result (λ tree. (tree ≡ Primitive tag content.now) × IsWellFormed tree) }
+{
+    Ok(Tree::leaf(tag, Octets::from_slice(alloc, content)?))
+}

@@ -1,0 +1,191 @@
+//! Values of one structure in order.
+
+ghost use Rattle.std.specs.Prelude.{◌≡◌, ◌↔◌, ◌++◌, ◌∷◌, [], false, List, length, flat_map, IfOk, OnOk, OnErr, IsTrue, MatchResult};
+ghost use Rattle.std.specs.Cmp.Lexicographic.{pointwise, lists_per, lists_equiv};
+ghost use Rattle.der_core.specs.Encoding.{IsTag, form_bit};
+ghost use Rattle.der_core.specs.Each.{AreEach, AreWritten, IsListOf, IsWrittenList};
+ghost use Rattle.der_core.specs.Refusals.{RefusesShape, RefusesInner};
+ghost use Rattle.der_core.specs.Structure.{Fits};
+
+use crate::elem::Elem;
+use crate::error::DerError;
+use crate::kids::Kids;
+use crate::new_kids::NewKids;
+use crate::structure::Structure;
+use crate::tree::Tree;
+use std::alloc::{AllocError, Global};
+use std::marker::Model;
+
+/// Values in order. As a structure of its own a list is a SEQUENCE OF (X.690 8.10); a field that
+/// holds one may give it another tag. Contracts see the list of the values.
+#[derive(Debug, Drop)]
+pub struct ListOf<T> {
+    items: Vec<T>,
+}
+
+impl<T> Model for ListOf<T> {
+    ghost use Rattle.std.specs.Prelude.{List};
+    ghost use Rattle.std.specs.Coded.{coded_list};
+
+    ghost Value = { List T };
+
+    ghost coded = { coded_list T.code };
+
+    ghost view = { λ l. l.items.items };
+}
+
+impl<T> ListOf<T> {
+    /// No values.
+    pub fn new(alloc: Global) -> ListOf<T>
+        ensures { result ≡ [] }
+    {
+        ListOf {
+            items: Vec::new(alloc),
+        }
+    }
+
+    /// Appends a value.
+    pub fn push(&mut self, item: T) -> Result<(), AllocError>
+    where
+        T: Drop,
+        ensures ok { OnOk result (self.new ≡ self.old ++ item ∷ []) }
+        ensures err { OnErr result (self.new ≡ self.old) }
+    {
+        self.items.push(item)?;
+        Ok(())
+    }
+
+    /// Where the list takes its memory.
+    pub fn allocator(&self) -> Global {
+        *self.items.allocator()
+    }
+
+    /// The values in order.
+    pub fn as_slice(&self) -> &[T]
+        ensures { result.now ≡ self.now }
+    {
+        &self.items
+    }
+
+    /// How many values there are.
+    pub fn len(&self) -> usize
+        ensures { result ≡ length self.now }
+    {
+        self.items.len()
+    }
+
+    /// Whether there are none.
+    pub fn is_empty(&self) -> bool
+        ensures { IsTrue result ↔ (self.now ≡ []) }
+    {
+        self.items.is_empty()
+    }
+}
+
+impl<T: Structure> ListOf<T> {
+    /// A copy of the value.
+    pub fn try_clone(&self, alloc: Global) -> Result<ListOf<T>, AllocError>
+        ensures { IfOk result (λ copy. copy ≡ self.now) }
+    {
+        copy_each(alloc, self)
+    }
+}
+
+impl<T: PartialEq> PartialEq for ListOf<T> {
+    ghost eq = { pointwise T.eq };
+
+    ghost laws = { lists_per T.laws };
+
+    fn eq(&self, other: &Self) -> bool {
+        self.items == other.items
+    }
+}
+
+impl<T: Eq> Eq for ListOf<T> {
+    ghost laws = { lists_equiv T.Eq.laws };
+}
+
+/// Whether each of the elements spells a value.
+pub fn has_each<T: Structure>(mut kids: Kids<'_>) -> bool
+    ensures fits { IsTrue result → Fits (AreEach T.spells) kids.entry.are.0 }
+    ensures unfit { result ≡ false → (values : List T) → AreEach T.spells kids.entry.are.0 values → ⊥ }
+{
+    while let Some(kid) = kids.next() {
+        if !T::has_shape(kid) {
+            return false;
+        }
+    }
+    true
+}
+
+/// The values of the elements, one for each.
+pub fn read_each<T: Structure>(alloc: Global, mut kids: Kids<'_>) -> Result<ListOf<T>, DerError>
+    ensures { MatchResult result (AreEach T.spells kids.entry.are.0) (RefusesShape (AreEach T.spells kids.entry.are.0)) }
+{
+    let mut values = ListOf::new(alloc);
+    while let Some(kid) = kids.next() {
+        values.push(T::read_at(alloc, kid)?)?;
+    }
+    Ok(values)
+}
+
+/// The elements of the values, one for each.
+pub fn write_each<T: Structure>(alloc: Global, values: &ListOf<T>) -> Result<NewKids, DerError>
+    ensures { MatchResult result (λ new. AreWritten T.written T.inner values.now new.kids) (RefusesInner (flat_map T.inner values.now)) }
+{
+    let mut kids = NewKids::new(alloc);
+    let mut rest = values.as_slice();
+    while let Some((value, others)) = rest.split_first() {
+        kids.push(value.write(alloc)?)?;
+        rest = others;
+    }
+    Ok(kids)
+}
+
+/// A copy of each value.
+pub fn copy_each<T: Structure>(alloc: Global, values: &ListOf<T>) -> Result<ListOf<T>, AllocError>
+    ensures { IfOk result (λ copies. copies ≡ values.now) }
+{
+    let mut copies = ListOf::new(alloc);
+    for value in values.as_slice() {
+        copies.push(value.try_clone(alloc)?)?;
+    }
+    Ok(copies)
+}
+
+/// Whether the element is a SEQUENCE OF or a SET OF such values, by its tag.
+pub fn has_list<T: Structure>(elem: Elem<'_>, tag: u8) -> bool
+    ensures fits { IsTrue result → Fits (IsListOf tag T.spells) elem.entry.is.0 }
+    ensures unfit { result ≡ false → (values : List T) → IsListOf tag T.spells elem.entry.is.0 values → ⊥ }
+{
+    match Kids::of(elem, tag) {
+        Some(kids) => has_each::<T>(kids),
+        None => false,
+    }
+}
+
+/// The values in a SEQUENCE OF or a SET OF, by its tag.
+pub fn read_list<T: Structure>(
+    alloc: Global,
+    elem: Elem<'_>,
+    tag: u8,
+) -> Result<ListOf<T>, DerError>
+    ensures { MatchResult result (IsListOf tag T.spells elem.entry.is.0) (RefusesShape (IsListOf tag T.spells elem.entry.is.0)) }
+{
+    match Kids::of(elem, tag) {
+        Some(kids) => read_each(alloc, kids),
+        None => Err(DerError::Shape),
+    }
+}
+
+/// The SEQUENCE OF or the SET OF the values, by its tag.
+pub fn write_list<T: Structure>(
+    alloc: Global,
+    values: &ListOf<T>,
+    tag: u8,
+) -> Result<Tree, DerError>
+    requires { IsTag tag × (form_bit tag ≡ 1) }
+    ensures { MatchResult result (IsWrittenList tag T.written T.inner values.now) (RefusesInner (flat_map T.inner values.now)) }
+{
+    Ok(write_each(alloc, values)?.into_branch(tag))
+}

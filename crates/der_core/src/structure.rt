@@ -1,0 +1,99 @@
+//! What all structures have in common.
+
+ghost use Rattle.std.specs.Prelude.{◌≡◌, ◌⊎◌, ◌∷◌, ◌++◌, [], ℕ, List, false, IsTrue, IfOk, IfErr, Ok, Err, MatchResult};
+ghost use Rattle.der_core.specs.DerElement.{DerElement};
+ghost use Rattle.der_core.specs.Encoding.{encoding, IsDer, IsWellFormed};
+ghost use Rattle.der_core.specs.Placed.{AreDer};
+ghost use Rattle.der_core.specs.Reading.{IsExactFault, GivesUnlessMemory};
+ghost use Rattle.der_core.specs.Refusals.{RefusesShape, RefusesInner};
+ghost use Rattle.der_core.specs.Structure.{Fits, IsWithin, IsGrammar};
+ghost use Rattle.der_core.specs.declared.error.DerError.TheVariants as errors;
+ghost use Rattle.der_core.specs.declared.fault.DerFault.{DerFault};
+
+use crate::elem::Elem;
+use crate::error::DerError;
+use crate::testing::exact_of;
+use crate::tree::Tree;
+use crate::writing::write;
+use std::alloc::{AllocError, Global};
+
+/// A structure of ASN.1: a type whose values are read from elements and written as elements.
+pub trait Structure: Sized + Drop {
+    // The element that is written for a value.
+    ghost written: { Self → DerElement };
+
+    // The element is one of this value.
+    ghost spells: { DerElement → Self → Type 0 };
+
+    // The elements that are written into strings of it, from left to right.
+    ghost inner: { Self → List DerElement } = { λ _. [] };
+
+    /// Whether the element spells a value. It takes no memory.
+    fn has_shape(elem: Elem<'_>) -> bool
+        ensures fits { IsTrue result → Fits spells elem.entry.is.0 }
+        ensures unfit { result ≡ false → (value : Self) → spells elem.entry.is.0 value → ⊥ };
+
+    /// The value that an element spells where its octets lie, `Shape` exactly where it spells none.
+    fn read_at(alloc: Global, elem: Elem<'_>) -> Result<Self, DerError>
+        ensures { MatchResult result (spells elem.entry.is.0) (RefusesShape (spells elem.entry.is.0)) };
+
+    /// The element of the value, which spells it. It is refused as `TooDeep` or `TooLong` exactly
+    /// where `der_core::write` so refuses the first element that can't be written into a string.
+    fn write(&self, alloc: Global) -> Result<Tree, DerError>
+        ensures { MatchResult result
+            (λ tree. (tree ≡ written self.now) × IsWellFormed tree × AreDer (inner self.now))
+            (RefusesInner (inner self.now)) };
+
+    /// A copy of the value.
+    fn try_clone(&self, alloc: Global) -> Result<Self, AllocError>
+        ensures { IfOk result (λ copy. copy ≡ self.now) };
+
+    // An element spells at most one value; what is written for a value spells it.
+    ghost grammar: { IsGrammar spells written inner };
+
+    /// The value that an element spells, `Shape` exactly where it spells none. The element is in
+    /// bounds, as every element is that was read.
+    final fn read(alloc: Global, tree: &Tree) -> Result<Self, DerError>
+        requires { IsDer tree.now }
+        ensures { MatchResult result (spells tree.now) (RefusesShape (spells tree.now)) }
+    {
+        let Ok(octets) = write(alloc, tree) else {
+            return Err(DerError::Memory);
+        };
+        match exact_of(&octets) {
+            Ok(elem) => Self::read_at(alloc, elem),
+            Err(_) => Err(DerError::Memory),
+        }
+    }
+
+    /// The value that octets spell, all of them. What is malformed or has another shape is refused
+    /// without memory.
+    final fn from_der(alloc: Global, octets: &[u8]) -> Result<Self, DerError>
+        // What is read is the value that the octets spell.
+        ensures found { IfOk result (IsWithin spells octets.now) }
+        // The value that the octets spell is read, unless memory runs out.
+        ensures only { (value : Self) → IsWithin spells octets.now value → GivesUnlessMemory result value }
+        // Octets with a fault are refused with it, whatever memory there is.
+        ensures faulty { (at : ℕ) (fault : DerFault) → IsExactFault octets.now at fault → result ≡ Err (errors.Malformed (record { at = at; fault = fault })) }
+        // An element that spells no value is refused as such, whatever memory there is.
+        ensures shapeless { (element : DerElement) → IsDer element → octets.now ≡ encoding element → ((value : Self) → spells element value → ⊥) → result ≡ Err errors.Shape }
+    {
+        let elem = exact_of(octets)?;
+        if !Self::has_shape(elem) {
+            return Err(DerError::Shape);
+        }
+        Self::read_at(alloc, elem)
+    }
+
+    /// The encoding of the value's element. It is refused as `TooDeep` or `TooLong` exactly where
+    /// `der_core::write` so refuses the first element that can't be written: one inside a string,
+    /// from left to right, else the value's own.
+    final fn to_der(&self, alloc: Global) -> Result<Vec<u8>, DerError>
+        ensures { MatchResult result
+            (λ octets. (octets.items ≡ encoding (written self.now)) × IsDer (written self.now) × AreDer (inner self.now))
+            (RefusesInner (inner self.now ++ written self.now ∷ [])) }
+    {
+        let tree = self.write(alloc)?;
+        write(alloc, &tree)
+    }
+}
