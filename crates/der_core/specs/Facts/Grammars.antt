@@ -1,6 +1,6 @@
 -- Grammars of structures that are written in one way, and of lists.
 use Rattle.std.specs.Prelude.{◌≡◌, ⊤, ℕ, List, [], ◌∷◌, ◌++◌, map, flat_map, refl}
-use Rattle.std.proofs.Common.{sym, ◌∙◌, ap, subst}
+use Rattle.std.proofs.Common.{sym, ◌∙◌, ap, subst, arith}
 use Rattle.std.proofs.lemmas.List.{append-nil}
 use Rattle.der_core.specs.DerElement.{DerElement, Constructed, row, listed, listed-row}
 use Rattle.der_core.specs.Encoding.{IsTag, IsWellFormed, AreWellFormed, form_bit}
@@ -71,3 +71,13 @@ lists tag spells written inner is_tag constructed grammar = record {
   spelled = λ values der. record { kids = map written values; holds = refl; each = each_spelled spells written inner grammar.spelled values der };
   formed = λ values. (is_tag, constructed, each_formed written grammar.formed values);
 }
+
+-- SEQUENCE OF (X.690 8.10)
+pub sequences : {X : Type 0} (spells : DerElement → X → Type 0) (written : X → DerElement) (inner : X → List DerElement) → IsGrammar spells written inner
+    → IsGrammar (IsListOf 0x30 spells) (list_element 0x30 written) (flat_map inner)
+sequences spells written inner grammar = lists 0x30 spells written inner (omega arith, omega arith, omega arith) refl grammar
+
+-- SET OF (X.690 8.12)
+pub sets : {X : Type 0} (spells : DerElement → X → Type 0) (written : X → DerElement) (inner : X → List DerElement) → IsGrammar spells written inner
+    → IsGrammar (IsListOf 0x31 spells) (list_element 0x31 written) (flat_map inner)
+sets spells written inner grammar = lists 0x31 spells written inner (omega arith, omega arith, omega arith) refl grammar
