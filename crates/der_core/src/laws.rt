@@ -1,10 +1,21 @@
 //! Laws on encodings and faults.
 
-ghost use Rattle.std.specs.Prelude.{◌≡◌, ℕ, List, Ok};
+ghost use Rattle.std.specs.Prelude.{◌≡◌, ◌↔◌, ℕ, List, Ok, MatchResult};
+ghost use Rattle.der_core.specs.Encoding.{encoding, IsDer, IsWellFormed};
+ghost use Rattle.der_core.specs.Placed.{AreDer};
+ghost use Rattle.der_core.specs.Structure.{IsWithin};
+ghost use Rattle.der_core.specs.Writing.{RefusesToWrite};
 ghost use Rattle.der_core.specs.Fault.{IsFirstFault};
 ghost use Rattle.der_core.specs.Head.{IsOctets, head_at, HasHead};
 ghost use Rattle.der_core.specs.Reading.{IsPrefixFree, HasNoFirst};
 ghost use Rattle.der_core.specs.declared.fault.DerFault.{DerFault};
+
+use crate::error::DerError;
+use crate::reading::read_exact;
+use crate::structure::Structure;
+use crate::tree::Tree;
+use crate::writing::write;
+use std::alloc::Global;
 
 /// No encoding is a proper front of another.
 pub fn no_encoding_begins_another()
@@ -23,4 +34,23 @@ pub fn one_first_fault()
 pub fn tests_of_a_head()
     ensures only_of_a_head { (levels tag : ℕ) (octets contents rest : List ℕ) → IsOctets octets → head_at levels octets ≡ Ok (tag, contents, rest) → HasHead levels octets tag contents rest }
     ensures of_each_head { (levels tag : ℕ) (octets contents rest : List ℕ) → HasHead levels octets tag contents rest → head_at levels octets ≡ Ok (tag, contents, rest) }
+{}
+
+/// What is written is read as the same tree.
+pub fn read_back(alloc: Global, tree: &Tree) -> Result<Tree, DerError>
+    requires { IsWellFormed tree.now }
+    ensures { MatchResult result (λ again. again ≡ tree.now) (RefusesToWrite tree.now) }
+{
+    let octets = write(alloc, tree)?;
+    match read_exact(alloc, &octets) {
+        Ok(again) => Ok(again),
+        Err(_) => Err(DerError::Memory),
+    }
+}
+
+/// Values of a structure are equal exactly where their octets are, and the octets that are written
+/// for a value spell it.
+pub fn values_are_their_octets<T: Structure>()
+    ensures equal { (a b : T) → AreDer (T.inner a) → AreDer (T.inner b) → (encoding (T.written a) ≡ encoding (T.written b)) ↔ (a ≡ b) }
+    ensures spelled { (value : T) → AreDer (T.inner value) → IsDer (T.written value) → IsWithin T.spells (encoding (T.written value)) value }
 {}

@@ -1,5 +1,7 @@
-//! Basic and distinguished encoding rules of ASN.1 (X.690), as far as certificates and signatures
-//! need them: elements of definite length with tag numbers below 31, at most 64 levels deep.
+//! The distinguished encoding rules of ASN.1 (X.690), as far as certificates and signatures need
+//! them: elements of definite length with tag numbers below 31, at most 64 levels deep. Elements are
+//! tested and lent where their octets lie, kept as octets, or built as trees; structures are read
+//! from octets by one grammar each, and written as trees.
 #![tactic(auto)]
 
 mod cursor;
@@ -30,7 +32,10 @@ pub use elem::Elem;
 pub use error::DerError;
 pub use fault::{DerFault, Malformed};
 pub use kids::Kids;
-pub use laws::{no_encoding_begins_another, one_first_fault, tests_of_a_head};
+pub use laws::{
+    no_encoding_begins_another, one_first_fault, read_back, tests_of_a_head,
+    values_are_their_octets,
+};
 pub use leaves::{boolean_at, leaf, leaf_at};
 pub use list::{ListOf, copy_each, has_each, has_list, read_each, read_list, write_each, write_list};
 pub use new_kids::NewKids;

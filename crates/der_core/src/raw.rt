@@ -14,6 +14,7 @@ use crate::elem::Elem;
 use crate::error::DerError;
 use crate::kids::Kids;
 use crate::reading::tree_of;
+use crate::structure::Structure;
 use crate::tree::Tree;
 use crate::writing::write;
 use std::alloc::{AllocError, Global};
@@ -106,6 +107,34 @@ impl Raw {
     {
         Raw { octets }
     }
+}
+
+/// Any element, kept as it is.
+impl Structure for Raw {
+    ghost use Rattle.der_core.specs.Facts.Kept.{same_kept};
+    ghost use Rattle.der_core.specs.Facts.Grammars.{printed};
+
+    ghost written = { λ raw. raw.element };
+
+    ghost spells = { λ element raw. element ≡ raw.element };
+
+    fn has_shape(_elem: Elem<'_>) -> bool {
+        true
+    }
+
+    fn read_at(alloc: Global, elem: Elem<'_>) -> Result<Raw, DerError> {
+        Ok(Raw::from_elem(alloc, elem)?)
+    }
+
+    fn write(&self, alloc: Global) -> Result<Tree, DerError> {
+        Ok(self.tree(alloc)?)
+    }
+
+    fn try_clone(&self, alloc: Global) -> Result<Raw, AllocError> {
+        Raw::try_clone(self, alloc)
+    }
+
+    ghost grammar = { printed (λ raw. raw.element) same_kept (λ raw. raw.der.formed) };
 }
 
 /// Elements are equal exactly where their octets are.

@@ -22,9 +22,9 @@ long_again count least past digits rest n len is-n enough =
     let shortest : ltb n least ≡ false = le-ltb _ _ enough in
     rw (there, take_at digits rest count len, drop_at digits rest count len, is-n, shortest) refl
 
-pub length_again : (past : DerFault) (n : ℕ) (rest : List ℕ) → n < 2 ^ 32 → length_at past (length_octets n ++ rest) ≡ Ok (n, rest)
+any_length_again : (past : DerFault) (n : ℕ) (rest : List ℕ) → length_at past (length_octets n ++ rest) ≡ Ok (n, rest)
 unfolding length_at length_octets
-length_again past n rest below =
+any_length_again past n rest =
     elim (cases_lt n (2 ^ 7)) [
       | inl lt ↦ let t : ltb n (2 ^ 7) ≡ true = lt-ltb _ _ lt in rw (t, t) refl
       | inr ge7 ↦ let f7 : ltb n (2 ^ 7) ≡ false = le-ltb _ _ ge7 in
@@ -46,6 +46,9 @@ length_again past n rest below =
           ]
     ]
 
+pub length_again : (past : DerFault) (n : ℕ) (rest : List ℕ) → n < 2 ^ 32 → length_at past (length_octets n ++ rest) ≡ Ok (n, rest)
+length_again past n rest below = any_length_again past n rest
+
 abbrev tail : List ℕ → List ℕ
 tail [] = []
 tail (octet ∷ octets) = octets
@@ -60,18 +63,18 @@ same_fronts a b x y len e = (
   sym (drop_at a x (length b) len) ∙ ap (drop (length b)) e ∙ drop_at b y (length b) refl,
 )
 
-same_lengths : (m n : ℕ) (x y : List ℕ) → m < 2 ^ 32 → n < 2 ^ 32 → length_octets m ++ x ≡ length_octets n ++ y → (m ≡ n) × (x ≡ y)
-same_lengths m n x y below below' e =
+same_lengths : (m n : ℕ) (x y : List ℕ) → length_octets m ++ x ≡ length_octets n ++ y → (m ≡ n) × (x ≡ y)
+same_lengths m n x y e =
     let p : ℕ × List ℕ = (m, x) in
     let q : ℕ × List ℕ = (n, y) in
-    let both : length_at Truncated (length_octets m ++ x) ≡ Ok q = ap (length_at Truncated) e ∙ length_again Truncated n y below' in
-    let same : p ≡ q = ok_is p q (sym (length_again Truncated m x below) ∙ both) in
+    let both : length_at Truncated (length_octets m ++ x) ≡ Ok q = ap (length_at Truncated) e ∙ any_length_again Truncated n y in
+    let same : p ≡ q = ok_is p q (sym (any_length_again Truncated m x) ∙ both) in
     (ap (λ (r : ℕ × List ℕ). r.0) same, ap (λ (r : ℕ × List ℕ). r.1) same)
 
-pub framed_fronts : (s t : ℕ) (a b x y : List ℕ) → length a < 2 ^ 32 → length b < 2 ^ 32 → framed s a ++ x ≡ framed t b ++ y → (s ≡ t) × (a ≡ b) × (x ≡ y)
-framed_fronts s t a b x y below below' e =
+framed_fronts : (s t : ℕ) (a b x y : List ℕ) → framed s a ++ x ≡ framed t b ++ y → (s ≡ t) × (a ≡ b) × (x ≡ y)
+framed_fronts s t a b x y e =
     let after : length_octets (length a) ++ (a ++ x) ≡ length_octets (length b) ++ (b ++ y) = sym (append_assoc (length_octets (length a)) a x) ∙ ap tail e ∙ append_assoc (length_octets (length b)) b y in
-    let lengths = same_lengths (length a) (length b) (a ++ x) (b ++ y) below below' after in
+    let lengths = same_lengths (length a) (length b) (a ++ x) (b ++ y) after in
     let contents = same_fronts a b x y lengths.0 lengths.1 in
     (ap front_or_zero e, contents.0, contents.1)
 
@@ -80,24 +83,34 @@ some_octets (Primitive tag content) = omega arith
 some_octets (Constructed tag kids) = omega arith
 
 mutual
-  pub fronts : (a b : DerElement) (x y : List ℕ) → IsWellFormed a → IsWellFormed b → IsShort a → IsShort b → encoding a ++ x ≡ encoding b ++ y → (a ≡ b) × (x ≡ y)
-  fronts (Primitive s a) (Primitive t b) x y formed formed' short short' e =
-      let f = framed_fronts s t a b x y short short' e in
+  pub formed_fronts : (a b : DerElement) (x y : List ℕ) → IsWellFormed a → IsWellFormed b → encoding a ++ x ≡ encoding b ++ y → (a ≡ b) × (x ≡ y)
+  formed_fronts (Primitive s a) (Primitive t b) x y formed formed' e =
+      let f = framed_fronts s t a b x y e in
       (ap (λ n. Primitive n a) f.0 ∙ ap (Primitive t) f.1, f.2)
-  fronts (Primitive s a) (Constructed t kids) x y formed formed' short short' e =
-      let f = framed_fronts s t a (encodings kids) x y short short'.0 e in
+  formed_fronts (Primitive s a) (Constructed t kids) x y formed formed' e =
+      let f = framed_fronts s t a (encodings kids) x y e in
       absurd (omega (arith, formed.1, formed'.1, ap form_bit f.0))
-  fronts (Constructed s kids) (Primitive t b) x y formed formed' short short' e =
-      let f = framed_fronts s t (encodings kids) b x y short.0 short' e in
+  formed_fronts (Constructed s kids) (Primitive t b) x y formed formed' e =
+      let f = framed_fronts s t (encodings kids) b x y e in
       absurd (omega (arith, formed.1, formed'.1, ap form_bit f.0))
-  fronts (Constructed s kids) (Constructed t kids') x y formed formed' short short' e =
-      let f = framed_fronts s t (encodings kids) (encodings kids') x y short.0 short'.0 e in
-      (ap (λ n. Constructed n kids) f.0 ∙ ap (Constructed t) (same_kids kids kids' formed.2 formed'.2 short.1 short'.1 f.1), f.2)
+  formed_fronts (Constructed s kids) (Constructed t kids') x y formed formed' e =
+      let f = framed_fronts s t (encodings kids) (encodings kids') x y e in
+      (ap (λ n. Constructed n kids) f.0 ∙ ap (Constructed t) (formed_kids kids kids' formed.2 formed'.2 f.1), f.2)
 
-  pub same_kids : (ks ls : DerElements) → AreWellFormed ks → AreWellFormed ls → AreShort ks → AreShort ls → encodings ks ≡ encodings ls → ks ≡ ls
-  same_kids Nil Nil formed formed' short short' e = refl
-  same_kids Nil (Cons b ls) formed formed' short short' e = absurd (omega (arith, some_octets b, length-append (encoding b) (encodings ls), ap length e))
-  same_kids (Cons a ks) Nil formed formed' short short' e = absurd (omega (arith, some_octets a, length-append (encoding a) (encodings ks), ap length e))
-  same_kids (Cons a ks) (Cons b ls) formed formed' short short' e =
-      let f = fronts a b (encodings ks) (encodings ls) formed.0 formed'.0 short.0 short'.0 e in
-      ap (λ k. Cons k ks) f.0 ∙ ap (Cons b) (same_kids ks ls formed.1 formed'.1 short.1 short'.1 f.1)
+  formed_kids : (ks ls : DerElements) → AreWellFormed ks → AreWellFormed ls → encodings ks ≡ encodings ls → ks ≡ ls
+  formed_kids Nil Nil formed formed' e = refl
+  formed_kids Nil (Cons b ls) formed formed' e = absurd (omega (arith, some_octets b, length-append (encoding b) (encodings ls), ap length e))
+  formed_kids (Cons a ks) Nil formed formed' e = absurd (omega (arith, some_octets a, length-append (encoding a) (encodings ks), ap length e))
+  formed_kids (Cons a ks) (Cons b ls) formed formed' e =
+      let f = formed_fronts a b (encodings ks) (encodings ls) formed.0 formed'.0 e in
+      ap (λ k. Cons k ks) f.0 ∙ ap (Cons b) (formed_kids ks ls formed.1 formed'.1 f.1)
+
+pub fronts : (a b : DerElement) (x y : List ℕ) → IsWellFormed a → IsWellFormed b → IsShort a → IsShort b → encoding a ++ x ≡ encoding b ++ y → (a ≡ b) × (x ≡ y)
+fronts a b x y formed formed' short short' e = formed_fronts a b x y formed formed' e
+
+pub same_kids : (ks ls : DerElements) → AreWellFormed ks → AreWellFormed ls → AreShort ks → AreShort ls → encodings ks ≡ encodings ls → ks ≡ ls
+same_kids ks ls formed formed' short short' e = formed_kids ks ls formed formed' e
+
+-- elements that are well formed have unlike encodings, however long
+pub formed_encoding_once : (a b : DerElement) → IsWellFormed a → IsWellFormed b → encoding a ≡ encoding b → a ≡ b
+formed_encoding_once a b formed formed' e = (formed_fronts a b [] [] formed formed' (ap (λ (o : List ℕ). o ++ []) e)).0
