@@ -9,3 +9,4 @@ pub mod OneIdentifier
 pub mod Calendar
 pub mod Time
 pub mod KnownIdentifiers
+pub mod NamedIdentifiers
