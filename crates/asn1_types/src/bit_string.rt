@@ -16,7 +16,7 @@ const MAX_UNUSED: u8 = 7;
 pub struct BitString {
     unused: u8,
     payload: Octets,
-    ghost formed: { IsBitString unused payload },
+    pub ghost formed: { IsBitString unused payload },
 }
 
 impl BitString {
@@ -49,8 +49,10 @@ impl BitString {
     pub fn to_content(&self, alloc: Global) -> Result<Octets, AllocError>
         ensures { IfOk result (λ content. content ≡ self.now.unused ∷ self.now.payload) }
     {
-        let mut content = Vec::from_slice(alloc, &[self.unused])?;
-        content.extend_from_slice(self.payload_view())?;
+        let payload = self.payload_view();
+        let mut content = Vec::with_capacity(alloc, payload.len().saturating_add(1))?;
+        content.push(self.unused)?;
+        content.extend_from_slice(payload)?;
         Ok(Octets::from(content))
     }
 

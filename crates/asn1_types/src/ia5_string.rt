@@ -16,7 +16,7 @@ use std::str;
 #[derive(Debug, Drop)]
 pub struct Ia5String {
     text: Octets,
-    ghost ascii: { IsIa5 text } by { Prim.hlevel props },
+    pub ghost ascii: { IsIa5 text } by { Prim.hlevel props },
 }
 
 impl Ia5String {
@@ -63,7 +63,8 @@ impl Ia5String {
     pub fn as_str(&self) -> &str
         ensures { result.now ≡ self.now.text }
     {
-        str::from_utf8(self.text.as_slice()).unwrap()
+        // SAFETY: an octet of at most 127 is a character of UTF-8.
+        unsafe { str::from_utf8_unchecked(self.text.as_slice()) }
     }
 
     /// A copy of the value.

@@ -14,7 +14,7 @@ use std::alloc::{AllocError, Global};
 #[derive(Debug, Drop)]
 pub struct IntegerAsn1 {
     contents: Octets,
-    ghost formed: { IsInteger contents },
+    pub ghost formed: { IsInteger contents },
 }
 
 impl IntegerAsn1 {
@@ -48,7 +48,7 @@ impl IntegerAsn1 {
         ensures { IfOk result (λ integer. IsUnsignedInteger (number_of bytes.now) integer.contents) }
     {
         let digits = without_zeros(bytes);
-        let mut contents = Vec::new(alloc);
+        let mut contents = Vec::with_capacity(alloc, digits.len().saturating_add(1))?;
         // The first bit would be 1, or there would be no octet.
         if !matches!(digits, [0..=0x7F, ..]) {
             contents.push(0)?;

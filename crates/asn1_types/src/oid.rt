@@ -21,7 +21,7 @@ use subidentifier::{split_subidentifier, subidentifiers};
 #[derive(Debug, Drop)]
 pub struct ObjectIdentifier {
     contents: Octets,
-    ghost formed: { IsIdentifier contents } by { IsIdentifier-prop contents },
+    pub ghost formed: { IsIdentifier contents } by { IsIdentifier-prop contents },
 }
 
 impl ObjectIdentifier {
