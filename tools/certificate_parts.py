@@ -4,17 +4,17 @@
 Usage:
 
     python3 tools/certificate_parts.py --make
-    python3 tools/certificate_parts.py --check crates/picky_vectors/src/certificate_parts.rt
+    python3 tools/certificate_parts.py --check
 
-`--make` prints that file anew: it has openssl (3.0 or later) make keys and
+`--make` prints `tools/certificate_rows.txt` anew: it has openssl (3.0 or later) make keys and
 certificates for the rows of `certificate_cases` and takes their parts out.
 The keys are fresh each time.  `--check` has openssl read each name and key of
-such a file again, and tells what differs from its row.  Rows are
+that file again, and tells what differs from its row.  Rows are
 
-    NAMES  label|Name|printed text, in hexadecimal of DER and of UTF-8
-    KEYS   label|rsa|SubjectPublicKeyInfo|modulus|exponent
-           label|ec|SubjectPublicKeyInfo
-           label|ed|SubjectPublicKeyInfo
+    name|label|Name|printed text, in hexadecimal of DER and of UTF-8
+    key|label|rsa|SubjectPublicKeyInfo|modulus|exponent
+    key|label|ec|SubjectPublicKeyInfo
+    key|label|ed|SubjectPublicKeyInfo
 
 with `ed` for the four algorithms of RFC 8410, and modulus and exponent as
 unsigned numbers of whole octets without zeros before them.
@@ -56,35 +56,13 @@ from certificate_making import (
     agreed_certificate, certificate_around, generated_name, make_key, openssl,
     requested_certificate, written_name,
 )
-
-WORDS = {
-    "2.5.4.3": "CN",
-    "2.5.4.4": "SN",
-    "2.5.4.5": "SERIALNUMBER",
-    "2.5.4.6": "C",
-    "2.5.4.7": "L",
-    "2.5.4.8": "ST",
-    "2.5.4.9": "STREET",
-    "2.5.4.10": "O",
-    "2.5.4.11": "OU",
-    "2.5.4.42": "GN",
-    "1.2.840.113549.1.9.1": "EMAIL",
-}
+from value_reader import WORDS
 
 # Without `utf8`, so that each character is escaped by its number.
 TEXT_OPTIONS = "sep_comma_plus,esc_2253,esc_ctrl,esc_msb,oid,show_type"
 ELEMENT_OPTIONS = "sep_comma_plus,oid,dump_all,dump_der"
 
-SOURCE_HEAD = """\
-//! Subject names and public keys of certificates, made with openssl, and what it says of them.
-//! Where it doesn't read a name, the printed text was worked out by hand.
-//! `tools/certificate_parts.py` makes this file with fresh keys, and compares it with openssl.
-"""
-
-NAMES_HEAD = "/// A label, a Name, and its printed text, both in hexadecimal, the text as UTF-8."
-KEYS_HEAD = """\
-/// A label, `rsa`, `ec` or `ed`, and a SubjectPublicKeyInfo in hexadecimal. For RSA also modulus
-/// and exponent, unsigned and without zeros before them."""
+STORED = Path(__file__).resolve().parent / "certificate_rows.txt"
 
 
 # The parts of a certificate.
@@ -270,31 +248,25 @@ def written_rows():
 
 # The file of rows.
 
-def constant(head, name, rows):
-    """A constant in Rattle whose text has a line for each row."""
-    opening = f"pub const {name}: &str ="
-    gap = " " if len(f'{opening} "{rows[0]}') <= 100 else "\n    "
-    return f'{head}\n{opening}{gap}"' + "\n".join(rows) + '";\n'
-
-
 def source(names, keys):
     """The file with these rows."""
-    return "\n".join((
-        SOURCE_HEAD,
-        constant(NAMES_HEAD, "NAMES", ["|".join(row) for row in names]),
-        constant(KEYS_HEAD, "KEYS", ["|".join((*row[:3], *row.numbers)) for row in keys]),
-    ))
+    lines = ["|".join(("name", *row)) for row in names]
+    lines += ("|".join(("key", *row[:3], *row.numbers)) for row in keys)
+    return "".join(f"{line}\n" for line in lines)
 
 
 def rows_of(text):
     """The rows of a file, of names and of keys."""
-    names, keys = (fields_of(text, name) for name in ("NAMES", "KEYS"))
-    return [NameRow(*row) for row in names], [KeyRow(*row[:3], tuple(row[3:])) for row in keys]
-
-
-def fields_of(text, name):
-    lines = re.search(f'{name}: &str =\\s*"([^"]*)"', text)[1]
-    return [line.split("|") for line in lines.split("\n")]
+    names, keys = [], []
+    for line in text.splitlines():
+        match line.split("|"):
+            case ["name", *fields]:
+                names.append(NameRow(*fields))
+            case ["key", label, kind, octets, *numbers]:
+                keys.append(KeyRow(label, kind, octets, tuple(numbers)))
+            case _:
+                raise ValueError(f"no row: {line}")
+    return names, keys
 
 
 def complaints(text):
@@ -326,12 +298,12 @@ def main(arguments):
             with TemporaryDirectory() as folder:
                 print(source(*made_rows(Path(folder))), end="")
             return 0
-        case ["--check", path]:
-            found = list(complaints(Path(path).read_text(encoding="ascii")))
+        case ["--check"]:
+            found = list(complaints(STORED.read_text(encoding="ascii")))
             print(*found or ["no difference"], sep="\n")
             return 1 if found else 0
         case _:
-            print("usage: certificate_parts.py --make | --check FILE", file=sys.stderr)
+            print("usage: certificate_parts.py --make | --check", file=sys.stderr)
             return 2
 
 

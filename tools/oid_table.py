@@ -3,13 +3,14 @@
 
 Usage:
 
-    python3 tools/oid_table.py known
-    python3 tools/oid_table.py tests
+    python3 tools/oid_table.py table
+    python3 tools/oid_table.py list
     python3 tools/oid_table.py check
 
-`known` prints the constants and the table of `crates/asn1_types/src/oids.rt`,
-`tests` the tables of `crates/asn1_types/src/oid_tests.rt`.  `check` says
-whether both files have what is printed here.
+`table` prints the constants and the table of `crates/asn1_types/src/oids.rt`,
+`list` the list of `crates/asn1_types/specs/NamedIdentifiers.antt`.  `check`
+says whether both files have what is printed here.  `tools/value_answers.py`
+takes the texts and octets below as rows.
 
 The octets are made by the rule of X.690 8.19: the first two arcs a and b are
 the one number 40a + b; each number is written in base 128, the most
@@ -24,98 +25,84 @@ import subprocess
 import sys
 import tempfile
 
-SOURCES = pathlib.Path(__file__).resolve().parent.parent / "crates/asn1_types/src"
+CRATE = pathlib.Path(__file__).resolve().parent.parent / "crates/asn1_types"
 
-# Where the identifiers are defined, then constant, name there, dotted text.
+# Constant, name and dotted text, and where the name is defined.
 KNOWN = [
-    ("RFC 8017 appendix C, RFC 4055 section 5", [
-        ("RSA_ENCRYPTION", "rsaEncryption", "1.2.840.113549.1.1.1"),
-        ("MD5_WITH_RSA_ENCRYPTION", "md5WithRSAEncryption", "1.2.840.113549.1.1.4"),
-        ("SHA1_WITH_RSA_ENCRYPTION", "sha1WithRSAEncryption", "1.2.840.113549.1.1.5"),
-        ("SHA256_WITH_RSA_ENCRYPTION", "sha256WithRSAEncryption", "1.2.840.113549.1.1.11"),
-        ("SHA384_WITH_RSA_ENCRYPTION", "sha384WithRSAEncryption", "1.2.840.113549.1.1.12"),
-        ("SHA512_WITH_RSA_ENCRYPTION", "sha512WithRSAEncryption", "1.2.840.113549.1.1.13"),
-        ("SHA224_WITH_RSA_ENCRYPTION", "sha224WithRSAEncryption", "1.2.840.113549.1.1.14"),
-    ]),
-    ("RFC 5480 section 2, RFC 5758 section 3.2", [
-        ("EC_PUBLIC_KEY", "id-ecPublicKey", "1.2.840.10045.2.1"),
-        ("ECDSA_WITH_SHA256", "ecdsa-with-SHA256", "1.2.840.10045.4.3.2"),
-        ("ECDSA_WITH_SHA384", "ecdsa-with-SHA384", "1.2.840.10045.4.3.3"),
-        ("ECDSA_WITH_SHA512", "ecdsa-with-SHA512", "1.2.840.10045.4.3.4"),
-        ("SECP256R1", "secp256r1", "1.2.840.10045.3.1.7"),
-        ("SECP384R1", "secp384r1", "1.3.132.0.34"),
-        ("SECP521R1", "secp521r1", "1.3.132.0.35"),
-    ]),
-    ("RFC 8410 section 3", [
-        ("X25519", "id-X25519", "1.3.101.110"),
-        ("X448", "id-X448", "1.3.101.111"),
-        ("ED25519", "id-Ed25519", "1.3.101.112"),
-        ("ED448", "id-Ed448", "1.3.101.113"),
-    ]),
-    ("RFC 9881 section 2", [
-        ("ML_DSA_44", "id-ml-dsa-44", "2.16.840.1.101.3.4.3.17"),
-        ("ML_DSA_65", "id-ml-dsa-65", "2.16.840.1.101.3.4.3.18"),
-        ("ML_DSA_87", "id-ml-dsa-87", "2.16.840.1.101.3.4.3.19"),
-    ]),
-    ("RFC 8017 appendix B.1", [
-        ("MD5", "id-md5", "1.2.840.113549.2.5"),
-        ("SHA1", "id-sha1", "1.3.14.3.2.26"),
-        ("SHA256", "id-sha256", "2.16.840.1.101.3.4.2.1"),
-        ("SHA384", "id-sha384", "2.16.840.1.101.3.4.2.2"),
-        ("SHA512", "id-sha512", "2.16.840.1.101.3.4.2.3"),
-        ("SHA224", "id-sha224", "2.16.840.1.101.3.4.2.4"),
-    ]),
-    ("RFC 5280 section 4.2.1.12, Microsoft", [
-        ("KP_CODE_SIGNING", "id-kp-codeSigning", "1.3.6.1.5.5.7.3.3"),
-        ("KP_TIME_STAMPING", "id-kp-timeStamping", "1.3.6.1.5.5.7.3.8"),
-        ("KP_LIFETIME_SIGNING", "szOID_KP_LIFETIME_SIGNING", "1.3.6.1.4.1.311.10.3.13"),
-    ]),
-    ("RFC 5652 sections 4 and 5.1", [
-        ("DATA", "id-data", "1.2.840.113549.1.7.1"),
-        ("SIGNED_DATA", "id-signedData", "1.2.840.113549.1.7.2"),
-    ]),
-    ("RFC 2985 section 5", [
-        ("EMAIL_ADDRESS", "emailAddress", "1.2.840.113549.1.9.1"),
-        ("CONTENT_TYPE", "contentType", "1.2.840.113549.1.9.3"),
-        ("MESSAGE_DIGEST", "messageDigest", "1.2.840.113549.1.9.4"),
-        ("COUNTERSIGNATURE", "counterSignature", "1.2.840.113549.1.9.6"),
-        ("EXTENSION_REQUEST", "extensionRequest", "1.2.840.113549.1.9.14"),
-    ]),
-    ("Microsoft, Authenticode", [
-        ("SPC_INDIRECT_DATA", "SPC_INDIRECT_DATA_OBJID", "1.3.6.1.4.1.311.2.1.4"),
-        ("SPC_SP_OPUS_INFO", "SPC_SP_OPUS_INFO_OBJID", "1.3.6.1.4.1.311.2.1.12"),
-        ("SPC_PE_IMAGE_DATA", "SPC_PE_IMAGE_DATA_OBJID", "1.3.6.1.4.1.311.2.1.15"),
-        ("SPC_TIME_STAMP_REQUEST", "SPC_TIME_STAMP_REQUEST_OBJID", "1.3.6.1.4.1.311.3.2.1"),
-        ("RFC3161_COUNTER_SIGN", "szOID_RFC3161_counterSign", "1.3.6.1.4.1.311.3.3.1"),
-    ]),
-    ("Microsoft, certificate trust lists", [
-        ("CTL", "szOID_CTL", "1.3.6.1.4.1.311.10.1"),
-        ("CERT_SUBJECT_NAME_MD5_HASH", "CERT_SUBJECT_NAME_MD5_HASH_PROP_ID", "1.3.6.1.4.1.311.10.11.29"),
-        ("CERT_DISALLOWED_FILETIME", "CERT_DISALLOWED_FILETIME_PROP_ID", "1.3.6.1.4.1.311.10.11.104"),
-        ("CERT_PROP_ID_126", "CERT_PROP_ID_126", "1.3.6.1.4.1.311.10.11.126"),
-        ("CERT_PROP_ID_127", "CERT_PROP_ID_127", "1.3.6.1.4.1.311.10.11.127"),
-    ]),
-    ("X.520, RFC 5280 appendix A.1", [
-        ("AT_COMMON_NAME", "id-at-commonName", "2.5.4.3"),
-        ("AT_SURNAME", "id-at-surname", "2.5.4.4"),
-        ("AT_SERIAL_NUMBER", "id-at-serialNumber", "2.5.4.5"),
-        ("AT_COUNTRY_NAME", "id-at-countryName", "2.5.4.6"),
-        ("AT_LOCALITY_NAME", "id-at-localityName", "2.5.4.7"),
-        ("AT_STATE_OR_PROVINCE_NAME", "id-at-stateOrProvinceName", "2.5.4.8"),
-        ("AT_STREET_ADDRESS", "id-at-streetAddress", "2.5.4.9"),
-        ("AT_ORGANIZATION_NAME", "id-at-organizationName", "2.5.4.10"),
-        ("AT_ORGANIZATIONAL_UNIT_NAME", "id-at-organizationalUnitName", "2.5.4.11"),
-        ("AT_GIVEN_NAME", "id-at-givenName", "2.5.4.42"),
-    ]),
-    ("RFC 5280 section 4.2.1", [
-        ("CE_SUBJECT_KEY_IDENTIFIER", "id-ce-subjectKeyIdentifier", "2.5.29.14"),
-        ("CE_KEY_USAGE", "id-ce-keyUsage", "2.5.29.15"),
-        ("CE_SUBJECT_ALT_NAME", "id-ce-subjectAltName", "2.5.29.17"),
-        ("CE_ISSUER_ALT_NAME", "id-ce-issuerAltName", "2.5.29.18"),
-        ("CE_BASIC_CONSTRAINTS", "id-ce-basicConstraints", "2.5.29.19"),
-        ("CE_AUTHORITY_KEY_IDENTIFIER", "id-ce-authorityKeyIdentifier", "2.5.29.35"),
-        ("CE_EXT_KEY_USAGE", "id-ce-extKeyUsage", "2.5.29.37"),
-    ]),
+    ("RSA_ENCRYPTION", "rsaEncryption", "1.2.840.113549.1.1.1", "RFC 8017 appendix A.1, RFC 3279 section 2.3.1"),
+    ("MD5_WITH_RSA_ENCRYPTION", "md5WithRSAEncryption", "1.2.840.113549.1.1.4",
+     "RFC 8017 appendix A.2.4, RFC 3279 section 2.2.1"),
+    ("SHA1_WITH_RSA_ENCRYPTION", "sha1WithRSAEncryption", "1.2.840.113549.1.1.5",
+     "RFC 8017 appendix A.2.4, RFC 3279 section 2.2.1"),
+    ("SHA256_WITH_RSA_ENCRYPTION", "sha256WithRSAEncryption", "1.2.840.113549.1.1.11",
+     "RFC 8017 appendix A.2.4, RFC 4055 section 5"),
+    ("SHA384_WITH_RSA_ENCRYPTION", "sha384WithRSAEncryption", "1.2.840.113549.1.1.12",
+     "RFC 8017 appendix A.2.4, RFC 4055 section 5"),
+    ("SHA512_WITH_RSA_ENCRYPTION", "sha512WithRSAEncryption", "1.2.840.113549.1.1.13",
+     "RFC 8017 appendix A.2.4, RFC 4055 section 5"),
+    ("SHA224_WITH_RSA_ENCRYPTION", "sha224WithRSAEncryption", "1.2.840.113549.1.1.14",
+     "RFC 8017 appendix A.2.4, RFC 4055 section 5"),
+    ("EC_PUBLIC_KEY", "id-ecPublicKey", "1.2.840.10045.2.1", "RFC 5480 section 2.1.1"),
+    ("ECDSA_WITH_SHA256", "ecdsa-with-SHA256", "1.2.840.10045.4.3.2", "RFC 5758 section 3.2"),
+    ("ECDSA_WITH_SHA384", "ecdsa-with-SHA384", "1.2.840.10045.4.3.3", "RFC 5758 section 3.2"),
+    ("ECDSA_WITH_SHA512", "ecdsa-with-SHA512", "1.2.840.10045.4.3.4", "RFC 5758 section 3.2"),
+    ("SECP256R1", "secp256r1", "1.2.840.10045.3.1.7", "RFC 5480 section 2.1.1.1"),
+    ("SECP384R1", "secp384r1", "1.3.132.0.34", "RFC 5480 section 2.1.1.1"),
+    ("SECP521R1", "secp521r1", "1.3.132.0.35", "RFC 5480 section 2.1.1.1"),
+    ("X25519", "id-X25519", "1.3.101.110", "RFC 8410 section 3"),
+    ("X448", "id-X448", "1.3.101.111", "RFC 8410 section 3"),
+    ("ED25519", "id-Ed25519", "1.3.101.112", "RFC 8410 section 3"),
+    ("ED448", "id-Ed448", "1.3.101.113", "RFC 8410 section 3"),
+    ("ML_DSA_44", "id-ml-dsa-44", "2.16.840.1.101.3.4.3.17", "RFC 9881 section 2"),
+    ("ML_DSA_65", "id-ml-dsa-65", "2.16.840.1.101.3.4.3.18", "RFC 9881 section 2"),
+    ("ML_DSA_87", "id-ml-dsa-87", "2.16.840.1.101.3.4.3.19", "RFC 9881 section 2"),
+    ("MD5", "id-md5", "1.2.840.113549.2.5", "RFC 8017 appendix B.1"),
+    ("SHA1", "id-sha1", "1.3.14.3.2.26", "RFC 8017 appendix B.1"),
+    ("SHA256", "id-sha256", "2.16.840.1.101.3.4.2.1", "RFC 8017 appendix B.1"),
+    ("SHA384", "id-sha384", "2.16.840.1.101.3.4.2.2", "RFC 8017 appendix B.1"),
+    ("SHA512", "id-sha512", "2.16.840.1.101.3.4.2.3", "RFC 8017 appendix B.1"),
+    ("SHA224", "id-sha224", "2.16.840.1.101.3.4.2.4", "RFC 8017 appendix B.1"),
+    ("KP_CODE_SIGNING", "id-kp-codeSigning", "1.3.6.1.5.5.7.3.3", "RFC 5280 section 4.2.1.12"),
+    ("KP_TIME_STAMPING", "id-kp-timeStamping", "1.3.6.1.5.5.7.3.8", "RFC 5280 section 4.2.1.12"),
+    ("KP_LIFETIME_SIGNING", "szOID_KP_LIFETIME_SIGNING", "1.3.6.1.4.1.311.10.3.13", "Microsoft, wincrypt.h"),
+    ("DATA", "id-data", "1.2.840.113549.1.7.1", "RFC 5652 section 4"),
+    ("SIGNED_DATA", "id-signedData", "1.2.840.113549.1.7.2", "RFC 5652 section 5.1"),
+    ("EMAIL_ADDRESS", "emailAddress", "1.2.840.113549.1.9.1", "RFC 2985 section 5.2.1"),
+    ("CONTENT_TYPE", "contentType", "1.2.840.113549.1.9.3", "RFC 2985 section 5.3.1"),
+    ("MESSAGE_DIGEST", "messageDigest", "1.2.840.113549.1.9.4", "RFC 2985 section 5.3.2"),
+    ("COUNTERSIGNATURE", "counterSignature", "1.2.840.113549.1.9.6", "RFC 2985 section 5.3.6"),
+    ("EXTENSION_REQUEST", "extensionRequest", "1.2.840.113549.1.9.14", "RFC 2985 section 5.4.2"),
+    ("SPC_INDIRECT_DATA", "SPC_INDIRECT_DATA_OBJID", "1.3.6.1.4.1.311.2.1.4", "Microsoft, wintrust.h"),
+    ("SPC_SP_OPUS_INFO", "SPC_SP_OPUS_INFO_OBJID", "1.3.6.1.4.1.311.2.1.12", "Microsoft, wintrust.h"),
+    ("SPC_PE_IMAGE_DATA", "SPC_PE_IMAGE_DATA_OBJID", "1.3.6.1.4.1.311.2.1.15", "Microsoft, wintrust.h"),
+    ("SPC_TIME_STAMP_REQUEST", "SPC_TIME_STAMP_REQUEST_OBJID", "1.3.6.1.4.1.311.3.2.1", "Microsoft, wintrust.h"),
+    ("RFC3161_COUNTER_SIGN", "szOID_RFC3161_counterSign", "1.3.6.1.4.1.311.3.3.1", "Microsoft, wincrypt.h"),
+    ("CTL", "szOID_CTL", "1.3.6.1.4.1.311.10.1", "Microsoft, wincrypt.h"),
+    ("CERT_SUBJECT_NAME_MD5_HASH", "CERT_SUBJECT_NAME_MD5_HASH_PROP_ID", "1.3.6.1.4.1.311.10.11.29",
+     "Microsoft, wincrypt.h, under szOID_CERT_PROP_ID_PREFIX"),
+    ("CERT_DISALLOWED_FILETIME", "CERT_DISALLOWED_FILETIME_PROP_ID", "1.3.6.1.4.1.311.10.11.104",
+     "Microsoft, wincrypt.h, under szOID_CERT_PROP_ID_PREFIX"),
+    ("CERT_NOT_BEFORE_FILETIME", "CERT_NOT_BEFORE_FILETIME_PROP_ID", "1.3.6.1.4.1.311.10.11.126",
+     "Microsoft, wincrypt.h, under szOID_CERT_PROP_ID_PREFIX"),
+    ("CERT_NOT_BEFORE_ENHKEY_USAGE", "CERT_NOT_BEFORE_ENHKEY_USAGE_PROP_ID", "1.3.6.1.4.1.311.10.11.127",
+     "Microsoft, wincrypt.h, under szOID_CERT_PROP_ID_PREFIX"),
+    ("AT_COMMON_NAME", "id-at-commonName", "2.5.4.3", "X.520, RFC 5280 appendix A.1"),
+    ("AT_SURNAME", "id-at-surname", "2.5.4.4", "X.520, RFC 5280 appendix A.1"),
+    ("AT_SERIAL_NUMBER", "id-at-serialNumber", "2.5.4.5", "X.520, RFC 5280 appendix A.1"),
+    ("AT_COUNTRY_NAME", "id-at-countryName", "2.5.4.6", "X.520, RFC 5280 appendix A.1"),
+    ("AT_LOCALITY_NAME", "id-at-localityName", "2.5.4.7", "X.520, RFC 5280 appendix A.1"),
+    ("AT_STATE_OR_PROVINCE_NAME", "id-at-stateOrProvinceName", "2.5.4.8", "X.520, RFC 5280 appendix A.1"),
+    ("AT_STREET_ADDRESS", "id-at-streetAddress", "2.5.4.9", "X.520, RFC 4519 section 2.34"),
+    ("AT_ORGANIZATION_NAME", "id-at-organizationName", "2.5.4.10", "X.520, RFC 5280 appendix A.1"),
+    ("AT_ORGANIZATIONAL_UNIT_NAME", "id-at-organizationalUnitName", "2.5.4.11", "X.520, RFC 5280 appendix A.1"),
+    ("AT_GIVEN_NAME", "id-at-givenName", "2.5.4.42", "X.520, RFC 5280 appendix A.1"),
+    ("CE_SUBJECT_KEY_IDENTIFIER", "id-ce-subjectKeyIdentifier", "2.5.29.14", "RFC 5280 section 4.2.1.2"),
+    ("CE_KEY_USAGE", "id-ce-keyUsage", "2.5.29.15", "RFC 5280 section 4.2.1.3"),
+    ("CE_SUBJECT_ALT_NAME", "id-ce-subjectAltName", "2.5.29.17", "RFC 5280 section 4.2.1.6"),
+    ("CE_ISSUER_ALT_NAME", "id-ce-issuerAltName", "2.5.29.18", "RFC 5280 section 4.2.1.7"),
+    ("CE_BASIC_CONSTRAINTS", "id-ce-basicConstraints", "2.5.29.19", "RFC 5280 section 4.2.1.9"),
+    ("CE_AUTHORITY_KEY_IDENTIFIER", "id-ce-authorityKeyIdentifier", "2.5.29.35", "RFC 5280 section 4.2.1.1"),
+    ("CE_EXT_KEY_USAGE", "id-ce-extKeyUsage", "2.5.29.37", "RFC 5280 section 4.2.1.12"),
 ]
 
 LIMIT = 1 << 128
@@ -258,61 +245,44 @@ def checked(texts):
     return count
 
 
-def known():
+def constants():
     """The lines of the constants and the table."""
-    for source, rows in KNOWN:
-        for constant, name, text in rows:
-            octets = "".join(f"\\x{octet:02X}" for octet in contents(text))
-            yield f"/// `{name}` ({source})."
-            yield f'pub const {constant}: &[u8] = b"{octets}";'
-            yield ""
-    count = sum(len(rows) for _, rows in KNOWN)
+    for constant, name, text, source in KNOWN:
+        octets = "".join(f"\\x{octet:02X}" for octet in contents(text))
+        yield f"/// `{name}` ({source})."
+        yield f'pub const {constant}: &[u8] = b"{octets}";'
+        yield ""
     yield "/// The rows of the table."
     yield "#[rattlefmt::skip]"
-    yield f"pub static TABLE: [KnownRow; {count}] = ["
-    for _, rows in KNOWN:
-        for constant, name, text in rows:
-            yield f'    ("{name}", "{text}", {constant}),'
+    yield f"pub static TABLE: [KnownRow; {len(KNOWN)}] = ["
+    for constant, name, text, _ in KNOWN:
+        yield f'    ("{name}", "{text}", {constant}),'
     yield "];"
 
 
-def rows_of(name, about, rows):
-    """The lines of a constant with a line a row."""
-    yield f"/// {about}"
-    yield f'const {name}: &str = "' + "\n".join(";".join(row) for row in rows) + '";'
-    yield ""
-
-
-def tests():
-    """The lines of the tests' tables."""
-    read = [(text, contents(text).hex(), why) for text, why in READ]
-    bad_contents = [(octets.replace(" ", "").lower(), why) for octets, why in BAD_CONTENTS]
-    yield from rows_of("READ", "Texts of identifiers, their contents octets, and why each row is there.", read)
-    yield from rows_of("BAD_TEXTS", "Texts of no identifier, and why each row is there.", BAD_TEXTS)
-    yield from rows_of(
-        "BAD_CONTENTS", "Octets that are the contents of no identifier, and why each row is there.", bad_contents)
+def listed():
+    """The lines of the list in the specification."""
+    for place, (constant, name, text, _) in enumerate(KNOWN):
+        end = "[]" if place + 1 == len(KNOWN) else ""
+        yield f'    known_row (codes "{name}") (codes "{text}") octets.{constant}.now ∷ {end}'.rstrip()
 
 
 def stands_in(lines, file):
     """Whether the lines stand in the file as they are here."""
-    return "\n".join(lines).strip() in (SOURCES / file).read_text(encoding="utf-8")
+    return "\n".join(lines).strip() in (CRATE / file).read_text(encoding="utf-8")
 
 
 def main():
-    known_texts = [text for _, rows in KNOWN for _, _, text in rows]
-    read_texts = [text for text, _ in READ]
+    texts = [row[2] for row in KNOWN] + [text for text, _ in READ]
     match sys.argv[1:]:
-        case ["known"]:
-            print("\n".join(known()))
-            texts = known_texts
-        case ["tests"]:
-            print("\n".join(tests()))
-            texts = read_texts
+        case ["table"]:
+            print("\n".join(constants()))
+        case ["list"]:
+            print("\n".join(listed()))
         case ["check"]:
-            for lines, file in (known(), "oids.rt"), (tests(), "oid_tests.rt"):
+            for lines, file in (constants(), "src/oids.rt"), (listed(), "specs/NamedIdentifiers.antt"):
                 if not stands_in(lines, file):
                     sys.exit(f"{file} has other rows")
-            texts = known_texts + read_texts
         case _:
             sys.exit(__doc__)
     print(f"{checked(texts)} of {len(texts)} rows are as openssl writes them", file=sys.stderr)

@@ -1,12 +1,13 @@
 -- Octets are the contents of an identifier where they are subidentifiers, one at least.
-use Rattle.std.proofs.Common.{◌≡◌, ◌≢◌, ◌↔◌, ℕ, Bool, true, false, not, IsTrue, eqb, length, refl, ◌+◌, ◌-◌, ◌*◌, ◌/◌, ◌%◌, ◌<◌, ◌≤◌, List, [], ◌∷◌, ◌++◌, suc, get_or, take, drop, sym, ap, ap₂, ◌∙◌, inl, inr, arith}
+use Rattle.std.proofs.Common.{◌≡◌, ◌≢◌, ◌↔◌, ℕ, Bool, true, false, not, IsTrue, eqb, length, refl, ◌+◌, ◌-◌, ◌*◌, ◌/◌, ◌%◌, ◌<◌, ◌≤◌, List, [], ◌∷◌, ◌++◌, suc, get_or, take, drop, sym, ap, ap₂, subst, ◌∙◌, inl, inr, arith}
 use Rattle.std.proofs.lemmas.Bool.{cases_lt, eqb-true, eqb-false, false≢true}
 use Rattle.std.proofs.lemmas.List.{nil_from_length, take_all}
 use Rattle.std.specs.List.{AllByRecursion, flat_map}
 use Rattle.asn1_types.specs.Subidentifier.{IsSubidentifier, subidentifier, BeginsWithNoSubidentifier}
 use Rattle.asn1_types.specs.SubidentifierReading.{subidentifier_some}
 use Rattle.asn1_types.specs.ObjectIdentifier.{IsRoot, IsArcs, IsIdentifier, contents_of}
-use Rattle.asn1_types.specs.OneIdentifier.{contents_once}
+use Rattle.asn1_types.specs.declared.oid.ObjectIdentifier.{ObjectIdentifier}
+use Rattle.asn1_types.specs.OneIdentifier.{contents_once, IsIdentifier-prop}
 use Rattle.asn1_types.proofs.Subidentifiers.{AreSubidentifiers, are_none}
 
 -- the identifier whose first two arcs make a number
@@ -80,3 +81,12 @@ arcs_made [] octets root two is_root made each e = absurd (omega arith)
 arcs_made (x ∷ []) octets root two is_root made each e = absurd (omega arith)
 arcs_made (x ∷ y ∷ xs) octets root two is_root made each e =
     ((is_root, bounded_from xs (λ i. each (suc (suc i)))), e ∙ ap₂ (λ n ns. subidentifier n ++ flat_map subidentifier ns) made (take_all (length (x ∷ y ∷ xs) - 2) xs (omega arith)))
+
+abbrev identifier_of : (contents : List ℕ) → IsIdentifier contents → ObjectIdentifier
+identifier_of contents identifier = record { contents = contents; formed = identifier }
+
+-- identifiers of the same contents octets are the same
+pub same_identifier : (a b : ObjectIdentifier) → a.contents ≡ b.contents → a ≡ b
+same_identifier a b e =
+    subst (λ (contents : List ℕ). (h : IsIdentifier contents) → a ≡ identifier_of contents h) e
+    (λ h. ap (identifier_of a.contents) (IsIdentifier-prop a.contents a.formed h)) b.formed

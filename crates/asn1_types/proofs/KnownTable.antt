@@ -9,6 +9,7 @@ use Rattle.std.proofs.lemmas.Slice.Eq.{bytes_eq-Decides}
 use Rattle.asn1_types.specs.Subidentifier.{IsSubidentifier, subidentifier}
 use Rattle.asn1_types.specs.ObjectIdentifier.{IsArcs, IsIdentifier, contents_of, dotted}
 use Rattle.asn1_types.specs.KnownIdentifiers.{KnownRow, known_rows, is_known, IsOfOneIdentifier, Differ}
+use Rattle.asn1_types.specs.NamedIdentifiers.{named_identifiers}
 
 -- the numbers between the dots of a text
 abbrev numbers_in : List ℕ → List ℕ
@@ -25,6 +26,10 @@ abbrev agrees : KnownRow → Bool
 agrees row =
     are_arcs (numbers_in row.text) && bytes_eq row.text (dotted (numbers_in row.text))
     && bytes_eq row.contents (contents_of (numbers_in row.text))
+
+-- the rows are computed and so is the list
+pub rows_named : known_rows ≡ named_identifiers
+rows_named = refl
 
 all_agree : list_all agrees known_rows ≡ true
 unfolding subidentifier digits

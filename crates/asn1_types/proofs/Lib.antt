@@ -6,3 +6,4 @@ pub mod Decimals
 pub mod Dotted
 pub mod KnownTable
 pub mod KnownRows
+pub mod Padding

@@ -38,31 +38,20 @@ generalized_made None t xs exists given e =
 generalized_made (Some v) t xs exists given e = ap Some (same_generalized v t (given ∙ sym e))
 
 -- The same, the year being one of 1950 to 2049.
-abbrev AreUtcMoment : List ℕ → Type 0
-AreUtcMoment xs = AreMoment xs × IsUtcYear (get_or xs 0 0)
+abbrev utc_of : (t : GeneralizedTime) → IsUtcYear t.year → UTCTime
+utc_of t h = record { time = t; of_years = h }
 
-AreUtcMoment-prop : (xs : List ℕ) → IsProp (AreUtcMoment xs)
-AreUtcMoment-prop xs = hlevel (le_prop)
-
-abbrev utc_of : (xs : List ℕ) → AreUtcMoment xs → UTCTime
-utc_of xs h = record {
-  year = get_or xs 0 0;
-  month = get_or xs 1 0;
-  day = get_or xs 2 0;
-  hour = get_or xs 3 0;
-  minute = get_or xs 4 0;
-  second = get_or xs 5 0;
-  exists = h.0;
-  of_years = h.1;
-}
+year-prop : (t : GeneralizedTime) → IsProp (IsUtcYear t.year)
+year-prop t = hlevel (le_prop)
 
 pub same_utc : (s t : UTCTime) → utc_fields s ≡ utc_fields t → s ≡ t
 same_utc s t e =
-    subst (λ (xs : List ℕ). (h : AreUtcMoment xs) → s ≡ utc_of xs h) e (λ h. ap (utc_of (utc_fields s)) (AreUtcMoment-prop (utc_fields s) (s.exists, s.of_years) h)) (t.exists, t.of_years)
+    subst (λ (time : GeneralizedTime). (h : IsUtcYear time.year) → s ≡ utc_of time h) (same_generalized s.time t.time e)
+    (λ h. ap (utc_of s.time) (year-prop s.time s.of_years h)) t.of_years
 
-pub utc_made : (made : Option UTCTime) (t : UTCTime) (xs : List ℕ) → (IsSome made ↔ AreUtcMoment xs) → IfSome made (λ v. utc_fields v ≡ xs) → utc_fields t ≡ xs → made ≡ Some t
+pub utc_made : (made : Option UTCTime) (t : UTCTime) (xs : List ℕ) → (IsSome made ↔ (AreMoment xs × IsUtcYear (get_or xs 0 0))) → IfSome made (λ v. utc_fields v ≡ xs) → utc_fields t ≡ xs → made ≡ Some t
 utc_made None t xs exists given e =
-    let made = exists.1 (subst AreUtcMoment e (t.exists, t.of_years)) in absurd (cc)
+    let made = exists.1 (subst (λ ys. AreMoment ys × IsUtcYear (get_or ys 0 0)) e (t.time.exists, t.of_years)) in absurd (cc)
 utc_made (Some v) t xs exists given e = ap Some (same_utc v t (given ∙ sym e))
 
 -- ---- digits
@@ -116,8 +105,8 @@ pub utc_spelled : (bs : List ℕ) (v : UTCTime) (year last month day hour minute
     → IsPair bs 0 last → IsPair bs 2 month → IsPair bs 4 day → IsPair bs 6 hour → IsPair bs 8 minute → IsPair bs 10 second
     → utc_fields v ≡ year ∷ month ∷ day ∷ hour ∷ minute ∷ second ∷ [] → bs ≡ utc_contents v
 utc_spelled (a ∷ b ∷ c ∷ d ∷ e ∷ f ∷ g ∷ h ∷ i ∷ j ∷ k ∷ l ∷ m ∷ []) v year last month day hour minute second same len z p0 p2 p4 p6 p8 p10 given =
-    let years : v.year ≡ year = cc in
-    let last_digits : v.year % 100 ≡ last = cc in
+    let years : v.time.year ≡ year = cc in
+    let last_digits : v.time.year % 100 ≡ last = cc in
     cc
 utc_spelled bs v year last month day hour minute second same len z p0 p2 p4 p6 p8 p10 given = absurd (omega arith)
 
@@ -125,13 +114,13 @@ pub utc_read : (bs : List ℕ) (t : UTCTime) (year last month day hour minute se
     → IsPair bs 0 last → IsPair bs 2 month → IsPair bs 4 day → IsPair bs 6 hour → IsPair bs 8 minute → IsPair bs 10 second
     → bs ≡ utc_contents t → utc_fields t ≡ year ∷ month ∷ day ∷ hour ∷ minute ∷ second ∷ []
 utc_read bs t year last month day hour minute second within same p0 p2 p4 p6 p8 p10 e =
-    let x = t.exists in
+    let x = t.time.exists in
     let d = day_below x in
-    let e0 = same_number last (t.year % 100) p0.0 (omega arith) (rw e at p0.1) in
-    let e2 = same_number month t.month p2.0 (omega arith) (rw e at p2.1) in
-    let e4 = same_number day t.day p4.0 d (rw e at p4.1) in
-    let e6 = same_number hour t.hour p6.0 (omega arith) (rw e at p6.1) in
-    let e8 = same_number minute t.minute p8.0 (omega arith) (rw e at p8.1) in
-    let e10 = same_number second t.second p10.0 (omega arith) (rw e at p10.1) in
-    let years : t.year ≡ year = omega arith in
+    let e0 = same_number last (t.time.year % 100) p0.0 (omega arith) (rw e at p0.1) in
+    let e2 = same_number month t.time.month p2.0 (omega arith) (rw e at p2.1) in
+    let e4 = same_number day t.time.day p4.0 d (rw e at p4.1) in
+    let e6 = same_number hour t.time.hour p6.0 (omega arith) (rw e at p6.1) in
+    let e8 = same_number minute t.time.minute p8.0 (omega arith) (rw e at p8.1) in
+    let e10 = same_number second t.time.second p10.0 (omega arith) (rw e at p10.1) in
+    let years : t.time.year ≡ year = omega arith in
     cc

@@ -6,6 +6,8 @@ pub mod Subidentifier
 pub mod ObjectIdentifier
 pub mod SubidentifierReading
 pub mod OneIdentifier
+pub mod Values
 pub mod Calendar
 pub mod Time
 pub mod KnownIdentifiers
+pub mod NamedIdentifiers

@@ -23,11 +23,20 @@ generalized_contents t =
 
 -- YYMMDDHHMMSSZ (X.690 11.8, RFC 5280 4.1.2.5.1).
 abbrev pub utc_contents : UTCTime → List ℕ
-utc_contents t = two_digits (t.year % 100) ++ from_month t.month t.day t.hour t.minute t.second
+utc_contents utc =
+    let t = utc.time in
+    two_digits (t.year % 100) ++ from_month t.month t.day t.hour t.minute t.second
 
 -- The fields, the year first.
 abbrev pub generalized_fields : GeneralizedTime → List ℕ
 generalized_fields t = t.year ∷ t.month ∷ t.day ∷ t.hour ∷ t.minute ∷ t.second ∷ []
 
+-- The fields of a UTCTime, with all digits of the year.
 abbrev pub utc_fields : UTCTime → List ℕ
-utc_fields t = t.year ∷ t.month ∷ t.day ∷ t.hour ∷ t.minute ∷ t.second ∷ []
+utc_fields utc = generalized_fields utc.time
+
+-- The text of a time: YYYY-MM-DD HH:MM:SS.
+abbrev pub time_text : GeneralizedTime → List ℕ
+time_text t =
+    two_digits (t.year / 100) ++ two_digits (t.year % 100) ++ codes "-" ++ two_digits t.month ++ codes "-" ++ two_digits t.day
+    ++ codes " " ++ two_digits t.hour ++ codes ":" ++ two_digits t.minute ++ codes ":" ++ two_digits t.second

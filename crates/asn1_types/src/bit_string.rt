@@ -1,6 +1,6 @@
 //! Strings of bits.
 
-ghost use Rattle.std.specs.Prelude.{◌≡◌, ◌↔◌, ◌&&◌, ◌==◌, List, ℕ, [], ◌∷◌, IfOk, IsTrue, MatchResult, bytes_eq};
+ghost use Rattle.std.specs.Prelude.{◌≡◌, ◌↔◌, ◌&&◌, ◌==◌, List, ℕ, [], ◌∷◌, IfOk, IsTrue, MatchOption, MatchResult, Err, bytes_eq};
 ghost use Rattle.std.proofs.Common.{rules};
 ghost use Rattle.std.specs.Cmp.Rules.{comparing};
 ghost use Rattle.asn1_types.specs.Contents.{RefusesContents};
@@ -16,25 +16,31 @@ const MAX_UNUSED: u8 = 7;
 pub struct BitString {
     unused: u8,
     payload: Octets,
-    ghost formed: { IsBitString unused payload },
+    pub ghost formed: { IsBitString unused payload },
 }
 
 impl BitString {
-    /// The string of these contents octets. It is `Shape` exactly where the first isn't a count of
-    /// unused bits, which is at most seven and zero where nothing follows (X.690 8.6.2).
+    /// Whether octets are the contents of a bit string. The first is a count of unused bits, which
+    /// is at most seven and zero where nothing follows (X.690 8.6.2).
+    pub fn is_content(bytes: &[u8]) -> bool
+        ensures formed { IsTrue result ↔ HasBitString bytes.now }
+    {
+        parts(bytes).is_some()
+    }
+
+    /// The string of these contents octets, `Shape` exactly where they are those of none.
     pub fn from_content(alloc: Global, bytes: &[u8]) -> Result<BitString, DerError>
-        ensures { MatchResult result
+        ensures read { MatchResult result
             (λ bits. bytes.now ≡ bits.unused ∷ bits.payload)
             (RefusesContents (HasBitString bytes.now)) }
+        // A refusal comes before memory is asked for.
+        ensures refused { (HasBitString bytes.now → ⊥) → result ≡ Err DerError.Shape }
     {
-        let [unused, payload @ ..] = bytes else {
+        let Some((unused, payload)) = parts(bytes) else {
             return Err(DerError::Shape);
         };
-        if *unused > MAX_UNUSED || (payload.is_empty() && *unused != 0) {
-            return Err(DerError::Shape);
-        }
         Ok(BitString {
-            unused: *unused,
+            unused,
             payload: Octets::from_slice(alloc, payload)?,
         })
     }
@@ -43,8 +49,10 @@ impl BitString {
     pub fn to_content(&self, alloc: Global) -> Result<Octets, AllocError>
         ensures { IfOk result (λ content. content ≡ self.now.unused ∷ self.now.payload) }
     {
-        let mut content = Vec::from_slice(alloc, &[self.unused])?;
-        content.extend_from_slice(self.payload_view())?;
+        let payload = self.payload_view();
+        let mut content = Vec::with_capacity(alloc, payload.len().saturating_add(1))?;
+        content.push(self.unused)?;
+        content.extend_from_slice(payload)?;
         Ok(Octets::from(content))
     }
 
@@ -98,4 +106,17 @@ impl PartialEq for BitString {
 
 impl Eq for BitString {
     ghost laws = { Prim.search (comparing, rules) };
+}
+
+/// The count of unused bits and the octets that hold the bits.
+fn parts(bytes: &[u8]) -> Option<(u8, &[u8])>
+    ensures { MatchOption result
+        (HasBitString bytes.now → ⊥)
+        (λ parts. (bytes.now ≡ parts.0 ∷ parts.1.now) × IsBitString parts.0 parts.1.now) }
+{
+    let (unused, payload) = bytes.split_first()?;
+    if *unused > MAX_UNUSED || (payload.is_empty() && *unused != 0) {
+        return None;
+    }
+    Some((*unused, payload))
 }

@@ -6,6 +6,7 @@ ghost use Rattle.asn1_types.specs.Calendar.{IsMoment};
 use crate::calendar::is_moment;
 use crate::digits::{digits_of, number_at};
 use crate::utc_time::UTCTime;
+use std::fmt;
 
 /// A GeneralizedTime as certificates have it: universal time of the years 0 to 9999, to the second
 /// (X.690 11.7, RFC 5280 4.1.2.5.2).
@@ -131,13 +132,20 @@ impl From<UTCTime> for GeneralizedTime {
     ghost from_gives = { λ utc time. generalized_fields time ≡ utc_fields utc };
 
     fn from(utc: UTCTime) -> GeneralizedTime {
-        GeneralizedTime {
-            year: utc.year(),
-            month: utc.month(),
-            day: utc.day(),
-            hour: utc.hour(),
-            minute: utc.minute(),
-            second: utc.second(),
-        }
+        *utc
+    }
+}
+
+impl fmt::Display for GeneralizedTime {
+    ghost use Rattle.asn1_types.specs.Time.{time_text};
+
+    ghost output = { λ time. Some (time_text time) };
+
+    fn fmt<W: fmt::Write>(&self, f: &mut fmt::Formatter<W>) -> fmt::Result {
+        write!(
+            f,
+            "{:04}-{:02}-{:02} {:02}:{:02}:{:02}",
+            self.year, self.month, self.day, self.hour, self.minute, self.second
+        )
     }
 }

@@ -1,6 +1,6 @@
 //! Strings of the seven-bit alphabet.
 
-ghost use Rattle.std.specs.Prelude.{◌≡◌, ◌↔◌, IfOk, IsTrue, MatchResult, bytes_eq};
+ghost use Rattle.std.specs.Prelude.{◌≡◌, ◌↔◌, IfOk, IsTrue, MatchResult, Err, bytes_eq};
 ghost use Rattle.std.proofs.Common.{rules};
 ghost use Rattle.std.specs.Cmp.Rules.{comparing};
 ghost use Rattle.std.proofs.Props.{props};
@@ -16,15 +16,17 @@ use std::str;
 #[derive(Debug, Drop)]
 pub struct Ia5String {
     text: Octets,
-    ghost ascii: { IsIa5 text } by { Prim.hlevel props },
+    pub ghost ascii: { IsIa5 text } by { Prim.hlevel props },
 }
 
 impl Ia5String {
     /// The string of this text, `CharSet` exactly where an octet of it is past 127.
     pub fn from_string(alloc: Global, text: &str) -> Result<Ia5String, CharSetError>
-        ensures { MatchResult result
+        ensures made { MatchResult result
             (λ string. string.text ≡ text.now)
             (RefusesCharSet (IsIa5 text.now)) }
+        // A refusal comes before memory is asked for.
+        ensures refused { (IsIa5 text.now → ⊥) → result ≡ Err CharSetError.CharSet }
     {
         if !text.is_ascii() {
             return Err(CharSetError::CharSet);
@@ -34,13 +36,22 @@ impl Ia5String {
         })
     }
 
+    /// Whether octets are the contents of an IA5String: none is past 127.
+    pub fn is_content(bytes: &[u8]) -> bool
+        ensures formed { IsTrue result ↔ IsIa5 bytes.now }
+    {
+        bytes.is_ascii()
+    }
+
     /// The string of these contents octets, `Shape` exactly where one is past 127.
     pub fn from_content(alloc: Global, bytes: &[u8]) -> Result<Ia5String, DerError>
-        ensures { MatchResult result
+        ensures read { MatchResult result
             (λ string. string.text ≡ bytes.now)
             (RefusesContents (IsIa5 bytes.now)) }
+        // A refusal comes before memory is asked for.
+        ensures refused { (IsIa5 bytes.now → ⊥) → result ≡ Err DerError.Shape }
     {
-        if !bytes.is_ascii() {
+        if !Ia5String::is_content(bytes) {
             return Err(DerError::Shape);
         }
         Ok(Ia5String {
@@ -52,7 +63,8 @@ impl Ia5String {
     pub fn as_str(&self) -> &str
         ensures { result.now ≡ self.now.text }
     {
-        str::from_utf8(self.text.as_slice()).unwrap()
+        // SAFETY: an octet of at most 127 is a character of UTF-8.
+        unsafe { str::from_utf8_unchecked(self.text.as_slice()) }
     }
 
     /// A copy of the value.

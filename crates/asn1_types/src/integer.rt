@@ -1,6 +1,6 @@
 //! Integers of any size.
 
-ghost use Rattle.std.specs.Prelude.{◌≡◌, ◌↔◌, ◌≢◌, ◌<◌, ◌≤◌, List, ℕ, [], ◌∷◌, length, slice_index, IfOk, IsTrue, MatchResult, bytes_eq};
+ghost use Rattle.std.specs.Prelude.{◌≡◌, ◌↔◌, ◌≢◌, ◌<◌, ◌≤◌, List, ℕ, [], ◌∷◌, length, slice_index, IfOk, IsTrue, MatchResult, Err, bytes_eq};
 ghost use Rattle.std.proofs.Common.{rules};
 ghost use Rattle.std.specs.Cmp.Rules.{comparing};
 ghost use Rattle.asn1_types.specs.Contents.{RefusesContents};
@@ -14,17 +14,26 @@ use std::alloc::{AllocError, Global};
 #[derive(Debug, Drop)]
 pub struct IntegerAsn1 {
     contents: Octets,
-    ghost formed: { IsInteger contents },
+    pub ghost formed: { IsInteger contents },
 }
 
 impl IntegerAsn1 {
+    /// Whether octets are the contents of an integer: there is one at least (X.690 8.3.1).
+    pub fn is_content(bytes: &[u8]) -> bool
+        ensures formed { IsTrue result ↔ IsInteger bytes.now }
+    {
+        !bytes.is_empty()
+    }
+
     /// The integer of these contents octets, `Shape` exactly where there are none (X.690 8.3.1).
     pub fn from_content(alloc: Global, bytes: &[u8]) -> Result<IntegerAsn1, DerError>
-        ensures { MatchResult result
+        ensures read { MatchResult result
             (λ integer. integer.contents ≡ bytes.now)
             (RefusesContents (IsInteger bytes.now)) }
+        // A refusal comes before memory is asked for.
+        ensures refused { (IsInteger bytes.now → ⊥) → result ≡ Err DerError.Shape }
     {
-        if bytes.is_empty() {
+        if !IntegerAsn1::is_content(bytes) {
             return Err(DerError::Shape);
         }
         Ok(IntegerAsn1 {
@@ -39,7 +48,7 @@ impl IntegerAsn1 {
         ensures { IfOk result (λ integer. IsUnsignedInteger (number_of bytes.now) integer.contents) }
     {
         let digits = without_zeros(bytes);
-        let mut contents = Vec::new(alloc);
+        let mut contents = Vec::with_capacity(alloc, digits.len().saturating_add(1))?;
         // The first bit would be 1, or there would be no octet.
         if !matches!(digits, [0..=0x7F, ..]) {
             contents.push(0)?;

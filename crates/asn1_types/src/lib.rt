@@ -10,15 +10,9 @@ mod generalized_time;
 mod ia5_string;
 mod integer;
 mod oid;
-#[cfg(test)]
-mod oid_tests;
 pub mod oids;
 mod time_laws;
-#[cfg(test)]
-mod time_tests;
 mod utc_time;
-#[cfg(test)]
-mod value_tests;
 
 pub use bit_string::BitString;
 pub use error::{CharSetError, TextError};

@@ -1,6 +1,6 @@
 //! Object identifiers.
 
-ghost use Rattle.std.specs.Prelude.{◌≡◌, ◌↔◌, IsTrue, IfOk, MatchResult, string_bytes};
+ghost use Rattle.std.specs.Prelude.{◌≡◌, ◌↔◌, IsTrue, IfOk, MatchResult, Err, string_bytes};
 ghost use Rattle.asn1_types.specs.Contents.{RefusesContents};
 ghost use Rattle.asn1_types.specs.ObjectIdentifier.{IsIdentifier, IsArcs, contents_of, dotted, IsDottedText, RefusesText};
 ghost use Rattle.asn1_types.specs.KnownIdentifiers.{is_known};
@@ -21,7 +21,7 @@ use subidentifier::{split_subidentifier, subidentifiers};
 #[derive(Debug, Drop)]
 pub struct ObjectIdentifier {
     contents: Octets,
-    ghost formed: { IsIdentifier contents } by { IsIdentifier-prop contents },
+    pub ghost formed: { IsIdentifier contents } by { IsIdentifier-prop contents },
 }
 
 impl ObjectIdentifier {
@@ -36,13 +36,26 @@ impl ObjectIdentifier {
         ObjectIdentifier::from_arcs(alloc, &arcs)
     }
 
+    /// Whether octets are the contents of an identifier.
+    pub fn is_content(bytes: &[u8]) -> bool
+        ensures formed { IsTrue result ↔ IsIdentifier bytes.now }
+    {
+        let mut rest = bytes;
+        while let Some((_, after)) = split_subidentifier(rest) {
+            rest = after;
+        }
+        rest.is_empty() && !bytes.is_empty()
+    }
+
     /// The identifier of these contents octets, `Shape` exactly where there is none.
     pub fn from_content(alloc: Global, bytes: &[u8]) -> Result<ObjectIdentifier, DerError>
-        ensures { MatchResult result
+        ensures read { MatchResult result
             (λ identifier. identifier.contents ≡ bytes.now)
             (RefusesContents (IsIdentifier bytes.now)) }
+        // A refusal comes before memory is asked for.
+        ensures refused { (IsIdentifier bytes.now → ⊥) → result ≡ Err DerError.Shape }
     {
-        if !is_identifier(bytes) {
+        if !ObjectIdentifier::is_content(bytes) {
             return Err(DerError::Shape);
         }
         Ok(ObjectIdentifier {
@@ -73,7 +86,7 @@ impl ObjectIdentifier {
         };
         let contents = subidentifiers(alloc, root, more)?;
         Ok(ObjectIdentifier {
-            contents: Octets::from_slice(alloc, &contents)?,
+            contents: Octets::from(contents),
         })
     }
 
@@ -106,14 +119,3 @@ impl ObjectIdentifier {
 pub fn text_and_contents_agree(a: &ObjectIdentifier, b: &ObjectIdentifier)
     ensures { (dotted a.now.formed.arcs ≡ dotted b.now.formed.arcs) ↔ (a.now.contents ≡ b.now.contents) }
 {}
-
-/// Whether octets are the contents of an identifier.
-fn is_identifier(octets: &[u8]) -> bool
-    ensures { IsTrue result ↔ IsIdentifier octets.now }
-{
-    let mut rest = octets;
-    while let Some((_, after)) = split_subidentifier(rest) {
-        rest = after;
-    }
-    rest.is_empty() && !octets.is_empty()
-}

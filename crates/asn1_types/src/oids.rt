@@ -3,6 +3,7 @@
 ghost use Rattle.std.specs.Prelude.{◌≡◌, ◌≢◌, map, MatchOption};
 ghost use Rattle.std.specs.List.{All, AllPairs};
 ghost use Rattle.asn1_types.specs.KnownIdentifiers.{known_row, known_rows, HasRow, IsOfOneIdentifier, Differ};
+ghost use Rattle.asn1_types.specs.NamedIdentifiers.{named_identifiers};
 
 /// An identifier with its name.
 #[derive(Clone, Copy, Debug)]
@@ -71,53 +72,55 @@ fn with_name(rows: &[KnownRow], wanted: &str) -> Option<KnownOid>
     None
 }
 
-/// The text and the contents octets of each row are those of one identifier, and no two rows have a
-/// name, a text or contents octets in common.
+/// The rows are those of the list of named identifiers, and each name has a constant. The text and
+/// the contents octets of each row are those of one identifier, and no two rows have a name, a text
+/// or contents octets in common.
 pub fn rows_agree()
+    ensures named { known_rows ≡ named_identifiers }
     ensures each { All IsOfOneIdentifier known_rows }
     ensures apart { AllPairs Differ known_rows }
 {}
 
-/// `rsaEncryption` (RFC 8017 appendix C, RFC 4055 section 5).
+/// `rsaEncryption` (RFC 8017 appendix A.1, RFC 3279 section 2.3.1).
 pub const RSA_ENCRYPTION: &[u8] = b"\x2A\x86\x48\x86\xF7\x0D\x01\x01\x01";
 
-/// `md5WithRSAEncryption` (RFC 8017 appendix C, RFC 4055 section 5).
+/// `md5WithRSAEncryption` (RFC 8017 appendix A.2.4, RFC 3279 section 2.2.1).
 pub const MD5_WITH_RSA_ENCRYPTION: &[u8] = b"\x2A\x86\x48\x86\xF7\x0D\x01\x01\x04";
 
-/// `sha1WithRSAEncryption` (RFC 8017 appendix C, RFC 4055 section 5).
+/// `sha1WithRSAEncryption` (RFC 8017 appendix A.2.4, RFC 3279 section 2.2.1).
 pub const SHA1_WITH_RSA_ENCRYPTION: &[u8] = b"\x2A\x86\x48\x86\xF7\x0D\x01\x01\x05";
 
-/// `sha256WithRSAEncryption` (RFC 8017 appendix C, RFC 4055 section 5).
+/// `sha256WithRSAEncryption` (RFC 8017 appendix A.2.4, RFC 4055 section 5).
 pub const SHA256_WITH_RSA_ENCRYPTION: &[u8] = b"\x2A\x86\x48\x86\xF7\x0D\x01\x01\x0B";
 
-/// `sha384WithRSAEncryption` (RFC 8017 appendix C, RFC 4055 section 5).
+/// `sha384WithRSAEncryption` (RFC 8017 appendix A.2.4, RFC 4055 section 5).
 pub const SHA384_WITH_RSA_ENCRYPTION: &[u8] = b"\x2A\x86\x48\x86\xF7\x0D\x01\x01\x0C";
 
-/// `sha512WithRSAEncryption` (RFC 8017 appendix C, RFC 4055 section 5).
+/// `sha512WithRSAEncryption` (RFC 8017 appendix A.2.4, RFC 4055 section 5).
 pub const SHA512_WITH_RSA_ENCRYPTION: &[u8] = b"\x2A\x86\x48\x86\xF7\x0D\x01\x01\x0D";
 
-/// `sha224WithRSAEncryption` (RFC 8017 appendix C, RFC 4055 section 5).
+/// `sha224WithRSAEncryption` (RFC 8017 appendix A.2.4, RFC 4055 section 5).
 pub const SHA224_WITH_RSA_ENCRYPTION: &[u8] = b"\x2A\x86\x48\x86\xF7\x0D\x01\x01\x0E";
 
-/// `id-ecPublicKey` (RFC 5480 section 2, RFC 5758 section 3.2).
+/// `id-ecPublicKey` (RFC 5480 section 2.1.1).
 pub const EC_PUBLIC_KEY: &[u8] = b"\x2A\x86\x48\xCE\x3D\x02\x01";
 
-/// `ecdsa-with-SHA256` (RFC 5480 section 2, RFC 5758 section 3.2).
+/// `ecdsa-with-SHA256` (RFC 5758 section 3.2).
 pub const ECDSA_WITH_SHA256: &[u8] = b"\x2A\x86\x48\xCE\x3D\x04\x03\x02";
 
-/// `ecdsa-with-SHA384` (RFC 5480 section 2, RFC 5758 section 3.2).
+/// `ecdsa-with-SHA384` (RFC 5758 section 3.2).
 pub const ECDSA_WITH_SHA384: &[u8] = b"\x2A\x86\x48\xCE\x3D\x04\x03\x03";
 
-/// `ecdsa-with-SHA512` (RFC 5480 section 2, RFC 5758 section 3.2).
+/// `ecdsa-with-SHA512` (RFC 5758 section 3.2).
 pub const ECDSA_WITH_SHA512: &[u8] = b"\x2A\x86\x48\xCE\x3D\x04\x03\x04";
 
-/// `secp256r1` (RFC 5480 section 2, RFC 5758 section 3.2).
+/// `secp256r1` (RFC 5480 section 2.1.1.1).
 pub const SECP256R1: &[u8] = b"\x2A\x86\x48\xCE\x3D\x03\x01\x07";
 
-/// `secp384r1` (RFC 5480 section 2, RFC 5758 section 3.2).
+/// `secp384r1` (RFC 5480 section 2.1.1.1).
 pub const SECP384R1: &[u8] = b"\x2B\x81\x04\x00\x22";
 
-/// `secp521r1` (RFC 5480 section 2, RFC 5758 section 3.2).
+/// `secp521r1` (RFC 5480 section 2.1.1.1).
 pub const SECP521R1: &[u8] = b"\x2B\x81\x04\x00\x23";
 
 /// `id-X25519` (RFC 8410 section 3).
@@ -159,65 +162,65 @@ pub const SHA512: &[u8] = b"\x60\x86\x48\x01\x65\x03\x04\x02\x03";
 /// `id-sha224` (RFC 8017 appendix B.1).
 pub const SHA224: &[u8] = b"\x60\x86\x48\x01\x65\x03\x04\x02\x04";
 
-/// `id-kp-codeSigning` (RFC 5280 section 4.2.1.12, Microsoft).
+/// `id-kp-codeSigning` (RFC 5280 section 4.2.1.12).
 pub const KP_CODE_SIGNING: &[u8] = b"\x2B\x06\x01\x05\x05\x07\x03\x03";
 
-/// `id-kp-timeStamping` (RFC 5280 section 4.2.1.12, Microsoft).
+/// `id-kp-timeStamping` (RFC 5280 section 4.2.1.12).
 pub const KP_TIME_STAMPING: &[u8] = b"\x2B\x06\x01\x05\x05\x07\x03\x08";
 
-/// `szOID_KP_LIFETIME_SIGNING` (RFC 5280 section 4.2.1.12, Microsoft).
+/// `szOID_KP_LIFETIME_SIGNING` (Microsoft, wincrypt.h).
 pub const KP_LIFETIME_SIGNING: &[u8] = b"\x2B\x06\x01\x04\x01\x82\x37\x0A\x03\x0D";
 
-/// `id-data` (RFC 5652 sections 4 and 5.1).
+/// `id-data` (RFC 5652 section 4).
 pub const DATA: &[u8] = b"\x2A\x86\x48\x86\xF7\x0D\x01\x07\x01";
 
-/// `id-signedData` (RFC 5652 sections 4 and 5.1).
+/// `id-signedData` (RFC 5652 section 5.1).
 pub const SIGNED_DATA: &[u8] = b"\x2A\x86\x48\x86\xF7\x0D\x01\x07\x02";
 
-/// `emailAddress` (RFC 2985 section 5).
+/// `emailAddress` (RFC 2985 section 5.2.1).
 pub const EMAIL_ADDRESS: &[u8] = b"\x2A\x86\x48\x86\xF7\x0D\x01\x09\x01";
 
-/// `contentType` (RFC 2985 section 5).
+/// `contentType` (RFC 2985 section 5.3.1).
 pub const CONTENT_TYPE: &[u8] = b"\x2A\x86\x48\x86\xF7\x0D\x01\x09\x03";
 
-/// `messageDigest` (RFC 2985 section 5).
+/// `messageDigest` (RFC 2985 section 5.3.2).
 pub const MESSAGE_DIGEST: &[u8] = b"\x2A\x86\x48\x86\xF7\x0D\x01\x09\x04";
 
-/// `counterSignature` (RFC 2985 section 5).
+/// `counterSignature` (RFC 2985 section 5.3.6).
 pub const COUNTERSIGNATURE: &[u8] = b"\x2A\x86\x48\x86\xF7\x0D\x01\x09\x06";
 
-/// `extensionRequest` (RFC 2985 section 5).
+/// `extensionRequest` (RFC 2985 section 5.4.2).
 pub const EXTENSION_REQUEST: &[u8] = b"\x2A\x86\x48\x86\xF7\x0D\x01\x09\x0E";
 
-/// `SPC_INDIRECT_DATA_OBJID` (Microsoft, Authenticode).
+/// `SPC_INDIRECT_DATA_OBJID` (Microsoft, wintrust.h).
 pub const SPC_INDIRECT_DATA: &[u8] = b"\x2B\x06\x01\x04\x01\x82\x37\x02\x01\x04";
 
-/// `SPC_SP_OPUS_INFO_OBJID` (Microsoft, Authenticode).
+/// `SPC_SP_OPUS_INFO_OBJID` (Microsoft, wintrust.h).
 pub const SPC_SP_OPUS_INFO: &[u8] = b"\x2B\x06\x01\x04\x01\x82\x37\x02\x01\x0C";
 
-/// `SPC_PE_IMAGE_DATA_OBJID` (Microsoft, Authenticode).
+/// `SPC_PE_IMAGE_DATA_OBJID` (Microsoft, wintrust.h).
 pub const SPC_PE_IMAGE_DATA: &[u8] = b"\x2B\x06\x01\x04\x01\x82\x37\x02\x01\x0F";
 
-/// `SPC_TIME_STAMP_REQUEST_OBJID` (Microsoft, Authenticode).
+/// `SPC_TIME_STAMP_REQUEST_OBJID` (Microsoft, wintrust.h).
 pub const SPC_TIME_STAMP_REQUEST: &[u8] = b"\x2B\x06\x01\x04\x01\x82\x37\x03\x02\x01";
 
-/// `szOID_RFC3161_counterSign` (Microsoft, Authenticode).
+/// `szOID_RFC3161_counterSign` (Microsoft, wincrypt.h).
 pub const RFC3161_COUNTER_SIGN: &[u8] = b"\x2B\x06\x01\x04\x01\x82\x37\x03\x03\x01";
 
-/// `szOID_CTL` (Microsoft, certificate trust lists).
+/// `szOID_CTL` (Microsoft, wincrypt.h).
 pub const CTL: &[u8] = b"\x2B\x06\x01\x04\x01\x82\x37\x0A\x01";
 
-/// `CERT_SUBJECT_NAME_MD5_HASH_PROP_ID` (Microsoft, certificate trust lists).
+/// `CERT_SUBJECT_NAME_MD5_HASH_PROP_ID` (Microsoft, wincrypt.h, under szOID_CERT_PROP_ID_PREFIX).
 pub const CERT_SUBJECT_NAME_MD5_HASH: &[u8] = b"\x2B\x06\x01\x04\x01\x82\x37\x0A\x0B\x1D";
 
-/// `CERT_DISALLOWED_FILETIME_PROP_ID` (Microsoft, certificate trust lists).
+/// `CERT_DISALLOWED_FILETIME_PROP_ID` (Microsoft, wincrypt.h, under szOID_CERT_PROP_ID_PREFIX).
 pub const CERT_DISALLOWED_FILETIME: &[u8] = b"\x2B\x06\x01\x04\x01\x82\x37\x0A\x0B\x68";
 
-/// `CERT_PROP_ID_126` (Microsoft, certificate trust lists).
-pub const CERT_PROP_ID_126: &[u8] = b"\x2B\x06\x01\x04\x01\x82\x37\x0A\x0B\x7E";
+/// `CERT_NOT_BEFORE_FILETIME_PROP_ID` (Microsoft, wincrypt.h, under szOID_CERT_PROP_ID_PREFIX).
+pub const CERT_NOT_BEFORE_FILETIME: &[u8] = b"\x2B\x06\x01\x04\x01\x82\x37\x0A\x0B\x7E";
 
-/// `CERT_PROP_ID_127` (Microsoft, certificate trust lists).
-pub const CERT_PROP_ID_127: &[u8] = b"\x2B\x06\x01\x04\x01\x82\x37\x0A\x0B\x7F";
+/// `CERT_NOT_BEFORE_ENHKEY_USAGE_PROP_ID` (Microsoft, wincrypt.h, under szOID_CERT_PROP_ID_PREFIX).
+pub const CERT_NOT_BEFORE_ENHKEY_USAGE: &[u8] = b"\x2B\x06\x01\x04\x01\x82\x37\x0A\x0B\x7F";
 
 /// `id-at-commonName` (X.520, RFC 5280 appendix A.1).
 pub const AT_COMMON_NAME: &[u8] = b"\x55\x04\x03";
@@ -237,7 +240,7 @@ pub const AT_LOCALITY_NAME: &[u8] = b"\x55\x04\x07";
 /// `id-at-stateOrProvinceName` (X.520, RFC 5280 appendix A.1).
 pub const AT_STATE_OR_PROVINCE_NAME: &[u8] = b"\x55\x04\x08";
 
-/// `id-at-streetAddress` (X.520, RFC 5280 appendix A.1).
+/// `id-at-streetAddress` (X.520, RFC 4519 section 2.34).
 pub const AT_STREET_ADDRESS: &[u8] = b"\x55\x04\x09";
 
 /// `id-at-organizationName` (X.520, RFC 5280 appendix A.1).
@@ -249,25 +252,25 @@ pub const AT_ORGANIZATIONAL_UNIT_NAME: &[u8] = b"\x55\x04\x0B";
 /// `id-at-givenName` (X.520, RFC 5280 appendix A.1).
 pub const AT_GIVEN_NAME: &[u8] = b"\x55\x04\x2A";
 
-/// `id-ce-subjectKeyIdentifier` (RFC 5280 section 4.2.1).
+/// `id-ce-subjectKeyIdentifier` (RFC 5280 section 4.2.1.2).
 pub const CE_SUBJECT_KEY_IDENTIFIER: &[u8] = b"\x55\x1D\x0E";
 
-/// `id-ce-keyUsage` (RFC 5280 section 4.2.1).
+/// `id-ce-keyUsage` (RFC 5280 section 4.2.1.3).
 pub const CE_KEY_USAGE: &[u8] = b"\x55\x1D\x0F";
 
-/// `id-ce-subjectAltName` (RFC 5280 section 4.2.1).
+/// `id-ce-subjectAltName` (RFC 5280 section 4.2.1.6).
 pub const CE_SUBJECT_ALT_NAME: &[u8] = b"\x55\x1D\x11";
 
-/// `id-ce-issuerAltName` (RFC 5280 section 4.2.1).
+/// `id-ce-issuerAltName` (RFC 5280 section 4.2.1.7).
 pub const CE_ISSUER_ALT_NAME: &[u8] = b"\x55\x1D\x12";
 
-/// `id-ce-basicConstraints` (RFC 5280 section 4.2.1).
+/// `id-ce-basicConstraints` (RFC 5280 section 4.2.1.9).
 pub const CE_BASIC_CONSTRAINTS: &[u8] = b"\x55\x1D\x13";
 
-/// `id-ce-authorityKeyIdentifier` (RFC 5280 section 4.2.1).
+/// `id-ce-authorityKeyIdentifier` (RFC 5280 section 4.2.1.1).
 pub const CE_AUTHORITY_KEY_IDENTIFIER: &[u8] = b"\x55\x1D\x23";
 
-/// `id-ce-extKeyUsage` (RFC 5280 section 4.2.1).
+/// `id-ce-extKeyUsage` (RFC 5280 section 4.2.1.12).
 pub const CE_EXT_KEY_USAGE: &[u8] = b"\x55\x1D\x25";
 
 /// The rows of the table.
@@ -318,8 +321,8 @@ pub static TABLE: [KnownRow; 64] = [
     ("szOID_CTL", "1.3.6.1.4.1.311.10.1", CTL),
     ("CERT_SUBJECT_NAME_MD5_HASH_PROP_ID", "1.3.6.1.4.1.311.10.11.29", CERT_SUBJECT_NAME_MD5_HASH),
     ("CERT_DISALLOWED_FILETIME_PROP_ID", "1.3.6.1.4.1.311.10.11.104", CERT_DISALLOWED_FILETIME),
-    ("CERT_PROP_ID_126", "1.3.6.1.4.1.311.10.11.126", CERT_PROP_ID_126),
-    ("CERT_PROP_ID_127", "1.3.6.1.4.1.311.10.11.127", CERT_PROP_ID_127),
+    ("CERT_NOT_BEFORE_FILETIME_PROP_ID", "1.3.6.1.4.1.311.10.11.126", CERT_NOT_BEFORE_FILETIME),
+    ("CERT_NOT_BEFORE_ENHKEY_USAGE_PROP_ID", "1.3.6.1.4.1.311.10.11.127", CERT_NOT_BEFORE_ENHKEY_USAGE),
     ("id-at-commonName", "2.5.4.3", AT_COMMON_NAME),
     ("id-at-surname", "2.5.4.4", AT_SURNAME),
     ("id-at-serialNumber", "2.5.4.5", AT_SERIAL_NUMBER),

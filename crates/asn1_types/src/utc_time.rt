@@ -3,21 +3,17 @@
 ghost use Rattle.std.specs.Prelude.{◌≡◌, ◌≢◌, ◌↔◌, ◌%◌, ◌<◌, [], ◌∷◌, IsSome, IfSome, MatchOption, Some};
 ghost use Rattle.asn1_types.specs.Calendar.{IsMoment, IsUtcYear};
 
-use crate::calendar::is_moment;
+use crate::GeneralizedTime;
 use crate::digits::{digits_of, number_at};
+use std::fmt;
+use std::ops::Deref;
 
 /// A UTCTime as certificates have it: universal time of the years 1950 to 2049, to the second
-/// (X.690 11.8, RFC 5280 4.1.2.5.1).
+/// (X.690 11.8, RFC 5280 4.1.2.5.1). It has the fields of a GeneralizedTime.
 #[derive(Clone, Copy, PartialEq, Eq, PartialOrd, Ord, Hash, Debug)]
 pub struct UTCTime {
-    year: u16,
-    month: u8,
-    day: u8,
-    hour: u8,
-    minute: u8,
-    second: u8,
-    pub ghost exists: { IsMoment year month day hour minute second },
-    pub ghost of_years: { IsUtcYear year },
+    time: GeneralizedTime,
+    pub ghost of_years: { IsUtcYear time.year },
 }
 
 // The year that its last two digits stand for.
@@ -45,17 +41,11 @@ impl UTCTime {
         ensures given { IfSome result
             (λ time. utc_fields time ≡ year ∷ month ∷ day ∷ hour ∷ minute ∷ second ∷ []) }
     {
-        if year < 1950 || year > 2049 || !is_moment(year, month, day, hour, minute, second) {
+        if year < 1950 || year > 2049 {
             return None;
         }
-        Some(UTCTime {
-            year,
-            month,
-            day,
-            hour,
-            minute,
-            second,
-        })
+        let time = GeneralizedTime::new(year, month, day, hour, minute, second)?;
+        Some(UTCTime { time })
     }
 
     /// The time with these contents octets, None exactly where they are those of no time.
@@ -84,56 +74,29 @@ impl UTCTime {
     pub fn to_content(&self) -> [u8; 13]
         ensures { result ≡ utc_contents self.now }
     {
-        let [y1, y2] = digits_of((self.year % 100) as u8);
-        let [month1, month2] = digits_of(self.month);
-        let [day1, day2] = digits_of(self.day);
-        let [h1, h2] = digits_of(self.hour);
-        let [m1, m2] = digits_of(self.minute);
-        let [s1, s2] = digits_of(self.second);
-        [
-            y1, y2, month1, month2, day1, day2, h1, h2, m1, m2, s1, s2, b'Z',
-        ]
+        let [_, _, y1, y2, month1, month2, day1, day2, h1, h2, m1, m2, s1, s2, z] =
+            self.time.to_content();
+        [y1, y2, month1, month2, day1, day2, h1, h2, m1, m2, s1, s2, z]
     }
+}
 
-    /// The year, from 1950 to 2049.
-    pub fn year(&self) -> u16
-        ensures { result ≡ self.now.year }
-    {
-        self.year
+/// The fields of the time.
+impl Deref for UTCTime {
+    type Target = GeneralizedTime;
+
+    ghost deref_gives = { λ utc time. time ≡ utc.time };
+
+    fn deref(&self) -> &GeneralizedTime {
+        &self.time
     }
+}
 
-    /// The month, from 1 for January to 12.
-    pub fn month(&self) -> u8
-        ensures { result ≡ self.now.month }
-    {
-        self.month
-    }
+impl fmt::Display for UTCTime {
+    ghost use Rattle.asn1_types.specs.Time.{time_text};
 
-    /// The day of the month, from 1.
-    pub fn day(&self) -> u8
-        ensures { result ≡ self.now.day }
-    {
-        self.day
-    }
+    ghost output = { λ utc. Some (time_text utc.time) };
 
-    /// The hour, from 0 to 23.
-    pub fn hour(&self) -> u8
-        ensures { result ≡ self.now.hour }
-    {
-        self.hour
-    }
-
-    /// The minute, from 0 to 59.
-    pub fn minute(&self) -> u8
-        ensures { result ≡ self.now.minute }
-    {
-        self.minute
-    }
-
-    /// The second, from 0 to 59.
-    pub fn second(&self) -> u8
-        ensures { result ≡ self.now.second }
-    {
-        self.second
+    fn fmt<W: fmt::Write>(&self, f: &mut fmt::Formatter<W>) -> fmt::Result {
+        self.time.fmt(f)
     }
 }

@@ -5,10 +5,6 @@ mod common_name;
 mod date;
 mod laws;
 mod name;
-#[cfg(test)]
-mod name_tests;
-#[cfg(test)]
-mod tests;
 
 pub use date::UtcDate;
 pub use laws::dates_are_their_fields;

@@ -6,10 +6,6 @@
 #[cfg(test)]
 mod answers;
 #[cfg(test)]
-mod certificate_parts;
-#[cfg(test)]
-mod certificates;
-#[cfg(test)]
 mod elements;
 #[cfg(test)]
 mod hostile;

@@ -19,11 +19,7 @@ mod shape;
 mod structure;
 mod subject_key;
 mod tag;
-#[cfg(test)]
-mod tests;
 mod text;
-#[cfg(test)]
-mod text_tests;
 
 pub use algorithm::AlgorithmIdentifier;
 pub use attribute_value::AttributeValue;

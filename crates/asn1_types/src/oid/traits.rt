@@ -1,6 +1,6 @@
 //! Identifiers print as their dotted text, and compare and hash as their contents octets.
 
-ghost use Rattle.std.specs.Prelude.{◌≡◌, Some, bytes_eq};
+ghost use Rattle.std.specs.Prelude.{◌≡◌, ◌↔◌, IsTrue, Some, bytes_eq};
 ghost use Rattle.std.proofs.Common.{rules};
 ghost use Rattle.std.specs.Hash as fed;
 ghost use Rattle.std.specs.Cmp.{on_equiv, on_per, partial_equiv_from_equiv};
@@ -36,7 +36,10 @@ impl PartialEq for ObjectIdentifier {
 
     ghost laws = { on_per (λ identifier. identifier.contents) (partial_equiv_from_equiv nat_list_eq_equiv) };
 
-    fn eq(&self, other: &ObjectIdentifier) -> bool {
+    fn eq(&self, other: &ObjectIdentifier) -> bool
+        ensures value { result ≡ bytes_eq self.now.contents other.now.contents }
+        ensures same { IsTrue result ↔ (self.now ≡ other.now) }
+    {
         self.as_bytes() == other.as_bytes()
     }
 }

@@ -9,7 +9,7 @@ invariant_of-result c =
       formed = record {
         arcs = c.args.arcs.now;
         are_arcs = made.0;
-        spelled = c.in_ok-from_slice.ensures ∙ c.deref.ensures.value ∙ made.1;
+        spelled = c.from.ensures ∙ made.1;
       };
     }
 
@@ -17,4 +17,4 @@ pub returns : goal.returns
 returns c =
     let made = arcs_made c.args.arcs.now c.in_ok-contents.contents.items c.in-Some.root c.in-len2-up.len_at_least
     c.in-Some.ensures.0 c.in-Some.ensures.1 (λ i. (c.type_inv.arcs i).fits) c.in_ok-contents.ensures in
-    (made.0, c.in_ok-from_slice.ensures ∙ c.deref.ensures.value ∙ made.1)
+    (made.0, c.from.ensures ∙ made.1)

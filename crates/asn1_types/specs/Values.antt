@@ -1,0 +1,26 @@
+-- What contracts see of a value: the contents octets of each type, and the arcs of an identifier.
+use Rattle.std.specs.Prelude.{ℕ, List, ◌∷◌}
+use Rattle.asn1_types.specs.declared.oid.ObjectIdentifier.{ObjectIdentifier}
+use Rattle.asn1_types.specs.declared.integer.IntegerAsn1.{IntegerAsn1}
+use Rattle.asn1_types.specs.declared.bit_string.BitString.{BitString}
+use Rattle.asn1_types.specs.declared.ia5_string.Ia5String.{Ia5String}
+
+-- The arcs of an identifier.
+abbrev pub arcs_of : ObjectIdentifier → List ℕ
+arcs_of identifier = identifier.formed.arcs
+
+-- The contents octets of an identifier (X.690 8.19).
+abbrev pub identifier_contents : ObjectIdentifier → List ℕ
+identifier_contents identifier = identifier.contents
+
+-- The contents octets of an integer (X.690 8.3).
+abbrev pub integer_contents : IntegerAsn1 → List ℕ
+integer_contents integer = integer.contents
+
+-- The contents octets of a bit string: the count of unused bits, and the octets that hold the bits (X.690 8.6).
+abbrev pub bit_string_contents : BitString → List ℕ
+bit_string_contents bits = bits.unused ∷ bits.payload
+
+-- The contents octets of an IA5String, which are its text (X.680 41).
+abbrev pub ia5_contents : Ia5String → List ℕ
+ia5_contents string = string.text

@@ -1,0 +1,129 @@
+//! What is printed of a value beside whether it comes back as it was read.
+
+use crate::row::word_of;
+use anyhow::Result;
+use asn1_types::{BitString, Ia5String, IntegerAsn1, ObjectIdentifier};
+use names_core::DirectoryName;
+use std::alloc::Global;
+use x509_types::{
+    AlgorithmIdentifier, AttributeTypeAndValue, AttributeValue, DirectoryString,
+    RelativeDistinguishedName, RsaPublicKey, SubjectKey, SubjectPublicKeyInfo,
+};
+
+/// A value of which details are printed.
+pub trait Details {
+    fn details(&self, alloc: Global) -> Result<String>;
+}
+
+impl Details for IntegerAsn1 {
+    fn details(&self, alloc: Global) -> Result<String> {
+        Ok(word_of(alloc, self.as_signed_bytes_be())?)
+    }
+}
+
+impl Details for BitString {
+    fn details(&self, alloc: Global) -> Result<String> {
+        let (unused, payload) = (self.unused(), word_of(alloc, self.payload_view())?);
+        Ok(format!(in alloc; "{unused} {payload}")?)
+    }
+}
+
+impl Details for ObjectIdentifier {
+    fn details(&self, alloc: Global) -> Result<String> {
+        Ok(self.to_text(alloc)?)
+    }
+}
+
+impl Details for Ia5String {
+    fn details(&self, alloc: Global) -> Result<String> {
+        Ok(word_of(alloc, self.as_str().as_bytes())?)
+    }
+}
+
+impl Details for AlgorithmIdentifier {
+    fn details(&self, alloc: Global) -> Result<String> {
+        let oid = self.oid();
+        let parameters = match self.parameters() {
+            Some(parameters) => word_of(alloc, parameters.as_bytes())?,
+            None => String::from_str(alloc, "none")?,
+        };
+        Ok(format!(in alloc; "{oid} {parameters}")?)
+    }
+}
+
+impl Details for RsaPublicKey {
+    fn details(&self, alloc: Global) -> Result<String> {
+        let modulus = word_of(alloc, self.modulus.as_unsigned_bytes_be())?;
+        let exponent = word_of(alloc, self.public_exponent.as_unsigned_bytes_be())?;
+        Ok(format!(in alloc; "{modulus} {exponent}")?)
+    }
+}
+
+impl Details for SubjectPublicKeyInfo {
+    fn details(&self, alloc: Global) -> Result<String> {
+        let kind = self.subject_public_key.kind();
+        let algorithm = self.algorithm.details(alloc)?;
+        let key = match &self.subject_public_key {
+            SubjectKey::Rsa(key) => key.details(alloc)?,
+            SubjectKey::Ec(bits) | SubjectKey::Ed(bits) | SubjectKey::Mldsa(bits) => {
+                bits.details(alloc)?
+            }
+        };
+        Ok(format!(in alloc; "{kind:?} {algorithm} {key}")?)
+    }
+}
+
+impl Details for DirectoryString {
+    fn details(&self, alloc: Global) -> Result<String> {
+        let (name, octets) = match self {
+            DirectoryString::PrintableString(octets) => ("PrintableString", octets),
+            DirectoryString::Utf8String(octets) => ("Utf8String", octets),
+            DirectoryString::TeletexString(octets) => ("TeletexString", octets),
+            DirectoryString::BmpString(octets) => ("BmpString", octets),
+        };
+        let octets = word_of(alloc, octets.as_slice())?;
+        let text = word_of(alloc, self.to_utf8_lossy(alloc)?.as_bytes())?;
+        Ok(format!(in alloc; "{name} {octets} {text}")?)
+    }
+}
+
+impl Details for AttributeValue {
+    fn details(&self, alloc: Global) -> Result<String> {
+        let text = word_of(alloc, self.to_string(alloc)?.as_bytes())?;
+        match self {
+            AttributeValue::DirectoryString(string) => string.details(alloc),
+            AttributeValue::Ia5String(string) => {
+                let octets = word_of(alloc, string.as_str().as_bytes())?;
+                Ok(format!(in alloc; "Ia5String {octets} {text}")?)
+            }
+            AttributeValue::Other(other) => {
+                let octets = word_of(alloc, other.element().as_bytes())?;
+                Ok(format!(in alloc; "Other {octets} {text}")?)
+            }
+        }
+    }
+}
+
+impl Details for AttributeTypeAndValue {
+    fn details(&self, alloc: Global) -> Result<String> {
+        let (ty, value) = (&self.ty, self.value.details(alloc)?);
+        Ok(format!(in alloc; "{ty} {value}")?)
+    }
+}
+
+impl Details for RelativeDistinguishedName {
+    fn details(&self, alloc: Global) -> Result<String> {
+        Ok(format!(in alloc; "{}", self.as_slice().len())?)
+    }
+}
+
+impl Details for DirectoryName {
+    fn details(&self, alloc: Global) -> Result<String> {
+        let text = word_of(alloc, self.to_string(alloc)?.as_bytes())?;
+        let common_name = match self.find_common_name() {
+            Some(string) => string.details(alloc)?,
+            None => String::from_str(alloc, "none")?,
+        };
+        Ok(format!(in alloc; "{text} {common_name}")?)
+    }
+}

@@ -1,0 +1,92 @@
+//! Structures that are read of elements, copied and written again.
+
+use crate::details::Details;
+use crate::row::octets_of;
+use anyhow::Result;
+use asn1_types::{BitString, Ia5String, IntegerAsn1, ObjectIdentifier};
+use der_core::{DerError, read_exact, write};
+use names_core::DirectoryName;
+use std::alloc::Global;
+use x509_types::{
+    AlgorithmIdentifier, AttributeTypeAndValue, AttributeValue, DirectoryString,
+    RelativeDistinguishedName, RsaPublicKey, Structure, SubjectPublicKeyInfo,
+};
+
+/// What is read of an element, by the kind of structure.
+pub fn answer(alloc: Global, kind: &str, element: &str) -> Result<Option<String>> {
+    let element = octets_of(alloc, element)?;
+    let answer = match kind {
+        "integer" => read_of::<IntegerAsn1>(alloc, &element)?,
+        "bits" => read_of::<BitString>(alloc, &element)?,
+        "identifier" => read_of::<ObjectIdentifier>(alloc, &element)?,
+        "ia5" => read_of::<Ia5String>(alloc, &element)?,
+        "algorithm" => read_of::<AlgorithmIdentifier>(alloc, &element)?,
+        "rsa_key" => read_of::<RsaPublicKey>(alloc, &element)?,
+        "key" => read_of::<SubjectPublicKeyInfo>(alloc, &element)?,
+        "directory_string" => read_of::<DirectoryString>(alloc, &element)?,
+        "value" => read_of::<AttributeValue>(alloc, &element)?,
+        "attribute" => read_of::<AttributeTypeAndValue>(alloc, &element)?,
+        "set" => read_of::<RelativeDistinguishedName>(alloc, &element)?,
+        "name" => read_of::<DirectoryName>(alloc, &element)?,
+        _ => return Ok(None),
+    };
+    Ok(Some(answer))
+}
+
+/// Whether two elements spell equal values, by the kind of structure.
+pub fn answer_unlike(alloc: Global, kind: &str, one: &str, other: &str) -> Result<Option<String>> {
+    let one = octets_of(alloc, one)?;
+    let other = octets_of(alloc, other)?;
+    let equal = match kind {
+        "algorithm" => are_equal::<AlgorithmIdentifier>(alloc, &one, &other)?,
+        "key" => are_equal::<SubjectPublicKeyInfo>(alloc, &one, &other)?,
+        "name" => are_equal::<DirectoryName>(alloc, &one, &other)?,
+        _ => return Ok(None),
+    };
+    let answer = if equal { "equal" } else { "unlike" };
+    Ok(Some(String::from_str(alloc, answer)?))
+}
+
+/// Whether the value comes back as it was read, and its details; or that there is none.
+fn read_of<T: Structure + PartialEq + Details>(alloc: Global, element: &[u8]) -> Result<String> {
+    match value_of::<T>(alloc, element) {
+        Ok(value) => {
+            let word = if comes_back(alloc, element, &value)? {
+                "same"
+            } else {
+                "changed"
+            };
+            let details = value.details(alloc)?;
+            Ok(format!(in alloc; "{word} {details}")?)
+        }
+        Err(DerError::Shape) => Ok(String::from_str(alloc, "Shape")?),
+        Err(error) => Err(error.into()),
+    }
+}
+
+fn value_of<T: Structure>(alloc: Global, element: &[u8]) -> Result<T, DerError> {
+    T::read(alloc, &read_exact(alloc, element)?)
+}
+
+/// Whether a value and its copy are written as the element, and are equal.
+fn comes_back<T: Structure + PartialEq>(
+    alloc: Global,
+    element: &[u8],
+    value: &T,
+) -> Result<bool, DerError> {
+    let copy = value.try_clone(alloc)?;
+    let written = write(alloc, &value.write(alloc)?)?;
+    let copied = write(alloc, &copy.write(alloc)?)?;
+    Ok(copy == *value && written.as_slice() == element && copied.as_slice() == element)
+}
+
+/// Whether the values of two elements are equal, asked both ways.
+fn are_equal<T: Structure + PartialEq>(
+    alloc: Global,
+    one: &[u8],
+    other: &[u8],
+) -> Result<bool, DerError> {
+    let one = value_of::<T>(alloc, one)?;
+    let other = value_of::<T>(alloc, other)?;
+    Ok(one == other || other == one)
+}

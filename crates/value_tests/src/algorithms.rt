@@ -1,0 +1,31 @@
+//! Algorithms that are put together.
+
+use asn1_types::{ObjectIdentifier, oids};
+use der_core::{Raw, read_exact, write};
+use std::alloc::Global;
+use std::test::Fail;
+use x509_types::{AlgorithmIdentifier, Structure, equal_algorithms_have_equal_octets};
+
+fn sha256(alloc: Global) -> Result<ObjectIdentifier, Fail> {
+    Ok(ObjectIdentifier::from_known(alloc, oids::SHA256)?)
+}
+
+#[test]
+fn made_algorithms(rt: HostRuntime) -> Result<(), Fail> {
+    let with_null = AlgorithmIdentifier::with_null(rt.alloc(), sha256(rt.alloc())?)?;
+    let written = write(rt.alloc(), &with_null.write(rt.alloc())?)?;
+    let wanted = hex::decode(rt.alloc(), "300d06096086480165030402010500")?;
+    assert_eq!(rt; written.as_slice(), wanted.as_slice());
+
+    let null = Raw::from_tree(rt.alloc(), &read_exact(rt.alloc(), &[5, 0])?)?;
+    let made = AlgorithmIdentifier::new(sha256(rt.alloc())?, Some(null));
+    assert!(rt; made == with_null);
+
+    let bare = AlgorithmIdentifier::new(sha256(rt.alloc())?, None);
+    let written = write(rt.alloc(), &bare.write(rt.alloc())?)?;
+    let wanted = hex::decode(rt.alloc(), "300b0609608648016503040201")?;
+    assert_eq!(rt; written.as_slice(), wanted.as_slice());
+    assert!(rt; bare != with_null);
+    equal_algorithms_have_equal_octets();
+    Ok(())
+}

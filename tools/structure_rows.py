@@ -1,0 +1,327 @@
+"""Rows of structures for `value_answers`: elements in hexadecimal, and why each row is there.
+
+They come from standards and from openssl, or are elements of X.690 put
+together by hand.
+"""
+
+# Algorithms.
+ALGORITHMS = [
+    ("300d06096086480165030402010500", "SHA-256, NULL as its parameters"),
+    ("300a06082a8648ce3d040302", "ECDSA with SHA-256, without parameters"),
+    ("301306072a8648ce3d020106082a8648ce3d030107", "a key on secp256r1, the identifier of the curve"),
+    ("304106092a864886f70d01010a3034a00f300d06096086480165030402010500a11c301a06092a864886f70d010108300d06096086480165030402010500a203020120", "RSASSA-PSS with SHA-256, a SEQUENCE"),
+    ("300606022a033000", "an empty SEQUENCE is not absent"),
+    ("300706022a03050100", "a NULL with an octet is kept"),
+    ("300706022a03010101", "another octet of TRUE is kept"),
+    ("30050601008000", "the shortest identifier, a tag of the context"),
+    ("30818206022a03307c307a30783076307430723070306e306c306a30683066306430623060305e305c305a30583056305430523050304e304c304a30483046304430423040303e303c303a30383036303430323030302e302c302a30283026302430223020301e301c301a30183016301430123010300e300c300a30083006300430023000", "parameters down to the last of 64 levels"),
+]
+
+# Elements that are no algorithm.
+NO_ALGORITHMS = [
+    ("310d06096086480165030402010500", "a SET"),
+    ("a00d06096086480165030402010500", "a tag of the context"),
+    ("100d06096086480165030402010500", "a leaf of the number of SEQUENCE"),
+    ("0500", "a leaf"),
+    ("0609608648016503040201", "the identifier alone"),
+    ("3000", "no kids"),
+    ("300f060960864801650304020105000500", "three kids"),
+    ("30020500", "parameters alone"),
+    ("300d05000609608648016503040201", "parameters in front"),
+    ("30020600", "an identifier of no octets"),
+    ("300406028001", "an identifier with 80 in front"),
+    ("300606022a860500", "an identifier that is cut off"),
+    ("301606142b84808080808080808080808080808080808000", "an arc of 2^128"),
+    ("3006260406022a03", "an identifier in parts"),
+    ("30040d020304", "a relative identifier"),
+]
+
+# Two algorithms that are unlike one another, and in what.
+UNLIKE_ALGORITHMS = [
+    ("300d06096086480165030402010500", "300b0609608648016503040201", "NULL and absent"),
+    ("300d06096086480165030402010500", "300d06096086480165030402013000", "NULL and an empty SEQUENCE"),
+    ("300706022a03010101", "300706022a030101ff", "two octets of TRUE"),
+    ("300d06096086480165030402010500", "300d06096086480165030402020500", "SHA-256 and SHA-384"),
+]
+
+# RSA public keys.
+RSA_PUBLIC_KEYS = [
+    ("3006020111020103", "a small key"),
+    ("3048024100b481414dff77143803ebb6ed90c70f49da964d1518d4d463c8e1187199120457f6c972842b6c56d3948160ed6782d0ea8b866e24d1739d569e9ec9e78bdab02d0203010001", "a key of 512 bits that openssl genrsa makes"),
+    ("3006020100020100", "zeros"),
+    ("30060201800201ff", "numbers below zero"),
+    ("3009020200110203000003", "zeros in front are kept"),
+]
+
+# Elements that are no RSA public key.
+NO_RSA_PUBLIC_KEYS = [
+    ("3003020111", "one integer"),
+    ("3009020111020103020105", "three integers"),
+    ("3000", "no integers"),
+    ("30050200020103", "a modulus of no octets"),
+    ("30050201110200", "an exponent of no octets"),
+    ("3106020111020103", "a SET"),
+    ("1006020111020103", "a leaf of the number of SEQUENCE"),
+    ("300702011103020003", "a BIT STRING as the exponent"),
+    ("3006040111020103", "an OCTET STRING as the modulus"),
+    ("30082203020111020103", "a modulus in parts"),
+    ("020111", "the modulus alone"),
+]
+
+# Public keys of subjects for RSA.
+RSA_KEYS = [
+    ("301a300d06092a864886f70d01010105000309003006020111020103", "NULL as parameters"),
+    ("3018300b06092a864886f70d0101010309003006020111020103", "no parameters"),
+    ("305c300d06092a864886f70d0101010500034b003048024100b481414dff77143803ebb6ed90c70f49da964d1518d4d463c8e1187199120457f6c972842b6c56d3948160ed6782d0ea8b866e24d1739d569e9ec9e78bdab02d0203010001", "a key of 512 bits that openssl genrsa makes"),
+    ("301b300d06092a864886f70d0101010500030a00300702018002020003", "integers as they are"),
+]
+
+# Points of curves as public keys of subjects.
+EC_KEYS = [
+    ("3019301306072a8648ce3d020106082a8648ce3d03010703020004", "a point that is cut off on secp256r1"),
+    ("3059301306072a8648ce3d020106082a8648ce3d030107034200046b17d1f2e12c4247f8bce6e563a440f277037d812deb33a0f4a13945d898c2964fe342e2fe1a7f9b8ee7eb4a7c0f9e162bce33576b315ececbb6406837bf51f5", "the base point of secp256r1"),
+    ("3036301006072a8648ce3d020106052b8104000a03220002848528aee5448bf3b5ebd4606068a3886876434492fcdb26d4aaa2d64c79c470", "a compressed point on secp256k1 that openssl ec writes"),
+    ("3013300d06072a8648ce3d020106022a0303020004", "an identifier of no curve"),
+    ("3018301306072a8648ce3d020106082a8648ce3d030107030100", "no bits"),
+    ("301a301306072a8648ce3d020106082a8648ce3d0301070303040410", "four unused bits"),
+]
+
+# Public keys of subjects on the curves 25519 and 448.
+ED_KEYS = [
+    ("302a300506032b657003210019bf44096984cdfe8541bac167dc3b96c85086aa30b6b6cb0c5c38ad703166e1", "Ed25519, the example of RFC 8410 10.1"),
+    ("302a300506032b656e0321008520f0098930a754748b7ddcb43ef75a0dbf3a0d26381af4eba4a98eaa9b4e6a", "X25519, the first key of RFC 7748 6.1"),
+    ("3043300506032b6571033a005fd7449b59b461fd2ce787ec616ad46a1da1342485a70e1f8a0ea75d80e96778edf124769b46c7061bd6783df1e50f6cd1fa1abeafe8256180", "Ed448, the first key of RFC 8032 7.4"),
+    ("3042300506032b656f0339009b08f7cc31b7e3e67d22d5aea121074a273bd2b83de09c63faa73d2c22c5d9bbc836647241d953d40c5b12da88120d53177f80e532c41fa0", "X448, the first key of RFC 7748 6.2"),
+    ("300d300706032b65700500030200aa", "parameters of Ed25519, which RFC 8410 3 does not write"),
+    ("300c300706032b656e3000030100", "parameters of X25519, no bits"),
+    ("300c300506032b6571030307aa80", "seven unused bits"),
+]
+
+# Public keys of subjects for ML-DSA, of any bits.
+MLDSA_KEYS = [
+    ("3012300b0609608648016503040311030300aabb", "ML-DSA-44"),
+    ("3012300b0609608648016503040312030300aabb", "ML-DSA-65"),
+    ("3012300b0609608648016503040313030300aabb", "ML-DSA-87"),
+    ("3012300d06096086480165030403110500030100", "parameters, which RFC 9881 2 does not write, and no bits"),
+    ("3011300b0609608648016503040313030204b0", "four unused bits"),
+]
+
+# Elements that are no public key of a subject.
+NO_KEYS = [
+    ("301c300f06092a864886f70d01010106022a030309003006020111020103", "RSA with an identifier as parameters"),
+    ("301a300d06092a864886f70d01010130000309003006020111020103", "RSA with a SEQUENCE as parameters"),
+    ("301b300e06092a864886f70d0101010501000309003006020111020103", "RSA with a NULL that has an octet"),
+    ("301a300d06092a864886f70d01010105000309013006020111020102", "RSA with an unused bit"),
+    ("301b300d06092a864886f70d0101010500030a00300602011102010300", "RSA with an octet after the key"),
+    ("3019300d06092a864886f70d010101050003080030060201110201", "RSA with a key that is cut off"),
+    ("3012300d06092a864886f70d0101010500030100", "RSA with no bits"),
+    ("3014300d06092a864886f70d01010105000303000500", "RSA with NULL as the key"),
+    ("301b300d06092a864886f70d0101010500030a00308106020111020103", "RSA with a length that is not the shortest"),
+    ("3017300d06092a864886f70d01010105000306003003020111", "RSA with one integer"),
+    ("3011300d06092a864886f70d01010105000300", "RSA with a BIT STRING of no octets"),
+    ("301a300d06092a864886f70d01010105000409003006020111020103", "RSA with an OCTET STRING"),
+    ("301c300d06092a864886f70d0101010500230b0309003006020111020103", "RSA with a BIT STRING in parts"),
+    ("3017300d06092a864886f70d01010105003006020111020103", "RSA without a BIT STRING"),
+    ("300f300906072a8648ce3d020103020004", "a point without a curve"),
+    ("3011300b06072a8648ce3d0201050003020004", "a point with NULL as its curve"),
+    ("3014300e06072a8648ce3d0201300302010103020004", "a point with a curve that is described"),
+    ("3011300b06072a8648ce3d0201060003020004", "a point with an identifier of no octets"),
+    ("3013300d06072a8648ce3d02010602800103020004", "a point with an identifier that begins with 80"),
+    ("3017301306072a8648ce3d020106082a8648ce3d0301070300", "a point of no octets"),
+    ("3018301306072a8648ce3d020106082a8648ce3d030107030101", "an unused bit of no octets"),
+    ("3019301306072a8648ce3d020106082a8648ce3d03010704020004", "a point in an OCTET STRING"),
+    ("3009300506032b65700300", "Ed25519 with a BIT STRING of no octets"),
+    ("300b300506032b6570030208aa", "Ed25519 with eight unused bits"),
+    ("3011300b0609608648016503040311040200aa", "ML-DSA-44 in an OCTET STRING"),
+    ("3018300b06072a8648ce38040105000309003006020111020103", "DSA"),
+    ("301a300d06092a864886f70d01010a05000309003006020111020103", "RSASSA-PSS"),
+    ("301a300d06092a864886f70d01010b05000309003006020111020103", "a signature algorithm"),
+    ("301b300e060a2a864886f70d0101010105000309003006020111020103", "an arc after rsaEncryption"),
+    ("3019300c06082a864886f70d010105000309003006020111020103", "an arc less than rsaEncryption"),
+    ("301a301406082a8648ce3d03010706082a8648ce3d03010703020004", "the curve as the algorithm"),
+    ("300b300506032b656d030200aa", "the identifier before X25519"),
+    ("300b300506032b6572030200aa", "the identifier after Ed448"),
+    ("3011300b0609608648016503040310030200aa", "the identifier before ML-DSA-44"),
+    ("3011300b0609608648016503040314030200aa", "the identifier after ML-DSA-87"),
+    ("3000", "no kids"),
+    ("300f300d06092a864886f70d0101010500", "the algorithm alone"),
+    ("300b0309003006020111020103", "the key alone"),
+    ("301c300d06092a864886f70d010101050003090030060201110201030500", "three kids"),
+    ("301a0309003006020111020103300d06092a864886f70d0101010500", "the key in front"),
+    ("311a300d06092a864886f70d01010105000309003006020111020103", "a SET"),
+    ("101a300d06092a864886f70d01010105000309003006020111020103", "a leaf of the number of SEQUENCE"),
+    ("301a310d06092a864886f70d01010105000309003006020111020103", "the algorithm is a SET"),
+    ("301606092a864886f70d0101010309003006020111020103", "an identifier in place of the algorithm"),
+    ("30113004060005000309003006020111020103", "an identifier of no octets"),
+    ("301c300f06092a864886f70d010101050005000309003006020111020103", "an algorithm of three kids"),
+]
+
+# Two public keys of subjects that are unlike one another, and in what.
+UNLIKE_KEYS = [
+    ("301a300d06092a864886f70d01010105000309003006020111020103", "3018300b06092a864886f70d0101010309003006020111020103", "NULL and absent"),
+    ("301a300d06092a864886f70d01010105000309003006020111020103", "301a300d06092a864886f70d01010105000309003006020112020103", "another modulus"),
+    ("301a300d06092a864886f70d01010105000309003006020111020103", "301a300d06092a864886f70d01010105000309003006020111020105", "another exponent"),
+    ("301a300d06092a864886f70d01010105000309003006020111020103", "301b300d06092a864886f70d0101010500030a00300702020011020103", "a zero in front"),
+    ("3019301306072a8648ce3d020106082a8648ce3d03010703020004", "3016301006072a8648ce3d020106052b8104000a03020004", "another curve"),
+    ("300b300506032b6570030200aa", "300b300506032b656e030200aa", "Ed25519 and X25519"),
+    ("300b300506032b6570030200aa", "3011300b0609608648016503040311030200aa", "Ed25519 and ML-DSA-44"),
+    ("300b300506032b6570030200a0", "300b300506032b6570030204a0", "bits that are unused"),
+]
+
+# Names.
+NAMES = [
+    ("300c310a300806035504030c0141", "one common name"),
+    ("3054310b3009060355040613025345311e300b060355040b0c04556e6974300f060355040a0c08457820616d706c653111300f06035504030c085376656e73736f6e3112301006092a864886f70d0109011603614062", "a subject that openssl req writes: four sets, two members in the second"),
+    ("3000", "no sets"),
+    ("30023100", "an empty set"),
+    ("300e310a300806035504030c01413100", "an empty set behind"),
+    ("30163114300806035504030c01413008060355040b0c0142", "two members in a set"),
+    ("301631143008060355040b0c0142300806035504030c0141", "two members the other way round, which X.690 10.3 does not write"),
+    ("30163114300806035504030c0141300806035504030c0141", "one member twice"),
+    ("3018310a300806035504030c0141310a3008060355040b0c0142", "two sets"),
+    ("3018310a3008060355040b0c0142310a300806035504030c0141", "two sets the other way round"),
+    ("3024310a300806035504030c01413114300806035504030c01413008060355040b0c01423100", "sets of one, two and no members"),
+    ("302d31173015060a0992268993f22c64011916076578616d706c653112301006092a864886f70d0109011603614062", "IA5 strings"),
+    ("300c310a30080603550403020105", "an INTEGER as the value"),
+    ("3011310f300d060355040330060201050c0141", "a SEQUENCE as the value"),
+    ("300a310830060601000c0141", "the shortest type"),
+    ("308184318181307f060355040330783076307430723070306e306c306a30683066306430623060305e305c305a30583056305430523050304e304c304a30483046304430423040303e303c303a30383036303430323030302e302c302a30283026302430223020301e301c301a30183016301430123010300e300c300a30083006300430023000", "a value down to the last of 64 levels"),
+    ("30163114300806035504030c01413008060355040b130142", "two members in a set"),
+    ("3018310a30080603550406130143310a300806035504030c0141", "two sets"),
+    ("30223114300806035504030c01413008060355040b130142310a3008060355040a0c0144", "two members, then one"),
+    ("30143112301006092a864886f70d0109011603614062", "an email address"),
+    ("300c310a3008060355040c0c0141", "the title, which has no word"),
+    ("30133111300f060a0992268993f22c640119160161", "the domain component, which has no word"),
+    ("300b3109300706035504030500", "another value"),
+    ("300e3100310a300806035504030c0141", "a set without members, then one"),
+    ("300c310a3008060355040a0c0141", "an organization alone"),
+    ("3018310a300806035504060c0143310a300806035504030c0141", "the second set"),
+    ("3018310a300806035504030c0141310a300806035504030c0142", "two sets, each with one"),
+    ("30163114300806035504030c0142300806035504030c0141", "two in a set"),
+    ("301631143008060355040b0c0141300806035504030c0142", "the second member"),
+    ("3018310a30080603550403160141310a300806035504030c0142", "an IA5String before it"),
+]
+
+# Elements that are no name.
+NO_NAMES = [
+    ("310c310a300806035504030c0141", "a SET of sets"),
+    ("100c310a300806035504030c0141", "a leaf of the number of SEQUENCE"),
+    ("0c0141", "a string"),
+    ("300a300806035504030c0141", "a member without its set"),
+    ("300c300a300806035504030c0141", "a SEQUENCE in place of a set"),
+    ("300c110a300806035504030c0141", "a leaf of the number of SET"),
+    ("300c310a310806035504030c0141", "a SET in place of a member"),
+    ("300e310a300806035504030c01410500", "a NULL after a set"),
+    ("3018310a300806035504030c0141300a3008060355040b0c0142", "the second set is a SEQUENCE"),
+    ("300e310c300806035504030c01410500", "a NULL after a member"),
+    ("30133111300806035504030c01413005060355040b", "the second member has no value"),
+    ("300431023000", "a member without kids"),
+    ("3009310730050603550403", "a member of one kid"),
+    ("300f310d300b06035504030c01410c0141", "a member of three kids"),
+    ("300c310a30080c01410603550403", "the value before the type"),
+    ("30093107300506000c0141", "a type of no octets"),
+    ("300b31093007060280010c0141", "a type with 80 in front"),
+    ("3010310e300c0c07322e352e342e330c0141", "a type as a text"),
+    ("300c310a100806035504030c0141", "a member that is a leaf"),
+]
+
+# Two names that are unlike one another, and in what.
+UNLIKE_NAMES = [
+    ("300c310a300806035504030c0141", "300c310a30080603550403130141", "one text in two types of string"),
+    ("300c310a300806035504030c0141", "300c310a300806035504030c0161", "another case"),
+    ("300c310a300806035504030c0141", "300d310b300906035504030c024120", "a space behind"),
+    ("300c310a30080603550403160141", "300c310a300806035504031a0141", "IA5 and another value"),
+    ("300c310a30080603550403020105", "300c310a30080603550403020106", "two other values"),
+    ("300c310a300806035504030c0141", "300c310a3008060355040a0c0141", "two types of attributes"),
+    ("30163114300806035504030c01413008060355040b0c0142", "301631143008060355040b0c0142300806035504030c0141", "members in another order"),
+    ("3018310a300806035504030c0141310a3008060355040b0c0142", "3018310a3008060355040b0c0142310a300806035504030c0141", "sets in another order"),
+    ("30163114300806035504030c01413008060355040b0c0142", "3018310a300806035504030c0141310a3008060355040b0c0142", "one set and two"),
+    ("300c310a300806035504030c0141", "300e310a300806035504030c01413100", "an empty set behind"),
+    ("3000", "30023100", "no set and an empty one"),
+    ("300c310a300806035504030c0141", "30163114300806035504030c0141300806035504030c0141", "a member twice"),
+]
+
+# Values of attributes.
+VALUES = [
+    ("13025345", "a country"),
+    ("1303614062", "a character outside its alphabet"),
+    ("0c02c385", "two octets of one character"),
+    ("0c01ff", "an octet of no character"),
+    ("0c00", "no octets"),
+    ("140241e9", "an octet past 7F"),
+    ("1e0400410042", "two characters"),
+    ("1e050041d83d00", "half a pair and an odd octet"),
+    ("1603614062", "an e-mail address"),
+    ("16017f", "the last octet of the alphabet"),
+    ("1600", "no octets in IA5"),
+    ("160180", "IA5 with the first octet past 7F"),
+    ("16036140e9", "IA5 with an octet past 7F behind"),
+    ("1c0400000041", "a UniversalString"),
+    ("12023432", "a NumericString"),
+    ("1a0141", "a VisibleString"),
+    ("2c030c0141", "a UTF8String in parts"),
+    ("3303130141", "a PrintableString in parts"),
+    ("3603160141", "an IA5String in parts"),
+    ("020105", "an INTEGER"),
+    ("0500", "NULL"),
+    ("3000", "an empty SEQUENCE"),
+    ("310a300806035504030c0141", "a set of a name"),
+    ("8c0141", "a tag of the context with the number of UTF8String"),
+    ("010101", "another octet of TRUE"),
+    ("1302417a", "a PrintableString"),
+    ("1303418042", "an octet past 127 in a PrintableString"),
+    ("1300", "an empty PrintableString"),
+    ("0c0341c3a9", "a UTF8String"),
+    ("0c04f09f9880", "four octets of one character"),
+    ("0c0100", "a zero"),
+    ("0c0241c3", "half a character"),
+    ("0c0341c328", "a character whose second octet is another"),
+    ("0c03c3a9ff", "a good character beside a bad one"),
+    ("0c02c080", "a zero in two octets"),
+    ("0c03eda080", "a surrogate in UTF-8"),
+    ("14027f80", "the last octet of ASCII and the first past it"),
+    ("1402c3a9", "UTF-8 in a TeletexString"),
+    ("1e04004120ac", "a BMPString"),
+    ("1e0200e9", "an octet past 127 in a BMPString"),
+    ("1e050041d80042", "a surrogate and a single octet"),
+    ("1e04d83dde00", "a pair of surrogates"),
+    ("1e04d7ffe000", "before and after the surrogates"),
+    ("1e04d800dfff", "the first and the last surrogate"),
+    ("1e02ffff", "the last unit"),
+    ("1e0141", "one octet of ASCII in a BMPString"),
+    ("1e00", "an empty BMPString"),
+    ("16026180", "an octet past 127 in an IA5String"),
+    ("30030201af", "a SEQUENCE"),
+    ("c102fe09", "an element of another class"),
+]
+
+# Attribute types by their names and arcs (X.520), and the words that are printed.
+ATTRIBUTE_TYPES = [
+    ("CommonName", "2.5.4.3", "CN"),
+    ("Surname", "2.5.4.4", "SN"),
+    ("SerialNumber", "2.5.4.5", "SERIALNUMBER"),
+    ("CountryName", "2.5.4.6", "C"),
+    ("LocalityName", "2.5.4.7", "L"),
+    ("StateOrProvinceName", "2.5.4.8", "ST"),
+    ("StreetName", "2.5.4.9", "STREET"),
+    ("OrganizationName", "2.5.4.10", "O"),
+    ("OrganizationalUnitName", "2.5.4.11", "OU"),
+    ("GivenName", "2.5.4.42", "GN"),
+]
+
+# Contents octets that are the identifier of no such type.
+NO_ATTRIBUTE_TYPES = ["-", "55", "5504", "550402", "55040c", "55040300", "2a864886f70d010901"]
+
+# Parts of structures by their kinds: elements that are read, and elements that are refused.
+PARTS = [
+    ("integer", ["020300ff01"], ["0a0101", "820101", "2203020101", "0200", "3000"]),
+    ("bits", ["030304aab0"], ["040200aa", "830200aa", "2304030200aa", "0300", "030108", "030101"]),
+    ("identifier", ["06032b6570"], ["0d032b6570", "86032b6570", "260506032b6570", "0600", "060180"]),
+    ("ia5", ["1603614062"], ["0c0161", "960161", "3603160161", "160180"]),
+    ("directory_string", ["130141", "0c0141", "140141", "1e020041"],
+     ["1c0400000041", "160141", "1a0141", "2c030c0141", "8c0141", "3000"]),
+    ("set", ["310a300806035504030c0141", "3100"],
+     ["300a300806035504030c0141", "31020500", "1100"]),
+    ("attribute", ["300806035504030c0141"],
+     ["310806035504030c0141", "30050603550403", "300a06035504030c01410500"]),
+]

@@ -1,0 +1,269 @@
+#!/usr/bin/env python3
+"""Make the files of the stored run of `value_answers`.
+
+Usage:
+
+    python3 tools/value_answers.py FOLDER
+
+writes FOLDER/data/rows, the rows that the program is asked for, and
+FOLDER/stdout, a line for each.  The lines come from `value_reader`, from
+Python's arithmetic and `datetime`, from the list in `oid_table`, and for the
+names and keys of certificates from what openssl said of them
+(`certificate_rows.txt`, which `certificate_parts.py` makes), and not from what
+the program printed.
+"""
+
+import sys
+from datetime import datetime
+from pathlib import Path
+
+import structure_rows as structures
+import value_rows as values
+from certificate_parts import STORED, rows_of
+from der_reader import read_exact
+from oid_table import BAD_CONTENTS, BAD_TEXTS, KNOWN, READ, contents
+from value_reader import Shape, bits, ia5, integer, name, structure_line, word
+
+
+def text_word(text):
+    return word(text.encode())
+
+
+def shape_of(function, octets):
+    """What a function prints of octets, or that they have no such shape."""
+    try:
+        return function(octets)
+    except Shape:
+        return "Shape"
+
+
+# Object identifiers.
+
+def identifier_rows():
+    for text, _ in READ:
+        yield f"identifier from_text {text_word(text)}", word(contents(text))
+        yield f"identifier from_content {word(contents(text))}", text
+    for text, _ in (*BAD_TEXTS, ("1.2\n", "a line end behind")):
+        yield f"identifier from_text {text_word(text)}", "BadText"
+    for octets, _ in BAD_CONTENTS:
+        yield f"identifier from_content {word(bytes.fromhex(octets))}", "Shape"
+    for _, known, text, _ in KNOWN:
+        octets = word(contents(text))
+        line = f"{known} {text} {octets}"
+        yield f"identifier by_name {text_word(known)}", line
+        yield f"identifier by_contents {octets}", line
+        yield f"identifier from_text {text_word(text)}", octets
+    for known in ("id-sha257", "", "ID-SHA256", "id-sha25", "id-sha2566"):
+        yield f"identifier by_name {text_word(known)}", "none"
+    for octets in ("-", "2a03", "2a8648"):
+        yield f"identifier by_contents {octets}", "none"
+    for attribute, text, _ in structures.ATTRIBUTE_TYPES:
+        yield f"identifier attribute {word(contents(text))}", f"{attribute} {text}"
+    for octets in structures.NO_ATTRIBUTE_TYPES:
+        yield f"identifier attribute {octets}", "none"
+
+
+# Integers, bit strings, IA5 strings.
+
+def shortest(octets):
+    """The shortest contents octets of a number without a sign."""
+    number = int.from_bytes(octets, "big")
+    return number.to_bytes(number.bit_length() // 8 + 1, "big", signed=True)
+
+
+def bits_line(octets):
+    return f"{bits(octets)} {word(octets)}"
+
+
+def string_rows():
+    numbers = [bytes.fromhex(octets) for octets, _ in values.NUMBERS]
+    for octets in numbers:
+        yield f"string number {word(octets)}", integer(shortest(octets))
+    read = [bytes.fromhex(octets) for octets in values.INTEGERS]
+    for octets in (*read, *map(shortest, numbers)):
+        yield f"string integer {word(octets)}", shape_of(integer, octets)
+    for octets in map(bytes.fromhex, (*values.BIT_STRINGS, *values.NO_BIT_STRINGS)):
+        yield f"string bits {word(octets)}", shape_of(bits_line, octets)
+    for octets in map(bytes.fromhex, values.WHOLE_BITS):
+        yield f"string whole_bits {word(octets)}", bits_line(b"\0" + octets)
+    for text in values.IA5_TEXTS:
+        yield f"string ia5_text {text_word(text)}", text_word(text)
+        yield f"string ia5_content {text_word(text)}", shape_of(ia5, text.encode())
+    for text in values.OTHER_TEXTS:
+        yield f"string ia5_text {text_word(text)}", "CharSet"
+    for octets in map(bytes.fromhex, values.OTHER_OCTETS):
+        yield f"string ia5_content {word(octets)}", "Shape"
+
+
+# Times.
+
+def moment(fields):
+    """The moment of six numbers, or None; `datetime` has no year 0, and year 400 is like it."""
+    year, *others = fields
+    try:
+        datetime(year or 400, *others)
+    except ValueError:
+        return None
+    return tuple(fields)
+
+
+def digits(fields, first):
+    """Contents octets: the year's digits from `first` on, two for each other field, and Z."""
+    year, *others = fields
+    return f"{year:04}"[first:].encode() + b"".join(b"%02d" % field for field in others) + b"Z"
+
+
+def is_utc_year(year):
+    return 1950 <= year <= 2049
+
+
+def spaced(fields):
+    return " ".join(map(str, fields))
+
+
+def generalized_line(fields):
+    return f"{spaced(fields)} {word(digits(fields, 0))}" if fields else "none"
+
+
+def utc_line(fields):
+    if not fields or not is_utc_year(fields[0]):
+        return "none"
+    return f"{spaced(fields)} {word(digits(fields, 2))} {word(digits(fields, 0))}"
+
+
+def date_line(fields):
+    if not fields:
+        return "none"
+    year, month, day, hour, minute, second = fields
+    text = f"{year:04}-{month:02}-{day:02} {hour:02}:{minute:02}:{second:02}"
+    utc = word(digits(fields, 2)) if is_utc_year(year) else "none"
+    return f"{text} {generalized_line(fields)} {utc}"
+
+
+def read_time(octets, size):
+    """The moment of contents octets with so many digits of the year."""
+    numbers = octets[:-1]
+    if len(octets) != size + 11 or octets[-1:] != b"Z" or not numbers.isdigit():
+        return None
+    year = int(numbers[:size])
+    if size == 2:
+        year += 1900 if year >= 50 else 2000
+    return moment((year, *(int(numbers[at:at + 2]) for at in range(size, size + 10, 2))))
+
+
+def order_line(one, other):
+    pairs = (one, other), (other, one)
+    return " ".join("Less" if a < b else "Equal" if a == b else "Greater" for a, b in pairs)
+
+
+def fields_of(text):
+    return tuple(map(int, text.split()))
+
+
+def time_rows():
+    for text, _ in values.MOMENTS:
+        found = moment(fields_of(text))
+        yield f"time generalized {text}", generalized_line(found)
+        yield f"time utc {text}", utc_line(found)
+        yield f"time date {text}", date_line(found)
+    for octets, _ in values.GENERALIZED:
+        yield f"time generalized_content {word(octets)}", generalized_line(read_time(octets, 4))
+    for octets, _ in values.UTC:
+        yield f"time utc_content {word(octets)}", utc_line(read_time(octets, 2))
+    for text in values.DATES:
+        yield f"time date {text}", date_line(moment(fields_of(text)))
+    for text in values.DAYS:
+        yield f"time day {text}", date_line(moment((*fields_of(text), 0, 0, 0)))
+    for one, other in values.ORDER:
+        yield f"time order {one} {other}", order_line(fields_of(one), fields_of(other))
+
+
+# Structures.
+
+READ_AS = [
+    ("algorithm", structures.ALGORITHMS, structures.NO_ALGORITHMS),
+    ("rsa_key", structures.RSA_PUBLIC_KEYS, structures.NO_RSA_PUBLIC_KEYS),
+    ("key", structures.RSA_KEYS + structures.EC_KEYS, structures.NO_KEYS),
+    ("key", structures.ED_KEYS + structures.MLDSA_KEYS, []),
+    ("name", structures.NAMES, structures.NO_NAMES),
+    ("value", structures.VALUES, []),
+]
+
+UNLIKE = [
+    ("algorithm", structures.UNLIKE_ALGORITHMS),
+    ("key", structures.UNLIKE_KEYS),
+    ("name", structures.UNLIKE_NAMES),
+]
+
+
+def structure_row(kind, element, is_read):
+    line = structure_line(kind, bytes.fromhex(element))
+    assert (line != "Shape") == is_read, (kind, element, line)
+    return f"structure {kind} {element}", line
+
+
+def read_rows():
+    for kind, read, refused in READ_AS:
+        for element, _ in read:
+            yield structure_row(kind, element, True)
+        for element, _ in refused:
+            yield structure_row(kind, element, False)
+    for kind, read, refused in structures.PARTS:
+        for element in read:
+            yield structure_row(kind, element, True)
+        for element in refused:
+            yield structure_row(kind, element, False)
+
+
+def unlike_rows():
+    for kind, rows in UNLIKE:
+        for one, other, _ in rows:
+            yield f"unlike {kind} {one} {other}", "unlike"
+            yield f"unlike {kind} {one} {one}", "equal"
+
+
+def certificate_rows():
+    """Names and keys of certificates: text, kind and numbers are what openssl said."""
+    names, keys = rows_of(STORED.read_text(encoding="ascii"))
+    for row in names:
+        common_name = name(read_exact(bytes.fromhex(row.octets))).split(" ", 1)[1]
+        yield f"structure name {row.octets}", f"same {row.text or '-'} {common_name}"
+    for row in keys:
+        line = structure_line("key", bytes.fromhex(row.octets))
+        kind, *_ = line.split()[1:]
+        assert kind.lower() == row.kind and line.endswith(" ".join(row.numbers)), row
+        yield f"structure key {row.octets}", line
+
+
+def all_rows():
+    yield from identifier_rows()
+    yield from string_rows()
+    yield from time_rows()
+    yield from read_rows()
+    yield from unlike_rows()
+    yield from certificate_rows()
+
+
+def stored_files():
+    """The octets of each file, by its path below the folder."""
+    rows = {}
+    for row, line in all_rows():
+        assert rows.setdefault(row, line) == line, row
+    asked = "".join(f"{row}\n" for row in rows)
+    answered = "".join(f"{line}\n" for line in rows.values())
+    return {"data/rows": asked.encode("ascii"), "stdout": answered.encode("ascii")}
+
+
+def main(arguments):
+    if len(arguments) != 1:
+        print("usage: value_answers.py FOLDER", file=sys.stderr)
+        return 2
+    for path, octets in stored_files().items():
+        file = Path(arguments[0], path)
+        file.parent.mkdir(parents=True, exist_ok=True)
+        file.write_bytes(octets)
+    return 0
+
+
+if __name__ == "__main__":
+    sys.exit(main(sys.argv[1:]))

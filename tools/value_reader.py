@@ -1,0 +1,259 @@
+"""Structures of X.509 read from elements, and what `value_answers` prints of them.
+
+This reader exists to be compared with the project's own, so it shares nothing
+with it: it is written from X.690, RFC 5280 and the rules of printing below,
+over the elements of `der_reader`.
+
+Each function takes an element and gives the words that are printed of its
+value; it raises `Shape` where the element is none.
+
+A name is printed with a comma between sets and a plus sign between the members
+of a set, each as WORD=TEXT: the word of its type, or the dotted identifier,
+and the text of its value.  That is, of a PrintableString and a TeletexString
+the octets up to 7F as ASCII and `?` for any other; of a UTF8String its
+characters, or as before where it isn't UTF-8; of a BMPString a character for
+two octets, `?` for a surrogate or a last single octet; of an IA5String its
+octets; of anything else `#` and the element in hexadecimal.
+"""
+
+from der_reader import Constructed, Primitive, read_exact, write
+
+LIMIT = 1 << 128
+
+WORDS = {
+    "2.5.4.3": "CN",
+    "2.5.4.4": "SN",
+    "2.5.4.5": "SERIALNUMBER",
+    "2.5.4.6": "C",
+    "2.5.4.7": "L",
+    "2.5.4.8": "ST",
+    "2.5.4.9": "STREET",
+    "2.5.4.10": "O",
+    "2.5.4.11": "OU",
+    "2.5.4.42": "GN",
+    "1.2.840.113549.1.9.1": "EMAIL",
+}
+
+RSA = "1.2.840.113549.1.1.1"
+EC = "1.2.840.10045.2.1"
+ED = {f"1.3.101.{arc}" for arc in (110, 111, 112, 113)}
+MLDSA = {f"2.16.840.1.101.3.4.3.{arc}" for arc in (17, 18, 19)}
+
+STRINGS = {
+    0x0C: "Utf8String",
+    0x13: "PrintableString",
+    0x14: "TeletexString",
+    0x1E: "BmpString",
+}
+
+
+class Shape(Exception):
+    """The element is none of the structure that is asked for."""
+
+
+def word(octets):
+    """Octets as a word of a row."""
+    return octets.hex() or "-"
+
+
+def need(holds):
+    if not holds:
+        raise Shape
+
+
+def contents(element, tag):
+    """The contents octets of a primitive element."""
+    need(isinstance(element, Primitive) and element.tag == tag)
+    return element.contents
+
+
+def kids(element, tag):
+    """The elements in a constructed one."""
+    need(isinstance(element, Constructed) and element.tag == tag)
+    return element.kids
+
+
+# Values by their contents octets.
+
+def dotted(octets):
+    """The text of an OBJECT IDENTIFIER's contents (X.690 8.19)."""
+    numbers, number, begins = [], 0, True
+    for octet in octets:
+        need(not (begins and octet == 0x80))
+        number = number << 7 | octet & 0x7F
+        need(number < LIMIT)
+        begins = octet < 0x80
+        if begins:
+            numbers.append(number)
+            number = 0
+    need(begins and numbers)
+    first = min(numbers[0] // 40, 2)
+    return ".".join(map(str, (first, numbers[0] - 40 * first, *numbers[1:])))
+
+
+def integer(octets):
+    """The contents octets of an INTEGER, and those of the same number without a sign."""
+    need(octets)
+    without = octets[1:] if len(octets) > 1 and octets[0] == 0 else octets
+    return f"{word(octets)} {word(without)}"
+
+
+def bits(octets):
+    """The number of unused bits of a BIT STRING, and the octets of its bits."""
+    need(octets and octets[0] <= 7 and (octets[0] == 0 or len(octets) > 1))
+    return f"{octets[0]} {word(octets[1:])}"
+
+
+def ia5(octets):
+    need(octets.isascii())
+    return word(octets)
+
+
+# Texts.
+
+def octet_text(octets):
+    return "".join(chr(octet) if octet < 0x80 else "?" for octet in octets)
+
+
+def pair_text(pair):
+    number = int.from_bytes(pair, "big")
+    return "?" if len(pair) < 2 or 0xD800 <= number <= 0xDFFF else chr(number)
+
+
+def value_text(value):
+    """The text of a value in a name."""
+    octets = value.contents if isinstance(value, Primitive) else b""
+    match value.tag:
+        case 0x0C:
+            try:
+                return octets.decode("utf-8")
+            except UnicodeDecodeError:
+                return octet_text(octets)
+        case 0x13 | 0x14:
+            return octet_text(octets)
+        case 0x1E:
+            return "".join(pair_text(octets[i:i + 2]) for i in range(0, len(octets), 2))
+        case 0x16 if octets.isascii():
+            return octets.decode("ascii")
+        case _:
+            return "#" + write(value).hex()
+
+
+def member_text(member):
+    kind, value = member.kids
+    text = dotted(kind.contents)
+    return f"{WORDS.get(text, text)}={value_text(value)}"
+
+
+def name_text(name):
+    return ",".join("+".join(map(member_text, members.kids)) for members in name.kids)
+
+
+# Structures.
+
+def directory_string(element):
+    need(isinstance(element, Primitive) and element.tag in STRINGS)
+    text = value_text(element).encode()
+    return f"{STRINGS[element.tag]} {word(element.contents)} {word(text)}"
+
+
+def value(element):
+    text = word(value_text(element).encode())
+    if element.tag in STRINGS:
+        return directory_string(element)
+    if element.tag == 0x16 and element.contents.isascii():
+        return f"Ia5String {word(element.contents)} {text}"
+    return f"Other {word(write(element))} {text}"
+
+
+def attribute(element):
+    fields = kids(element, 0x30)
+    need(len(fields) == 2)
+    return f"{dotted(contents(fields[0], 6))} {value(fields[1])}"
+
+
+def members(element):
+    """How many members a set has."""
+    found = kids(element, 0x31)
+    for member in found:
+        attribute(member)
+    return str(len(found))
+
+
+def common_name(element):
+    """The first common name of a name that is a DirectoryString."""
+    for one in kids(element, 0x30):
+        for kind, text in (member.kids for member in one.kids):
+            if dotted(kind.contents) == "2.5.4.3" and text.tag in STRINGS:
+                return directory_string(text)
+    return "none"
+
+
+def name(element):
+    for one in kids(element, 0x30):
+        members(one)
+    return f"{word(name_text(element).encode())} {common_name(element)}"
+
+
+def algorithm(element):
+    fields = kids(element, 0x30)
+    need(len(fields) in (1, 2))
+    oid = dotted(contents(fields[0], 6))
+    return f"{oid} {word(write(fields[1])) if len(fields) == 2 else 'none'}"
+
+
+def rsa_key(element):
+    fields = kids(element, 0x30)
+    need(len(fields) == 2)
+    return " ".join(integer(contents(field, 2)).split()[1] for field in fields)
+
+
+def key(element):
+    """A SubjectPublicKeyInfo of a kind that is known, with the parameters of its kind."""
+    fields = kids(element, 0x30)
+    need(len(fields) == 2)
+    shown = algorithm(fields[0])
+    oid, parameters = shown.split()
+    octets = contents(fields[1], 3)
+    found = bits(octets)
+    if oid == RSA:
+        need(parameters in ("none", "0500") and octets[0] == 0)
+        return f"Rsa {shown} {rsa_key(inner(octets[1:]))}"
+    if oid == EC:
+        need(parameters != "none")
+        dotted(contents(read_exact(bytes.fromhex(parameters)), 6))
+        return f"Ec {shown} {found}"
+    need(oid in ED | MLDSA)
+    return f"{'Ed' if oid in ED else 'Mldsa'} {shown} {found}"
+
+
+def inner(octets):
+    """The element that a string holds."""
+    try:
+        return read_exact(octets)
+    except Exception as refusal:
+        raise Shape from refusal
+
+
+KINDS = {
+    "integer": lambda element: integer(contents(element, 2)).split()[0],
+    "bits": lambda element: bits(contents(element, 3)),
+    "identifier": lambda element: dotted(contents(element, 6)),
+    "ia5": lambda element: ia5(contents(element, 0x16)),
+    "algorithm": algorithm,
+    "rsa_key": rsa_key,
+    "key": key,
+    "directory_string": directory_string,
+    "value": value,
+    "attribute": attribute,
+    "set": members,
+    "name": name,
+}
+
+
+def structure_line(kind, octets):
+    """What is printed of octets as a structure: each value comes back as it was read."""
+    try:
+        return f"same {KINDS[kind](read_exact(octets))}"
+    except Shape:
+        return "Shape"
