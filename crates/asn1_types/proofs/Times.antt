@@ -4,32 +4,10 @@ use Rattle.std.specs.Coded.{le_prop}
 use Rattle.asn1_types.specs.Calendar.{IsMoment, IsUtcYear}
 use Rattle.asn1_types.specs.declared.generalized_time.GeneralizedTime.{GeneralizedTime}
 use Rattle.asn1_types.specs.declared.utc_time.UTCTime.{UTCTime}
+use Rattle.asn1_types.specs.Facts.Times.{AreMoment, same_generalized, same_utc, same_number, day_below}
 use Rattle.asn1_types.specs.Time.{two_digits, IsPair, generalized_contents, generalized_fields, utc_contents, utc_fields}
 
 -- ---- fields
-
--- These fields, the year first, are those of a moment.
-abbrev AreMoment : List ℕ → Type 0
-AreMoment xs =
-    IsMoment (get_or xs 0 0) (get_or xs 1 0) (get_or xs 2 0) (get_or xs 3 0) (get_or xs 4 0) (get_or xs 5 0)
-
-AreMoment-prop : (xs : List ℕ) → IsProp (AreMoment xs)
-AreMoment-prop xs = hlevel (le_prop)
-
-abbrev generalized_of : (xs : List ℕ) → AreMoment xs → GeneralizedTime
-generalized_of xs h = record {
-  year = get_or xs 0 0;
-  month = get_or xs 1 0;
-  day = get_or xs 2 0;
-  hour = get_or xs 3 0;
-  minute = get_or xs 4 0;
-  second = get_or xs 5 0;
-  exists = h;
-}
-
-pub same_generalized : (s t : GeneralizedTime) → generalized_fields s ≡ generalized_fields t → s ≡ t
-same_generalized s t e =
-    subst (λ (xs : List ℕ). (h : AreMoment xs) → s ≡ generalized_of xs h) e (λ h. ap (generalized_of (generalized_fields s)) (AreMoment-prop (generalized_fields s) s.exists h)) t.exists
 
 -- What is made of the fields of a time is that time.
 pub generalized_made : (made : Option GeneralizedTime) (t : GeneralizedTime) (xs : List ℕ) → (IsSome made ↔ AreMoment xs) → IfSome made (λ v. generalized_fields v ≡ xs) → generalized_fields t ≡ xs → made ≡ Some t
@@ -38,33 +16,12 @@ generalized_made None t xs exists given e =
 generalized_made (Some v) t xs exists given e = ap Some (same_generalized v t (given ∙ sym e))
 
 -- The same, the year being one of 1950 to 2049.
-abbrev utc_of : (t : GeneralizedTime) → IsUtcYear t.year → UTCTime
-utc_of t h = record { time = t; of_years = h }
-
-year-prop : (t : GeneralizedTime) → IsProp (IsUtcYear t.year)
-year-prop t = hlevel (le_prop)
-
-pub same_utc : (s t : UTCTime) → utc_fields s ≡ utc_fields t → s ≡ t
-same_utc s t e =
-    subst (λ (time : GeneralizedTime). (h : IsUtcYear time.year) → s ≡ utc_of time h) (same_generalized s.time t.time e)
-    (λ h. ap (utc_of s.time) (year-prop s.time s.of_years h)) t.of_years
-
 pub utc_made : (made : Option UTCTime) (t : UTCTime) (xs : List ℕ) → (IsSome made ↔ (AreMoment xs × IsUtcYear (get_or xs 0 0))) → IfSome made (λ v. utc_fields v ≡ xs) → utc_fields t ≡ xs → made ≡ Some t
 utc_made None t xs exists given e =
     let made = exists.1 (subst (λ ys. AreMoment ys × IsUtcYear (get_or ys 0 0)) e (t.time.exists, t.of_years)) in absurd (cc)
 utc_made (Some v) t xs exists given e = ap Some (same_utc v t (given ∙ sym e))
 
 -- ---- digits
-
--- Digits are those of one number.
-same_number : (m n : ℕ) → m < 100 → n < 100 → two_digits m ≡ two_digits n → m ≡ n
-same_number m n hm hn e =
-    let tens : 48 + m / 10 ≡ 48 + n / 10 = cc in
-    let ones : 48 + m % 10 ≡ 48 + n % 10 = cc in
-    omega arith
-
-pub day_below : {year month day hour minute second : ℕ} → IsMoment year month day hour minute second → day < 100
-day_below h = search (rules, arith)
 
 -- Seven pairs of digits and `Z` are the contents of the time with their numbers.
 pub generalized_spelled : (bs : List ℕ) (v : GeneralizedTime) (year century of_century month day hour minute second : ℕ) → year ≡ 100 * century + of_century → length bs ≡ 15 → slice_index bs 14 ≡ 90
@@ -124,3 +81,8 @@ utc_read bs t year last month day hour minute second within same p0 p2 p4 p6 p8 
     let e10 = same_number second t.time.second p10.0 (omega arith) (rw e at p10.1) in
     let years : t.time.year ≡ year = omega arith in
     cc
+
+-- an answer that is there is what is read
+pub some_read : {T : Type 0} (P : T → Type 0) (N : Type 0) (r : Option T) → IsSome r → MatchOption r N P → (t : T) × P t
+some_read P N None there m = absurd cc
+some_read P N (Some t) there m = (t, m)

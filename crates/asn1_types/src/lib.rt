@@ -5,6 +5,7 @@
 mod bit_string;
 mod calendar;
 mod digits;
+mod element;
 mod error;
 mod generalized_time;
 mod ia5_string;

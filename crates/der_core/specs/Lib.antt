@@ -13,4 +13,5 @@ pub mod Refusals
 pub mod Structure
 pub mod Default
 pub mod Each
+pub mod Lent
 pub mod Facts

@@ -1,7 +1,7 @@
 //! The elements in an element, where their octets lie.
 
 ghost use Rattle.std.specs.Prelude.{◌≡◌, ◌≢◌, ◌↔◌, IsTrue, [], ◌∷◌, Some, None, MatchOption};
-ghost use Rattle.der_core.specs.DerElement.{DerElements, Constructed, row, tag_of, kids_of};
+ghost use Rattle.der_core.specs.DerElement.{DerElement, DerElements, Constructed, row, tag_of, kids_of};
 ghost use Rattle.der_core.specs.Default.{HasBadFlag, TakesDefault};
 ghost use Rattle.der_core.specs.Structure.{Fits, BeginsOtherwise, BeginsUnfit, HasMore};
 ghost use Rattle.der_core.specs.Placed.{HasElems};
@@ -121,4 +121,31 @@ impl<'a> Kids<'a> {
     {
         if self.is_empty() { Some(()) } else { None }
     }
+}
+
+/// The elements in a constructed element of this tag that holds two.
+pub fn two_kids<'a>(elem: Elem<'a>, tag: u8) -> Option<(Elem<'a>, Elem<'a>)>
+    ensures { MatchOption result
+        ((first second : DerElement) → elem.entry.is.0 ≢ Constructed tag (row (first ∷ second ∷ [])))
+        (λ kids. elem.entry.is.0 ≡ Constructed tag (row (kids.0.is.0 ∷ kids.1.is.0 ∷ []))) }
+{
+    let mut kids = Kids::of(elem, tag)?;
+    let first = kids.next()?;
+    let second = kids.next()?;
+    kids.end()?;
+    Some((first, second))
+}
+
+/// The elements in a constructed element of this tag that holds three.
+pub fn three_kids<'a>(elem: Elem<'a>, tag: u8) -> Option<(Elem<'a>, Elem<'a>, Elem<'a>)>
+    ensures { MatchOption result
+        ((first second third : DerElement) → elem.entry.is.0 ≢ Constructed tag (row (first ∷ second ∷ third ∷ [])))
+        (λ kids. elem.entry.is.0 ≡ Constructed tag (row (kids.0.is.0 ∷ kids.1.is.0 ∷ kids.2.is.0 ∷ []))) }
+{
+    let mut kids = Kids::of(elem, tag)?;
+    let first = kids.next()?;
+    let second = kids.next()?;
+    let third = kids.next()?;
+    kids.end()?;
+    Some((first, second, third))
 }

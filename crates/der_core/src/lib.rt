@@ -31,7 +31,7 @@ pub use cursor::Cursor;
 pub use elem::Elem;
 pub use error::DerError;
 pub use fault::{DerFault, Malformed};
-pub use kids::Kids;
+pub use kids::{Kids, three_kids, two_kids};
 pub use laws::{
     no_encoding_begins_another, one_first_fault, read_back, tests_of_a_head,
     values_are_their_octets,

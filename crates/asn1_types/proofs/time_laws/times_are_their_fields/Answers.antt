@@ -2,7 +2,7 @@ use Rattle.std.proofs.Common.{◌≡◌, arith}
 use Rattle.std.proofs.lemmas.Bool.Decides.{nat_tests}
 use Rattle.std.proofs.lemmas.Grind.{common_steps}
 use Rattle.asn1_types.specs.Time.{generalized_fields, utc_fields}
-use Rattle.asn1_types.proofs.Times.{same_generalized, same_utc}
+use Rattle.asn1_types.specs.Facts.Times.{same_generalized, same_utc}
 use Rattle.asn1_types.proofs.time_laws.times_are_their_fields.Goals as goal
 
 pub returns-clause-equal : goal.returns-clause-equal

@@ -1,5 +1,5 @@
 use Rattle.std.proofs.Common.{refl, arith}
-use Rattle.asn1_types.proofs.Times.{day_below}
+use Rattle.asn1_types.specs.Facts.Times.{day_below}
 use Rattle.asn1_types.proofs.Padding.{two_written, four_written}
 use Rattle.asn1_types.proofs.generalized_time.GeneralizedTimeDisplay.fmt.Goals as goal
 

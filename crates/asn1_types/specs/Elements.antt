@@ -1,0 +1,34 @@
+-- Elements of the values (X.690 8): a tag and the contents octets.
+use Rattle.der_core.specs.DerElement.{DerElement, Primitive}
+use Rattle.asn1_types.specs.Values.{identifier_contents, integer_contents, bit_string_contents, ia5_contents}
+use Rattle.asn1_types.specs.Time.{utc_contents, generalized_contents}
+use Rattle.asn1_types.specs.declared.oid.ObjectIdentifier.{ObjectIdentifier}
+use Rattle.asn1_types.specs.declared.integer.IntegerAsn1.{IntegerAsn1}
+use Rattle.asn1_types.specs.declared.bit_string.BitString.{BitString}
+use Rattle.asn1_types.specs.declared.ia5_string.Ia5String.{Ia5String}
+use Rattle.asn1_types.specs.declared.utc_time.UTCTime.{UTCTime}
+use Rattle.asn1_types.specs.declared.generalized_time.GeneralizedTime.{GeneralizedTime}
+
+-- INTEGER (X.690 8.3)
+abbrev pub integer : IntegerAsn1 → DerElement
+integer value = Primitive 0x02 (integer_contents value)
+
+-- BIT STRING: the count of unused bits, then the octets (X.690 8.6)
+abbrev pub bit_string : BitString → DerElement
+bit_string value = Primitive 0x03 (bit_string_contents value)
+
+-- OBJECT IDENTIFIER (X.690 8.19)
+abbrev pub object_identifier : ObjectIdentifier → DerElement
+object_identifier value = Primitive 0x06 (identifier_contents value)
+
+-- IA5String (X.690 8.23)
+abbrev pub ia5_string : Ia5String → DerElement
+ia5_string value = Primitive 0x16 (ia5_contents value)
+
+-- UTCTime (X.690 11.8)
+abbrev pub utc_time : UTCTime → DerElement
+utc_time time = Primitive 0x17 (utc_contents time)
+
+-- GeneralizedTime (X.690 11.7)
+abbrev pub generalized_time : GeneralizedTime → DerElement
+generalized_time time = Primitive 0x18 (generalized_contents time)

@@ -1,0 +1,84 @@
+-- Unlike values have unlike elements, each well formed.
+use Rattle.std.proofs.Common.{◌≡◌, ℕ, List, [], ◌∷◌, refl, ap, subst, arith}
+use Rattle.std.proofs.Props.{props}
+use Rattle.der_core.specs.DerElement.{DerElement, Primitive}
+use Rattle.der_core.specs.Structure.{IsGrammar}
+use Rattle.der_core.specs.Facts.Grammars.{printed}
+use Rattle.asn1_types.specs.ObjectIdentifier.{IsIdentifier}
+use Rattle.asn1_types.specs.Integer.{IsInteger}
+use Rattle.asn1_types.specs.BitString.{IsBitString}
+use Rattle.asn1_types.specs.Ia5String.{IsIa5}
+use Rattle.asn1_types.specs.Elements.{integer, bit_string, object_identifier, ia5_string, utc_time, generalized_time}
+use Rattle.asn1_types.specs.Facts.OneIdentifier.{IsIdentifier-prop}
+use Rattle.asn1_types.specs.Facts.Times.{utc_once, generalized_once}
+use Rattle.asn1_types.specs.declared.oid.ObjectIdentifier.{ObjectIdentifier}
+use Rattle.asn1_types.specs.declared.integer.IntegerAsn1.{IntegerAsn1}
+use Rattle.asn1_types.specs.declared.bit_string.BitString.{BitString}
+use Rattle.asn1_types.specs.declared.ia5_string.Ia5String.{Ia5String}
+use Rattle.asn1_types.specs.declared.utc_time.UTCTime.{UTCTime}
+use Rattle.asn1_types.specs.declared.generalized_time.GeneralizedTime.{GeneralizedTime}
+
+-- ---- values with a fact are the same where what the fact is of is
+
+abbrev oid_of : (contents : List ℕ) → IsIdentifier contents → ObjectIdentifier
+oid_of contents formed = record { contents = contents; formed = formed }
+
+pub same_oid : (a b : ObjectIdentifier) → a.contents ≡ b.contents → a ≡ b
+same_oid a b e =
+    subst (λ (xs : List ℕ). (h : IsIdentifier xs) → a ≡ oid_of xs h) e (λ h. ap (oid_of a.contents) (IsIdentifier-prop a.contents a.formed h)) b.formed
+
+IsInteger-prop : (contents : List ℕ) → IsProp (IsInteger contents)
+IsInteger-prop contents = hlevel props
+
+abbrev integer_of : (contents : List ℕ) → IsInteger contents → IntegerAsn1
+integer_of contents formed = record { contents = contents; formed = formed }
+
+pub same_integer : (a b : IntegerAsn1) → a.contents ≡ b.contents → a ≡ b
+same_integer a b e =
+    subst (λ (xs : List ℕ). (h : IsInteger xs) → a ≡ integer_of xs h) e (λ h. ap (integer_of a.contents) (IsInteger-prop a.contents a.formed h)) b.formed
+
+IsIa5-prop : (text : List ℕ) → IsProp (IsIa5 text)
+IsIa5-prop text = hlevel props
+
+abbrev ia5_of : (text : List ℕ) → IsIa5 text → Ia5String
+ia5_of text ascii = record { text = text; ascii = ascii }
+
+pub same_ia5 : (a b : Ia5String) → a.text ≡ b.text → a ≡ b
+same_ia5 a b e = subst (λ (xs : List ℕ). (h : IsIa5 xs) → a ≡ ia5_of xs h) e (λ h. ap (ia5_of a.text) (IsIa5-prop a.text a.ascii h)) b.ascii
+
+IsBitString-prop : (unused : ℕ) (payload : List ℕ) → IsProp (IsBitString unused payload)
+IsBitString-prop unused payload = hlevel props
+
+abbrev bits_of : (unused : ℕ) (payload : List ℕ) → IsBitString unused payload → BitString
+bits_of unused payload formed = record { unused = unused; payload = payload; formed = formed }
+
+pub same_bits : (a b : BitString) → a.unused ≡ b.unused → a.payload ≡ b.payload → a ≡ b
+same_bits a b e f =
+    subst (λ (n : ℕ). (xs : List ℕ) → a.payload ≡ xs → (h : IsBitString n xs) → a ≡ bits_of n xs h) e
+    (λ xs f. subst (λ (ys : List ℕ). (h : IsBitString a.unused ys) → a ≡ bits_of a.unused ys h) f (λ h. ap (bits_of a.unused a.payload) (IsBitString-prop a.unused a.payload a.formed h))) b.payload f b.formed
+
+-- ---- grammars
+
+leaf_once : (tag : ℕ) (a b : List ℕ) → Primitive tag a ≡ Primitive tag b → a ≡ b
+leaf_once tag a b e = cc
+
+pub identifiers : IsGrammar (λ element value. element ≡ object_identifier value) object_identifier (λ value. [])
+identifiers = printed object_identifier (λ a b e. same_oid a b (leaf_once 0x06 _ _ e)) (λ value. ((omega arith, omega arith, omega arith), refl))
+
+pub integers : IsGrammar (λ element value. element ≡ integer value) integer (λ value. [])
+integers = printed integer (λ a b e. same_integer a b (leaf_once 0x02 _ _ e)) (λ value. ((omega arith, omega arith, omega arith), refl))
+
+bits_once : (a b : BitString) → bit_string a ≡ bit_string b → a ≡ b
+bits_once a b e = let unused : a.unused ≡ b.unused = cc in let payload : a.payload ≡ b.payload = cc in same_bits a b unused payload
+
+pub bit_strings : IsGrammar (λ element value. element ≡ bit_string value) bit_string (λ value. [])
+bit_strings = printed bit_string bits_once (λ value. ((omega arith, omega arith, omega arith), refl))
+
+pub ia5_strings : IsGrammar (λ element value. element ≡ ia5_string value) ia5_string (λ value. [])
+ia5_strings = printed ia5_string (λ a b e. same_ia5 a b (leaf_once 0x16 _ _ e)) (λ value. ((omega arith, omega arith, omega arith), refl))
+
+pub utc_times : IsGrammar (λ element value. element ≡ utc_time value) utc_time (λ value. [])
+utc_times = printed utc_time (λ a b e. utc_once a b (leaf_once 0x17 _ _ e)) (λ value. ((omega arith, omega arith, omega arith), refl))
+
+pub generalized_times : IsGrammar (λ element value. element ≡ generalized_time value) generalized_time (λ value. [])
+generalized_times = printed generalized_time (λ a b e. generalized_once a b (leaf_once 0x18 _ _ e)) (λ value. ((omega arith, omega arith, omega arith), refl))
