@@ -8,3 +8,4 @@ pub mod Kept
 pub mod Placed
 pub mod Cursor
 pub mod Grammars
+pub mod Equality

@@ -39,10 +39,9 @@ pub use laws::{
 pub use leaves::{boolean_at, leaf, leaf_at};
 pub use list::{ListOf, copy_each, has_each, has_list, read_each, read_list, write_each, write_list};
 pub use new_kids::NewKids;
-pub use octets::Octets;
+pub use octets::{Octets, is_same};
 pub use raw::Raw;
 pub use reading::{read_exact, read_first};
-pub use sequence_of::SetOf;
 pub use structure::Structure;
 pub use tree::{Tree, Trees};
 pub use within::{has_within, read_within, write_within};

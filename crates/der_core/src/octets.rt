@@ -70,3 +70,10 @@ impl PartialEq for Octets {
 impl Eq for Octets {
     ghost laws = { nat_list_eq_equiv };
 }
+
+/// Whether the octets are the same.
+pub fn is_same(a: &[u8], b: &[u8]) -> bool
+    ensures { IsTrue result ↔ (a.now ≡ b.now) }
+{
+    a == b
+}

@@ -1,12 +1,9 @@
-mod Texts
-mod Hexadecimal
-mod Joined
-mod TypeWords
-mod AttributeTypes
-pub mod Parts
-pub mod Several
-pub mod Inner
-pub mod Parameters
-pub mod Keys
+pub mod Lent
+pub mod AttributeTypes
+pub mod Hexadecimal
+pub mod Joined
+pub mod Texts
+pub mod TypeWords
 pub mod Equal
-pub mod Once
+pub mod Elements
+pub mod Lists

@@ -1,8 +1,14 @@
 -- AlgorithmIdentifier ::= SEQUENCE { algorithm OBJECT IDENTIFIER, parameters ANY DEFINED BY algorithm OPTIONAL } (RFC 5280 4.1.1.2)
-use Rattle.std.specs.Prelude.{◌∷◌, option_to_list}
+use Rattle.std.specs.Prelude.{◌∷◌, Option, option_to_list}
 use Rattle.der_core.specs.DerElement.{DerElement}
-use Rattle.x509_types.specs.Elements.{sequence, object_identifier}
+use Rattle.der_core.specs.Elements.{sequence}
+use Rattle.der_core.specs.Lent.{kept_option}
+use Rattle.asn1_types.specs.Elements.{object_identifier}
 use Rattle.x509_types.specs.declared.algorithm.AlgorithmIdentifier.{AlgorithmIdentifier}
 
+-- by the elements of its fields
+abbrev pub algorithm_of : DerElement → Option DerElement → DerElement
+algorithm_of oid parameters = sequence (oid ∷ option_to_list parameters)
+
 abbrev pub algorithm_identifier : AlgorithmIdentifier → DerElement
-algorithm_identifier a = sequence (object_identifier a.oid ∷ option_to_list a.parameters)
+algorithm_identifier a = algorithm_of (object_identifier a.oid) (kept_option a.parameters)

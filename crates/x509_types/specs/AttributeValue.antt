@@ -1,6 +1,6 @@
 -- AttributeValue ::= ANY (RFC 5280 4.1.2.4): a string of a known type, or any other element
 use Rattle.der_core.specs.DerElement.{DerElement}
-use Rattle.x509_types.specs.Elements.{ia5_string}
+use Rattle.asn1_types.specs.Elements.{ia5_string}
 use Rattle.x509_types.specs.DirectoryString.{directory_string}
 use Rattle.x509_types.specs.declared.attribute_value.AttributeValue.{AttributeValue}
 use Rattle.x509_types.specs.declared.attribute_value.AttributeValue.TheVariants as values
@@ -8,4 +8,4 @@ use Rattle.x509_types.specs.declared.attribute_value.AttributeValue.TheVariants 
 abbrev pub attribute_value : AttributeValue → DerElement
 attribute_value (values.DirectoryString string) = directory_string string
 attribute_value (values.Ia5String string) = ia5_string string
-attribute_value (values.Other other) = other.element
+attribute_value (values.Other other) = other.element.element

@@ -1,7 +1,3 @@
-pub mod Bounds
-pub mod Shape
-pub mod Each
-pub mod Elements
 pub mod RsaPublicKey
 pub mod AlgorithmIdentifier
 pub mod DirectoryString
@@ -11,6 +7,4 @@ pub mod Name
 pub mod Text
 pub mod NameAttr
 pub mod NameText
-pub mod KeyKind
-pub mod SubjectKey
-pub mod PublicKeyInfo
+pub mod Facts

@@ -9,7 +9,7 @@ use Rattle.x509_types.specs.NameAttr.{attribute_type, attribute_word}
 use Rattle.x509_types.specs.declared.name_attr.NameAttr.{NameAttr}
 use Rattle.x509_types.specs.declared.attribute_value.AttributeValue.{AttributeValue}
 use Rattle.x509_types.specs.declared.attribute_value.AttributeValue.TheVariants as values
-use Rattle.x509_types.specs.declared.name.AttributeTypeAndValue.{AttributeTypeAndValue}
+use Rattle.x509_types.specs.declared.attribute.AttributeTypeAndValue.{AttributeTypeAndValue}
 
 -- two digits an octet, in lower case
 abbrev pub hexadecimal : List ℕ → List ℕ
@@ -32,7 +32,7 @@ type_word arcs = word_or_dotted (attribute_type arcs) arcs
 abbrev pub value_text : AttributeValue → List ℕ
 value_text (values.DirectoryString string) = text_of string
 value_text (values.Ia5String string) = string.text
-value_text (values.Other other) = codes "#" ++ hexadecimal (encoding other.element)
+value_text (values.Other other) = codes "#" ++ hexadecimal (encoding other.element.element)
 
 -- word, `=` and value
 abbrev pub attribute_text : AttributeTypeAndValue → List ℕ

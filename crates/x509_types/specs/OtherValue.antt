@@ -2,7 +2,7 @@
 use Rattle.std.specs.Prelude.{◌≢◌}
 use Rattle.der_core.specs.DerElement.{DerElement}
 use Rattle.asn1_types.specs.declared.ia5_string.Ia5String.{Ia5String}
-use Rattle.x509_types.specs.Elements.{ia5_string}
+use Rattle.asn1_types.specs.Elements.{ia5_string}
 use Rattle.x509_types.specs.DirectoryString.{directory_string}
 use Rattle.x509_types.specs.declared.directory_string.DirectoryString.{DirectoryString}
 

@@ -1,7 +1,8 @@
 -- RSAPublicKey ::= SEQUENCE { modulus INTEGER, publicExponent INTEGER } (RFC 8017 A.1.1)
 use Rattle.std.specs.Prelude.{[], ◌∷◌}
 use Rattle.der_core.specs.DerElement.{DerElement}
-use Rattle.x509_types.specs.Elements.{sequence, integer}
+use Rattle.der_core.specs.Elements.{sequence}
+use Rattle.asn1_types.specs.Elements.{integer}
 use Rattle.x509_types.specs.declared.public_key.RsaPublicKey.{RsaPublicKey}
 
 abbrev pub rsa_public_key : RsaPublicKey → DerElement

@@ -1,18 +1,18 @@
 //! Identifiers of algorithms.
 
-ghost use Rattle.std.specs.Prelude.{◌≡◌, [], Some, IfOk};
+ghost use Rattle.std.specs.Prelude.{◌≡◌, Some, IfOk, ◌↔◌, IsTrue};
 ghost use Rattle.std.specs.Option.{option_copied};
-ghost use Rattle.x509_types.specs.Elements.{null};
+ghost use Rattle.der_core.specs.Elements.{null};
+ghost use Rattle.der_core.specs.Lent.{kept_option};
 
-use crate::shape::{Kids, NewKids, kept, kept_option};
-use crate::structure::Structure;
-use crate::tag::{NULL, SEQUENCE};
+use crate::algorithm_fields::AlgorithmFields;
 use asn1_types::ObjectIdentifier;
-use der_core::{DerError, Octets, Raw, Tree};
+use der_core::tag::{NULL, SEQUENCE};
+use der_core::{DerError, Elem, NewKids, Raw, Structure, Tree, leaf};
 use std::alloc::{AllocError, Global};
 
 /// An algorithm by its identifier, with its parameters (RFC 5280 4.1.1.2).
-#[derive(Debug, Drop, PartialEq, Eq)]
+#[derive(Debug, Drop)]
 pub struct AlgorithmIdentifier {
     oid: ObjectIdentifier,
     parameters: Option<Raw>,
@@ -31,12 +31,14 @@ impl AlgorithmIdentifier {
         alloc: Global,
         oid: ObjectIdentifier,
     ) -> Result<AlgorithmIdentifier, AllocError>
-        ensures { IfOk result (λ a. (a.oid ≡ oid) × (a.parameters ≡ Some null)) }
+        ensures { IfOk result (λ a. (a.oid ≡ oid) × (kept_option a.parameters ≡ Some null)) }
     {
-        let null = Tree::leaf(NULL, Octets::from_slice(alloc, &[])?);
+        let Ok(null) = Raw::from_tree(alloc, &leaf(alloc, NULL, &[])?) else {
+            return Err(AllocError);
+        };
         Ok(AlgorithmIdentifier {
             oid,
-            parameters: Some(kept(alloc, &null)?),
+            parameters: Some(null),
         })
     }
 
@@ -57,18 +59,28 @@ impl AlgorithmIdentifier {
 
 impl Structure for AlgorithmIdentifier {
     ghost use Rattle.x509_types.specs.AlgorithmIdentifier.{algorithm_identifier};
-
-    ghost spells = { λ element a. element ≡ algorithm_identifier a };
+    ghost use Rattle.x509_types.specs.Facts.Algorithms.{algorithms};
 
     ghost written = { algorithm_identifier };
 
-    ghost inner = { λ _. [] };
+    ghost spells = { λ element a. element ≡ algorithm_identifier a };
 
-    fn read(alloc: Global, tree: &Tree) -> Result<AlgorithmIdentifier, DerError> {
-        let mut kids = Kids::of(tree, SEQUENCE)?;
-        let oid = ObjectIdentifier::read(alloc, kids.next()?)?;
-        let parameters = kept_option(alloc, kids.next_any())?;
-        kids.end()?;
+    fn has_shape(elem: Elem<'_>) -> bool {
+        match AlgorithmFields::of(elem) {
+            Some(fields) => ObjectIdentifier::has_shape(fields.oid),
+            None => false,
+        }
+    }
+
+    fn read_at(alloc: Global, elem: Elem<'_>) -> Result<AlgorithmIdentifier, DerError> {
+        let Some(fields) = AlgorithmFields::of(elem) else {
+            return Err(DerError::Shape);
+        };
+        let oid = ObjectIdentifier::read_at(alloc, fields.oid)?;
+        let parameters = match fields.parameters {
+            Some(parameters) => Some(Raw::from_elem(alloc, parameters)?),
+            None => None,
+        };
         Ok(AlgorithmIdentifier { oid, parameters })
     }
 
@@ -76,7 +88,7 @@ impl Structure for AlgorithmIdentifier {
         let mut kids = NewKids::new(alloc);
         kids.push(self.oid.write(alloc)?)?;
         if let Some(parameters) = &self.parameters {
-            kids.push(parameters.tree(alloc)?)?;
+            kids.push(parameters.write(alloc)?)?;
         }
         Ok(kids.into_branch(SEQUENCE))
     }
@@ -91,4 +103,36 @@ impl Structure for AlgorithmIdentifier {
             parameters,
         })
     }
+
+    ghost grammar = { algorithms };
+}
+
+/// Identifiers of algorithms are equal exactly where their octets are.
+impl PartialEq for AlgorithmIdentifier {
+    ghost use Rattle.std.specs.Ordering.{on};
+    ghost use Rattle.std.specs.Cmp.Lexicographic.{nat_list_eq_equiv};
+    ghost use Rattle.std.specs.Cmp.{on_per, partial_equiv_from_equiv};
+    ghost use Rattle.std.specs.Prelude.{bytes_eq};
+    ghost use Rattle.der_core.specs.Encoding.{encoding};
+    ghost use Rattle.x509_types.specs.AlgorithmIdentifier.{algorithm_identifier};
+
+    ghost eq = { on (λ value. encoding (algorithm_identifier value)) bytes_eq };
+
+    ghost laws = { on_per (λ value. encoding (algorithm_identifier value)) (partial_equiv_from_equiv nat_list_eq_equiv) };
+
+    fn eq(&self, other: &AlgorithmIdentifier) -> bool
+        ensures octets { result ≡ bytes_eq (encoding (algorithm_identifier self.now)) (encoding (algorithm_identifier other.now)) }
+        ensures same { IsTrue result ↔ (self.now ≡ other.now) }
+    {
+        self.oid == other.oid && self.parameters == other.parameters
+    }
+}
+
+impl Eq for AlgorithmIdentifier {
+    ghost use Rattle.std.specs.Cmp.Lexicographic.{nat_list_eq_equiv};
+    ghost use Rattle.std.specs.Cmp.{on_equiv};
+    ghost use Rattle.der_core.specs.Encoding.{encoding};
+    ghost use Rattle.x509_types.specs.AlgorithmIdentifier.{algorithm_identifier};
+
+    ghost laws = { on_equiv (λ value. encoding (algorithm_identifier value)) nat_list_eq_equiv };
 }

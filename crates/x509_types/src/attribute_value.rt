@@ -1,17 +1,16 @@
 //! Values of the attributes that names are made of.
 
-ghost use Rattle.std.specs.Prelude.{◌≡◌, []};
+ghost use Rattle.std.specs.Prelude.{◌≡◌, ◌↔◌, IsTrue};
 
 use crate::directory_string::DirectoryString;
 use crate::other_value::OtherValue;
-use crate::structure::{Structure, read_if};
 use asn1_types::Ia5String;
-use der_core::{DerError, Tree};
+use der_core::{DerError, Elem, Structure, Tree};
 use std::alloc::{AllocError, Global};
 
 /// The value of an attribute of a name (RFC 5280 4.1.2.4): a string of a type that is known here,
 /// or any other element.
-#[derive(Debug, Drop, PartialEq, Eq)]
+#[derive(Debug, Drop)]
 pub enum AttributeValue {
     /// A DirectoryString (RFC 5280 4.1.2.4).
     DirectoryString(DirectoryString),
@@ -23,28 +22,34 @@ pub enum AttributeValue {
 
 impl Structure for AttributeValue {
     ghost use Rattle.x509_types.specs.AttributeValue.{attribute_value};
-
-    ghost spells = { λ element value. element ≡ attribute_value value };
+    ghost use Rattle.x509_types.specs.Facts.Names.{attribute_values};
 
     ghost written = { attribute_value };
 
-    ghost inner = { λ _. [] };
+    ghost spells = { λ element value. element ≡ attribute_value value };
 
-    fn read(alloc: Global, tree: &Tree) -> Result<AttributeValue, DerError> {
-        if let Some(string) = read_if(alloc, tree)? {
+    /// Any element is the value of some attribute.
+    fn has_shape(_elem: Elem<'_>) -> bool {
+        true
+    }
+
+    fn read_at(alloc: Global, elem: Elem<'_>) -> Result<AttributeValue, DerError> {
+        if DirectoryString::has_shape(elem) {
+            let string = DirectoryString::read_at(alloc, elem)?;
             return Ok(AttributeValue::DirectoryString(string));
         }
-        if let Some(string) = read_if(alloc, tree)? {
+        if Ia5String::has_shape(elem) {
+            let string = Ia5String::read_at(alloc, elem)?;
             return Ok(AttributeValue::Ia5String(string));
         }
-        Ok(AttributeValue::Other(OtherValue::keep(alloc, tree)?))
+        Ok(AttributeValue::Other(OtherValue::keep(alloc, elem)?))
     }
 
     fn write(&self, alloc: Global) -> Result<Tree, DerError> {
         match self {
             AttributeValue::DirectoryString(string) => string.write(alloc),
             AttributeValue::Ia5String(string) => string.write(alloc),
-            AttributeValue::Other(value) => Ok(value.element().tree(alloc)?),
+            AttributeValue::Other(value) => value.element().write(alloc),
         }
     }
 
@@ -54,9 +59,46 @@ impl Structure for AttributeValue {
                 AttributeValue::DirectoryString(string.try_clone(alloc)?)
             }
             AttributeValue::Ia5String(string) => {
-                AttributeValue::Ia5String(string.try_clone(alloc)?)
+                AttributeValue::Ia5String(Structure::try_clone(string, alloc)?)
             }
             AttributeValue::Other(value) => AttributeValue::Other(value.try_clone(alloc)?),
         })
     }
+
+    ghost grammar = { attribute_values };
+}
+
+/// Values are equal exactly where their octets are.
+impl PartialEq for AttributeValue {
+    ghost use Rattle.std.specs.Ordering.{on};
+    ghost use Rattle.std.specs.Cmp.Lexicographic.{nat_list_eq_equiv};
+    ghost use Rattle.std.specs.Cmp.{on_per, partial_equiv_from_equiv};
+    ghost use Rattle.std.specs.Prelude.{bytes_eq};
+    ghost use Rattle.der_core.specs.Encoding.{encoding};
+    ghost use Rattle.x509_types.specs.AttributeValue.{attribute_value};
+
+    ghost eq = { on (λ value. encoding (attribute_value value)) bytes_eq };
+
+    ghost laws = { on_per (λ value. encoding (attribute_value value)) (partial_equiv_from_equiv nat_list_eq_equiv) };
+
+    fn eq(&self, other: &AttributeValue) -> bool
+        ensures octets { result ≡ bytes_eq (encoding (attribute_value self.now)) (encoding (attribute_value other.now)) }
+        ensures same { IsTrue result ↔ (self.now ≡ other.now) }
+    {
+        match (self, other) {
+            (AttributeValue::DirectoryString(a), AttributeValue::DirectoryString(b)) => *a == *b,
+            (AttributeValue::Ia5String(a), AttributeValue::Ia5String(b)) => *a == *b,
+            (AttributeValue::Other(a), AttributeValue::Other(b)) => *a.element() == *b.element(),
+            _ => false,
+        }
+    }
+}
+
+impl Eq for AttributeValue {
+    ghost use Rattle.std.specs.Cmp.Lexicographic.{nat_list_eq_equiv};
+    ghost use Rattle.std.specs.Cmp.{on_equiv};
+    ghost use Rattle.der_core.specs.Encoding.{encoding};
+    ghost use Rattle.x509_types.specs.AttributeValue.{attribute_value};
+
+    ghost laws = { on_equiv (λ value. encoding (attribute_value value)) nat_list_eq_equiv };
 }

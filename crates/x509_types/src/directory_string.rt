@@ -1,16 +1,15 @@
 //! The strings of names.
 
-ghost use Rattle.std.specs.Prelude.{◌≡◌, [], IfOk};
+ghost use Rattle.x509_types.specs.DirectoryString.{IsStringTag};
+ghost use Rattle.std.specs.Prelude.{◌≡◌, ◌↔◌, IfOk, IsTrue};
 
-use crate::leaf::{leaf, read_octets};
-use crate::structure::Structure;
-use crate::tag::{BMP_STRING, PRINTABLE_STRING, TELETEX_STRING, UTF8_STRING};
-use der_core::{DerError, Octets, Tree};
+use der_core::tag::{BMP_STRING, PRINTABLE_STRING, TELETEX_STRING, UTF8_STRING};
+use der_core::{DerError, Elem, Octets, Structure, Tree, leaf};
 use std::alloc::{AllocError, Global};
 
 /// A string of a name by its type, with its contents octets as they are (RFC 5280 4.1.2.4). A
 /// UniversalString isn't among them: it is kept as another value.
-#[derive(Debug, Drop, PartialEq, Eq)]
+#[derive(Debug, Drop)]
 pub enum DirectoryString {
     /// A PrintableString (X.680 41).
     PrintableString(Octets),
@@ -23,6 +22,7 @@ pub enum DirectoryString {
 }
 
 impl DirectoryString {
+    ghost use Rattle.x509_types.specs.DirectoryString.{string_tag, string_octets};
     ghost use Rattle.x509_types.specs.declared.directory_string.DirectoryString.TheVariants.{Utf8String};
 
     /// The text as a UTF8String.
@@ -31,43 +31,57 @@ impl DirectoryString {
     {
         Ok(DirectoryString::Utf8String(Octets::from_slice(alloc, text.as_bytes())?))
     }
+
+    /// The tag of the string's type.
+    pub fn tag(&self) -> u8
+        ensures { result ≡ string_tag self.now }
+    {
+        match self {
+            DirectoryString::PrintableString(_) => PRINTABLE_STRING,
+            DirectoryString::Utf8String(_) => UTF8_STRING,
+            DirectoryString::TeletexString(_) => TELETEX_STRING,
+            DirectoryString::BmpString(_) => BMP_STRING,
+        }
+    }
+
+    /// The contents octets.
+    pub fn as_bytes(&self) -> &[u8]
+        ensures { result.now ≡ string_octets self.now }
+    {
+        match self {
+            DirectoryString::PrintableString(octets)
+            | DirectoryString::Utf8String(octets)
+            | DirectoryString::TeletexString(octets)
+            | DirectoryString::BmpString(octets) => octets.as_slice(),
+        }
+    }
 }
 
 impl Structure for DirectoryString {
     ghost use Rattle.x509_types.specs.DirectoryString.{directory_string};
-
-    ghost spells = { λ element string. element ≡ directory_string string };
+    ghost use Rattle.x509_types.specs.Facts.Names.{directory_strings};
 
     ghost written = { directory_string };
 
-    ghost inner = { λ _. [] };
+    ghost spells = { λ element string. element ≡ directory_string string };
 
-    fn read(alloc: Global, tree: &Tree) -> Result<DirectoryString, DerError> {
-        match tree.tag() {
-            PRINTABLE_STRING => Ok(DirectoryString::PrintableString(read_octets(
-                alloc,
-                tree,
-                PRINTABLE_STRING,
-            )?)),
-            UTF8_STRING => Ok(DirectoryString::Utf8String(read_octets(alloc, tree, UTF8_STRING)?)),
-            TELETEX_STRING => Ok(DirectoryString::TeletexString(read_octets(
-                alloc,
-                tree,
-                TELETEX_STRING,
-            )?)),
-            BMP_STRING => Ok(DirectoryString::BmpString(read_octets(alloc, tree, BMP_STRING)?)),
+    fn has_shape(elem: Elem<'_>) -> bool {
+        is_string_tag(elem.tag)
+    }
+
+    fn read_at(alloc: Global, elem: Elem<'_>) -> Result<DirectoryString, DerError> {
+        let octets = Octets::from_slice(alloc, elem.content)?;
+        match elem.tag {
+            PRINTABLE_STRING => Ok(DirectoryString::PrintableString(octets)),
+            UTF8_STRING => Ok(DirectoryString::Utf8String(octets)),
+            TELETEX_STRING => Ok(DirectoryString::TeletexString(octets)),
+            BMP_STRING => Ok(DirectoryString::BmpString(octets)),
             _ => Err(DerError::Shape),
         }
     }
 
     fn write(&self, alloc: Global) -> Result<Tree, DerError> {
-        let (tag, octets) = match self {
-            DirectoryString::PrintableString(octets) => (PRINTABLE_STRING, octets),
-            DirectoryString::Utf8String(octets) => (UTF8_STRING, octets),
-            DirectoryString::TeletexString(octets) => (TELETEX_STRING, octets),
-            DirectoryString::BmpString(octets) => (BMP_STRING, octets),
-        };
-        Ok(leaf(alloc, tag, octets.as_slice())?)
+        Ok(leaf(alloc, self.tag(), self.as_bytes())?)
     }
 
     fn try_clone(&self, alloc: Global) -> Result<DirectoryString, AllocError> {
@@ -86,4 +100,43 @@ impl Structure for DirectoryString {
             }
         })
     }
+
+    ghost grammar = { directory_strings };
+}
+
+/// Whether the tag is that of a string of names.
+fn is_string_tag(tag: u8) -> bool
+    ensures { IsTrue result ↔ IsStringTag tag }
+{
+    tag == UTF8_STRING || tag == PRINTABLE_STRING || tag == TELETEX_STRING || tag == BMP_STRING
+}
+
+/// Strings are equal exactly where their octets are.
+impl PartialEq for DirectoryString {
+    ghost use Rattle.std.specs.Ordering.{on};
+    ghost use Rattle.std.specs.Cmp.Lexicographic.{nat_list_eq_equiv};
+    ghost use Rattle.std.specs.Cmp.{on_per, partial_equiv_from_equiv};
+    ghost use Rattle.std.specs.Prelude.{bytes_eq};
+    ghost use Rattle.der_core.specs.Encoding.{encoding};
+    ghost use Rattle.x509_types.specs.DirectoryString.{directory_string};
+
+    ghost eq = { on (λ value. encoding (directory_string value)) bytes_eq };
+
+    ghost laws = { on_per (λ value. encoding (directory_string value)) (partial_equiv_from_equiv nat_list_eq_equiv) };
+
+    fn eq(&self, other: &DirectoryString) -> bool
+        ensures octets { result ≡ bytes_eq (encoding (directory_string self.now)) (encoding (directory_string other.now)) }
+        ensures same { IsTrue result ↔ (self.now ≡ other.now) }
+    {
+        self.tag() == other.tag() && self.as_bytes() == other.as_bytes()
+    }
+}
+
+impl Eq for DirectoryString {
+    ghost use Rattle.std.specs.Cmp.Lexicographic.{nat_list_eq_equiv};
+    ghost use Rattle.std.specs.Cmp.{on_equiv};
+    ghost use Rattle.der_core.specs.Encoding.{encoding};
+    ghost use Rattle.x509_types.specs.DirectoryString.{directory_string};
+
+    ghost laws = { on_equiv (λ value. encoding (directory_string value)) nat_list_eq_equiv };
 }

@@ -3,9 +3,9 @@
 ghost use Rattle.std.specs.Prelude.{◌≡◌, ◌↔◌, IfOk, IsTrue};
 ghost use Rattle.x509_types.specs.NameText.{email_address};
 
-use crate::leaf::is_same;
 use asn1_types::ObjectIdentifier;
 use asn1_types::oids::EMAIL_ADDRESS;
+use der_core::is_same;
 use std::alloc::{AllocError, Global};
 
 /// The identifier of emailAddress.

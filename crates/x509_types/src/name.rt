@@ -1,102 +1,135 @@
 //! Names (RFC 5280 4.1.2.4).
 
-ghost use Rattle.std.specs.Prelude.{◌≡◌, []};
+ghost use Rattle.std.specs.Prelude.{◌≡◌, ◌↔◌, ◌++◌, ◌∷◌, [], length, IfOk, OnOk, OnErr, IsTrue};
 
-use crate::attribute_value::AttributeValue;
-use crate::list::ListOf;
-use crate::shape::{Kids, NewKids};
-use crate::structure::{Structure, copy_each, read_list, write_list};
-use crate::tag::{SEQUENCE, SET};
-use asn1_types::ObjectIdentifier;
-use der_core::{DerError, Tree};
+use crate::relative_name::RelativeDistinguishedName;
+use der_core::tag::SEQUENCE;
+use der_core::{DerError, Elem, ListOf, Structure, Tree, copy_each, has_list, read_list, write_list};
 use std::alloc::{AllocError, Global};
+use std::marker::Model;
 
-/// One attribute of a name: its type and its value (RFC 5280 4.1.2.4).
-#[derive(Debug, Drop, PartialEq, Eq)]
-pub struct AttributeTypeAndValue {
-    pub ty: ObjectIdentifier,
-    pub value: AttributeValue,
+/// A name: sets of attributes, from the top of the directory down (RFC 5280 4.1.2.4). Contracts see
+/// the list of the sets, each as the list of its members.
+#[derive(Debug, Drop)]
+pub struct Name {
+    sets: ListOf<RelativeDistinguishedName>,
 }
 
-/// A set of attributes, its members in the order that stands (RFC 5280 4.1.2.4). An empty one is
-/// read, too.
-pub type RelativeDistinguishedName = ListOf<AttributeTypeAndValue>;
+impl Model for Name {
+    ghost use Rattle.std.specs.Prelude.{List};
+    ghost use Rattle.x509_types.specs.declared.attribute.AttributeTypeAndValue.{AttributeTypeAndValue};
 
-/// A name: sets of attributes, from the top of the directory down (RFC 5280 4.1.2.4).
-pub type Name = ListOf<RelativeDistinguishedName>;
+    ghost use Rattle.x509_types.specs.Facts.Names.{coded_name};
 
-impl Structure for AttributeTypeAndValue {
-    ghost use Rattle.x509_types.specs.Name.{attribute_type_and_value};
+    ghost Value = { List (List AttributeTypeAndValue) };
 
-    ghost spells = { λ element attribute. element ≡ attribute_type_and_value attribute };
+    ghost coded = { coded_name };
 
-    ghost written = { attribute_type_and_value };
-
-    ghost inner = { λ _. [] };
-
-    fn read(alloc: Global, tree: &Tree) -> Result<AttributeTypeAndValue, DerError> {
-        let mut kids = Kids::of(tree, SEQUENCE)?;
-        let ty = ObjectIdentifier::read(alloc, kids.next()?)?;
-        let value = AttributeValue::read(alloc, kids.next()?)?;
-        kids.end()?;
-        Ok(AttributeTypeAndValue { ty, value })
-    }
-
-    fn write(&self, alloc: Global) -> Result<Tree, DerError> {
-        let mut kids = NewKids::new(alloc);
-        kids.push(self.ty.write(alloc)?)?;
-        kids.push(self.value.write(alloc)?)?;
-        Ok(kids.into_branch(SEQUENCE))
-    }
-
-    fn try_clone(&self, alloc: Global) -> Result<AttributeTypeAndValue, AllocError> {
-        Ok(AttributeTypeAndValue {
-            ty: self.ty.try_clone(alloc)?,
-            value: self.value.try_clone(alloc)?,
-        })
-    }
+    ghost view = { λ n. n.sets };
 }
 
-impl Structure for RelativeDistinguishedName {
-    ghost use Rattle.x509_types.specs.Name.{relative_distinguished_name};
-
-    ghost spells = { λ element members. element ≡ relative_distinguished_name members };
-
-    ghost written = { relative_distinguished_name };
-
-    ghost inner = { λ _. [] };
-
-    fn read(alloc: Global, tree: &Tree) -> Result<RelativeDistinguishedName, DerError> {
-        read_list(alloc, tree, SET)
+impl Name {
+    /// No sets.
+    pub fn new(alloc: Global) -> Name
+        ensures { result ≡ [] }
+    {
+        Name {
+            sets: ListOf::new(alloc),
+        }
     }
 
-    fn write(&self, alloc: Global) -> Result<Tree, DerError> {
-        write_list(alloc, self, SET)
+    /// Appends a set.
+    pub fn push(&mut self, item: RelativeDistinguishedName) -> Result<(), AllocError>
+        ensures ok { OnOk result (self.new ≡ self.old ++ item ∷ []) }
+        ensures err { OnErr result (self.new ≡ self.old) }
+    {
+        self.sets.push(item)
     }
 
-    fn try_clone(&self, alloc: Global) -> Result<RelativeDistinguishedName, AllocError> {
-        copy_each(alloc, self)
+    /// The sets in order.
+    pub fn as_slice(&self) -> &[RelativeDistinguishedName]
+        ensures { result.now ≡ self.now }
+    {
+        self.sets.as_slice()
+    }
+
+    /// How many sets there are.
+    pub fn len(&self) -> usize
+        ensures { result ≡ length self.now }
+    {
+        self.sets.len()
+    }
+
+    /// Whether there are none.
+    pub fn is_empty(&self) -> bool
+        ensures { IsTrue result ↔ (self.now ≡ []) }
+    {
+        self.sets.is_empty()
+    }
+
+    /// Where the list takes its memory.
+    pub fn allocator(&self) -> Global {
+        self.sets.allocator()
     }
 }
 
 impl Structure for Name {
-    ghost use Rattle.x509_types.specs.Name.{name};
-
-    ghost spells = { λ element sets. element ≡ name sets };
+    ghost use Rattle.x509_types.specs.Name.{name, IsName};
+    ghost use Rattle.x509_types.specs.Facts.Names.{names};
 
     ghost written = { name };
 
-    ghost inner = { λ _. [] };
+    ghost spells = { IsName };
 
-    fn read(alloc: Global, tree: &Tree) -> Result<Name, DerError> {
-        read_list(alloc, tree, SEQUENCE)
+    fn has_shape(elem: Elem<'_>) -> bool {
+        has_list::<RelativeDistinguishedName>(elem, SEQUENCE)
+    }
+
+    fn read_at(alloc: Global, elem: Elem<'_>) -> Result<Name, DerError> {
+        Ok(Name {
+            sets: read_list(alloc, elem, SEQUENCE)?,
+        })
     }
 
     fn write(&self, alloc: Global) -> Result<Tree, DerError> {
-        write_list(alloc, self, SEQUENCE)
+        write_list(alloc, &self.sets, SEQUENCE)
     }
 
     fn try_clone(&self, alloc: Global) -> Result<Name, AllocError> {
-        copy_each(alloc, self)
+        Ok(Name {
+            sets: copy_each(alloc, &self.sets)?,
+        })
     }
+
+    ghost grammar = { names };
+}
+
+/// Names are equal exactly where their octets are.
+impl PartialEq for Name {
+    ghost use Rattle.std.specs.Ordering.{on};
+    ghost use Rattle.std.specs.Cmp.Lexicographic.{nat_list_eq_equiv};
+    ghost use Rattle.std.specs.Cmp.{on_per, partial_equiv_from_equiv};
+    ghost use Rattle.std.specs.Prelude.{bytes_eq};
+    ghost use Rattle.der_core.specs.Encoding.{encoding};
+    ghost use Rattle.x509_types.specs.Name.{name};
+
+    ghost eq = { on (λ value. encoding (name value)) bytes_eq };
+
+    ghost laws = { on_per (λ value. encoding (name value)) (partial_equiv_from_equiv nat_list_eq_equiv) };
+
+    fn eq(&self, other: &Name) -> bool
+        ensures octets { result ≡ bytes_eq (encoding (name self.now)) (encoding (name other.now)) }
+        ensures same { IsTrue result ↔ (self.now ≡ other.now) }
+    {
+        self.sets == other.sets
+    }
+}
+
+impl Eq for Name {
+    ghost use Rattle.std.specs.Cmp.Lexicographic.{nat_list_eq_equiv};
+    ghost use Rattle.std.specs.Cmp.{on_equiv};
+    ghost use Rattle.der_core.specs.Encoding.{encoding};
+    ghost use Rattle.x509_types.specs.Name.{name};
+
+    ghost laws = { on_equiv (λ value. encoding (name value)) nat_list_eq_equiv };
 }

@@ -5,8 +5,8 @@ ghost use Rattle.asn1_types.specs.ObjectIdentifier.{contents_of};
 ghost use Rattle.x509_types.specs.declared.name_attr.NameAttr.{NameAttr};
 ghost use Rattle.x509_types.specs.NameAttr.{attribute_arc, attribute_arcs, attribute_word};
 
-use crate::leaf::is_same;
 use asn1_types::{ObjectIdentifier, oids};
+use der_core::is_same;
 use std::alloc::{AllocError, Global};
 
 /// An attribute type that names are made of, under id-at of X.520 (RFC 5280 A.1).

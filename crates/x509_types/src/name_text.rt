@@ -7,14 +7,16 @@ ghost use Rattle.x509_types.specs.NameText.{attribute_text, hexadecimal, name_te
 
 use crate::attribute_value::AttributeValue;
 use crate::email::is_email_address;
-use crate::name::{AttributeTypeAndValue, Name, RelativeDistinguishedName};
+use crate::attribute::AttributeTypeAndValue;
+use crate::name::Name;
 use crate::name_attr::NameAttr;
 use crate::other_value::OtherValue;
+use crate::relative_name::RelativeDistinguishedName;
 use asn1_types::ObjectIdentifier;
 use std::fmt::{self, Display};
 
 impl fmt::Display for OtherValue {
-    ghost output = { λ value. Some (codes "#" ++ hexadecimal (encoding value.element)) };
+    ghost output = { λ value. Some (codes "#" ++ hexadecimal (encoding value.element.element)) };
 
     fn fmt<W: fmt::Write>(&self, f: &mut fmt::Formatter<W>) -> fmt::Result {
         f.write_str("#")?;

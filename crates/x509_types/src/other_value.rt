@@ -1,28 +1,26 @@
 //! Values that are no string of a known type.
 
 ghost use Rattle.std.specs.Prelude.{◌≡◌, IfOk};
-ghost use Rattle.der_core.specs.Encoding.{IsDer};
 ghost use Rattle.x509_types.specs.OtherValue.{IsOtherValue};
 
-use crate::shape::kept;
-use der_core::{Raw, Tree};
+use der_core::{Elem, Raw};
 use std::alloc::{AllocError, Global};
 
 /// An element that is neither a DirectoryString nor an IA5String, kept as it is.
 #[derive(Debug, Drop, PartialEq, Eq)]
 pub struct OtherValue {
     element: Raw,
-    ghost other: { IsOtherValue element },
+    pub ghost other: { IsOtherValue element.element },
 }
 
 impl OtherValue {
-    /// The element, kept as it is.
-    pub(crate) fn keep(alloc: Global, tree: &Tree) -> Result<OtherValue, AllocError>
-        requires { IsDer tree.now × IsOtherValue tree.now }
-        ensures { IfOk result (λ value. value.element ≡ tree.now) }
+    /// The element that lies in octets, kept as it is.
+    pub(crate) fn keep(alloc: Global, elem: Elem<'_>) -> Result<OtherValue, AllocError>
+        requires { IsOtherValue elem.is.0 }
+        ensures { IfOk result (λ value. value.element.element ≡ elem.entry.is.0) }
     {
         Ok(OtherValue {
-            element: kept(alloc, tree)?,
+            element: Raw::from_elem(alloc, elem)?,
         })
     }
 

@@ -1,16 +1,14 @@
-//! Public keys.
+//! Public keys of RSA.
 
-ghost use Rattle.std.specs.Prelude.{◌≡◌, []};
+ghost use Rattle.std.specs.Prelude.{◌≡◌, ◌↔◌, IsTrue};
 
-use crate::shape::{Kids, NewKids};
-use crate::structure::Structure;
-use crate::tag::SEQUENCE;
 use asn1_types::IntegerAsn1;
-use der_core::{DerError, Tree};
+use der_core::tag::SEQUENCE;
+use der_core::{DerError, Elem, NewKids, Structure, Tree, two_kids};
 use std::alloc::{AllocError, Global};
 
 /// An RSA public key (RFC 8017 A.1.1).
-#[derive(Debug, Drop, PartialEq, Eq)]
+#[derive(Debug, Drop)]
 pub struct RsaPublicKey {
     pub modulus: IntegerAsn1,
     pub public_exponent: IntegerAsn1,
@@ -18,18 +16,27 @@ pub struct RsaPublicKey {
 
 impl Structure for RsaPublicKey {
     ghost use Rattle.x509_types.specs.RsaPublicKey.{rsa_public_key};
-
-    ghost spells = { λ element key. element ≡ rsa_public_key key };
+    ghost use Rattle.x509_types.specs.Facts.Algorithms.{rsa_public_keys};
 
     ghost written = { rsa_public_key };
 
-    ghost inner = { λ _. [] };
+    ghost spells = { λ element key. element ≡ rsa_public_key key };
 
-    fn read(alloc: Global, tree: &Tree) -> Result<RsaPublicKey, DerError> {
-        let mut kids = Kids::of(tree, SEQUENCE)?;
-        let modulus = IntegerAsn1::read(alloc, kids.next()?)?;
-        let public_exponent = IntegerAsn1::read(alloc, kids.next()?)?;
-        kids.end()?;
+    fn has_shape(elem: Elem<'_>) -> bool {
+        match two_kids(elem, SEQUENCE) {
+            Some((modulus, exponent)) => {
+                IntegerAsn1::has_shape(modulus) && IntegerAsn1::has_shape(exponent)
+            }
+            None => false,
+        }
+    }
+
+    fn read_at(alloc: Global, elem: Elem<'_>) -> Result<RsaPublicKey, DerError> {
+        let Some((modulus, exponent)) = two_kids(elem, SEQUENCE) else {
+            return Err(DerError::Shape);
+        };
+        let modulus = IntegerAsn1::read_at(alloc, modulus)?;
+        let public_exponent = IntegerAsn1::read_at(alloc, exponent)?;
         Ok(RsaPublicKey {
             modulus,
             public_exponent,
@@ -49,4 +56,36 @@ impl Structure for RsaPublicKey {
             public_exponent: self.public_exponent.try_clone(alloc)?,
         })
     }
+
+    ghost grammar = { rsa_public_keys };
+}
+
+/// Keys are equal exactly where their octets are.
+impl PartialEq for RsaPublicKey {
+    ghost use Rattle.std.specs.Ordering.{on};
+    ghost use Rattle.std.specs.Cmp.Lexicographic.{nat_list_eq_equiv};
+    ghost use Rattle.std.specs.Cmp.{on_per, partial_equiv_from_equiv};
+    ghost use Rattle.std.specs.Prelude.{bytes_eq};
+    ghost use Rattle.der_core.specs.Encoding.{encoding};
+    ghost use Rattle.x509_types.specs.RsaPublicKey.{rsa_public_key};
+
+    ghost eq = { on (λ value. encoding (rsa_public_key value)) bytes_eq };
+
+    ghost laws = { on_per (λ value. encoding (rsa_public_key value)) (partial_equiv_from_equiv nat_list_eq_equiv) };
+
+    fn eq(&self, other: &RsaPublicKey) -> bool
+        ensures octets { result ≡ bytes_eq (encoding (rsa_public_key self.now)) (encoding (rsa_public_key other.now)) }
+        ensures same { IsTrue result ↔ (self.now ≡ other.now) }
+    {
+        self.modulus == other.modulus && self.public_exponent == other.public_exponent
+    }
+}
+
+impl Eq for RsaPublicKey {
+    ghost use Rattle.std.specs.Cmp.Lexicographic.{nat_list_eq_equiv};
+    ghost use Rattle.std.specs.Cmp.{on_equiv};
+    ghost use Rattle.der_core.specs.Encoding.{encoding};
+    ghost use Rattle.x509_types.specs.RsaPublicKey.{rsa_public_key};
+
+    ghost laws = { on_equiv (λ value. encoding (rsa_public_key value)) nat_list_eq_equiv };
 }

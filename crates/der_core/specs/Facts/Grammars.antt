@@ -76,8 +76,3 @@ lists tag spells written inner is_tag constructed grammar = record {
 pub sequences : {X : Type 0} (spells : DerElement → X → Type 0) (written : X → DerElement) (inner : X → List DerElement) → IsGrammar spells written inner
     → IsGrammar (IsListOf 0x30 spells) (list_element 0x30 written) (flat_map inner)
 sequences spells written inner grammar = lists 0x30 spells written inner (omega arith, omega arith, omega arith) refl grammar
-
--- SET OF (X.690 8.12)
-pub sets : {X : Type 0} (spells : DerElement → X → Type 0) (written : X → DerElement) (inner : X → List DerElement) → IsGrammar spells written inner
-    → IsGrammar (IsListOf 0x31 spells) (list_element 0x31 written) (flat_map inner)
-sets spells written inner grammar = lists 0x31 spells written inner (omega arith, omega arith, omega arith) refl grammar

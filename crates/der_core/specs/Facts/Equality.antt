@@ -1,0 +1,45 @@
+-- Values are equal where their octets are.
+use Rattle.std.specs.Prelude.{◌≡◌, ◌↔◌, IsTrue, Bool, true, false, List, [], ◌∷◌, bytes_eq, refl}
+use Rattle.std.proofs.Common.{ap, sym, ◌∙◌}
+use Rattle.std.specs.Cmp.Lexicographic.{pointwise}
+use Rattle.std.proofs.lemmas.Slice.Eq.{bytes_eq-Decides}
+use Rattle.std.proofs.lemmas.Bool.{and_parts, and_from}
+use Rattle.der_core.specs.DerElement.{DerElement}
+use Rattle.der_core.specs.Encoding.{encoding, IsWellFormed}
+use Rattle.der_core.specs.Facts.Fronts.{formed_encoding_once}
+
+-- tests that hold in the same cases are the same
+pub same_tests : {P : Type 0} (a b : Bool) → (IsTrue a ↔ P) → (IsTrue b ↔ P) → a ≡ b
+same_tests true true p q = refl
+same_tests true false p q = absurd (let no : IsTrue false = q.1 (p.0 refl) in cc)
+same_tests false true p q = absurd (let no : IsTrue false = p.1 (q.0 refl) in cc)
+same_tests false false p q = refl
+
+-- A test that holds exactly where two values are the same is that of their octets.
+pub octets_decide : {X : Type 0} (written : X → DerElement) → ((a b : X) → written a ≡ written b → a ≡ b) → ((value : X) → IsWellFormed (written value))
+    → (a b : X) (test : Bool) → (IsTrue test ↔ (a ≡ b)) → test ≡ bytes_eq (encoding (written a)) (encoding (written b))
+octets_decide written one formed a b test same =
+    let decides = bytes_eq-Decides (encoding (written a)) (encoding (written b)) in
+    same_tests test (bytes_eq (encoding (written a)) (encoding (written b))) same (
+      λ t. one a b (formed_encoding_once (written a) (written b) (formed a) (formed b) (decides.0 t)),
+      λ e. decides.1 (ap (λ v. encoding (written v)) e),
+    )
+
+-- Lists are equal value by value exactly where they are the same, if the values are.
+pub pointwise_same : {X : Type 0} (eq : X → X → Bool) → ((a b : X) → IsTrue (eq a b) ↔ (a ≡ b)) → (xs ys : List X) → IsTrue (pointwise eq xs ys) ↔ (xs ≡ ys)
+pointwise_same eq one [] [] = (λ t. refl, λ e. refl)
+pointwise_same eq one [] (y ∷ ys) = (λ t. absurd cc, λ e. absurd cc)
+pointwise_same eq one (x ∷ xs) [] = (λ t. absurd cc, λ e. absurd cc)
+pointwise_same eq one (x ∷ xs) (y ∷ ys) =
+    let here = one x y in
+    let rest = pointwise_same eq one xs ys in (
+      λ t.
+          let parts = and_parts (eq x y) (pointwise eq xs ys) t in
+          let first = here.0 parts.0 in
+          let others = rest.0 parts.1 in
+          cc,
+      λ e.
+          let first : x ≡ y = cc in
+          let others : xs ≡ ys = cc in
+          and_from (eq x y) (pointwise eq xs ys) (here.1 first) (rest.1 others),
+    )

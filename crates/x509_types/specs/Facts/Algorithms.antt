@@ -1,0 +1,56 @@
+-- Identifiers of algorithms and keys of RSA: unlike values have unlike elements, each well formed.
+use Rattle.std.proofs.Common.{◌≡◌, List, [], ◌∷◌, Option, Some, None, refl, ap, sym, ◌∙◌, arith}
+use Rattle.std.specs.Prelude.{option_to_list}
+use Rattle.der_core.specs.DerElement.{DerElement, row, listed, listed-row}
+use Rattle.der_core.specs.Encoding.{IsWellFormed, AreWellFormed}
+use Rattle.der_core.specs.Elements.{sequence}
+use Rattle.der_core.specs.Kept.{KeptElement}
+use Rattle.der_core.specs.Lent.{kept_option}
+use Rattle.der_core.specs.Structure.{IsGrammar}
+use Rattle.der_core.specs.Facts.Grammars.{printed}
+use Rattle.der_core.specs.Facts.Kept.{same_kept}
+use Rattle.asn1_types.specs.Elements.{object_identifier, integer}
+use Rattle.asn1_types.specs.Facts.Elements.{identifiers, integers}
+use Rattle.asn1_types.specs.declared.oid.ObjectIdentifier.{ObjectIdentifier}
+use Rattle.asn1_types.specs.declared.integer.IntegerAsn1.{IntegerAsn1}
+use Rattle.x509_types.specs.AlgorithmIdentifier.{algorithm_identifier}
+use Rattle.x509_types.specs.RsaPublicKey.{rsa_public_key}
+use Rattle.x509_types.specs.declared.algorithm.AlgorithmIdentifier.{AlgorithmIdentifier}
+use Rattle.x509_types.specs.declared.public_key.RsaPublicKey.{RsaPublicKey}
+
+-- a sequence has its kids once
+pub same_kids : (kids kids' : List DerElement) → sequence kids ≡ sequence kids' → kids ≡ kids'
+same_kids kids kids' e =
+    let same : row kids ≡ row kids' = cc in
+    sym (listed-row kids) ∙ ap listed same ∙ listed-row kids'
+
+option_once : (a b : Option KeptElement) → option_to_list (kept_option a) ≡ option_to_list (kept_option b) → a ≡ b
+option_once None None e = refl
+option_once None (Some y) e = absurd cc
+option_once (Some x) None e = absurd cc
+option_once (Some x) (Some y) e = let same : x.element ≡ y.element = cc in ap Some (same_kept x y same)
+
+algorithms_once : (a b : AlgorithmIdentifier) → algorithm_identifier a ≡ algorithm_identifier b → a ≡ b
+algorithms_once a b e =
+    let kids = same_kids (object_identifier a.oid ∷ option_to_list (kept_option a.parameters)) (object_identifier b.oid ∷ option_to_list (kept_option b.parameters)) e in
+    let first : object_identifier a.oid ≡ object_identifier b.oid = cc in
+    let others : option_to_list (kept_option a.parameters) ≡ option_to_list (kept_option b.parameters) = cc in
+    ap (λ (o : ObjectIdentifier). record { oid = o; parameters = a.parameters }) (identifiers.once (object_identifier a.oid) a.oid b.oid refl first)
+    ∙ ap (λ (p : Option KeptElement). record { oid = b.oid; parameters = p }) (option_once a.parameters b.parameters others)
+
+option_formed : (a : Option KeptElement) → AreWellFormed (row (option_to_list (kept_option a)))
+option_formed None = tt
+option_formed (Some x) = (x.der.formed, tt)
+
+pub algorithms : IsGrammar (λ element a. element ≡ algorithm_identifier a) algorithm_identifier (λ a. [])
+algorithms = printed algorithm_identifier algorithms_once (λ a. ((omega arith, omega arith, omega arith), refl, (identifiers.formed a.oid, option_formed a.parameters)))
+
+rsa_once : (a b : RsaPublicKey) → rsa_public_key a ≡ rsa_public_key b → a ≡ b
+rsa_once a b e =
+    let modulus : integer a.modulus ≡ integer b.modulus = cc in
+    let exponent : integer a.public_exponent ≡ integer b.public_exponent = cc in
+    ap (λ (m : IntegerAsn1). record { modulus = m; public_exponent = a.public_exponent }) (integers.once (integer a.modulus) a.modulus b.modulus refl modulus)
+    ∙ ap (λ (x : IntegerAsn1). record { modulus = b.modulus; public_exponent = x }) (integers.once (integer a.public_exponent) a.public_exponent b.public_exponent refl exponent)
+
+pub rsa_public_keys : IsGrammar (λ element key. element ≡ rsa_public_key key) rsa_public_key (λ key. [])
+rsa_public_keys = printed rsa_public_key rsa_once (λ key. ((omega arith, omega arith, omega arith), refl, (integers.formed key.modulus, (integers.formed key.public_exponent, tt))))

@@ -1,0 +1,87 @@
+//! The attributes of names (RFC 5280 4.1.2.4).
+
+ghost use Rattle.std.specs.Prelude.{◌≡◌, ◌↔◌, IsTrue};
+
+use crate::attribute_value::AttributeValue;
+use asn1_types::ObjectIdentifier;
+use der_core::tag::SEQUENCE;
+use der_core::{DerError, Elem, NewKids, Structure, Tree, two_kids};
+use std::alloc::{AllocError, Global};
+
+/// One attribute of a name: its type and its value (RFC 5280 4.1.2.4).
+#[derive(Debug, Drop)]
+pub struct AttributeTypeAndValue {
+    pub ty: ObjectIdentifier,
+    pub value: AttributeValue,
+}
+
+impl Structure for AttributeTypeAndValue {
+    ghost use Rattle.x509_types.specs.Name.{attribute_type_and_value};
+    ghost use Rattle.x509_types.specs.Facts.Names.{attributes};
+
+    ghost written = { attribute_type_and_value };
+
+    ghost spells = { λ element attribute. element ≡ attribute_type_and_value attribute };
+
+    fn has_shape(elem: Elem<'_>) -> bool {
+        match two_kids(elem, SEQUENCE) {
+            Some((ty, value)) => ObjectIdentifier::has_shape(ty) && AttributeValue::has_shape(value),
+            None => false,
+        }
+    }
+
+    fn read_at(alloc: Global, elem: Elem<'_>) -> Result<AttributeTypeAndValue, DerError> {
+        let Some((ty, value)) = two_kids(elem, SEQUENCE) else {
+            return Err(DerError::Shape);
+        };
+        let ty = ObjectIdentifier::read_at(alloc, ty)?;
+        let value = AttributeValue::read_at(alloc, value)?;
+        Ok(AttributeTypeAndValue { ty, value })
+    }
+
+    fn write(&self, alloc: Global) -> Result<Tree, DerError> {
+        let mut kids = NewKids::new(alloc);
+        kids.push(self.ty.write(alloc)?)?;
+        kids.push(self.value.write(alloc)?)?;
+        Ok(kids.into_branch(SEQUENCE))
+    }
+
+    fn try_clone(&self, alloc: Global) -> Result<AttributeTypeAndValue, AllocError> {
+        Ok(AttributeTypeAndValue {
+            ty: self.ty.try_clone(alloc)?,
+            value: self.value.try_clone(alloc)?,
+        })
+    }
+
+    ghost grammar = { attributes };
+}
+
+/// Attributes are equal exactly where their octets are.
+impl PartialEq for AttributeTypeAndValue {
+    ghost use Rattle.std.specs.Ordering.{on};
+    ghost use Rattle.std.specs.Cmp.Lexicographic.{nat_list_eq_equiv};
+    ghost use Rattle.std.specs.Cmp.{on_per, partial_equiv_from_equiv};
+    ghost use Rattle.std.specs.Prelude.{bytes_eq};
+    ghost use Rattle.der_core.specs.Encoding.{encoding};
+    ghost use Rattle.x509_types.specs.Name.{attribute_type_and_value};
+
+    ghost eq = { on (λ value. encoding (attribute_type_and_value value)) bytes_eq };
+
+    ghost laws = { on_per (λ value. encoding (attribute_type_and_value value)) (partial_equiv_from_equiv nat_list_eq_equiv) };
+
+    fn eq(&self, other: &AttributeTypeAndValue) -> bool
+        ensures octets { result ≡ bytes_eq (encoding (attribute_type_and_value self.now)) (encoding (attribute_type_and_value other.now)) }
+        ensures same { IsTrue result ↔ (self.now ≡ other.now) }
+    {
+        self.ty == other.ty && self.value == other.value
+    }
+}
+
+impl Eq for AttributeTypeAndValue {
+    ghost use Rattle.std.specs.Cmp.Lexicographic.{nat_list_eq_equiv};
+    ghost use Rattle.std.specs.Cmp.{on_equiv};
+    ghost use Rattle.der_core.specs.Encoding.{encoding};
+    ghost use Rattle.x509_types.specs.Name.{attribute_type_and_value};
+
+    ghost laws = { on_equiv (λ value. encoding (attribute_type_and_value value)) nat_list_eq_equiv };
+}

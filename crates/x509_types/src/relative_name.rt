@@ -1,0 +1,135 @@
+//! Sets of attributes (RFC 5280 4.1.2.4).
+
+ghost use Rattle.std.specs.Prelude.{◌≡◌, ◌↔◌, ◌++◌, ◌∷◌, [], length, IfOk, OnOk, OnErr, IsTrue};
+
+use crate::attribute::AttributeTypeAndValue;
+use der_core::tag::SET;
+use der_core::{DerError, Elem, ListOf, Structure, Tree, copy_each, has_list, read_list, write_list};
+use std::alloc::{AllocError, Global};
+use std::marker::Model;
+
+/// A set of attributes, its members in the order that stands (RFC 5280 4.1.2.4). An empty one is
+/// read, too. Contracts see the list of the members.
+#[derive(Debug, Drop)]
+pub struct RelativeDistinguishedName {
+    members: ListOf<AttributeTypeAndValue>,
+}
+
+impl Model for RelativeDistinguishedName {
+    ghost use Rattle.std.specs.Prelude.{List};
+    ghost use Rattle.x509_types.specs.declared.attribute.AttributeTypeAndValue.{AttributeTypeAndValue};
+
+    ghost use Rattle.x509_types.specs.Facts.Names.{coded_set};
+
+    ghost Value = { List AttributeTypeAndValue };
+
+    ghost coded = { coded_set };
+
+    ghost view = { λ n. n.members };
+}
+
+impl RelativeDistinguishedName {
+    /// No members.
+    pub fn new(alloc: Global) -> RelativeDistinguishedName
+        ensures { result ≡ [] }
+    {
+        RelativeDistinguishedName {
+            members: ListOf::new(alloc),
+        }
+    }
+
+    /// Appends a member.
+    pub fn push(&mut self, item: AttributeTypeAndValue) -> Result<(), AllocError>
+        ensures ok { OnOk result (self.new ≡ self.old ++ item ∷ []) }
+        ensures err { OnErr result (self.new ≡ self.old) }
+    {
+        self.members.push(item)
+    }
+
+    /// The members in order.
+    pub fn as_slice(&self) -> &[AttributeTypeAndValue]
+        ensures { result.now ≡ self.now }
+    {
+        self.members.as_slice()
+    }
+
+    /// How many members there are.
+    pub fn len(&self) -> usize
+        ensures { result ≡ length self.now }
+    {
+        self.members.len()
+    }
+
+    /// Whether there are none.
+    pub fn is_empty(&self) -> bool
+        ensures { IsTrue result ↔ (self.now ≡ []) }
+    {
+        self.members.is_empty()
+    }
+
+    /// Where the list takes its memory.
+    pub fn allocator(&self) -> Global {
+        self.members.allocator()
+    }
+}
+
+impl Structure for RelativeDistinguishedName {
+    ghost use Rattle.x509_types.specs.Name.{relative_distinguished_name, IsRelativeDistinguishedName};
+    ghost use Rattle.x509_types.specs.Facts.Names.{relative_distinguished_names};
+
+    ghost written = { relative_distinguished_name };
+
+    ghost spells = { IsRelativeDistinguishedName };
+
+    fn has_shape(elem: Elem<'_>) -> bool {
+        has_list::<AttributeTypeAndValue>(elem, SET)
+    }
+
+    fn read_at(alloc: Global, elem: Elem<'_>) -> Result<RelativeDistinguishedName, DerError> {
+        Ok(RelativeDistinguishedName {
+            members: read_list(alloc, elem, SET)?,
+        })
+    }
+
+    fn write(&self, alloc: Global) -> Result<Tree, DerError> {
+        write_list(alloc, &self.members, SET)
+    }
+
+    fn try_clone(&self, alloc: Global) -> Result<RelativeDistinguishedName, AllocError> {
+        Ok(RelativeDistinguishedName {
+            members: copy_each(alloc, &self.members)?,
+        })
+    }
+
+    ghost grammar = { relative_distinguished_names };
+}
+
+/// Sets are equal exactly where their octets are.
+impl PartialEq for RelativeDistinguishedName {
+    ghost use Rattle.std.specs.Ordering.{on};
+    ghost use Rattle.std.specs.Cmp.Lexicographic.{nat_list_eq_equiv};
+    ghost use Rattle.std.specs.Cmp.{on_per, partial_equiv_from_equiv};
+    ghost use Rattle.std.specs.Prelude.{bytes_eq};
+    ghost use Rattle.der_core.specs.Encoding.{encoding};
+    ghost use Rattle.x509_types.specs.Name.{relative_distinguished_name};
+
+    ghost eq = { on (λ value. encoding (relative_distinguished_name value)) bytes_eq };
+
+    ghost laws = { on_per (λ value. encoding (relative_distinguished_name value)) (partial_equiv_from_equiv nat_list_eq_equiv) };
+
+    fn eq(&self, other: &RelativeDistinguishedName) -> bool
+        ensures octets { result ≡ bytes_eq (encoding (relative_distinguished_name self.now)) (encoding (relative_distinguished_name other.now)) }
+        ensures same { IsTrue result ↔ (self.now ≡ other.now) }
+    {
+        self.members == other.members
+    }
+}
+
+impl Eq for RelativeDistinguishedName {
+    ghost use Rattle.std.specs.Cmp.Lexicographic.{nat_list_eq_equiv};
+    ghost use Rattle.std.specs.Cmp.{on_equiv};
+    ghost use Rattle.der_core.specs.Encoding.{encoding};
+    ghost use Rattle.x509_types.specs.Name.{relative_distinguished_name};
+
+    ghost laws = { on_equiv (λ value. encoding (relative_distinguished_name value)) nat_list_eq_equiv };
+}
