@@ -7,3 +7,5 @@ pub mod TypeWords
 pub mod Equal
 pub mod Elements
 pub mod Lists
+pub mod Parameters
+pub mod Keys

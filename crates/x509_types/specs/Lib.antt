@@ -7,4 +7,7 @@ pub mod Name
 pub mod Text
 pub mod NameAttr
 pub mod NameText
+pub mod KeyKind
+pub mod SubjectKey
+pub mod PublicKeyInfo
 pub mod Facts

@@ -1,0 +1,73 @@
+-- An algorithm is for keys of a kind for one reason, and an identifier names one kind.
+use Rattle.std.proofs.Common.{◌≡◌, IsTrue, ℕ, List, Option, Some, None, refl, sym, subst, inl, inr}
+use Rattle.std.specs.Prelude.{Bool, bytes_eq}
+use Rattle.std.specs.Coded.{×_prop, Unit-prop, Coded-set, coded_ℕ, coded_bool}
+use Rattle.std.proofs.lemmas.Bool.{or_cases}
+use Rattle.std.proofs.lemmas.Slice.Eq.{bytes_eq-Decides}
+use Rattle.der_core.specs.DerElement.{DerElement, Primitive, Constructed}
+use Rattle.der_core.specs.Elements.{null}
+use Rattle.der_core.specs.Lent.{kept_option}
+use Rattle.der_core.specs.Facts.Codes.{coded_element}
+use Rattle.asn1_types.specs.Values.{identifier_contents}
+use Rattle.asn1_types.specs.Facts.OneIdentifier.{IsIdentifier-prop}
+use Rattle.asn1_types.specs.declared.oids.TheConstants.{RSA_ENCRYPTION, EC_PUBLIC_KEY, X25519, X448, ED25519, ED448, ML_DSA_44, ML_DSA_65, ML_DSA_87}
+use Rattle.x509_types.specs.KeyKind.{names_kind, IsOid, MayHave, IsAlgorithmWith, IsAlgorithmOf}
+use Rattle.x509_types.specs.declared.algorithm.AlgorithmIdentifier.{AlgorithmIdentifier}
+use Rattle.x509_types.specs.declared.key_kind.KeyKind.{KeyKind}
+use Rattle.x509_types.specs.declared.key_kind.KeyKind.TheVariants as kinds
+
+IsOid-prop : (element : DerElement) → IsProp (IsOid element)
+IsOid-prop (Primitive tag contents) = ×_prop (Coded-set coded_ℕ tag 6) (IsIdentifier-prop contents)
+IsOid-prop (Constructed tag kids) = λ a b. absurd a
+
+MayHave-prop : (kind : KeyKind) (parameters : Option DerElement) → IsProp (MayHave kind parameters)
+MayHave-prop kinds.Rsa None = Unit-prop
+MayHave-prop kinds.Rsa (Some parameters) = Coded-set coded_element parameters null
+MayHave-prop kinds.Ec None = λ a b. absurd a
+MayHave-prop kinds.Ec (Some parameters) = IsOid-prop parameters
+MayHave-prop kinds.Ed parameters = Unit-prop
+MayHave-prop kinds.Mldsa parameters = Unit-prop
+
+same_bools : (a b : Bool) → IsProp (a ≡ b)
+same_bools a b = Coded-set coded_bool a b
+
+IsAlgorithmWith-prop : (kind : KeyKind) (oid : List ℕ) (parameters : Option DerElement) → IsProp (IsAlgorithmWith kind oid parameters)
+IsAlgorithmWith-prop kind oid parameters = hlevel (same_bools, MayHave-prop kind parameters)
+
+pub IsAlgorithmOf-prop : (kind : KeyKind) (algorithm : AlgorithmIdentifier) → IsProp (IsAlgorithmOf kind algorithm)
+IsAlgorithmOf-prop kind algorithm = IsAlgorithmWith-prop kind (identifier_contents algorithm.oid) (kept_option algorithm.parameters)
+
+-- what holds of an identifier holds of octets that are the same
+at_same : (P : List ℕ → Type 0) (oid known : List ℕ) → IsTrue (bytes_eq oid known) → P known → P oid
+at_same P oid known same p = subst P (sym ((bytes_eq-Decides oid known).0 same)) p
+
+named_rsa : (P : List ℕ → Type 0) → P RSA_ENCRYPTION.now → (oid : List ℕ) → IsTrue (names_kind kinds.Rsa oid) → P oid
+named_rsa P a0 oid named = at_same P oid RSA_ENCRYPTION.now named a0
+
+named_ec : (P : List ℕ → Type 0) → P EC_PUBLIC_KEY.now → (oid : List ℕ) → IsTrue (names_kind kinds.Ec oid) → P oid
+named_ec P a0 oid named = at_same P oid EC_PUBLIC_KEY.now named a0
+
+named_ed : (P : List ℕ → Type 0) → P X25519.now → P X448.now → P ED25519.now → P ED448.now → (oid : List ℕ) → IsTrue (names_kind kinds.Ed oid) → P oid
+named_ed P a0 a1 a2 a3 oid named = elim (or_cases _ _ named) [ inl l3 ↦ elim (or_cases _ _ l3) [ inl l2 ↦ elim (or_cases _ _ l2) [ inl l1 ↦ at_same P oid X25519.now l1 a0 | inr r1 ↦ at_same P oid X448.now r1 a1 ] | inr r2 ↦ at_same P oid ED25519.now r2 a2 ] | inr r3 ↦ at_same P oid ED448.now r3 a3 ]
+
+named_mldsa : (P : List ℕ → Type 0) → P ML_DSA_44.now → P ML_DSA_65.now → P ML_DSA_87.now → (oid : List ℕ) → IsTrue (names_kind kinds.Mldsa oid) → P oid
+named_mldsa P a0 a1 a2 oid named = elim (or_cases _ _ named) [ inl l2 ↦ elim (or_cases _ _ l2) [ inl l1 ↦ at_same P oid ML_DSA_44.now l1 a0 | inr r1 ↦ at_same P oid ML_DSA_65.now r1 a1 ] | inr r2 ↦ at_same P oid ML_DSA_87.now r2 a2 ]
+
+-- an identifier names one kind
+pub one_kind : (k l : KeyKind) (oid : List ℕ) → IsTrue (names_kind k oid) → IsTrue (names_kind l oid) → k ≡ l
+one_kind kinds.Rsa kinds.Rsa oid p q = refl
+one_kind kinds.Rsa kinds.Ec oid p q = named_rsa (λ o. IsTrue (names_kind kinds.Ec o) → kinds.Rsa ≡ kinds.Ec) (λ n. absurd cc) oid p q
+one_kind kinds.Rsa kinds.Ed oid p q = named_rsa (λ o. IsTrue (names_kind kinds.Ed o) → kinds.Rsa ≡ kinds.Ed) (λ n. absurd cc) oid p q
+one_kind kinds.Rsa kinds.Mldsa oid p q = named_rsa (λ o. IsTrue (names_kind kinds.Mldsa o) → kinds.Rsa ≡ kinds.Mldsa) (λ n. absurd cc) oid p q
+one_kind kinds.Ec kinds.Rsa oid p q = named_ec (λ o. IsTrue (names_kind kinds.Rsa o) → kinds.Ec ≡ kinds.Rsa) (λ n. absurd cc) oid p q
+one_kind kinds.Ec kinds.Ec oid p q = refl
+one_kind kinds.Ec kinds.Ed oid p q = named_ec (λ o. IsTrue (names_kind kinds.Ed o) → kinds.Ec ≡ kinds.Ed) (λ n. absurd cc) oid p q
+one_kind kinds.Ec kinds.Mldsa oid p q = named_ec (λ o. IsTrue (names_kind kinds.Mldsa o) → kinds.Ec ≡ kinds.Mldsa) (λ n. absurd cc) oid p q
+one_kind kinds.Ed kinds.Rsa oid p q = named_ed (λ o. IsTrue (names_kind kinds.Rsa o) → kinds.Ed ≡ kinds.Rsa) (λ n. absurd cc) (λ n. absurd cc) (λ n. absurd cc) (λ n. absurd cc) oid p q
+one_kind kinds.Ed kinds.Ec oid p q = named_ed (λ o. IsTrue (names_kind kinds.Ec o) → kinds.Ed ≡ kinds.Ec) (λ n. absurd cc) (λ n. absurd cc) (λ n. absurd cc) (λ n. absurd cc) oid p q
+one_kind kinds.Ed kinds.Ed oid p q = refl
+one_kind kinds.Ed kinds.Mldsa oid p q = named_ed (λ o. IsTrue (names_kind kinds.Mldsa o) → kinds.Ed ≡ kinds.Mldsa) (λ n. absurd cc) (λ n. absurd cc) (λ n. absurd cc) (λ n. absurd cc) oid p q
+one_kind kinds.Mldsa kinds.Rsa oid p q = named_mldsa (λ o. IsTrue (names_kind kinds.Rsa o) → kinds.Mldsa ≡ kinds.Rsa) (λ n. absurd cc) (λ n. absurd cc) (λ n. absurd cc) oid p q
+one_kind kinds.Mldsa kinds.Ec oid p q = named_mldsa (λ o. IsTrue (names_kind kinds.Ec o) → kinds.Mldsa ≡ kinds.Ec) (λ n. absurd cc) (λ n. absurd cc) (λ n. absurd cc) oid p q
+one_kind kinds.Mldsa kinds.Ed oid p q = named_mldsa (λ o. IsTrue (names_kind kinds.Ed o) → kinds.Mldsa ≡ kinds.Ed) (λ n. absurd cc) (λ n. absurd cc) (λ n. absurd cc) oid p q
+one_kind kinds.Mldsa kinds.Mldsa oid p q = refl

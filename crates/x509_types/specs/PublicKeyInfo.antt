@@ -1,0 +1,42 @@
+-- SubjectPublicKeyInfo ::= SEQUENCE { algorithm AlgorithmIdentifier, subjectPublicKey BIT STRING } (RFC 5280 4.1)
+use Rattle.std.specs.Prelude.{◌≡◌, List, [], ◌∷◌}
+use Rattle.der_core.specs.DerElement.{DerElement, Primitive}
+use Rattle.der_core.specs.Encoding.{encoding}
+use Rattle.der_core.specs.Placed.{AreDer}
+use Rattle.der_core.specs.Elements.{sequence}
+use Rattle.asn1_types.specs.Elements.{bit_string}
+use Rattle.x509_types.specs.AlgorithmIdentifier.{algorithm_identifier}
+use Rattle.x509_types.specs.RsaPublicKey.{rsa_public_key}
+use Rattle.x509_types.specs.SubjectKey.{kind_of}
+use Rattle.x509_types.specs.declared.key_kind.KeyKind.{KeyKind}
+use Rattle.x509_types.specs.declared.key_info.SubjectPublicKeyInfo.{SubjectPublicKeyInfo}
+use Rattle.x509_types.specs.declared.subject_key.SubjectKey.{SubjectKey}
+use Rattle.x509_types.specs.declared.subject_key.SubjectKey.TheVariants as keys
+
+-- The bits of an RSA key are those of the encoding of an RSAPublicKey (RFC 3279 2.3.1).
+abbrev pub subject_public_key : SubjectKey → DerElement
+subject_public_key (keys.Rsa key) = Primitive 0x03 (0 ∷ encoding (rsa_public_key key))
+subject_public_key (keys.Ec bits) = bit_string bits
+subject_public_key (keys.Ed bits) = bit_string bits
+subject_public_key (keys.Mldsa bits) = bit_string bits
+
+-- what is written into the bits as an element of its own
+abbrev pub inner_key : SubjectKey → List DerElement
+inner_key (keys.Rsa key) = rsa_public_key key ∷ []
+inner_key (keys.Ec bits) = []
+inner_key (keys.Ed bits) = []
+inner_key (keys.Mldsa bits) = []
+
+abbrev pub public_key_info : SubjectPublicKeyInfo → DerElement
+public_key_info info = sequence (algorithm_identifier info.algorithm ∷ subject_public_key info.subject_public_key ∷ [])
+
+-- the element is the one of this key, whose inner element is one that is read
+abbrev pub IsSubjectKey : DerElement → SubjectKey → Type 0
+IsSubjectKey element key = (element ≡ subject_public_key key) × AreDer (inner_key key)
+
+abbrev pub IsPublicKeyInfo : DerElement → SubjectPublicKeyInfo → Type 0
+IsPublicKeyInfo element info = (element ≡ public_key_info info) × AreDer (inner_key info.subject_public_key)
+
+-- the element is the one of this key, which is of the kind
+abbrev pub IsKeyOf : KeyKind → DerElement → SubjectKey → Type 0
+IsKeyOf kind element key = (kind_of key ≡ kind) × IsSubjectKey element key

@@ -1,0 +1,91 @@
+//! Public keys of subjects with their algorithms.
+
+ghost use Rattle.std.specs.Prelude.{◌≡◌, ◌↔◌, IsTrue, MatchOption};
+ghost use Rattle.x509_types.specs.SubjectKey.{kind_of};
+ghost use Rattle.x509_types.specs.KeyKind.{IsAlgorithmOf};
+ghost use Rattle.x509_types.specs.Facts.Kinds.{IsAlgorithmOf-prop};
+
+use crate::algorithm::AlgorithmIdentifier;
+use crate::key_kind::KeyKind;
+use crate::subject_key::SubjectKey;
+use der_core::tag::SEQUENCE;
+use der_core::{DerError, Elem, NewKids, Structure, Tree, two_kids};
+use std::alloc::{AllocError, Global};
+
+/// A public key with its algorithm (RFC 5280 4.1.2.7), which is one for keys of its kind. An
+/// algorithm of no known kind has no public key here: it is `Shape`.
+#[derive(Debug, Drop, PartialEq, Eq)]
+pub struct SubjectPublicKeyInfo {
+    pub algorithm: AlgorithmIdentifier,
+    pub subject_public_key: SubjectKey,
+    pub ghost fits: { IsAlgorithmOf (kind_of subject_public_key) algorithm } by { IsAlgorithmOf-prop (kind_of subject_public_key) algorithm },
+}
+
+impl SubjectPublicKeyInfo {
+    /// The key with its algorithm, None exactly where the algorithm isn't one for keys of its kind.
+    pub fn new(algorithm: AlgorithmIdentifier, key: SubjectKey) -> Option<SubjectPublicKeyInfo>
+        ensures { MatchOption result
+            (IsAlgorithmOf (kind_of key) algorithm → ⊥)
+            (λ info. (info.algorithm ≡ algorithm) × (info.subject_public_key ≡ key)) }
+    {
+        match KeyKind::of(&algorithm) {
+            Some(kind) if kind == key.kind() => Some(SubjectPublicKeyInfo {
+                algorithm,
+                subject_public_key: key,
+            }),
+            _ => None,
+        }
+    }
+}
+
+impl Structure for SubjectPublicKeyInfo {
+    ghost use Rattle.x509_types.specs.PublicKeyInfo.{public_key_info, inner_key, IsPublicKeyInfo};
+    ghost use Rattle.x509_types.specs.Facts.Keys.{public_key_infos};
+
+    ghost written = { public_key_info };
+
+    ghost spells = { IsPublicKeyInfo };
+
+    ghost inner = { λ info. inner_key info.subject_public_key };
+
+    fn has_shape(elem: Elem<'_>) -> bool {
+        let Some((algorithm, key)) = two_kids(elem, SEQUENCE) else {
+            return false;
+        };
+        match KeyKind::at(algorithm) {
+            Some(kind) => SubjectKey::has_shape_of(kind, key),
+            None => false,
+        }
+    }
+
+    fn read_at(alloc: Global, elem: Elem<'_>) -> Result<SubjectPublicKeyInfo, DerError> {
+        let Some((algorithm, key)) = two_kids(elem, SEQUENCE) else {
+            return Err(DerError::Shape);
+        };
+        let algorithm = AlgorithmIdentifier::read_at(alloc, algorithm)?;
+        let Some(kind) = KeyKind::of(&algorithm) else {
+            return Err(DerError::Shape);
+        };
+        let subject_public_key = SubjectKey::read_at(alloc, kind, key)?;
+        Ok(SubjectPublicKeyInfo {
+            algorithm,
+            subject_public_key,
+        })
+    }
+
+    fn write(&self, alloc: Global) -> Result<Tree, DerError> {
+        let mut kids = NewKids::new(alloc);
+        kids.push(self.algorithm.write(alloc)?)?;
+        kids.push(self.subject_public_key.write(alloc)?)?;
+        Ok(kids.into_branch(SEQUENCE))
+    }
+
+    fn try_clone(&self, alloc: Global) -> Result<SubjectPublicKeyInfo, AllocError> {
+        Ok(SubjectPublicKeyInfo {
+            algorithm: self.algorithm.try_clone(alloc)?,
+            subject_public_key: self.subject_public_key.try_clone(alloc)?,
+        })
+    }
+
+    ghost grammar = { public_key_infos };
+}

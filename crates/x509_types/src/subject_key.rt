@@ -1,0 +1,143 @@
+//! The keys of subjects.
+
+ghost use Rattle.std.specs.Prelude.{◌≡◌, ◌≢◌, ◌∷◌, List, ℕ, false, IfOk, IsTrue, MatchOption, MatchResult};
+ghost use Rattle.der_core.specs.DerElement.{Primitive};
+ghost use Rattle.der_core.specs.Encoding.{IsWellFormed};
+ghost use Rattle.der_core.specs.Refusals.{RefusesShape, RefusesInner};
+ghost use Rattle.x509_types.specs.SubjectKey.{kind_of};
+ghost use Rattle.x509_types.specs.PublicKeyInfo.{IsKeyOf, IsSubjectKey, inner_key};
+ghost use Rattle.x509_types.specs.declared.subject_key.SubjectKey.{SubjectKey};
+ghost use Rattle.x509_types.specs.declared.subject_key.SubjectKey.TheVariants.{Rsa};
+ghost use Rattle.x509_types.specs.declared.public_key.RsaPublicKey.{RsaPublicKey};
+
+use crate::key_kind::KeyKind;
+use crate::public_key::RsaPublicKey;
+use asn1_types::BitString;
+use der_core::tag::BIT_STRING;
+use der_core::{DerError, Elem, Octets, Structure, Tree, has_within, leaf_at, read_within, write_within};
+use std::alloc::{AllocError, Global};
+
+/// A public key, as its algorithm has it (RFC 5280 4.1.2.7).
+#[derive(Debug, Drop, PartialEq, Eq)]
+pub enum SubjectKey {
+    /// A key of RSA (RFC 3279 2.3.1).
+    Rsa(RsaPublicKey),
+    /// A point of a named curve (RFC 5480 2.2).
+    Ec(BitString),
+    /// A key of a curve 25519 or 448 (RFC 8410 4).
+    Ed(BitString),
+    /// A key of ML-DSA (RFC 9881 4).
+    Mldsa(BitString),
+}
+
+impl SubjectKey {
+    /// The kind of the key.
+    pub fn kind(&self) -> KeyKind
+        ensures { result ≡ kind_of self.now }
+    {
+        match self {
+            SubjectKey::Rsa(_) => KeyKind::Rsa,
+            SubjectKey::Ec(_) => KeyKind::Ec,
+            SubjectKey::Ed(_) => KeyKind::Ed,
+            SubjectKey::Mldsa(_) => KeyKind::Mldsa,
+        }
+    }
+
+    /// Whether an element holds a key of the kind.
+    pub(crate) fn has_shape_of(kind: KeyKind, elem: Elem<'_>) -> bool
+        ensures fits { IsTrue result → (key : SubjectKey) × IsKeyOf kind elem.entry.is.0 key }
+        ensures unfit { result ≡ false → (key : SubjectKey) → IsKeyOf kind elem.entry.is.0 key → ⊥ }
+    {
+        match kind {
+            KeyKind::Rsa => has_rsa_key(elem),
+            KeyKind::Ec => BitString::has_shape(elem),
+            KeyKind::Ed => BitString::has_shape(elem),
+            KeyKind::Mldsa => BitString::has_shape(elem),
+        }
+    }
+
+    /// The key of the kind that an element holds.
+    pub(crate) fn read_at(alloc: Global, kind: KeyKind, elem: Elem<'_>) -> Result<SubjectKey, DerError>
+        ensures { MatchResult result (IsKeyOf kind elem.entry.is.0) (RefusesShape (IsKeyOf kind elem.entry.is.0)) }
+    {
+        match kind {
+            KeyKind::Rsa => Ok(SubjectKey::Rsa(read_rsa_key(alloc, elem)?)),
+            KeyKind::Ec => Ok(SubjectKey::Ec(BitString::read_at(alloc, elem)?)),
+            KeyKind::Ed => Ok(SubjectKey::Ed(BitString::read_at(alloc, elem)?)),
+            KeyKind::Mldsa => Ok(SubjectKey::Mldsa(BitString::read_at(alloc, elem)?)),
+        }
+    }
+
+    /// The element of the key.
+    pub(crate) fn write(&self, alloc: Global) -> Result<Tree, DerError>
+        ensures { MatchResult result
+            (λ tree. IsSubjectKey tree self.now × IsWellFormed tree)
+            (RefusesInner (inner_key self.now)) }
+    {
+        match self {
+            SubjectKey::Rsa(key) => write_rsa_key(alloc, key),
+            SubjectKey::Ec(bits) | SubjectKey::Ed(bits) | SubjectKey::Mldsa(bits) => {
+                bits.write(alloc)
+            }
+        }
+    }
+
+    /// A copy of the value.
+    pub fn try_clone(&self, alloc: Global) -> Result<SubjectKey, AllocError>
+        ensures { IfOk result (λ copy. copy ≡ self.now) }
+    {
+        Ok(match self {
+            SubjectKey::Rsa(key) => SubjectKey::Rsa(key.try_clone(alloc)?),
+            SubjectKey::Ec(bits) => SubjectKey::Ec(Structure::try_clone(bits, alloc)?),
+            SubjectKey::Ed(bits) => SubjectKey::Ed(Structure::try_clone(bits, alloc)?),
+            SubjectKey::Mldsa(bits) => SubjectKey::Mldsa(Structure::try_clone(bits, alloc)?),
+        })
+    }
+}
+
+/// Whether the element is a BIT STRING without unused bits that holds a key of RSA.
+fn has_rsa_key(elem: Elem<'_>) -> bool
+    ensures fits { IsTrue result → (key : RsaPublicKey) × IsSubjectKey elem.entry.is.0 (Rsa key) }
+    ensures unfit { result ≡ false → (key : RsaPublicKey) → IsSubjectKey elem.entry.is.0 (Rsa key) → ⊥ }
+{
+    match whole_octets_at(elem) {
+        Some(payload) => has_within::<RsaPublicKey>(payload),
+        None => false,
+    }
+}
+
+/// The key of RSA in a BIT STRING without unused bits.
+fn read_rsa_key(alloc: Global, elem: Elem<'_>) -> Result<RsaPublicKey, DerError>
+    ensures { MatchResult result
+        (λ key. IsSubjectKey elem.entry.is.0 (Rsa key))
+        (RefusesShape (λ key. IsSubjectKey elem.entry.is.0 (Rsa key))) }
+{
+    match whole_octets_at(elem) {
+        Some(payload) => read_within(alloc, payload),
+        None => Err(DerError::Shape),
+    }
+}
+
+/// The octets of a BIT STRING without unused bits.
+fn whole_octets_at<'a>(elem: Elem<'a>) -> Option<&'a [u8]>
+    ensures { MatchOption result
+        ((payload : List ℕ) → elem.entry.is.0 ≢ Primitive 0x03 (0 ∷ payload))
+        (λ payload. elem.entry.is.0 ≡ Primitive 0x03 (0 ∷ payload.now)) }
+{
+    match leaf_at(elem, BIT_STRING)? {
+        [0, payload @ ..] => Some(payload),
+        _ => None,
+    }
+}
+
+/// The BIT STRING of a key of RSA.
+fn write_rsa_key(alloc: Global, key: &RsaPublicKey) -> Result<Tree, DerError>
+    ensures { MatchResult result
+        (λ tree. IsSubjectKey tree (Rsa key.now) × IsWellFormed tree)
+        (RefusesInner (inner_key (Rsa key.now))) }
+{
+    let payload = write_within(alloc, key)?;
+    let mut content = Vec::from_slice(alloc, &[0])?;
+    content.extend_from_slice(&payload)?;
+    Ok(Tree::leaf(BIT_STRING, Octets::from(content)))
+}
