@@ -10,11 +10,11 @@ use Rattle.std.proofs.lemmas.List.Elements.{All-from_recursion}
 use Rattle.std.proofs.lemmas.List.Splits.{slice_split_none, slice_split_at, join_with_byte-slice_split}
 use Rattle.std.proofs.lemmas.Str.Parse.{digit_from_value}
 use Rattle.asn1_types.specs.Subidentifier.{IsSubidentifier, subidentifier, BeginsWithNoSubidentifier}
-use Rattle.asn1_types.specs.SubidentifierReading.{subidentifier_once, subidentifier_some}
+use Rattle.asn1_types.specs.Facts.SubidentifierReading.{subidentifier_once, subidentifier_some}
 use Rattle.asn1_types.specs.ObjectIdentifier.{IsRoot, IsArcs, contents_of, dot, dotted, IsDottedText, IsIdentifier, RefusesText}
 use Rattle.asn1_types.specs.declared.error.TextError.{TextError}
 use Rattle.asn1_types.specs.declared.error.TextError.TheVariants.{BadText, Memory}
-use Rattle.asn1_types.specs.OneIdentifier.{first_two}
+use Rattle.asn1_types.specs.Facts.OneIdentifier.{first_two}
 use Rattle.asn1_types.proofs.Decimals.{decimal_once}
 
 -- whether an octet is a dot

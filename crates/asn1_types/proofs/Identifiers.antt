@@ -4,10 +4,10 @@ use Rattle.std.proofs.lemmas.Bool.{cases_lt, eqb-true, eqb-false, false≢true}
 use Rattle.std.proofs.lemmas.List.{nil_from_length, take_all}
 use Rattle.std.specs.List.{AllByRecursion, flat_map}
 use Rattle.asn1_types.specs.Subidentifier.{IsSubidentifier, subidentifier, BeginsWithNoSubidentifier}
-use Rattle.asn1_types.specs.SubidentifierReading.{subidentifier_some}
+use Rattle.asn1_types.specs.Facts.SubidentifierReading.{subidentifier_some}
 use Rattle.asn1_types.specs.ObjectIdentifier.{IsRoot, IsArcs, IsIdentifier, contents_of}
 use Rattle.asn1_types.specs.declared.oid.ObjectIdentifier.{ObjectIdentifier}
-use Rattle.asn1_types.specs.OneIdentifier.{contents_once, IsIdentifier-prop}
+use Rattle.asn1_types.specs.Facts.OneIdentifier.{contents_once, IsIdentifier-prop}
 use Rattle.asn1_types.proofs.Subidentifiers.{AreSubidentifiers, are_none}
 
 -- the identifier whose first two arcs make a number

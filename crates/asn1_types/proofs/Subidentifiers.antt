@@ -5,7 +5,7 @@ use Rattle.std.proofs.lemmas.Int.Digits.{first_digits_of, length-digits_of_step}
 use Rattle.std.specs.List.{AllByRecursion, flat_map}
 use Rattle.std.specs.Int.Digits.{digits_of}
 use Rattle.asn1_types.specs.Subidentifier.{IsSubidentifier, leading_octets, subidentifier, BeginsWithNoSubidentifier}
-use Rattle.asn1_types.specs.SubidentifierReading.{read_after, read_leading, read_subidentifier, leading_step, subidentifier_once, subidentifier_some}
+use Rattle.asn1_types.specs.Facts.SubidentifierReading.{read_after, read_leading, read_subidentifier, leading_step, subidentifier_once, subidentifier_some}
 
 -- octets are subidentifiers, one after another
 pub record AreSubidentifiers (octets : List ℕ) : Type 0 where

@@ -4,10 +4,9 @@ pub mod BitString
 pub mod Ia5String
 pub mod Subidentifier
 pub mod ObjectIdentifier
-pub mod SubidentifierReading
-pub mod OneIdentifier
 pub mod Values
 pub mod Calendar
 pub mod Time
 pub mod KnownIdentifiers
 pub mod NamedIdentifiers
+pub mod Facts

@@ -4,7 +4,7 @@ ghost use Rattle.std.specs.Prelude.{◌≡◌, ◌↔◌, IsTrue, IfOk, MatchRes
 ghost use Rattle.asn1_types.specs.Contents.{RefusesContents};
 ghost use Rattle.asn1_types.specs.ObjectIdentifier.{IsIdentifier, IsArcs, contents_of, dotted, IsDottedText, RefusesText};
 ghost use Rattle.asn1_types.specs.KnownIdentifiers.{is_known};
-ghost use Rattle.asn1_types.specs.OneIdentifier.{IsIdentifier-prop};
+ghost use Rattle.asn1_types.specs.Facts.OneIdentifier.{IsIdentifier-prop};
 
 mod arcs;
 mod subidentifier;

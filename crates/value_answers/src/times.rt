@@ -70,6 +70,7 @@ fn small(word: &str) -> Result<u8> {
     word.parse().context("reading a field of a moment")
 }
 
+/// The answer to a call on times and dates, None where there is no such call.
 pub fn answer(alloc: Global, call: &str, args: &[&str]) -> Result<Option<String>> {
     let answer = match (call, args) {
         ("generalized", fields) => generalized(alloc, Fields::from_words(fields)?.generalized())?,

@@ -2,7 +2,7 @@
 use Rattle.std.proofs.Common.{◌≡◌, ◌↔◌, IsTrue, ℕ, ◌<◌, List, [], ◌∷◌, get_or, refl, sym, ap, ◌∙◌, lit<, arith, Some}
 use Rattle.asn1_types.specs.Subidentifier.{subidentifier}
 use Rattle.asn1_types.specs.ObjectIdentifier.{IsArcs, IsIdentifier, contents_of}
-use Rattle.asn1_types.specs.OneIdentifier.{contents_once}
+use Rattle.asn1_types.specs.Facts.OneIdentifier.{contents_once}
 use Rattle.asn1_types.specs.KnownIdentifiers.{is_known}
 use Rattle.x509_types.specs.declared.name_attr.NameAttr.{NameAttr}
 use Rattle.x509_types.specs.declared.name_attr.NameAttr.TheVariants.{CommonName, Surname, SerialNumber, CountryName, LocalityName, StateOrProvinceName, StreetName, OrganizationName, OrganizationalUnitName, GivenName}

@@ -5,7 +5,7 @@ use Rattle.std.proofs.Props.{props}
 use Rattle.der_core.specs.DerElement.{DerElement, Constructed, row}
 use Rattle.der_core.specs.Encoding.{encoding}
 use Rattle.asn1_types.specs.ObjectIdentifier.{IsIdentifier}
-use Rattle.asn1_types.specs.OneIdentifier.{IsIdentifier-prop}
+use Rattle.asn1_types.specs.Facts.OneIdentifier.{IsIdentifier-prop}
 use Rattle.asn1_types.specs.Integer.{IsInteger}
 use Rattle.asn1_types.specs.BitString.{IsBitString}
 use Rattle.asn1_types.specs.Ia5String.{IsIa5}

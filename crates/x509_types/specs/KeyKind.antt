@@ -2,7 +2,7 @@
 use Rattle.std.specs.Prelude.{◌≡◌, ℕ, List, Option, Some, None, ⊤, Bool, IsTrue, ◌||◌, bytes_eq}
 use Rattle.std.specs.Coded.{×_prop, Unit-prop, Coded-set, coded_ℕ, coded_bool}
 use Rattle.der_core.specs.Codes.{coded_element}
-use Rattle.asn1_types.specs.OneIdentifier.{IsIdentifier-prop}
+use Rattle.asn1_types.specs.Facts.OneIdentifier.{IsIdentifier-prop}
 use Rattle.der_core.specs.DerElement.{DerElement, Primitive, Constructed}
 use Rattle.asn1_types.specs.ObjectIdentifier.{IsIdentifier}
 use Rattle.x509_types.specs.Elements.{null}

@@ -1,6 +1,6 @@
 use Rattle.std.proofs.Common.{sym, ap, ◌∙◌}
 use Rattle.asn1_types.specs.ObjectIdentifier.{contents_of, dotted}
-use Rattle.asn1_types.specs.OneIdentifier.{contents_once}
+use Rattle.asn1_types.specs.Facts.OneIdentifier.{contents_once}
 use Rattle.asn1_types.proofs.Dotted.{dotted_once}
 use Rattle.asn1_types.proofs.oid.text_and_contents_agree.Goals as goal
 

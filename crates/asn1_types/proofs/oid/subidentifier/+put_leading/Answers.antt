@@ -1,7 +1,7 @@
 use Rattle.std.proofs.Common.{◌∷◌, [], ◌+◌, ◌%◌, ◌/◌, sym, ap, ◌∙◌, ◌++◌, append_assoc}
 use Rattle.std.proofs.lemmas.Slice.{pushed}
 use Rattle.asn1_types.specs.Subidentifier.{leading_octets}
-use Rattle.asn1_types.specs.SubidentifierReading.{leading_step}
+use Rattle.asn1_types.specs.Facts.SubidentifierReading.{leading_step}
 use Rattle.asn1_types.proofs.oid.subidentifier.+put_leading.Goals as goal
 
 pub returns-in_ok-push : goal.returns-in_ok-push

@@ -5,7 +5,7 @@ use Rattle.std.specs.Coded.{Coded-set, coded_ℕ, coded_list, ×_prop, le_prop}
 use Rattle.std.proofs.Common.{sym, ap, ◌∙◌, arith}
 use mathlib.Core.HLevel.{Σ_prop_path}
 use Rattle.asn1_types.specs.Subidentifier.{IsSubidentifier}
-use Rattle.asn1_types.specs.SubidentifierReading.{subidentifiers_once}
+use Rattle.asn1_types.specs.Facts.SubidentifierReading.{subidentifiers_once}
 use Rattle.asn1_types.specs.ObjectIdentifier.{IsRoot, IsArcs, IsIdentifier, subidentifiers_of, contents_of}
 
 -- The first two arcs stand in the number that they make.
