@@ -272,6 +272,10 @@ def stands_in(lines, file):
     return "\n".join(lines).strip() in (CRATE / file).read_text(encoding="utf-8")
 
 
+# Who prints the lines of a file, and the file.
+SOURCES = [(constants, "src/oids.rt"), (listed, "specs/NamedIdentifiers.antt")]
+
+
 def main():
     texts = [row[2] for row in KNOWN] + [text for text, _ in READ]
     match sys.argv[1:]:
@@ -280,8 +284,8 @@ def main():
         case ["list"]:
             print("\n".join(listed()))
         case ["check"]:
-            for lines, file in (constants(), "src/oids.rt"), (listed(), "specs/NamedIdentifiers.antt"):
-                if not stands_in(lines, file):
+            for lines, file in SOURCES:
+                if not stands_in(lines(), file):
                     sys.exit(f"{file} has other rows")
         case _:
             sys.exit(__doc__)

@@ -14,6 +14,7 @@ from unittest.mock import patch
 import certificate_parts
 import compare_readers
 import der_reader
+import oid_table
 import reader_stand_in
 from certificate_cases import (
     AGREED, AGREEMENT_KEYS, GENERATED, KEY_LABELS, LABELS, REQUESTED, SIGNING_KEYS, WRITTEN,
@@ -23,7 +24,7 @@ from certificate_making import (
     OpensslError, certificate_around, make_key, requested_certificate, written_name,
 )
 from certificate_parts import (
-    TEXT_OPTIONS, WORDS, complaints, made_rows, parts, printed, rows_of, said_subject, source,
+    TEXT_OPTIONS, complaints, made_rows, parts, printed, rows_of, said_subject, source,
     unescaped, unsigned, written_rows,
 )
 from compare_readers import Comparison, block_line, case_file, cases_of, inputs, spelled
@@ -39,6 +40,8 @@ from first_path import (
 )
 from hostile_inputs import ROWS, TABLES, constant, line
 from stored_answers import stored_files
+from value_answers import stored_files as stored_values
+from value_reader import WORDS, dotted, name_text, structure_line
 
 CRATES = Path(__file__).resolve().parent.parent / "crates"
 
@@ -225,57 +228,7 @@ class ComparisonTest(unittest.TestCase):
         self.assertTrue(comparison.shown[0].endswith("got no line"))
 
 
-def dotted(octets):
-    """The text of an OBJECT IDENTIFIER's contents."""
-    numbers, number = [], 0
-    for octet in octets:
-        number = number << 7 | octet & 0x7F
-        if octet < 0x80:
-            numbers.append(number)
-            number = 0
-    first = min(numbers[0] // 40, 2)
-    return ".".join(map(str, (first, numbers[0] - 40 * first, *numbers[1:])))
-
-
-def octet_text(octets):
-    return "".join(chr(octet) if octet < 0x80 else "?" for octet in octets)
-
-
-def pair_text(pair):
-    number = int.from_bytes(pair, "big")
-    return "?" if len(pair) < 2 or 0xD800 <= number <= 0xDFFF else chr(number)
-
-
-def value_text(value):
-    """The text of a name's value, from its octets alone."""
-    octets = value.contents if isinstance(value, Primitive) else b""
-    match value.tag:
-        case 0x0C:
-            try:
-                return octets.decode("utf-8")
-            except UnicodeDecodeError:
-                return octet_text(octets)
-        case 0x13 | 0x14:
-            return octet_text(octets)
-        case 0x1E:
-            return "".join(pair_text(octets[i:i + 2]) for i in range(0, len(octets), 2))
-        case 0x16 if octets.isascii():
-            return octets.decode("ascii")
-        case _:
-            return "#" + write(value).hex()
-
-
-def member_text(member):
-    kind, value = member.kids
-    word = dotted(kind.contents)
-    return f"{WORDS.get(word, word)}={value_text(value)}"
-
-
-def name_text(tree):
-    return ",".join("+".join(map(member_text, members.kids)) for members in tree.kids)
-
-
-STORED_PARTS = (CRATES / "picky_vectors/src/certificate_parts.rt").read_text(encoding="ascii")
+STORED_PARTS = certificate_parts.STORED.read_text(encoding="ascii")
 
 
 class CertificatePartsTest(unittest.TestCase):
@@ -361,6 +314,31 @@ class CertificatePartsTest(unittest.TestCase):
         member = sequence(identifier("2.5.4.3"), utf8_string(b"A"))
         self.assertEqual(written_name(((), (("2.5.4.3", "0C0141"),))),
                          sequence(set_of(), set_of(member)))
+
+
+class ValueAnswersTest(unittest.TestCase):
+
+    def test_stored_files(self):
+        for path, octets in stored_values().items():
+            self.assertEqual((CRATES / "value_answers" / path).read_bytes(), octets)
+
+    def test_shapes(self):
+        for kind, octets, line in (
+            ("identifier", "06022a03", "same 1.2.3"),
+            ("identifier", "06028003", "Shape"),
+            ("integer", "02020080", "same 0080"),
+            ("bits", "030205a0", "same 5 a0"),
+            ("bits", "030101", "Shape"),
+            ("name", "300c310a300806035504030c0141", "same 434e3d41 Utf8String 41 41"),
+            ("name", "30023100", "same - none"),
+            ("algorithm", "30050601008000", "same 0.0 8000"),
+            ("key", "300b300506032b6570030200aa", "same Ed 1.3.101.112 none 0 aa"),
+        ):
+            self.assertEqual(structure_line(kind, bytes.fromhex(octets)), line)
+
+    def test_identifiers_of_the_crate(self):
+        for lines, file in oid_table.SOURCES:
+            self.assertTrue(oid_table.stands_in(lines(), file))
 
 
 @unittest.skipUnless(which("openssl"), "openssl isn't there")

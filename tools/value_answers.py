@@ -121,23 +121,27 @@ def spaced(fields):
     return " ".join(map(str, fields))
 
 
+def time_text(fields):
+    year, month, day, hour, minute, second = fields
+    return f"{year:04}-{month:02}-{day:02} {hour:02}:{minute:02}:{second:02}"
+
+
 def generalized_line(fields):
-    return f"{spaced(fields)} {word(digits(fields, 0))}" if fields else "none"
+    return f"{time_text(fields)} {spaced(fields)} {word(digits(fields, 0))}" if fields else "none"
 
 
 def utc_line(fields):
     if not fields or not is_utc_year(fields[0]):
         return "none"
-    return f"{spaced(fields)} {word(digits(fields, 2))} {word(digits(fields, 0))}"
+    contents_of_both = f"{word(digits(fields, 2))} {word(digits(fields, 0))}"
+    return f"{time_text(fields)} {spaced(fields)} {contents_of_both}"
 
 
 def date_line(fields):
     if not fields:
         return "none"
-    year, month, day, hour, minute, second = fields
-    text = f"{year:04}-{month:02}-{day:02} {hour:02}:{minute:02}:{second:02}"
-    utc = word(digits(fields, 2)) if is_utc_year(year) else "none"
-    return f"{text} {generalized_line(fields)} {utc}"
+    utc = word(digits(fields, 2)) if is_utc_year(fields[0]) else "none"
+    return f"{time_text(fields)} {generalized_line(fields)} {utc}"
 
 
 def read_time(octets, size):

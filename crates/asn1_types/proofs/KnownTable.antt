@@ -1,5 +1,5 @@
 -- The rows of the table are computed: each text and its contents octets are of the same arcs, and no two rows share a column.
-use Rattle.std.proofs.Common.{◌≡◌, ◌≢◌, ℕ, zero, suc, ◌+◌, ◌*◌, ◌^◌, Bool, true, false, ◌&&◌, ◌||◌, not, nat_lt, nat_le, eqb, List, [], ◌∷◌, map, refl, sym, ◌∙◌, arith, inl, inr}
+use Rattle.std.proofs.Common.{◌≡◌, ◌≢◌, ℕ, zero, suc, ◌+◌, ◌*◌, ◌^◌, Bool, true, false, ◌&&◌, ◌||◌, not, nat_lt, nat_le, eqb, List, [], ◌∷◌, map, refl, sym, ap, ap₂, ◌∙◌, arith, inl, inr}
 use Rattle.std.specs.List.{AllByRecursion, AllPairs, All, slice_split, list_all, list_any}
 use Rattle.std.specs.Fmt.{digits}
 use Rattle.std.specs.Str.{bytes_eq}
@@ -8,7 +8,7 @@ use Rattle.std.proofs.lemmas.Bool.{and_parts, or_cases, not-true, leb-true, ltb-
 use Rattle.std.proofs.lemmas.Slice.Eq.{bytes_eq-Decides}
 use Rattle.asn1_types.specs.Subidentifier.{IsSubidentifier, subidentifier}
 use Rattle.asn1_types.specs.ObjectIdentifier.{IsArcs, IsIdentifier, contents_of, dotted}
-use Rattle.asn1_types.specs.KnownIdentifiers.{KnownRow, known_rows, is_known, IsOfOneIdentifier, Differ}
+use Rattle.asn1_types.specs.KnownIdentifiers.{KnownRow, known_row, known_rows, is_known, IsOfOneIdentifier, Differ}
 use Rattle.asn1_types.specs.NamedIdentifiers.{named_identifiers}
 
 -- the numbers between the dots of a text
@@ -27,9 +27,17 @@ agrees row =
     are_arcs (numbers_in row.text) && bytes_eq row.text (dotted (numbers_in row.text))
     && bytes_eq row.contents (contents_of (numbers_in row.text))
 
--- the rows are computed and so is the list
-pub rows_named : known_rows ≡ named_identifiers
-rows_named = refl
+abbrev same : KnownRow → KnownRow → Bool
+same a b = bytes_eq a.name b.name && bytes_eq a.text b.text && bytes_eq a.contents b.contents
+
+abbrev all_same : List KnownRow → List KnownRow → Bool
+all_same [] [] = true
+all_same [] (b ∷ bs) = false
+all_same (a ∷ rows) [] = false
+all_same (a ∷ rows) (b ∷ bs) = same a b && all_same rows bs
+
+rows_same : all_same known_rows named_identifiers ≡ true
+rows_same = refl
 
 all_agree : list_all agrees known_rows ≡ true
 unfolding subidentifier digits
@@ -68,6 +76,26 @@ arcs_from (x ∷ y ∷ xs) e =
       },
       bounded xs last.1,
     )
+
+one_row : (a b : KnownRow) → same a b ≡ true → a ≡ b
+one_row a b e =
+    let last = and_parts _ _ e in
+    let both = and_parts _ _ last.0 in
+    let name = (bytes_eq-Decides a.name b.name).0 both.0 in
+    let text = (bytes_eq-Decides a.text b.text).0 both.1 in
+    let contents = (bytes_eq-Decides a.contents b.contents).0 last.1 in
+    ap (λ n. known_row n a.text a.contents) name ∙ ap (λ t. known_row b.name t a.contents) text ∙ ap (known_row b.name b.text) contents
+
+all_rows : (rows bs : List KnownRow) → all_same rows bs ≡ true → rows ≡ bs
+all_rows [] [] e = refl
+all_rows [] (b ∷ bs) e = cc
+all_rows (a ∷ rows) [] e = cc
+all_rows (a ∷ rows) (b ∷ bs) e =
+    let parts = and_parts _ _ e in
+    ap₂ (λ one others. one ∷ others) (one_row a b parts.0) (all_rows rows bs parts.1)
+
+pub rows_named : known_rows ≡ named_identifiers
+rows_named = all_rows known_rows named_identifiers rows_same
 
 agreed : (row : KnownRow) → agrees row ≡ true → IsOfOneIdentifier row
 agreed row e =

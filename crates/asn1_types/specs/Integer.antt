@@ -1,14 +1,14 @@
 -- The contents octets of an INTEGER (X.690 8.3).
-use Rattle.std.specs.Prelude.{◌≡◌, ◌≢◌, ℕ, ◌+◌, ◌*◌, ◌^◌, ◌<◌, ◌≤◌, ◌==◌, if◌then◌else◌, List, [], ◌∷◌, length, slice_index}
+use Rattle.std.specs.Prelude.{◌≡◌, ◌≢◌, ℕ, ◌<◌, ◌≤◌, ◌==◌, if◌then◌else◌, List, [], ◌∷◌, slice_index}
+use Rattle.der_core.specs.Head.{number_from}
 
 -- An INTEGER has at least one contents octet (X.690 8.3.1).
 abbrev pub IsInteger : List ℕ → Type 0
 IsInteger contents = contents ≢ []
 
--- The number that octets write, the most significant first: each counts 256 to the number of octets after it.
+-- The number that octets write, the most significant first.
 abbrev pub number_of : List ℕ → ℕ
-number_of [] = 0
-number_of (octet ∷ octets) = octet * 256 ^ length octets + number_of octets
+number_of octets = number_from 0 octets
 
 -- In the shortest contents the first nine bits are neither all 0 nor all 1 (X.690 8.3.2).
 abbrev pub IsShortest : List ℕ → Type 0

@@ -74,9 +74,26 @@ impl UTCTime {
     pub fn to_content(&self) -> [u8; 13]
         ensures { result ≡ utc_contents self.now }
     {
-        let [_, _, y1, y2, month1, month2, day1, day2, h1, h2, m1, m2, s1, s2, z] =
-            self.time.to_content();
-        [y1, y2, month1, month2, day1, day2, h1, h2, m1, m2, s1, s2, z]
+        let [
+            _,
+            _,
+            y1,
+            y2,
+            month1,
+            month2,
+            day1,
+            day2,
+            h1,
+            h2,
+            m1,
+            m2,
+            s1,
+            s2,
+            z,
+        ] = self.time.to_content();
+        [
+            y1, y2, month1, month2, day1, day2, h1, h2, m1, m2, s1, s2, z,
+        ]
     }
 }
 

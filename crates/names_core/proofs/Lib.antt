@@ -1,2 +1,1 @@
-mod Padding
 mod CommonNames

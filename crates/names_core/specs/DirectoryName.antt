@@ -1,6 +1,7 @@
 -- Names of the directory as lists of sets of attributes (RFC 5280 4.1.2.4).
 use Rattle.std.specs.Prelude.{◌≡◌, ℕ, bytes_eq, if◌then◌else◌, Option, Some, None, List, [], ◌∷◌, ◌++◌, flat_map, filter_map}
 use Rattle.std.specs.List.{slice_get}
+use Rattle.asn1_types.specs.Values.{arcs_of}
 use Rattle.x509_types.specs.declared.name.AttributeTypeAndValue.{AttributeTypeAndValue}
 use Rattle.x509_types.specs.declared.directory_string.DirectoryString.{DirectoryString}
 use Rattle.x509_types.specs.declared.directory_string.DirectoryString.TheVariants as strings
@@ -17,7 +18,7 @@ utf8_value text = values.DirectoryString (strings.Utf8String text)
 pub record IsExtended (arcs : List ℕ) (value : AttributeValue) (earlier later : List (List AttributeTypeAndValue)) : Type 0 where
   pub attribute : AttributeTypeAndValue
   pub appended : later ≡ earlier ++ (attribute ∷ []) ∷ []
-  pub typed : attribute.ty.formed.arcs ≡ arcs
+  pub typed : arcs_of attribute.ty ≡ arcs
   pub valued : attribute.value ≡ value
 
 -- the string that a value is
@@ -28,7 +29,7 @@ string_of (values.Other other) = None
 
 -- the string of a common name; another kind of value is none
 abbrev pub common_name_of : AttributeTypeAndValue → Option DirectoryString
-common_name_of attribute = if bytes_eq attribute.ty.formed.arcs (attribute_arcs attributes.CommonName) then string_of attribute.value else None
+common_name_of attribute = if bytes_eq (arcs_of attribute.ty) (attribute_arcs attributes.CommonName) then string_of attribute.value else None
 
 -- the common names among the attributes of all sets, in their order
 abbrev pub common_names : List (List AttributeTypeAndValue) → List DirectoryString

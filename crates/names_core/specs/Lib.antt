@@ -1,2 +1,1 @@
-pub mod Date
 pub mod DirectoryName

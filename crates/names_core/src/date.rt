@@ -3,12 +3,12 @@
 ghost use Rattle.std.specs.Prelude.{◌≡◌, ◌↔◌, [], ◌∷◌, IsSome, IfSome, Some};
 ghost use Rattle.asn1_types.specs.declared.generalized_time.GeneralizedTime.{GeneralizedTime};
 ghost use Rattle.asn1_types.specs.Calendar.{IsCalendarDate, IsMoment, IsUtcYear};
-ghost use Rattle.asn1_types.specs.Time.{generalized_fields, utc_fields};
-ghost use Rattle.names_core.specs.Date.{date_text};
+ghost use Rattle.asn1_types.specs.Time.{generalized_fields, time_text, utc_fields};
 
 use asn1_types::{GeneralizedTime, UTCTime};
 use std::fmt;
 use std::marker::Model;
+use std::ops::Deref;
 
 /// A moment of the years 0 to 9999 in universal time, to the second. Contracts see it as its
 /// GeneralizedTime. Dates are ordered by year, month, day, hour, minute and second, in this order.
@@ -59,47 +59,16 @@ impl UtcDate {
             self.second(),
         )
     }
+}
 
-    /// The year, from 0 to 9999.
-    pub fn year(&self) -> u16
-        ensures { result ≡ self.now.year }
-    {
-        self.time.year()
-    }
+/// The fields of the date.
+impl Deref for UtcDate {
+    type Target = GeneralizedTime;
 
-    /// The month, from 1 for January to 12.
-    pub fn month(&self) -> u8
-        ensures { result ≡ self.now.month }
-    {
-        self.time.month()
-    }
+    ghost deref_gives = { λ date time. time ≡ date };
 
-    /// The day of the month, from 1.
-    pub fn day(&self) -> u8
-        ensures { result ≡ self.now.day }
-    {
-        self.time.day()
-    }
-
-    /// The hour, from 0 to 23.
-    pub fn hour(&self) -> u8
-        ensures { result ≡ self.now.hour }
-    {
-        self.time.hour()
-    }
-
-    /// The minute, from 0 to 59.
-    pub fn minute(&self) -> u8
-        ensures { result ≡ self.now.minute }
-    {
-        self.time.minute()
-    }
-
-    /// The second, from 0 to 59.
-    pub fn second(&self) -> u8
-        ensures { result ≡ self.now.second }
-    {
-        self.time.second()
+    fn deref(&self) -> &GeneralizedTime {
+        &self.time
     }
 }
 
@@ -130,18 +99,9 @@ impl From<UTCTime> for UtcDate {
 }
 
 impl fmt::Display for UtcDate {
-    ghost output = { λ date. Some (date_text date) };
+    ghost output = { λ date. Some (time_text date) };
 
     fn fmt<W: fmt::Write>(&self, f: &mut fmt::Formatter<W>) -> fmt::Result {
-        write!(
-            f,
-            "{:04}-{:02}-{:02} {:02}:{:02}:{:02}",
-            self.year(),
-            self.month(),
-            self.day(),
-            self.hour(),
-            self.minute(),
-            self.second()
-        )
+        self.time.fmt(f)
     }
 }

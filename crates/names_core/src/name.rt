@@ -2,6 +2,7 @@
 
 ghost use Rattle.std.specs.Prelude.{◌≡◌, ◌↔◌, [], IsTrue, Some, IfOk, OnOk, OnErr};
 ghost use Rattle.std.specs.Option.{option_copied};
+ghost use Rattle.asn1_types.specs.Values.{arcs_of};
 ghost use Rattle.x509_types.specs.declared.name_attr.NameAttr.TheVariants as attributes;
 ghost use Rattle.x509_types.specs.declared.attribute_value.AttributeValue.TheVariants as values;
 ghost use Rattle.x509_types.specs.NameAttr.{attribute_arcs};
@@ -79,7 +80,7 @@ impl DirectoryName {
 
     /// Appends a set of one attribute.
     fn add(&mut self, ty: ObjectIdentifier, value: AttributeValue) -> Result<(), AllocError>
-        ensures ok { OnOk result (IsExtended ty.formed.arcs value self.old.name self.new.name) }
+        ensures ok { OnOk result (IsExtended (arcs_of ty) value self.old.name self.new.name) }
         ensures err { OnErr result (self.new ≡ self.old) }
     {
         let mut set = ListOf::new(self.name.allocator());

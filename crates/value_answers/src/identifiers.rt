@@ -8,6 +8,7 @@ use der_core::DerError;
 use std::alloc::Global;
 use x509_types::NameAttr;
 
+/// The answer to a call on identifiers, None where there is no such call.
 pub fn answer(alloc: Global, call: &str, word: &str) -> Result<Option<String>> {
     let answer = match call {
         "from_text" => from_text(alloc, &text_of(alloc, word)?)?,

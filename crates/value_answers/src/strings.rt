@@ -6,6 +6,7 @@ use asn1_types::{BitString, CharSetError, Ia5String, IntegerAsn1};
 use der_core::DerError;
 use std::alloc::Global;
 
+/// The answer to a call on integers, bit strings and IA5 strings, None where there is no such call.
 pub fn answer(alloc: Global, call: &str, word: &str) -> Result<Option<String>> {
     let answer = match call {
         "integer" => integer(alloc, &octets_of(alloc, word)?)?,

@@ -12,7 +12,7 @@ use x509_types::{
     RelativeDistinguishedName, RsaPublicKey, Structure, SubjectPublicKeyInfo,
 };
 
-/// What is read of an element, by the kind of structure.
+/// What is read of an element, by the kind of structure; None where there is no such kind.
 pub fn answer(alloc: Global, kind: &str, element: &str) -> Result<Option<String>> {
     let element = octets_of(alloc, element)?;
     let answer = match kind {
@@ -33,7 +33,8 @@ pub fn answer(alloc: Global, kind: &str, element: &str) -> Result<Option<String>
     Ok(Some(answer))
 }
 
-/// Whether two elements spell equal values, by the kind of structure.
+/// Whether two elements spell equal values, by the kind of structure; None where there is no such
+/// kind.
 pub fn answer_unlike(alloc: Global, kind: &str, one: &str, other: &str) -> Result<Option<String>> {
     let one = octets_of(alloc, one)?;
     let other = octets_of(alloc, other)?;

@@ -70,6 +70,7 @@ fn small(word: &str) -> Result<u8> {
     word.parse().context("reading a field of a moment")
 }
 
+/// The answer to a call on times and dates, None where there is no such call.
 pub fn answer(alloc: Global, call: &str, args: &[&str]) -> Result<Option<String>> {
     let answer = match (call, args) {
         ("generalized", fields) => generalized(alloc, Fields::from_words(fields)?.generalized())?,
@@ -92,7 +93,7 @@ pub fn answer(alloc: Global, call: &str, args: &[&str]) -> Result<Option<String>
     Ok(Some(answer))
 }
 
-/// The fields and the contents octets of a time.
+/// The text, the fields and the contents octets of a time.
 fn generalized(alloc: Global, time: Option<GeneralizedTime>) -> Result<String> {
     let Some(time) = time else {
         return Ok(String::from_str(alloc, "none")?);
@@ -100,10 +101,11 @@ fn generalized(alloc: Global, time: Option<GeneralizedTime>) -> Result<String> {
     let (year, month, day) = (time.year(), time.month(), time.day());
     let (hour, minute, second) = (time.hour(), time.minute(), time.second());
     let content = word_of(alloc, time.to_content().as_slice())?;
-    Ok(format!(in alloc; "{year} {month} {day} {hour} {minute} {second} {content}")?)
+    Ok(format!(in alloc; "{time} {year} {month} {day} {hour} {minute} {second} {content}")?)
 }
 
-/// The fields and the contents octets of a time, and of the GeneralizedTime of the same moment.
+/// The text, the fields and the contents octets of a time, and the contents octets of the
+/// GeneralizedTime of the same moment.
 fn utc(alloc: Global, time: Option<UTCTime>) -> Result<String> {
     let Some(time) = time else {
         return Ok(String::from_str(alloc, "none")?);
@@ -112,10 +114,10 @@ fn utc(alloc: Global, time: Option<UTCTime>) -> Result<String> {
     let (hour, minute, second) = (time.hour(), time.minute(), time.second());
     let content = word_of(alloc, time.to_content().as_slice())?;
     let other = word_of(alloc, GeneralizedTime::from(time).to_content().as_slice())?;
-    Ok(format!(in alloc; "{year} {month} {day} {hour} {minute} {second} {content} {other}")?)
+    Ok(format!(in alloc; "{time} {year} {month} {day} {hour} {minute} {second} {content} {other}")?)
 }
 
-/// The text of a date, its fields, and the contents octets of both times of it.
+/// The text of a date, its GeneralizedTime, and the contents octets of its UTCTime.
 fn date(alloc: Global, date: Option<UtcDate>) -> Result<String> {
     let Some(date) = date else {
         return Ok(String::from_str(alloc, "none")?);
