@@ -21,10 +21,10 @@ abbrev pub IsRow : VerdictRow → Type 0
 IsRow row = IsDigest row.key × IsDigest row.msg × IsDigest row.sig
 
 abbrev pub space : ℕ
-space = 32
+space = 0x20
 
 abbrev pub newline : ℕ
-newline = 10
+newline = 0x0A
 
 -- the line that spells a row: the name, the digests in lower-case hexadecimal digits, one space between
 abbrev pub line_of : VerdictRow → List ℕ

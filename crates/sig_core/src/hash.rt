@@ -20,6 +20,16 @@ pub enum HashAlgorithm {
 }
 
 impl HashAlgorithm {
+    /// Every digest algorithm, in the order of the enum.
+    pub const ALL: [HashAlgorithm; 6] = [
+        HashAlgorithm::MD5,
+        HashAlgorithm::SHA1,
+        HashAlgorithm::SHA2_224,
+        HashAlgorithm::SHA2_256,
+        HashAlgorithm::SHA2_384,
+        HashAlgorithm::SHA2_512,
+    ];
+
     /// The digest of the message.
     pub fn digest(self, alloc: Global, msg: &[u8]) -> Result<Vec<u8>, AllocError>
         ensures digest { IfOk result (λ digest. digest.items ≡ digest_of self msg.now) }
