@@ -23,7 +23,7 @@ fn names_and_kinds(rt: HostRuntime) -> Result<(), Fail> {
     assert_eq!(rt; SigAlg::ALL.len(), ALGORITHMS.len());
     for (alg, name, kind) in ALGORITHMS {
         assert!(rt; SigAlg::ALL.contains(&alg), "{name}");
-        assert_eq!(rt; alg.name(), name);
+        assert_eq!(rt; alg.name().as_bytes(), name.as_bytes());
         assert_eq!(rt; SigAlg::from_name(name.as_bytes()), Some(alg), "{name}");
         assert_eq!(rt; alg.kind(), kind, "{name}");
         let text = joined(rt.alloc(), &[name, " ", KEY, " ", MSG, " ", SIG, "\n"])?;
