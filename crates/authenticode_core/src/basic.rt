@@ -1,8 +1,9 @@
 //! Basic validation: the form of the signed data, the digest of the file, the signature.
 
-ghost use Rattle.std.specs.Prelude.{◌≡◌, ◌↔◌, Ok, Result, IsTrue, IfOk, MatchResult};
+ghost use Rattle.std.specs.Prelude.{◌≡◌, ◌↔◌, Ok, Err, Result, IsTrue, IfOk, MatchResult};
 ghost use Rattle.der_core.specs.Encoding.{IsDer, IsPaddedEncoding};
-ghost use Rattle.wincert_core.specs.Refusal.{certificate_in};
+ghost use Rattle.wincert_core.specs.Refusal.{contents_in};
+ghost use Rattle.wincert_core.specs.declared.error.WinCertificateError.{WinCertificateError};
 ghost use Rattle.authenticode_core.specs.PlainForm.{signed_content};
 ghost use Rattle.authenticode_core.specs.Views.{signature_parts};
 ghost use Rattle.authenticode_core.specs.Basic.{IsPadding, IsSigned, IsJudged, IsBasicAnswer, IsSameUnlessMemory, RefusesHeader, RefusesValue, unread_of};
@@ -32,6 +33,8 @@ pub fn check_basic<S: Scheme>(
     scheme: &S,
 ) -> Result<Accepted, CheckError>
     ensures answer { IsBasicAnswer (S.judge scheme.now) bytes.now file_hash.now result }
+    // A refusal of the header comes before memory is asked for.
+    ensures header { (e : WinCertificateError) → contents_in bytes.now ≡ Err e → result ≡ Err (CheckError.Win e) }
     // No other answer has its cause, want of memory aside.
     ensures only { (other : Result Accepted CheckError) → IsBasicAnswer (S.judge scheme.now) bytes.now file_hash.now other
         → IsSameUnlessMemory result other }
@@ -46,9 +49,10 @@ fn answer<S: Scheme>(
     file_hash: &[u8],
     scheme: &S,
 ) -> Result<Accepted, CheckError>
-    ensures { IsBasicAnswer (S.judge scheme.now) bytes.now file_hash.now result }
+    ensures answer { IsBasicAnswer (S.judge scheme.now) bytes.now file_hash.now result }
+    ensures header { (e : WinCertificateError) → contents_in bytes.now ≡ Err e → result ≡ Err (CheckError.Win e) }
 {
-    let certificate = certificate_in(bytes)?;
+    let certificate = contents_named(bytes)?;
     let tree = value_of(alloc, certificate)?;
     let Some(signature) = plain_signature_of(&tree) else {
         return Err(CheckError::NotThisForm);
@@ -60,8 +64,8 @@ fn answer<S: Scheme>(
 }
 
 /// The certificate that the header names.
-fn certificate_in(bytes: &[u8]) -> Result<&[u8], CheckError>
-    ensures { MatchResult result (λ certificate. certificate_in bytes.now ≡ Ok certificate.now) (RefusesHeader bytes.now) }
+fn contents_named(bytes: &[u8]) -> Result<&[u8], CheckError>
+    ensures { MatchResult result (λ certificate. contents_in bytes.now ≡ Ok certificate.now) (RefusesHeader bytes.now) }
 {
     match certificate_of(bytes) {
         Ok(certificate) => Ok(certificate),

@@ -1,6 +1,6 @@
 use Rattle.std.proofs.Common.{refl}
 use Rattle.authenticode_core.proofs.Kids.{kid_at}
-use Rattle.authenticode_core.proofs.plain_form.certificate_of.Goals as goal
+use Rattle.authenticode_core.proofs.plain_form.plain_certificate_of.Goals as goal
 
 pub returns-in_err-tbs : goal.returns-in_err-tbs
 returns-in_err-tbs c = rw c.from_residual.ensures (λ parts e. c.in_err-tbs.ensures _ refl e)
