@@ -10,13 +10,14 @@ use Rattle.authenticode_core.specs.declared.error.CheckError.TheVariants as chec
 -- what is told of a digest of the file that is not the one asked for
 abbrev pub mismatch_text : List ℕ → List ℕ → List ℕ
 mismatch_text actual expected =
-    codes "the signature is for a file with the digest " ++ encode_lower actual ++ codes ", but that of the file is "
-    ++ encode_lower expected
+    codes "the signature is for a file with the digest " ++ encode_lower actual
+    ++ codes ", but that of the file is " ++ encode_lower expected
 
 -- what is told of signed data that is refused
 abbrev pub content_error_text : AuthenticodeError → List ℕ
 content_error_text (authenticode.FileHashMismatch actual expected) = mismatch_text actual expected
-content_error_text authenticode.SignatureError = codes "the signature is not accepted under the signer's key"
+content_error_text authenticode.SignatureError =
+    codes "the signature is not accepted under the signer's key"
 content_error_text authenticode.Memory = codes "out of memory"
 
 -- what is told of a signature file that is refused. Of an element that is not read no contract says

@@ -1,4 +1,5 @@
--- The plain form of signed data: one signer with an RSA key and SHA-256, one certificate, three signed attributes.
+-- The plain form of signed data: one signer with an RSA key and SHA-256, one certificate, three
+-- signed attributes.
 use Rattle.std.specs.Prelude.{◌≡◌, ◌≢◌, ℕ, ◌≤◌, List, [], ◌∷◌, codes, Ok}
 use Rattle.sha2.specs.Sha256.{sha256}
 use Rattle.der_core.specs.DerElement.{DerElement, Primitive, row}
@@ -13,7 +14,8 @@ algorithm oid = sequence (object_identifier oid ∷ null ∷ [])
 
 -- a Name of one common name (RFC 5280 4.1.2.4)
 abbrev pub name : List ℕ → DerElement
-name text = sequence (set (sequence (object_identifier common_name ∷ utf8_string text ∷ []) ∷ []) ∷ [])
+name text =
+    sequence (set (sequence (object_identifier common_name ∷ utf8_string text ∷ []) ∷ []) ∷ [])
 
 -- a Validity between two times of two-digit years (RFC 5280 4.1.2.5)
 abbrev pub validity : List ℕ → List ℕ → DerElement
@@ -48,9 +50,12 @@ tbs_fields c =
     ∷ public_key_info c.key
     ∷ []
 
+-- these fields in order
 abbrev pub tbs_certificate : TbsParts → DerElement
-tbs_certificate c = sequence (tbs_fields c)
+tbs_certificate c =
+    sequence (tbs_fields c)
 
+-- what varies in a certificate
 pub record CertificateParts : Type 0 where
   pub tbs : TbsParts
   pub signature : List ℕ
@@ -59,31 +64,38 @@ pub record CertificateParts : Type 0 where
 abbrev pub certificate : CertificateParts → DerElement
 certificate c = sequence (tbs_certificate c.tbs ∷ algorithm sha256_with_rsa_encryption ∷ bit_string c.signature ∷ [])
 
--- SpcIndirectDataContent: a portable executable, without page hashes, and the digest of the file (Authenticode)
+-- an SpcLink to a file without a name (Authenticode)
 abbrev pub empty_link : DerElement
 empty_link = context 0 (context 2 (Primitive 0x80 [] ∷ []) ∷ [])
 
+-- an SpcAttributeTypeAndOptionalValue: a portable executable, without page hashes (Authenticode)
 abbrev pub image_data : DerElement
-image_data = sequence (object_identifier pe_image_data ∷ sequence (bit_string [] ∷ empty_link ∷ []) ∷ [])
+image_data =
+    sequence (object_identifier pe_image_data ∷ sequence (bit_string [] ∷ empty_link ∷ []) ∷ [])
 
+-- a DigestInfo of SHA-256 (Authenticode, RFC 2315 9.4)
 abbrev pub digest_info : List ℕ → DerElement
 digest_info file_hash = sequence (algorithm sha256_type ∷ octet_string file_hash ∷ [])
 
+-- an SpcIndirectDataContent: what the file is, and its digest (Authenticode)
 abbrev pub indirect_data : List ℕ → DerElement
 indirect_data file_hash = sequence (image_data ∷ digest_info file_hash ∷ [])
 
 -- a ContentInfo of indirect data (RFC 2315 7)
 abbrev pub content_info : List ℕ → DerElement
-content_info file_hash = sequence (object_identifier indirect_data_type ∷ context 0 (indirect_data file_hash ∷ []) ∷ [])
+content_info file_hash =
+    sequence (object_identifier indirect_data_type ∷ context 0 (indirect_data file_hash ∷ []) ∷ [])
 
 -- an Attribute of one value (RFC 2986 4.1)
 abbrev pub attribute : List ℕ → DerElement → DerElement
 attribute oid value = sequence (object_identifier oid ∷ set (value ∷ []) ∷ [])
 
--- the type of the content, no program's name, and the digest of the content (RFC 2985 5.3, Authenticode)
+-- an SpcSpOpusInfo without a program's name, and with an address of no octets (Authenticode)
 abbrev pub no_program_name : DerElement
 no_program_name = sequence (context 1 (Primitive 0x80 [] ∷ []) ∷ [])
 
+-- the signed attributes: the type of the content, the publisher's information, and the digest of
+-- the content (RFC 2985 5.3, Authenticode)
 abbrev pub attributes : List ℕ → List DerElement
 attributes message_digest =
     attribute content_type (object_identifier indirect_data_type)
@@ -113,6 +125,7 @@ signer_fields s =
     ∷ octet_string s.signature
     ∷ []
 
+-- these fields in order
 abbrev pub signer_info : SignerParts → DerElement
 signer_info s = sequence (signer_fields s)
 
@@ -122,7 +135,8 @@ pub record SignatureParts : Type 0 where
   pub file_hash : List ℕ
   pub signer : SignerParts
 
--- a SignedData of version 1, with one certificate, an empty list of revocation lists and one signer (RFC 2315 9.1)
+-- a SignedData of version 1, with one certificate, an empty list of revocation lists and one signer
+-- (RFC 2315 9.1)
 abbrev pub signed_data_fields : SignatureParts → List DerElement
 signed_data_fields p =
     integer (1 ∷ [])
@@ -133,15 +147,18 @@ signed_data_fields p =
     ∷ set (signer_info p.signer ∷ [])
     ∷ []
 
+-- these fields in order
 abbrev pub signed_data : SignatureParts → DerElement
 signed_data p = sequence (signed_data_fields p)
 
 -- a ContentInfo of it (RFC 2315 7)
 abbrev pub signed_content : SignatureParts → DerElement
-signed_content p = sequence (object_identifier signed_data_type ∷ context 0 (signed_data p ∷ []) ∷ [])
+signed_content p =
+    sequence (object_identifier signed_data_type ∷ context 0 (signed_data p ∷ []) ∷ [])
 
+-- `0` to `9`
 abbrev pub IsDigit : ℕ → Type 0
-IsDigit c = (48 ≤ c) × (c ≤ 57)
+IsDigit c = (0x30 ≤ c) × (c ≤ 0x39)
 
 -- the first moment of a year: YY0101000000Z
 pub record IsNewYear (time : List ℕ) : Type 0 where
@@ -184,7 +201,8 @@ pub record IsPlain (p : SignatureParts) : Type 0 where
   pub key : IsRsaKey p.certificate.tbs.key
   pub bound : p.signer.message_digest ≡ sha256 (bound_contents p.file_hash)
 
--- The octets begin with a WIN_CERTIFICATE whose certificate is signed data of the plain form, with these parts.
+-- The octets begin with a WIN_CERTIFICATE whose certificate is signed data of the plain form, with
+-- these parts.
 pub record IsPlainForm (octets : List ℕ) (p : SignatureParts) : Type 0 where
   pub certificate : List ℕ
   pub named : contents_in octets ≡ Ok certificate

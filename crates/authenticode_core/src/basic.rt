@@ -34,9 +34,11 @@ pub fn check_basic<S: Scheme>(
 ) -> Result<Accepted, CheckError>
     ensures answer { IsBasicAnswer (S.judge scheme.now) bytes.now file_hash.now result }
     // A refusal of the header comes before memory is asked for.
-    ensures header { (e : WinCertificateError) → contents_in bytes.now ≡ Err e → result ≡ Err (CheckError.Win e) }
+    ensures header { (e : WinCertificateError)
+        → contents_in bytes.now ≡ Err e → result ≡ Err (CheckError.Win e) }
     // No other answer has its cause, want of memory aside.
-    ensures only { (other : Result Accepted CheckError) → IsBasicAnswer (S.judge scheme.now) bytes.now file_hash.now other
+    ensures only { (other : Result Accepted CheckError)
+        → IsBasicAnswer (S.judge scheme.now) bytes.now file_hash.now other
         → IsSameUnlessMemory result other }
 {
     one_first_fault();
@@ -50,7 +52,8 @@ fn answer<S: Scheme>(
     scheme: &S,
 ) -> Result<Accepted, CheckError>
     ensures answer { IsBasicAnswer (S.judge scheme.now) bytes.now file_hash.now result }
-    ensures header { (e : WinCertificateError) → contents_in bytes.now ≡ Err e → result ≡ Err (CheckError.Win e) }
+    ensures header { (e : WinCertificateError)
+        → contents_in bytes.now ≡ Err e → result ≡ Err (CheckError.Win e) }
 {
     let certificate = contents_named(bytes)?;
     let tree = value_of(alloc, certificate)?;
@@ -65,7 +68,9 @@ fn answer<S: Scheme>(
 
 /// The certificate that the header names.
 fn contents_named(bytes: &[u8]) -> Result<&[u8], CheckError>
-    ensures { MatchResult result (λ certificate. contents_in bytes.now ≡ Ok certificate.now) (RefusesHeader bytes.now) }
+    ensures { MatchResult result
+        (λ certificate. contents_in bytes.now ≡ Ok certificate.now)
+        (RefusesHeader bytes.now) }
 {
     match certificate_of(bytes) {
         Ok(certificate) => Ok(certificate),
@@ -75,7 +80,9 @@ fn contents_named(bytes: &[u8]) -> Result<&[u8], CheckError>
 
 /// The element that octets are, with at most seven zeros after it.
 fn value_of(alloc: Global, octets: &[u8]) -> Result<Tree, CheckError>
-    ensures { MatchResult result (λ tree. IsPaddedEncoding octets.now tree) (RefusesValue octets.now) }
+    ensures { MatchResult result
+        (λ tree. IsPaddedEncoding octets.now tree)
+        (RefusesValue octets.now) }
 {
     match read_first(alloc, octets) {
         Ok((tree, taken)) if is_padding(&octets[taken..]) => Ok(tree),
@@ -86,7 +93,8 @@ fn value_of(alloc: Global, octets: &[u8]) -> Result<Tree, CheckError>
 
 /// The refusal of octets after the element that are no padding.
 fn trailing(at: usize) -> CheckError
-    ensures { result ≡ CheckError.Unread (DerError.Malformed (record { at = at; fault = DerFault.Trailing })) }
+    ensures { result ≡ CheckError.Unread
+        (DerError.Malformed (record { at = at; fault = DerFault.Trailing })) }
 {
     CheckError::Unread(DerError::Malformed(Malformed {
         at,
@@ -133,7 +141,8 @@ fn judge<S: Scheme>(
 }
 
 fn hash_mismatch(alloc: Global, actual: &[u8], expected: &[u8]) -> Result<CheckError, AllocError>
-    ensures { IfOk result (λ e. e ≡ CheckError.Authenticode (AuthenticodeError.FileHashMismatch actual.now expected.now)) }
+    ensures { IfOk result (λ e. e ≡ CheckError.Authenticode
+        (AuthenticodeError.FileHashMismatch actual.now expected.now)) }
 {
     Ok(CheckError::Authenticode(AuthenticodeError::FileHashMismatch {
         actual: Octets::from_slice(alloc, actual)?,
@@ -147,7 +156,8 @@ fn is_signed<S: Scheme>(
     scheme: &S,
 ) -> Result<bool, AllocError>
     requires { IsDer (signed_content (signature_parts signature.now)) }
-    ensures { IfOk result (λ holds. IsTrue holds ↔ IsSigned (S.judge scheme.now) (signature_parts signature.now)) }
+    ensures { IfOk result (λ holds.
+        IsTrue holds ↔ IsSigned (S.judge scheme.now) (signature_parts signature.now)) }
 {
     let message = signed_message_of(alloc, &signature.signer)?;
     let key = signature.certificate.tbs.key;

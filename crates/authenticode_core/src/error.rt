@@ -25,6 +25,7 @@ pub enum AuthenticodeError {
 }
 
 impl AuthenticodeError {
+    /// The name of the variant.
     fn name(&self) -> &'static str
         ensures { result.now ≡ content_refusal_name self.now }
     {
@@ -53,12 +54,14 @@ impl fmt::Display for AuthenticodeError {
     }
 }
 
+/// The text of a digest that is not the one asked for.
 fn write_mismatch<W: fmt::Write>(
     actual: &[u8],
     expected: &[u8],
     f: &mut fmt::Formatter<W>,
 ) -> fmt::Result
-    ensures { WritesOnOk W.write_str_gives f.old result (mismatch_text actual.now expected.now) f.new }
+    ensures { WritesOnOk W.write_str_gives f.old result
+        (mismatch_text actual.now expected.now) f.new }
 {
     f.write_str("the signature is for a file with the digest ")?;
     write_hexadecimal(actual, f)?;
@@ -100,6 +103,7 @@ impl CheckError {
         String::from_str(alloc, self.word())
     }
 
+    /// The name, lent.
     fn word(&self) -> &'static str
         ensures { result.now ≡ refusal_name self.now }
     {
@@ -113,6 +117,7 @@ impl CheckError {
     }
 }
 
+/// The name of the variant.
 fn header_refusal_name(error: &WinCertificateError) -> &'static str
     ensures { result.now ≡ header_refusal_name error.now }
 {

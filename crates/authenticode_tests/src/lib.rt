@@ -1,18 +1,8 @@
-//! Tests of the public calls of `authenticode_core`: a signature file of the plain form, made by
-//! `tools/first_path.py` with Python's standard library, and what becomes of it where one part of
-//! it is another.
+//! Tests of the public calls of `authenticode_core` over a signature file of the plain form, made by
+//! `tools/first_path.py` with Python's standard library. What becomes of it where one part of it is
+//! another, `basic_answers` has as data.
 #![tactic(auto)]
 
-#[cfg(test)]
-mod answer;
-#[cfg(test)]
-mod changes;
-#[cfg(test)]
-mod elements;
-#[cfg(test)]
-mod files;
-#[cfg(test)]
-mod lines;
 #[cfg(test)]
 mod made;
 #[cfg(test)]

@@ -2,8 +2,7 @@
 
 use crate::made::{FILE, FILE_HASH, table};
 use authenticode_core::{AuthenticodeError, CheckError, check_basic};
-use der_core::{DerError, DerFault, Malformed, Octets};
-use std::alloc::Global;
+use der_core::{DerError, Octets};
 use std::test::Fail;
 use wincert_core::WinCertificateError;
 
@@ -11,34 +10,17 @@ use wincert_core::WinCertificateError;
 const MISMATCH: &str =
     "the signature is for a file with the digest ba7816bf8f01cfea414140de5dae2223b00361a396177a9cb410ff61f20015ad, but that of the file is 00ff";
 
-/// What is told of errors.
+/// What no run of `check_basic` tells where there is memory enough.
 #[test]
 fn texts(rt: HostRuntime) -> Result<(), Fail> {
-    let trailing = DerError::Malformed(Malformed {
-        at: 438,
-        fault: DerFault::Trailing,
-    });
-    for (error, want) in [
-        (
-            CheckError::Win(WinCertificateError::CertificateDataIsEmpty),
-            "the WIN_CERTIFICATE states the length 0, so it holds no certificate",
-        ),
-        (
-            CheckError::Unread(trailing),
-            "the certificate of the WIN_CERTIFICATE is not read: malformed DER: octets after the element at octet 438",
-        ),
-        (
-            CheckError::NotThisForm,
-            "the certificate is not signed data of the one form that is checked: one certificate, and one signer with an RSA key and SHA-256",
-        ),
-        (
-            CheckError::Authenticode(AuthenticodeError::SignatureError),
-            "the signature is not accepted under the signer's key",
-        ),
-        (CheckError::Memory, "out of memory"),
+    for error in [
+        CheckError::Win(WinCertificateError::Memory),
+        CheckError::Unread(DerError::Memory),
+        CheckError::Authenticode(AuthenticodeError::Memory),
+        CheckError::Memory,
     ] {
         let text = format!(in rt.alloc(); "{error}")?;
-        assert_eq!(rt; text.as_str(), want);
+        assert!(rt; text.as_str().ends_with("out of memory"));
     }
     Ok(())
 }

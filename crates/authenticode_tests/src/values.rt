@@ -1,7 +1,20 @@
 //! Places, and what is said of a signature that is accepted.
 
-use authenticode_core::{Accepted, Excuse, Places};
+use crate::made::{FILE, FILE_HASH, table};
+use authenticode_core::{Accepted, Excuse, Places, check_basic};
 use std::test::Fail;
+
+#[test]
+fn accepted(rt: HostRuntime) -> Result<(), Fail> {
+    let file = hex::decode(rt.alloc(), FILE)?;
+    let hash = hex::decode(rt.alloc(), FILE_HASH)?;
+    let table = table(rt.alloc(), &["rsa-sha256"])?;
+    let accepted = check_basic(rt.alloc(), &file, &hash, &table)?;
+    assert_eq!(rt; accepted.signer, Some(0));
+    assert!(rt; accepted.path.as_slice().is_empty());
+    assert_eq!(rt; accepted.excuse, Excuse::None);
+    Ok(())
+}
 
 #[test]
 fn places(rt: HostRuntime) -> Result<(), Fail> {

@@ -8,7 +8,8 @@ use Rattle.sig_core.specs.declared.verdict_table.TableError.TheVariants as table
 
 -- what is told of a text that is no verdict table
 abbrev pub table_error_text : TableError → List ℕ
-table_error_text (table.BadLine number) = codes "line " ++ decimal number ++ codes " of the verdict table is not a row"
+table_error_text (table.BadLine number) =
+    codes "line " ++ decimal number ++ codes " of the verdict table is not a row"
 table_error_text table.Memory = codes "out of memory"
 
 -- what is told of a scheme that gives no signature, or no key

@@ -8,7 +8,7 @@ use sha1::Sha1;
 use sha2::{Digest as _, Sha224, Sha256, Sha384, Sha512};
 use std::alloc::{AllocError, Global};
 
-/// The digest algorithms.
+/// The digest algorithms: MD5 of RFC 1321, SHA-1 and SHA-2 of FIPS 180-4.
 #[derive(Clone, Copy, PartialEq, Eq, Hash, Debug)]
 pub enum HashAlgorithm {
     MD5,

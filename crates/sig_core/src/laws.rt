@@ -11,9 +11,12 @@ ghost use Rattle.sig_core.specs.declared.verdict_row.VerdictRow.{VerdictRow};
 /// A text is the table of at most one list of rows, so there is the table that a text is. It has at
 /// most one first bad line, and none where it is a table.
 pub fn one_table()
-    ensures one_list { (text : List ℕ) (a b : List VerdictRow) → IsTable text a → IsTable text b → a ≡ b }
-    ensures one_bad_line { (text : List ℕ) (m n : ℕ) → IsFirstBadLine text m → IsFirstBadLine text n → m ≡ n }
-    ensures not_both { (text : List ℕ) (rows : List VerdictRow) (number : ℕ) → IsTable text rows → IsFirstBadLine text number → ⊥ }
+    ensures one_list { (text : List ℕ) (a b : List VerdictRow)
+        → IsTable text a → IsTable text b → a ≡ b }
+    ensures one_bad_line { (text : List ℕ) (m n : ℕ)
+        → IsFirstBadLine text m → IsFirstBadLine text n → m ≡ n }
+    ensures not_both { (text : List ℕ) (rows : List VerdictRow) (number : ℕ)
+        → IsTable text rows → IsFirstBadLine text number → ⊥ }
 {}
 
 /// `SigAlg::ALL` and `HashAlgorithm::ALL` have each algorithm, once.

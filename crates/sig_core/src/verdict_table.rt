@@ -83,7 +83,8 @@ impl VerdictTable {
             → MatchResult result (λ table. table ≡ rows) (λ e. e ≡ TableError.Memory) }
         // A text with a bad line is refused at that line.
         ensures each_bad_line { (number : ℕ) → IsFirstBadLine bytes.now number
-            → MatchResult result (λ _. ⊥) (λ e. (e ≡ TableError.BadLine number) ⊎ (e ≡ TableError.Memory)) }
+            → MatchResult result (λ _. ⊥)
+            (λ e. (e ≡ TableError.BadLine number) ⊎ (e ≡ TableError.Memory)) }
     {
         Ok(VerdictTable {
             rows: rows_of(alloc, bytes)?,
@@ -182,11 +183,13 @@ impl Scheme for VerdictTable {
         msg: &[u8],
         sig: &[u8],
     ) -> Result<Verdict, AllocError>
-        ensures verdict { IfOk result (λ verdict. verdict ≡ verdict_of self.now alg key.now msg.now sig.now) }
+        ensures verdict { IfOk result (λ verdict.
+            verdict ≡ verdict_of self.now alg key.now msg.now sig.now) }
         // Accepted exactly where a row has the algorithm and the three digests, else rejected.
         ensures accepted { IfOk result (λ verdict. (verdict ≡ Verdict.Accept)
             ↔ Contains self.now (row_of alg key.now msg.now sig.now)) }
-        ensures rejected { IfOk result (λ verdict. (verdict ≡ Verdict.Accept) ⊎ (verdict ≡ Verdict.Reject)) }
+        ensures rejected { IfOk result (λ verdict.
+            (verdict ≡ Verdict.Accept) ⊎ (verdict ≡ Verdict.Reject)) }
         // No memory is asked for.
         ensures never_memory { IsOk result }
     {

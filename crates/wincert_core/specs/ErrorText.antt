@@ -16,10 +16,13 @@ error_text (WrongRevisionValue got) =
 error_text (WrongCertificateType got) =
     codes "unknown type " ++ decimal got ++ codes " of a WIN_CERTIFICATE (known are 1, 2, 3 and 9)"
 error_text (WrongLength minimum got) =
-    codes "a WIN_CERTIFICATE has at least " ++ decimal minimum ++ codes " octets, and this one has " ++ decimal got
-error_text CertificateDataIsEmpty = codes "the WIN_CERTIFICATE states the length 0, so it holds no certificate"
+    codes "a WIN_CERTIFICATE has at least " ++ decimal minimum
+    ++ codes " octets, and this one has " ++ decimal got
+error_text CertificateDataIsEmpty =
+    codes "the WIN_CERTIFICATE states the length 0, so it holds no certificate"
 error_text (Io stated got) =
-    codes "the WIN_CERTIFICATE states a length of " ++ decimal stated ++ codes " octets, and only " ++ decimal got
-    ++ codes " are there"
-error_text TooLong = codes "the certificate is too long: header, certificate and padding pass 4294967295 octets"
+    codes "the WIN_CERTIFICATE states a length of " ++ decimal stated
+    ++ codes " octets, and only " ++ decimal got ++ codes " are there"
+error_text TooLong =
+    codes "the certificate is too long: header, certificate and padding pass 4294967295 octets"
 error_text Memory = codes "out of memory"

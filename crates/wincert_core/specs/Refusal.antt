@@ -25,7 +25,8 @@ unless_refused (Some refusal) value = Err refusal
 
 -- the certificate that the header names, with its padding, or why there is none
 abbrev pub contents_in : List ℕ → Result (List ℕ) WinCertificateError
-contents_in octets = unless_refused (first_refusal octets) (slice_range octets 8 (length_field octets))
+contents_in octets =
+    unless_refused (first_refusal octets) (slice_range octets 8 (length_field octets))
 
 -- A WIN_CERTIFICATE of the current revision, or why there is none.
 abbrev pub current : List ℕ → CertificateType → Result WinCert WinCertificateError
@@ -40,5 +41,7 @@ encoded w =
     if nat_lt (stated_length (with_padding w).certificate) (2 ^ 32) then Ok (spelling (with_padding w)) else Err TooLong
 
 -- The result, seen by view, is the one that is asked for, unless memory ran out.
-abbrev pub Gives : {A B : Type 0} → (A → B) → Result A WinCertificateError → Result B WinCertificateError → Type 0
-Gives view result asked = MatchResult result (λ x. asked ≡ Ok (view x)) (λ e. (asked ≡ Err e) ⊎ (e ≡ Memory))
+abbrev pub Gives : {A B : Type 0}
+    → (A → B) → Result A WinCertificateError → Result B WinCertificateError → Type 0
+Gives view result asked =
+    MatchResult result (λ x. asked ≡ Ok (view x)) (λ e. (asked ≡ Err e) ⊎ (e ≡ Memory))

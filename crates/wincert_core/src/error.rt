@@ -59,8 +59,10 @@ impl fmt::Display for WinCertificateError {
     }
 }
 
+/// The text of a wrong revision, whose number has four hexadecimal digits.
 fn write_revision<W: fmt::Write>(number: u16, f: &mut fmt::Formatter<W>) -> fmt::Result
-    ensures { WritesOnOk W.write_str_gives f.old result (error_text (WrongRevisionValue number)) f.new }
+    ensures { WritesOnOk W.write_str_gives f.old result
+        (error_text (WrongRevisionValue number)) f.new }
 {
     let (high, low) = (number / 256, number % 256);
     write!(

@@ -48,7 +48,8 @@ impl WinCertificate {
         // The certificate that the header names, or the first refusal.
         ensures given { Gives (λ w. w.certificate) result (contents_in bytes.now) }
         // A refusal comes before memory is asked for.
-        ensures refused { (error : WinCertificateError) → contents_in bytes.now ≡ Err error → result ≡ Err error }
+        ensures refused { (error : WinCertificateError)
+            → contents_in bytes.now ≡ Err error → result ≡ Err error }
         // What is read is spelled there.
         ensures spelled { IfOk result (λ w. BeginsWith bytes.now w) }
         // What is spelled there is read.
