@@ -12,6 +12,7 @@ from tempfile import TemporaryDirectory
 from unittest.mock import patch
 
 import certificate_parts
+import basic_answers
 import compare_readers
 import der_reader
 import oid_table
@@ -185,6 +186,17 @@ class StoredAnswersTest(unittest.TestCase):
     def test_stored_files(self):
         for path, octets in stored_files().items():
             self.assertEqual((CRATES / "der_answers" / path).read_bytes(), octets, path)
+
+
+class BasicAnswersTest(unittest.TestCase):
+
+    def test_lines_are_those_of_the_file(self):
+        made = basic_answers.wrapped(basic_answers.encoded(basic_answers.LINES))
+        self.assertEqual(made, basic_answers.FILE)
+
+    def test_stored_files(self):
+        for path, text in basic_answers.stored_files().items():
+            self.assertEqual((CRATES / "basic_answers" / path).read_text("ascii"), text, path)
 
 
 class ComparisonTest(unittest.TestCase):

@@ -3,3 +3,4 @@ pub mod Keys
 pub mod Padded
 pub mod OneForm
 pub mod OneAnswer
+pub mod Hexadecimal

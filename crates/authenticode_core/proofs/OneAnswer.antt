@@ -11,7 +11,7 @@ use Rattle.der_core.specs.declared.fault.DerFault.{DerFault}
 use Rattle.der_core.specs.declared.fault.Malformed.{Malformed}
 use Rattle.der_core.specs.declared.error.DerError.{DerError}
 use Rattle.der_core.specs.declared.error.DerError.TheVariants as der
-use Rattle.wincert_core.specs.Refusal.{certificate_in}
+use Rattle.wincert_core.specs.Refusal.{contents_in}
 use Rattle.wincert_core.specs.declared.error.WinCertificateError.{WinCertificateError}
 use Rattle.authenticode_core.specs.PlainForm.{SignatureParts, IsPlainForm, signed_content}
 use Rattle.authenticode_core.specs.Basic.{Judge, IsJudged, IsBasicAnswer, IsUnread, IsSameUnlessMemory}
@@ -118,20 +118,20 @@ module _ (at_most_one : FaultsAreOne) (exclude : FaultsExclude) where
       one_judged judge p file_hash r s h (subst (λ parts. IsJudged judge parts file_hash s) (one_form form' form) k)
 
   -- a header that names a certificate has no refusal, and names no other
-  named_once : (octets certificate : List ℕ) (e : WinCertificateError) → certificate_in octets ≡ Ok certificate → certificate_in octets ≡ Err e → ⊥
+  named_once : (octets certificate : List ℕ) (e : WinCertificateError) → contents_in octets ≡ Ok certificate → contents_in octets ≡ Err e → ⊥
   named_once octets certificate e named refused = absurd cc
 
-  no_form_unread : (octets certificate : List ℕ) (e : DerError) (p : SignatureParts) → certificate_in octets ≡ Ok certificate → IsUnread certificate e → IsPlainForm octets p → ⊥
+  no_form_unread : (octets certificate : List ℕ) (e : DerError) (p : SignatureParts) → contents_in octets ≡ Ok certificate → IsUnread certificate e → IsPlainForm octets p → ⊥
   no_form_unread octets certificate e p named unread form =
       let same : form.certificate ≡ certificate = cc (named, form.named) in
       not_both form.certificate (signed_content p) e form.spelled (subst (λ c. IsUnread c e) (sym same) unread)
 
-  no_element_unread : (octets a b : List ℕ) (e : DerError) (element : DerElement) → certificate_in octets ≡ Ok a → IsUnread a e → certificate_in octets ≡ Ok b → IsPaddedEncoding b element → ⊥
+  no_element_unread : (octets a b : List ℕ) (e : DerError) (element : DerElement) → contents_in octets ≡ Ok a → IsUnread a e → contents_in octets ≡ Ok b → IsPaddedEncoding b element → ⊥
   no_element_unread octets a b e element named unread named' padded =
       let same : a ≡ b = cc (named, named') in
       not_both b element e padded (subst (λ c. IsUnread c e) same unread)
 
-  same_unread : (octets a b : List ℕ) (e f : DerError) → certificate_in octets ≡ Ok a → IsUnread a e → certificate_in octets ≡ Ok b → IsUnread b f → e ≡ f
+  same_unread : (octets a b : List ℕ) (e f : DerError) → contents_in octets ≡ Ok a → IsUnread a e → contents_in octets ≡ Ok b → IsUnread b f → e ≡ f
   same_unread octets a b e f named unread named' unread' =
       let same : a ≡ b = cc (named, named') in
       one_unread b e f (subst (λ c. IsUnread c e) same unread) unread'

@@ -4,7 +4,7 @@ use Rattle.std.specs.Prelude.{replicate}
 use Rattle.der_core.specs.DerElement.{DerElement, Primitive, Constructed, listed}
 use Rattle.der_core.specs.Encoding.{IsPaddedEncoding}
 use Rattle.der_core.specs.Facts.Fronts.{fronts}
-use Rattle.wincert_core.specs.Refusal.{certificate_in}
+use Rattle.wincert_core.specs.Refusal.{contents_in}
 use Rattle.authenticode_core.specs.PlainForm.{TbsParts, CertificateParts, SignerParts, SignatureParts, IsPlainForm, signed_content}
 
 pub one_element : (octets : List ℕ) (a b : DerElement) → IsPaddedEncoding octets a → IsPaddedEncoding octets b → a ≡ b
@@ -61,13 +61,13 @@ pub signed_content-injective : (p q : SignatureParts) → signed_content p ≡ s
 signed_content-injective p q e = ap parts_at e
 
 -- the element that was read is that of the parts
-pub element_of_form : {octets certificate : List ℕ} {element : DerElement} {p : SignatureParts} → certificate_in octets ≡ Ok certificate → IsPaddedEncoding certificate element → IsPlainForm octets p → element ≡ signed_content p
+pub element_of_form : {octets certificate : List ℕ} {element : DerElement} {p : SignatureParts} → contents_in octets ≡ Ok certificate → IsPaddedEncoding certificate element → IsPlainForm octets p → element ≡ signed_content p
 element_of_form {certificate = certificate} {element = element} {p = p} named padded form =
     let same : form.certificate ≡ certificate = cc (named, form.named) in
     one_element certificate element (signed_content p) padded (subst (λ octets. IsPaddedEncoding octets (signed_content p)) same form.spelled)
 
 -- so the parts are those that were read
-pub parts_of_form : {octets certificate : List ℕ} {element : DerElement} {p q : SignatureParts} → certificate_in octets ≡ Ok certificate → IsPaddedEncoding certificate element → element ≡ signed_content q → IsPlainForm octets p → p ≡ q
+pub parts_of_form : {octets certificate : List ℕ} {element : DerElement} {p q : SignatureParts} → contents_in octets ≡ Ok certificate → IsPaddedEncoding certificate element → element ≡ signed_content q → IsPlainForm octets p → p ≡ q
 parts_of_form {p = p} {q = q} named padded read form =
     signed_content-injective p q (sym (element_of_form named padded form) ∙ read)
 

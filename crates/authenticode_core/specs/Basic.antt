@@ -11,7 +11,7 @@ use Rattle.der_core.specs.Fault.{IsFirstFault}
 use Rattle.der_core.specs.declared.fault.DerFault.TheVariants.{Trailing}
 use Rattle.der_core.specs.declared.error.DerError.{DerError}
 use Rattle.der_core.specs.declared.error.DerError.TheVariants as der
-use Rattle.wincert_core.specs.Refusal.{certificate_in}
+use Rattle.wincert_core.specs.Refusal.{contents_in}
 use Rattle.authenticode_core.specs.PlainForm.{SignatureParts, IsPlainForm, signed_message}
 use Rattle.authenticode_core.specs.declared.accepted.Accepted.{Accepted}
 use Rattle.authenticode_core.specs.declared.accepted.Excuse.TheVariants as excuses
@@ -36,7 +36,7 @@ abbrev pub IsPadding : List ℕ → Type 0
 IsPadding octets = (zeros : ℕ) × (zeros ≤ 7) × (octets ≡ replicate zeros 0)
 
 -- The first element takes so many octets, and what follows it is no padding.
-pub record HasTrailing (octets : List ℕ) (place : ℕ) : Type 0 where
+pub record HasMoreThanPadding (octets : List ℕ) (place : ℕ) : Type 0 where
   pub element : DerElement
   pub first : IsFirst octets element place
   pub unpadded : IsPadding (drop place octets) → ⊥
@@ -44,7 +44,7 @@ pub record HasTrailing (octets : List ℕ) (place : ℕ) : Type 0 where
 -- Why the octets of a certificate are no element with at most seven zeros after it: the first fault of an element, or other octets after it.
 abbrev pub IsUnread : List ℕ → DerError → Type 0
 IsUnread certificate (der.Malformed m) =
-    IsFirstFault certificate m.at m.fault ⊎ ((m.fault ≡ Trailing) × HasTrailing certificate m.at)
+    IsFirstFault certificate m.at m.fault ⊎ ((m.fault ≡ Trailing) × HasMoreThanPadding certificate m.at)
 IsUnread certificate der.Shape = ⊥
 IsUnread certificate der.TooDeep = ⊥
 IsUnread certificate der.TooLong = ⊥
@@ -65,11 +65,11 @@ IsJudged judge p file_hash (Err Memory) = Unit {0}
 
 -- Answers for parts, or one of the refusals before there are any, in this order: of the header, of the element, of the form.
 abbrev pub IsBasicAnswer : Judge → List ℕ → List ℕ → Result Accepted CheckError → Type 0
-IsBasicAnswer judge octets file_hash (Err (Win e)) = certificate_in octets ≡ Err e
+IsBasicAnswer judge octets file_hash (Err (Win e)) = contents_in octets ≡ Err e
 IsBasicAnswer judge octets file_hash (Err (Unread e)) =
-    (certificate : List ℕ) × (certificate_in octets ≡ Ok certificate) × IsUnread certificate e
+    (certificate : List ℕ) × (contents_in octets ≡ Ok certificate) × IsUnread certificate e
 IsBasicAnswer judge octets file_hash (Err NotThisForm) =
-    (certificate : List ℕ) × (element : DerElement) × (certificate_in octets ≡ Ok certificate)
+    (certificate : List ℕ) × (element : DerElement) × (contents_in octets ≡ Ok certificate)
     × IsPaddedEncoding certificate element × ((p : SignatureParts) → IsPlainForm octets p → ⊥)
 IsBasicAnswer judge octets file_hash (Err Memory) = Unit {0}
 IsBasicAnswer judge octets file_hash (Err (Authenticode e)) =
@@ -79,7 +79,7 @@ IsBasicAnswer judge octets file_hash (Ok accepted) =
 
 -- Why the octets begin with no WIN_CERTIFICATE.
 abbrev pub RefusesHeader : List ℕ → CheckError → Type 0
-RefusesHeader octets (Win e) = certificate_in octets ≡ Err e
+RefusesHeader octets (Win e) = contents_in octets ≡ Err e
 RefusesHeader octets (Unread e) = ⊥
 RefusesHeader octets NotThisForm = ⊥
 RefusesHeader octets (Authenticode e) = ⊥

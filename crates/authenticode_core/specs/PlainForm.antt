@@ -1,11 +1,12 @@
--- The plain form of signed data: one signer with an RSA key and SHA-256, one certificate, three signed attributes.
+-- The plain form of signed data: one signer with an RSA key and SHA-256, one certificate, three
+-- signed attributes.
 use Rattle.std.specs.Prelude.{◌≡◌, ◌≢◌, ℕ, ◌≤◌, List, [], ◌∷◌, codes, Ok}
 use Rattle.sha2.specs.Sha256.{sha256}
 use Rattle.der_core.specs.DerElement.{DerElement, Primitive, row}
 use Rattle.der_core.specs.Encoding.{encoding, encodings, IsDer, IsPaddedEncoding}
-use Rattle.wincert_core.specs.Refusal.{certificate_in}
+use Rattle.wincert_core.specs.Refusal.{contents_in}
 use Rattle.authenticode_core.specs.Asn1.{sequence, set, context, integer, bit_string, octet_string, null, object_identifier, utf8_string, utc_time}
-use Rattle.authenticode_core.specs.declared.identifiers.TheConstants.{RSA_ENCRYPTION, SHA256_WITH_RSA_ENCRYPTION, SIGNED_DATA, CONTENT_TYPE, MESSAGE_DIGEST, INDIRECT_DATA, OPUS_INFO, PE_IMAGE_DATA, SHA256, COMMON_NAME}
+use Rattle.authenticode_core.specs.Identifiers.{rsa_encryption, sha256_with_rsa_encryption, signed_data_type, content_type, message_digest_type, indirect_data_type, opus_info, pe_image_data, sha256_type, common_name}
 
 -- an AlgorithmIdentifier with NULL parameters (RFC 5280 4.1.1.2)
 abbrev pub algorithm : List ℕ → DerElement
@@ -13,7 +14,8 @@ algorithm oid = sequence (object_identifier oid ∷ null ∷ [])
 
 -- a Name of one common name (RFC 5280 4.1.2.4)
 abbrev pub name : List ℕ → DerElement
-name text = sequence (set (sequence (object_identifier COMMON_NAME ∷ utf8_string text ∷ []) ∷ []) ∷ [])
+name text =
+    sequence (set (sequence (object_identifier common_name ∷ utf8_string text ∷ []) ∷ []) ∷ [])
 
 -- a Validity between two times of two-digit years (RFC 5280 4.1.2.5)
 abbrev pub validity : List ℕ → List ℕ → DerElement
@@ -21,7 +23,7 @@ validity not_before not_after = sequence (utc_time not_before ∷ utc_time not_a
 
 -- the SubjectPublicKeyInfo of an RSA key (RFC 5280 4.1.2.7)
 abbrev pub public_key_info : List ℕ → DerElement
-public_key_info key = sequence (algorithm RSA_ENCRYPTION ∷ bit_string key ∷ [])
+public_key_info key = sequence (algorithm rsa_encryption ∷ bit_string key ∷ [])
 
 -- what varies in the part of a certificate that is signed
 pub record TbsParts : Type 0 where
@@ -41,54 +43,64 @@ abbrev pub tbs_fields : TbsParts → List DerElement
 tbs_fields c =
     version_3
     ∷ integer c.serial
-    ∷ algorithm SHA256_WITH_RSA_ENCRYPTION
+    ∷ algorithm sha256_with_rsa_encryption
     ∷ name c.issuer
     ∷ validity c.not_before c.not_after
     ∷ name c.subject
     ∷ public_key_info c.key
     ∷ []
 
+-- these fields in order
 abbrev pub tbs_certificate : TbsParts → DerElement
-tbs_certificate c = sequence (tbs_fields c)
+tbs_certificate c =
+    sequence (tbs_fields c)
 
+-- what varies in a certificate
 pub record CertificateParts : Type 0 where
   pub tbs : TbsParts
   pub signature : List ℕ
 
 -- a Certificate (RFC 5280 4.1.1)
 abbrev pub certificate : CertificateParts → DerElement
-certificate c = sequence (tbs_certificate c.tbs ∷ algorithm SHA256_WITH_RSA_ENCRYPTION ∷ bit_string c.signature ∷ [])
+certificate c = sequence (tbs_certificate c.tbs ∷ algorithm sha256_with_rsa_encryption ∷ bit_string c.signature ∷ [])
 
--- SpcIndirectDataContent: a portable executable, without page hashes, and the digest of the file (Authenticode)
+-- an SpcLink to a file without a name (Authenticode)
 abbrev pub empty_link : DerElement
-empty_link = context 0 (context 2 (Primitive 128 [] ∷ []) ∷ [])
+empty_link = context 0 (context 2 (Primitive 0x80 [] ∷ []) ∷ [])
 
+-- an SpcAttributeTypeAndOptionalValue: a portable executable, without page hashes (Authenticode)
 abbrev pub image_data : DerElement
-image_data = sequence (object_identifier PE_IMAGE_DATA ∷ sequence (bit_string [] ∷ empty_link ∷ []) ∷ [])
+image_data =
+    sequence (object_identifier pe_image_data ∷ sequence (bit_string [] ∷ empty_link ∷ []) ∷ [])
 
+-- a DigestInfo of SHA-256 (Authenticode, RFC 2315 9.4)
 abbrev pub digest_info : List ℕ → DerElement
-digest_info file_hash = sequence (algorithm SHA256 ∷ octet_string file_hash ∷ [])
+digest_info file_hash = sequence (algorithm sha256_type ∷ octet_string file_hash ∷ [])
 
+-- an SpcIndirectDataContent: what the file is, and its digest (Authenticode)
 abbrev pub indirect_data : List ℕ → DerElement
 indirect_data file_hash = sequence (image_data ∷ digest_info file_hash ∷ [])
 
 -- a ContentInfo of indirect data (RFC 2315 7)
 abbrev pub content_info : List ℕ → DerElement
-content_info file_hash = sequence (object_identifier INDIRECT_DATA ∷ context 0 (indirect_data file_hash ∷ []) ∷ [])
+content_info file_hash =
+    sequence (object_identifier indirect_data_type ∷ context 0 (indirect_data file_hash ∷ []) ∷ [])
 
 -- an Attribute of one value (RFC 2986 4.1)
 abbrev pub attribute : List ℕ → DerElement → DerElement
 attribute oid value = sequence (object_identifier oid ∷ set (value ∷ []) ∷ [])
 
--- the type of the content, no program's name, and the digest of the content (RFC 2985 5.3, Authenticode)
+-- an SpcSpOpusInfo without a program's name, and with an address of no octets (Authenticode)
 abbrev pub no_program_name : DerElement
-no_program_name = sequence (context 1 (Primitive 128 [] ∷ []) ∷ [])
+no_program_name = sequence (context 1 (Primitive 0x80 [] ∷ []) ∷ [])
 
+-- the signed attributes: the type of the content, the publisher's information, and the digest of
+-- the content (RFC 2985 5.3, Authenticode)
 abbrev pub attributes : List ℕ → List DerElement
 attributes message_digest =
-    attribute CONTENT_TYPE (object_identifier INDIRECT_DATA)
-    ∷ attribute OPUS_INFO no_program_name
-    ∷ attribute MESSAGE_DIGEST (octet_string message_digest)
+    attribute content_type (object_identifier indirect_data_type)
+    ∷ attribute opus_info no_program_name
+    ∷ attribute message_digest_type (octet_string message_digest)
     ∷ []
 
 -- what varies in the signer
@@ -107,12 +119,13 @@ abbrev pub signer_fields : SignerParts → List DerElement
 signer_fields s =
     integer (1 ∷ [])
     ∷ issuer_and_serial_number s.issuer s.serial
-    ∷ algorithm SHA256
+    ∷ algorithm sha256_type
     ∷ context 0 (attributes s.message_digest)
-    ∷ algorithm RSA_ENCRYPTION
+    ∷ algorithm rsa_encryption
     ∷ octet_string s.signature
     ∷ []
 
+-- these fields in order
 abbrev pub signer_info : SignerParts → DerElement
 signer_info s = sequence (signer_fields s)
 
@@ -122,26 +135,30 @@ pub record SignatureParts : Type 0 where
   pub file_hash : List ℕ
   pub signer : SignerParts
 
--- a SignedData of version 1, with one certificate, an empty list of revocation lists and one signer (RFC 2315 9.1)
+-- a SignedData of version 1, with one certificate, an empty list of revocation lists and one signer
+-- (RFC 2315 9.1)
 abbrev pub signed_data_fields : SignatureParts → List DerElement
 signed_data_fields p =
     integer (1 ∷ [])
-    ∷ set (algorithm SHA256 ∷ [])
+    ∷ set (algorithm sha256_type ∷ [])
     ∷ content_info p.file_hash
     ∷ context 0 (certificate p.certificate ∷ [])
     ∷ context 1 []
     ∷ set (signer_info p.signer ∷ [])
     ∷ []
 
+-- these fields in order
 abbrev pub signed_data : SignatureParts → DerElement
 signed_data p = sequence (signed_data_fields p)
 
 -- a ContentInfo of it (RFC 2315 7)
 abbrev pub signed_content : SignatureParts → DerElement
-signed_content p = sequence (object_identifier SIGNED_DATA ∷ context 0 (signed_data p ∷ []) ∷ [])
+signed_content p =
+    sequence (object_identifier signed_data_type ∷ context 0 (signed_data p ∷ []) ∷ [])
 
+-- `0` to `9`
 abbrev pub IsDigit : ℕ → Type 0
-IsDigit c = (48 ≤ c) × (c ≤ 57)
+IsDigit c = (0x30 ≤ c) × (c ≤ 0x39)
 
 -- the first moment of a year: YY0101000000Z
 pub record IsNewYear (time : List ℕ) : Type 0 where
@@ -184,10 +201,11 @@ pub record IsPlain (p : SignatureParts) : Type 0 where
   pub key : IsRsaKey p.certificate.tbs.key
   pub bound : p.signer.message_digest ≡ sha256 (bound_contents p.file_hash)
 
--- The octets begin with a WIN_CERTIFICATE whose certificate is signed data of the plain form, with these parts.
+-- The octets begin with a WIN_CERTIFICATE whose certificate is signed data of the plain form, with
+-- these parts.
 pub record IsPlainForm (octets : List ℕ) (p : SignatureParts) : Type 0 where
   pub certificate : List ℕ
-  pub named : certificate_in octets ≡ Ok certificate
+  pub named : contents_in octets ≡ Ok certificate
   pub spelled : IsPaddedEncoding certificate (signed_content p)
   pub plain : IsPlain p
 

@@ -5,6 +5,7 @@ use Rattle.authenticode_core.specs.declared.parts.PlainCertificate.{PlainCertifi
 use Rattle.authenticode_core.specs.declared.parts.SignerInfo.{SignerInfo}
 use Rattle.authenticode_core.specs.declared.parts.PlainSignature.{PlainSignature}
 
+-- of the part of a certificate that is signed
 abbrev pub tbs_parts : TbsCertificate → TbsParts
 tbs_parts c = record {
   serial = c.serial.now;
@@ -15,9 +16,11 @@ tbs_parts c = record {
   key = c.key.now;
 }
 
+-- of a certificate
 abbrev pub certificate_parts : PlainCertificate → CertificateParts
 certificate_parts c = record { tbs = tbs_parts c.tbs; signature = c.signature.now }
 
+-- of a signer
 abbrev pub signer_parts : SignerInfo → SignerParts
 signer_parts s = record {
   issuer = s.issuer.now;
@@ -26,6 +29,7 @@ signer_parts s = record {
   signature = s.signature.now;
 }
 
+-- of the whole
 abbrev pub signature_parts : PlainSignature → SignatureParts
 signature_parts p = record {
   certificate = certificate_parts p.certificate;

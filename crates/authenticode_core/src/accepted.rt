@@ -29,6 +29,7 @@ impl Places {
         }
     }
 
+    /// Appends a place.
     pub fn push(&mut self, item: usize) -> Result<(), AllocError>
         ensures ok { OnOk result (self.new ≡ self.old ++ item ∷ []) }
         ensures err { OnErr result (self.new ≡ self.old) }
@@ -37,6 +38,7 @@ impl Places {
         Ok(())
     }
 
+    /// The places in their order.
     pub fn as_slice(&self) -> &[usize]
         ensures { result.now ≡ self.now }
     {
@@ -71,6 +73,7 @@ pub struct Accepted {
     pub signer: Option<usize>,
     /// The places of the certificates that vouch for the signer's.
     pub path: Places,
+    /// Why an expired certificate of the signer is excused.
     pub excuse: Excuse,
 }
 

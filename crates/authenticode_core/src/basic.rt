@@ -1,8 +1,9 @@
 //! Basic validation: the form of the signed data, the digest of the file, the signature.
 
-ghost use Rattle.std.specs.Prelude.{◌≡◌, ◌↔◌, Ok, Result, IsTrue, IfOk, MatchResult};
+ghost use Rattle.std.specs.Prelude.{◌≡◌, ◌↔◌, Ok, Err, Result, IsTrue, IfOk, MatchResult};
 ghost use Rattle.der_core.specs.Encoding.{IsDer, IsPaddedEncoding};
-ghost use Rattle.wincert_core.specs.Refusal.{certificate_in};
+ghost use Rattle.wincert_core.specs.Refusal.{contents_in};
+ghost use Rattle.wincert_core.specs.declared.error.WinCertificateError.{WinCertificateError};
 ghost use Rattle.authenticode_core.specs.PlainForm.{signed_content};
 ghost use Rattle.authenticode_core.specs.Views.{signature_parts};
 ghost use Rattle.authenticode_core.specs.Basic.{IsPadding, IsSigned, IsJudged, IsBasicAnswer, IsSameUnlessMemory, RefusesHeader, RefusesValue, unread_of};
@@ -32,8 +33,12 @@ pub fn check_basic<S: Scheme>(
     scheme: &S,
 ) -> Result<Accepted, CheckError>
     ensures answer { IsBasicAnswer (S.judge scheme.now) bytes.now file_hash.now result }
+    // A refusal of the header comes before memory is asked for.
+    ensures header { (e : WinCertificateError)
+        → contents_in bytes.now ≡ Err e → result ≡ Err (CheckError.Win e) }
     // No other answer has its cause, want of memory aside.
-    ensures only { (other : Result Accepted CheckError) → IsBasicAnswer (S.judge scheme.now) bytes.now file_hash.now other
+    ensures only { (other : Result Accepted CheckError)
+        → IsBasicAnswer (S.judge scheme.now) bytes.now file_hash.now other
         → IsSameUnlessMemory result other }
 {
     one_first_fault();
@@ -46,9 +51,11 @@ fn answer<S: Scheme>(
     file_hash: &[u8],
     scheme: &S,
 ) -> Result<Accepted, CheckError>
-    ensures { IsBasicAnswer (S.judge scheme.now) bytes.now file_hash.now result }
+    ensures answer { IsBasicAnswer (S.judge scheme.now) bytes.now file_hash.now result }
+    ensures header { (e : WinCertificateError)
+        → contents_in bytes.now ≡ Err e → result ≡ Err (CheckError.Win e) }
 {
-    let certificate = certificate_in(bytes)?;
+    let certificate = contents_named(bytes)?;
     let tree = value_of(alloc, certificate)?;
     let Some(signature) = plain_signature_of(&tree) else {
         return Err(CheckError::NotThisForm);
@@ -60,8 +67,10 @@ fn answer<S: Scheme>(
 }
 
 /// The certificate that the header names.
-fn certificate_in(bytes: &[u8]) -> Result<&[u8], CheckError>
-    ensures { MatchResult result (λ certificate. certificate_in bytes.now ≡ Ok certificate.now) (RefusesHeader bytes.now) }
+fn contents_named(bytes: &[u8]) -> Result<&[u8], CheckError>
+    ensures { MatchResult result
+        (λ certificate. contents_in bytes.now ≡ Ok certificate.now)
+        (RefusesHeader bytes.now) }
 {
     match certificate_of(bytes) {
         Ok(certificate) => Ok(certificate),
@@ -71,7 +80,9 @@ fn certificate_in(bytes: &[u8]) -> Result<&[u8], CheckError>
 
 /// The element that octets are, with at most seven zeros after it.
 fn value_of(alloc: Global, octets: &[u8]) -> Result<Tree, CheckError>
-    ensures { MatchResult result (λ tree. IsPaddedEncoding octets.now tree) (RefusesValue octets.now) }
+    ensures { MatchResult result
+        (λ tree. IsPaddedEncoding octets.now tree)
+        (RefusesValue octets.now) }
 {
     match read_first(alloc, octets) {
         Ok((tree, taken)) if is_padding(&octets[taken..]) => Ok(tree),
@@ -82,7 +93,8 @@ fn value_of(alloc: Global, octets: &[u8]) -> Result<Tree, CheckError>
 
 /// The refusal of octets after the element that are no padding.
 fn trailing(at: usize) -> CheckError
-    ensures { result ≡ CheckError.Unread (DerError.Malformed (record { at = at; fault = DerFault.Trailing })) }
+    ensures { result ≡ CheckError.Unread
+        (DerError.Malformed (record { at = at; fault = DerFault.Trailing })) }
 {
     CheckError::Unread(DerError::Malformed(Malformed {
         at,
@@ -129,7 +141,8 @@ fn judge<S: Scheme>(
 }
 
 fn hash_mismatch(alloc: Global, actual: &[u8], expected: &[u8]) -> Result<CheckError, AllocError>
-    ensures { IfOk result (λ e. e ≡ CheckError.Authenticode (AuthenticodeError.FileHashMismatch actual.now expected.now)) }
+    ensures { IfOk result (λ e. e ≡ CheckError.Authenticode
+        (AuthenticodeError.FileHashMismatch actual.now expected.now)) }
 {
     Ok(CheckError::Authenticode(AuthenticodeError::FileHashMismatch {
         actual: Octets::from_slice(alloc, actual)?,
@@ -143,7 +156,8 @@ fn is_signed<S: Scheme>(
     scheme: &S,
 ) -> Result<bool, AllocError>
     requires { IsDer (signed_content (signature_parts signature.now)) }
-    ensures { IfOk result (λ holds. IsTrue holds ↔ IsSigned (S.judge scheme.now) (signature_parts signature.now)) }
+    ensures { IfOk result (λ holds.
+        IsTrue holds ↔ IsSigned (S.judge scheme.now) (signature_parts signature.now)) }
 {
     let message = signed_message_of(alloc, &signature.signer)?;
     let key = signature.certificate.tbs.key;

@@ -6,12 +6,12 @@ mod basic;
 mod element;
 mod error;
 mod identifiers;
+mod laws;
 mod parts;
 mod plain_form;
 mod plain_rules;
-#[cfg(test)]
-mod tests;
 
 pub use accepted::{Accepted, Excuse, Places};
 pub use basic::check_basic;
 pub use error::{AuthenticodeError, CheckError};
+pub use laws::one_signed_data;

@@ -6,6 +6,7 @@
 ghost use Rattle.std.specs.Prelude.{◌≡◌, ◌↔◌, ◌∷◌, [], IsTrue, List, ℕ};
 ghost use Rattle.authenticode_core.specs.Reads.{Reads};
 ghost use Rattle.authenticode_core.specs.Asn1.{bit_string, object_identifier, set, context};
+ghost use Rattle.authenticode_core.specs.Identifiers.{content_type, indirect_data_type, opus_info, sha256_type};
 ghost use Rattle.authenticode_core.specs.PlainForm.{algorithm, name, validity, public_key_info, version_3, tbs_certificate, certificate, empty_link, image_data, digest_info, indirect_data, content_info, attribute, attributes, no_program_name, issuer_and_serial_number, signer_info, signed_data, signed_content};
 ghost use Rattle.authenticode_core.specs.Views.{tbs_parts, certificate_parts, signer_parts, signature_parts};
 
@@ -110,7 +111,7 @@ fn tbs_certificate_of(tree: &Tree) -> Option<TbsCertificate<'_>>
     })
 }
 
-fn certificate_of(tree: &Tree) -> Option<PlainCertificate<'_>>
+fn plain_certificate_of(tree: &Tree) -> Option<PlainCertificate<'_>>
     ensures { Reads certificate_parts certificate tree.now result }
 {
     let [tbs, algorithm, signature] = kids_of::<3>(tree, SEQUENCE)?;
@@ -198,7 +199,7 @@ fn attribute_value<'a>(tree: &'a Tree, kind: &[u8]) -> Option<&'a Tree>
 }
 
 fn is_content_type(tree: &Tree) -> bool
-    ensures { IsTrue result ↔ (tree.now ≡ attribute CONTENT_TYPE (object_identifier INDIRECT_DATA)) }
+    ensures { IsTrue result ↔ (tree.now ≡ attribute content_type (object_identifier indirect_data_type)) }
 {
     match attribute_value(tree, &CONTENT_TYPE) {
         Some(value) => is_leaf(value, OBJECT_IDENTIFIER, &INDIRECT_DATA),
@@ -208,7 +209,7 @@ fn is_content_type(tree: &Tree) -> bool
 
 /// Whether the element is the attribute of a publisher's information without a program's name.
 fn is_opus_info(tree: &Tree) -> bool
-    ensures { IsTrue result ↔ (tree.now ≡ attribute OPUS_INFO no_program_name) }
+    ensures { IsTrue result ↔ (tree.now ≡ attribute opus_info no_program_name) }
 {
     let Some(value) = attribute_value(tree, &OPUS_INFO) else {
         return false;
@@ -274,7 +275,7 @@ fn signer_info_of(tree: &Tree) -> Option<SignerInfo<'_>>
 }
 
 fn is_digest_algorithms(tree: &Tree) -> bool
-    ensures { IsTrue result ↔ (tree.now ≡ set (algorithm SHA256 ∷ [])) }
+    ensures { IsTrue result ↔ (tree.now ≡ set (algorithm sha256_type ∷ [])) }
 {
     match kids_of::<1>(tree, SET) {
         Some([only]) => is_algorithm(only, &SHA256),
@@ -300,7 +301,7 @@ fn signed_data_of(tree: &Tree) -> Option<PlainSignature<'_>>
     let [certificate] = kids_of::<1>(certificates, CONTEXT_0)?;
     let [signer] = kids_of::<1>(signers, SET)?;
     let content = content_info_of(content)?;
-    let certificate = certificate_of(certificate)?;
+    let certificate = plain_certificate_of(certificate)?;
     let signer = signer_info_of(signer)?;
     Some(PlainSignature {
         content,

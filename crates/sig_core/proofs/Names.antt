@@ -1,60 +1,32 @@
 -- An algorithm and its name give each other, and a name ends at the first space.
-use Rattle.std.proofs.Common.{◌≡◌, ℕ, ◌<◌, ◌==◌, Bool, List, [], ◌∷◌, ◌++◌, length, take, get_or, refl, sym, ◌∙◌, ap, subst, arith, lit<, length-append, Some}
-use Rattle.std.specs.Prelude.{Option, find, position}
+use Rattle.std.proofs.Common.{◌≡◌, ℕ, ◌<◌, ◌==◌, Bool, List, ◌∷◌, ◌++◌, length, take, refl, sym, ◌∙◌, ap, subst, arith, lit<, length-append, Some}
+use Rattle.std.specs.Prelude.{Option, Contains, find, position}
 use Rattle.std.specs.List.{position_or_len}
 use Rattle.std.specs.Str.{bytes_eq}
 use Rattle.std.proofs.Math.Seq.{take-append_seam}
 use Rattle.std.proofs.lemmas.List.{append_cancel_left}
 use Rattle.sig_core.specs.declared.algorithm.SigAlg.{SigAlg}
 use Rattle.sig_core.specs.declared.algorithm.SigAlg.TheVariants.{RsaMd5, RsaSha1, RsaSha224, RsaSha256, RsaSha384, RsaSha512, P256Sha256, P384Sha384, P521Sha512, Ed25519}
+use Rattle.sig_core.specs.declared.algorithm.TheConstants.SigAlg.{ALL}
 use Rattle.sig_core.specs.Algorithm.{name_of}
 use Rattle.sig_core.specs.VerdictTable.{space}
 
--- the ten algorithms in their order
-abbrev pub algorithms : List SigAlg
-algorithms =
-    RsaMd5 ∷ RsaSha1 ∷ RsaSha224 ∷ RsaSha256 ∷ RsaSha384 ∷ RsaSha512 ∷ P256Sha256 ∷ P384Sha384 ∷ P521Sha512 ∷ Ed25519 ∷ []
-
--- where an algorithm stands among them
-abbrev pub place : SigAlg → ℕ
-place RsaMd5 = 0
-place RsaSha1 = 1
-place RsaSha224 = 2
-place RsaSha256 = 3
-place RsaSha384 = 4
-place RsaSha512 = 5
-place P256Sha256 = 6
-place P384Sha384 = 7
-place P521Sha512 = 8
-place Ed25519 = 9
-
-pub place-below : (alg : SigAlg) → place alg < 10
-place-below RsaMd5 = lit< tt
-place-below RsaSha1 = lit< tt
-place-below RsaSha224 = lit< tt
-place-below RsaSha256 = lit< tt
-place-below RsaSha384 = lit< tt
-place-below RsaSha512 = lit< tt
-place-below P256Sha256 = lit< tt
-place-below P384Sha384 = lit< tt
-place-below P521Sha512 = lit< tt
-place-below Ed25519 = lit< tt
-
-pub get_or-place : (alg d : SigAlg) → get_or algorithms (place alg) d ≡ alg
-get_or-place RsaMd5 d = refl
-get_or-place RsaSha1 d = refl
-get_or-place RsaSha224 d = refl
-get_or-place RsaSha256 d = refl
-get_or-place RsaSha384 d = refl
-get_or-place RsaSha512 d = refl
-get_or-place P256Sha256 d = refl
-get_or-place P384Sha384 d = refl
-get_or-place P521Sha512 d = refl
-get_or-place Ed25519 d = refl
+-- the list of the algorithms has each
+pub has_each : (alg : SigAlg) → Contains ALL alg
+has_each RsaMd5 = (0, lit< tt, refl)
+has_each RsaSha1 = (1, lit< tt, refl)
+has_each RsaSha224 = (2, lit< tt, refl)
+has_each RsaSha256 = (3, lit< tt, refl)
+has_each RsaSha384 = (4, lit< tt, refl)
+has_each RsaSha512 = (5, lit< tt, refl)
+has_each P256Sha256 = (6, lit< tt, refl)
+has_each P384Sha384 = (7, lit< tt, refl)
+has_each P521Sha512 = (8, lit< tt, refl)
+has_each Ed25519 = (9, lit< tt, refl)
 
 -- the algorithm of a name
 abbrev pub named : List ℕ → Option SigAlg
-named name = find (λ alg. bytes_eq (name_of alg) name) algorithms
+named name = find (λ alg. bytes_eq (name_of alg) name) ALL
 
 pub named-name_of : (alg : SigAlg) → named (name_of alg) ≡ Some alg
 named-name_of RsaMd5 = refl

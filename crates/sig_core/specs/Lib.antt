@@ -1,3 +1,4 @@
 pub mod Digest
 pub mod Algorithm
 pub mod VerdictTable
+pub mod ErrorText

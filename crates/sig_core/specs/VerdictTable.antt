@@ -20,17 +20,20 @@ IsDigest digest = (length digest ≡ 32) × IsBytes digest
 abbrev pub IsRow : VerdictRow → Type 0
 IsRow row = IsDigest row.key × IsDigest row.msg × IsDigest row.sig
 
+-- what stands between the words of a line
 abbrev pub space : ℕ
-space = 32
+space = 0x20
 
+-- what ends a line
 abbrev pub newline : ℕ
-newline = 10
+newline = 0x0A
 
--- the line that spells a row: the name, the digests in lower-case hexadecimal digits, one space between
+-- the line that spells a row: the name, and the digests in lower-case hexadecimal digits, with one
+-- space between
 abbrev pub line_of : VerdictRow → List ℕ
 line_of row =
-    name_of row.alg ++ space ∷ encode_lower row.key ++ space ∷ encode_lower row.msg ++ space ∷ encode_lower row.sig
-    ++ newline ∷ []
+    name_of row.alg ++ space ∷ encode_lower row.key ++ space ∷ encode_lower row.msg
+    ++ space ∷ encode_lower row.sig ++ newline ∷ []
 
 -- the lines of rows in order
 abbrev pub lines_of : List VerdictRow → List ℕ
@@ -62,7 +65,8 @@ row_of alg key msg sig = record { alg = alg; key = sha256 key; msg = sha256 msg;
 -- whether two rows have the same algorithm and the same digests
 abbrev pub is_same_row : VerdictRow → VerdictRow → Bool
 is_same_row a b =
-    bytes_eq (name_of a.alg) (name_of b.alg) && bytes_eq a.key b.key && bytes_eq a.msg b.msg && bytes_eq a.sig b.sig
+    bytes_eq (name_of a.alg) (name_of b.alg)
+    && bytes_eq a.key b.key && bytes_eq a.msg b.msg && bytes_eq a.sig b.sig
 
 -- the verdict of a table: it accepts what a row names, and rejects all else
 abbrev pub verdict_of : List VerdictRow → SigAlg → List ℕ → List ℕ → List ℕ → Verdict

@@ -31,8 +31,8 @@ pub enum SigAlg {
 }
 
 impl SigAlg {
-    /// Every algorithm.
-    const ALL: [SigAlg; 10] = [
+    /// Every algorithm, in the order of the enum.
+    pub const ALL: [SigAlg; 10] = [
         SigAlg::RsaMd5,
         SigAlg::RsaSha1,
         SigAlg::RsaSha224,
@@ -45,8 +45,8 @@ impl SigAlg {
         SigAlg::Ed25519,
     ];
 
-    /// The algorithm of this name.
-    pub(crate) fn from_name(name: &[u8]) -> Option<SigAlg>
+    /// The algorithm of this name, as `name` gives it, if one has it.
+    pub fn from_name(name: &[u8]) -> Option<SigAlg>
         ensures named { (alg : SigAlg) → name_of alg ≡ name.now → result ≡ Some alg }
         ensures name { IfSome result (λ alg. name_of alg ≡ name.now) }
     {

@@ -8,7 +8,7 @@ use sha1::Sha1;
 use sha2::{Digest as _, Sha224, Sha256, Sha384, Sha512};
 use std::alloc::{AllocError, Global};
 
-/// The digest algorithms.
+/// The digest algorithms: MD5 of RFC 1321, SHA-1 and SHA-2 of FIPS 180-4.
 #[derive(Clone, Copy, PartialEq, Eq, Hash, Debug)]
 pub enum HashAlgorithm {
     MD5,
@@ -20,6 +20,16 @@ pub enum HashAlgorithm {
 }
 
 impl HashAlgorithm {
+    /// Every digest algorithm, in the order of the enum.
+    pub const ALL: [HashAlgorithm; 6] = [
+        HashAlgorithm::MD5,
+        HashAlgorithm::SHA1,
+        HashAlgorithm::SHA2_224,
+        HashAlgorithm::SHA2_256,
+        HashAlgorithm::SHA2_384,
+        HashAlgorithm::SHA2_512,
+    ];
+
     /// The digest of the message.
     pub fn digest(self, alloc: Global, msg: &[u8]) -> Result<Vec<u8>, AllocError>
         ensures digest { IfOk result (λ digest. digest.items ≡ digest_of self msg.now) }

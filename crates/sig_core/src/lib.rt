@@ -6,13 +6,13 @@
 
 mod algorithm;
 mod hash;
+mod laws;
 mod scheme;
-#[cfg(test)]
-mod tests;
 mod verdict_row;
 mod verdict_table;
 
 pub use algorithm::{SchemeKind, SigAlg};
 pub use hash::HashAlgorithm;
+pub use laws::{lists_have_each_algorithm, one_table};
 pub use scheme::{Scheme, SchemeError, Verdict};
 pub use verdict_table::{TableError, VerdictTable};

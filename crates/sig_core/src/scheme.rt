@@ -1,11 +1,13 @@
 //! What a signature scheme is: a verdict on a signature, and what its calls owe.
 
-ghost use Rattle.std.specs.Prelude.{◌≡◌, false, IsTrue, IfOk, OnOk, IsErrOf};
+ghost use Rattle.std.specs.Prelude.{◌≡◌, false, Some, IsTrue, IfOk, OnOk, IsErrOf};
 ghost use Rattle.sig_core.specs.Algorithm.{kind_of};
+ghost use Rattle.sig_core.specs.ErrorText.{scheme_error_text};
 ghost use Rattle.sig_core.specs.declared.scheme.SchemeError.TheVariants.{Memory};
 
 use crate::algorithm::{SchemeKind, SigAlg};
 use std::alloc::{AllocError, AllocFailed, Global};
+use std::fmt;
 use thiserror::Error;
 
 /// What a scheme says of a signature.
@@ -23,10 +25,20 @@ pub enum Verdict {
 #[derive(Clone, Copy, PartialEq, Eq, Debug, Error)]
 pub enum SchemeError {
     /// The scheme does not sign with this secret, or derives no key from it.
-    #[error("the signature scheme refused")]
     Refused,
-    #[error("out of memory")]
+    /// No memory was left.
     Memory,
+}
+
+impl fmt::Display for SchemeError {
+    ghost output = { λ error. Some (scheme_error_text error) };
+
+    fn fmt<W: fmt::Write>(&self, f: &mut fmt::Formatter<W>) -> fmt::Result {
+        match self {
+            SchemeError::Refused => write!(f, "the signature scheme refused"),
+            SchemeError::Memory => write!(f, "out of memory"),
+        }
+    }
 }
 
 impl From<AllocError> for SchemeError {

@@ -1,7 +1,11 @@
 //! A signature scheme that is a list of what it accepts.
 
-ghost use Rattle.std.specs.Prelude.{◌≡◌, ◌⊎◌, ◌↔◌, ℕ, List, IfOk, IfErr, IsTrue, MatchResult, Contains};
-ghost use Rattle.sig_core.specs.VerdictTable.{IsTable, IsFirstBadLine, IsCause, row_of, verdict_of};
+ghost use Rattle.std.specs.Prelude.{◌≡◌, ◌⊎◌, ◌↔◌, ℕ, List, [], length, Err, Some, IfOk, IfErr, IsOk, IsTrue, MatchResult, Contains};
+ghost use Rattle.std.specs.Cmp.Lexicographic.{pointwise, lists_per, lists_equiv};
+ghost use Rattle.std.specs.Cmp.Rules.{comparing};
+ghost use Rattle.std.proofs.Common.{rules};
+ghost use Rattle.sig_core.specs.ErrorText.{table_error_text};
+ghost use Rattle.sig_core.specs.VerdictTable.{IsTable, IsFirstBadLine, IsCause, row_of, verdict_of, is_same_row};
 ghost use Rattle.sig_core.specs.declared.verdict_row.VerdictRow.{VerdictRow};
 ghost use Rattle.sig_core.specs.declared.verdict_table.TableError.TheVariants.{Memory};
 
@@ -10,6 +14,7 @@ use crate::scheme::{Scheme, SchemeError, Verdict};
 use crate::verdict_row::VerdictRow;
 use sha2::{Digest, Sha256};
 use std::alloc::{AllocError, AllocFailed, Global};
+use std::fmt;
 use std::marker::Model;
 use thiserror::Error;
 
@@ -17,10 +22,23 @@ use thiserror::Error;
 #[derive(Clone, Copy, PartialEq, Eq, Debug, Error)]
 pub enum TableError {
     /// The first line that spells no row, counted from 1.
-    #[error("line {number} of the verdict table is not a row")]
     BadLine { number: u64 },
-    #[error("out of memory")]
+    /// No memory was left.
     Memory,
+}
+
+impl fmt::Display for TableError {
+    ghost output = { λ error. Some (table_error_text error) };
+
+    fn fmt<W: fmt::Write>(&self, f: &mut fmt::Formatter<W>) -> fmt::Result {
+        match self {
+            TableError::BadLine { number } => write!(
+                f,
+                "line {number} of the verdict table is not a row"
+            ),
+            TableError::Memory => write!(f, "out of memory"),
+        }
+    }
 }
 
 impl From<AllocError> for TableError {
@@ -65,7 +83,8 @@ impl VerdictTable {
             → MatchResult result (λ table. table ≡ rows) (λ e. e ≡ TableError.Memory) }
         // A text with a bad line is refused at that line.
         ensures each_bad_line { (number : ℕ) → IsFirstBadLine bytes.now number
-            → MatchResult result (λ _. ⊥) (λ e. (e ≡ TableError.BadLine number) ⊎ (e ≡ TableError.Memory)) }
+            → MatchResult result (λ _. ⊥)
+            (λ e. (e ≡ TableError.BadLine number) ⊎ (e ≡ TableError.Memory)) }
     {
         Ok(VerdictTable {
             rows: rows_of(alloc, bytes)?,
@@ -81,12 +100,44 @@ impl VerdictTable {
         })
     }
 
+    /// How many rows the table has.
+    pub fn len(&self) -> usize
+        ensures { result ≡ length self.now }
+    {
+        self.rows.len()
+    }
+
+    /// Whether the table has no rows, so that it accepts nothing.
+    pub fn is_empty(&self) -> bool
+        ensures { IsTrue result ↔ (self.now ≡ []) }
+    {
+        self.rows.is_empty()
+    }
+
     // Whether a row of the table is this one.
     fn contains(&self, row: &VerdictRow) -> bool
         ensures { IsTrue result ↔ Contains self.now row.now }
     {
         self.rows.contains(row)
     }
+}
+
+/// Tables are equal where they have the same rows in the same order.
+impl PartialEq for VerdictTable {
+    ghost eq = { pointwise is_same_row };
+
+    ghost laws = { lists_per (Prim.search (comparing, rules)) };
+
+    fn eq(&self, other: &VerdictTable) -> bool
+        ensures value { result ≡ pointwise is_same_row self.now other.now }
+        ensures same { IsTrue result ↔ (self.now ≡ other.now) }
+    {
+        self.rows == other.rows
+    }
+}
+
+impl Eq for VerdictTable {
+    ghost laws = { lists_equiv (Prim.search (comparing, rules)) };
 }
 
 /// The rows whose lines are the text.
@@ -132,11 +183,15 @@ impl Scheme for VerdictTable {
         msg: &[u8],
         sig: &[u8],
     ) -> Result<Verdict, AllocError>
-        ensures verdict { IfOk result (λ verdict. verdict ≡ verdict_of self.now alg key.now msg.now sig.now) }
+        ensures verdict { IfOk result (λ verdict.
+            verdict ≡ verdict_of self.now alg key.now msg.now sig.now) }
         // Accepted exactly where a row has the algorithm and the three digests, else rejected.
         ensures accepted { IfOk result (λ verdict. (verdict ≡ Verdict.Accept)
             ↔ Contains self.now (row_of alg key.now msg.now sig.now)) }
-        ensures rejected { IfOk result (λ verdict. (verdict ≡ Verdict.Accept) ⊎ (verdict ≡ Verdict.Reject)) }
+        ensures rejected { IfOk result (λ verdict.
+            (verdict ≡ Verdict.Accept) ⊎ (verdict ≡ Verdict.Reject)) }
+        // No memory is asked for.
+        ensures never_memory { IsOk result }
     {
         let row = VerdictRow {
             alg,
@@ -157,7 +212,10 @@ impl Scheme for VerdictTable {
         _alg: SigAlg,
         _secret: &[u8],
         _msg: &[u8],
-    ) -> Result<Vec<u8>, SchemeError> {
+    ) -> Result<Vec<u8>, SchemeError>
+        // No memory is asked for.
+        ensures always { result ≡ Err SchemeError.Refused }
+    {
         // Rows name signatures, and make none.
         Err(SchemeError::Refused)
     }
@@ -167,7 +225,10 @@ impl Scheme for VerdictTable {
         _alloc: Global,
         _kind: SchemeKind,
         _secret: &[u8],
-    ) -> Result<Vec<u8>, SchemeError> {
+    ) -> Result<Vec<u8>, SchemeError>
+        // No memory is asked for.
+        ensures always { result ≡ Err SchemeError.Refused }
+    {
         // Nor do they know the keys of secrets.
         Err(SchemeError::Refused)
     }

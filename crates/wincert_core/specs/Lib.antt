@@ -1,3 +1,4 @@
 pub mod Kinds
 pub mod WinCert
 pub mod Refusal
+pub mod ErrorText

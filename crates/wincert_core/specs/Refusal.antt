@@ -1,5 +1,5 @@
 -- Which octets hold no WIN_CERTIFICATE, and which WIN_CERTIFICATE has no octets.
-use Rattle.std.specs.Prelude.{◌≡◌, ℕ, ◌^◌, nat_lt, ◌==◌, if◌then◌else◌, List, length, slice_range, Option, Some, None, Result, Ok, Err, is_none}
+use Rattle.std.specs.Prelude.{◌≡◌, ◌⊎◌, ℕ, ◌^◌, nat_lt, ◌==◌, if◌then◌else◌, List, length, slice_range, Option, Some, None, Result, Ok, Err, is_none, MatchResult}
 use Rattle.wincert_core.specs.declared.error.WinCertificateError.{WinCertificateError}
 use Rattle.wincert_core.specs.declared.error.WinCertificateError.TheVariants.{WrongRevisionValue, WrongCertificateType, WrongLength, CertificateDataIsEmpty, Io, TooLong, Memory}
 use Rattle.wincert_core.specs.declared.kinds.RevisionType.TheVariants.{WinCertificateRevision20}
@@ -18,13 +18,15 @@ first_refusal octets =
     else (if nat_lt (length octets) (length_field octets) then Some (Io (length_field octets) (length octets))
     else None)))))
 
+-- a value, where nothing refuses it
 abbrev pub unless_refused : {A : Type 0} → Option WinCertificateError → A → Result A WinCertificateError
 unless_refused None value = Ok value
 unless_refused (Some refusal) value = Err refusal
 
 -- the certificate that the header names, with its padding, or why there is none
-abbrev pub certificate_in : List ℕ → Result (List ℕ) WinCertificateError
-certificate_in octets = unless_refused (first_refusal octets) (slice_range octets 8 (length_field octets))
+abbrev pub contents_in : List ℕ → Result (List ℕ) WinCertificateError
+contents_in octets =
+    unless_refused (first_refusal octets) (slice_range octets 8 (length_field octets))
 
 -- A WIN_CERTIFICATE of the current revision, or why there is none.
 abbrev pub current : List ℕ → CertificateType → Result WinCert WinCertificateError
@@ -38,12 +40,8 @@ abbrev pub encoded : WinCert → Result (List ℕ) WinCertificateError
 encoded w =
     if nat_lt (stated_length (with_padding w).certificate) (2 ^ 32) then Ok (spelling (with_padding w)) else Err TooLong
 
--- The error is the one that is asked for, or memory ran out.
-abbrev pub Fails : {A : Type 0} → WinCertificateError → Result A WinCertificateError → Type 0
-Fails Memory asked = Unit {0}
-Fails error asked = asked ≡ Err error
-
 -- The result, seen by view, is the one that is asked for, unless memory ran out.
-abbrev pub Gives : {A B : Type 0} → (A → B) → Result A WinCertificateError → Result B WinCertificateError → Type 0
-Gives view (Ok x) asked = asked ≡ Ok (view x)
-Gives view (Err error) asked = Fails error asked
+abbrev pub Gives : {A B : Type 0}
+    → (A → B) → Result A WinCertificateError → Result B WinCertificateError → Type 0
+Gives view result asked =
+    MatchResult result (λ x. asked ≡ Ok (view x)) (λ e. (asked ≡ Err e) ⊎ (e ≡ Memory))

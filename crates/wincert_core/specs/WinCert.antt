@@ -1,4 +1,5 @@
--- A WIN_CERTIFICATE and its octets: the length, the revision and the type of a certificate, then the certificate (PE Format, "The Attribute Certificate Table").
+-- A WIN_CERTIFICATE and its octets: the length, the revision and the type of a certificate, then
+-- the certificate (PE Format, "The Attribute Certificate Table").
 use Rattle.std.specs.Prelude.{◌≡◌, ℕ, ◌+◌, ◌-◌, ◌<◌, ◌^◌, List, ◌∷◌, ◌++◌, length, replicate, slice_range}
 use Rattle.std.specs.Int.{w16, w32, to_le_bytes, from_le_bytes, next_multiple_of}
 use Rattle.wincert_core.specs.declared.kinds.RevisionType.{RevisionType}
@@ -26,7 +27,8 @@ header dw_length w_revision w_certificate_type =
 
 -- the header, and bCertificate
 abbrev pub spelling : WinCert → List ℕ
-spelling w = header (stated_length w.certificate) (revision_number w.revision) (type_number w.certificate_type) ++ w.certificate
+spelling w =
+    header (stated_length w.certificate) (revision_number w.revision) (type_number w.certificate_type) ++ w.certificate
 
 -- The octets begin with a WIN_CERTIFICATE; what comes later is not part of it.
 pub record BeginsWith (octets : List ℕ) (w : WinCert) : Type 0 where
@@ -34,19 +36,22 @@ pub record BeginsWith (octets : List ℕ) (w : WinCert) : Type 0 where
   pub fits : FitsHeader w.certificate
   pub spelled : octets ≡ spelling w ++ later
 
--- the fields of a header as octets state them
+-- The fields of a header as octets state them: dwLength
 abbrev pub length_field : List ℕ → ℕ
 length_field octets = from_le_bytes w32 (slice_range octets 0 4)
 
+-- wRevision
 abbrev pub revision_field : List ℕ → ℕ
 revision_field octets = from_le_bytes w16 (slice_range octets 4 6)
 
+-- wCertificateType
 abbrev pub type_field : List ℕ → ℕ
 type_field octets = from_le_bytes w16 (slice_range octets 6 8)
 
 -- An entry of the table ends at a multiple of eight octets; zeros fill it up.
 abbrev pub padded : List ℕ → List ℕ
-padded certificate = certificate ++ replicate (next_multiple_of (length certificate) 8 - length certificate) 0
+padded certificate =
+    certificate ++ replicate (next_multiple_of (length certificate) 8 - length certificate) 0
 
 -- the same with the padding taken for a part of the certificate
 abbrev pub with_padding : WinCert → WinCert

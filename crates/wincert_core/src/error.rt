@@ -1,35 +1,77 @@
 //! Why octets are no WIN_CERTIFICATE, or a certificate has no octets.
 
-ghost use Rattle.std.specs.Prelude.{◌≡◌};
-ghost use Rattle.wincert_core.specs.declared.error.WinCertificateError.TheVariants.{Memory};
+ghost use Rattle.std.specs.Prelude.{◌≡◌, Some};
+ghost use Rattle.std.specs.Fmt.{WritesOnOk};
+ghost use Rattle.wincert_core.specs.ErrorText.{error_text};
+ghost use Rattle.wincert_core.specs.declared.error.WinCertificateError.TheVariants.{Memory, WrongRevisionValue};
 
 use std::alloc::{AllocError, AllocFailed};
+use std::fmt;
 use thiserror::Error;
 
+/// Why octets are no WIN_CERTIFICATE, or a certificate has no octets.
 #[derive(Clone, Copy, Debug, PartialEq, Eq, Error)]
 pub enum WinCertificateError {
     /// The revision is neither 1.0 nor 2.0.
-    #[error("unknown revision {got:#06x} of a WIN_CERTIFICATE (known are 0x0100 and 0x0200)")]
     WrongRevisionValue { got: u16 },
     /// The type of the certificate has no meaning.
-    #[error("unknown type {got} of a WIN_CERTIFICATE (known are 1, 2, 3 and 9)")]
     WrongCertificateType { got: u16 },
     /// The octets, or the length that they state, have no room for the header.
-    #[error("a WIN_CERTIFICATE has at least {minimum} octets, and this one has {got}")]
     WrongLength { minimum: usize, got: usize },
     /// The stated length is 0.
-    #[error("the WIN_CERTIFICATE states the length 0, so it holds no certificate")]
     CertificateDataIsEmpty,
     /// The octets end before the stated length.
-    #[error("the WIN_CERTIFICATE states a length of {stated} octets, and only {got} are there")]
     Io { stated: u32, got: usize },
     /// The length of header, certificate and padding has more than 32 bits.
-    #[error("the certificate is too long: header, certificate and padding pass 4294967295 octets")]
     TooLong,
-    #[error("out of memory")]
+    /// No memory was left.
     Memory,
 }
 
+impl fmt::Display for WinCertificateError {
+    ghost output = { λ error. Some (error_text error) };
+
+    fn fmt<W: fmt::Write>(&self, f: &mut fmt::Formatter<W>) -> fmt::Result {
+        match self {
+            WinCertificateError::WrongRevisionValue { got } => write_revision(*got, f),
+            WinCertificateError::WrongCertificateType { got } => write!(
+                f,
+                "unknown type {got} of a WIN_CERTIFICATE (known are 1, 2, 3 and 9)"
+            ),
+            WinCertificateError::WrongLength { minimum, got } => write!(
+                f,
+                "a WIN_CERTIFICATE has at least {minimum} octets, and this one has {got}"
+            ),
+            WinCertificateError::CertificateDataIsEmpty => write!(
+                f,
+                "the WIN_CERTIFICATE states the length 0, so it holds no certificate"
+            ),
+            WinCertificateError::Io { stated, got } => write!(
+                f,
+                "the WIN_CERTIFICATE states a length of {stated} octets, and only {got} are there"
+            ),
+            WinCertificateError::TooLong => write!(
+                f,
+                "the certificate is too long: header, certificate and padding pass 4294967295 octets"
+            ),
+            WinCertificateError::Memory => write!(f, "out of memory"),
+        }
+    }
+}
+
+/// The text of a wrong revision, whose number has four hexadecimal digits.
+fn write_revision<W: fmt::Write>(number: u16, f: &mut fmt::Formatter<W>) -> fmt::Result
+    ensures { WritesOnOk W.write_str_gives f.old result
+        (error_text (WrongRevisionValue number)) f.new }
+{
+    let (high, low) = (number / 256, number % 256);
+    write!(
+        f,
+        "unknown revision 0x{high:02x}{low:02x} of a WIN_CERTIFICATE (known are 0x0100 and 0x0200)"
+    )
+}
+
+/// What a call of this crate gives.
 pub type WinCertificateResult<T> = Result<T, WinCertificateError>;
 
 impl From<AllocError> for WinCertificateError {

@@ -7,17 +7,25 @@ ghost use Rattle.wincert_core.specs.Kinds.{revision_number, revision_numbered, t
 
 use crate::error::WinCertificateError;
 
-/// The layout of what the certificate holds.
+/// The version of the WIN_CERTIFICATE itself, its `wRevision`. It says nothing of what the
+/// certificate holds.
 #[derive(Clone, Copy, Debug, PartialEq, Eq)]
 pub enum RevisionType {
-    /// 1.0, the layout before Authenticode.
+    /// 1.0, which old Authenticode signatures have.
     WinCertificateRevision10 = 0x0100,
-    /// 2.0, the current one.
+    /// 2.0, the current version.
     WinCertificateRevision20 = 0x0200,
 }
 
 impl RevisionType {
-    pub(crate) fn number(self) -> u16
+    /// Every revision, by its number.
+    pub const ALL: [RevisionType; 2] = [
+        RevisionType::WinCertificateRevision10,
+        RevisionType::WinCertificateRevision20,
+    ];
+
+    /// The number in a header, as `try_from` takes it.
+    pub fn number(self) -> u16
         ensures { result ≡ revision_number self }
     {
         self as u16
@@ -38,20 +46,30 @@ impl TryFrom<u16> for RevisionType {
     }
 }
 
-/// What the certificate holds.
+/// What the certificate holds, the `wCertificateType` of a WIN_CERTIFICATE.
 #[derive(Clone, Copy, Debug, PartialEq, Eq)]
 pub enum CertificateType {
     /// An X.509 certificate.
     WinCertTypeX509 = 1,
     /// Signed data of PKCS #7: an Authenticode signature.
     WinCertTypePkcsSignedData = 2,
+    /// Reserved.
     WinCertTypeReserved1 = 3,
     /// A signature of PKCS #1.
     WinCertTypePkcs1Sign = 9,
 }
 
 impl CertificateType {
-    pub(crate) fn number(self) -> u16
+    /// Every type, by its number.
+    pub const ALL: [CertificateType; 4] = [
+        CertificateType::WinCertTypeX509,
+        CertificateType::WinCertTypePkcsSignedData,
+        CertificateType::WinCertTypeReserved1,
+        CertificateType::WinCertTypePkcs1Sign,
+    ];
+
+    /// The number in a header, as `try_from` takes it.
+    pub fn number(self) -> u16
         ensures { result ≡ type_number self }
     {
         self as u16

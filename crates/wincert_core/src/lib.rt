@@ -5,11 +5,10 @@
 mod error;
 mod header;
 mod kinds;
+mod laws;
 mod wincert;
 
 pub use error::{WinCertificateError, WinCertificateResult};
 pub use kinds::{CertificateType, RevisionType};
+pub use laws::lists_have_each_kind;
 pub use wincert::{WinCertificate, certificate_of};
-
-#[cfg(test)]
-mod tests;

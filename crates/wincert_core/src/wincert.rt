@@ -1,12 +1,12 @@
 //! A certificate with what its header says of it.
 
-ghost use Rattle.std.specs.Prelude.{◌≡◌, ◌≢◌, Ok, Err, IfOk, IfErr, nat_eq};
+ghost use Rattle.std.specs.Prelude.{◌≡◌, ◌≢◌, ◌↔◌, Ok, Err, IfOk, IfErr, IsTrue, nat_eq};
 ghost use Rattle.std.specs.Ordering.{on};
 ghost use Rattle.std.specs.Cmp.Lexicographic.{pointwise, nat_list_eq_equiv};
 ghost use Rattle.std.specs.Cmp.{on_per, on_equiv, partial_equiv_from_equiv};
 ghost use Rattle.wincert_core.specs.declared.error.WinCertificateError.{WinCertificateError};
 ghost use Rattle.wincert_core.specs.WinCert.{WinCert, BeginsWith, stated_length, with_padding, kept};
-ghost use Rattle.wincert_core.specs.Refusal.{certificate_in, current, encoded, Gives};
+ghost use Rattle.wincert_core.specs.Refusal.{contents_in, current, encoded, Gives};
 
 use crate::error::{WinCertificateError, WinCertificateResult};
 use crate::header::{HEADER_LENGTH, header_of};
@@ -46,9 +46,10 @@ impl WinCertificate {
     /// stated length counts behind the header, padding too; later octets are left alone.
     pub fn decode(alloc: Global, bytes: &[u8]) -> WinCertificateResult<WinCertificate>
         // The certificate that the header names, or the first refusal.
-        ensures given { Gives (λ w. w.certificate) result (certificate_in bytes.now) }
+        ensures given { Gives (λ w. w.certificate) result (contents_in bytes.now) }
         // A refusal comes before memory is asked for.
-        ensures refused { (error : WinCertificateError) → certificate_in bytes.now ≡ Err error → result ≡ Err error }
+        ensures refused { (error : WinCertificateError)
+            → contents_in bytes.now ≡ Err error → result ≡ Err error }
         // What is read is spelled there.
         ensures spelled { IfOk result (λ w. BeginsWith bytes.now w) }
         // What is spelled there is read.
@@ -102,19 +103,22 @@ impl WinCertificate {
         Ok(octets)
     }
 
-    /// The length that the header states before padding: eight more than the certificate's.
+    /// The length that the header states before padding, in octets: eight more than the
+    /// certificate's.
     pub fn length(&self) -> u32
         ensures { result ≡ stated_length self.now.certificate }
     {
         (self.certificate.len() + HEADER_LENGTH) as u32
     }
 
+    /// The version of the WIN_CERTIFICATE, as its header states it.
     pub fn revision(&self) -> RevisionType
         ensures { result ≡ self.now.revision }
     {
         self.revision
     }
 
+    /// What the certificate holds, as the header states it.
     pub fn certificate_type(&self) -> CertificateType
         ensures { result ≡ self.now.certificate_type }
     {
@@ -145,7 +149,10 @@ impl PartialEq for WinCertificate {
 
     ghost laws = { on_per kept (partial_equiv_from_equiv nat_list_eq_equiv) };
 
-    fn eq(&self, other: &WinCertificate) -> bool {
+    fn eq(&self, other: &WinCertificate) -> bool
+        ensures value { result ≡ on kept (pointwise nat_eq) self.now other.now }
+        ensures same { IsTrue result ↔ (self.now ≡ other.now) }
+    {
         self.revision.number() == other.revision.number()
             && self.certificate_type.number() == other.certificate_type.number()
             && self.certificate.as_slice() == other.certificate.as_slice()
@@ -159,14 +166,14 @@ impl Eq for WinCertificate {
 /// The certificate that `WinCertificate::decode` would keep, lent, with the same refusals but for
 /// want of memory.
 pub fn certificate_of(bytes: &[u8]) -> WinCertificateResult<&[u8]>
-    ensures lent { IfOk result (λ part. certificate_in bytes.now ≡ Ok part.now) }
-    ensures refused { IfErr result (λ e. certificate_in bytes.now ≡ Err e) }
+    ensures lent { IfOk result (λ part. contents_in bytes.now ≡ Ok part.now) }
+    ensures refused { IfErr result (λ e. contents_in bytes.now ≡ Err e) }
     ensures never_memory { result ≢ Err WinCertificateError.Memory }
     // What is lent is spelled there, and what is spelled there is lent.
     ensures spelled { IfOk result (λ part.
         (w : WinCert) × BeginsWith bytes.now w × (w.certificate ≡ part.now)) }
     ensures only { (w : WinCert) → BeginsWith bytes.now w
-        → certificate_in bytes.now ≡ Ok w.certificate }
+        → contents_in bytes.now ≡ Ok w.certificate }
 {
     let header = header_of(bytes)?;
     Ok(&bytes[HEADER_LENGTH..header.length])

@@ -7,8 +7,8 @@ use Rattle.authenticode_core.proofs.OneForm.{element_of_form, parts_of_form}
 use Rattle.authenticode_core.proofs.OneAnswer.{answer_of_judged}
 use Rattle.authenticode_core.proofs.basic.answer.Goals as goal
 
-pub returns-in_default : goal.returns-in_default
-returns-in_default g c = (
+pub returns-in_default-clause-answer : goal.returns-in_default-clause-answer
+returns-in_default-clause-answer g c = (
   _,
   _,
   c.in_ok-certificate.ensures,
@@ -17,8 +17,8 @@ returns-in_default g c = (
       c.in_default.ensures p (element_of_form c.in_ok-certificate.ensures c.in_ok-tree.ensures form),
 )
 
-pub returns-then-not-branch : goal.returns-then-not-branch
-returns-then-not-branch g c = (
+pub returns-then-not-branch-clause-answer : goal.returns-then-not-branch-clause-answer
+returns-then-not-branch-clause-answer g c = (
   _,
   _,
   c.in_ok-certificate.ensures,
@@ -29,8 +29,8 @@ returns-then-not-branch g c = (
       false≢true (cc),
 )
 
-pub returns : goal.returns
-returns g c =
+pub returns-clause-answer : goal.returns-clause-answer
+returns-clause-answer g c =
     let parts = signature_parts c.in-Some.signature in
     let form : IsPlainForm c.args.bytes.now parts = record {
       certificate = c.in_ok-certificate.certificate.now;

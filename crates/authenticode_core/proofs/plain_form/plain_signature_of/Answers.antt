@@ -1,6 +1,6 @@
 use Rattle.std.proofs.Common.{[], ◌∷◌, refl}
 use Rattle.authenticode_core.specs.Asn1.{object_identifier, context}
-use Rattle.authenticode_core.specs.declared.identifiers.TheConstants.{SIGNED_DATA}
+use Rattle.authenticode_core.specs.Identifiers.{signed_data_type}
 use Rattle.authenticode_core.specs.PlainForm.{signed_data, signed_content}
 use Rattle.authenticode_core.specs.Views.{signature_parts}
 use Rattle.authenticode_core.proofs.Kids.{kid_at, with_expected_kids, Reads-around}
@@ -17,7 +17,7 @@ pub returns : goal.returns
 returns c =
     Reads-around signature_parts signed_data signed_content _ _ (λ parts e.
     let content = with_expected_kids c.in_ok-signed_data.field-0.now (signed_data parts ∷ []) c.in_ok-signed_data.ensures.1 c.in_ok-signed_data.ensures.0 ((_, e), tt) in
-    with_expected_kids c.in_ok-kind.field-0.now (object_identifier SIGNED_DATA ∷ context 0 (signed_data parts ∷ []) ∷ []) c.in_ok-kind.ensures.1 c.in_ok-kind.ensures.0 ((_, c.if-not-is_leaf.ensures.0 refl), ((_, content), tt)))
+    with_expected_kids c.in_ok-kind.field-0.now (object_identifier signed_data_type ∷ context 0 (signed_data parts ∷ []) ∷ []) c.in_ok-kind.ensures.1 c.in_ok-kind.ensures.0 ((_, c.if-not-is_leaf.ensures.0 refl), ((_, content), tt)))
     (λ parts e.
     let content = kid_at c.in_ok-kind.field-0.now c.in_ok-kind.ensures.1 e 1 _ in
     kid_at c.in_ok-signed_data.field-0.now c.in_ok-signed_data.ensures.1 content 0 _)

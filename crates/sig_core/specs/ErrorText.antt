@@ -1,0 +1,18 @@
+-- The texts of errors.
+use Rattle.std.specs.Prelude.{ℕ, List, ◌++◌, codes}
+use Rattle.std.specs.Fmt.{decimal}
+use Rattle.sig_core.specs.declared.scheme.SchemeError.{SchemeError}
+use Rattle.sig_core.specs.declared.scheme.SchemeError.TheVariants as scheme
+use Rattle.sig_core.specs.declared.verdict_table.TableError.{TableError}
+use Rattle.sig_core.specs.declared.verdict_table.TableError.TheVariants as table
+
+-- what is told of a text that is no verdict table
+abbrev pub table_error_text : TableError → List ℕ
+table_error_text (table.BadLine number) =
+    codes "line " ++ decimal number ++ codes " of the verdict table is not a row"
+table_error_text table.Memory = codes "out of memory"
+
+-- what is told of a scheme that gives no signature, or no key
+abbrev pub scheme_error_text : SchemeError → List ℕ
+scheme_error_text scheme.Refused = codes "the signature scheme refused"
+scheme_error_text scheme.Memory = codes "out of memory"

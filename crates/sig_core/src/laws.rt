@@ -1,0 +1,28 @@
+//! Laws on verdict tables and on the lists of algorithms.
+
+ghost use Rattle.std.specs.Prelude.{◌≡◌, ℕ, List, length, Contains};
+ghost use Rattle.sig_core.specs.VerdictTable.{IsTable, IsFirstBadLine};
+ghost use Rattle.sig_core.specs.declared.algorithm.SigAlg.{SigAlg};
+ghost use Rattle.sig_core.specs.declared.algorithm.TheConstants.SigAlg as signatures;
+ghost use Rattle.sig_core.specs.declared.hash.HashAlgorithm.{HashAlgorithm};
+ghost use Rattle.sig_core.specs.declared.hash.TheConstants.HashAlgorithm as digests;
+ghost use Rattle.sig_core.specs.declared.verdict_row.VerdictRow.{VerdictRow};
+
+/// A text is the table of at most one list of rows, so there is the table that a text is. It has at
+/// most one first bad line, and none where it is a table.
+pub fn one_table()
+    ensures one_list { (text : List ℕ) (a b : List VerdictRow)
+        → IsTable text a → IsTable text b → a ≡ b }
+    ensures one_bad_line { (text : List ℕ) (m n : ℕ)
+        → IsFirstBadLine text m → IsFirstBadLine text n → m ≡ n }
+    ensures not_both { (text : List ℕ) (rows : List VerdictRow) (number : ℕ)
+        → IsTable text rows → IsFirstBadLine text number → ⊥ }
+{}
+
+/// `SigAlg::ALL` and `HashAlgorithm::ALL` have each algorithm, once.
+pub fn lists_have_each_algorithm()
+    ensures each_signature { (alg : SigAlg) → Contains signatures.ALL alg }
+    ensures signatures_once { length signatures.ALL ≡ 10 }
+    ensures each_digest { (hash : HashAlgorithm) → Contains digests.ALL hash }
+    ensures digests_once { length digests.ALL ≡ 6 }
+{}

@@ -1,0 +1,13 @@
+//! Tests of the public calls of `sig_core`: digests, algorithms of signatures, verdict tables.
+#![tactic(auto)]
+
+#[cfg(test)]
+mod algorithms;
+#[cfg(test)]
+mod digests;
+#[cfg(test)]
+mod rows;
+#[cfg(test)]
+mod tables;
+#[cfg(test)]
+mod verdicts;

@@ -1,0 +1,86 @@
+//! Texts of verdict tables, and the first bad lines of others.
+
+use crate::rows::{KEY, MSG, ROW, SIG, joined};
+use sig_core::{TableError, VerdictTable};
+use std::test::Fail;
+
+/// Texts in pieces, and the first bad line.
+#[rattlefmt::skip]
+const TABLES: [(&str, &[&str], Option<u64>); 26] = [
+    ("no rows", &[], None),
+    ("one row", &[ROW], None),
+    ("a row twice", &[ROW, ROW], None),
+    ("another algorithm", &["ed25519 ", KEY, " ", MSG, " ", SIG, "\n", ROW], None),
+    ("no last newline", &["rsa-sha256 ", KEY, " ", MSG, " ", SIG], Some(1)),
+    ("no last newline after a row", &[ROW, "rsa-sha256 ", KEY, " ", MSG, " ", SIG], Some(2)),
+    ("an octet after the last newline", &[ROW, "r"], Some(2)),
+    ("an empty line", &["\n"], Some(1)),
+    ("an empty last line", &[ROW, "\n"], Some(2)),
+    ("a carriage return", &["rsa-sha256 ", KEY, " ", MSG, " ", SIG, "\r\n"], Some(1)),
+    ("a carriage return alone", &["rsa-sha256 ", KEY, " ", MSG, " ", SIG, "\r"], Some(1)),
+    ("upper-case digits", &["rsa-sha256 ", KEY, " ", MSG, " ", "1A2FC26DC7EA5A2A4748B7CB2B1EF193D96AB2C99F93092F69E63075B28D1278", "\n"], Some(1)),
+    ("an upper-case name", &["RSA-SHA256 ", KEY, " ", MSG, " ", SIG, "\n"], Some(1)),
+    ("an unknown algorithm", &["rsa-sha3 ", KEY, " ", MSG, " ", SIG, "\n"], Some(1)),
+    ("the front of a name", &["rsa-sha25 ", KEY, " ", MSG, " ", SIG, "\n"], Some(1)),
+    ("no name", &[" ", KEY, " ", MSG, " ", SIG, "\n"], Some(1)),
+    ("a doubled space", &["rsa-sha256 ", KEY, "  ", MSG, " ", SIG, "\n"], Some(1)),
+    ("a space at the end", &["rsa-sha256 ", KEY, " ", MSG, " ", SIG, " \n"], Some(1)),
+    ("a space before the name", &[" ", ROW], Some(1)),
+    ("a tab", &["rsa-sha256 ", KEY, "\t", MSG, " ", SIG, "\n"], Some(1)),
+    ("two digests", &["rsa-sha256 ", KEY, " ", MSG, "\n"], Some(1)),
+    ("four digests", &["rsa-sha256 ", KEY, " ", MSG, " ", SIG, " ", SIG, "\n"], Some(1)),
+    ("65 digits", &["rsa-sha256 ", KEY, " ", MSG, " ", SIG, "0\n"], Some(1)),
+    ("63 digits", &["rsa-sha256 ", KEY, " ", MSG, " ", "1a2fc26dc7ea5a2a4748b7cb2b1ef193d96ab2c99f93092f69e63075b28d127", "\n"], Some(1)),
+    ("a bad third line", &[ROW, ROW, "rsa-sha256\n", ROW], Some(3)),
+    ("the first of two bad lines", &[ROW, "?\n", "?\n"], Some(2)),
+];
+
+#[test]
+fn tables(rt: HostRuntime) -> Result<(), Fail> {
+    for (why, pieces, bad_line) in TABLES {
+        let text = joined(rt.alloc(), pieces)?;
+        let got = match VerdictTable::parse(rt.alloc(), text.as_bytes()) {
+            Ok(_) => None,
+            Err(TableError::BadLine { number }) => Some(number),
+            Err(TableError::Memory) => return Err(Fail::from("memory")),
+        };
+        assert_eq!(rt; got, bad_line, "{why}");
+    }
+    Ok(())
+}
+
+#[test]
+fn texts_of_errors(rt: HostRuntime) -> Result<(), Fail> {
+    let bad = format!(in rt.alloc(); "{}", TableError::BadLine { number: 3 })?;
+    assert_eq!(rt; bad.as_str(), "line 3 of the verdict table is not a row");
+    let memory = format!(in rt.alloc(); "{}", TableError::Memory)?;
+    assert_eq!(rt; memory.as_str(), "out of memory");
+    Ok(())
+}
+
+/// Texts of tables that differ: another order, another number of rows.
+#[rattlefmt::skip]
+const APART: [&[&str]; 5] = [
+    &[],
+    &[ROW],
+    &[ROW, ROW],
+    &[ROW, "ed25519 ", KEY, " ", MSG, " ", SIG, "\n"],
+    &["ed25519 ", KEY, " ", MSG, " ", SIG, "\n", ROW],
+];
+
+#[test]
+fn rows_and_equality(rt: HostRuntime) -> Result<(), Fail> {
+    for (place, pieces) in APART.iter().enumerate() {
+        let text = joined(rt.alloc(), pieces)?;
+        let table = VerdictTable::parse(rt.alloc(), text.as_bytes())?;
+        assert_eq!(rt; table.len(), text.lines().count());
+        assert_eq!(rt; table.is_empty(), text.is_empty());
+        assert!(rt; table.try_clone(rt.alloc())? == table);
+        for (other, pieces) in APART.iter().enumerate() {
+            let other_text = joined(rt.alloc(), pieces)?;
+            let other_table = VerdictTable::parse(rt.alloc(), other_text.as_bytes())?;
+            assert_eq!(rt; table == other_table, place == other);
+        }
+    }
+    Ok(())
+}
