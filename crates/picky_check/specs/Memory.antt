@@ -5,10 +5,11 @@ use Rattle.picky_check.specs.declared.memory.MemShelf.{MemShelf}
 use Rattle.picky_check.specs.declared.memory.MemSink.{MemSink}
 use Rattle.std.specs.List.{list_any}
 use Rattle.picky_check.specs.Counts.{last_count}
-use Rattle.picky_check.specs.Shelf.{Files, file_of}
+use Rattle.picky_check.specs.Shelf.{Files, ShelfState, file_of}
+use Rattle.picky_check.specs.Sink.{SinkState}
 use Rattle.picky_check.specs.Stored.{latest, octets_at}
 
--- what a shelf in memory tells of its files
+-- the files of a shelf in memory
 abbrev pub shelf_files : MemShelf → Option Files
 shelf_files shelf = Some (latest shelf.files.items)
 
@@ -50,6 +51,16 @@ is_quiet_from_now calls = All (λ call. call < calls.count) calls.failing.items
 abbrev pub shelf_is_quiet : MemShelf → Type 0
 shelf_is_quiet shelf = is_quiet_from_now shelf.calls
 
+-- what is seen of a shelf in memory
+abbrev pub shelf_state : MemShelf → ShelfState
+shelf_state shelf = record {
+  files = shelf_files shelf;
+  rest = Some (shelf_rest shelf);
+  given = shelf_given shelf;
+  faults = shelf_faults shelf;
+  is_quiet = shelf_is_quiet shelf;
+}
+
 -- what is left to read and the counts stay
 pub record KeepsPlace (before after : MemShelf) : Type 0 where
   pub rest : shelf_rest after ≡ shelf_rest before
@@ -66,3 +77,7 @@ sink_room sink = sink.room
 
 abbrev pub sink_faults : MemSink → ℕ
 sink_faults sink = sink.faults
+
+-- what is seen of a sink in memory
+abbrev pub sink_state : MemSink → SinkState
+sink_state sink = record { held = Some (sink_held sink); room = Some (sink_room sink); faults = sink_faults sink }

@@ -125,17 +125,9 @@ impl MemShelf {
 
 impl Shelf for MemShelf {
     ghost use Rattle.picky_check.specs.Shelf.{file_of, IsPicked, Moves};
-    ghost use Rattle.picky_check.specs.Memory.{shelf_files, shelf_rest, shelf_given, shelf_faults, shelf_is_quiet, is_set_to_fail, IsNextCall};
+    ghost use Rattle.picky_check.specs.Memory.{shelf_state, shelf_files, shelf_rest, shelf_given, shelf_faults, shelf_is_quiet, is_set_to_fail, IsNextCall};
 
-    ghost files = { shelf_files };
-
-    ghost rest = { λ shelf. Some (shelf_rest shelf) };
-
-    ghost given = { shelf_given };
-
-    ghost faults = { shelf_faults };
-
-    ghost is_quiet = { shelf_is_quiet };
+    ghost state = { shelf_state };
 
     fn pick(&mut self, name: &str) -> Result<(), Failed>
         ensures picked { OnOk result (IsPicked (shelf_files self.old) name.now (Some (shelf_rest self.new))) }
@@ -206,13 +198,9 @@ impl MemSink {
 }
 
 impl Sink for MemSink {
-    ghost use Rattle.picky_check.specs.Memory.{sink_held, sink_room, sink_faults};
+    ghost use Rattle.picky_check.specs.Memory.{sink_state};
 
-    ghost held = { λ sink. Some (sink_held sink) };
-
-    ghost room = { λ sink. Some (sink_room sink) };
-
-    ghost faults = { sink_faults };
+    ghost state = { sink_state };
 
     fn write(&mut self, piece: &[u8]) -> Result<usize, Failed> {
         let count = piece.len().min(self.room);

@@ -1,0 +1,129 @@
+//! A shelf over readers and a sink over a writer. They tell what these know, and count each error.
+
+ghost use Rattle.std.specs.Prelude.{◌≡◌, ◌≤◌, None, Option, option_map, IfOk};
+ghost use Rattle.picky_check.specs.Counts.{last_count};
+ghost use Rattle.picky_check.specs.Opened.{IsOpened, told_rest};
+ghost use Rattle.picky_check.specs.Shelf.{Files};
+
+use crate::{Failed, Shelf, Sink};
+use std::io;
+use std::io::{Read, Write};
+
+/// What opens files by their names.
+pub trait Opener {
+    /// An open file, read from its first octet on.
+    type Reader: Read + Drop;
+
+    /// The files by name, where they are known.
+    ghost files: { Self → Option Files };
+
+    /// Opens the file of this name, with all of it left to read.
+    fn open(&self, name: &str) -> io::Result<Self::Reader>
+        ensures { IfOk result (λ reader. IsOpened (files self.now) name.now (Self.Reader.remaining reader)) };
+}
+
+/// Files that are opened when they are picked. Each error of an opener or a reader is a fault.
+#[derive(Drop)]
+pub struct ReaderShelf<D: Opener> {
+    opener: D,
+    picked: Option<D::Reader>,
+    given: u64,
+    faults: u64,
+    ghost given_fits: { given ≤ last_count },
+    ghost faults_fit: { faults ≤ last_count },
+}
+
+impl<D: Opener> ReaderShelf<D> {
+    /// Over the files of this opener. No file is picked, and nothing is counted yet.
+    pub fn over(opener: D) -> Self
+        ensures files { (⟦<ReaderShelf<D> as Shelf>⟧.state result).files ≡ D.files opener }
+        ensures none_given { (⟦<ReaderShelf<D> as Shelf>⟧.state result).given ≡ 0 }
+        ensures no_faults { (⟦<ReaderShelf<D> as Shelf>⟧.state result).faults ≡ 0 }
+    {
+        ReaderShelf {
+            opener,
+            picked: None,
+            given: 0,
+            faults: 0,
+        }
+    }
+
+    // Counts a fault.
+    fn fail(&mut self) -> Failed {
+        self.faults = self.faults.saturating_add(1);
+        Failed
+    }
+}
+
+impl<D: Opener> Shelf for ReaderShelf<D> {
+    ghost state = { λ shelf. record {
+      files = D.files shelf.opener;
+      rest = told_rest (D.files shelf.opener) (option_map D.Reader.remaining shelf.picked);
+      given = shelf.given;
+      faults = shelf.faults;
+      is_quiet = ⊥;
+    } };
+
+    fn pick(&mut self, name: &str) -> Result<(), Failed> {
+        match self.opener.open(name) {
+            Ok(reader) => {
+                self.picked = Some(reader);
+                Ok(())
+            }
+            Err(_) => {
+                self.faults = self.faults.saturating_add(1);
+                Err(Failed)
+            }
+        }
+    }
+
+    fn read(&mut self, into: &mut [u8]) -> Result<usize, Failed> {
+        let count = match &mut self.picked {
+            Some(reader) => reader.read(into).ok(),
+            None => None,
+        };
+        match count {
+            Some(count) => {
+                self.given = self.given.saturating_add(count as u64);
+                Ok(count)
+            }
+            None => {
+                self.faults = self.faults.saturating_add(1);
+                Err(Failed)
+            }
+        }
+    }
+}
+
+/// Octets that go to a writer. An error of it is a fault, and so is a write that takes nothing
+/// of a piece that isn't empty.
+#[derive(Drop)]
+pub struct WriterSink<W> {
+    writer: W,
+    faults: u64,
+    ghost fits: { faults ≤ last_count },
+}
+
+impl<W: Write> WriterSink<W> {
+    /// Over this writer. Nothing is counted yet.
+    pub fn over(writer: W) -> Self
+        ensures held { (⟦<WriterSink<W> as Sink>⟧.state result).held ≡ W.contents writer }
+        ensures no_faults { (⟦<WriterSink<W> as Sink>⟧.state result).faults ≡ 0 }
+    {
+        WriterSink { writer, faults: 0 }
+    }
+}
+
+impl<W: Write> Sink for WriterSink<W> {
+    ghost state = { λ sink. record { held = W.contents sink.writer; room = None; faults = sink.faults } };
+
+    fn write(&mut self, piece: &[u8]) -> Result<usize, Failed> {
+        match self.writer.write(piece) {
+            Ok(count) if count > 0 || piece.is_empty() => Ok(count),
+            _ => {
+                self.faults = self.faults.saturating_add(1);
+                Err(Failed)
+            }
+        }
+    }
+}
