@@ -67,8 +67,8 @@ class Row:
     files: dict = field(default_factory=lambda: {"s": SIGNATURE, "t": TABLE})
     # What standard input gives: octets, or None where it is closed.
     given: object = b""
-    # Where standard output goes: `read` here, a `full` device, or nowhere:
-    # `closed`, or a file that is open for `reading` alone.
+    # Where standard output goes: `read` here, a `full` device, an `unread` pipe,
+    # nowhere as it is `closed`, or a file that is open for `reading` alone.
     output: str = "read"
 
 
@@ -178,6 +178,7 @@ SINK_ROWS = [
     Row("a full device", BASIC, 5, output="full"),
     Row("a full device for a refusal", ("basic", "s", "t", OTHER_HASH), 5, output="full"),
     Row("a closed output", BASIC, 5, output="closed"),
+    Row("a pipe that nobody reads", BASIC, 5, output="unread"),
     Row("an output that is open for reading", BASIC, 5, output="reading"),
     Row("nothing to write to a closed output", (), 2, output="closed"),
     Row("no file, and a full device", ("basic", "x", "t", HASH), 4, output="full"),
@@ -226,6 +227,10 @@ def opened_output(row):
     """What the program gets as standard output, and what closes it here."""
     if row.output == "full":
         return open("/dev/full", "wb")
+    if row.output == "unread":
+        reading, writing = os.pipe()
+        os.close(reading)
+        return open(writing, "wb")
     if row.output == "reading":
         return open("/dev/null", "rb")
     return None

@@ -21,6 +21,7 @@ pub use error::FileError;
 pub use files::{read_file, write_report};
 pub use memory::{MemShelf, MemSink};
 pub use program::{run, status_without_words};
+pub use report::{accepted_line, refused_line};
 pub use shelf::{Failed, Shelf};
 pub use sink::Sink;
 pub use stop::{

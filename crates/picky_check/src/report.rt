@@ -33,8 +33,9 @@ pub(crate) fn report_of(alloc: Global, answer: Result<Accepted, CheckError>) -> 
     }
 }
 
-/// The line of an accepted signature: places in decimal, with commas between.
-fn accepted_line(alloc: Global, accepted: &Accepted) -> Result<String, AllocError>
+/// The line of an accepted signature, `accepted signer=S path=P,P excuse=E` and a newline: places in
+/// decimal, with commas between those of the path.
+pub fn accepted_line(alloc: Global, accepted: &Accepted) -> Result<String, AllocError>
     ensures { IfOk result (λ line. string_bytes line ≡ accepted_line accepted.now) }
 {
     let mut line = String::from_str(alloc, "accepted signer=")?;
@@ -70,8 +71,8 @@ fn excuse_word(excuse: Excuse) -> &'static str
     }
 }
 
-/// The line of a refused signature.
-fn refused_line(alloc: Global, error: &CheckError) -> Result<String, AllocError>
+/// The line of a refused signature, `refused NAME` and a newline.
+pub fn refused_line(alloc: Global, error: &CheckError) -> Result<String, AllocError>
     ensures { IfOk result (λ line. string_bytes line ≡ refused_line error.now) }
 {
     format!(in alloc; "refused {}\n", refusal_name(error))

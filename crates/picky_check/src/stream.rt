@@ -1,7 +1,7 @@
 //! A shelf over readers and a sink over a writer. They tell what these know, and count each error.
 
 ghost use Rattle.std.specs.Prelude.{◌≡◌, ◌≤◌, None, Option, option_map, IfOk};
-ghost use Rattle.picky_check.specs.Counts.{last_count};
+ghost use Rattle.picky_check.specs.Counts.{last_count, GoesOn, HasRisen};
 ghost use Rattle.picky_check.specs.Opened.{IsOpened, told_rest};
 ghost use Rattle.picky_check.specs.Shelf.{Files};
 
@@ -49,7 +49,12 @@ impl<D: Opener> ReaderShelf<D> {
     }
 
     // Counts a fault.
-    fn fail(&mut self) -> Failed {
+    fn fail(&mut self) -> Failed
+        ensures counted { GoesOn self.old.faults self.new.faults }
+        ensures risen { HasRisen self.old.faults self.new.faults }
+        ensures same { (self.new.opener ≡ self.old.opener) × (self.new.picked ≡ self.old.picked)
+            × (self.new.given ≡ self.old.given) }
+    {
         self.faults = self.faults.saturating_add(1);
         Failed
     }
@@ -65,33 +70,22 @@ impl<D: Opener> Shelf for ReaderShelf<D> {
     } };
 
     fn pick(&mut self, name: &str) -> Result<(), Failed> {
-        match self.opener.open(name) {
-            Ok(reader) => {
-                self.picked = Some(reader);
-                Ok(())
-            }
-            Err(_) => {
-                self.faults = self.faults.saturating_add(1);
-                Err(Failed)
-            }
-        }
+        let Ok(reader) = self.opener.open(name) else {
+            return Err(self.fail());
+        };
+        self.picked = Some(reader);
+        Ok(())
     }
 
     fn read(&mut self, into: &mut [u8]) -> Result<usize, Failed> {
-        let count = match &mut self.picked {
-            Some(reader) => reader.read(into).ok(),
-            None => None,
+        let Some(reader) = &mut self.picked else {
+            return Err(self.fail());
         };
-        match count {
-            Some(count) => {
-                self.given = self.given.saturating_add(count as u64);
-                Ok(count)
-            }
-            None => {
-                self.faults = self.faults.saturating_add(1);
-                Err(Failed)
-            }
-        }
+        let Ok(count) = reader.read(into) else {
+            return Err(self.fail());
+        };
+        self.given = self.given.saturating_add(count as u64);
+        Ok(count)
     }
 }
 
