@@ -1,6 +1,6 @@
 //! Real files and standard output. They tell nothing of what they hold.
 
-ghost use Rattle.std.specs.Prelude.{◌≡◌, None};
+ghost use Rattle.std.specs.Prelude.{◌≡◌};
 
 use crate::{Opener, ReaderShelf, Shelf, Sink, WriterSink};
 use std::io::Printer;
@@ -13,8 +13,6 @@ pub struct Paths<'a, R: Files>(&'a R);
 
 impl<R: Files> Opener for Paths<'_, R> {
     type Reader = R::File;
-
-    ghost files = { λ _. None };
 
     fn open(&self, name: &str) -> io::Result<R::File> {
         fs::open(self.0, name)

@@ -15,7 +15,7 @@ pub trait Opener {
     type Reader: Read + Drop;
 
     /// The files by name, where they are known.
-    ghost files: { Self → Option Files };
+    ghost files: { Self → Option Files } = { λ _. None };
 
     /// Opens the file of this name, with all of it left to read.
     fn open(&self, name: &str) -> io::Result<Self::Reader>

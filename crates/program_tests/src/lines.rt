@@ -49,21 +49,33 @@ fn an_acceptance_is_a_line(rt: HostRuntime) -> Result<(), Fail> {
 fn a_refusal_is_a_line_with_its_name(rt: HostRuntime) -> Result<(), Fail> {
     let alloc = rt.alloc();
     for (error, want) in HEADERS {
-        assert_eq!(rt; refused_line(alloc, &CheckError::Win(error))?.as_str(), want);
+        assert_eq!(rt;
+            refused_line(alloc, &CheckError::Win(error))?.as_str(),
+            want
+        );
     }
     let mismatch = AuthenticodeError::FileHashMismatch {
-        actual: Octets::new(alloc),
-        expected: Octets::new(alloc),
+        actual: Octets::from_slice(alloc, b"")?,
+        expected: Octets::from_slice(alloc, b"")?,
     };
     let others = [
-        (CheckError::Unread(DerError::Shape), "refused Asn1Deserialization\n"),
+        (
+            CheckError::Unread(DerError::Shape),
+            "refused Asn1Deserialization\n",
+        ),
         (CheckError::NotThisForm, "refused NotThisForm\n"),
-        (CheckError::Authenticode(mismatch), "refused FileHashMismatch\n"),
+        (
+            CheckError::Authenticode(mismatch),
+            "refused FileHashMismatch\n",
+        ),
         (
             CheckError::Authenticode(AuthenticodeError::SignatureError),
             "refused SignatureError\n",
         ),
-        (CheckError::Authenticode(AuthenticodeError::Memory), "refused Memory\n"),
+        (
+            CheckError::Authenticode(AuthenticodeError::Memory),
+            "refused Memory\n",
+        ),
         (CheckError::Memory, "refused Memory\n"),
     ];
     for (error, want) in &others {
