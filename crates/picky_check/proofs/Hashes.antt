@@ -1,6 +1,5 @@
 -- A word of too few or too many digits is no hash.
 use Rattle.std.proofs.Common.{◌≡◌, ◌⊎◌, ℕ, ◌/◌, ◌<◌, List, length, Result, Ok, Err, None, refl, inl, inr, arith}
-use Rattle.std.proofs.lemmas.Grind.{common_steps}
 use Rattle.hex.specs.declared.error.FromHexError.{FromHexError}
 use Rattle.hex.specs.Hex.{decode_of}
 use Rattle.hex.proofs.HexLemmas.{decode_of-ok}

@@ -1,5 +1,5 @@
 -- What is found out about the files of a job follows from how they were read and what they say.
-use Rattle.std.proofs.Common.{◌≡◌, ℕ, ◌≤◌, List, length, Option, Some, None, IsSome, Result, Err, IfOk, IfErr, inl, inr, refl, ap, subst, arith}
+use Rattle.std.proofs.Common.{◌≡◌, ℕ, List, length, IsSome, Result, Err, IfOk, IfErr, inl, inr, refl, ap, subst, arith}
 use Rattle.std.proofs.lemmas.Result.{IfOk-weaker, IfErr-weaker}
 use Rattle.sig_core.specs.declared.verdict_row.VerdictRow.{VerdictRow}
 use Rattle.sig_core.specs.VerdictTable.{IsTable, IsFirstBadLine, verdict_of}
@@ -12,9 +12,9 @@ use Rattle.picky_check.specs.declared.stop.Stop.TheVariants as stop
 use Rattle.picky_check.specs.declared.error.FileError.{FileError}
 use Rattle.picky_check.specs.declared.error.FileError.TheVariants as file
 use Rattle.picky_check.specs.Counts.{HasRisen}
-use Rattle.picky_check.specs.Limits.{longest_file, IsWholeFile, IsLongFile, IsMissing}
+use Rattle.picky_check.specs.Limits.{IsWholeFile, IsLongFile, IsMissing}
 use Rattle.picky_check.specs.Stops.{stop_for_file}
-use Rattle.picky_check.specs.Shelf.{Files, ShelfState, file_of}
+use Rattle.picky_check.specs.Shelf.{ShelfState, file_of}
 use Rattle.picky_check.specs.Words.{Job, Basic}
 use Rattle.picky_check.specs.Answer.{HasLongFile, RisesBeyond}
 use Rattle.picky_check.specs.Inquiry.{IsReportOf, GivesReport, GivesStop, StopsForText, IsStopped, IsInquiry}

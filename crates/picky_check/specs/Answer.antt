@@ -10,9 +10,10 @@ use Rattle.picky_check.specs.Limits.{longest_file, IsWholeFile, IsLongFile}
 use Rattle.picky_check.specs.Shelf.{Files, file_of}
 use Rattle.picky_check.specs.Words.{Job, signature_name, table_name, asked_hash}
 
--- The answer about a signature file, by the verdicts of a table. The octets and the text are those of the
--- named files, as far as the shelf tells its files.
-pub record IsAnswered (files : Option Files) (job : Job) (answer : Result Accepted CheckError) : Type 0 where
+-- The answer about a signature file, by the verdicts of a table. The octets and the text are those
+-- of the named files, as far as the shelf tells its files.
+pub record IsAnswered (files : Option Files) (job : Job) (answer : Result Accepted CheckError)
+    : Type 0 where
   pub octets : List ℕ
   pub text : List ℕ
   pub rows : List VerdictRow
@@ -21,7 +22,8 @@ pub record IsAnswered (files : Option Files) (job : Job) (answer : Result Accept
   pub is_table : IsTable text rows
   pub is_answer : IsBasicAnswer (verdict_of rows) octets (asked_hash job) answer
 
--- A signature file, and a text with a bad line in the place of a table: the named files, as far as they are told.
+-- A signature file, and a text with a bad line in the place of a table: they are the named files,
+-- as far as the shelf tells its files.
 pub record HasBadTable (files : Option Files) (job : Job) : Type 0 where
   pub octets : List ℕ
   pub text : List ℕ

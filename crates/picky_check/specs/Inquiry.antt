@@ -17,7 +17,8 @@ use Rattle.picky_check.specs.Words.{Job, job_of, signature_name, table_name}
 -- The report is the line of the answer, with its status; want of memory has no report.
 abbrev pub IsReportOf : Result Accepted CheckError → Report → Type 0
 IsReportOf (Err check.Memory) report = ⊥
-IsReportOf answer report = (report.status ≡ status_of answer) × (string_bytes report.line ≡ line_of answer)
+IsReportOf answer report = (report.status ≡ status_of answer)
+    × (string_bytes report.line ≡ line_of answer)
 
 -- The result is a report of the answer, which may be want of memory, unless memory ran out.
 abbrev pub IsReported : Result Accepted CheckError → Result Report Stop → Type 0
@@ -61,20 +62,24 @@ IsFileUnread (Err Usage) = ⊥
 IsFileUnread (Ok report) = ⊥
 
 -- What is found out about the files of a job.
-pub record IsInquiry (before after : ShelfState) (job : Job) (result : Result Report Stop) : Type 0 where
+pub record IsInquiry (before after : ShelfState) (job : Job) (result : Result Report Stop)
+    : Type 0 where
   -- a report is that of an answer
   pub reported : IfOk result (λ report. (answer : Result Accepted CheckError)
       × IsReportOf answer report × IsAnswered before.files job answer)
   -- without a report there is a cause
   pub stopped : IfErr result (IsStopped before after job)
   -- the answer about files that are told is reported
-  pub answered : (answer : Result Accepted CheckError) → IsSome before.files → IsAnswered before.files job answer
+  pub answered : (answer : Result Accepted CheckError) → IsSome before.files
+      → IsAnswered before.files job answer
       → before.is_quiet → GivesReport answer result
-  pub bad_table : IsSome before.files → HasBadTable before.files job → before.is_quiet → GivesStop BadTable result
+  pub bad_table : IsSome before.files → HasBadTable before.files job → before.is_quiet
+      → GivesStop BadTable result
   pub missing_signature : IsMissing before.files (signature_name job) → GivesStop Shelf result
   pub missing_table : IsMissing before.files (table_name job) → IsFileUnread result
   pub too_long : HasLongFile before.files job → GivesStop TooLong result ⊎ (result ≡ Err Shelf)
 
 -- What is found out for words that ask for a job.
 abbrev pub Inquires : List (List ℕ) → ShelfState → ShelfState → Result Report Stop → Type 0
-Inquires words before after result = (job : Job) → job_of words ≡ Some job → IsInquiry before after job result
+Inquires words before after result = (job : Job) → job_of words ≡ Some job
+    → IsInquiry before after job result

@@ -13,7 +13,8 @@ pub record IsWholeFile (files : Option Files) (name octets : List ℕ) : Type 0 
 
 -- The shelf tells a file of this name that is longer than is read.
 abbrev pub IsLongFile : Option Files → List ℕ → Type 0
-IsLongFile files name = (file : List ℕ) × (file_of files name ≡ Some file) × (longest_file < length file)
+IsLongFile files name = (file : List ℕ) × (file_of files name ≡ Some file)
+    × (longest_file < length file)
 
 -- The shelf tells its files, and none has this name.
 pub record IsMissing (files : Option Files) (name : List ℕ) : Type 0 where

@@ -15,7 +15,8 @@ shelf_files shelf = Some (latest shelf.files.items)
 
 -- the file under the name is this one from now on, and the others stay
 abbrev pub AddsFile : Option Files → List ℕ → List ℕ → Option Files → Type 0
-AddsFile before name octets after = (other : List ℕ) → file_of after other ≡ (if bytes_eq name other then Some octets else file_of before other)
+AddsFile before name octets after = (other : List ℕ)
+    → file_of after other ≡ (if bytes_eq name other then Some octets else file_of before other)
 
 -- what is left to read
 abbrev pub shelf_rest : MemShelf → List ℕ
@@ -80,4 +81,8 @@ sink_faults sink = sink.faults
 
 -- what is seen of a sink in memory
 abbrev pub sink_state : MemSink → SinkState
-sink_state sink = record { held = Some (sink_held sink); room = Some (sink_room sink); faults = sink_faults sink }
+sink_state sink = record {
+  held = Some (sink_held sink);
+  room = Some (sink_room sink);
+  faults = sink_faults sink;
+}

@@ -1,5 +1,5 @@
 -- What a shelf tells whose files are opened as readers.
-use Rattle.std.specs.Prelude.{ℕ, List, ◌≡◌, Option, Some, None, IsSome}
+use Rattle.std.specs.Prelude.{ℕ, List, Option, Some, None, IsSome}
 use Rattle.picky_check.specs.Shelf.{Files, IsPicked}
 
 -- Where the files are told, the reader has the whole file of this name to give.

@@ -25,7 +25,8 @@ places_text (first ∷ others) = decimal first ++ flat_map (λ place. 44 ∷ dec
 -- accepted signer=S path=P,P excuse=E
 abbrev pub accepted_line : Accepted → List ℕ
 accepted_line accepted =
-    codes "accepted signer=" ++ place_text accepted.signer ++ codes " path=" ++ places_text accepted.path
+    codes "accepted signer=" ++ place_text accepted.signer
+    ++ codes " path=" ++ places_text accepted.path
     ++ codes " excuse=" ++ excuse_word accepted.excuse ++ 10 ∷ []
 
 -- refused NAME

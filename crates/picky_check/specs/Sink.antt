@@ -30,7 +30,8 @@ HasRoom room n = (left : ℕ) × (room ≡ Some left) × (n ≤ left)
 abbrev pub IsFull : Option ℕ → List ℕ → Type 0
 IsFull before piece = (room : ℕ) → before ≡ Some room → (room ≡ 0) × (0 < length piece)
 
--- A front of a text was appended, and not all of it: where the sink told its room, as much as it had.
+-- A front of a text was appended, and not all of it: where the sink told its room, as much as it
+-- had.
 pub record IsCutShort (text : List ℕ) (before after : SinkState) : Type 0 where
   pub count : ℕ
   pub short : count < length text

@@ -17,8 +17,10 @@ const PIECE: usize = 16_384;
 /// Reads the whole file of this name: at most 16,777,216 octets, and one more to know that there
 /// are more.
 pub fn read_file<F: Shelf>(alloc: Global, shelf: &mut F, name: &str) -> Result<Vec<u8>, FileError>
-    ensures whole { IfOk result (λ octets. IsWholeFile (F.state shelf.old).files name.now octets.items) }
-    ensures given { IfOk result (λ octets. RisesBy (length octets.items) (F.state shelf.old).given (F.state shelf.new).given) }
+    ensures whole { IfOk result (λ octets.
+        IsWholeFile (F.state shelf.old).files name.now octets.items) }
+    ensures given { IfOk result (λ octets.
+        RisesBy (length octets.items) (F.state shelf.old).given (F.state shelf.new).given) }
 
     ensures too_long { IsErrOf result FileError.TooLong → IsSome (F.state shelf.old).files
         → IsLongFile (F.state shelf.old).files name.now }
@@ -26,12 +28,15 @@ pub fn read_file<F: Shelf>(alloc: Global, shelf: &mut F, name: &str) -> Result<V
         → RisesBy (longest_file + 1) (F.state shelf.old).given (F.state shelf.new).given }
 
     ensures missing { IsMissing (F.state shelf.old).files name.now → result ≡ Err FileError.Fault }
-    ensures cause { IsErrOf result FileError.Fault → HasRisen (F.state shelf.old).faults (F.state shelf.new).faults }
-    ensures no_fault { (F.state shelf.old).is_quiet → IsSome (file_of (F.state shelf.old).files name.now)
+    ensures cause { IsErrOf result FileError.Fault
+        → HasRisen (F.state shelf.old).faults (F.state shelf.new).faults }
+    ensures no_fault { (F.state shelf.old).is_quiet
+        → IsSome (file_of (F.state shelf.old).files name.now)
         → ¬ IsErrOf result FileError.Fault }
 
     ensures same { (F.state shelf.new).files ≡ (F.state shelf.old).files }
-    ensures quiet { (F.state shelf.old).is_quiet → IsSome (file_of (F.state shelf.old).files name.now)
+    ensures quiet { (F.state shelf.old).is_quiet
+        → IsSome (file_of (F.state shelf.old).files name.now)
         → (F.state shelf.new).is_quiet }
     ensures counted { GoesOn (F.state shelf.old).faults (F.state shelf.new).faults }
     ensures counted_given { GoesOn (F.state shelf.old).given (F.state shelf.new).given }
@@ -53,7 +58,8 @@ pub fn read_file<F: Shelf>(alloc: Global, shelf: &mut F, name: &str) -> Result<V
 /// Writes a whole text.
 pub fn write_report<O: Sink>(out: &mut O, text: &str) -> Result<(), Failed>
     ensures whole { OnOk result (Appends (O.state out.old).held text.now (O.state out.new).held) }
-    ensures lowered { OnOk result (Lowers (O.state out.old).room (length text.now) (O.state out.new).room) }
+    ensures lowered { OnOk result
+        (Lowers (O.state out.old).room (length text.now) (O.state out.new).room) }
     ensures cut { OnErr result (IsCutShort text.now (O.state out.old) (O.state out.new)) }
     ensures counted { (O.state out.old).faults ≤ (O.state out.new).faults }
     ensures cause { OnErr result (HasRisen (O.state out.old).faults (O.state out.new).faults) }
@@ -74,17 +80,24 @@ pub(crate) fn read_both<F: Shelf>(
     first: &str,
     second: &str,
 ) -> Result<(Vec<u8>, Vec<u8>), FileError>
-    ensures first { IfOk result (λ both. IsWholeFile (F.state shelf.old).files first.now both.0.items) }
-    ensures second { IfOk result (λ both. IsWholeFile (F.state shelf.old).files second.now both.1.items) }
+    ensures first { IfOk result (λ both.
+        IsWholeFile (F.state shelf.old).files first.now both.0.items) }
+    ensures second { IfOk result (λ both.
+        IsWholeFile (F.state shelf.old).files second.now both.1.items) }
 
     ensures too_long { IsErrOf result FileError.TooLong → IsSome (F.state shelf.old).files
-        → IsLongFile (F.state shelf.old).files first.now ⊎ IsLongFile (F.state shelf.old).files second.now }
-    ensures more_given { IsErrOf result FileError.TooLong → RisesBeyond (F.state shelf.old).given (F.state shelf.new).given }
+        → IsLongFile (F.state shelf.old).files first.now
+        ⊎ IsLongFile (F.state shelf.old).files second.now }
+    ensures more_given { IsErrOf result FileError.TooLong
+        → RisesBeyond (F.state shelf.old).given (F.state shelf.new).given }
 
-    ensures missing_first { IsMissing (F.state shelf.old).files first.now → result ≡ Err FileError.Fault }
+    ensures missing_first { IsMissing (F.state shelf.old).files first.now
+        → result ≡ Err FileError.Fault }
     ensures missing_second { IsMissing (F.state shelf.old).files second.now → IsErr result }
-    ensures cause { IsErrOf result FileError.Fault → HasRisen (F.state shelf.old).faults (F.state shelf.new).faults }
-    ensures no_fault { (F.state shelf.old).is_quiet → IsSome (file_of (F.state shelf.old).files first.now)
+    ensures cause { IsErrOf result FileError.Fault
+        → HasRisen (F.state shelf.old).faults (F.state shelf.new).faults }
+    ensures no_fault { (F.state shelf.old).is_quiet
+        → IsSome (file_of (F.state shelf.old).files first.now)
         → IsSome (file_of (F.state shelf.old).files second.now) → ¬ IsErrOf result FileError.Fault }
 {
     let one = read_file(alloc, shelf, first)?;

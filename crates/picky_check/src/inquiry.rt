@@ -25,7 +25,8 @@ pub(crate) fn inquire<F: Shelf>(
     shelf: &mut F,
 ) -> Result<Report, Stop>
     ensures usage { job_of (map string_bytes words.now) ≡ None → result ≡ Err Stop.Usage }
-    ensures asked { Inquires (map string_bytes words.now) (F.state shelf.old) (F.state shelf.new) result }
+    ensures asked { Inquires (map string_bytes words.now)
+        (F.state shelf.old) (F.state shelf.new) result }
 {
     match job_of(alloc, words)? {
         Some(
@@ -47,7 +48,8 @@ fn basic<F: Shelf>(
     table: &str,
     hash: &[u8],
 ) -> Result<Report, Stop>
-    ensures { IsInquiry (F.state shelf.old) (F.state shelf.new) (Basic signature.now table.now hash.now) result }
+    ensures { IsInquiry (F.state shelf.old) (F.state shelf.new)
+        (Basic signature.now table.now hash.now) result }
 {
     let (octets, text) = read_both(alloc, shelf, signature, table)?;
     judge(alloc, &octets, &text, hash)
@@ -55,10 +57,13 @@ fn basic<F: Shelf>(
 
 /// The report of a signature file, judged by the text of a table.
 fn judge(alloc: Global, octets: &[u8], text: &[u8], hash: &[u8]) -> Result<Report, Stop>
-    ensures reported { IfOk result (λ report. (rows : List VerdictRow) × (answer : Result Accepted CheckError)
-        × IsTable text.now rows × IsBasicAnswer (verdict_of rows) octets.now hash.now answer × IsReportOf answer report) }
+    ensures reported { IfOk result (λ report. (rows : List VerdictRow)
+        × (answer : Result Accepted CheckError)
+        × IsTable text.now rows × IsBasicAnswer (verdict_of rows) octets.now hash.now answer
+        × IsReportOf answer report) }
     ensures stopped { IfErr result (λ stop. StopsForText text.now stop) }
-    ensures only { (rows : List VerdictRow) (answer : Result Accepted CheckError) → IsTable text.now rows
+    ensures only { (rows : List VerdictRow) (answer : Result Accepted CheckError)
+        → IsTable text.now rows
         → IsBasicAnswer (verdict_of rows) octets.now hash.now answer → GivesReport answer result }
     ensures bad { (number : ℕ) → IsFirstBadLine text.now number → GivesStop Stop.BadTable result }
 {

@@ -18,7 +18,8 @@ use std::io::{Error, ErrorKind};
 /// an answer, and gives the exit status, one of those that have names here.
 pub fn run<F: Shelf, O: Sink>(alloc: Global, words: &[String], shelf: &mut F, out: &mut O) -> u8
     // Acceptance means vouched for.
-    ensures vouched_for { result ≡ 0 → IsVouchedFor (map string_bytes words.now) (F.state shelf.old).files }
+    ensures vouched_for { result ≡ 0
+        → IsVouchedFor (map string_bytes words.now) (F.state shelf.old).files }
     // What each status tells, and when it comes.
     ensures ends { IsRun (map string_bytes words.now) (F.state shelf.old) (F.state shelf.new)
         (O.state out.old) (O.state out.new) result }
@@ -31,7 +32,8 @@ pub fn run<F: Shelf, O: Sink>(alloc: Global, words: &[String], shelf: &mut F, ou
 
 /// Writes the line of a report. The status is the report's where the sink took all of it.
 fn deliver<O: Sink>(out: &mut O, report: &Report) -> u8
-    ensures { ((result ≡ report.now.status) × Appends (O.state out.old).held (string_bytes report.now.line) (O.state out.new).held)
+    ensures { ((result ≡ report.now.status)
+        × Appends (O.state out.old).held (string_bytes report.now.line) (O.state out.new).held)
         ⊎ ((result ≡ 5) × HasRisen (O.state out.old).faults (O.state out.new).faults
         × IsCutShort (string_bytes report.now.line) (O.state out.old) (O.state out.new)) }
 {

@@ -33,8 +33,8 @@ pub(crate) fn report_of(alloc: Global, answer: Result<Accepted, CheckError>) -> 
     }
 }
 
-/// The line of an accepted signature, `accepted signer=S path=P,P excuse=E` and a newline: places in
-/// decimal, with commas between those of the path.
+/// The line of an accepted signature, `accepted signer=S path=P,P excuse=E` and a newline: places
+/// in decimal, with commas between those of the path.
 pub fn accepted_line(alloc: Global, accepted: &Accepted) -> Result<String, AllocError>
     ensures { IfOk result (λ line. string_bytes line ≡ accepted_line accepted.now) }
 {
@@ -49,7 +49,8 @@ pub fn accepted_line(alloc: Global, accepted: &Accepted) -> Result<String, Alloc
 }
 
 fn push_places(line: &mut String, places: &[usize]) -> Result<(), AllocError>
-    ensures { OnOk result (string_bytes line.new ≡ string_bytes line.old ++ places_text places.now) }
+    ensures { OnOk result
+        (string_bytes line.new ≡ string_bytes line.old ++ places_text places.now) }
 {
     let [first, others @ ..] = places else {
         return Ok(());

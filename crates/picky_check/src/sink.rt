@@ -15,7 +15,8 @@ pub trait Sink {
     fn write(&mut self, piece: &[u8]) -> Result<usize, Failed>
         ensures bound { IfOk result (λ n. n ≤ length piece.now) }
         ensures some { IfOk result (λ n. 0 < length piece.now → 0 < n) }
-        ensures appended { IfOk result (λ n. Appends (state self.old).held (take n piece.now) (state self.new).held) }
+        ensures appended { IfOk result (λ n.
+            Appends (state self.old).held (take n piece.now) (state self.new).held) }
         ensures lowered { IfOk result (λ n. Lowers (state self.old).room n (state self.new).room) }
         ensures kept { OnErr result (Keeps (state self.old).held (state self.new).held) }
         ensures kept_room { OnErr result (Keeps (state self.old).room (state self.new).room) }

@@ -19,7 +19,8 @@ pub trait Opener {
 
     /// Opens the file of this name, with all of it left to read.
     fn open(&self, name: &str) -> io::Result<Self::Reader>
-        ensures { IfOk result (λ reader. IsOpened (files self.now) name.now (Self.Reader.remaining reader)) };
+        ensures { IfOk result (λ reader.
+            IsOpened (files self.now) name.now (Self.Reader.remaining reader)) };
 }
 
 /// Files that are opened when they are picked. Each error of an opener or a reader is a fault.
@@ -109,7 +110,11 @@ impl<W: Write> WriterSink<W> {
 }
 
 impl<W: Write> Sink for WriterSink<W> {
-    ghost state = { λ sink. record { held = W.contents sink.writer; room = None; faults = sink.faults } };
+    ghost state = { λ sink. record {
+      held = W.contents sink.writer;
+      room = None;
+      faults = sink.faults;
+    } };
 
     fn write(&mut self, piece: &[u8]) -> Result<usize, Failed> {
         match self.writer.write(piece) {

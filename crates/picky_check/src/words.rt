@@ -23,7 +23,8 @@ pub(crate) enum Job<'a> {
 /// The job that the words ask for, if they are in the table of commands. Memory is asked for only
 /// where they are.
 pub(crate) fn job_of(alloc: Global, words: &[String]) -> Result<Option<Job<'_>>, AllocError>
-    ensures asked { IfOk result (λ asked. option_map job asked ≡ job_of (map string_bytes words.now)) }
+    ensures asked { IfOk result (λ asked.
+        option_map job asked ≡ job_of (map string_bytes words.now)) }
     ensures memory { IsErr result → IsSome (job_of (map string_bytes words.now)) }
 {
     let [command, signature, table, hash] = words else {

@@ -1,4 +1,4 @@
-use Rattle.std.proofs.Common.{inl, inr, ap, arith}
+use Rattle.std.proofs.Common.{inl, inr}
 use Rattle.picky_check.proofs.Hashes.{no_hash}
 use Rattle.picky_check.proofs.words.hash_of.Goals as goal
 use Rattle.picky_check.proofs.words.hash_of.Goals.{then-count-eq0-via-then-count-eq0, then-count-eq0-via-else-count-eq0+then-count-gt-LONGEST_HASH}
