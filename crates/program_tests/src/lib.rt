@@ -11,3 +11,5 @@ mod files;
 mod lines;
 #[cfg(test)]
 mod streams;
+#[cfg(test)]
+mod words;
