@@ -17,6 +17,7 @@ import compare_readers
 import der_reader
 import oid_table
 import reader_stand_in
+import run_program
 from certificate_cases import (
     AGREED, AGREEMENT_KEYS, GENERATED, KEY_LABELS, LABELS, REQUESTED, SIGNING_KEYS, WRITTEN,
     Key, Requested,
@@ -400,6 +401,28 @@ class CertificatesByOpensslTest(unittest.TestCase):
             make_key(Key("", "ED25519"), key)
             with self.assertRaisesRegex(OpensslError, "Skipping"):
                 requested_certificate(Requested("", "/nothing=a"), key, Path(folder))
+
+
+class RunsTest(unittest.TestCase):
+    def differences(self, script):
+        """The rows that a stand-in for the program differs from, by their reasons."""
+        with TemporaryDirectory() as folder:
+            program = Path(folder, "program")
+            program.write_text(f"#!/bin/sh\n{script}\n")
+            program.chmod(0o755)
+            return {row.why: run_program.difference(program, row) for row in run_program.ROWS}
+
+    def test_rows(self):
+        self.assertEqual({row.status for row in run_program.ROWS}, set(range(7)))
+        reasons = [row.why for row in run_program.ROWS]
+        self.assertEqual(len(reasons), len(set(reasons)))
+
+    def test_a_constant_status(self):
+        for row, what in zip(run_program.ROWS, self.differences("exit 2").values()):
+            self.assertEqual(what is None, row.status == 2, row.why)
+
+    def test_words_on_standard_error(self):
+        self.assertTrue(all(self.differences("echo no >&2; exit 2").values()))
 
 
 if __name__ == "__main__":

@@ -1,25 +1,19 @@
 //! The program: the words of its command line, files by their paths, standard output.
 #![tactic(auto)]
 
-use picky_check::{DirShelf, OutSink};
+use picky_check::{DirShelf, OutSink, run, status_without_words};
 use std::process::ExitCode;
 use std::{env, io};
 
-// The words ask for nothing: one of them is not UTF-8.
-const USAGE: u8 = 2;
-
-const OUT_OF_MEMORY: u8 = 7;
-
 fn main(rt: HostRuntime) -> ExitCode {
     let status = match words(&rt) {
-        Ok(words) => picky_check::run(
+        Ok(words) => run(
             rt.alloc(),
-            words.as_slice(),
+            &words,
             &mut DirShelf::new(&rt),
             &mut OutSink::new(&rt),
         ),
-        Err(error) if error.kind() == io::ErrorKind::OutOfMemory => OUT_OF_MEMORY,
-        Err(_) => USAGE,
+        Err(error) => status_without_words(&error),
     };
     ExitCode::from(status)
 }

@@ -7,6 +7,7 @@ use Rattle.authenticode_core.specs.Basic.{IsSameUnlessMemory}
 use Rattle.picky_check.specs.declared.report.Report.{Report}
 use Rattle.picky_check.specs.declared.stop.Stop.{Stop}
 use Rattle.picky_check.specs.declared.stop.Stop.TheVariants as stop
+use Rattle.picky_check.specs.Limits.{IsWholeFile, IsMissing}
 use Rattle.picky_check.specs.Shelf.{Files, file_of}
 use Rattle.picky_check.specs.Inquiry.{IsReported, GivesReport}
 
@@ -43,3 +44,9 @@ told None name file h = absurd cc
 pub is_there : (o : Option (List ℕ)) (file : List ℕ) → o ≡ Some file → IsSome o
 is_there (Some x) file h = refl
 is_there None file h = absurd cc
+
+is_none : (o : Option (List ℕ)) (file : List ℕ) → o ≡ None → o ≡ Some file → ⊥
+is_none o file none some = absurd cc
+
+pub not_missing : (files : Option Files) (name file : List ℕ) → IsMissing files name → IsWholeFile files name file → ⊥
+not_missing files name file missing whole = is_none (file_of files name) file missing.none (whole.as_told missing.told)

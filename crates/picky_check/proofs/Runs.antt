@@ -1,5 +1,5 @@
 -- What a run does follows from what was found out about the files, and from what the sink took.
-use Rattle.std.proofs.Common.{◌≡◌, ◌≢◌, ◌⊎◌, ℕ, ◌<◌, ◌≤◌, List, Option, Some, None, IsSome, Result, Ok, Err, inl, inr, refl, sym, ◌∙◌, ap, subst, arith}
+use Rattle.std.proofs.Common.{◌≡◌, ◌≢◌, ◌⊎◌, ℕ, ◌<◌, ◌≤◌, List, length, Option, Some, None, IsSome, Result, Ok, Err, inl, inr, refl, sym, ◌∙◌, ap, subst, arith}
 use Rattle.std.specs.Prelude.{string_bytes}
 use Rattle.authenticode_core.specs.declared.accepted.Accepted.{Accepted}
 use Rattle.authenticode_core.specs.declared.error.CheckError.{CheckError}
@@ -8,18 +8,19 @@ use Rattle.picky_check.specs.declared.report.Report.{Report}
 use Rattle.picky_check.specs.declared.stop.Stop.{Stop}
 use Rattle.picky_check.specs.declared.stop.Stop.TheVariants as stop
 use Rattle.picky_check.specs.Counts.{HasRisen}
-use Rattle.picky_check.specs.Shelf.{Files}
-use Rattle.picky_check.specs.Sink.{Appends}
+use Rattle.picky_check.specs.Shelf.{ShelfState}
+use Rattle.picky_check.specs.Sink.{SinkState, Appends, HasRoom, IsCutShort}
 use Rattle.picky_check.specs.Stops.{status_for}
-use Rattle.picky_check.specs.Words.{Task, task_of}
-use Rattle.picky_check.specs.Program.{line_of, status_of, IsAnswered}
-use Rattle.picky_check.specs.Inquiry.{IsReportOf, GivesReport, GivesStop, IsStopped, IsInquiry}
-use Rattle.picky_check.specs.Run.{IsRun, IsCut, Reports}
+use Rattle.picky_check.specs.Words.{Job, job_of}
+use Rattle.picky_check.specs.Report.{line_of, status_of}
+use Rattle.picky_check.specs.Answer.{IsAnswered}
+use Rattle.picky_check.specs.Inquiry.{IsReportOf, GivesReport, GivesStop, IsStopped, IsFileUnread, IsInquiry}
+use Rattle.picky_check.specs.Run.{Answers, IsRun}
 
--- words ask for a task, or for none
-by_task : (o : Option Task) → (o ≡ None) ⊎ ((task : Task) × (o ≡ Some task))
-by_task None = inl refl
-by_task (Some task) = inr (task, refl)
+-- words ask for a job, or for none
+by_job : (o : Option Job) → (o ≡ None) ⊎ ((job : Job) × (o ≡ Some job))
+by_job None = inl refl
+by_job (Some job) = inr (job, refl)
 
 status_bounded : (s : Stop) → status_for s ≤ 7
 status_bounded stop.Usage = omega arith
@@ -107,53 +108,60 @@ given_report (Err check.NotThisForm) report other h = h
 given_report (Err (check.Authenticode e)) report other h = h
 given_report (Err check.Memory) report other h = absurd (other refl)
 
-module _ (words : List (List ℕ)) (files : Option Files) (quiet : Type 0) (faults faults_now given given_now : ℕ) where
+-- a file that was not read whole ends the run with 4, 6 or 7
+unread_status : (s : Stop) → IsFileUnread (Err s) → ((status_for s ≡ 4) ⊎ (status_for s ≡ 7)) ⊎ (status_for s ≡ 6)
+unread_status stop.Shelf h = inl (inl refl)
+unread_status stop.Memory h = inl (inr refl)
+unread_status stop.TooLong h = inr refl
+unread_status stop.Usage h = absurd h
+unread_status stop.BadTable h = absurd h
+
+-- a sink that has room for a text takes it whole
+no_room : (text : List ℕ) (out out_now : SinkState) → IsCutShort text out out_now → HasRoom out.room (length text) → ⊥
+no_room text out out_now cut has = omega (arith, cut.short, cut.full has.0 has.1, has.2)
+
+module _ (words : List (List ℕ)) (shelf shelf_now : ShelfState) where
   -- where there is no report
   module _ (s : Stop)
-      (asked : (task : Task) → task_of words ≡ Some task → IsInquiry files quiet faults faults_now given given_now task (Err s))
-      (unasked : task_of words ≡ None → GivesStop stop.Usage (Err s)) where
-    stopped_usage : s ≡ stop.Usage → task_of words ≡ None
-    stopped_usage e = elim (by_task (task_of words)) [
+      (unasked : job_of words ≡ None → ◌≡◌ {A = Result Report Stop} (Err s) (Err stop.Usage))
+      (asked : (job : Job) → job_of words ≡ Some job → IsInquiry shelf shelf_now job (Err s)) where
+    stopped_usage : s ≡ stop.Usage → job_of words ≡ None
+    stopped_usage e = elim (by_job (job_of words)) [
       | inl none ↦ none
-      | inr some ↦ absurd (subst (λ x. IsStopped files some.0 quiet faults faults_now given given_now x) e (asked some.0 some.1).stopped)
+      | inr some ↦ absurd (subst (IsStopped shelf shelf_now some.0) e (asked some.0 some.1).stopped)
     ]
 
-    -- a stop for another reason than usage or memory is of a task
-    stopped_task : s ≢ stop.Usage → s ≢ stop.Memory → (task : Task) × (task_of words ≡ Some task) × IsStopped files task quiet faults faults_now given given_now s
-    stopped_task no_usage no_memory = elim (by_task (task_of words)) [
-      | inl none ↦ absurd (neither (unasked none))
-      | inr some ↦ (some.0, some.1, (asked some.0 some.1).stopped)
-    ] where
-      neither : GivesStop stop.Usage (Err s) → ⊥
-      neither (inl e) = no_usage cc
-      neither (inr e) = no_memory cc
+    is_usage_status : job_of words ≡ None → status_for s ≡ 2
+    is_usage_status none = let e = unasked none in let same : s ≡ stop.Usage = cc in ap status_for same
 
-    pub IsRun-stopped : (held : Option (List ℕ)) (room : Option ℕ) (sink_faults : ℕ) → IsRun words files quiet faults faults_now given given_now held held room sink_faults sink_faults (status_for s)
-    IsRun-stopped held room sink_faults = record {
+    -- a stop for another reason than usage is of a job
+    stopped_job : (t : Stop) → t ≢ stop.Usage → s ≡ t → (job : Job) × (job_of words ≡ Some job) × IsStopped shelf shelf_now job t
+    stopped_job t other is = elim (by_job (job_of words)) [
+      | inl none ↦ absurd (let e = unasked none in let same : s ≡ stop.Usage = cc in other (sym is ∙ same))
+      | inr some ↦ (some.0, some.1, subst (IsStopped shelf shelf_now some.0) is (asked some.0 some.1).stopped)
+    ]
+
+    pub IsRun-stopped : (out : SinkState) → IsRun words shelf shelf_now out out (status_for s)
+    IsRun-stopped out = record {
       bounded = status_bounded s;
       accepted = λ e. absurd (omega (arith, status_least s));
       refused = λ e. absurd (omega (arith, status_least s));
-      usage = λ e. stopped_usage (is_usage s e);
-      usage_always = λ none. stop_status s stop.Usage (unasked none);
+      usage = (λ e. stopped_usage (is_usage s e), is_usage_status);
       bad_table = λ e.
-          let is = is_bad_table s e in
-          let h = stopped_task (λ u. absurd cc) (λ m. absurd cc) in
-          (h.0, h.1, subst (λ x. IsStopped files h.0 quiet faults faults_now given given_now x) is h.2);
-      bad_table_always = λ task some bad there q short. stop_status s stop.BadTable ((asked task some).bad_table bad there q short);
-      shelf_failed = λ e.
-          let is = is_shelf s e in
-          let h = stopped_task (λ u. absurd cc) (λ m. absurd cc) in
-          (subst (λ x. IsStopped files h.0 quiet faults faults_now given given_now x) is h.2).0;
-      shelf_quiet = λ task some q there e. (subst (λ x. IsStopped files task quiet faults faults_now given given_now x) (is_shelf s e) (asked task some).stopped).1 q there;
+          let h = stopped_job stop.BadTable (λ u. absurd cc) (is_bad_table s e) in
+          record { job = h.0; asked = h.1; has_bad_table = h.2 };
+      bad_table_always = λ job some q t bad. stop_status s stop.BadTable ((asked job some).bad_table t bad q);
+      shelf_failed = λ e. (stopped_job stop.Shelf (λ u. absurd cc) (is_shelf s e)).2.0;
+      shelf_quiet = λ job some q there e. (subst (IsStopped shelf shelf_now job) (is_shelf s e) (asked job some).stopped).1 q there;
+      missing_signature = λ job some m. stop_status s stop.Shelf ((asked job some).missing_signature m);
+      missing_table = λ job some m. unread_status s ((asked job some).missing_table m);
       sink_failed = λ e. absurd (never_five s e);
       too_long = λ e.
-          let is = is_too_long s e in
-          let h = stopped_task (λ u. absurd cc) (λ m. absurd cc) in
-          let t = subst (λ x. IsStopped files h.0 quiet faults faults_now given given_now x) is h.2 in
-          (h.0, h.1, t.0, t.1);
-      too_long_always = λ task some long. long_status ((asked task some).too_long long);
+          let h = stopped_job stop.TooLong (λ u. absurd cc) (is_too_long s e) in
+          record { job = h.0; asked = h.1; more_given = h.2.0; has_long_file = h.2.1 };
+      too_long_always = λ job some long. long_status ((asked job some).too_long long);
       nothing_written = λ two five. λ v e. e;
-      answered = λ task answer some a other q short. inl (inr (memory_status answer s other ((asked task some).answered answer a q short)));
+      answered = λ job answer some q t a other. inl (inr (memory_status answer s other ((asked job some).answered answer t a q)));
     } where
       long_status : GivesStop stop.TooLong (Err s) ⊎ (◌≡◌ {A = Result Report Stop} (Err s) (Err stop.Shelf)) → ((status_for s ≡ 6) ⊎ (status_for s ≡ 7)) ⊎ (status_for s ≡ 4)
       long_status (inl h) = inl (stop_status s stop.TooLong h)
@@ -161,87 +169,97 @@ module _ (words : List (List ℕ)) (files : Option Files) (quiet : Type 0) (faul
 
   -- where there is a report, and the sink took all of its line, or a front of it
   module _ (report : Report)
-      (asked : (task : Task) → task_of words ≡ Some task → IsInquiry files quiet faults faults_now given given_now task (Ok report))
-      (unasked : task_of words ≡ None → GivesStop stop.Usage (Ok report)) where
+      (unasked : job_of words ≡ None → ◌≡◌ {A = Result Report Stop} (Ok report) (Err stop.Usage))
+      (asked : (job : Job) → job_of words ≡ Some job → IsInquiry shelf shelf_now job (Ok report)) where
     no_stop : (t : Stop) → GivesStop t (Ok report) → ⊥
     no_stop t (inl e) = absurd cc
     no_stop t (inr e) = absurd cc
 
-    the_task : (task : Task) × (task_of words ≡ Some task)
-    the_task = elim (by_task (task_of words)) [
-      | inl none ↦ absurd (no_stop stop.Usage (unasked none))
-      | inr some ↦ some
+    no_usage : job_of words ≡ None → ⊥
+    no_usage none = no_stop stop.Usage (inl (unasked none))
+
+    no_long : GivesStop stop.TooLong (Ok report) ⊎ (◌≡◌ {A = Result Report Stop} (Ok report) (Err stop.Shelf)) → ⊥
+    no_long (inl h) = no_stop stop.TooLong h
+    no_long (inr e) = absurd cc
+
+    -- the answer that is reported
+    the_answer : (answer : Result Accepted CheckError) × IsReportOf answer report × Answers words shelf.files answer
+    the_answer = elim (by_job (job_of words)) [
+      | inl none ↦ absurd (no_usage none)
+      | inr some ↦ let h = (asked some.0 some.1).reported in (h.0, h.1, record { job = some.0; asked = some.1; is_answered = h.2 })
     ]
 
-    answer_reported : (task : Task) → task_of words ≡ Some task → (answer : Result Accepted CheckError) × IsReportOf answer report × (IsSome files → IsAnswered files task answer)
-    answer_reported task some = (asked task some).reported
-
     low_status : report.status < 2
-    low_status =
-        let h = answer_reported the_task.0 the_task.1 in
-        below (h.0) (report_status h.0 report h.1) where
-          below : (answer : Result Accepted CheckError) → report.status ≡ status_of answer → report.status < 2
-          below (Ok a) e = omega arith
-          below (Err e) h = omega arith
+    low_status = below the_answer.0 (report_status the_answer.0 report the_answer.1) where
+      below : (answer : Result Accepted CheckError) → report.status ≡ status_of answer → report.status < 2
+      below (Ok a) e = omega arith
+      below (Err e) h = omega arith
 
-    module _ (held held_now : Option (List ℕ)) (room : Option ℕ) (sink_faults sink_faults_now : ℕ) where
-      reports_all : (answer : Result Accepted CheckError) → IsReportOf answer report → (IsSome files → IsAnswered files the_task.0 answer) → Appends held (string_bytes report.line) held_now → Reports words files held held_now answer
-      reports_all answer of_answer told all =
-          (the_task.0, the_task.1, told, subst (λ line. Appends held line held_now) (report_line answer report of_answer) all)
+    -- an answer that is given has the status and the line of the report
+    given : (job : Job) (answer : Result Accepted CheckError) → job_of words ≡ Some job → shelf.is_quiet → IsSome shelf.files → IsAnswered shelf.files job answer → answer ≢ Err check.Memory → IsReportOf answer report
+    given job answer some q t a other = given_report answer report other ((asked job some).answered answer t a q)
 
-      accepted_report : (answer : Result Accepted CheckError) → IsReportOf answer report → (IsSome files → IsAnswered files the_task.0 answer) → Appends held (string_bytes report.line) held_now → report.status ≡ 0 → (a : Accepted) × Reports words files held held_now (Ok a)
-      accepted_report (Ok a) of_answer told all e = (a, reports_all (Ok a) of_answer told all)
-      accepted_report (Err f) of_answer told all e = absurd (omega (arith, report_status (Err f) report of_answer))
+    module _ (out out_now : SinkState) where
+      written : (answer : Result Accepted CheckError) → IsReportOf answer report → Appends out.held (string_bytes report.line) out_now.held → Appends out.held (line_of answer) out_now.held
+      written answer of_answer all = subst (λ line. Appends out.held line out_now.held) (report_line answer report of_answer) all
 
-      refused_report : (answer : Result Accepted CheckError) → IsReportOf answer report → (IsSome files → IsAnswered files the_task.0 answer) → Appends held (string_bytes report.line) held_now → report.status ≡ 1 → (e : CheckError) × (e ≢ check.Memory) × Reports words files held held_now (Err e)
-      refused_report (Ok a) of_answer told all e = absurd (omega (arith, report_status (Ok a) report of_answer))
-      refused_report (Err f) of_answer told all e = (f, λ m. subst (λ x. IsReportOf (Err x) report) m of_answer, reports_all (Err f) of_answer told all)
+      accepted_report : (answer : Result Accepted CheckError) → IsReportOf answer report → Answers words shelf.files answer → Appends out.held (string_bytes report.line) out_now.held → report.status ≡ 0
+          → (a : Accepted) × Answers words shelf.files (Ok a) × Appends out.held (line_of (Ok a)) out_now.held
+      accepted_report (Ok a) of_answer is all e = (a, is, written (Ok a) of_answer all)
+      accepted_report (Err f) of_answer is all e = absurd (omega (arith, report_status (Err f) report of_answer))
 
-      no_long : GivesStop stop.TooLong (Ok report) ⊎ (◌≡◌ {A = Result Report Stop} (Ok report) (Err stop.Shelf)) → ⊥
-      no_long (inl h) = no_stop stop.TooLong h
-      no_long (inr e) = absurd cc
+      refused_report : (answer : Result Accepted CheckError) → IsReportOf answer report → Answers words shelf.files answer → Appends out.held (string_bytes report.line) out_now.held → report.status ≡ 1
+          → (e : CheckError) × (e ≢ check.Memory) × Answers words shelf.files (Err e) × Appends out.held (line_of (Err e)) out_now.held
+      refused_report (Ok a) of_answer is all e = absurd (omega (arith, report_status (Ok a) report of_answer))
+      refused_report (Err f) of_answer is all e = (f, λ m. subst (λ x. IsReportOf (Err x) report) m of_answer, is, written (Err f) of_answer all)
 
-      pub IsRun-written : (status : ℕ) → status ≡ report.status → Appends held (string_bytes report.line) held_now → IsRun words files quiet faults faults_now given given_now held held_now room sink_faults sink_faults_now status
-      IsRun-written status is all =
-          let h = answer_reported the_task.0 the_task.1 in record {
-            bounded = omega (arith, low_status);
-            accepted = λ e. accepted_report h.0 h.1 h.2 all (sym is ∙ e);
-            refused = λ e. refused_report h.0 h.1 h.2 all (sym is ∙ e);
-            usage = λ e. absurd (omega (arith, low_status));
-            usage_always = λ none. absurd (no_stop stop.Usage (unasked none));
-            bad_table = λ e. absurd (omega (arith, low_status));
-            bad_table_always = λ task some bad there q short. absurd (no_stop stop.BadTable ((asked task some).bad_table bad there q short));
-            shelf_failed = λ e. absurd (omega (arith, low_status));
-            shelf_quiet = λ task some q there e. omega (arith, low_status);
-            sink_failed = λ e. absurd (omega (arith, low_status));
-            too_long = λ e. absurd (omega (arith, low_status));
-            too_long_always = λ task some long. absurd (no_long ((asked task some).too_long long));
-            nothing_written = λ two five. absurd (omega (arith, low_status));
-            answered = λ task answer some a other q short.
-                inl (inl (is ∙ report_status answer report (given_report answer report other ((asked task some).answered answer a q short))));
-          }
+      cut_line : (answer : Result Accepted CheckError) → IsReportOf answer report → IsCutShort (string_bytes report.line) out out_now → IsCutShort (line_of answer) out out_now
+      cut_line answer of_answer cut = subst (λ line. IsCutShort line out out_now) (report_line answer report of_answer) cut
 
-      pub IsRun-cut : (status : ℕ) → status ≡ 5 → HasRisen sink_faults sink_faults_now → IsCut (string_bytes report.line) held held_now room → IsRun words files quiet faults faults_now given given_now held held_now room sink_faults sink_faults_now status
-      IsRun-cut status is rose cut =
-          let h = answer_reported the_task.0 the_task.1 in record {
-            bounded = omega arith;
-            accepted = λ e. absurd (omega arith);
-            refused = λ e. absurd (omega arith);
-            usage = λ e. absurd (omega arith);
-            usage_always = λ none. absurd (no_stop stop.Usage (unasked none));
-            bad_table = λ e. absurd (omega arith);
-            bad_table_always = λ task some bad there q short. absurd (no_stop stop.BadTable ((asked task some).bad_table bad there q short));
-            shelf_failed = λ e. absurd (omega arith);
-            shelf_quiet = λ task some q there e. omega arith;
-            sink_failed = λ e. (rose, (the_task.0, h.0, the_task.1, h.2, subst (λ line. IsCut line held held_now room) (report_line h.0 report h.1) cut));
-            too_long = λ e. absurd (omega arith);
-            too_long_always = λ task some long. absurd (no_long ((asked task some).too_long long));
-            nothing_written = λ two five. absurd (five is);
-            answered = λ task answer some a other q short.
-                let of_answer = given_report answer report other ((asked task some).answered answer a q short) in
-                inr (is, rose, (subst (λ line. IsCut line held held_now room) (report_line answer report of_answer) cut).1);
-          }
+      IsRun-written : (status : ℕ) → status ≡ report.status → Appends out.held (string_bytes report.line) out_now.held → IsRun words shelf shelf_now out out_now status
+      IsRun-written status is all = record {
+        bounded = omega (arith, low_status);
+        accepted = λ e. accepted_report the_answer.0 the_answer.1 the_answer.2 all (sym is ∙ e);
+        refused = λ e. refused_report the_answer.0 the_answer.1 the_answer.2 all (sym is ∙ e);
+        usage = (λ e. absurd (omega (arith, low_status)), λ none. absurd (no_usage none));
+        bad_table = λ e. absurd (omega (arith, low_status));
+        bad_table_always = λ job some q t bad. absurd (no_stop stop.BadTable ((asked job some).bad_table t bad q));
+        shelf_failed = λ e. absurd (omega (arith, low_status));
+        shelf_quiet = λ job some q there e. omega (arith, low_status);
+        missing_signature = λ job some m. absurd (no_stop stop.Shelf ((asked job some).missing_signature m));
+        missing_table = λ job some m. absurd ((asked job some).missing_table m);
+        sink_failed = λ e. absurd (omega (arith, low_status));
+        too_long = λ e. absurd (omega (arith, low_status));
+        too_long_always = λ job some long. absurd (no_long ((asked job some).too_long long));
+        nothing_written = λ two five. absurd (omega (arith, low_status));
+        answered = λ job answer some q t a other. inl (inl (is ∙ report_status answer report (given job answer some q t a other)));
+      }
 
-      pub IsRun-delivered : (status : ℕ) → ((status ≡ report.status) × Appends held (string_bytes report.line) held_now) ⊎ ((status ≡ 5) × HasRisen sink_faults sink_faults_now × IsCut (string_bytes report.line) held held_now room) → IsRun words files quiet faults faults_now given given_now held held_now room sink_faults sink_faults_now status
+      IsRun-cut : (status : ℕ) → status ≡ 5 → HasRisen out.faults out_now.faults → IsCutShort (string_bytes report.line) out out_now → IsRun words shelf shelf_now out out_now status
+      IsRun-cut status is rose cut = record {
+        bounded = omega arith;
+        accepted = λ e. absurd (omega arith);
+        refused = λ e. absurd (omega arith);
+        usage = (λ e. absurd (omega arith), λ none. absurd (no_usage none));
+        bad_table = λ e. absurd (omega arith);
+        bad_table_always = λ job some q t bad. absurd (no_stop stop.BadTable ((asked job some).bad_table t bad q));
+        shelf_failed = λ e. absurd (omega arith);
+        shelf_quiet = λ job some q there e. omega arith;
+        missing_signature = λ job some m. absurd (no_stop stop.Shelf ((asked job some).missing_signature m));
+        missing_table = λ job some m. absurd ((asked job some).missing_table m);
+        sink_failed = λ e. record {
+          answer = the_answer.0;
+          is_answer = the_answer.2;
+          cut_short = cut_line the_answer.0 the_answer.1 cut;
+          has_risen = rose;
+        };
+        too_long = λ e. absurd (omega arith);
+        too_long_always = λ job some long. absurd (no_long ((asked job some).too_long long));
+        nothing_written = λ two five. absurd (five is);
+        answered = λ job answer some q t a other.
+            inr (is, rose, no_room (line_of answer) out out_now (cut_line answer (given job answer some q t a other) cut));
+      }
+
+      pub IsRun-delivered : (status : ℕ) → ((status ≡ report.status) × Appends out.held (string_bytes report.line) out_now.held) ⊎ ((status ≡ 5) × HasRisen out.faults out_now.faults × IsCutShort (string_bytes report.line) out out_now) → IsRun words shelf shelf_now out out_now status
       IsRun-delivered status (inl h) = IsRun-written status h.0 h.1
       IsRun-delivered status (inr h) = IsRun-cut status h.0 h.1 h.2

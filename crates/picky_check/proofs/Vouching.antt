@@ -2,26 +2,28 @@
 use Rattle.std.proofs.Common.{◌≡◌, List, ℕ, Option, Some, Ok}
 use Rattle.authenticode_core.specs.declared.accepted.Accepted.{Accepted}
 use Rattle.picky_check.specs.Headline.{IsVouchedFor}
-use Rattle.picky_check.specs.Program.{IsAnswered}
+use Rattle.picky_check.specs.Answer.{IsAnswered}
+use Rattle.picky_check.specs.Run.{Answers}
 use Rattle.picky_check.specs.Shelf.{Files}
-use Rattle.picky_check.specs.Words.{Task, Basic}
+use Rattle.picky_check.specs.Words.{Job, Basic, job_of}
 
-pub vouched_for : (files : Option Files) (o : Option Task) (task : Task) (a : Accepted) → o ≡ Some task → IsAnswered files task (Ok a) → (signature table hash : List ℕ) × (o ≡ Some (Basic signature table hash)) × IsVouchedFor files signature table hash
-vouched_for files o (Basic signature table hash) a some h = (
-  signature,
-  table,
-  hash,
-  some,
-  record {
-    octets = h.0;
-    text = h.1;
-    rows = h.2;
-    parts = h.6.0;
-    signature_file = h.3;
-    table_file = h.4;
-    is_table = h.5;
-    form = h.6.1;
-    binds_hash = h.6.2.1;
-    signed = h.6.2.2;
-  },
-)
+vouched_for_job : (words : List (List ℕ)) (files : Option Files) (job : Job) (a : Accepted) → job_of words ≡ Some job → IsAnswered files job (Ok a) → IsVouchedFor words files
+vouched_for_job words files (Basic signature table hash) a asked h = record {
+  signature = signature;
+  table = table;
+  hash = hash;
+  asked = asked;
+  octets = h.octets;
+  text = h.text;
+  rows = h.rows;
+  parts = h.is_answer.0;
+  signature_file = h.signature_file;
+  table_file = h.table_file;
+  is_table = h.is_table;
+  form = h.is_answer.1;
+  binds_hash = h.is_answer.2.1;
+  signed = h.is_answer.2.2;
+}
+
+pub vouched_for : (words : List (List ℕ)) (files : Option Files) (a : Accepted) → Answers words files (Ok a) → IsVouchedFor words files
+vouched_for words files a h = vouched_for_job words files h.job a h.asked h.is_answered

@@ -1,7 +1,8 @@
--- A job as the program holds it, and the task that it stands for.
-use Rattle.picky_check.specs.declared.words.Job.{Job}
-use Rattle.picky_check.specs.declared.words.Job.TheVariants as job
-use Rattle.picky_check.specs.Words.{Task, Basic}
+-- A job as the program holds it.
+use Rattle.picky_check.specs.declared.words.Job.{Job as HeldJob}
+use Rattle.picky_check.specs.declared.words.Job.TheVariants as held
+use Rattle.picky_check.specs.Words.{Job, Basic}
 
-abbrev pub task : Job → Task
-task (job.Basic signature table hash) = Basic signature.now table.now hash.items
+-- the job that it is
+abbrev pub job : HeldJob → Job
+job (held.Basic signature table hash) = Basic signature.now table.now hash.items

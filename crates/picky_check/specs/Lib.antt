@@ -4,10 +4,12 @@ pub mod Sink
 pub mod Limits
 pub mod Stored
 pub mod Memory
+pub mod Opened
 pub mod Words
 pub mod Jobs
+pub mod Refusal
 pub mod Report
-pub mod Program
+pub mod Answer
 pub mod Stops
 pub mod Inquiry
 pub mod Run

@@ -1,11 +1,22 @@
--- How long a file may be that is read whole.
-use Rattle.std.specs.Prelude.{ℕ, List, ◌≡◌, ◌<◌, length, Option, Some, IsSome}
+-- How long a file may be, and what it is to have one or none by its name.
+use Rattle.std.specs.Prelude.{ℕ, List, ◌≡◌, ◌<◌, ◌≤◌, length, Option, Some, None, IsSome}
 use Rattle.picky_check.specs.Shelf.{Files, file_of}
 
 -- octets of the longest file that is read whole: 16 MiB
 abbrev pub longest_file : ℕ
 longest_file = 16777216
 
--- where the shelf tells its files, the file of this name is longer than is read
-abbrev pub IsTooLong : Option Files → List ℕ → Type 0
-IsTooLong files name = IsSome files → (file : List ℕ) × (file_of files name ≡ Some file) × (longest_file < length file)
+-- These octets are the whole file of this name, as far as the shelf tells its files.
+pub record IsWholeFile (files : Option Files) (name octets : List ℕ) : Type 0 where
+  pub as_told : IsSome files → file_of files name ≡ Some octets
+  pub short : length octets ≤ longest_file
+
+-- The shelf tells a file of this name that is longer than is read.
+abbrev pub IsLongFile : Option Files → List ℕ → Type 0
+IsLongFile files name = (file : List ℕ) × (file_of files name ≡ Some file)
+    × (longest_file < length file)
+
+-- The shelf tells its files, and none has this name.
+pub record IsMissing (files : Option Files) (name : List ℕ) : Type 0 where
+  pub told : IsSome files
+  pub none : file_of files name ≡ None

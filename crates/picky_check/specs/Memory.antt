@@ -5,16 +5,18 @@ use Rattle.picky_check.specs.declared.memory.MemShelf.{MemShelf}
 use Rattle.picky_check.specs.declared.memory.MemSink.{MemSink}
 use Rattle.std.specs.List.{list_any}
 use Rattle.picky_check.specs.Counts.{last_count}
-use Rattle.picky_check.specs.Shelf.{Files, file_of}
+use Rattle.picky_check.specs.Shelf.{Files, ShelfState, file_of}
+use Rattle.picky_check.specs.Sink.{SinkState}
 use Rattle.picky_check.specs.Stored.{latest, octets_at}
 
--- what a shelf in memory tells of its files
+-- the files of a shelf in memory
 abbrev pub shelf_files : MemShelf → Option Files
 shelf_files shelf = Some (latest shelf.files.items)
 
 -- the file under the name is this one from now on, and the others stay
 abbrev pub AddsFile : Option Files → List ℕ → List ℕ → Option Files → Type 0
-AddsFile before name octets after = (other : List ℕ) → file_of after other ≡ (if bytes_eq name other then Some octets else file_of before other)
+AddsFile before name octets after = (other : List ℕ)
+    → file_of after other ≡ (if bytes_eq name other then Some octets else file_of before other)
 
 -- what is left to read
 abbrev pub shelf_rest : MemShelf → List ℕ
@@ -50,6 +52,16 @@ is_quiet_from_now calls = All (λ call. call < calls.count) calls.failing.items
 abbrev pub shelf_is_quiet : MemShelf → Type 0
 shelf_is_quiet shelf = is_quiet_from_now shelf.calls
 
+-- what is seen of a shelf in memory
+abbrev pub shelf_state : MemShelf → ShelfState
+shelf_state shelf = record {
+  files = shelf_files shelf;
+  rest = Some (shelf_rest shelf);
+  given = shelf_given shelf;
+  faults = shelf_faults shelf;
+  is_quiet = shelf_is_quiet shelf;
+}
+
 -- what is left to read and the counts stay
 pub record KeepsPlace (before after : MemShelf) : Type 0 where
   pub rest : shelf_rest after ≡ shelf_rest before
@@ -66,3 +78,11 @@ sink_room sink = sink.room
 
 abbrev pub sink_faults : MemSink → ℕ
 sink_faults sink = sink.faults
+
+-- what is seen of a sink in memory
+abbrev pub sink_state : MemSink → SinkState
+sink_state sink = record {
+  held = Some (sink_held sink);
+  room = Some (sink_room sink);
+  faults = sink_faults sink;
+}

@@ -1,5 +1,16 @@
 -- The line that a run reports.
-use Rattle.std.specs.Prelude.{ℕ, List, [], ◌∷◌, ◌++◌, Option, Some, None, codes, decimal, flat_map}
+use Rattle.std.specs.Prelude.{ℕ, List, [], ◌∷◌, ◌++◌, Option, Some, None, Result, Ok, Err, codes, decimal, flat_map}
+use Rattle.authenticode_core.specs.declared.accepted.Accepted.{Accepted}
+use Rattle.authenticode_core.specs.declared.accepted.Excuse.{Excuse}
+use Rattle.authenticode_core.specs.declared.accepted.Excuse.TheVariants as excuse
+use Rattle.authenticode_core.specs.declared.error.CheckError.{CheckError}
+use Rattle.picky_check.specs.Refusal.{refusal_name}
+
+-- the word for an excuse
+abbrev pub excuse_word : Excuse → List ℕ
+excuse_word excuse.None = codes "none"
+excuse_word excuse.Bag = codes "bag"
+excuse_word excuse.Token = codes "token"
 
 -- a place, in decimal, or nothing
 abbrev pub place_text : Option ℕ → List ℕ
@@ -12,9 +23,22 @@ places_text [] = []
 places_text (first ∷ others) = decimal first ++ flat_map (λ place. 44 ∷ decimal place) others
 
 -- accepted signer=S path=P,P excuse=E
-abbrev pub accepted_line : Option ℕ → List ℕ → List ℕ → List ℕ
-accepted_line signer path excuse = codes "accepted signer=" ++ place_text signer ++ codes " path=" ++ places_text path ++ codes " excuse=" ++ excuse ++ 10 ∷ []
+abbrev pub accepted_line : Accepted → List ℕ
+accepted_line accepted =
+    codes "accepted signer=" ++ place_text accepted.signer
+    ++ codes " path=" ++ places_text accepted.path
+    ++ codes " excuse=" ++ excuse_word accepted.excuse ++ 10 ∷ []
 
 -- refused NAME
-abbrev pub refused_line : List ℕ → List ℕ
-refused_line name = codes "refused " ++ name ++ 10 ∷ []
+abbrev pub refused_line : CheckError → List ℕ
+refused_line e = codes "refused " ++ refusal_name e ++ 10 ∷ []
+
+-- the line that reports an answer
+abbrev pub line_of : Result Accepted CheckError → List ℕ
+line_of (Ok accepted) = accepted_line accepted
+line_of (Err e) = refused_line e
+
+-- the status of a run that reports it
+abbrev pub status_of : Result Accepted CheckError → ℕ
+status_of (Ok accepted) = 0
+status_of (Err e) = 1

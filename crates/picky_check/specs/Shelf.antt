@@ -1,9 +1,22 @@
--- What a shelf tells of its files, and what its calls do.
+-- What is seen of a shelf, and what its calls do.
 use Rattle.std.specs.Prelude.{ℕ, List, [], ◌≡◌, ◌<◌, ◌≤◌, length, take, drop, Option, Some, None}
 
 -- the files by name
 abbrev pub Files : Type 0
 Files = List ℕ → Option (List ℕ)
+
+-- What is seen of a shelf at one moment.
+pub record ShelfState : Type 1 where
+  -- its files by name, where it tells them
+  pub files : Option Files
+  -- what is left to read of the picked file, where it tells that
+  pub rest : Option (List ℕ)
+  -- how many octets it has handed out
+  pub given : ℕ
+  -- how often it has failed
+  pub faults : ℕ
+  -- from now on it doesn't fail but where a name is missing
+  pub is_quiet : Type 0
 
 -- the file of this name, where the shelf tells its files and has it
 abbrev pub file_of : Option Files → List ℕ → Option (List ℕ)

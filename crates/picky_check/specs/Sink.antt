@@ -1,5 +1,14 @@
--- What a sink holds, the room that it has, and what its calls do to both.
+-- What is seen of a sink, and what its calls do.
 use Rattle.std.specs.Prelude.{ℕ, List, ◌≡◌, ◌<◌, ◌≤◌, ◌-◌, ◌++◌, length, take, Option, Some}
+
+-- What is seen of a sink at one moment.
+pub record SinkState : Type 0 where
+  -- the octets that it holds, where it tells them
+  pub held : Option (List ℕ)
+  -- how many octets it can still take, where it tells that
+  pub room : Option ℕ
+  -- how often it has failed
+  pub faults : ℕ
 
 -- a sink that tells what it holds has these octets more
 abbrev pub Appends : Option (List ℕ) → List ℕ → Option (List ℕ) → Type 0
@@ -21,8 +30,10 @@ HasRoom room n = (left : ℕ) × (room ≡ Some left) × (n ≤ left)
 abbrev pub IsFull : Option ℕ → List ℕ → Type 0
 IsFull before piece = (room : ℕ) → before ≡ Some room → (room ≡ 0) × (0 < length piece)
 
--- n octets of a text were appended, and no more: where the room was told, as many as it had
-pub record IsCutShort (n : ℕ) (text : List ℕ) (held held_now : Option (List ℕ)) (room : Option ℕ) : Type 0 where
-  pub short : n < length text
-  pub front : Appends held (take n text) held_now
-  pub full : (left : ℕ) → room ≡ Some left → left ≡ n
+-- A front of a text was appended, and not all of it: where the sink told its room, as much as it
+-- had.
+pub record IsCutShort (text : List ℕ) (before after : SinkState) : Type 0 where
+  pub count : ℕ
+  pub short : count < length text
+  pub front : Appends before.held (take count text) after.held
+  pub full : (left : ℕ) → before.room ≡ Some left → left ≡ count

@@ -4,9 +4,21 @@ use Rattle.hex.specs.Hex.{decode_of}
 use Rattle.hex.specs.declared.error.FromHexError.{FromHexError}
 
 -- a check of one signature file
-pub data Task : Type 0 where
-  -- the file's structure, its digest, which is this hash, and the signature, which the table accepts
-  Basic : (signature table hash : List ℕ) → Task
+pub data Job : Type 0 where
+  -- the form of the file SIG, its digest, which is HASH, and its signature, which TABLE accepts
+  Basic : (signature table hash : List ℕ) → Job
+
+-- the name of the signature file
+abbrev pub signature_name : Job → List ℕ
+signature_name (Basic signature table hash) = signature
+
+-- the name of the table's file
+abbrev pub table_name : Job → List ℕ
+table_name (Basic signature table hash) = table
+
+-- the digest that is asked for
+abbrev pub asked_hash : Job → List ℕ
+asked_hash (Basic signature table hash) = hash
 
 -- these octets, where there are 1 to 64
 abbrev pub sized : Result (List ℕ) FromHexError → Option (List ℕ)
@@ -18,6 +30,7 @@ abbrev pub hash_of : List ℕ → Option (List ℕ)
 hash_of word = sized (decode_of word)
 
 -- the table of the commands: basic SIG TABLE HASH
-abbrev pub task_of : List (List ℕ) → Option Task
-task_of (command ∷ signature ∷ table ∷ hash ∷ []) = if bytes_eq command (codes "basic") then option_map (Basic signature table) (hash_of hash) else None
-task_of words = None
+abbrev pub job_of : List (List ℕ) → Option Job
+job_of (command ∷ signature ∷ table ∷ hash ∷ []) =
+    if bytes_eq command (codes "basic") then option_map (Basic signature table) (hash_of hash) else None
+job_of words = None

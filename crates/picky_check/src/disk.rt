@@ -1,112 +1,45 @@
-//! Real files and standard output. They tell nothing of what they hold, and count each error.
+//! Real files and standard output. They tell nothing of what they hold.
 
-ghost use Rattle.std.specs.Prelude.{◌≡◌, ◌≤◌, None};
-ghost use Rattle.picky_check.specs.Counts.{last_count};
+ghost use Rattle.std.specs.Prelude.{◌≡◌};
 
-use crate::{Failed, Shelf, Sink};
-use std::io::{Read, Write};
+use crate::{Opener, ReaderShelf, Shelf, Sink, WriterSink};
+use std::io::Printer;
 use std::rt::Files;
 use std::{fs, io};
 
-/// Files by their paths.
+/// What opens the files of a file system by their paths.
 #[derive(Drop)]
-pub struct DirShelf<'a, R: Files> {
-    rt: &'a R,
-    file: Option<R::File>,
-    given: u64,
-    faults: u64,
-    ghost given_fits: { given ≤ last_count },
-    ghost faults_fit: { faults ≤ last_count },
+pub struct Paths<'a, R: Files>(&'a R);
+
+impl<R: Files> Opener for Paths<'_, R> {
+    type Reader = R::File;
+
+    fn open(&self, name: &str) -> io::Result<R::File> {
+        fs::open(self.0, name)
+    }
 }
 
-impl<'a, R: Files> DirShelf<'a, R> {
+/// Files by their paths.
+pub type DirShelf<'a, R> = ReaderShelf<Paths<'a, R>>;
+
+impl<'a, R: Files> ReaderShelf<Paths<'a, R>> {
     /// No file is picked, and nothing is counted yet.
     pub fn new(rt: &'a R) -> Self
-        ensures none_given { ⟦<DirShelf<'a, R> as Shelf>⟧.given result ≡ 0 }
-        ensures no_faults { ⟦<DirShelf<'a, R> as Shelf>⟧.faults result ≡ 0 }
+        ensures none_given { (⟦<ReaderShelf<Paths<'a, R>> as Shelf>⟧.state result).given ≡ 0 }
+        ensures no_faults { (⟦<ReaderShelf<Paths<'a, R>> as Shelf>⟧.state result).faults ≡ 0 }
     {
-        DirShelf {
-            rt,
-            file: None,
-            given: 0,
-            faults: 0,
-        }
-    }
-}
-
-impl<R: Files> Shelf for DirShelf<'_, R> {
-    ghost files = { λ _. None };
-
-    ghost rest = { λ _. None };
-
-    ghost given = { λ shelf. shelf.given };
-
-    ghost faults = { λ shelf. shelf.faults };
-
-    ghost is_quiet = { λ _. ⊥ };
-
-    fn pick(&mut self, name: &str) -> Result<(), Failed> {
-        match fs::open(self.rt, name) {
-            Ok(file) => {
-                self.file = Some(file);
-                Ok(())
-            }
-            Err(_) => {
-                self.faults = self.faults.saturating_add(1);
-                Err(Failed)
-            }
-        }
-    }
-
-    fn read(&mut self, into: &mut [u8]) -> Result<usize, Failed> {
-        let count = match &mut self.file {
-            Some(file) => file.read(into).ok(),
-            None => None,
-        };
-        match count {
-            Some(count) => {
-                self.given = self.given.saturating_add(count as u64);
-                Ok(count)
-            }
-            None => {
-                self.faults = self.faults.saturating_add(1);
-                Err(Failed)
-            }
-        }
+        ReaderShelf::over(Paths(rt))
     }
 }
 
 /// Standard output.
-#[derive(Drop)]
-pub struct OutSink<'a, R: Print> {
-    rt: &'a R,
-    faults: u64,
-    ghost fits: { faults ≤ last_count },
-}
+pub type OutSink<'a, R> = WriterSink<Printer<'a, R>>;
 
-impl<'a, R: Print> OutSink<'a, R> {
+impl<'a, R: Print> WriterSink<Printer<'a, R>> {
     /// Nothing is counted yet.
     pub fn new(rt: &'a R) -> Self
-        ensures { ⟦<OutSink<'a, R> as Sink>⟧.faults result ≡ 0 }
+        ensures { (⟦<WriterSink<Printer<'a, R>> as Sink>⟧.state result).faults ≡ 0 }
     {
-        OutSink { rt, faults: 0 }
-    }
-}
-
-impl<R: Print> Sink for OutSink<'_, R> {
-    ghost held = { λ _. None };
-
-    ghost room = { λ _. None };
-
-    ghost faults = { λ sink. sink.faults };
-
-    fn write(&mut self, piece: &[u8]) -> Result<usize, Failed> {
-        match io::writer(self.rt).write(piece) {
-            Ok(count) if count > 0 || piece.is_empty() => Ok(count),
-            _ => {
-                self.faults = self.faults.saturating_add(1);
-                Err(Failed)
-            }
-        }
+        WriterSink::over(io::writer(rt))
     }
 }

@@ -7,20 +7,24 @@ mod files;
 mod inquiry;
 mod memory;
 mod program;
+mod refusal;
 mod report;
 mod shelf;
 mod sink;
 mod stop;
 mod stored;
+mod stream;
 mod words;
 
-pub use disk::{DirShelf, OutSink};
+pub use disk::{DirShelf, OutSink, Paths};
 pub use error::FileError;
 pub use files::{read_file, write_report};
 pub use memory::{MemShelf, MemSink};
-pub use program::run;
+pub use program::{run, status_without_words};
+pub use report::{accepted_line, refused_line};
 pub use shelf::{Failed, Shelf};
 pub use sink::Sink;
-
-#[cfg(test)]
-mod tests;
+pub use stop::{
+    ACCEPTED, BAD_TABLE, OUT_OF_MEMORY, REFUSED, SHELF_FAILED, SINK_FAILED, TOO_LONG, USAGE,
+};
+pub use stream::{Opener, ReaderShelf, WriterSink};

@@ -1,4 +1,5 @@
-//! A shelf and a sink in memory, which tell all that they hold. Calls of the shelf can be set to fail.
+//! A shelf and a sink in memory, which tell all that they hold. Calls of the shelf can be set to
+//! fail.
 
 ghost use Rattle.std.specs.Prelude.{◌≡◌, ◌<◌, ◌≤◌, ◌+◌, ℕ, List, [], ◌∷◌, ◌++◌, length, Some, None, IfOk, OnOk, OnErr, IsOk, IsErr, IsSome, true, false, vec_capacity, drop, is_err, min, ◌==◌};
 ghost use Rattle.std.specs.List.{list_any};
@@ -45,7 +46,8 @@ impl Calls {
 
     // Counts a call, which fails where it is set to.
     fn begin(&mut self) -> Result<(), Failed>
-        ensures set { is_err result ≡ list_any (λ call. call == self.old.count) self.old.failing.items }
+        ensures set { is_err result
+            ≡ list_any (λ call. call == self.old.count) self.old.failing.items }
         ensures next { self.new.count ≡ min (self.old.count + 1) last_count }
         ensures same { self.new.failing ≡ self.old.failing }
         ensures counted { GoesOn self.old.faults self.new.faults }
@@ -98,7 +100,8 @@ impl MemShelf {
 
     /// Adds a file. Of two with one name the later counts.
     pub fn add(&mut self, name: &str, bytes: &[u8]) -> Result<(), AllocError>
-        ensures added { OnOk result (AddsFile (shelf_files self.old) name.now bytes.now (shelf_files self.new)) }
+        ensures added { OnOk result
+            (AddsFile (shelf_files self.old) name.now bytes.now (shelf_files self.new)) }
         ensures not_added { OnErr result (shelf_files self.new ≡ shelf_files self.old) }
         ensures place { KeepsPlace self.old self.new }
         ensures failing { shelf_failing self.new ≡ shelf_failing self.old }
@@ -125,27 +128,22 @@ impl MemShelf {
 
 impl Shelf for MemShelf {
     ghost use Rattle.picky_check.specs.Shelf.{file_of, IsPicked, Moves};
-    ghost use Rattle.picky_check.specs.Memory.{shelf_files, shelf_rest, shelf_given, shelf_faults, shelf_is_quiet, is_set_to_fail, IsNextCall};
+    ghost use Rattle.picky_check.specs.Memory.{shelf_state, shelf_files, shelf_rest, shelf_given, shelf_faults, shelf_is_quiet, is_set_to_fail, IsNextCall};
 
-    ghost files = { shelf_files };
-
-    ghost rest = { λ shelf. Some (shelf_rest shelf) };
-
-    ghost given = { shelf_given };
-
-    ghost faults = { shelf_faults };
-
-    ghost is_quiet = { shelf_is_quiet };
+    ghost state = { shelf_state };
 
     fn pick(&mut self, name: &str) -> Result<(), Failed>
-        ensures picked { OnOk result (IsPicked (shelf_files self.old) name.now (Some (shelf_rest self.new))) }
+        ensures picked { OnOk result
+            (IsPicked (shelf_files self.old) name.now (Some (shelf_rest self.new))) }
         ensures same { shelf_files self.new ≡ shelf_files self.old }
         ensures none_given { RisesBy 0 (shelf_given self.old) (shelf_given self.new) }
         ensures counted { GoesOn (shelf_faults self.old) (shelf_faults self.new) }
         ensures cause { OnErr result (HasRisen (shelf_faults self.old) (shelf_faults self.new)) }
-        ensures quiet { shelf_is_quiet self.old → IsSome (file_of (shelf_files self.old) name.now) → IsOk result × shelf_is_quiet self.new }
+        ensures quiet { shelf_is_quiet self.old → IsSome (file_of (shelf_files self.old) name.now)
+            → IsOk result × shelf_is_quiet self.new }
         ensures fails { is_set_to_fail self.old ≡ true → IsErr result }
-        ensures answers { is_set_to_fail self.old ≡ false → IsSome (file_of (shelf_files self.old) name.now) → IsOk result }
+        ensures answers { is_set_to_fail self.old ≡ false
+            → IsSome (file_of (shelf_files self.old) name.now) → IsOk result }
         ensures next { IsNextCall self.old self.new }
         ensures left { OnErr result (shelf_rest self.new ≡ shelf_rest self.old) }
     {
@@ -160,7 +158,8 @@ impl Shelf for MemShelf {
 
     fn read(&mut self, into: &mut [u8]) -> Result<usize, Failed>
         ensures bound { IfOk result (λ n. n ≤ length into.old) }
-        ensures moved { IfOk result (λ n. Moves n (shelf_rest self.old) into.new (Some (shelf_rest self.new))) }
+        ensures moved { IfOk result (λ n.
+            Moves n (shelf_rest self.old) into.new (Some (shelf_rest self.new))) }
         ensures same { shelf_files self.new ≡ shelf_files self.old }
         ensures given { IfOk result (λ n. RisesBy n (shelf_given self.old) (shelf_given self.new)) }
         ensures kept { GoesOn (shelf_given self.old) (shelf_given self.new) }
@@ -169,7 +168,8 @@ impl Shelf for MemShelf {
         ensures quiet { shelf_is_quiet self.old → IsOk result × shelf_is_quiet self.new }
         ensures fails { is_err result ≡ is_set_to_fail self.old }
         ensures next { IsNextCall self.old self.new }
-        ensures left { OnErr result ((shelf_rest self.new ≡ shelf_rest self.old) × (shelf_given self.new ≡ shelf_given self.old)) }
+        ensures left { OnErr result ((shelf_rest self.new ≡ shelf_rest self.old)
+            × (shelf_given self.new ≡ shelf_given self.old)) }
     {
         self.calls.begin()?;
         let rest = after(octets_at(&self.files, self.picked), self.at);
@@ -206,13 +206,9 @@ impl MemSink {
 }
 
 impl Sink for MemSink {
-    ghost use Rattle.picky_check.specs.Memory.{sink_held, sink_room, sink_faults};
+    ghost use Rattle.picky_check.specs.Memory.{sink_state};
 
-    ghost held = { λ sink. Some (sink_held sink) };
-
-    ghost room = { λ sink. Some (sink_room sink) };
-
-    ghost faults = { sink_faults };
+    ghost state = { sink_state };
 
     fn write(&mut self, piece: &[u8]) -> Result<usize, Failed> {
         let count = piece.len().min(self.room);

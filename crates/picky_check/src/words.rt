@@ -1,11 +1,13 @@
 //! What the words of a command line ask for.
 
-ghost use Rattle.std.specs.Prelude.{◌≡◌, map, option_map, IfOk, string_bytes};
-ghost use Rattle.picky_check.specs.Jobs.{task};
-ghost use Rattle.picky_check.specs.Words.{task_of, hash_of};
+ghost use Rattle.std.specs.Prelude.{◌≡◌, map, option_map, IfOk, IsErr, IsSome, string_bytes};
+ghost use Rattle.picky_check.specs.Jobs.{job};
+ghost use Rattle.picky_check.specs.Words.{job_of, hash_of};
 
-use hex::FromHexError;
 use std::alloc::{AllocError, Global};
+
+/// The most octets of a hash.
+const LONGEST_HASH: usize = 64;
 
 /// What is asked for.
 #[derive(Debug, Drop)]
@@ -18,9 +20,12 @@ pub(crate) enum Job<'a> {
     },
 }
 
-/// The job that the words ask for, if they are in the table of commands.
+/// The job that the words ask for, if they are in the table of commands. Memory is asked for only
+/// where they are.
 pub(crate) fn job_of(alloc: Global, words: &[String]) -> Result<Option<Job<'_>>, AllocError>
-    ensures { IfOk result (λ job. option_map task job ≡ task_of (map string_bytes words.now)) }
+    ensures asked { IfOk result (λ asked.
+        option_map job asked ≡ job_of (map string_bytes words.now)) }
+    ensures memory { IsErr result → IsSome (job_of (map string_bytes words.now)) }
 {
     let [command, signature, table, hash] = words else {
         return Ok(None);
@@ -40,11 +45,17 @@ pub(crate) fn job_of(alloc: Global, words: &[String]) -> Result<Option<Job<'_>>,
 
 // 1 to 64 octets in hexadecimal digits of either case.
 fn hash_of(alloc: Global, word: &str) -> Result<Option<Vec<u8>>, AllocError>
-    ensures { IfOk result (λ hash. option_map (λ h. h.items) hash ≡ hash_of word.now) }
+    ensures value { IfOk result (λ hash. option_map (λ h. h.items) hash ≡ hash_of word.now) }
+    ensures memory { IsErr result → IsSome (hash_of word.now) }
 {
-    match hex::decode(alloc, word) {
-        Ok(octets) if 1 <= octets.len() && octets.len() <= 64 => Ok(Some(octets)),
-        Err(FromHexError::OutOfMemory) => Err(AllocError),
-        _ => Ok(None),
+    let count = word.len() / 2;
+    if count == 0 || count > LONGEST_HASH {
+        return Ok(None);
+    }
+    let mut octets = [0; LONGEST_HASH];
+    let hash = &mut octets[..count];
+    match hex::decode_to_slice(word, hash) {
+        Ok(()) => Ok(Some(Vec::from_slice(alloc, hash)?)),
+        Err(_) => Ok(None),
     }
 }

@@ -27,17 +27,20 @@ pub returns-in_err-count-clause-quiet : goal.returns-in_err-count-clause-quiet
 returns-in_err-count-clause-quiet g c quiet has = (c.read.ensures.quiet (c.loop-piece.invariant.quiet quiet has)).1
 
 pub returns-then-count-eq0-clause-whole : goal.returns-then-count-eq0-clause-whole
-returns-then-count-eq0-clause-whole g c told =
-    let read = c.loop-piece.invariant.read told in
-    let moves = c.in_ok-count.ensures.moved read.left read.rest_is in
-    let some : 0 < length c.read.new.into =
-    omega (arith, c.read.auto.into, length-take c.min-most.result c.loop-piece.piece, c.loop-piece.invariant.size, c.min-most.ensures, c.len-in-loop-piece.ensures, c.len.ensures, c.loop-piece-test.true) in
-    reads_all _ _ _ _ _ _ _ read moves c.if-count-eq0.true some
+returns-then-count-eq0-clause-whole g c = record {
+  as_told = λ told.
+      let read = c.loop-piece.invariant.read told in
+      let moves = c.in_ok-count.ensures.moved read.left read.rest_is in
+      let some : 0 < length c.read.new.into =
+      omega (arith, c.read.auto.into, length-take c.min-most.result c.loop-piece.piece, c.loop-piece.invariant.size, c.min-most.ensures, c.len-in-loop-piece.ensures, c.len.ensures, c.loop-piece-test.true) in
+      reads_all _ _ _ _ _ _ _ read moves c.if-count-eq0.true some;
+  short = omega (arith, c.len.ensures, c.loop-piece-test.true);
+}
 
 pub returns-then-count-eq0-clause-given : goal.returns-then-count-eq0-clause-given
 returns-then-count-eq0-clause-given g c =
     let rises = rises_more _ _ _ _ _ c.loop-piece.invariant.given c.in_ok-count.ensures.given in
-    subst (λ n. RisesBy n (g.F.Shelf.given c.args.shelf.now) (g.F.Shelf.given c.read.new.self)) (omega (arith, c.if-count-eq0.true)) rises
+    subst (λ n. RisesBy n (g.F.Shelf.state c.args.shelf.now).given (g.F.Shelf.state c.read.new.self).given) (omega (arith, c.if-count-eq0.true)) rises
 
 pub returns-then-count-eq0-clause-quiet : goal.returns-then-count-eq0-clause-quiet
 returns-then-count-eq0-clause-quiet g c quiet has = (c.read.ensures.quiet (c.loop-piece.invariant.quiet quiet has)).1
@@ -73,4 +76,4 @@ returns-clause-too_long g c _ told =
 pub returns-clause-more_given : goal.returns-clause-more_given
 returns-clause-more_given g c _ =
     let long : length c.loop-piece.octets.items ≡ 16777217 = omega (arith, c.loop-piece-test.false, c.loop-piece.invariant.within, c.len.ensures) in
-    subst (λ n. RisesBy n (g.F.Shelf.given c.args.shelf.now) (g.F.Shelf.given c.loop-piece.shelf)) long c.loop-piece.invariant.given
+    subst (λ n. RisesBy n (g.F.Shelf.state c.args.shelf.now).given (g.F.Shelf.state c.loop-piece.shelf).given) long c.loop-piece.invariant.given

@@ -9,11 +9,11 @@ abbrev pub invariant-loop-piece : goal.invariant-loop-piece
 invariant-loop-piece g l = record {
   within : length l.octets.items ≤ longest_file + 1;
   size : length l.piece ≡ 16384;
-  read : IsSome (g.F.Shelf.files l.fn.shelf) → HasRead (g.F.Shelf.files l.fn.shelf) l.name l.octets.items (g.F.Shelf.rest l.shelf);
-  given : RisesBy (length l.octets.items) (g.F.Shelf.given l.fn.shelf) (g.F.Shelf.given l.shelf);
-  counted : GoesOn (g.F.Shelf.faults l.fn.shelf) (g.F.Shelf.faults l.shelf);
-  same : g.F.Shelf.files l.shelf ≡ g.F.Shelf.files l.fn.shelf;
-  quiet : g.F.Shelf.is_quiet l.fn.shelf → IsSome (file_of (g.F.Shelf.files l.fn.shelf) l.name) → g.F.Shelf.is_quiet l.shelf;
+  read : IsSome (g.F.Shelf.state l.fn.shelf).files → HasRead (g.F.Shelf.state l.fn.shelf).files l.name l.octets.items (g.F.Shelf.state l.shelf).rest;
+  given : RisesBy (length l.octets.items) (g.F.Shelf.state l.fn.shelf).given (g.F.Shelf.state l.shelf).given;
+  counted : GoesOn (g.F.Shelf.state l.fn.shelf).faults (g.F.Shelf.state l.shelf).faults;
+  same : (g.F.Shelf.state l.shelf).files ≡ (g.F.Shelf.state l.fn.shelf).files;
+  quiet : (g.F.Shelf.state l.fn.shelf).is_quiet → IsSome (file_of (g.F.Shelf.state l.fn.shelf).files l.name) → (g.F.Shelf.state l.shelf).is_quiet;
 }
 
 abbrev pub decreases-loop-piece : goal.decreases-loop-piece

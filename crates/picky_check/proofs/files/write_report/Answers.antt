@@ -25,12 +25,12 @@ returns-in_err-done-clause-cut g c =
     let p = err_from_is_err_and c.from_residual.result c.from_residual.ensures.1 in
     let text = c.as_bytes-octets.ensures.value in
     rw p.1 (
-      c.loop-done.done,
-      record {
-        short = omega (arith, c.loop-done-test.true, ap length text);
-        front = rw (sym text) (appends_kept _ _ _ _ c.loop-done.invariant.held c.in_err-done.ensures.kept);
-        full = used_up _ _ _ _ c.loop-done.invariant.room c.in_err-done.ensures.full;
-      },
+    record {
+      count = c.loop-done.done;
+      short = omega (arith, c.loop-done-test.true, ap length text);
+      front = rw (sym text) (appends_kept _ _ _ _ c.loop-done.invariant.held c.in_err-done.ensures.kept);
+      full = used_up _ _ _ _ c.loop-done.invariant.room c.in_err-done.ensures.full;
+    }
     )
 
 pub returns-in_err-done-clause-room : goal.returns-in_err-done-clause-room
@@ -41,4 +41,4 @@ returns-in_err-done-clause-room g c has =
 pub returns-clause-lowered : goal.returns-clause-lowered
 returns-clause-lowered g c =
     let all : c.loop-done.done ≡ length c.args.text.now = omega (arith, c.loop-done-test.false, c.loop-done.invariant.within, ap length c.as_bytes-octets.ensures.value) in
-    subst (λ n. Lowers (g.O.Sink.room c.args.out.now) n (g.O.Sink.room c.loop-done.out)) all c.loop-done.invariant.room
+    subst (λ n. Lowers (g.O.Sink.state c.args.out.now).room n (g.O.Sink.state c.loop-done.out).room) all c.loop-done.invariant.room

@@ -6,9 +6,9 @@ use Rattle.picky_check.proofs.files.write_report.Given as goal
 abbrev pub invariant-loop-done : goal.invariant-loop-done
 invariant-loop-done g l = record {
   within : l.done ≤ length l.octets;
-  held : Appends (g.O.Sink.held l.initial.out) (take l.done l.octets) (g.O.Sink.held l.out);
-  room : Lowers (g.O.Sink.room l.initial.out) l.done (g.O.Sink.room l.out);
-  counted : g.O.Sink.faults l.initial.out ≤ g.O.Sink.faults l.out;
+  held : Appends (g.O.Sink.state l.initial.out).held (take l.done l.octets) (g.O.Sink.state l.out).held;
+  room : Lowers (g.O.Sink.state l.initial.out).room l.done (g.O.Sink.state l.out).room;
+  counted : (g.O.Sink.state l.initial.out).faults ≤ (g.O.Sink.state l.out).faults;
 }
 
 abbrev pub decreases-loop-done : goal.decreases-loop-done

@@ -1,7 +1,16 @@
+use Rattle.picky_check.proofs.Runs.{IsRun-stopped, IsRun-delivered}
 use Rattle.picky_check.proofs.Vouching.{vouched_for}
 use Rattle.picky_check.proofs.program.run.Goals as goal
 
-pub returns-clause-vouched_for : goal.returns-clause-vouched_for
-returns-clause-vouched_for g c = λ zero told.
-    let h = c.reported.ensures.accepted zero in
-    vouched_for _ _ h.1.0 h.0 h.1.1 (h.1.2 told)
+pub returns-in-Ok-clause-ends : goal.returns-in-Ok-clause-ends
+returns-in-Ok-clause-ends g c =
+    IsRun-delivered _ _ _ c.in-Ok.report c.in-Ok.ensures.usage c.in-Ok.ensures.asked _ _ c.deliver.result c.deliver.ensures
+
+pub returns-in-Ok-clause-vouched_for : goal.returns-in-Ok-clause-vouched_for
+returns-in-Ok-clause-vouched_for g c zero =
+    let h = (returns-in-Ok-clause-ends g c).accepted zero in
+    vouched_for _ _ h.0 h.1
+
+pub returns-in-Err-clause-ends : goal.returns-in-Err-clause-ends
+returns-in-Err-clause-ends g c =
+    rw c.status.ensures (IsRun-stopped _ _ _ c.in-Err.stop c.in-Err.ensures.usage c.in-Err.ensures.asked _)

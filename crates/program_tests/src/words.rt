@@ -1,0 +1,50 @@
+//! Which words ask for a job, on an empty signature file `s` and an empty table `t`.
+
+use picky_check::{MemShelf, MemSink, REFUSED, USAGE, run};
+use std::test::Fail;
+
+const OCTETS_64: &str = "000102030405060708090a0b0c0d0e0f101112131415161718191a1b1c1d1e1f\
+    202122232425262728292a2b2c2d2e2f303132333435363738393a3b3c3d3e3f";
+
+const OCTETS_65: &str = "000102030405060708090a0b0c0d0e0f101112131415161718191a1b1c1d1e1f\
+    202122232425262728292a2b2c2d2e2f303132333435363738393a3b3c3d3e3f40";
+
+// Words, and whether they ask for a job.
+#[rattlefmt::skip]
+const WORDS: [(&str, &[&str], bool); 17] = [
+    ("no words",            &[],                              false),
+    ("a command alone",     &["basic"],                       false),
+    ("a word too few",      &["basic", "s", "t"],             false),
+    ("a word too many",     &["basic", "s", "t", "00", "00"], false),
+    ("another command",     &["check", "s", "t", "00"],       false),
+    ("another case",        &["Basic", "s", "t", "00"],       false),
+    ("a hash of 0 octets",  &["basic", "s", "t", ""],         false),
+    ("of 1",                &["basic", "s", "t", "00"],       true),
+    ("of 64",               &["basic", "s", "t", OCTETS_64],  true),
+    ("of 65",               &["basic", "s", "t", OCTETS_65],  false),
+    ("an odd digit",        &["basic", "s", "t", "0"],        false),
+    ("three digits",        &["basic", "s", "t", "000"],      false),
+    ("upper case",          &["basic", "s", "t", "AF"],       true),
+    ("both cases",          &["basic", "s", "t", "aFfA"],     true),
+    ("no digits",           &["basic", "s", "t", "x0"],       false),
+    ("a prefix",            &["basic", "s", "t", "0x00"],     false),
+    ("a space",             &["basic", "s", "t", "00 "],      false),
+];
+
+#[test]
+fn words_ask_for_a_job(rt: HostRuntime) -> Result<(), Fail> {
+    let alloc = rt.alloc();
+    for (why, words, asks) in WORDS {
+        let mut strings = Vec::new(alloc);
+        for word in words {
+            strings.push(String::from_str(alloc, word)?)?;
+        }
+        let mut shelf = MemShelf::new(alloc);
+        shelf.add("s", b"")?;
+        shelf.add("t", b"")?;
+        let mut sink = MemSink::with_room(alloc, 99)?;
+        let want = if asks { REFUSED } else { USAGE };
+        assert_eq!(rt; run(alloc, &strings, &mut shelf, &mut sink), want, "{why}");
+    }
+    Ok(())
+}

@@ -1,0 +1,293 @@
+#!/usr/bin/env python3
+"""Run the built program on real files, and compare what it answers.
+
+Usage:
+
+    python3 tools/run_program.py PROGRAM
+
+runs PROGRAM, the executable of the crate `picky`, once for each row below,
+in a fresh folder with the files of the row, and compares the exit status,
+the octets on standard output and standard error, which must stay empty.
+
+The contracts of `picky_check` speak of shelves and sinks, and stop where
+the system begins: at the words of the command line, the paths of files,
+standard output, and the status that the system is told.  These rows are for
+that part, each status from 0 to 6 among them.
+
+The files come from `first_path.py`, which shares nothing with a reader
+here, and the answers from the table of statuses in README.md.  Exit status
+1 says that a row differs.
+"""
+
+import os
+import struct
+import subprocess
+import sys
+import tempfile
+from dataclasses import dataclass, field
+from hashlib import sha256
+from pathlib import Path
+
+from first_path import FILE_HASH, signature_file, verdict_line
+
+SECONDS = 60
+LONGEST_FILE = 16_777_216
+
+SIGNATURE = signature_file()
+TABLE = verdict_line().encode("ascii")
+HASH = FILE_HASH.hex()
+OTHER_HASH = sha256(b"abd").hexdigest()
+
+ACCEPTED = "accepted signer=0 path= excuse=none\n"
+
+
+def refused(name):
+    return f"refused {name}\n"
+
+
+def header(length, revision=0x0200, kind=2):
+    """The header of a WIN_CERTIFICATE, whose length counts its own 8 octets."""
+    return struct.pack("<IHH", length, revision, kind)
+
+
+class Folder:
+    """A folder, in the place of a file's octets."""
+
+
+class Zeros(int):
+    """So many zeros, in the place of a file's octets: they take no room."""
+
+
+@dataclass(frozen=True)
+class Row:
+    why: str
+    words: tuple
+    status: int
+    line: str = ""
+    files: dict = field(default_factory=lambda: {"s": SIGNATURE, "t": TABLE})
+    # What standard input gives: octets, or None where it is closed.
+    given: object = b""
+    # Where standard output goes: `read` here, a `full` device, an `unread` pipe,
+    # nowhere as it is `closed`, or a file that is open for `reading` alone.
+    output: str = "read"
+
+
+def accepted_by_name(why, signature="s", table="t", others=()):
+    """A row with files of these names, and others which aren't to be read."""
+    files = {name: b"another file\n" for name in others}
+    files |= {signature: SIGNATURE, table: TABLE}
+    return Row(why, ("basic", signature, table, HASH), 0, ACCEPTED, files)
+
+
+def judged(why, signature, status, line):
+    """A row with this signature file."""
+    return Row(why, ("basic", "s", "t", HASH), status, line, {"s": signature, "t": TABLE})
+
+
+def by_table(why, table, status, line=""):
+    """A row with this table."""
+    return Row(why, ("basic", "s", "t", HASH), status, line, {"s": SIGNATURE, "t": table})
+
+
+BASIC = ("basic", "s", "t", HASH)
+NOT_UTF_8 = b"s\xff"
+PIPE = "/dev/stdin"
+BAD_TABLE = b"rsa-sha256\n"
+OTHER_TABLE = TABLE.replace(b"rsa-sha256", b"rsa-sha1")
+# An empty SEQUENCE.
+EMPTY = b"\x30\x00"
+
+ACCEPTED_ROWS = [
+    Row("the accepted files", BASIC, 0, ACCEPTED),
+    Row("upper-case digits", ("basic", "s", "t", HASH.upper()), 0, ACCEPTED),
+    Row("no standard input", BASIC, 0, ACCEPTED, given=None),
+    Row("a signature from a pipe", ("basic", PIPE, "t", HASH), 0, ACCEPTED, given=SIGNATURE),
+    Row("a table from a pipe", ("basic", "s", PIPE, HASH), 0, ACCEPTED, given=TABLE * 1000),
+    by_table("a table of many rows", TABLE * 1000, 0, ACCEPTED),
+    accepted_by_name("a space inside", "a b", "c d", ["a", "b", "c", "d"]),
+    accepted_by_name("a space in front", " s", " t", ["s", "t"]),
+    accepted_by_name("a space at the end", "s ", "t ", ["s", "t"]),
+    accepted_by_name("a newline at the end", "s\n", "t\n", ["s", "t"]),
+    accepted_by_name("another case", "S", "T", ["s", "t"]),
+    accepted_by_name("a hyphen in front", "-s", "-t"),
+    accepted_by_name("hyphens alone", "-", "--"),
+    accepted_by_name("a name like an option", "--help", "--version"),
+    accepted_by_name("a name that isn't ASCII", "Unterschrift-ü", "表"),
+]
+
+REFUSED_ROWS = [
+    Row("another hash", ("basic", "s", "t", OTHER_HASH), 1, refused("FileHashMismatch")),
+    by_table("no row accepts", b"", 1, refused("SignatureError")),
+    by_table("a row of another algorithm", OTHER_TABLE, 1, refused("SignatureError")),
+    judged("an element of another form", header(10) + EMPTY, 1, refused("NotThisForm")),
+    judged("no element", header(8), 1, refused("Asn1Deserialization")),
+    judged("no octets", b"", 1, refused("WrongLength")),
+    judged("a length below the header's", header(7) + EMPTY, 1, refused("WrongLength")),
+    judged("a length of 0", header(0), 1, refused("CertificateDataIsEmpty")),
+    judged("revision 3.0", header(10, 0x0300) + EMPTY, 1, refused("WrongRevisionValue")),
+    judged("type 4", header(10, kind=4) + EMPTY, 1, refused("WrongCertificateType")),
+    judged("fewer octets than the length says", header(11) + EMPTY, 1, refused("Io")),
+]
+
+USAGE_ROWS = [
+    Row("no words", (), 2),
+    Row("a call for help", ("--help",), 2),
+    Row("a call for the version", ("--version",), 2),
+    Row("the command alone", ("basic",), 2),
+    Row("a word too few", ("basic", "s", "t"), 2),
+    Row("a word too many", (*BASIC, "s"), 2),
+    Row("an empty word too many", (*BASIC, ""), 2),
+    Row("another command", ("check", "s", "t", HASH), 2),
+    Row("the command in another case", ("BASIC", "s", "t", HASH), 2),
+    Row("an empty hash", ("basic", "s", "t", ""), 2),
+    Row("an odd digit", ("basic", "s", "t", HASH[:-1]), 2),
+    Row("no digit", ("basic", "s", "t", HASH[:-1] + "g"), 2),
+    Row("a space after the hash", ("basic", "s", "t", HASH + " "), 2),
+    Row("a hash of 65 octets", ("basic", "s", "t", "00" * 65), 2),
+    Row("a command that isn't UTF-8", (b"basic\xff", "s", "t", HASH), 2),
+    Row("a signature's name that isn't UTF-8", ("basic", NOT_UTF_8, "t", HASH), 2,
+        files={NOT_UTF_8: SIGNATURE, "t": TABLE}),
+    Row("a table's name that isn't UTF-8", ("basic", "s", NOT_UTF_8, HASH), 2,
+        files={"s": SIGNATURE, NOT_UTF_8: TABLE}),
+    Row("a hash that isn't UTF-8", ("basic", "s", "t", b"\xff\xfe"), 2),
+    Row("a word too many that isn't UTF-8", (*BASIC, b"\xff"), 2),
+]
+
+BAD_TABLE_ROWS = [
+    by_table("a bad line", BAD_TABLE, 3),
+    by_table("no last newline", TABLE.rstrip(), 3),
+    by_table("a bad line after a good one", TABLE + BAD_TABLE, 3),
+    Row("the files exchanged", ("basic", "t", "s", HASH), 3),
+]
+
+SHELF_ROWS = [
+    Row("no signature file", ("basic", "x", "t", HASH), 4),
+    Row("no signature file before a bad table", BASIC, 4, files={"t": BAD_TABLE}),
+    Row("no table", ("basic", "s", "x", HASH), 4),
+    Row("neither file", BASIC, 4, files={}),
+    Row("an empty name", ("basic", "", "t", HASH), 4),
+    Row("a name below a file", ("basic", "s/s", "t", HASH), 4),
+    Row("a name with a space too many", ("basic", "s ", "t", HASH), 4),
+    Row("a folder for the signature file", BASIC, 4, files={"s": Folder(), "t": TABLE}),
+    Row("a folder for the table", BASIC, 4, files={"s": SIGNATURE, "t": Folder()}),
+    Row("a folder before a bad table", BASIC, 4, files={"s": Folder(), "t": BAD_TABLE}),
+    Row("the signature from a closed input", ("basic", PIPE, "t", HASH), 4, given=None),
+]
+
+SINK_ROWS = [
+    Row("a full device", BASIC, 5, output="full"),
+    Row("a full device for a refusal", ("basic", "s", "t", OTHER_HASH), 5, output="full"),
+    Row("a closed output", BASIC, 5, output="closed"),
+    Row("a pipe that nobody reads", BASIC, 5, output="unread"),
+    Row("an output that is open for reading", BASIC, 5, output="reading"),
+    Row("nothing to write to a closed output", (), 2, output="closed"),
+    Row("no file, and a full device", ("basic", "x", "t", HASH), 4, output="full"),
+]
+
+LENGTH_ROWS = [
+    judged("the longest signature file", Zeros(LONGEST_FILE), 1, refused("CertificateDataIsEmpty")),
+    judged("a signature file of an octet more", Zeros(LONGEST_FILE + 1), 6, ""),
+    by_table("the longest table", Zeros(LONGEST_FILE), 3),
+    by_table("a table of an octet more", Zeros(LONGEST_FILE + 1), 6),
+    Row("a signature file without end", ("basic", "/dev/zero", "t", HASH), 6),
+    Row("too long a signature file, and no table", ("basic", "/dev/zero", "x", HASH), 6),
+]
+
+ROWS = [
+    *ACCEPTED_ROWS,
+    *REFUSED_ROWS,
+    *USAGE_ROWS,
+    *BAD_TABLE_ROWS,
+    *SHELF_ROWS,
+    *SINK_ROWS,
+    *LENGTH_ROWS,
+]
+
+
+def make_file(path, octets):
+    if isinstance(octets, Folder):
+        os.mkdir(path)
+        return
+    with open(path, "wb") as file:
+        if isinstance(octets, Zeros):
+            file.truncate(octets)
+        else:
+            file.write(octets)
+
+
+def close_streams(row):
+    """Close what the row has closed, in the process that becomes the program."""
+    if row.given is None:
+        os.close(0)
+    if row.output == "closed":
+        os.close(1)
+
+
+def opened_output(row):
+    """What the program gets as standard output, and what closes it here."""
+    if row.output == "full":
+        return open("/dev/full", "wb")
+    if row.output == "unread":
+        reading, writing = os.pipe()
+        os.close(reading)
+        return open(writing, "wb")
+    if row.output == "reading":
+        return open("/dev/null", "rb")
+    return None
+
+
+def run(program, row, folder):
+    """The status, and the octets on standard output and standard error."""
+    given = {"stdin": subprocess.DEVNULL} if row.given is None else {"input": row.given}
+    output = opened_output(row)
+    try:
+        done = subprocess.run(
+            [program, *row.words],
+            cwd=folder,
+            stdout=output or subprocess.PIPE,
+            stderr=subprocess.PIPE,
+            preexec_fn=lambda: close_streams(row),
+            timeout=SECONDS,
+            check=False,
+            **given,
+        )
+    finally:
+        if output:
+            output.close()
+    return done.returncode, done.stdout or b"", done.stderr
+
+
+def difference(program, row):
+    """How the answer differs from that of the row, or None."""
+    with tempfile.TemporaryDirectory() as folder:
+        for name, octets in row.files.items():
+            make_file(os.path.join(os.fsencode(folder), os.fsencode(name)), octets)
+        try:
+            answer = run(program, row, folder)
+        except subprocess.TimeoutExpired:
+            return f"no answer within {SECONDS} seconds"
+    wanted = (row.status, row.line.encode("ascii"), b"")
+    if answer == wanted:
+        return None
+    parts = zip(("status", "output", "errors"), answer, wanted)
+    return ", ".join(f"{part} {got}, not {want}" for part, got, want in parts if got != want)
+
+
+def main(arguments):
+    if len(arguments) != 1:
+        print("usage: run_program.py PROGRAM", file=sys.stderr)
+        return 2
+    program = Path(arguments[0]).resolve()
+    if not os.access(program, os.X_OK) or not program.is_file():
+        print(f"run_program.py: {arguments[0]} is no program", file=sys.stderr)
+        return 2
+    differences = [(row, difference(program, row)) for row in ROWS]
+    failed = [(row, what) for row, what in differences if what]
+    for row, what in failed:
+        print(f"{row.why}: {what}")
+    print(f"runs of the program: {len(ROWS) - len(failed)} as expected, {len(failed)} not")
+    return 1 if failed else 0
+
+
+if __name__ == "__main__":
+    sys.exit(main(sys.argv[1:]))
