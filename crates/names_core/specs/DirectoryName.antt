@@ -2,7 +2,7 @@
 use Rattle.std.specs.Prelude.{◌≡◌, ℕ, bytes_eq, if◌then◌else◌, Option, Some, None, List, [], ◌∷◌, ◌++◌, flat_map, filter_map}
 use Rattle.std.specs.List.{slice_get}
 use Rattle.asn1_types.specs.Values.{arcs_of}
-use Rattle.x509_types.specs.declared.name.AttributeTypeAndValue.{AttributeTypeAndValue}
+use Rattle.x509_types.specs.declared.attribute.AttributeTypeAndValue.{AttributeTypeAndValue}
 use Rattle.x509_types.specs.declared.directory_string.DirectoryString.{DirectoryString}
 use Rattle.x509_types.specs.declared.directory_string.DirectoryString.TheVariants as strings
 use Rattle.x509_types.specs.declared.attribute_value.AttributeValue.{AttributeValue}

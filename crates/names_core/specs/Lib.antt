@@ -1,1 +1,2 @@
 pub mod DirectoryName
+pub mod Facts

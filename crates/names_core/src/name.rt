@@ -11,16 +11,16 @@ ghost use Rattle.names_core.specs.DirectoryName.{IsExtended, utf8_value, first_c
 
 use crate::common_name::first_common_name;
 use asn1_types::{Ia5String, ObjectIdentifier};
-use der_core::{DerError, Tree};
+use der_core::{DerError, Elem, ListOf, Structure, Tree};
 use std::alloc::{AllocError, Global};
 use std::fmt::{self, Display};
 use x509_types::{
-    AttributeTypeAndValue, AttributeValue, DirectoryString, ListOf, Name, NameAttr, Structure,
-    email_address,
+    AttributeTypeAndValue, AttributeValue, DirectoryString, Name, NameAttr,
+    RelativeDistinguishedName, email_address,
 };
 
 /// A name of the directory, to be made, searched and printed.
-#[derive(Debug, Drop, PartialEq, Eq)]
+#[derive(Debug, Drop)]
 pub struct DirectoryName {
     name: Name,
 }
@@ -34,7 +34,7 @@ impl DirectoryName {
         ensures { result.name ≡ [] }
     {
         DirectoryName {
-            name: ListOf::new(alloc),
+            name: Name::new(alloc),
         }
     }
 
@@ -83,7 +83,7 @@ impl DirectoryName {
         ensures ok { OnOk result (IsExtended (arcs_of ty) value self.old.name self.new.name) }
         ensures err { OnErr result (self.new ≡ self.old) }
     {
-        let mut set = ListOf::new(self.name.allocator());
+        let mut set = RelativeDistinguishedName::new(self.name.allocator());
         set.push(AttributeTypeAndValue { ty, value })?;
         self.name.push(set)?;
         Ok(())
@@ -127,16 +127,19 @@ impl fmt::Display for DirectoryName {
 /// A name of the directory is read and written as the Name that it holds.
 impl Structure for DirectoryName {
     ghost use Rattle.x509_types.specs.Name.{name};
-
-    ghost spells = { λ element made. element ≡ name made.name };
+    ghost use Rattle.names_core.specs.Facts.{directory_names};
 
     ghost written = { λ made. name made.name };
 
-    ghost inner = { λ _. [] };
+    ghost spells = { λ element made. element ≡ name made.name };
 
-    fn read(alloc: Global, tree: &Tree) -> Result<DirectoryName, DerError> {
+    fn has_shape(elem: Elem<'_>) -> bool {
+        Name::has_shape(elem)
+    }
+
+    fn read_at(alloc: Global, elem: Elem<'_>) -> Result<DirectoryName, DerError> {
         Ok(DirectoryName {
-            name: Name::read(alloc, tree)?,
+            name: Name::read_at(alloc, elem)?,
         })
     }
 
@@ -147,4 +150,36 @@ impl Structure for DirectoryName {
     fn try_clone(&self, alloc: Global) -> Result<DirectoryName, AllocError> {
         DirectoryName::try_clone(self, alloc)
     }
+
+    ghost grammar = { directory_names };
+}
+
+/// Names are equal exactly where their octets are.
+impl PartialEq for DirectoryName {
+    ghost use Rattle.std.specs.Prelude.{bytes_eq};
+    ghost use Rattle.std.specs.Ordering.{on};
+    ghost use Rattle.std.specs.Cmp.Lexicographic.{nat_list_eq_equiv};
+    ghost use Rattle.std.specs.Cmp.{on_per, partial_equiv_from_equiv};
+    ghost use Rattle.der_core.specs.Encoding.{encoding};
+    ghost use Rattle.x509_types.specs.Name.{name};
+
+    ghost eq = { on (λ made. encoding (name made.name)) bytes_eq };
+
+    ghost laws = { on_per (λ made. encoding (name made.name)) (partial_equiv_from_equiv nat_list_eq_equiv) };
+
+    fn eq(&self, other: &DirectoryName) -> bool
+        ensures octets { result ≡ bytes_eq (encoding (name self.now.name)) (encoding (name other.now.name)) }
+        ensures same { IsTrue result ↔ (self.now ≡ other.now) }
+    {
+        self.name == other.name
+    }
+}
+
+impl Eq for DirectoryName {
+    ghost use Rattle.std.specs.Cmp.Lexicographic.{nat_list_eq_equiv};
+    ghost use Rattle.std.specs.Cmp.{on_equiv};
+    ghost use Rattle.der_core.specs.Encoding.{encoding};
+    ghost use Rattle.x509_types.specs.Name.{name};
+
+    ghost laws = { on_equiv (λ made. encoding (name made.name)) nat_list_eq_equiv };
 }

@@ -8,7 +8,7 @@ use Rattle.std.proofs.lemmas.Grind.{common_steps}
 use Rattle.std.proofs.lemmas.Map.Text.{is_eq-slice_cmp}
 use Rattle.std.proofs.lemmas.Slice.Eq.{bytes_eq-Decides}
 use Rattle.asn1_types.specs.Time.{generalized_fields}
-use Rattle.asn1_types.proofs.Times.{same_generalized}
+use Rattle.asn1_types.specs.Facts.Times.{same_generalized}
 use Rattle.names_core.proofs.laws.dates_are_their_fields.Goals as goal
 
 -- A list is tied with itself alone.
