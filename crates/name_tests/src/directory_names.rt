@@ -1,11 +1,11 @@
 //! Names of the directory: what is made, found in them and printed.
 
 use asn1_types::Ia5String;
-use der_core::{read_exact, write};
+use der_core::{Structure, read_exact, write};
 use names_core::{DirectoryName, NameList};
 use std::alloc::Global;
 use std::test::Fail;
-use x509_types::{DirectoryString, Name, NameAttr, Structure};
+use x509_types::{DirectoryString, Name, NameAttr};
 
 /// The octets of a name of one common name, as OpenSSL writes it for `-subj /CN=A -utf8`.
 const COMMON_NAME_A: [u8; 14] = [

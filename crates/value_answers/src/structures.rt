@@ -4,12 +4,12 @@ use crate::details::Details;
 use crate::row::octets_of;
 use anyhow::Result;
 use asn1_types::{BitString, Ia5String, IntegerAsn1, ObjectIdentifier};
-use der_core::{DerError, read_exact, write};
+use der_core::{DerError, Structure, read_exact, write};
 use names_core::DirectoryName;
 use std::alloc::Global;
 use x509_types::{
     AlgorithmIdentifier, AttributeTypeAndValue, AttributeValue, DirectoryString,
-    RelativeDistinguishedName, RsaPublicKey, Structure, SubjectPublicKeyInfo,
+    RelativeDistinguishedName, RsaPublicKey, SubjectPublicKeyInfo,
 };
 
 /// What is read of an element, by the kind of structure; None where there is no such kind.

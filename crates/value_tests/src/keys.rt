@@ -1,12 +1,9 @@
 //! Public keys that are put together.
 
 use asn1_types::{BitString, ObjectIdentifier, oids};
-use der_core::{read_exact, write};
+use der_core::Structure;
 use std::test::Fail;
-use x509_types::{
-    AlgorithmIdentifier, KeyKind, Structure, SubjectKey, SubjectPublicKeyInfo,
-    each_element_spells_one_value,
-};
+use x509_types::{AlgorithmIdentifier, KeyKind, SubjectKey, SubjectPublicKeyInfo};
 
 /// A key of its fields, written, and read with the same fields.
 #[test]
@@ -16,16 +13,23 @@ fn made_keys(rt: HostRuntime) -> Result<(), Fail> {
         algorithm: AlgorithmIdentifier::new(oid, None),
         subject_public_key: SubjectKey::Ed(BitString::with_bytes(rt.alloc(), &[0xAA])?),
     };
-    let octets = write(rt.alloc(), &made.write(rt.alloc())?)?;
+    let octets = made.to_der(rt.alloc())?;
     let wanted = hex::decode(rt.alloc(), "300b300506032b6570030200aa")?;
     assert_eq!(rt; octets.as_slice(), wanted.as_slice());
-    let tree = read_exact(rt.alloc(), &octets)?;
-    let read = SubjectPublicKeyInfo::read(rt.alloc(), &tree)?;
+    let read = SubjectPublicKeyInfo::from_der(rt.alloc(), &octets)?;
     assert!(rt; read == made);
     assert_eq!(rt; read.algorithm.oid().as_bytes(), oids::ED25519);
     assert_eq!(rt; read.subject_public_key.kind(), KeyKind::Ed);
     let copy = read.subject_public_key.try_clone(rt.alloc())?;
     assert!(rt; copy == made.subject_public_key);
-    each_element_spells_one_value();
+    let algorithm = read.algorithm.try_clone(rt.alloc())?;
+    assert_eq!(rt; KeyKind::of(&algorithm), Some(KeyKind::Ed));
+    assert_eq!(rt; KeyKind::named(oids::EC_PUBLIC_KEY), Some(KeyKind::Ec));
+    let bits = BitString::with_bytes(rt.alloc(), &[0xAA])?;
+    let same = SubjectPublicKeyInfo::new(algorithm, SubjectKey::Ed(bits)).ok_or("another kind")?;
+    assert!(rt; same == made);
+    let SubjectPublicKeyInfo { algorithm, .. } = same;
+    let bits = BitString::with_bytes(rt.alloc(), &[0xAA])?;
+    assert!(rt; SubjectPublicKeyInfo::new(algorithm, SubjectKey::Ec(bits)).is_none());
     Ok(())
 }
