@@ -21,7 +21,8 @@ use Rattle.picky_check.specs.Inquiry.{IsReportOf, GivesReport, GivesStop, StopsF
 use Rattle.picky_check.proofs.Reported.{GivesReport-memory, told, is_there, not_missing}
 
 -- where there was no memory for the job itself
-pub IsInquiry-memory : (shelf : ShelfState) (job : Job) → IsInquiry shelf shelf job (Err stop.Memory)
+pub IsInquiry-memory : (shelf : ShelfState) (job : Job)
+    → IsInquiry shelf shelf job (Err stop.Memory)
 IsInquiry-memory shelf job = record {
   reported = tt;
   stopped = tt;
@@ -33,21 +34,26 @@ IsInquiry-memory shelf job = record {
 }
 
 module _ (before after : ShelfState) (signature table hash : List ℕ) where
-  not_long : (name octets : List ℕ) → IsWholeFile before.files name octets → IsLongFile before.files name → ⊥
+  not_long : (name octets : List ℕ) → IsWholeFile before.files name octets
+      → IsLongFile before.files name → ⊥
   not_long name octets whole long =
       let same : long.0 ≡ octets = cc (long.1, whole.as_told (told before.files name long.0 long.1)) in
       omega (arith, long.2, whole.short, ap length same)
 
-  neither_long : (octets text : List ℕ) → IsWholeFile before.files signature octets → IsWholeFile before.files table text → HasLongFile before.files (Basic signature table hash) → ⊥
+  neither_long : (octets text : List ℕ) → IsWholeFile before.files signature octets
+      → IsWholeFile before.files table text → HasLongFile before.files (Basic signature table hash)
+      → ⊥
   neither_long octets text one other (inl long) = not_long signature octets one long
   neither_long octets text one other (inr long) = not_long table text other long
 
   -- where a file was not read
   pub IsInquiry-unread : (e : FileError)
       → (e ≡ file.Fault → HasRisen before.faults after.faults)
-      → (before.is_quiet → IsSome (file_of before.files signature) → IsSome (file_of before.files table) → e ≡ file.Fault → ⊥)
+      → (before.is_quiet → IsSome (file_of before.files signature)
+      → IsSome (file_of before.files table) → e ≡ file.Fault → ⊥)
       → (e ≡ file.TooLong → RisesBeyond before.given after.given)
-      → (e ≡ file.TooLong → IsSome before.files → HasLongFile before.files (Basic signature table hash))
+      → (e ≡ file.TooLong → IsSome before.files
+      → HasLongFile before.files (Basic signature table hash))
       → (IsMissing before.files signature → e ≡ file.Fault)
       → IsInquiry before after (Basic signature table hash) (Err (stop_for_file e))
   IsInquiry-unread file.Fault cause no_fault more long missing = record {
@@ -80,7 +86,9 @@ module _ (before after : ShelfState) (signature table hash : List ℕ) where
     too_long = λ l. inl (inr refl);
   }
 
-  stopped_for_text : (octets text : List ℕ) (s : Stop) → IsWholeFile before.files signature octets → IsWholeFile before.files table text → StopsForText text s → IsStopped before after (Basic signature table hash) s
+  stopped_for_text : (octets text : List ℕ) (s : Stop) → IsWholeFile before.files signature octets
+      → IsWholeFile before.files table text → StopsForText text s
+      → IsStopped before after (Basic signature table hash) s
   stopped_for_text octets text stop.BadTable one other bad =
       record { octets = octets; text = text; number = bad.0; signature_file = one; table_file = other; bad_line = bad.1 }
   stopped_for_text octets text stop.Memory one other bad = tt
@@ -92,9 +100,12 @@ module _ (before after : ShelfState) (signature table hash : List ℕ) where
   pub IsInquiry-read : (octets text : List ℕ) (result : Result Report Stop)
       → IsWholeFile before.files signature octets
       → IsWholeFile before.files table text
-      → IfOk result (λ report. (rows : List VerdictRow) × (answer : Result Accepted CheckError) × IsTable text rows × IsBasicAnswer (verdict_of rows) octets hash answer × IsReportOf answer report)
+      → IfOk result (λ report. (rows : List VerdictRow) × (answer : Result Accepted CheckError)
+      × IsTable text rows × IsBasicAnswer (verdict_of rows) octets hash answer
+      × IsReportOf answer report)
       → IfErr result (StopsForText text)
-      → ((rows : List VerdictRow) (answer : Result Accepted CheckError) → IsTable text rows → IsBasicAnswer (verdict_of rows) octets hash answer → GivesReport answer result)
+      → ((rows : List VerdictRow) (answer : Result Accepted CheckError) → IsTable text rows
+      → IsBasicAnswer (verdict_of rows) octets hash answer → GivesReport answer result)
       → ((number : ℕ) → IsFirstBadLine text number → GivesStop stop.BadTable result)
       → IsInquiry before after (Basic signature table hash) result
   IsInquiry-read octets text result one other reported stopped only bad = record {

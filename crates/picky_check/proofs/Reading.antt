@@ -13,7 +13,8 @@ pub record HasRead (files : Option Files) (name octets : List ℕ) (rest : Optio
   pub rest_is : rest ≡ Some left
   pub whole : octets ++ left ≡ file
 
-pub reads_nothing : (files : Option Files) (name : List ℕ) (rest : Option (List ℕ)) → IsPicked files name rest → HasRead files name [] rest
+pub reads_nothing : (files : Option Files) (name : List ℕ) (rest : Option (List ℕ))
+    → IsPicked files name rest → HasRead files name [] rest
 reads_nothing files name rest picked = record { file = picked.0; named = picked.1; left = picked.0; rest_is = picked.2; whole = refl }
 
 pub reads_more : (files : Option Files) (name octets more piece : List ℕ) (n : ℕ) (rest after : Option (List ℕ)) (read : HasRead files name octets rest) → Moves n read.left piece after → more ≡ take n piece → HasRead files name (octets ++ more) after
@@ -24,20 +25,25 @@ reads_more files name octets more piece n rest after read moves is = record {
   rest_is = moves.rest;
   whole =
       append_assoc octets more (drop n read.left)
-      ∙ ap (λ (l : List ℕ). octets ++ l) (ap (λ (l : List ℕ). l ++ drop n read.left) (is ∙ moves.front) ∙ take-append-drop n read.left)
+      ∙ ap (λ (l : List ℕ). octets ++ l) (ap (λ (l : List ℕ). l ++ drop n read.left) (is
+      ∙ moves.front) ∙ take-append-drop n read.left)
       ∙ read.whole;
 }
 
 -- at the end the file is what was read
 pub reads_all : (files : Option Files) (name octets piece : List ℕ) (n : ℕ) (rest after : Option (List ℕ)) (read : HasRead files name octets rest) → Moves n read.left piece after → n ≡ 0 → 0 < length piece → file_of files name ≡ Some octets
 reads_all files name octets piece n rest after read moves none some =
-    read.named ∙ ap Some (sym read.whole ∙ ap (λ (l : List ℕ). octets ++ l) (moves.none none some) ∙ append-nil octets)
+    read.named ∙ ap Some (sym read.whole ∙ ap (λ (l : List ℕ). octets ++ l) (moves.none none some)
+    ∙ append-nil octets)
 
-pub reads_too_much : (files : Option Files) (name octets : List ℕ) (rest : Option (List ℕ)) → HasRead files name octets rest → longest_file < length octets → (file : List ℕ) × (file_of files name ≡ Some file) × (longest_file < length file)
+pub reads_too_much : (files : Option Files) (name octets : List ℕ) (rest : Option (List ℕ))
+    → HasRead files name octets rest → longest_file < length octets → (file : List ℕ)
+    × (file_of files name ≡ Some file) × (longest_file < length file)
 reads_too_much files name octets rest read more =
     (read.file, read.named, omega (arith, more, ap length read.whole, length-append octets read.left))
 
-pub rises_more : (first next last m n : ℕ) → RisesBy m first next → RisesBy n next last → RisesBy (m + n) first last
+pub rises_more : (first next last m n : ℕ) → RisesBy m first next → RisesBy n next last
+    → RisesBy (m + n) first last
 rises_more first next last m n before after = record {
   no_fall = omega (arith, before.no_fall, after.no_fall);
   fits = after.fits;
@@ -53,6 +59,7 @@ rises_more first next last m n before after = record {
 pub goes_further : (first next last : ℕ) → GoesOn first next → GoesOn next last → GoesOn first last
 goes_further first next last before after = record { no_fall = omega (arith, before.no_fall, after.no_fall); fits = after.fits }
 
-pub has_risen_since : (first next last : ℕ) → GoesOn first next → HasRisen next last → HasRisen first last
+pub has_risen_since : (first next last : ℕ) → GoesOn first next → HasRisen next last
+    → HasRisen first last
 has_risen_since first next last before (inl more) = inl (omega (arith, before.no_fall, more))
 has_risen_since first next last before (inr stands) = inr stands

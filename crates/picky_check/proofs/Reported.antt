@@ -12,7 +12,8 @@ use Rattle.picky_check.specs.Shelf.{Files, file_of}
 use Rattle.picky_check.specs.Inquiry.{IsReported, GivesReport}
 
 -- what is reported is given, and want of memory gives any answer's place
-pub GivesReport-reported : (answer : Result Accepted CheckError) (result : Result Report Stop) → IsReported answer result → GivesReport answer result
+pub GivesReport-reported : (answer : Result Accepted CheckError) (result : Result Report Stop)
+    → IsReported answer result → GivesReport answer result
 GivesReport-reported (Ok a) result h = h
 GivesReport-reported (Err (Win e)) result h = h
 GivesReport-reported (Err (Unread e)) result h = h
@@ -20,7 +21,8 @@ GivesReport-reported (Err NotThisForm) result h = h
 GivesReport-reported (Err (Authenticode e)) result h = h
 GivesReport-reported (Err Memory) result h = tt
 
-want_of_memory : (answer : Result Accepted CheckError) (result : Result Report Stop) → IsReported (Err Memory) result → GivesReport answer result
+want_of_memory : (answer : Result Accepted CheckError) (result : Result Report Stop)
+    → IsReported (Err Memory) result → GivesReport answer result
 want_of_memory (Ok a) result h = rw h refl
 want_of_memory (Err (Win e)) result h = rw h refl
 want_of_memory (Err (Unread e)) result h = rw h refl
@@ -28,16 +30,19 @@ want_of_memory (Err NotThisForm) result h = rw h refl
 want_of_memory (Err (Authenticode e)) result h = rw h refl
 want_of_memory (Err Memory) result h = tt
 
-pub GivesReport-same : (a b : Result Accepted CheckError) (result : Result Report Stop) → IsReported a result → IsSameUnlessMemory a b → GivesReport b result
+pub GivesReport-same : (a b : Result Accepted CheckError) (result : Result Report Stop)
+    → IsReported a result → IsSameUnlessMemory a b → GivesReport b result
 GivesReport-same (Err Memory) b result h same = want_of_memory b result h
 GivesReport-same a (Err Memory) result h same = tt
 GivesReport-same a b result h same = GivesReport-reported b result (subst (λ x. IsReported x result) same h)
 
-pub GivesReport-memory : (answer : Result Accepted CheckError) → GivesReport answer (Err stop.Memory)
+pub GivesReport-memory : (answer : Result Accepted CheckError)
+    → GivesReport answer (Err stop.Memory)
 GivesReport-memory answer = want_of_memory answer (Err stop.Memory) refl
 
 -- a shelf that has a file tells its files
-pub told : (files : Option Files) (name file : List ℕ) → file_of files name ≡ Some file → IsSome files
+pub told : (files : Option Files) (name file : List ℕ) → file_of files name ≡ Some file
+    → IsSome files
 told (Some files) name file h = refl
 told None name file h = absurd cc
 
@@ -48,5 +53,6 @@ is_there None file h = absurd cc
 is_none : (o : Option (List ℕ)) (file : List ℕ) → o ≡ None → o ≡ Some file → ⊥
 is_none o file none some = absurd cc
 
-pub not_missing : (files : Option Files) (name file : List ℕ) → IsMissing files name → IsWholeFile files name file → ⊥
+pub not_missing : (files : Option Files) (name file : List ℕ) → IsMissing files name
+    → IsWholeFile files name file → ⊥
 not_missing files name file missing whole = is_none (file_of files name) file missing.none (whole.as_told missing.told)

@@ -71,11 +71,13 @@ never_five stop.Shelf e = omega arith
 never_five stop.TooLong e = omega arith
 never_five stop.Memory e = omega arith
 
-stop_status : (s t : Stop) → GivesStop t (Err s) → (status_for s ≡ status_for t) ⊎ (status_for s ≡ 7)
+stop_status : (s t : Stop) → GivesStop t (Err s) → (status_for s ≡ status_for t)
+    ⊎ (status_for s ≡ 7)
 stop_status s t (inl e) = let same : s ≡ t = cc in inl (ap status_for same)
 stop_status s t (inr e) = let same : s ≡ stop.Memory = cc in inr (ap status_for same)
 
-memory_status : (answer : Result Accepted CheckError) (s : Stop) → answer ≢ Err check.Memory → GivesReport answer (Err s) → status_for s ≡ 7
+memory_status : (answer : Result Accepted CheckError) (s : Stop) → answer ≢ Err check.Memory
+    → GivesReport answer (Err s) → status_for s ≡ 7
 memory_status (Ok a) s other h = ap status_for h
 memory_status (Err (check.Win e)) s other h = ap status_for h
 memory_status (Err (check.Unread e)) s other h = ap status_for h
@@ -84,7 +86,8 @@ memory_status (Err (check.Authenticode e)) s other h = ap status_for h
 memory_status (Err check.Memory) s other h = absurd (other refl)
 
 -- a report has the status and the line of its answer, which is not want of memory
-report_status : (answer : Result Accepted CheckError) (report : Report) → IsReportOf answer report → report.status ≡ status_of answer
+report_status : (answer : Result Accepted CheckError) (report : Report) → IsReportOf answer report
+    → report.status ≡ status_of answer
 report_status (Ok a) report h = h.0
 report_status (Err (check.Win e)) report h = h.0
 report_status (Err (check.Unread e)) report h = h.0
@@ -92,7 +95,8 @@ report_status (Err check.NotThisForm) report h = h.0
 report_status (Err (check.Authenticode e)) report h = h.0
 report_status (Err check.Memory) report h = absurd h
 
-report_line : (answer : Result Accepted CheckError) (report : Report) → IsReportOf answer report → string_bytes report.line ≡ line_of answer
+report_line : (answer : Result Accepted CheckError) (report : Report) → IsReportOf answer report
+    → string_bytes report.line ≡ line_of answer
 report_line (Ok a) report h = h.1
 report_line (Err (check.Win e)) report h = h.1
 report_line (Err (check.Unread e)) report h = h.1
@@ -100,7 +104,8 @@ report_line (Err check.NotThisForm) report h = h.1
 report_line (Err (check.Authenticode e)) report h = h.1
 report_line (Err check.Memory) report h = absurd h
 
-given_report : (answer : Result Accepted CheckError) (report : Report) → answer ≢ Err check.Memory → GivesReport answer (Ok report) → IsReportOf answer report
+given_report : (answer : Result Accepted CheckError) (report : Report) → answer ≢ Err check.Memory
+    → GivesReport answer (Ok report) → IsReportOf answer report
 given_report (Ok a) report other h = h
 given_report (Err (check.Win e)) report other h = h
 given_report (Err (check.Unread e)) report other h = h
@@ -109,7 +114,8 @@ given_report (Err (check.Authenticode e)) report other h = h
 given_report (Err check.Memory) report other h = absurd (other refl)
 
 -- a file that was not read whole ends the run with 4, 6 or 7
-unread_status : (s : Stop) → IsFileUnread (Err s) → ((status_for s ≡ 4) ⊎ (status_for s ≡ 7)) ⊎ (status_for s ≡ 6)
+unread_status : (s : Stop) → IsFileUnread (Err s) → ((status_for s ≡ 4) ⊎ (status_for s ≡ 7))
+    ⊎ (status_for s ≡ 6)
 unread_status stop.Shelf h = inl (inl refl)
 unread_status stop.Memory h = inl (inr refl)
 unread_status stop.TooLong h = inr refl
@@ -117,7 +123,8 @@ unread_status stop.Usage h = absurd h
 unread_status stop.BadTable h = absurd h
 
 -- a sink that has room for a text takes it whole
-no_room : (text : List ℕ) (out out_now : SinkState) → IsCutShort text out out_now → HasRoom out.room (length text) → ⊥
+no_room : (text : List ℕ) (out out_now : SinkState) → IsCutShort text out out_now
+    → HasRoom out.room (length text) → ⊥
 no_room text out out_now cut has = omega (arith, cut.short, cut.full has.0 has.1, has.2)
 
 module _ (words : List (List ℕ)) (shelf shelf_now : ShelfState) where
@@ -135,9 +142,11 @@ module _ (words : List (List ℕ)) (shelf shelf_now : ShelfState) where
     is_usage_status none = let e = unasked none in let same : s ≡ stop.Usage = cc in ap status_for same
 
     -- a stop for another reason than usage is of a job
-    stopped_job : (t : Stop) → t ≢ stop.Usage → s ≡ t → (job : Job) × (job_of words ≡ Some job) × IsStopped shelf shelf_now job t
+    stopped_job : (t : Stop) → t ≢ stop.Usage → s ≡ t → (job : Job) × (job_of words ≡ Some job)
+        × IsStopped shelf shelf_now job t
     stopped_job t other is = elim (by_job (job_of words)) [
-      | inl none ↦ absurd (let e = unasked none in let same : s ≡ stop.Usage = cc in other (sym is ∙ same))
+      | inl none ↦ absurd (let e = unasked none in let same : s ≡ stop.Usage = cc in other (sym is
+          ∙ same))
       | inr some ↦ (some.0, some.1, subst (IsStopped shelf shelf_now some.0) is (asked some.0 some.1).stopped)
     ]
 
@@ -163,14 +172,17 @@ module _ (words : List (List ℕ)) (shelf shelf_now : ShelfState) where
       nothing_written = λ two five. λ v e. e;
       answered = λ job answer some q t a other. inl (inr (memory_status answer s other ((asked job some).answered answer t a q)));
     } where
-      long_status : GivesStop stop.TooLong (Err s) ⊎ (◌≡◌ {A = Result Report Stop} (Err s) (Err stop.Shelf)) → ((status_for s ≡ 6) ⊎ (status_for s ≡ 7)) ⊎ (status_for s ≡ 4)
+      long_status : GivesStop stop.TooLong (Err s)
+          ⊎ (◌≡◌ {A = Result Report Stop} (Err s) (Err stop.Shelf))
+          → ((status_for s ≡ 6) ⊎ (status_for s ≡ 7)) ⊎ (status_for s ≡ 4)
       long_status (inl h) = inl (stop_status s stop.TooLong h)
       long_status (inr e) = let same : s ≡ stop.Shelf = cc in inr (ap status_for same)
 
   -- where there is a report, and the sink took all of its line, or a front of it
   module _ (report : Report)
       (unasked : job_of words ≡ None → ◌≡◌ {A = Result Report Stop} (Ok report) (Err stop.Usage))
-      (asked : (job : Job) → job_of words ≡ Some job → IsInquiry shelf shelf_now job (Ok report)) where
+      (asked : (job : Job) → job_of words ≡ Some job
+      → IsInquiry shelf shelf_now job (Ok report)) where
     no_stop : (t : Stop) → GivesStop t (Ok report) → ⊥
     no_stop t (inl e) = absurd cc
     no_stop t (inr e) = absurd cc
@@ -178,12 +190,14 @@ module _ (words : List (List ℕ)) (shelf shelf_now : ShelfState) where
     no_usage : job_of words ≡ None → ⊥
     no_usage none = no_stop stop.Usage (inl (unasked none))
 
-    no_long : GivesStop stop.TooLong (Ok report) ⊎ (◌≡◌ {A = Result Report Stop} (Ok report) (Err stop.Shelf)) → ⊥
+    no_long : GivesStop stop.TooLong (Ok report)
+        ⊎ (◌≡◌ {A = Result Report Stop} (Ok report) (Err stop.Shelf)) → ⊥
     no_long (inl h) = no_stop stop.TooLong h
     no_long (inr e) = absurd cc
 
     -- the answer that is reported
-    the_answer : (answer : Result Accepted CheckError) × IsReportOf answer report × Answers words shelf.files answer
+    the_answer : (answer : Result Accepted CheckError) × IsReportOf answer report
+        × Answers words shelf.files answer
     the_answer = elim (by_job (job_of words)) [
       | inl none ↦ absurd (no_usage none)
       | inr some ↦ let h = (asked some.0 some.1).reported in (h.0, h.1, record { job = some.0; asked = some.1; is_answered = h.2 })
@@ -191,32 +205,47 @@ module _ (words : List (List ℕ)) (shelf shelf_now : ShelfState) where
 
     low_status : report.status < 2
     low_status = below the_answer.0 (report_status the_answer.0 report the_answer.1) where
-      below : (answer : Result Accepted CheckError) → report.status ≡ status_of answer → report.status < 2
+      below : (answer : Result Accepted CheckError) → report.status ≡ status_of answer
+          → report.status < 2
       below (Ok a) e = omega arith
       below (Err e) h = omega arith
 
     -- an answer that is given has the status and the line of the report
-    given : (job : Job) (answer : Result Accepted CheckError) → job_of words ≡ Some job → shelf.is_quiet → IsSome shelf.files → IsAnswered shelf.files job answer → answer ≢ Err check.Memory → IsReportOf answer report
+    given : (job : Job) (answer : Result Accepted CheckError) → job_of words ≡ Some job
+        → shelf.is_quiet → IsSome shelf.files → IsAnswered shelf.files job answer
+        → answer ≢ Err check.Memory → IsReportOf answer report
     given job answer some q t a other = given_report answer report other ((asked job some).answered answer t a q)
 
     module _ (out out_now : SinkState) where
-      written : (answer : Result Accepted CheckError) → IsReportOf answer report → Appends out.held (string_bytes report.line) out_now.held → Appends out.held (line_of answer) out_now.held
+      written : (answer : Result Accepted CheckError) → IsReportOf answer report
+          → Appends out.held (string_bytes report.line) out_now.held
+          → Appends out.held (line_of answer) out_now.held
       written answer of_answer all = subst (λ line. Appends out.held line out_now.held) (report_line answer report of_answer) all
 
-      accepted_report : (answer : Result Accepted CheckError) → IsReportOf answer report → Answers words shelf.files answer → Appends out.held (string_bytes report.line) out_now.held → report.status ≡ 0
-          → (a : Accepted) × Answers words shelf.files (Ok a) × Appends out.held (line_of (Ok a)) out_now.held
+      accepted_report : (answer : Result Accepted CheckError) → IsReportOf answer report
+          → Answers words shelf.files answer
+          → Appends out.held (string_bytes report.line) out_now.held → report.status ≡ 0
+          → (a : Accepted) × Answers words shelf.files (Ok a)
+          × Appends out.held (line_of (Ok a)) out_now.held
       accepted_report (Ok a) of_answer is all e = (a, is, written (Ok a) of_answer all)
       accepted_report (Err f) of_answer is all e = absurd (omega (arith, report_status (Err f) report of_answer))
 
-      refused_report : (answer : Result Accepted CheckError) → IsReportOf answer report → Answers words shelf.files answer → Appends out.held (string_bytes report.line) out_now.held → report.status ≡ 1
-          → (e : CheckError) × (e ≢ check.Memory) × Answers words shelf.files (Err e) × Appends out.held (line_of (Err e)) out_now.held
+      refused_report : (answer : Result Accepted CheckError) → IsReportOf answer report
+          → Answers words shelf.files answer
+          → Appends out.held (string_bytes report.line) out_now.held → report.status ≡ 1
+          → (e : CheckError) × (e ≢ check.Memory) × Answers words shelf.files (Err e)
+          × Appends out.held (line_of (Err e)) out_now.held
       refused_report (Ok a) of_answer is all e = absurd (omega (arith, report_status (Ok a) report of_answer))
       refused_report (Err f) of_answer is all e = (f, λ m. subst (λ x. IsReportOf (Err x) report) m of_answer, is, written (Err f) of_answer all)
 
-      cut_line : (answer : Result Accepted CheckError) → IsReportOf answer report → IsCutShort (string_bytes report.line) out out_now → IsCutShort (line_of answer) out out_now
+      cut_line : (answer : Result Accepted CheckError) → IsReportOf answer report
+          → IsCutShort (string_bytes report.line) out out_now
+          → IsCutShort (line_of answer) out out_now
       cut_line answer of_answer cut = subst (λ line. IsCutShort line out out_now) (report_line answer report of_answer) cut
 
-      IsRun-written : (status : ℕ) → status ≡ report.status → Appends out.held (string_bytes report.line) out_now.held → IsRun words shelf shelf_now out out_now status
+      IsRun-written : (status : ℕ) → status ≡ report.status
+          → Appends out.held (string_bytes report.line) out_now.held
+          → IsRun words shelf shelf_now out out_now status
       IsRun-written status is all = record {
         bounded = omega (arith, low_status);
         accepted = λ e. accepted_report the_answer.0 the_answer.1 the_answer.2 all (sym is ∙ e);
@@ -232,10 +261,13 @@ module _ (words : List (List ℕ)) (shelf shelf_now : ShelfState) where
         too_long = λ e. absurd (omega (arith, low_status));
         too_long_always = λ job some long. absurd (no_long ((asked job some).too_long long));
         nothing_written = λ two five. absurd (omega (arith, low_status));
-        answered = λ job answer some q t a other. inl (inl (is ∙ report_status answer report (given job answer some q t a other)));
+        answered = λ job answer some q t a other. inl (inl (is
+            ∙ report_status answer report (given job answer some q t a other)));
       }
 
-      IsRun-cut : (status : ℕ) → status ≡ 5 → HasRisen out.faults out_now.faults → IsCutShort (string_bytes report.line) out out_now → IsRun words shelf shelf_now out out_now status
+      IsRun-cut : (status : ℕ) → status ≡ 5 → HasRisen out.faults out_now.faults
+          → IsCutShort (string_bytes report.line) out out_now
+          → IsRun words shelf shelf_now out out_now status
       IsRun-cut status is rose cut = record {
         bounded = omega arith;
         accepted = λ e. absurd (omega arith);
@@ -260,6 +292,10 @@ module _ (words : List (List ℕ)) (shelf shelf_now : ShelfState) where
             inr (is, rose, no_room (line_of answer) out out_now (cut_line answer (given job answer some q t a other) cut));
       }
 
-      pub IsRun-delivered : (status : ℕ) → ((status ≡ report.status) × Appends out.held (string_bytes report.line) out_now.held) ⊎ ((status ≡ 5) × HasRisen out.faults out_now.faults × IsCutShort (string_bytes report.line) out out_now) → IsRun words shelf shelf_now out out_now status
+      pub IsRun-delivered : (status : ℕ)
+          → ((status ≡ report.status) × Appends out.held (string_bytes report.line) out_now.held)
+          ⊎ ((status ≡ 5) × HasRisen out.faults out_now.faults
+          × IsCutShort (string_bytes report.line) out out_now)
+          → IsRun words shelf shelf_now out out_now status
       IsRun-delivered status (inl h) = IsRun-written status h.0 h.1
       IsRun-delivered status (inr h) = IsRun-cut status h.0 h.1 h.2

@@ -7,7 +7,8 @@ use Rattle.picky_check.specs.Run.{Answers}
 use Rattle.picky_check.specs.Shelf.{Files}
 use Rattle.picky_check.specs.Words.{Job, Basic, job_of}
 
-vouched_for_job : (words : List (List ℕ)) (files : Option Files) (job : Job) (a : Accepted) → job_of words ≡ Some job → IsAnswered files job (Ok a) → IsVouchedFor words files
+vouched_for_job : (words : List (List ℕ)) (files : Option Files) (job : Job) (a : Accepted)
+    → job_of words ≡ Some job → IsAnswered files job (Ok a) → IsVouchedFor words files
 vouched_for_job words files (Basic signature table hash) a asked h = record {
   signature = signature;
   table = table;
@@ -25,5 +26,6 @@ vouched_for_job words files (Basic signature table hash) a asked h = record {
   signed = h.is_answer.2.2;
 }
 
-pub vouched_for : (words : List (List ℕ)) (files : Option Files) (a : Accepted) → Answers words files (Ok a) → IsVouchedFor words files
+pub vouched_for : (words : List (List ℕ)) (files : Option Files) (a : Accepted)
+    → Answers words files (Ok a) → IsVouchedFor words files
 vouched_for words files a h = vouched_for_job words files h.job a h.asked h.is_answered

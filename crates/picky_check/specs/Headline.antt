@@ -8,10 +8,10 @@ use Rattle.picky_check.specs.Limits.{IsWholeFile}
 use Rattle.picky_check.specs.Shelf.{Files}
 use Rattle.picky_check.specs.Words.{Basic, job_of}
 
--- The words are basic SIG TABLE HASH. There are octets that hold signed data of the plain form, whose
--- attributes bind the digest of a file, and this digest is HASH; there is a text that is a table, and
--- the table accepts the signer's signature over the attributes. The octets are the file SIG, and the
--- text is the file TABLE, as far as the shelf tells its files.
+-- The words are basic SIG TABLE HASH. There are octets that hold signed data of the plain form,
+-- whose attributes bind the digest of a file, and this digest is HASH; there is a text that is a
+-- table, and the table accepts the signer's signature over the attributes. The octets are the file
+-- SIG, and the text is the file TABLE, as far as the shelf tells its files.
 pub record IsVouchedFor (words : List (List ℕ)) (files : Option Files) : Type 0 where
   pub signature : List ℕ
   pub table : List ℕ

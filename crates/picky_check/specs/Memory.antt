@@ -22,9 +22,11 @@ AddsFile before name octets after = (other : List ℕ)
 abbrev pub shelf_rest : MemShelf → List ℕ
 shelf_rest shelf = drop shelf.at (octets_at shelf.files.items shelf.picked)
 
+-- how many octets it has handed out
 abbrev pub shelf_given : MemShelf → ℕ
 shelf_given shelf = shelf.given
 
+-- how often it has failed
 abbrev pub shelf_faults : MemShelf → ℕ
 shelf_faults shelf = shelf.calls.faults
 
@@ -49,6 +51,7 @@ pub record IsNextCall (before after : MemShelf) : Type 0 where
 abbrev pub is_quiet_from_now : Calls → Type 0
 is_quiet_from_now calls = All (λ call. call < calls.count) calls.failing.items
 
+-- the same, of a shelf
 abbrev pub shelf_is_quiet : MemShelf → Type 0
 shelf_is_quiet shelf = is_quiet_from_now shelf.calls
 
@@ -69,6 +72,7 @@ pub record KeepsPlace (before after : MemShelf) : Type 0 where
   pub faults : after.calls.faults ≡ before.calls.faults
   pub calls : after.calls.count ≡ before.calls.count
 
+-- the octets of a sink in memory
 abbrev pub sink_held : MemSink → List ℕ
 sink_held sink = sink.octets.items
 
@@ -76,6 +80,7 @@ sink_held sink = sink.octets.items
 abbrev pub sink_room : MemSink → ℕ
 sink_room sink = sink.room
 
+-- how often it has failed
 abbrev pub sink_faults : MemSink → ℕ
 sink_faults sink = sink.faults
 

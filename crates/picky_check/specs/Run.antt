@@ -12,8 +12,8 @@ use Rattle.picky_check.specs.Sink.{SinkState, Appends, Keeps, HasRoom, IsCutShor
 use Rattle.picky_check.specs.Words.{Job, job_of, signature_name, table_name}
 
 -- The words ask for a job, and this is the answer about its files.
-pub record Answers (words : List (List ℕ)) (files : Option Files) (answer : Result Accepted CheckError)
-    : Type 0 where
+pub record Answers (words : List (List ℕ)) (files : Option Files)
+    (answer : Result Accepted CheckError) : Type 0 where
   pub job : Job
   pub asked : job_of words ≡ Some job
   pub is_answered : IsAnswered files job answer
@@ -24,16 +24,16 @@ pub record FindsBadTable (words : List (List ℕ)) (files : Option Files) : Type
   pub asked : job_of words ≡ Some job
   pub has_bad_table : HasBadTable files job
 
--- The words ask for a job, and more octets were handed out than the longest file has. Of a shelf that
--- tells its files one of the named ones is longer.
+-- The words ask for a job, and more octets were handed out than the longest file has. Of a shelf
+-- that tells its files one of the named ones is longer.
 pub record FindsLongFile (words : List (List ℕ)) (before after : ShelfState) : Type 0 where
   pub job : Job
   pub asked : job_of words ≡ Some job
   pub more_given : RisesBeyond before.given after.given
   pub has_long_file : IsSome before.files → HasLongFile before.files job
 
--- An answer had a line that the sink didn't take whole. It took a front of the line, and its count of
--- faults rose.
+-- An answer had a line that the sink didn't take whole. It took a front of the line, and its count
+-- of faults rose.
 pub record IsLost (words : List (List ℕ)) (files : Option Files) (out out_now : SinkState)
     : Type 0 where
   pub answer : Result Accepted CheckError
@@ -79,9 +79,9 @@ pub record IsRun (words : List (List ℕ)) (shelf shelf_now : ShelfState) (out o
   pub nothing_written : 2 ≤ status → status ≢ 5 → Keeps out.held out_now.held
   -- Where a quiet shelf tells its files, the answer about them is reported, unless memory runs out,
   -- or the sink fails that tells no room for the line.
-  pub answered : (job : Job) (answer : Result Accepted CheckError) → job_of words ≡ Some job
-      → shelf.is_quiet
-      → IsSome shelf.files → IsAnswered shelf.files job answer → answer ≢ Err check.Memory
+  pub answered : (job : Job) (answer : Result Accepted CheckError)
+      → job_of words ≡ Some job → shelf.is_quiet → IsSome shelf.files
+      → IsAnswered shelf.files job answer → answer ≢ Err check.Memory
       → ((status ≡ status_of answer) ⊎ (status ≡ 7))
       ⊎ ((status ≡ 5) × HasRisen out.faults out_now.faults
       × (HasRoom out.room (length (line_of answer)) → ⊥))

@@ -1,4 +1,4 @@
--- Why a run ends without a report.
+-- Why a run ends without a report, and with which status.
 use Rattle.std.specs.Prelude.{ℕ}
 use Rattle.sig_core.specs.declared.verdict_table.TableError.{TableError}
 use Rattle.sig_core.specs.declared.verdict_table.TableError.TheVariants as table
@@ -7,11 +7,13 @@ use Rattle.picky_check.specs.declared.error.FileError.TheVariants as file
 use Rattle.picky_check.specs.declared.stop.Stop.{Stop}
 use Rattle.picky_check.specs.declared.stop.Stop.TheVariants.{Usage, BadTable, Shelf, TooLong, Memory}
 
+-- where a file wasn't read
 abbrev pub stop_for_file : FileError → Stop
 stop_for_file file.Fault = Shelf
 stop_for_file file.TooLong = TooLong
 stop_for_file file.Memory = Memory
 
+-- where a text isn't a table
 abbrev pub stop_for_table : TableError → Stop
 stop_for_table (table.BadLine number) = BadTable
 stop_for_table table.Memory = Memory

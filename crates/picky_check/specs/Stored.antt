@@ -3,19 +3,23 @@ use Rattle.std.specs.Prelude.{ℕ, List, [], ◌∷◌, Option, Some, None, opti
 use Rattle.std.specs.Option.{option_or}
 use Rattle.picky_check.specs.declared.stored.StoredFile.{StoredFile}
 
+-- the octets of a stored file
 abbrev pub octets_of : StoredFile → List ℕ
 octets_of file = file.octets.items
 
 -- the file of this name; of two, the one that was added later
 abbrev pub latest : List StoredFile → List ℕ → Option (List ℕ)
 latest [] name = None
-latest (file ∷ later) name = option_or (latest later name) (if bytes_eq (string_bytes file.name) name then Some (octets_of file) else None)
+latest (file ∷ later) name =
+    option_or (latest later name)
+    (if bytes_eq (string_bytes file.name) name then Some (octets_of file) else None)
 
 -- the octets of the file that was found there
 abbrev pub found_at : List StoredFile → Option ℕ → Option (List ℕ)
 found_at files (Some place) = option_map octets_of (slice_get files place)
 found_at files None = None
 
+-- no octets where there are none
 abbrev pub or_empty : Option (List ℕ) → List ℕ
 or_empty (Some octets) = octets
 or_empty None = []

@@ -22,7 +22,8 @@ asked_hash (Basic signature table hash) = hash
 
 -- these octets, where there are 1 to 64
 abbrev pub sized : Result (List ℕ) FromHexError → Option (List ℕ)
-sized (Ok octets) = if nat_le 1 (length octets) && nat_le (length octets) 64 then Some octets else None
+sized (Ok octets) =
+    if nat_le 1 (length octets) && nat_le (length octets) 64 then Some octets else None
 sized (Err e) = None
 
 -- HASH: 1 to 64 octets in hexadecimal digits of either case
@@ -32,5 +33,7 @@ hash_of word = sized (decode_of word)
 -- the table of the commands: basic SIG TABLE HASH
 abbrev pub job_of : List (List ℕ) → Option Job
 job_of (command ∷ signature ∷ table ∷ hash ∷ []) =
-    if bytes_eq command (codes "basic") then option_map (Basic signature table) (hash_of hash) else None
+    if bytes_eq command (codes "basic")
+    then option_map (Basic signature table) (hash_of hash)
+    else None
 job_of words = None
