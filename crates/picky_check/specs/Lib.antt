@@ -7,7 +7,6 @@ pub mod Memory
 pub mod Opened
 pub mod Words
 pub mod Jobs
-pub mod Refusal
 pub mod Report
 pub mod Answer
 pub mod Stops

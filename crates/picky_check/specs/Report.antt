@@ -4,7 +4,7 @@ use Rattle.authenticode_core.specs.declared.accepted.Accepted.{Accepted}
 use Rattle.authenticode_core.specs.declared.accepted.Excuse.{Excuse}
 use Rattle.authenticode_core.specs.declared.accepted.Excuse.TheVariants as excuse
 use Rattle.authenticode_core.specs.declared.error.CheckError.{CheckError}
-use Rattle.picky_check.specs.Refusal.{refusal_name}
+use Rattle.authenticode_core.specs.RefusalName.{refusal_name}
 
 -- the word for an excuse
 abbrev pub excuse_word : Excuse → List ℕ

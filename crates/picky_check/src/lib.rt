@@ -7,7 +7,6 @@ mod files;
 mod inquiry;
 mod memory;
 mod program;
-mod refusal;
 mod report;
 mod shelf;
 mod sink;

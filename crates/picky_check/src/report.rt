@@ -4,7 +4,6 @@ ghost use Rattle.std.specs.Prelude.{◌≡◌, ◌++◌, IfOk, OnOk, string_byte
 ghost use Rattle.picky_check.specs.Inquiry.{IsReported};
 ghost use Rattle.picky_check.specs.Report.{accepted_line, excuse_word, refused_line, places_text};
 
-use crate::refusal::refusal_name;
 use crate::stop::{ACCEPTED, REFUSED, Stop};
 use authenticode_core::{Accepted, CheckError, Excuse};
 use std::alloc::{AllocError, Global};
@@ -76,5 +75,5 @@ fn excuse_word(excuse: Excuse) -> &'static str
 pub fn refused_line(alloc: Global, error: &CheckError) -> Result<String, AllocError>
     ensures { IfOk result (λ line. string_bytes line ≡ refused_line error.now) }
 {
-    format!(in alloc; "refused {}\n", refusal_name(error))
+    format!(in alloc; "refused {}\n", error.name(alloc)?)
 }
