@@ -48,12 +48,12 @@ string_or_not tag =
     elim (cases_eq tag 0x0C) [
       | inl a ↦ inl (inl (inl (inl a)))
       | inr a ↦ elim (cases_eq tag 0x13) [
-          | inl b ↦ inl (inl (inl (inr b)))
-          | inr b ↦ elim (cases_eq tag 0x14) [
-              | inl c ↦ inl (inl (inr c))
-              | inr c ↦ elim (cases_eq tag 0x1E) [ inl d ↦ inl (inr d) | inr d ↦ inr (none_of a b c d) ]
-            ]
+        | inl b ↦ inl (inl (inl (inr b)))
+        | inr b ↦ elim (cases_eq tag 0x14) [
+          | inl c ↦ inl (inl (inr c))
+          | inr c ↦ elim (cases_eq tag 0x1E) [ inl d ↦ inl (inr d) | inr d ↦ inr (none_of a b c d) ]
         ]
+      ]
     ]
   where
     none_of : (tag ≡ 0x0C → ⊥) → (tag ≡ 0x13 → ⊥) → (tag ≡ 0x14 → ⊥) → (tag ≡ 0x1E → ⊥) → IsStringTag tag → ⊥
@@ -68,9 +68,9 @@ ia5_or_not (octet ∷ text) =
     elim (cases_lt octet 128) [
       | inr past ↦ inr (λ all. omega (arith, past, All-head (λ (o : ℕ). o ≤ 127) octet text all))
       | inl low ↦ elim (ia5_or_not text) [
-          | inl all ↦ inl (All-cons (λ (o : ℕ). o ≤ 127) octet text (omega arith) all)
-          | inr none ↦ inr (λ all. none (All-tail (λ (o : ℕ). o ≤ 127) octet text all))
-        ]
+        | inl all ↦ inl (All-cons (λ (o : ℕ). o ≤ 127) octet text (omega arith) all)
+        | inr none ↦ inr (λ all. none (All-tail (λ (o : ℕ). o ≤ 127) octet text all))
+      ]
     ]
 
 other_at : (element : DerElement) → IsDer element → ((string : DirectoryString) → element ≡ directory_string string → ⊥) → ((string : Ia5String) → element ≡ ia5_string string → ⊥) → (value : AttributeValue) × (element ≡ attribute_value value)
@@ -83,14 +83,14 @@ value_at whole tag content element is =
     elim (string_or_not tag) [
       | inl string ↦ let s = lent_string whole tag content element is string in (values.DirectoryString s.0, s.1)
       | inr none ↦ elim (cases_eq tag 0x16) [
-          | inr other ↦ other_at element is.0 (no_string whole tag content element is none) (λ string e. other (is.2 ∙ ap tag_of e))
-          | inl ia5 ↦
-              let here = primitive_at whole tag content element is (ap form_bit ia5) ∙ ap (λ t. Primitive t content) ia5 in
-              elim (ia5_or_not content) [
-                | inl ascii ↦ (values.Ia5String (record { text = content; ascii = ascii }), here)
-                | inr wide ↦ other_at element is.0 (no_string whole tag content element is none) (λ string e. not_ascii string (sym here ∙ e) wide)
-              ]
-        ]
+        | inr other ↦ other_at element is.0 (no_string whole tag content element is none) (λ string e. other (is.2 ∙ ap tag_of e))
+        | inl ia5 ↦
+            let here = primitive_at whole tag content element is (ap form_bit ia5) ∙ ap (λ t. Primitive t content) ia5 in
+            elim (ia5_or_not content) [
+              | inl ascii ↦ (values.Ia5String (record { text = content; ascii = ascii }), here)
+              | inr wide ↦ other_at element is.0 (no_string whole tag content element is none) (λ string e. not_ascii string (sym here ∙ e) wide)
+            ]
+      ]
     ]
   where
     not_ascii : (string : Ia5String) → Primitive 0x16 content ≡ ia5_string string → (IsIa5 content → ⊥) → ⊥

@@ -1,5 +1,5 @@
 -- SubjectPublicKeyInfo ::= SEQUENCE { algorithm AlgorithmIdentifier, subjectPublicKey BIT STRING } (RFC 5280 4.1)
-use Rattle.std.specs.Prelude.{◌≡◌, List, [], ◌∷◌}
+use Rattle.std.specs.Prelude.{◌≡◌, ℕ, List, [], ◌∷◌}
 use Rattle.der_core.specs.DerElement.{DerElement, Primitive}
 use Rattle.der_core.specs.Encoding.{encoding}
 use Rattle.der_core.specs.Placed.{AreDer}
@@ -9,6 +9,7 @@ use Rattle.x509_types.specs.AlgorithmIdentifier.{algorithm_identifier}
 use Rattle.x509_types.specs.RsaPublicKey.{rsa_public_key}
 use Rattle.x509_types.specs.SubjectKey.{kind_of}
 use Rattle.x509_types.specs.declared.key_kind.KeyKind.{KeyKind}
+use Rattle.x509_types.specs.declared.key_kind.KeyKind.TheVariants as kinds
 use Rattle.x509_types.specs.declared.key_info.SubjectPublicKeyInfo.{SubjectPublicKeyInfo}
 use Rattle.x509_types.specs.declared.subject_key.SubjectKey.{SubjectKey}
 use Rattle.x509_types.specs.declared.subject_key.SubjectKey.TheVariants as keys
@@ -40,3 +41,14 @@ IsPublicKeyInfo element info = (element ≡ public_key_info info) × AreDer (inn
 -- the element is the one of this key, which is of the kind
 abbrev pub IsKeyOf : KeyKind → DerElement → SubjectKey → Type 0
 IsKeyOf kind element key = (kind_of key ≡ kind) × IsSubjectKey element key
+
+-- a number for each kind of keys
+abbrev pub kind_number : KeyKind → ℕ
+kind_number kinds.Rsa = 0
+kind_number kinds.Ec = 1
+kind_number kinds.Ed = 2
+kind_number kinds.Mldsa = 3
+
+-- the kind of a key, and the octets of its element
+abbrev pub key_octets : SubjectKey → List ℕ
+key_octets key = kind_number (kind_of key) ∷ encoding (subject_public_key key)

@@ -25,7 +25,8 @@ impl Structure for AttributeTypeAndValue {
 
     fn has_shape(elem: Elem<'_>) -> bool {
         match two_kids(elem, SEQUENCE) {
-            Some((ty, value)) => ObjectIdentifier::has_shape(ty) && AttributeValue::has_shape(value),
+            Some((ty, value)) => ObjectIdentifier::has_shape(ty)
+                && AttributeValue::has_shape(value),
             None => false,
         }
     }

@@ -14,7 +14,7 @@ use std::alloc::{AllocError, Global};
 
 /// A public key with its algorithm (RFC 5280 4.1.2.7), which is one for keys of its kind. An
 /// algorithm of no known kind has no public key here: it is `Shape`.
-#[derive(Debug, Drop, PartialEq, Eq)]
+#[derive(Debug, Drop)]
 pub struct SubjectPublicKeyInfo {
     pub algorithm: AlgorithmIdentifier,
     pub subject_public_key: SubjectKey,
@@ -88,4 +88,34 @@ impl Structure for SubjectPublicKeyInfo {
     }
 
     ghost grammar = { public_key_infos };
+}
+
+/// Keys with their algorithms are equal exactly where their octets are.
+impl PartialEq for SubjectPublicKeyInfo {
+    ghost use Rattle.std.specs.Ordering.{on};
+    ghost use Rattle.std.specs.Cmp.Lexicographic.{nat_list_eq_equiv};
+    ghost use Rattle.std.specs.Cmp.{on_per, partial_equiv_from_equiv};
+    ghost use Rattle.std.specs.Prelude.{bytes_eq};
+    ghost use Rattle.der_core.specs.Encoding.{encoding};
+    ghost use Rattle.x509_types.specs.PublicKeyInfo.{public_key_info};
+
+    ghost eq = { on (λ value. encoding (public_key_info value)) bytes_eq };
+
+    ghost laws = { on_per (λ value. encoding (public_key_info value)) (partial_equiv_from_equiv nat_list_eq_equiv) };
+
+    fn eq(&self, other: &SubjectPublicKeyInfo) -> bool
+        ensures octets { result ≡ bytes_eq (encoding (public_key_info self.now)) (encoding (public_key_info other.now)) }
+        ensures same { IsTrue result ↔ (self.now ≡ other.now) }
+    {
+        self.algorithm == other.algorithm && self.subject_public_key == other.subject_public_key
+    }
+}
+
+impl Eq for SubjectPublicKeyInfo {
+    ghost use Rattle.std.specs.Cmp.Lexicographic.{nat_list_eq_equiv};
+    ghost use Rattle.std.specs.Cmp.{on_equiv};
+    ghost use Rattle.der_core.specs.Encoding.{encoding};
+    ghost use Rattle.x509_types.specs.PublicKeyInfo.{public_key_info};
+
+    ghost laws = { on_equiv (λ value. encoding (public_key_info value)) nat_list_eq_equiv };
 }

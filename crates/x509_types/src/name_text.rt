@@ -5,9 +5,9 @@ ghost use Rattle.std.specs.Fmt.{WritesOnOk};
 ghost use Rattle.der_core.specs.Encoding.{encoding};
 ghost use Rattle.x509_types.specs.NameText.{attribute_text, hexadecimal, name_text, set_text, type_word, value_text};
 
+use crate::attribute::AttributeTypeAndValue;
 use crate::attribute_value::AttributeValue;
 use crate::email::is_email_address;
-use crate::attribute::AttributeTypeAndValue;
 use crate::name::Name;
 use crate::name_attr::NameAttr;
 use crate::other_value::OtherValue;

@@ -1,13 +1,13 @@
 //! Values that are no string of a known type.
 
-ghost use Rattle.std.specs.Prelude.{◌≡◌, IfOk};
+ghost use Rattle.std.specs.Prelude.{◌≡◌, IfOk, ◌↔◌, IsTrue};
 ghost use Rattle.x509_types.specs.OtherValue.{IsOtherValue};
 
 use der_core::{Elem, Raw};
 use std::alloc::{AllocError, Global};
 
 /// An element that is neither a DirectoryString nor an IA5String, kept as it is.
-#[derive(Debug, Drop, PartialEq, Eq)]
+#[derive(Debug, Drop)]
 pub struct OtherValue {
     element: Raw,
     pub ghost other: { IsOtherValue element.element },
@@ -39,4 +39,32 @@ impl OtherValue {
             element: self.element.try_clone(alloc)?,
         })
     }
+}
+
+/// Values are equal exactly where their octets are.
+impl PartialEq for OtherValue {
+    ghost use Rattle.std.specs.Ordering.{on};
+    ghost use Rattle.std.specs.Cmp.Lexicographic.{nat_list_eq_equiv};
+    ghost use Rattle.std.specs.Cmp.{on_per, partial_equiv_from_equiv};
+    ghost use Rattle.std.specs.Prelude.{bytes_eq};
+    ghost use Rattle.der_core.specs.Encoding.{encoding};
+
+    ghost eq = { on (λ value. encoding value.element.element) bytes_eq };
+
+    ghost laws = { on_per (λ value. encoding value.element.element) (partial_equiv_from_equiv nat_list_eq_equiv) };
+
+    fn eq(&self, other: &OtherValue) -> bool
+        ensures octets { result ≡ bytes_eq (encoding self.now.element.element) (encoding other.now.element.element) }
+        ensures same { IsTrue result ↔ (self.now ≡ other.now) }
+    {
+        self.element == other.element
+    }
+}
+
+impl Eq for OtherValue {
+    ghost use Rattle.std.specs.Cmp.Lexicographic.{nat_list_eq_equiv};
+    ghost use Rattle.std.specs.Cmp.{on_equiv};
+    ghost use Rattle.der_core.specs.Encoding.{encoding};
+
+    ghost laws = { on_equiv (λ value. encoding value.element.element) nat_list_eq_equiv };
 }

@@ -4,7 +4,9 @@ ghost use Rattle.std.specs.Prelude.{◌≡◌, ◌↔◌, ◌++◌, ◌∷◌, [
 
 use crate::attribute::AttributeTypeAndValue;
 use der_core::tag::SET;
-use der_core::{DerError, Elem, ListOf, Structure, Tree, copy_each, has_list, read_list, write_list};
+use der_core::{
+    DerError, Elem, ListOf, Structure, Tree, copy_each, has_list, read_list, write_list,
+};
 use std::alloc::{AllocError, Global};
 use std::marker::Model;
 
@@ -18,7 +20,6 @@ pub struct RelativeDistinguishedName {
 impl Model for RelativeDistinguishedName {
     ghost use Rattle.std.specs.Prelude.{List};
     ghost use Rattle.x509_types.specs.declared.attribute.AttributeTypeAndValue.{AttributeTypeAndValue};
-
     ghost use Rattle.x509_types.specs.Facts.Names.{coded_set};
 
     ghost Value = { List AttributeTypeAndValue };

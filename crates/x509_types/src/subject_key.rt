@@ -1,6 +1,6 @@
 //! The keys of subjects.
 
-ghost use Rattle.std.specs.Prelude.{◌≡◌, ◌≢◌, ◌∷◌, List, ℕ, false, IfOk, IsTrue, MatchOption, MatchResult};
+ghost use Rattle.std.specs.Prelude.{◌≡◌, ◌≢◌, ◌∷◌, List, ℕ, false, IfOk, IsTrue, MatchOption, MatchResult, ◌↔◌};
 ghost use Rattle.der_core.specs.DerElement.{Primitive};
 ghost use Rattle.der_core.specs.Encoding.{IsWellFormed};
 ghost use Rattle.der_core.specs.Refusals.{RefusesShape, RefusesInner};
@@ -14,11 +14,13 @@ use crate::key_kind::KeyKind;
 use crate::public_key::RsaPublicKey;
 use asn1_types::BitString;
 use der_core::tag::BIT_STRING;
-use der_core::{DerError, Elem, Octets, Structure, Tree, has_within, leaf_at, read_within, write_within};
+use der_core::{
+    DerError, Elem, Octets, Structure, Tree, has_within, leaf_at, read_within, write_within,
+};
 use std::alloc::{AllocError, Global};
 
 /// A public key, as its algorithm has it (RFC 5280 4.1.2.7).
-#[derive(Debug, Drop, PartialEq, Eq)]
+#[derive(Debug, Drop)]
 pub enum SubjectKey {
     /// A key of RSA (RFC 3279 2.3.1).
     Rsa(RsaPublicKey),
@@ -57,7 +59,11 @@ impl SubjectKey {
     }
 
     /// The key of the kind that an element holds.
-    pub(crate) fn read_at(alloc: Global, kind: KeyKind, elem: Elem<'_>) -> Result<SubjectKey, DerError>
+    pub(crate) fn read_at(
+        alloc: Global,
+        kind: KeyKind,
+        elem: Elem<'_>,
+    ) -> Result<SubjectKey, DerError>
         ensures { MatchResult result (IsKeyOf kind elem.entry.is.0) (RefusesShape (IsKeyOf kind elem.entry.is.0)) }
     {
         match kind {
@@ -140,4 +146,38 @@ fn write_rsa_key(alloc: Global, key: &RsaPublicKey) -> Result<Tree, DerError>
     let mut content = Vec::from_slice(alloc, &[0])?;
     content.extend_from_slice(&payload)?;
     Ok(Tree::leaf(BIT_STRING, Octets::from(content)))
+}
+
+/// Keys are equal exactly where their kinds and their octets are.
+impl PartialEq for SubjectKey {
+    ghost use Rattle.std.specs.Ordering.{on};
+    ghost use Rattle.std.specs.Cmp.Lexicographic.{nat_list_eq_equiv};
+    ghost use Rattle.std.specs.Cmp.{on_per, partial_equiv_from_equiv};
+    ghost use Rattle.std.specs.Prelude.{bytes_eq};
+    ghost use Rattle.x509_types.specs.PublicKeyInfo.{key_octets};
+
+    ghost eq = { on (λ value. key_octets value) bytes_eq };
+
+    ghost laws = { on_per (λ value. key_octets value) (partial_equiv_from_equiv nat_list_eq_equiv) };
+
+    fn eq(&self, other: &SubjectKey) -> bool
+        ensures octets { result ≡ bytes_eq (key_octets self.now) (key_octets other.now) }
+        ensures same { IsTrue result ↔ (self.now ≡ other.now) }
+    {
+        match (self, other) {
+            (SubjectKey::Rsa(a), SubjectKey::Rsa(b)) => *a == *b,
+            (SubjectKey::Ec(a), SubjectKey::Ec(b)) => *a == *b,
+            (SubjectKey::Ed(a), SubjectKey::Ed(b)) => *a == *b,
+            (SubjectKey::Mldsa(a), SubjectKey::Mldsa(b)) => *a == *b,
+            _ => false,
+        }
+    }
+}
+
+impl Eq for SubjectKey {
+    ghost use Rattle.std.specs.Cmp.Lexicographic.{nat_list_eq_equiv};
+    ghost use Rattle.std.specs.Cmp.{on_equiv};
+    ghost use Rattle.x509_types.specs.PublicKeyInfo.{key_octets};
+
+    ghost laws = { on_equiv (λ value. key_octets value) nat_list_eq_equiv };
 }

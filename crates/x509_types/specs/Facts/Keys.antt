@@ -13,7 +13,8 @@ use Rattle.x509_types.specs.AlgorithmIdentifier.{algorithm_identifier}
 use Rattle.x509_types.specs.RsaPublicKey.{rsa_public_key}
 use Rattle.x509_types.specs.KeyKind.{names_kind, IsAlgorithmOf}
 use Rattle.x509_types.specs.SubjectKey.{kind_of}
-use Rattle.x509_types.specs.PublicKeyInfo.{subject_public_key, inner_key, public_key_info, IsPublicKeyInfo}
+use Rattle.std.specs.Prelude.{◌==◌, if◌then◌else◌}
+use Rattle.x509_types.specs.PublicKeyInfo.{kind_number, key_octets, subject_public_key, inner_key, public_key_info, IsPublicKeyInfo}
 use Rattle.x509_types.specs.Facts.Algorithms.{algorithms, rsa_public_keys}
 use Rattle.x509_types.specs.Facts.Kinds.{IsAlgorithmOf-prop, one_kind}
 use Rattle.x509_types.specs.declared.algorithm.AlgorithmIdentifier.{AlgorithmIdentifier}
@@ -56,7 +57,7 @@ keys_formed (keys.Mldsa bits) = bit_strings.formed bits
 abbrev info_of : (algorithm : AlgorithmIdentifier) (key : SubjectKey) → IsAlgorithmOf (kind_of key) algorithm → SubjectPublicKeyInfo
 info_of algorithm key fits = record { algorithm = algorithm; subject_public_key = key; fits = fits }
 
-same_info : (a b : SubjectPublicKeyInfo) → a.algorithm ≡ b.algorithm → a.subject_public_key ≡ b.subject_public_key → a ≡ b
+pub same_info : (a b : SubjectPublicKeyInfo) → a.algorithm ≡ b.algorithm → a.subject_public_key ≡ b.subject_public_key → a ≡ b
 same_info a b algorithm key =
     let with_key : (h : IsAlgorithmOf (kind_of b.subject_public_key) a.algorithm) → a ≡ info_of a.algorithm b.subject_public_key h =
     subst (λ (k : SubjectKey). (h : IsAlgorithmOf (kind_of k) a.algorithm) → a ≡ info_of a.algorithm k h) key
@@ -83,3 +84,21 @@ public_key_infos = record {
   spelled = λ info der. (refl, der);
   formed = infos_formed;
 }
+
+-- ---- keys by their octets
+
+abbrev kind_at : ℕ → KeyKind
+kind_at number = if number == 0 then kinds.Rsa else (if number == 1 then kinds.Ec else (if number == 2 then kinds.Ed else kinds.Mldsa))
+
+kind_of_number : (kind : KeyKind) → kind_at (kind_number kind) ≡ kind
+kind_of_number kinds.Rsa = refl
+kind_of_number kinds.Ec = refl
+kind_of_number kinds.Ed = refl
+kind_of_number kinds.Mldsa = refl
+
+pub keys_by_octets : (a b : SubjectKey) → key_octets a ≡ key_octets b → a ≡ b
+keys_by_octets a b e =
+    let numbers : kind_number (kind_of a) ≡ kind_number (kind_of b) = cc in
+    let octets : encoding (subject_public_key a) ≡ encoding (subject_public_key b) = cc in
+    keys_once a b (sym (kind_of_number (kind_of a)) ∙ ap kind_at numbers ∙ kind_of_number (kind_of b))
+    (formed_encoding_once (subject_public_key a) (subject_public_key b) (keys_formed a) (keys_formed b) octets)
