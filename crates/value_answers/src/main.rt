@@ -11,6 +11,7 @@
 
 mod details;
 mod identifiers;
+mod making;
 mod row;
 mod strings;
 mod structures;
