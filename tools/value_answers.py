@@ -27,8 +27,12 @@ from value_reader import KINDS, Shape, bits, ia5, integer, name, structure_line,
 
 EMAIL = "1.2.840.113549.1.9.1"
 
-BAD_TEXT = "the text is not an object identifier in dotted decimal form"
-CHAR_SET = "a character is outside the character set of the string"
+ERRORS = [
+    ("TextError::BadText", "the text is not an object identifier in dotted decimal form"),
+    ("TextError::Memory", "out of memory"),
+    ("CharSetError::CharSet", "a character is outside the character set of the string"),
+    ("CharSetError::Memory", "out of memory"),
+]
 
 
 def text_word(text):
@@ -50,7 +54,7 @@ def identifier_rows():
         yield f"identifier from_text {text_word(text)}", word(contents(text))
         yield f"identifier from_content {word(contents(text))}", text
     for text, _ in (*BAD_TEXTS, ("1.2\n", "a line end behind")):
-        yield f"identifier from_text {text_word(text)}", BAD_TEXT
+        yield f"identifier from_text {text_word(text)}", "BadText"
     for octets, _ in BAD_CONTENTS:
         yield f"identifier from_content {word(bytes.fromhex(octets))}", "Shape"
     for _, known, text, _ in KNOWN:
@@ -96,7 +100,7 @@ def string_rows():
         yield f"string ia5_text {text_word(text)}", text_word(text)
         yield f"string ia5_content {text_word(text)}", shape_of(ia5, text.encode())
     for text in values.OTHER_TEXTS:
-        yield f"string ia5_text {text_word(text)}", CHAR_SET
+        yield f"string ia5_text {text_word(text)}", "CharSet"
     for octets in map(bytes.fromhex, values.OTHER_OCTETS):
         yield f"string ia5_content {word(octets)}", "Shape"
 
@@ -285,6 +289,7 @@ def certificate_rows():
 def all_rows():
     yield from identifier_rows()
     yield from string_rows()
+    yield from ((f"error {name}", text) for name, text in ERRORS)
     yield from time_rows()
     yield from read_rows()
     yield from unlike_rows()

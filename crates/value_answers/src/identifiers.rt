@@ -21,11 +21,11 @@ pub fn answer(alloc: Global, call: &str, word: &str) -> Result<Option<String>> {
     Ok(Some(answer))
 }
 
-/// The contents octets of a text, or the text of the refusal.
+/// The contents octets of a text.
 fn from_text(alloc: Global, text: &str) -> Result<String> {
     match ObjectIdentifier::from_text(alloc, text) {
         Ok(identifier) => Ok(word_of(alloc, identifier.as_bytes())?),
-        Err(TextError::BadText) => Ok(format!(in alloc; "{}", TextError::BadText)?),
+        Err(TextError::BadText) => Ok(String::from_str(alloc, "BadText")?),
         Err(error) => Err(error.into()),
     }
 }

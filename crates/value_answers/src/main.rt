@@ -10,6 +10,7 @@
 #![tactic(auto)]
 
 mod details;
+mod errors;
 mod identifiers;
 mod making;
 mod row;

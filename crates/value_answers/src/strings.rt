@@ -67,11 +67,11 @@ fn ia5_content(alloc: Global, contents: &[u8]) -> Result<String> {
     }
 }
 
-/// The IA5String of a text, or the text of the refusal.
+/// The IA5String of a text.
 fn ia5_text(alloc: Global, text: &str) -> Result<String> {
     match Ia5String::from_string(alloc, text) {
         Ok(string) => Ok(word_of(alloc, string.as_str().as_bytes())?),
-        Err(CharSetError::CharSet) => Ok(format!(in alloc; "{}", CharSetError::CharSet)?),
+        Err(CharSetError::CharSet) => Ok(String::from_str(alloc, "CharSet")?),
         Err(error) => Err(error.into()),
     }
 }
