@@ -325,3 +325,29 @@ PARTS = [
     ("attribute", ["300806035504030c0141"],
      ["310806035504030c0141", "30050603550403", "300a06035504030c01410500"]),
 ]
+
+# Two elements of values that are unlike one another, and in what.
+UNLIKE_INTEGERS = [
+    ("020180", "02020080", "a zero in front"),
+    ("020100", "020101", "another number"),
+]
+UNLIKE_BITS = [
+    ("030200a0", "030205a0", "bits that are unused"),
+    ("030200a0", "030100", "no bits"),
+]
+UNLIKE_IDENTIFIERS = [
+    ("06022a03", "06022a04", "another arc"),
+    ("06022a03", "06032a0300", "one arc more"),
+]
+UNLIKE_IA5 = [
+    ("160161", "160141", "another case"),
+    ("160161", "1600", "no octets"),
+]
+
+# Names by their attributes, each a type and a text.
+MADE_NAMES = [
+    [],
+    [("2.5.4.3", "A"), ("1.2.840.113549.1.9.1", "a@b")],
+    [("2.5.4.3", "CommonName"), ("2.5.4.8", "SomeState"), ("2.5.4.6", "SomeCountry")],
+    [(text, "x") for _, text, _ in ATTRIBUTE_TYPES],
+]

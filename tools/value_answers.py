@@ -20,9 +20,19 @@ from pathlib import Path
 import structure_rows as structures
 import value_rows as values
 from certificate_parts import STORED, rows_of
-from der_reader import read_exact
+from der_reader import Constructed, Primitive, read_exact, write
 from oid_table import BAD_CONTENTS, BAD_TEXTS, KNOWN, READ, contents
-from value_reader import Shape, bits, ia5, integer, name, structure_line, word
+from value_reader import KINDS, Shape, bits, ia5, integer, name, structure_line, word
+
+
+EMAIL = "1.2.840.113549.1.9.1"
+
+ERRORS = [
+    ("TextError::BadText", "the text is not an object identifier in dotted decimal form"),
+    ("TextError::Memory", "out of memory"),
+    ("CharSetError::CharSet", "a character is outside the character set of the string"),
+    ("CharSetError::Memory", "out of memory"),
+]
 
 
 def text_word(text):
@@ -197,6 +207,10 @@ UNLIKE = [
     ("algorithm", structures.UNLIKE_ALGORITHMS),
     ("key", structures.UNLIKE_KEYS),
     ("name", structures.UNLIKE_NAMES),
+    ("integer", structures.UNLIKE_INTEGERS),
+    ("bits", structures.UNLIKE_BITS),
+    ("identifier", structures.UNLIKE_IDENTIFIERS),
+    ("ia5", structures.UNLIKE_IA5),
 ]
 
 
@@ -226,6 +240,39 @@ def unlike_rows():
             yield f"unlike {kind} {one} {one}", "equal"
 
 
+def made_row(call, kind, element):
+    octets = write(element)
+    return f"make {call}", f"{word(octets)} {KINDS[kind](element)}"
+
+
+def made_algorithm(oid, *parameters):
+    return Constructed(0x30, (Primitive(6, contents(oid)), *parameters))
+
+
+def made_set(oid, tag, text):
+    attribute = Constructed(0x30, (Primitive(6, contents(oid)), Primitive(tag, text.encode())))
+    return Constructed(0x31, (attribute,))
+
+
+def made_rows():
+    sha256 = "2.16.840.1.101.3.4.2.1"
+    oid = word(contents(sha256))
+    yield made_row(f"algorithm {oid}", "algorithm", made_algorithm(sha256))
+    null = Primitive(5, b"")
+    yield made_row(f"algorithm {oid} 0500", "algorithm", made_algorithm(sha256, null))
+    yield made_row(f"algorithm_null {oid}", "algorithm", made_algorithm(sha256, null))
+    for octets in b"", b"\xaa", bytes(32):
+        key = Constructed(0x30, (made_algorithm("1.3.101.112"), Primitive(3, b"\0" + octets)))
+        yield made_row(f"ed25519_key {word(octets)}", "key", key)
+    for text in "A", "", "caf\u00e9":
+        name = Constructed(0x30, (made_set("2.5.4.3", 0x0C, text),))
+        yield made_row(f"common_name {text_word(text)}", "name", name)
+    for attributes in structures.MADE_NAMES:
+        sets = tuple(made_set(oid, 0x16 if oid == EMAIL else 0x0C, text) for oid, text in attributes)
+        words = "".join(f" {word(contents(oid))}={text_word(text)}" for oid, text in attributes)
+        yield made_row(f"name{words}", "name", Constructed(0x30, sets))
+
+
 def certificate_rows():
     """Names and keys of certificates: text, kind and numbers are what openssl said."""
     names, keys = rows_of(STORED.read_text(encoding="ascii"))
@@ -242,9 +289,11 @@ def certificate_rows():
 def all_rows():
     yield from identifier_rows()
     yield from string_rows()
+    yield from ((f"error {name}", text) for name, text in ERRORS)
     yield from time_rows()
     yield from read_rows()
     yield from unlike_rows()
+    yield from made_rows()
     yield from certificate_rows()
 
 

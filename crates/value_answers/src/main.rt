@@ -10,7 +10,9 @@
 #![tactic(auto)]
 
 mod details;
+mod errors;
 mod identifiers;
+mod making;
 mod row;
 mod strings;
 mod structures;

@@ -1,6 +1,6 @@
 //! Rows, their words, and who answers them.
 
-use crate::{identifiers, strings, structures, times};
+use crate::{errors, identifiers, making, strings, structures, times};
 use anyhow::{Context, Result, bail};
 use std::alloc::{AllocError, Global};
 
@@ -10,7 +10,9 @@ pub fn answer(alloc: Global, text: &str) -> Result<String> {
     let answer = match words.as_slice() {
         ["identifier", call, word] => identifiers::answer(alloc, call, word)?,
         ["string", call, word] => strings::answer(alloc, call, word)?,
+        ["error", name] => errors::answer(alloc, name)?,
         ["time", call, args @ ..] => times::answer(alloc, call, args)?,
+        ["make", call, args @ ..] => making::answer(alloc, call, args)?,
         ["structure", kind, element] => structures::answer(alloc, kind, element)?,
         ["unlike", kind, one, other] => structures::answer_unlike(alloc, kind, one, other)?,
         _ => None,

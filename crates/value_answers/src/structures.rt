@@ -39,6 +39,10 @@ pub fn answer_unlike(alloc: Global, kind: &str, one: &str, other: &str) -> Resul
     let one = octets_of(alloc, one)?;
     let other = octets_of(alloc, other)?;
     let equal = match kind {
+        "integer" => are_equal::<IntegerAsn1>(alloc, &one, &other)?,
+        "bits" => are_equal::<BitString>(alloc, &one, &other)?,
+        "identifier" => are_equal::<ObjectIdentifier>(alloc, &one, &other)?,
+        "ia5" => are_equal::<Ia5String>(alloc, &one, &other)?,
         "algorithm" => are_equal::<AlgorithmIdentifier>(alloc, &one, &other)?,
         "key" => are_equal::<SubjectPublicKeyInfo>(alloc, &one, &other)?,
         "name" => are_equal::<DirectoryName>(alloc, &one, &other)?,

@@ -1,0 +1,17 @@
+//! The texts of errors.
+
+use anyhow::Result;
+use asn1_types::{CharSetError, TextError};
+use std::alloc::Global;
+
+/// The text of an error, None where there is no such error.
+pub fn answer(alloc: Global, name: &str) -> Result<Option<String>> {
+    let text = match name {
+        "TextError::BadText" => TextError::BadText.to_string(alloc)?,
+        "TextError::Memory" => TextError::Memory.to_string(alloc)?,
+        "CharSetError::CharSet" => CharSetError::CharSet.to_string(alloc)?,
+        "CharSetError::Memory" => CharSetError::Memory.to_string(alloc)?,
+        _ => return Ok(None),
+    };
+    Ok(Some(text))
+}

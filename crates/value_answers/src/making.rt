@@ -1,0 +1,82 @@
+//! Values that are put together of parts, and written.
+
+use crate::details::Details;
+use crate::row::{octets_of, text_of, word_of};
+use anyhow::{Context, Result};
+use asn1_types::{BitString, Ia5String, ObjectIdentifier, oids};
+use der_core::{DerError, Raw, read_exact, write};
+use names_core::DirectoryName;
+use std::alloc::Global;
+use x509_types::{AlgorithmIdentifier, NameAttr, Structure, SubjectKey, SubjectPublicKeyInfo};
+
+/// The octets of what is put together, None where there is no such call.
+pub fn answer(alloc: Global, call: &str, args: &[&str]) -> Result<Option<String>> {
+    let answer = match (call, args) {
+        ("algorithm", [oid]) => algorithm(alloc, oid, None)?,
+        ("algorithm", [oid, parameters]) => algorithm(alloc, oid, Some(parameters))?,
+        ("algorithm_null", [oid]) => algorithm_null(alloc, oid)?,
+        ("ed25519_key", [bits]) => ed25519_key(alloc, bits)?,
+        ("common_name", [text]) => {
+            let name = DirectoryName::new_common_name(alloc, text_of(alloc, text)?.as_str())?;
+            shown(alloc, &name)?
+        }
+        ("name", attributes) => name(alloc, attributes)?,
+        _ => return Ok(None),
+    };
+    Ok(Some(answer))
+}
+
+fn algorithm(alloc: Global, oid: &str, parameters: Option<&&str>) -> Result<String> {
+    let parameters = match parameters {
+        Some(word) => Some(kept(alloc, &octets_of(alloc, word)?)?),
+        None => None,
+    };
+    let oid = ObjectIdentifier::from_content(alloc, &octets_of(alloc, oid)?)?;
+    shown(alloc, &AlgorithmIdentifier::new(oid, parameters))
+}
+
+fn kept(alloc: Global, element: &[u8]) -> Result<Raw, DerError> {
+    Raw::from_tree(alloc, &read_exact(alloc, element)?)
+}
+
+fn algorithm_null(alloc: Global, oid: &str) -> Result<String> {
+    let oid = ObjectIdentifier::from_content(alloc, &octets_of(alloc, oid)?)?;
+    shown(alloc, &AlgorithmIdentifier::with_null(alloc, oid)?)
+}
+
+fn ed25519_key(alloc: Global, bits: &str) -> Result<String> {
+    let bits = BitString::with_bytes(alloc, &octets_of(alloc, bits)?)?;
+    let oid = ObjectIdentifier::from_known(alloc, oids::ED25519)?;
+    let key = SubjectPublicKeyInfo {
+        algorithm: AlgorithmIdentifier::new(oid, None),
+        subject_public_key: SubjectKey::Ed(bits),
+    };
+    shown(alloc, &key)
+}
+
+/// A name of attributes, each a type by its contents octets, `=`, and a text.
+fn name(alloc: Global, attributes: &[&str]) -> Result<String> {
+    let mut name = DirectoryName::new(alloc);
+    for word in attributes {
+        add_attribute(alloc, &mut name, word)?;
+    }
+    shown(alloc, &name)
+}
+
+/// Adds an attribute, an email address where the type is none of `NameAttr`.
+fn add_attribute(alloc: Global, name: &mut DirectoryName, word: &str) -> Result<()> {
+    let (ty, text) = word.split_once('=').context("an attribute has a type")?;
+    let text = text_of(alloc, text)?;
+    match NameAttr::from_oid(&octets_of(alloc, ty)?) {
+        Some(attr) => name.add_attr(attr, text.as_str())?,
+        None => name.add_email(Ia5String::from_string(alloc, text.as_str())?)?,
+    }
+    Ok(())
+}
+
+/// The octets that are written for a value, and its details.
+fn shown<T: Structure + Details>(alloc: Global, value: &T) -> Result<String> {
+    let octets = write(alloc, &value.write(alloc)?)?;
+    let (octets, details) = (word_of(alloc, &octets)?, value.details(alloc)?);
+    Ok(format!(in alloc; "{octets} {details}")?)
+}
