@@ -4,10 +4,10 @@ use crate::details::Details;
 use crate::row::{octets_of, text_of, word_of};
 use anyhow::{Context, Result};
 use asn1_types::{BitString, Ia5String, ObjectIdentifier, oids};
-use der_core::{DerError, Raw, read_exact, write};
+use der_core::{DerError, Raw, Structure, read_exact, write};
 use names_core::DirectoryName;
 use std::alloc::Global;
-use x509_types::{AlgorithmIdentifier, NameAttr, Structure, SubjectKey, SubjectPublicKeyInfo};
+use x509_types::{AlgorithmIdentifier, NameAttr, SubjectKey, SubjectPublicKeyInfo};
 
 /// The octets of what is put together, None where there is no such call.
 pub fn answer(alloc: Global, call: &str, args: &[&str]) -> Result<Option<String>> {
