@@ -5,7 +5,7 @@ ghost use Rattle.der_core.specs.Encoding.{form_bit};
 ghost use Rattle.der_core.specs.Head.{past_bound, number_from, long_length_at, length_at, contents_at, head_at, HasHead};
 
 use crate::fault::{DerFault, Malformed};
-use crate::tree::LEVELS;
+use crate::tree::MAX_NESTING;
 
 /// An element as far as its head tells it, and the octets after it.
 #[derive(Clone, Copy)]
@@ -77,7 +77,7 @@ fn tested_head(octets: &[u8], levels: u8) -> Result<Head<'_>, DerFault>
 fn past_bound_of(levels: u8) -> DerFault
     ensures { result ≡ past_bound levels }
 {
-    if levels == LEVELS {
+    if levels == MAX_NESTING {
         DerFault::Truncated
     } else {
         DerFault::Overrun

@@ -12,7 +12,7 @@ use crate::header::{head_of, is_constructed};
 use crate::leaves::boolean_at;
 use crate::structure::Structure;
 use crate::tag::BOOLEAN;
-use crate::tree::LEVELS;
+use crate::tree::MAX_NESTING;
 
 /// Elements in bounds, one after another, that aren't read yet.
 #[derive(Clone, Copy)]
@@ -48,7 +48,7 @@ impl<'a> Kids<'a> {
             ((self.old.are.0 ≡ []) × (self.new.are.0 ≡ []))
             (λ elem. self.old.are.0 ≡ elem.is.0 ∷ self.new.are.0) }
     {
-        let Ok(head) = head_of(self.rest, 0, LEVELS) else {
+        let Ok(head) = head_of(self.rest, 0, MAX_NESTING) else {
             return None;
         };
         let (whole, _) = self.rest.split_at(self.rest.len() - head.rest.len());

@@ -37,7 +37,9 @@ pub use laws::{
     values_are_their_octets,
 };
 pub use leaves::{boolean_at, leaf, leaf_at};
-pub use list::{ListOf, copy_each, has_each, has_list, read_each, read_list, write_each, write_list};
+pub use list::{
+    ListOf, copy_each, has_each, has_list, read_each, read_list, write_each, write_list,
+};
 pub use new_kids::NewKids;
 pub use octets::{Octets, is_same};
 pub use raw::Raw;

@@ -11,7 +11,7 @@ use crate::elem::Elem;
 use crate::fault::{DerFault, Malformed};
 use crate::header::head_of;
 use crate::kids::Kids;
-use crate::tree::LEVELS;
+use crate::tree::MAX_NESTING;
 
 /// The element that octets begin with, or their first fault.
 pub(crate) fn first_of(bytes: &[u8]) -> Result<Elem<'_>, Malformed>
@@ -29,7 +29,7 @@ pub(crate) fn first_from(bytes: &[u8], at: usize) -> Result<Elem<'_>, Malformed>
         (λ elem. IsFirst bytes.now elem.is.0 (length elem.whole.now))
         (IsFaultFrom at (IsFirstFault bytes.now)) }
 {
-    let rest = after_element(bytes, at, LEVELS)?;
+    let rest = after_element(bytes, at, MAX_NESTING)?;
     let (whole, _) = bytes.split_at(bytes.len() - rest.len());
     let mut one = Kids { rest: whole };
     match one.next() {

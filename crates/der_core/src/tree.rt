@@ -9,7 +9,7 @@ use std::alloc::{AllocError, AllocFailed, Global};
 use std::marker::Model;
 
 /// How many levels an element may have.
-pub const LEVELS: u8 = 64;
+pub const MAX_NESTING: u8 = 64;
 
 /// One element of X.690: a leaf of a tag and contents octets, or a branch of a tag and kids.
 #[cycle(tree)]

@@ -9,7 +9,7 @@ ghost use Rattle.der_core.specs.Encoding.{IsWellFormed, IsDer, IsShort, nesting,
 ghost use Rattle.der_core.specs.Writing.{RefusesToWrite, RefusesLong};
 
 use crate::error::DerError;
-use crate::tree::{Form, LEVELS, Tree};
+use crate::tree::{Form, MAX_NESTING, Tree};
 use std::alloc::{AllocError, Global};
 
 /// Writes a tree in DER, each length in its shortest form (X.690 8.1, 10.1).
@@ -20,7 +20,7 @@ pub fn write(alloc: Global, tree: &Tree) -> Result<Vec<u8>, DerError>
     requires { IsWellFormed tree.now }
     ensures { MatchResult result (λ octets. IsDer tree.now × (octets.items ≡ encoding tree.now)) (RefusesToWrite tree.now) }
 {
-    if !is_nested_within(tree, LEVELS) {
+    if !is_nested_within(tree, MAX_NESTING) {
         return Err(DerError::TooDeep);
     }
     let mut backwards = Vec::new(alloc);

@@ -43,7 +43,7 @@ fn first_in(members: &[AttributeTypeAndValue]) -> Option<&DirectoryString>
 fn common_name_of(attribute: &AttributeTypeAndValue) -> Option<&DirectoryString>
     ensures { option_copied result ≡ common_name_of attribute.now }
 {
-    if !NameAttr::CommonName.names(&attribute.ty) {
+    if !NameAttr::CommonName.is_type(&attribute.ty) {
         return None;
     }
     match &attribute.value {

@@ -16,7 +16,7 @@ use std::alloc::{AllocError, Global};
 use std::fmt::{self, Display};
 use x509_types::{
     AttributeTypeAndValue, AttributeValue, DirectoryString, Name, NameAttr,
-    RelativeDistinguishedName, email_address,
+    RelativeDistinguishedName, email_address_oid,
 };
 
 /// A name of the directory, to be made, searched and printed.
@@ -74,7 +74,7 @@ impl DirectoryName {
             (IsExtended email_address (values.Ia5String value) self.old.name self.new.name) }
         ensures err { OnErr result (self.new ≡ self.old) }
     {
-        let ty = email_address(self.name.allocator())?;
+        let ty = email_address_oid(self.name.allocator())?;
         self.add(ty, AttributeValue::Ia5String(value))
     }
 

@@ -58,7 +58,7 @@ fn known(alloc: Global, found: Option<KnownOid>) -> Result<String> {
 
 /// The attribute type of contents octets.
 fn attribute(alloc: Global, contents: &[u8]) -> Result<String> {
-    match NameAttr::from_oid(contents) {
+    match NameAttr::from_contents(contents) {
         Some(attr) => {
             let identifier = attr.to_oid(alloc)?;
             Ok(format!(in alloc; "{attr:?} {identifier}")?)

@@ -67,7 +67,7 @@ fn name(alloc: Global, attributes: &[&str]) -> Result<String> {
 fn add_attribute(alloc: Global, name: &mut DirectoryName, word: &str) -> Result<()> {
     let (ty, text) = word.split_once('=').context("an attribute has a type")?;
     let text = text_of(alloc, text)?;
-    match NameAttr::from_oid(&octets_of(alloc, ty)?) {
+    match NameAttr::from_contents(&octets_of(alloc, ty)?) {
         Some(attr) => name.add_attr(attr, text.as_str())?,
         None => name.add_email(Ia5String::from_string(alloc, text.as_str())?)?,
     }

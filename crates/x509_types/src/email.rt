@@ -9,7 +9,7 @@ use der_core::is_same;
 use std::alloc::{AllocError, Global};
 
 /// The identifier of emailAddress.
-pub fn email_address(alloc: Global) -> Result<ObjectIdentifier, AllocError>
+pub fn email_address_oid(alloc: Global) -> Result<ObjectIdentifier, AllocError>
     ensures { IfOk result (λ identifier. identifier.formed.arcs ≡ email_address) }
 {
     ObjectIdentifier::from_known(alloc, EMAIL_ADDRESS)

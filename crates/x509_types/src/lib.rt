@@ -23,7 +23,7 @@ pub use algorithm_fields::AlgorithmFields;
 pub use attribute::AttributeTypeAndValue;
 pub use attribute_value::AttributeValue;
 pub use directory_string::DirectoryString;
-pub use email::email_address;
+pub use email::email_address_oid;
 pub use key_info::SubjectPublicKeyInfo;
 pub use key_kind::KeyKind;
 pub use name::Name;

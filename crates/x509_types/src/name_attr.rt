@@ -26,7 +26,7 @@ pub enum NameAttr {
 
 impl NameAttr {
     /// Every attribute type.
-    const ALL: [NameAttr; 10] = [
+    pub const ALL: [NameAttr; 10] = [
         NameAttr::CommonName,
         NameAttr::Surname,
         NameAttr::SerialNumber,
@@ -40,12 +40,12 @@ impl NameAttr {
     ];
 
     /// The attribute type that an identifier names, by its contents octets.
-    pub fn from_oid(contents: &[u8]) -> Option<NameAttr>
+    pub fn from_contents(contents: &[u8]) -> Option<NameAttr>
         ensures named { (attr : NameAttr) → contents_of (attribute_arcs attr) ≡ contents.now → result ≡ Some attr }
         ensures name { IfSome result (λ attr. contents_of (attribute_arcs attr) ≡ contents.now) }
     {
         for attr in NameAttr::ALL {
-            if attr.oid_of() == contents {
+            if attr.oid_contents() == contents {
                 return Some(attr);
             }
         }
@@ -53,21 +53,21 @@ impl NameAttr {
     }
 
     /// Whether the identifier is that of the attribute type.
-    pub fn names(self, ty: &ObjectIdentifier) -> bool
+    pub fn is_type(self, ty: &ObjectIdentifier) -> bool
         ensures { IsTrue result ↔ (ty.now.formed.arcs ≡ attribute_arcs self) }
     {
-        is_same(ty.as_bytes(), self.oid_of())
+        is_same(ty.as_bytes(), self.oid_contents())
     }
 
     /// The contents octets of the identifier.
-    pub fn oid_of(self) -> &'static [u8]
+    pub fn oid_contents(self) -> &'static [u8]
         ensures { result.now ≡ contents_of (attribute_arcs self) }
     {
         self.row().0
     }
 
     /// The word that is printed for the type.
-    pub fn word(self) -> &'static str
+    pub fn descriptor(self) -> &'static str
         ensures { result.now ≡ attribute_word self }
     {
         self.row().1
@@ -96,6 +96,6 @@ impl NameAttr {
     pub fn to_oid(self, alloc: Global) -> Result<ObjectIdentifier, AllocError>
         ensures { IfOk result (λ identifier. identifier.formed.arcs ≡ attribute_arcs self) }
     {
-        ObjectIdentifier::from_known(alloc, self.oid_of())
+        ObjectIdentifier::from_known(alloc, self.oid_contents())
     }
 }

@@ -59,8 +59,8 @@ impl fmt::Display for AttributeTypeAndValue {
 fn write_type<W: fmt::Write>(ty: &ObjectIdentifier, f: &mut fmt::Formatter<W>) -> fmt::Result
     ensures { WritesOnOk W.write_str_gives f.old result (type_word ty.now.formed.arcs) f.new }
 {
-    if let Some(attr) = NameAttr::from_oid(ty.as_bytes()) {
-        return f.write_str(attr.word());
+    if let Some(attr) = NameAttr::from_contents(ty.as_bytes()) {
+        return f.write_str(attr.descriptor());
     }
     if is_email_address(ty) {
         return f.write_str("EMAIL");

@@ -2,12 +2,12 @@ use Rattle.std.proofs.Common.{rules, ◌≡◌, ◌∙◌, ◌<◌, ap, arith, s
 use Rattle.asn1_types.specs.ObjectIdentifier.{contents_of}
 use Rattle.x509_types.specs.NameAttr.{attribute_arcs}
 use Rattle.x509_types.proofs.AttributeTypes.{place, place-below, get_or-place, types_by_contents}
-use Rattle.x509_types.proofs.name_attr.NameAttr.from_oid.Goals as goal
+use Rattle.x509_types.proofs.name_attr.NameAttr.from_contents.Goals as goal
 
 pub returns-then-eq-clause-named : goal.returns-then-eq-clause-named
 returns-then-eq-clause-named c attr e =
-    let same : c.oid_of.result.now ≡ c.args.contents.now = search rules in
-    ap Some (types_by_contents _ attr (sym c.oid_of.ensures ∙ same ∙ sym e))
+    let same : c.oid_contents.result.now ≡ c.args.contents.now = search rules in
+    ap Some (types_by_contents _ attr (sym c.oid_contents.ensures ∙ same ∙ sym e))
 
 pub returns-clause-named : goal.returns-clause-named
 returns-clause-named c attr e =
