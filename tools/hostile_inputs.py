@@ -270,6 +270,23 @@ SEVERAL = [
         "2 TooDeep 131"),
 ]
 
+# Rows that stand beside the tables.
+OTHERS = [
+    Row("3F", "HighTag 0", "HighTag 0", "high tag, constructed, before the missing length"),
+    Row("04", "Truncated 0", "Truncated 0", "an identifier alone, of an OCTET STRING"),
+    Row("30 80", "Indefinite 0", "Indefinite 0", "indefinite length at the end"),
+    Row("30 02 04 81 80", "Overrun 2", "Overrun 2", "the parent ends inside a length of 128"),
+    Row("30 04 05 00 00 00", "ReservedTag 4", "ReservedTag 4", "end-of-contents octets behind a kid"),
+    Row("30 08 30 02 05 00 30 02 05 80", "Indefinite 8", "Indefinite 8",
+        "a fault in the second constructed kid"),
+    Row("30 04 00 00", "Truncated 0", "Truncated 0", "cut off, before a fault inside"),
+    Row("30 04 1F 00 00 00", "HighTag 2", "HighTag 2", "the first of two faults"),
+    Row("30 02 30 01 05", "Overrun 2", "Overrun 2", "a constructed kid that is cut off"),
+    Row("30 05 05 00 02 01 07", "ok 7", "ok 7", "two kids"),
+    Row("C1 01 AA 00 00", "ok 3", "Trailing 3", "zeros behind an element of private class",
+        "3 ReservedTag 3"),
+]
+
 TABLES = {
     "IDENTIFIERS": IDENTIFIERS,
     "LENGTHS": LENGTHS,
@@ -280,7 +297,7 @@ TABLES = {
     "LEVELS": LEVELS,
 }
 
-ROWS = [row for rows in TABLES.values() for row in rows] + SEVERAL
+ROWS = [row for rows in TABLES.values() for row in rows] + SEVERAL + OTHERS
 
 
 def line(row):
