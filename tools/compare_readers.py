@@ -18,14 +18,16 @@ with status 0 where there are none, else 1.
 
 The answer line
 
-of an input has two answers with a space between, that of `read_first` and
-that of `read_exact`, and a newline:
+of an input has three answers with spaces between, those of `read_first`, of
+`read_exact` and of a cursor, and a newline:
 
-    ok 5 Trailing 5
-    Overrun 2 Overrun 2
+    ok 5 Trailing 5 5 2 end
+    Overrun 2 Overrun 2 Overrun 2
 
 An answer is `ok` and the number of octets taken, or the fault and its place
-in decimal.  The faults are spelled as in `der_reader.FAULTS`.  The program
+in decimal.  That of a cursor is the number of octets that each element takes,
+one after another, and then the fault and its place, or `end` where no octets
+are left.  The faults are spelled as in `der_reader.FAULTS`.  The program
 says `ok` only where writing the element that was read gives the octets taken;
 else it says `Rewritten` in its place.  As no two elements have one encoding,
 this compares the elements too.
@@ -71,7 +73,7 @@ from itertools import islice, product, zip_longest
 from pathlib import Path
 
 from der_cases import mutations
-from der_reader import exact_answer, first_answer
+from der_reader import cursor_answer, exact_answer, first_answer
 from hostile_inputs import ROWS
 
 # Prefixes, and how many octets follow.
@@ -85,7 +87,7 @@ SHOWN = 20
 
 
 def answer_line(octets):
-    return f"{first_answer(octets)} {exact_answer(octets)}\n"
+    return f"{first_answer(octets)} {exact_answer(octets)} {cursor_answer(octets)}\n"
 
 
 # Cases in a file.

@@ -104,6 +104,22 @@ def exact_answer(octets):
     return f"ok {len(octets)}"
 
 
+def cursor_answer(octets):
+    """What a cursor answers, call by call, as a text: ``TAKEN TAKEN .. end`` or ``.. FAULT AT``.
+
+    Each element is an outermost one of what is left, its places counted on.
+    """
+    words, place = [], 0
+    while place < len(octets):
+        try:
+            _, after = _element(octets, place, len(octets), 1)
+        except Malformed as refusal:
+            return " ".join([*words, refusal.fault, str(refusal.at)])
+        words.append(str(after - place))
+        place = after
+    return " ".join([*words, "end"])
+
+
 def _element(octets, place, bound, level):
     """The element at `place`, and the place after it."""
     tag, start, end = _head(octets, place, bound, level)

@@ -10,6 +10,11 @@ row: octets in hexadecimal, what `read_first` and what `read_exact` answers,
 and why the row is there.  An answer is ``ok`` and the number of octets that
 are taken, or the fault and its place.
 
+A cursor goes on after an element.  Rows with octets after the first element
+say what it answers: how many octets each element takes, and then the fault
+and its place, or ``end``.  On all other rows it has the answer of
+`read_first`, and ends where no octets are left.
+
 The answers were worked out by hand from the rules in `der_reader` and then
 confirmed by that reader and by the definition in `der_starts`;
 `test_tools.py` does so each time.
@@ -24,6 +29,15 @@ class Row(NamedTuple):
     first: str
     exact: str
     why: str
+    following: str = ""
+
+    @property
+    def cursor(self):
+        """What a cursor over the octets answers."""
+        if self.following or not self.octets:
+            return self.following or "end"
+        word, number = self.first.split()
+        return f"{number} end" if word == "ok" else self.first
 
 
 def nest(levels, core="30 00"):
@@ -144,7 +158,8 @@ FIRST_KIDS = [
     Row("24 02 04 05", "Overrun 2", "Overrun 2", "kids are read in an OCTET STRING in parts"),
     Row("20 02 30 80", "Indefinite 2", "Indefinite 2", "kids are read below the tag 20"),
     Row("61 01 00", "ReservedTag 2", "ReservedTag 2", "kids are read in application class"),
-    Row("FE 03 05 01 AA 05", "ok 5", "Trailing 5", "kids are read in private class"),
+    Row("FE 03 05 01 AA 05", "ok 5", "Trailing 5", "kids are read in private class",
+        "5 Truncated 5"),
     Row("FE 03 05 02 AA 05", "Overrun 2", "Overrun 2", "a kid past its parent in private class"),
     Row("30 80 1F", "Indefinite 0", "Indefinite 0", "the parent's length, before the kid"),
     Row("30 81 02 1F 00", "NotShortest 0", "NotShortest 0", "the parent's length form, before the kid"),
@@ -186,16 +201,26 @@ READ = [
 ]
 
 FOLLOWED = [
-    Row("30 03 02 01 05 FF", "ok 5", "Trailing 5", "an octet after the element"),
-    Row("05 00 00", "ok 2", "Trailing 2", "one zero after the element"),
-    Row("05 00" + 7 * " 00", "ok 2", "Trailing 2", "seven zeros, as padding leaves"),
-    Row("05 00" + 8 * " 00", "ok 2", "Trailing 2", "eight zeros"),
-    Row("05 00" + 17 * " 00", "ok 2", "Trailing 2", "seventeen zeros"),
-    Row("05 00 00 00 01", "ok 2", "Trailing 2", "zeros, then another octet"),
-    Row("05 00 05 00", "ok 2", "Trailing 2", "a second element"),
-    Row("05 00 30 80", "ok 2", "Trailing 2", "what follows isn't read"),
-    Row("30 00 1F", "ok 2", "Trailing 2", "an empty element, and what follows isn't read"),
-    Row("30 02 30 00 05 00", "ok 4", "Trailing 4", "a kid that the parent leaves out"),
+    Row("30 03 02 01 05 FF", "ok 5", "Trailing 5", "an octet after the element",
+        "5 HighTag 5"),
+    Row("05 00 00", "ok 2", "Trailing 2", "one zero after the element",
+        "2 ReservedTag 2"),
+    Row("05 00" + 7 * " 00", "ok 2", "Trailing 2", "seven zeros, as padding leaves",
+        "2 ReservedTag 2"),
+    Row("05 00" + 8 * " 00", "ok 2", "Trailing 2", "eight zeros",
+        "2 ReservedTag 2"),
+    Row("05 00" + 17 * " 00", "ok 2", "Trailing 2", "seventeen zeros",
+        "2 ReservedTag 2"),
+    Row("05 00 00 00 01", "ok 2", "Trailing 2", "zeros, then another octet",
+        "2 ReservedTag 2"),
+    Row("05 00 05 00", "ok 2", "Trailing 2", "a second element",
+        "2 2 end"),
+    Row("05 00 30 80", "ok 2", "Trailing 2", "what follows isn't read",
+        "2 Indefinite 2"),
+    Row("30 00 1F", "ok 2", "Trailing 2", "an empty element, and what follows isn't read",
+        "2 HighTag 2"),
+    Row("30 02 30 00 05 00", "ok 4", "Trailing 4", "a kid that the parent leaves out",
+        "4 2 end"),
     Row("30 09 05 00" + 7 * " 00", "ReservedTag 4", "ReservedTag 4", "seven zeros inside the parent"),
     Row("30 0A 05 00" + 8 * " 00", "ReservedTag 4", "ReservedTag 4", "eight zeros inside the parent"),
 ]
@@ -206,7 +231,8 @@ LEVELS = [
     Row(nest(62), "ok 126", "ok 126", "63 levels"),
     Row(nest(63), "ok 128", "ok 128", "64 levels"),
     Row(nest(63, "05 00"), "ok 128", "ok 128", "64 levels, the last one primitive"),
-    Row(nest(63) + " FF", "ok 128", "Trailing 128", "64 levels and an octet"),
+    Row(nest(63) + " FF", "ok 128", "Trailing 128", "64 levels and an octet",
+        "128 HighTag 128"),
     Row(nest(64), "TooDeep 129", "TooDeep 129", "65 levels"),
     Row(nest(64, "05 00"), "TooDeep 129", "TooDeep 129", "65 levels, the last one primitive"),
     Row(nest(65), "TooDeep 130", "TooDeep 130", "66 levels, at the 65th"),
@@ -226,6 +252,41 @@ LEVELS = [
         "63 levels, then 64, inside one parent"),
 ]
 
+# What a cursor tells of several elements, one after another.
+SEVERAL = [
+    Row("02 01 05 04 00 30 80", "ok 3", "Trailing 3", "two elements, then an indefinite length",
+        "3 2 Indefinite 5"),
+    Row("05 00 30 02 05 00 02 01 05", "ok 2", "Trailing 2", "three elements", "2 4 3 end"),
+    Row("05 00 30 03 05 00 02 05", "ok 2", "Trailing 2", "a fault inside the second element",
+        "2 Overrun 6"),
+    Row("30 02 05 00 04 02 05", "ok 4", "Trailing 4", "contents that end too soon, behind an element",
+        "4 Truncated 4"),
+    Row("05 00 04 81 7F", "ok 2", "Trailing 2", "long form of 127 behind an element",
+        "2 NotShortest 2"),
+    Row("05 00 05 00 04 85", "ok 2", "Trailing 2", "wide length behind two elements",
+        "2 2 WideLength 4"),
+    Row("05 00 " + nest(63), "ok 2", "Trailing 2", "64 levels behind an element", "2 128 end"),
+    Row("05 00 " + nest(64), "ok 2", "Trailing 2", "65 levels behind an element",
+        "2 TooDeep 131"),
+]
+
+# Rows that stand beside the tables.
+OTHERS = [
+    Row("3F", "HighTag 0", "HighTag 0", "high tag, constructed, before the missing length"),
+    Row("04", "Truncated 0", "Truncated 0", "an identifier alone, of an OCTET STRING"),
+    Row("30 80", "Indefinite 0", "Indefinite 0", "indefinite length at the end"),
+    Row("30 02 04 81 80", "Overrun 2", "Overrun 2", "the parent ends inside a length of 128"),
+    Row("30 04 05 00 00 00", "ReservedTag 4", "ReservedTag 4", "end-of-contents octets behind a kid"),
+    Row("30 08 30 02 05 00 30 02 05 80", "Indefinite 8", "Indefinite 8",
+        "a fault in the second constructed kid"),
+    Row("30 04 00 00", "Truncated 0", "Truncated 0", "cut off, before a fault inside"),
+    Row("30 04 1F 00 00 00", "HighTag 2", "HighTag 2", "the first of two faults"),
+    Row("30 02 30 01 05", "Overrun 2", "Overrun 2", "a constructed kid that is cut off"),
+    Row("30 05 05 00 02 01 07", "ok 7", "ok 7", "two kids"),
+    Row("C1 01 AA 00 00", "ok 3", "Trailing 3", "zeros behind an element of private class",
+        "3 ReservedTag 3"),
+]
+
 TABLES = {
     "IDENTIFIERS": IDENTIFIERS,
     "LENGTHS": LENGTHS,
@@ -236,7 +297,7 @@ TABLES = {
     "LEVELS": LEVELS,
 }
 
-ROWS = [row for rows in TABLES.values() for row in rows]
+ROWS = [row for rows in TABLES.values() for row in rows] + SEVERAL + OTHERS
 
 
 def line(row):

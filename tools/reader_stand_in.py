@@ -21,7 +21,19 @@ def answer_line(octets):
         taken = encoding_at(octets, Start(0, len(octets), 1))
         first = f"ok {taken}"
         exact = first if taken == len(octets) else f"Trailing {taken}"
-    return f"{first} {exact}\n"
+    return f"{first} {exact} {cursor_answer(octets)}\n"
+
+
+def cursor_answer(octets):
+    """How many octets each element takes, then the first fault of those left, or ``end``."""
+    words, place = [], 0
+    while rest := octets[place:]:
+        if fault := first_fault(rest):
+            return " ".join([*words, fault[0], str(place + fault[1])])
+        taken = encoding_at(rest, Start(0, len(rest), 1))
+        words.append(str(taken))
+        place += taken
+    return " ".join([*words, "end"])
 
 
 def answer_cases(path):

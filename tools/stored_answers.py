@@ -20,7 +20,7 @@ from hostile_inputs import ROWS
 def stored_files():
     """The octets of each file, by its path below the folder."""
     cases = case_file(bytes.fromhex(row.octets) for row in ROWS)
-    lines = "".join(f"{row.first} {row.exact}\n" for row in ROWS)
+    lines = "".join(f"{row.first} {row.exact} {row.cursor}\n" for row in ROWS)
     return {"data/cases.bin": cases, "stdout": lines.encode("ascii")}
 
 

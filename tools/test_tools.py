@@ -33,7 +33,7 @@ from compare_readers import Comparison, block_line, case_file, cases_of, inputs,
 from der_cases import mutations
 from der_reader import (
     FAULTS, Constructed, Malformed, NotWritable, Primitive,
-    encoding, exact_answer, first_answer, read_exact, read_first, write,
+    cursor_answer, encoding, exact_answer, first_answer, read_exact, read_first, write,
 )
 from der_starts import first_fault
 from first_path import (
@@ -111,6 +111,7 @@ class ReaderTest(unittest.TestCase):
             self.assertEqual(write(tree), octets[:taken])
             exact = f"ok {taken}" if taken == len(octets) else f"Trailing {taken}"
             self.assertEqual(exact_answer(octets), exact)
+        self.assertEqual(cursor_answer(octets), reader_stand_in.cursor_answer(octets))
 
     def test_every_input_of_two_octets(self):
         for count in range(3):
@@ -131,6 +132,7 @@ class ReaderTest(unittest.TestCase):
                 self.assert_first_fault(octets)
                 self.assertEqual(first_answer(octets), row.first)
                 self.assertEqual(exact_answer(octets), row.exact)
+                self.assertEqual(cursor_answer(octets), row.cursor)
         self.assertEqual(len({row.octets for row in ROWS}), len(ROWS))
         self.assertEqual({row.exact.split()[0] for row in ROWS}, {"ok", *FAULTS})
 
@@ -228,11 +230,11 @@ class ComparisonTest(unittest.TestCase):
         right = reader_stand_in.answer_line
 
         def wrong(octets):
-            return "ok 2 ok 2\n" if octets == b"\x04\x81" else right(octets)
+            return "ok 2 ok 2 2 end\n" if octets == b"\x04\x81" else right(octets)
 
         with patch.object(reader_stand_in, "answer_line", wrong):
             comparison = self.compared([("04", 1)])
-        self.assertIn("04 81: expected Truncated 0 Truncated 0, got ok 2 ok 2", comparison.shown)
+        self.assertIn("04 81: expected Truncated 0 Truncated 0 Truncated 0, got ok 2 ok 2 2 end", comparison.shown)
 
     def test_missing_lines(self):
         with patch.object(Comparison, "asked", lambda _, *words: asked(*words)[:-1]):

@@ -1,10 +1,10 @@
-//! The answers of the reader to some octets.
+//! The answers of the readers to some octets.
 
 ghost use Rattle.std.specs.Prelude.{◌≡◌, length, IfOk, IfErr};
 ghost use Rattle.der_core.specs.Encoding.{IsDer, encoding};
 ghost use Rattle.der_answers.specs.Answer.{IsFirstAnswer, IsExactAnswer};
 
-use der_core::{DerError, Malformed, Tree, read_exact, read_first, write};
+use der_core::{Cursor, DerError, Malformed, Tree, read_exact, read_first, write};
 use std::alloc::Global;
 use std::fmt;
 
@@ -29,12 +29,30 @@ impl fmt::Display for Answer {
     }
 }
 
-/// Adds the answers of `read_first` and `read_exact`, as a line.
+/// Adds the answers of `read_first`, of `read_exact` and of a cursor, as a line.
 pub fn push_answers(alloc: Global, lines: &mut String, octets: &[u8]) -> Result<(), DerError> {
     let first = first_answer(alloc, octets)?;
     let exact = exact_answer(alloc, octets)?;
-    writeln!(lines, "{first} {exact}")?;
-    Ok(())
+    write!(lines, "{first} {exact}")?;
+    push_elements(lines, octets)
+}
+
+/// Adds how many octets each element takes that a cursor gives, and how it ends.
+fn push_elements(lines: &mut String, octets: &[u8]) -> Result<(), DerError> {
+    let mut cursor = Cursor::new(octets);
+    loop {
+        match cursor.next() {
+            Ok(Some(elem)) => write!(lines, " {}", elem.whole.len())?,
+            Ok(None) => {
+                writeln!(lines, " end")?;
+                return Ok(());
+            }
+            Err(malformed) => {
+                writeln!(lines, " {}", Answer::Refused(malformed))?;
+                return Ok(());
+            }
+        }
+    }
 }
 
 fn first_answer(alloc: Global, octets: &[u8]) -> Result<Answer, DerError>

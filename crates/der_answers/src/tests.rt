@@ -11,20 +11,20 @@ use std::test::Fail;
 // Prefix, count, and the line of the one block.
 #[rattlefmt::skip]
 const DIGESTS: [(&str, &str, &str); 5] = [
-    ("-", "0", "- 102bb41b98748d1fe0d85a3fb0d1a4ec0db4faa654bd5914d7e38fa1d52fe568\n"),
-    ("-", "1", "- baf592b6f465dfd1c52e69592a6b146b0d65d1872cbb502856791efc5d165ce4\n"),
-    ("30", "1", "30 32fc254c0b7872ffb2833f2023b37f1dcbbdf257286ec2bd96a467e139d90600\n"),
-    ("3003", "1", "3003 e74fc6d2e90f0c5b562c25a526926c3fd623012726d7b68c58c32a933784e753\n"),
-    ("0481", "2", "0481 f28d0b5cc51b3745c3992f23834047036d006969c6c774a9a729bb65672f0bd7\n"),
+    ("-", "0", "- 4ee8a2a1b4fbf9d8c96485603d590c2c683f767b933124c9f3286981b99bafe8\n"),
+    ("-", "1", "- 63f75cfa68107b6b03453839f07e5489dc5ec5ea443bcf89bd71fd9cde74fe47\n"),
+    ("30", "1", "30 b03c600781b9b1eb9608db4f9a6fbf3b0c317f8b045f0546cf7e59d100b32e05\n"),
+    ("3003", "1", "3003 658e1b6a75a3616ec946382ee188d49f41c44cf73ca46b9a34b0bea86d12eb93\n"),
+    ("0481", "2", "0481 3c2522ed7eeb2e902f7a49bdd729ced1fd7b6cd8c9d856f42b2efa5316643577\n"),
 ];
 
 // Files of cases, and their answer lines where no case is cut short.
 const FILES: [(&[u8], Option<&str>); 6] = [
     (&[], Some("")),
-    (&[0, 0], Some("Truncated 0 Truncated 0\n")),
+    (&[0, 0], Some("Truncated 0 Truncated 0 end\n")),
     (
         &[2, 0, 0x30, 0, 1, 0, 0],
-        Some("ok 2 ok 2\nReservedTag 0 ReservedTag 0\n"),
+        Some("ok 2 ok 2 2 end\nReservedTag 0 ReservedTag 0 ReservedTag 0\n"),
     ),
     (&[2], None),
     (&[2, 0, 0x30], None),

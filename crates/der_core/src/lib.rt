@@ -21,8 +21,6 @@ mod sequence_of;
 mod structure;
 pub mod tag;
 mod testing;
-#[cfg(test)]
-mod tests;
 mod tree;
 mod within;
 mod writing;
