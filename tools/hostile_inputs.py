@@ -1,14 +1,8 @@
-#!/usr/bin/env python3
 """Hostile octets for a reader of DER, and what it must answer.
 
-Usage:
-
-    python3 tools/hostile_inputs.py
-
-prints the tables of `crates/picky_vectors/src/hostile.rt`, a line for each
-row: octets in hexadecimal, what `read_first` and what `read_exact` answers,
-and why the row is there.  An answer is ``ok`` and the number of octets that
-are taken, or the fault and its place.
+`ROWS` has a row for each: octets in hexadecimal, what `read_first` and what
+`read_exact` answers, and why the row is there.  An answer is ``ok`` and the
+number of octets that are taken, or the fault and its place.
 
 A cursor goes on after an element.  Rows with octets after the first element
 say what it answers: how many octets each element takes, and then the fault
@@ -20,7 +14,6 @@ confirmed by that reader and by the definition in `der_starts`;
 `test_tools.py` does so each time.
 """
 
-import sys
 from typing import NamedTuple
 
 
@@ -287,41 +280,14 @@ OTHERS = [
         "3 ReservedTag 3"),
 ]
 
-TABLES = {
-    "IDENTIFIERS": IDENTIFIERS,
-    "LENGTHS": LENGTHS,
-    "FIRST_KIDS": FIRST_KIDS,
-    "LATER_KIDS": LATER_KIDS,
-    "READ": READ,
-    "FOLLOWED": FOLLOWED,
-    "LEVELS": LEVELS,
-}
-
-ROWS = [row for rows in TABLES.values() for row in rows] + SEVERAL + OTHERS
-
-
-def line(row):
-    """The fields of a row, none of which but the last has a semicolon."""
-    return ";".join((bytes.fromhex(row.octets).hex(), row.first, row.exact, row.why))
-
-
-def constant(name, rows):
-    """A constant in Rattle whose text has a line for each row."""
-    opening = f"const {name}: &str ="
-    first, *others = map(line, rows)
-    gap = " " if len(f'{opening} "{first}') <= 100 else "\n    "
-    lines = "\n".join([first, *others])
-    return f'{opening}{gap}"{lines}";\n'
-
-
-def main(arguments):
-    if arguments:
-        print("usage: hostile_inputs.py", file=sys.stderr)
-        return 2
-    for name, rows in TABLES.items():
-        print(constant(name, rows))
-    return 0
-
-
-if __name__ == "__main__":
-    sys.exit(main(sys.argv[1:]))
+ROWS = [
+    *IDENTIFIERS,
+    *LENGTHS,
+    *FIRST_KIDS,
+    *LATER_KIDS,
+    *READ,
+    *FOLLOWED,
+    *LEVELS,
+    *SEVERAL,
+    *OTHERS,
+]

@@ -40,7 +40,7 @@ from first_path import (
     FILE_HASH, SignatureFile, identifier, name, sequence, set_of, signature_file, utf8_string,
     verdict_line,
 )
-from hostile_inputs import ROWS, TABLES, constant, line
+from hostile_inputs import ROWS
 from stored_answers import stored_files
 from value_answers import stored_files as stored_values
 from value_reader import WORDS, dotted, name_text, structure_line
@@ -160,19 +160,6 @@ class ReaderTest(unittest.TestCase):
                      Constructed(0x04, ()), Constructed(0x30, (Primitive(0xFF, b""),))):
             with self.assertRaises(ValueError):
                 write(tree)
-
-
-class ConstantTableTest(unittest.TestCase):
-
-    def test_rows(self):
-        self.assertIn("300102;Overrun 2;Overrun 2;the parent ends after an identifier",
-                      map(line, ROWS))
-
-    def test_rows_of_the_crate(self):
-        source = Path(__file__).parent.parent / "crates/picky_vectors/src/hostile.rt"
-        text = source.read_text(encoding="utf-8")
-        for name, rows in TABLES.items():
-            self.assertIn(constant(name, rows), text)
 
 
 def asked(*words):

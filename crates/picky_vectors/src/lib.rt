@@ -8,8 +8,6 @@ mod answers;
 #[cfg(test)]
 mod elements;
 #[cfg(test)]
-mod hostile;
-#[cfg(test)]
 mod limits;
 #[cfg(test)]
 mod signature;
