@@ -1,14 +1,13 @@
 -- The steps of a cursor.
-use Rattle.std.proofs.Common.{◌≡◌, ℕ, ◌+◌, ◌<◌, ◌≤◌, List, [], ◌∷◌, ◌++◌, length, take, refl, sym, ap, subst, ◌∙◌, arith}
+use Rattle.std.proofs.Common.{◌≡◌, ℕ, ◌<◌, ◌≤◌, List, ◌∷◌, ◌++◌, length, take, sym, ap, ◌∙◌, arith}
 use Rattle.std.proofs.lemmas.List.{length-append, take_at, length-take}
 use Rattle.der_core.specs.DerElement.{DerElement, DerElements, Nil, Cons, row, listed, row-listed}
-use Rattle.der_core.specs.Encoding.{encoding, encodings, nesting, IsDer, AreWellFormed, AreShort}
+use Rattle.der_core.specs.Encoding.{encoding, encodings, nesting, IsDer}
 use Rattle.der_core.specs.Facts.Fronts.{some_octets, fronts, same_kids}
 use Rattle.der_core.specs.Placed.{AreDer, IsElem, AreElems, HasElems}
 use Rattle.der_core.specs.Facts.Placed.{all_formed, all_short}
 use Rattle.der_core.specs.Reading.{AreDerWithin, IsFirst}
 use Rattle.der_core.specs.Cursor.{BeginsAt, AreInner, WereTested}
-use Rattle.der_core.proofs.Elements.{first_parts}
 
 pub first_length : (octets : List ℕ) (a : DerElement) (n : ℕ) → IsFirst octets a n → n ≤ length octets
 first_length octets a n first = omega (arith, ap length first.front, length-take n octets, first.many)

@@ -1,5 +1,5 @@
 -- The first fault of octets, seen from the elements around it.
-use Rattle.std.proofs.Common.{◌≡◌, ℕ, zero, suc, ◌+◌, ◌-◌, ◌<◌, ◌≤◌, List, [], ◌∷◌, ◌++◌, length, Result, Ok, Err, refl, sym, ap, subst, ◌∙◌, arith, zero-add, add-zero, add_assoc, inl, inr, ◌⊎◌}
+use Rattle.std.proofs.Common.{◌≡◌, ℕ, zero, suc, ◌+◌, ◌-◌, ◌<◌, ◌≤◌, List, [], ◌∷◌, ◌++◌, length, Result, Ok, Err, refl, sym, ap, subst, ◌∙◌, arith, zero-add, add-zero, add_assoc}
 use Rattle.std.proofs.lemmas.List.{length-append}
 use Rattle.der_core.specs.declared.fault.DerFault.{DerFault}
 use Rattle.der_core.specs.DerElement.{DerElement}
@@ -9,8 +9,8 @@ use Rattle.der_core.specs.Fault.{header_length, IsStart, Outermost, Within, Afte
 use Rattle.der_core.specs.Facts.InnerFault.{ElementFault, KidsFault, Here, Inside, First, Next}
 use Rattle.der_core.specs.Facts.Fronts.{ok_is, some_octets, fronts}
 use Rattle.der_core.specs.Head.{head_at, HasHead}
-use Rattle.der_core.specs.Reading.{HasElement, HasElements, IsFirst, IsFaultFrom}
-use Rattle.der_core.proofs.Elements.{no_head, no_kids, no_first, rest_goes_on, first_stands}
+use Rattle.der_core.specs.Reading.{HasElement, HasElements, IsFaultFrom}
+use Rattle.der_core.proofs.Elements.{no_head, no_kids, no_first, rest_goes_on}
 
 -- ---- there is no element where there is a fault
 

@@ -1,12 +1,12 @@
 -- Elements where they lie in octets: their kids, and the first of several.
-use Rattle.std.proofs.Common.{◌≡◌, ℕ, ◌-◌, ◌<◌, List, [], ◌∷◌, ◌++◌, length, take, Option, Some, None, Ok, Err, refl, sym, ap, subst, ◌∙◌, arith}
+use Rattle.std.proofs.Common.{◌≡◌, ℕ, ◌-◌, List, [], ◌∷◌, ◌++◌, length, take, Some, None, Ok, Err, refl, sym, ap, subst, ◌∙◌, arith}
 use Rattle.std.proofs.lemmas.List.{append-nil, length-append, take_at}
 use Rattle.der_core.specs.declared.fault.DerFault.{DerFault}
-use Rattle.der_core.specs.DerElement.{DerElement, Primitive, Constructed, DerElements, Nil, Cons, row, listed, row-listed, listed-row, tag_of, kids_of}
+use Rattle.der_core.specs.DerElement.{DerElement, Primitive, Constructed, DerElements, Nil, Cons, row, listed, row-listed, tag_of, kids_of}
 use Rattle.der_core.specs.Encoding.{encoding, encodings, form_bit, IsDer, IsDerWithin}
-use Rattle.der_core.specs.Facts.Fronts.{ok_is, some_octets, fronts}
-use Rattle.der_core.specs.Reading.{HasElements, AreDerWithin, IsFirst}
-use Rattle.der_core.specs.Head.{head_at, HasHead}
+use Rattle.der_core.specs.Facts.Fronts.{ok_is, some_octets}
+use Rattle.der_core.specs.Reading.{HasElements, IsFirst}
+use Rattle.der_core.specs.Head.{head_at}
 use Rattle.der_core.specs.Placed.{contents_octets, AreDer, IsElem, HasElem, AreElems, HasElems}
 use Rattle.der_core.specs.Facts.Placed.{HasElem-prop, HasElems-prop, same_elements}
 use Rattle.der_core.specs.Kept.{IsKept, Kept}

@@ -1,16 +1,12 @@
 -- Elements that are written into strings of a value: those of a part are among those of the whole.
-use Rattle.std.proofs.Common.{◌≡◌, ℕ, List, [], ◌∷◌, ◌++◌, Result, Ok, Err, MatchResult, refl, sym, ◌∙◌, ap, subst, append_assoc, append-nil}
+use Rattle.std.proofs.Common.{◌≡◌, List, [], ◌∷◌, ◌++◌, refl, sym, ◌∙◌, ap, subst, append_assoc, append-nil}
 use Rattle.der_core.specs.DerElement.{DerElement}
 use Rattle.der_core.specs.declared.error.DerError.{DerError}
 use Rattle.der_core.specs.declared.error.DerError.TheVariants as errors
 use Rattle.der_core.specs.Placed.{AreDer}
 use Rattle.der_core.specs.Facts.Grammars.{AreDer-append}
-use Rattle.der_core.specs.Refusals.{IsFirstUnwritable, RefusesInner, RefusesShape}
-use Rattle.der_core.specs.Structure.{IsWithin, FitsWithin}
-use Rattle.der_core.specs.Facts.Kept.{same_encoded}
-use Rattle.der_core.specs.Encoding.{encoding, IsDer}
+use Rattle.der_core.specs.Refusals.{IsFirstUnwritable, RefusesInner}
 use Rattle.der_core.specs.Writing.{RefusesToWrite}
-use Rattle.der_core.proofs.Parts.{refuses_as}
 
 first_among : (before inner after : List DerElement) (e : DerError) → AreDer before → IsFirstUnwritable inner e → IsFirstUnwritable (before ++ (inner ++ after)) e
 first_among before inner after e der (b, element, a, parts, der', refused) =

@@ -4,7 +4,7 @@ use Rattle.std.proofs.lemmas.List.{map-append}
 use Rattle.std.proofs.lemmas.Grind.{flat_map-append}
 use Rattle.der_core.specs.DerElement.{DerElement, Constructed, row}
 use Rattle.der_core.proofs.Parts.{refuses_as, same_kids}
-use Rattle.der_core.specs.Each.{AreEach, AreWritten, IsListOf, IsWrittenList}
+use Rattle.der_core.specs.Each.{AreEach, AreWritten, IsListOf}
 use Rattle.der_core.proofs.SoFar.{AreFirst, AreFirstWritten}
 use Rattle.der_core.specs.Placed.{AreDer}
 use Rattle.der_core.specs.Refusals.{RefusesInner, RefusesShape}

@@ -1,5 +1,5 @@
 -- A kid among its siblings.
-use Rattle.std.proofs.Common.{◌≡◌, ◌+◌, Some, None, sym, ◌∙◌, ap, ℕ, ◌<◌, ◌≤◌, List, [], ◌∷◌, length, get_or, zero, suc, arith}
+use Rattle.std.proofs.Common.{◌≡◌, ◌+◌, Some, sym, ◌∙◌, ap, ℕ, ◌<◌, ◌≤◌, List, [], ◌∷◌, length, get_or, zero, suc, arith}
 use Rattle.der_core.specs.DerElement.{DerElement, Primitive, Constructed, row, listed, row-listed, tag_of, kids_of, element_count, elements_count}
 use Rattle.der_core.specs.Encoding.{IsShort, AreShort}
 

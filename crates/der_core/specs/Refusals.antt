@@ -1,5 +1,5 @@
 -- Why a reader or a writer refuses: each refusal with its cause, and want of memory, which may come at any time.
-use Rattle.std.specs.Prelude.{◌≡◌, ⊤, ℕ, List, [], ◌∷◌, ◌++◌}
+use Rattle.std.specs.Prelude.{◌≡◌, ⊤, List, ◌∷◌, ◌++◌}
 use Rattle.der_core.specs.DerElement.{DerElement}
 use Rattle.der_core.specs.Writing.{RefusesToWrite}
 use Rattle.der_core.specs.Placed.{AreDer}

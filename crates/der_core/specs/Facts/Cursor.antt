@@ -1,7 +1,7 @@
 -- That octets were tested is a fact for one reason.
 use Rattle.std.specs.Prelude.{ℕ, List}
 use Rattle.std.specs.Coded.{×_prop, le_prop}
-use Rattle.std.proofs.Common.{◌≡◌, sym, ◌∙◌}
+use Rattle.std.proofs.Common.{sym, ◌∙◌}
 use mathlib.Core.HLevel.{Σ_prop_path}
 use Rattle.der_core.specs.DerElement.{DerElements}
 use Rattle.der_core.specs.Encoding.{encodings}

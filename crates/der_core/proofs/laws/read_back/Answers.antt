@@ -1,4 +1,4 @@
-use Rattle.std.proofs.Common.{sym, ◌∙◌, rules}
+use Rattle.std.proofs.Common.{sym, ◌∙◌}
 use Rattle.der_core.specs.Facts.Kept.{same_encoded}
 use Rattle.der_core.proofs.laws.read_back.Goals as goal
 

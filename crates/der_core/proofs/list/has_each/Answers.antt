@@ -1,5 +1,5 @@
 use Rattle.std.proofs.Common.{rules}
-use Rattle.der_core.proofs.Several.{first_fits, rest_each, none_fits}
+use Rattle.der_core.proofs.Several.{first_fits, rest_each}
 use Rattle.der_core.proofs.list.has_each.Goals as goal
 
 pub loop-kid-preserved : goal.loop-kid-preserved

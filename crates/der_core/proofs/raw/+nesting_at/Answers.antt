@@ -1,5 +1,5 @@
-use Rattle.std.proofs.Common.{◌≡◌, [], ◌∷◌, arith, ap, sym}
-use Rattle.der_core.specs.DerElement.{DerElement, row}
+use Rattle.std.proofs.Common.{arith, ap, sym}
+use Rattle.der_core.specs.DerElement.{row}
 use Rattle.der_core.specs.Encoding.{deepest}
 use Rattle.der_core.proofs.Nesting.{nesting-kids}
 use Rattle.der_core.proofs.raw.+nesting_at.Goals as goal

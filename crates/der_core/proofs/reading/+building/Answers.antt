@@ -1,4 +1,4 @@
-use Rattle.std.proofs.Common.{◌≡◌, ◌++◌, ◌∷◌, [], ap, sym, ◌∙◌, arith, append_assoc, rules}
+use Rattle.std.proofs.Common.{◌++◌, ◌∷◌, [], ap, sym, ◌∙◌, arith, append_assoc}
 use Rattle.der_core.specs.DerElement.{Constructed, row}
 use Rattle.der_core.proofs.Siblings.{kid_first, with_kids, count_around}
 use Rattle.der_core.proofs.reading.+building.Goals as goal

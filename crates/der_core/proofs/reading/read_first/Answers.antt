@@ -1,4 +1,4 @@
-use Rattle.std.proofs.Common.{Err, ap, ◌∙◌, inl, inr}
+use Rattle.std.proofs.Common.{Err, ap, ◌∙◌, inl}
 use Rattle.std.proofs.lemmas.Result.{err_from_is_err_and}
 use Rattle.der_core.specs.declared.error.DerError.TheVariants as errors
 use Rattle.der_core.proofs.Elements.{first_once}

@@ -1,5 +1,4 @@
-use Rattle.std.proofs.Common.{◌≡◌, ◌+◌, ◌++◌, length, Err, refl, ap, sym, ◌∙◌, arith, rules}
-use Rattle.std.proofs.lemmas.Bool.{eqb-true}
+use Rattle.std.proofs.Common.{◌++◌, Err, refl, ap, sym, ◌∙◌, arith, rules}
 use Rattle.std.proofs.lemmas.Result.{err_from_is_err_and}
 use Rattle.der_core.proofs.Cursors.{first_length, none_first, tested_after}
 use Rattle.der_core.specs.Encoding.{encoding}

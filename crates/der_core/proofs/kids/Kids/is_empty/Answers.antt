@@ -1,5 +1,4 @@
-use Rattle.std.proofs.Common.{rules, arith, length, ap, sym}
-use Rattle.std.proofs.lemmas.Bool.{eqb-true}
+use Rattle.std.proofs.Common.{rules, length, ap}
 use Rattle.der_core.proofs.InOctets.{none_left, some_left, no_length}
 use Rattle.der_core.proofs.kids.Kids.is_empty.Goals as goal
 

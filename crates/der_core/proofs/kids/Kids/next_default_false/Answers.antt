@@ -1,4 +1,4 @@
-use Rattle.std.proofs.Common.{◌∷◌, [], rules}
+use Rattle.std.proofs.Common.{◌∷◌, []}
 use Rattle.der_core.proofs.kids.Kids.next_default_false.Goals as goal
 
 pub returns-in-Some-boolean_at : goal.returns-in-Some-boolean_at

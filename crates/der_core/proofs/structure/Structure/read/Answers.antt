@@ -1,4 +1,4 @@
-use Rattle.std.proofs.Common.{MatchResult, subst, sym, ◌∙◌, rules}
+use Rattle.std.proofs.Common.{MatchResult, subst, sym, ◌∙◌}
 use Rattle.der_core.specs.Refusals.{RefusesShape}
 use Rattle.der_core.specs.Facts.Kept.{same_encoded}
 use Rattle.der_core.proofs.structure.Structure.read.Goals as goal
