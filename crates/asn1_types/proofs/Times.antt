@@ -1,11 +1,10 @@
 -- Times of the same fields are the same, and pairs of digits are read as one time.
-use Rattle.std.proofs.Common.{◌≡◌, ℕ, ◌+◌, ◌*◌, ◌<◌, ◌/◌, ◌%◌, List, [], ◌∷◌, length, get_or, slice_index, Option, None, Some, IsSome, IfSome, MatchOption, ◌≢◌, ◌↔◌, rules, arith, sym, ap, subst, ◌∙◌}
-use Rattle.std.specs.Coded.{le_prop}
-use Rattle.asn1_types.specs.Calendar.{IsMoment, IsUtcYear}
+use Rattle.std.proofs.Common.{◌≡◌, ℕ, ◌+◌, ◌*◌, ◌/◌, ◌%◌, List, [], ◌∷◌, length, get_or, slice_index, Option, None, Some, IsSome, IfSome, MatchOption, ◌≢◌, ◌↔◌, arith, sym, ap, subst, ◌∙◌}
+use Rattle.asn1_types.specs.Calendar.{IsUtcYear}
 use Rattle.asn1_types.specs.declared.generalized_time.GeneralizedTime.{GeneralizedTime}
 use Rattle.asn1_types.specs.declared.utc_time.UTCTime.{UTCTime}
 use Rattle.asn1_types.specs.Facts.Times.{AreMoment, same_generalized, same_utc, same_number, day_below}
-use Rattle.asn1_types.specs.Time.{two_digits, IsPair, generalized_contents, generalized_fields, utc_contents, utc_fields}
+use Rattle.asn1_types.specs.Time.{IsPair, generalized_contents, generalized_fields, utc_contents, utc_fields}
 
 -- ---- fields
 

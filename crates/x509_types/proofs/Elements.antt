@@ -1,11 +1,10 @@
 -- Elements by their tags.
-use Rattle.std.proofs.Common.{◌≡◌, ℕ, ◌<◌, ◌≤◌, List, [], ◌∷◌, refl, sym, ap, subst, ◌∙◌, arith, inl, inr, ◌⊎◌}
+use Rattle.std.proofs.Common.{◌≡◌, ℕ, ◌≤◌, List, [], ◌∷◌, refl, sym, ap, subst, ◌∙◌, arith, inl, inr, ◌⊎◌}
 use Rattle.std.proofs.lemmas.List.Elements.{All-head, All-tail, All-cons}
 use Rattle.std.proofs.lemmas.Bool.{cases_eq, cases_lt}
 use Rattle.der_core.specs.DerElement.{DerElement, Primitive, Constructed, tag_of}
-use Rattle.der_core.specs.Encoding.{encodings, form_bit, IsDer, IsWellFormed}
-use Rattle.der_core.specs.Placed.{IsElem, contents_octets}
-use Rattle.der_core.specs.Kept.{KeptElement}
+use Rattle.der_core.specs.Encoding.{form_bit, IsDer}
+use Rattle.der_core.specs.Placed.{IsElem}
 use Rattle.asn1_types.specs.Elements.{ia5_string}
 use Rattle.asn1_types.specs.Ia5String.{IsIa5}
 use Rattle.asn1_types.specs.declared.ia5_string.Ia5String.{Ia5String}

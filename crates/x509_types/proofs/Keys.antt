@@ -3,7 +3,6 @@ use Rattle.std.proofs.Common.{◌≡◌, ℕ, List, ◌∷◌, Result, Ok, Err, 
 use Rattle.der_core.specs.DerElement.{DerElement, Primitive}
 use Rattle.der_core.specs.Encoding.{encoding, IsDer}
 use Rattle.der_core.specs.declared.error.DerError.{DerError}
-use Rattle.der_core.specs.declared.error.DerError.TheVariants as errors
 use Rattle.der_core.specs.Refusals.{RefusesShape}
 use Rattle.der_core.specs.Structure.{IsWithin}
 use Rattle.x509_types.specs.RsaPublicKey.{rsa_public_key}

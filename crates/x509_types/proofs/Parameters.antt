@@ -1,5 +1,5 @@
 -- Parameters of algorithms by their octets.
-use Rattle.std.proofs.Common.{◌≡◌, ◌↔◌, IsTrue, [], ◌∷◌, ◌++◌, Option, Some, None, MatchOption, refl, sym, ◌∙◌, ap, subst, arith, ℕ, List, Bool, true, false}
+use Rattle.std.proofs.Common.{◌≡◌, IsTrue, [], ◌∷◌, ◌++◌, Option, Some, None, refl, sym, ◌∙◌, ap, subst, arith, ℕ, List, Bool, true, false}
 use Rattle.der_core.specs.DerElement.{DerElement, Primitive, Constructed}
 use Rattle.der_core.specs.Encoding.{encoding, IsWellFormed, IsDer, length_octets}
 use Rattle.der_core.specs.Facts.Fronts.{fronts}

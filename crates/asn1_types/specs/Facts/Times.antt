@@ -1,5 +1,5 @@
 -- Times of the same fields are the same, and so are times of the same contents octets.
-use Rattle.std.proofs.Common.{◌≡◌, ℕ, ◌+◌, ◌<◌, ◌/◌, ◌%◌, List, [], ◌∷◌, get_or, rules, arith, ap, subst}
+use Rattle.std.proofs.Common.{◌≡◌, ℕ, ◌+◌, ◌<◌, ◌/◌, ◌%◌, List, get_or, rules, arith, ap, subst}
 use Rattle.std.specs.Coded.{le_prop}
 use Rattle.asn1_types.specs.Calendar.{IsMoment, IsUtcYear}
 use Rattle.asn1_types.specs.declared.generalized_time.GeneralizedTime.{GeneralizedTime}

@@ -2,7 +2,7 @@
 use Rattle.std.proofs.Common.{◌≡◌, List, [], ◌∷◌, Option, Some, None, refl, ap, sym, ◌∙◌, arith}
 use Rattle.std.specs.Prelude.{option_to_list}
 use Rattle.der_core.specs.DerElement.{DerElement, row, listed, listed-row}
-use Rattle.der_core.specs.Encoding.{IsWellFormed, AreWellFormed}
+use Rattle.der_core.specs.Encoding.{AreWellFormed}
 use Rattle.der_core.specs.Elements.{sequence}
 use Rattle.der_core.specs.Kept.{KeptElement}
 use Rattle.der_core.specs.Lent.{kept_option}

@@ -1,8 +1,6 @@
 -- Public keys with their algorithms: unlike ones have unlike elements, each well formed.
-use Rattle.std.proofs.Common.{◌≡◌, IsTrue, ℕ, List, [], ◌∷◌, refl, sym, ap, subst, ◌∙◌, arith}
-use Rattle.der_core.specs.DerElement.{DerElement, Primitive}
+use Rattle.std.proofs.Common.{◌≡◌, IsTrue, ℕ, refl, sym, ap, subst, ◌∙◌, arith}
 use Rattle.der_core.specs.Encoding.{encoding, IsWellFormed}
-use Rattle.der_core.specs.Placed.{AreDer}
 use Rattle.der_core.specs.Structure.{IsGrammar}
 use Rattle.der_core.specs.Facts.Fronts.{formed_encoding_once}
 use Rattle.asn1_types.specs.Values.{identifier_contents}

@@ -4,7 +4,7 @@ use Rattle.std.specs.Prelude.{◌==◌, if◌then◌else◌, map}
 use Rattle.std.proofs.Props.{props}
 use base.Stored.{Coded}
 use Rattle.der_core.specs.Facts.Codes.{stored, stored_inj}
-use Rattle.der_core.specs.DerElement.{DerElement, Primitive, tag_of, row, listed, listed-row}
+use Rattle.der_core.specs.DerElement.{DerElement, tag_of, row, listed, listed-row}
 use Rattle.der_core.specs.Encoding.{IsWellFormed, AreWellFormed}
 use Rattle.der_core.specs.Each.{list_element}
 use Rattle.der_core.specs.Structure.{IsGrammar}

@@ -1,4 +1,4 @@
-use Rattle.std.proofs.Common.{◌↔◌, ℕ, Bool, true, false, List, IsTrue, ◌≤◌, refl, arith}
+use Rattle.std.proofs.Common.{◌↔◌, ℕ, Bool, true, false, List, IsTrue, refl, arith}
 use Rattle.std.specs.Bool.{MatchBool}
 use Rattle.std.specs.Str.{IsAscii, IsNotAscii}
 use Rattle.std.proofs.lemmas.Grind.{get_or_default_zero}

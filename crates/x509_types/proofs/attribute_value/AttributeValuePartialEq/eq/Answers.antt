@@ -3,10 +3,9 @@ use Rattle.std.specs.Prelude.{bytes_eq}
 use Rattle.der_core.specs.Encoding.{encoding}
 use Rattle.der_core.specs.Facts.Equality.{octets_decide}
 use Rattle.x509_types.specs.AttributeValue.{attribute_value}
-use Rattle.x509_types.specs.Facts.Names.{attribute_values, same_other}
+use Rattle.x509_types.specs.Facts.Names.{attribute_values}
 use Rattle.x509_types.specs.declared.attribute_value.AttributeValue.{AttributeValue}
 use Rattle.x509_types.specs.declared.attribute_value.AttributeValue.TheVariants as values
-use Rattle.x509_types.specs.declared.other_value.OtherValue.{OtherValue}
 use Rattle.x509_types.proofs.Equal.{same_whole, unlike, others_same}
 use Rattle.x509_types.proofs.attribute_value.AttributeValuePartialEq.eq.Goals as goal
 

@@ -1,4 +1,4 @@
-use Rattle.std.proofs.Common.{◌≡◌, ◌↔◌, IsTrue, refl, List}
+use Rattle.std.proofs.Common.{◌≡◌, ◌↔◌, IsTrue, refl}
 use Rattle.std.specs.Prelude.{bytes_eq}
 use Rattle.der_core.specs.Encoding.{encoding}
 use Rattle.der_core.specs.Facts.Equality.{octets_decide}
