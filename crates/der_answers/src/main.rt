@@ -3,9 +3,11 @@
 //! ```text
 //! der_answers cases FILE
 //! der_answers digests PREFIX COUNT
+//! der_answers count FILE
 //! ```
 //!
-//! `tools/compare_readers.py` says what the words ask for and what is printed.
+//! `tools/compare_readers.py` says what the first two ask for and what is printed. The third prints how many elements
+//! the file has, for `bench/cursor.py`.
 #![tactic(auto)]
 
 mod answer;
@@ -15,6 +17,7 @@ mod family;
 mod request;
 #[cfg(test)]
 mod tests;
+mod walk;
 
 use anyhow::Result;
 use request::Request;
@@ -31,6 +34,10 @@ fn main(rt: HostRuntime) -> Result<()> {
         }
         Request::Digests(family) => {
             blocks::print_digests(rt.alloc(), &family, &mut out)?;
+        }
+        Request::Count { path } => {
+            let file = fs::read(&rt, path)?;
+            writeln!(out, "{}", walk::count_elements(&file)?)?;
         }
     }
     out.flush()?;

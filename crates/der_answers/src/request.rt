@@ -10,6 +10,8 @@ pub enum Request<'a> {
     Cases { path: &'a str },
     /// Digests of the answers to a family of inputs.
     Digests(Family),
+    /// How many elements a file has.
+    Count { path: &'a str },
 }
 
 impl Request<'_> {
@@ -18,11 +20,14 @@ impl Request<'_> {
             [command, path] if command.as_str() == "cases" => Ok(Request::Cases {
                 path: path.as_str(),
             }),
+            [command, path] if command.as_str() == "count" => Ok(Request::Count {
+                path: path.as_str(),
+            }),
             [command, prefix, count] if command.as_str() == "digests" => {
                 let family = Family::from_words(alloc, prefix.as_str(), count.as_str())?;
                 Ok(Request::Digests(family))
             }
-            _ => bail!("usage: der_answers cases FILE | digests PREFIX COUNT"),
+            _ => bail!("usage: der_answers cases FILE | digests PREFIX COUNT | count FILE"),
         }
     }
 }

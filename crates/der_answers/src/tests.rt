@@ -5,6 +5,7 @@ use crate::blocks::print_digests;
 use crate::cases::print_answers;
 use crate::family::Family;
 use crate::request::Request;
+use crate::walk::count_elements;
 use std::alloc::{AllocError, Global};
 use std::test::Fail;
 
@@ -31,10 +32,21 @@ const FILES: [(&[u8], Option<&str>); 6] = [
     (&[0, 1, 0x30], None),
 ];
 
+// Octets, and how many elements they have where none is refused.
+const COUNTS: [(&[u8], Option<u64>); 6] = [
+    (&[], Some(0)),
+    (&[5, 0], Some(1)),
+    (&[0x30, 4, 0x30, 2, 5, 0], Some(3)),
+    (&[0x30, 4, 5, 0, 5, 0, 0x31, 0, 4, 2, 5, 0], Some(5)),
+    (&[5, 0, 5], None),
+    (&[0x30, 2, 5, 1], None),
+];
+
 // Words that ask for nothing.
-const REFUSED: [&[&str]; 8] = [
+const REFUSED: [&[&str]; 9] = [
     &[],
     &["cases"],
+    &["count", "file", "file"],
     &["cases", "file", "file"],
     &["digests", "30"],
     &["digests", "3", "1"],
@@ -63,6 +75,13 @@ fn files(rt: HostRuntime) {
         if let Some(lines) = lines {
             assert_eq!(rt; printed.as_slice(), lines.as_bytes(), "{file:?}");
         }
+    }
+}
+
+#[test]
+fn counts(rt: HostRuntime) {
+    for (octets, count) in COUNTS {
+        assert_eq!(rt; count_elements(octets).ok(), count, "{octets:?}");
     }
 }
 

@@ -1,0 +1,26 @@
+//! All elements of some octets, one after another and each before those inside it.
+
+use der_core::{Cursor, Malformed};
+
+// Elements of certificates and signatures are at most so many levels deep.
+const LEVELS: u8 = 64;
+
+/// How many elements octets have, those inside others among them.
+pub fn count_elements(octets: &[u8]) -> Result<u64, Malformed> {
+    count_within(Cursor::new(octets), LEVELS)
+}
+
+/// How many elements a cursor gives, with those of so many levels inside them.
+fn count_within(mut cursor: Cursor<'_>, levels: u8) -> Result<u64, Malformed> {
+    let Some(inner) = levels.checked_sub(1) else {
+        return Ok(0);
+    };
+    let mut count = 0u64;
+    while let Some(elem) = cursor.next()? {
+        count = count.saturating_add(1);
+        if let Some(kids) = elem.kids() {
+            count = count.saturating_add(count_within(kids, inner)?);
+        }
+    }
+    Ok(count)
+}
