@@ -2,6 +2,8 @@
 
 ghost use Rattle.std.specs.Prelude.{◌≡◌, ◌↔◌, ◌++◌, ◌∷◌, [], false, List, length, flat_map, IfOk, OnOk, OnErr, IsTrue, MatchResult};
 ghost use Rattle.std.specs.Cmp.Lexicographic.{pointwise, lists_per, lists_equiv};
+ghost use Rattle.std.specs.Slice.Iter.{iter_rest};
+ghost use Rattle.std.specs.Iterator.Adapters.{IterYieldsInOrder, IterYieldsInReverse};
 ghost use Rattle.der_core.specs.Encoding.{IsTag, form_bit};
 ghost use Rattle.der_core.specs.Each.{AreEach, AreWritten, IsListOf, IsWrittenList};
 ghost use Rattle.der_core.specs.Refusals.{RefusesShape, RefusesInner};
@@ -15,6 +17,7 @@ use crate::structure::Structure;
 use crate::tree::Tree;
 use std::alloc::{AllocError, Global};
 use std::marker::Model;
+use std::slice::Iter;
 
 /// Values in order. As a structure of its own a list is a SEQUENCE OF (X.690 8.10); a field that
 /// holds one may give it another tag. Contracts see the list of the values.
@@ -65,6 +68,15 @@ impl<T> ListOf<T> {
         ensures { result.now ≡ self.now }
     {
         &self.items
+    }
+
+    /// The values in order.
+    pub fn iter(&self) -> Iter<'_, T>
+        ensures rest { iter_rest result ≡ self.now }
+        ensures runs { IterYieldsInOrder T }
+        ensures runs_back { IterYieldsInReverse T }
+    {
+        self.items.iter()
     }
 
     /// How many values there are.

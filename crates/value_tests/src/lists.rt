@@ -10,7 +10,8 @@ fn names_in_order(rt: HostRuntime) -> Result<(), Fail> {
     names.push(DirectoryName::new_common_name(rt.alloc(), "A")?)?;
     let copy = names.try_clone(rt.alloc())?;
     assert!(rt; names == copy);
-    let [first, second] = copy.as_slice() else {
+    let mut each = copy.iter();
+    let (Some(first), Some(second), None) = (each.next(), each.next(), each.next()) else {
         return Err(Fail::from("the list doesn't have two names"));
     };
     assert!(rt; first.find_common_name().is_none() && second.find_common_name().is_some());

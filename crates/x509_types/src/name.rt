@@ -1,6 +1,8 @@
 //! Names (RFC 5280 4.1.2.4).
 
 ghost use Rattle.std.specs.Prelude.{◌≡◌, ◌↔◌, ◌++◌, ◌∷◌, [], length, IfOk, OnOk, OnErr, IsTrue};
+ghost use Rattle.std.specs.Slice.Iter.{iter_rest};
+ghost use Rattle.std.specs.Iterator.Adapters.{IterYieldsInOrder, IterYieldsInReverse};
 
 use crate::relative_name::RelativeDistinguishedName;
 use der_core::tag::SEQUENCE;
@@ -9,6 +11,7 @@ use der_core::{
 };
 use std::alloc::{AllocError, Global};
 use std::marker::Model;
+use std::slice::Iter;
 
 /// A name: sets of attributes, from the top of the directory down (RFC 5280 4.1.2.4). Contracts see
 /// the list of the sets, each as the list of its members.
@@ -52,6 +55,15 @@ impl Name {
         ensures { result.now ≡ self.now }
     {
         self.sets.as_slice()
+    }
+
+    /// The sets in order.
+    pub fn iter(&self) -> Iter<'_, RelativeDistinguishedName>
+        ensures rest { iter_rest result ≡ self.now }
+        ensures runs { IterYieldsInOrder RelativeDistinguishedName }
+        ensures runs_back { IterYieldsInReverse RelativeDistinguishedName }
+    {
+        self.sets.iter()
     }
 
     /// How many sets there are.

@@ -1,6 +1,8 @@
 //! Sets of attributes (RFC 5280 4.1.2.4).
 
 ghost use Rattle.std.specs.Prelude.{◌≡◌, ◌↔◌, ◌++◌, ◌∷◌, [], length, IfOk, OnOk, OnErr, IsTrue};
+ghost use Rattle.std.specs.Slice.Iter.{iter_rest};
+ghost use Rattle.std.specs.Iterator.Adapters.{IterYieldsInOrder, IterYieldsInReverse};
 
 use crate::attribute::AttributeTypeAndValue;
 use der_core::tag::SET;
@@ -9,6 +11,7 @@ use der_core::{
 };
 use std::alloc::{AllocError, Global};
 use std::marker::Model;
+use std::slice::Iter;
 
 /// A set of attributes, its members in the order that stands (RFC 5280 4.1.2.4). An empty one is
 /// read, too. Contracts see the list of the members.
@@ -52,6 +55,15 @@ impl RelativeDistinguishedName {
         ensures { result.now ≡ self.now }
     {
         self.members.as_slice()
+    }
+
+    /// The members in order.
+    pub fn iter(&self) -> Iter<'_, AttributeTypeAndValue>
+        ensures rest { iter_rest result ≡ self.now }
+        ensures runs { IterYieldsInOrder AttributeTypeAndValue }
+        ensures runs_back { IterYieldsInReverse AttributeTypeAndValue }
+    {
+        self.members.iter()
     }
 
     /// How many members there are.
