@@ -1,12 +1,6 @@
--- The types of ASN.1 that signed data is made of, as elements (X.690 8).
-use Rattle.std.specs.Prelude.{ℕ, ◌+◌, List, [], ◌∷◌}
+-- The other types of ASN.1 that the plain form is made of, by their contents octets (X.690 8).
+use Rattle.std.specs.Prelude.{ℕ, ◌+◌, List, ◌∷◌}
 use Rattle.der_core.specs.DerElement.{DerElement, Primitive, Constructed, row}
-
-abbrev pub sequence : List DerElement → DerElement
-sequence kids = Constructed 0x30 (row kids)
-
-abbrev pub set : List DerElement → DerElement
-set kids = Constructed 0x31 (row kids)
 
 -- a constructed element of the context-specific class
 abbrev pub context : ℕ → List DerElement → DerElement
@@ -21,9 +15,6 @@ bit_string payload = Primitive 0x03 (0 ∷ payload)
 
 abbrev pub octet_string : List ℕ → DerElement
 octet_string contents = Primitive 0x04 contents
-
-abbrev pub null : DerElement
-null = Primitive 0x05 []
 
 abbrev pub object_identifier : List ℕ → DerElement
 object_identifier contents = Primitive 0x06 contents

@@ -5,7 +5,8 @@ use Rattle.sha2.specs.Sha256.{sha256}
 use Rattle.der_core.specs.DerElement.{DerElement, Primitive, row}
 use Rattle.der_core.specs.Encoding.{encoding, encodings, IsDer, IsPaddedEncoding}
 use Rattle.wincert_core.specs.Refusal.{contents_in}
-use Rattle.authenticode_core.specs.Asn1.{sequence, set, context, integer, bit_string, octet_string, null, object_identifier, utf8_string, utc_time}
+use Rattle.der_core.specs.Elements.{sequence, set, null}
+use Rattle.authenticode_core.specs.Asn1.{context, integer, bit_string, octet_string, object_identifier, utf8_string, utc_time}
 use Rattle.authenticode_core.specs.Identifiers.{rsa_encryption, sha256_with_rsa_encryption, signed_data_type, content_type, message_digest_type, indirect_data_type, opus_info, pe_image_data, sha256_type, common_name}
 
 -- an AlgorithmIdentifier with NULL parameters (RFC 5280 4.1.1.2)

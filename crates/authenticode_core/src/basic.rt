@@ -11,12 +11,11 @@ ghost use Rattle.authenticode_core.specs.declared.accepted.Accepted.{Accepted};
 ghost use Rattle.authenticode_core.specs.declared.error.CheckError.{CheckError};
 
 use crate::accepted::{Accepted, Excuse, Places};
-use crate::element::is_same;
 use crate::error::{AuthenticodeError, CheckError};
 use crate::parts::PlainSignature;
 use crate::plain_form::plain_signature_of;
 use crate::plain_rules::{is_plain, signed_message_of};
-use der_core::{DerError, DerFault, Malformed, Octets, Tree, one_first_fault, read_first};
+use der_core::{DerError, DerFault, Malformed, Octets, Tree, is_same, one_first_fault, read_first};
 use sig_core::{Scheme, SigAlg, Verdict};
 use std::alloc::{AllocError, Global};
 use wincert_core::certificate_of;

@@ -1,30 +1,14 @@
-//! Elements of a known tag.
+//! Elements of a known tag, taken from their tree.
 
 ghost use Rattle.std.specs.Prelude.{◌≡◌, ◌≢◌, ◌↔◌, IsTrue, length, MatchOption};
 ghost use Rattle.der_core.specs.DerElement.{DerElements, Primitive, Constructed, row, listed};
 ghost use Rattle.authenticode_core.specs.Reads.{Reads};
 
-use der_core::Tree;
+use der_core::{Tree, is_same};
 
-pub(crate) const INTEGER: u8 = 0x02;
-
-pub(crate) const BIT_STRING: u8 = 0x03;
-
-pub(crate) const OCTET_STRING: u8 = 0x04;
-
-pub(crate) const NULL: u8 = 0x05;
-
-pub(crate) const OBJECT_IDENTIFIER: u8 = 0x06;
-
-pub(crate) const UTF8_STRING: u8 = 0x0C;
-
-pub(crate) const UTC_TIME: u8 = 0x17;
-
-pub(crate) const SEQUENCE: u8 = 0x30;
-
-pub(crate) const SET: u8 = 0x31;
 /// A primitive element of the context-specific class.
 pub(crate) const IMPLICIT_0: u8 = 0x80;
+
 /// Constructed elements of the context-specific class.
 pub(crate) const CONTEXT_0: u8 = 0xA0;
 
@@ -68,11 +52,4 @@ pub(crate) fn is_leaf(tree: &Tree, tag: u8, content: &[u8]) -> bool
         Some(found) => is_same(found, content),
         None => false,
     }
-}
-
-/// Whether the octets are the same.
-pub(crate) fn is_same(a: &[u8], b: &[u8]) -> bool
-    ensures { IsTrue result ↔ (a.now ≡ b.now) }
-{
-    a == b
 }

@@ -5,21 +5,23 @@
 
 ghost use Rattle.std.specs.Prelude.{◌≡◌, ◌↔◌, ◌∷◌, [], IsTrue, List, ℕ};
 ghost use Rattle.authenticode_core.specs.Reads.{Reads};
-ghost use Rattle.authenticode_core.specs.Asn1.{bit_string, object_identifier, set, context};
+ghost use Rattle.der_core.specs.Elements.{set};
+ghost use Rattle.authenticode_core.specs.Asn1.{bit_string, object_identifier, context};
 ghost use Rattle.authenticode_core.specs.Identifiers.{content_type, indirect_data_type, opus_info, sha256_type};
 ghost use Rattle.authenticode_core.specs.PlainForm.{algorithm, name, validity, public_key_info, version_3, tbs_certificate, certificate, empty_link, image_data, digest_info, indirect_data, content_info, attribute, attributes, no_program_name, issuer_and_serial_number, signer_info, signed_data, signed_content};
 ghost use Rattle.authenticode_core.specs.Views.{tbs_parts, certificate_parts, signer_parts, signature_parts};
 
-use crate::element::{
-    BIT_STRING, CONTEXT_0, CONTEXT_1, CONTEXT_2, IMPLICIT_0, INTEGER, NULL, OBJECT_IDENTIFIER,
-    OCTET_STRING, SEQUENCE, SET, UTC_TIME, UTF8_STRING, is_leaf, kids_of, leaf_of,
-};
+use crate::element::{CONTEXT_0, CONTEXT_1, CONTEXT_2, IMPLICIT_0, is_leaf, kids_of, leaf_of};
 use crate::identifiers::{
     COMMON_NAME, CONTENT_TYPE, INDIRECT_DATA, MESSAGE_DIGEST, OPUS_INFO, PE_IMAGE_DATA,
     RSA_ENCRYPTION, SHA256, SHA256_WITH_RSA_ENCRYPTION, SIGNED_DATA,
 };
 use crate::parts::{IndirectData, PlainCertificate, PlainSignature, SignerInfo, TbsCertificate};
 use der_core::Tree;
+use der_core::tag::{
+    BIT_STRING, INTEGER, NULL, OBJECT_IDENTIFIER, OCTET_STRING, SEQUENCE, SET, UTC_TIME,
+    UTF8_STRING,
+};
 
 /// Whether the element is the identifier of this algorithm, with NULL parameters.
 fn is_algorithm(tree: &Tree, oid: &[u8]) -> bool

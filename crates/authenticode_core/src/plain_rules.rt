@@ -3,13 +3,14 @@
 ghost use Rattle.std.specs.Prelude.{◌≡◌, ◌≢◌, ◌↔◌, [], ◌∷◌, false, IsTrue, IfOk, MatchResult};
 ghost use Rattle.sha2.specs.Sha256.{sha256};
 ghost use Rattle.der_core.specs.Encoding.{encoding, IsDer};
-ghost use Rattle.authenticode_core.specs.Asn1.{set};
+ghost use Rattle.der_core.specs.Elements.{set};
 ghost use Rattle.authenticode_core.specs.PlainForm.{IsNewYear, IsRsaKey, IsRsaPublicKey, IsSomeInteger, IsPlain, IsDigit, indirect_data, bound_contents, attributes, signed_message, signed_content};
 ghost use Rattle.authenticode_core.specs.Views.{signature_parts};
 
-use crate::element::{INTEGER, SEQUENCE, SET, is_same, kids_of, leaf_of};
+use crate::element::{kids_of, leaf_of};
 use crate::parts::{IndirectData, PlainSignature, SignerInfo};
-use der_core::{DerError, Tree, read_first, write};
+use der_core::tag::{INTEGER, SEQUENCE, SET};
+use der_core::{DerError, Tree, is_same, read_first, write};
 use sig_core::HashAlgorithm;
 use std::alloc::{AllocError, Global};
 
