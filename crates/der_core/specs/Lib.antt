@@ -3,6 +3,7 @@ pub mod Encoding
 pub mod TreeView
 pub mod Head
 pub mod Fault
+pub mod Causes
 pub mod Reading
 pub mod Writing
 pub mod Kept

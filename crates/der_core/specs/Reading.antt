@@ -6,6 +6,7 @@ use Rattle.der_core.specs.declared.fault.DerFault.{DerFault}
 use Rattle.der_core.specs.declared.fault.DerFault.TheVariants.{Trailing}
 use Rattle.der_core.specs.declared.fault.Malformed.{Malformed}
 use Rattle.der_core.specs.Fault.{IsFirstFault}
+use Rattle.der_core.specs.Causes.{Refuses}
 use Rattle.der_core.specs.DerElement.{DerElement, DerElements}
 use Rattle.der_core.specs.Encoding.{encoding, encodings, AreWellFormed, deepest, AreShort, IsDerWithin, IsDer}
 
@@ -57,8 +58,4 @@ IsFaultFrom at Fault m = (k : ℕ) × (m.at ≡ at + k) × Fault k m.fault
 
 -- A reader refuses for want of memory, or with a fault at a place.
 abbrev pub RefusesMalformed : (ℕ → DerFault → Type 0) → DerError → Type 0
-RefusesMalformed Fault errors.Memory = Unit {0}
-RefusesMalformed Fault (errors.Malformed m) = Fault m.at m.fault
-RefusesMalformed Fault errors.Shape = ⊥
-RefusesMalformed Fault errors.TooDeep = ⊥
-RefusesMalformed Fault errors.TooLong = ⊥
+RefusesMalformed Fault = Refuses Fault ⊥ ⊥ ⊥

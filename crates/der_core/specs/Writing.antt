@@ -1,22 +1,15 @@
 -- What writing a tree answers.
 use Rattle.std.specs.Prelude.{◌<◌, ◌≤◌}
 use Rattle.der_core.specs.DerElement.{DerElement}
+use Rattle.der_core.specs.Causes.{NoFault, Refuses}
 use Rattle.der_core.specs.Encoding.{nesting, IsShort}
 use Rattle.der_core.specs.declared.error.DerError.{DerError}
 use Rattle.der_core.specs.declared.error.DerError.TheVariants as errors
 
 -- Too deep comes before too long.
 abbrev pub RefusesToWrite : DerElement → DerError → Type 0
-RefusesToWrite element errors.TooDeep = 64 < nesting element
-RefusesToWrite element errors.TooLong = (nesting element ≤ 64) × (IsShort element → ⊥)
-RefusesToWrite element errors.Memory = Unit {0}
-RefusesToWrite element (errors.Malformed malformed) = ⊥
-RefusesToWrite element errors.Shape = ⊥
+RefusesToWrite element = Refuses NoFault ⊥ (64 < nesting element) ((nesting element ≤ 64) × (IsShort element → ⊥))
 
 -- Only long contents and want of memory keep a part from being written.
 abbrev pub RefusesLong : Type 0 → DerError → Type 0
-RefusesLong short errors.TooLong = short → ⊥
-RefusesLong short errors.Memory = Unit {0}
-RefusesLong short errors.TooDeep = ⊥
-RefusesLong short (errors.Malformed malformed) = ⊥
-RefusesLong short errors.Shape = ⊥
+RefusesLong short = Refuses NoFault ⊥ ⊥ (short → ⊥)
