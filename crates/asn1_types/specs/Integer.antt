@@ -2,7 +2,7 @@
 use Rattle.std.specs.Prelude.{◌≡◌, ◌≢◌, ℕ, ◌<◌, ◌≤◌, ◌==◌, if◌then◌else◌, List, [], ◌∷◌, slice_index}
 use Rattle.der_core.specs.Head.{number_from}
 
--- An INTEGER has at least one contents octet (X.690 8.3.1).
+-- An INTEGER has at least one contents octet (X.690 8.3.1). Longer contents than the number needs are kept as they are: X.690 8.3.2 is not asked.
 abbrev pub IsInteger : List ℕ → Type 0
 IsInteger contents = contents ≢ []
 

@@ -2,7 +2,7 @@
 use Rattle.std.specs.Prelude.{◌≡◌, ℕ, ◌+◌, ◌/◌, ◌%◌, ◌^◌, ◌<◌, ◌≤◌, ◌≢◌, max, nat_lt, if◌then◌else◌, List, [], ◌∷◌, ◌++◌, length, replicate}
 use Rattle.der_core.specs.DerElement.{DerElement, Primitive, Constructed, DerElements, Nil, Cons}
 
--- the shortest definite form of a length (X.690 8.1.3.4, 8.1.3.5, 10.1)
+-- the shortest definite form of a length below 2^32 (X.690 8.1.3.4, 8.1.3.5, 10.1)
 unfoldable pub length_octets : ℕ → List ℕ
 length_octets n =
     if nat_lt n (2 ^ 7) then n ∷ []

@@ -16,7 +16,8 @@ use crate::kids::Kids;
 use crate::testing::first_from;
 
 /// Octets that are read element by element where they lie, without memory: those that are left,
-/// the place of the first of them, and the level of the elements, from 1.
+/// the place of the first of them, and the level of the elements: 1 where octets were handed in, 2
+/// within an element that was tested, however deep.
 #[derive(Clone, Copy)]
 pub struct Cursor<'a> {
     rest: &'a [u8],
@@ -55,7 +56,8 @@ impl<'a> Cursor<'a> {
         self.place
     }
 
-    /// The level of the elements, from 1.
+    /// The level of the elements: 1 where octets were handed in, 2 within an element that was tested,
+    /// however deep.
     pub fn level(&self) -> u8
         ensures { result ≡ self.now.level }
     {
@@ -115,7 +117,8 @@ impl<'a> Cursor<'a> {
 }
 
 impl<'a> Elem<'a> {
-    /// The contents octets as elements, `None` exactly for a primitive element.
+    /// The contents octets as elements, `None` exactly for a primitive element. Their places count
+    /// from the first of the contents octets.
     pub fn kids(&self) -> Option<Cursor<'a>>
         ensures { MatchOption result
             (form_bit self.now.tag ≢ 1)

@@ -2,7 +2,7 @@
 
 use thiserror::Error;
 
-/// The first test of an element that its octets fail.
+/// The first test that octets fail: of an element, or that none follow it.
 #[derive(Clone, Copy, Debug, PartialEq, Eq, Error)]
 pub enum DerFault {
     /// The octets end within the outermost element.
@@ -34,7 +34,8 @@ pub enum DerFault {
     Trailing,
 }
 
-/// The first fault from left to right, and the place of the element that has it.
+/// The first fault from left to right, and the place of the element that has it; of octets after the
+/// element theirs.
 #[derive(Clone, Copy, Debug, PartialEq, Eq, Error)]
 #[error("{fault} at octet {at}")]
 pub struct Malformed {

@@ -75,7 +75,7 @@ impl<'a> Kids<'a> {
         }
     }
 
-    /// The next element, where it has this tag.
+    /// The next element, where it has this tag. One of another tag is left.
     pub fn next_tagged(&mut self, tag: u8) -> Option<Elem<'a>>
         ensures { MatchOption result
             ((self.new.are.0 ≡ self.old.are.0) × BeginsOtherwise tag self.old.are.0)
@@ -90,29 +90,35 @@ impl<'a> Kids<'a> {
         Some(elem)
     }
 
-    /// The next element, where it has the shape of a structure.
+    /// The next element, where it has the shape of a structure. One of another shape is left.
     pub fn next_as<T: Structure>(&mut self) -> Option<Elem<'a>>
         ensures { MatchOption result
-            (BeginsUnfit T.spells self.old.are.0)
+            ((self.new.are.0 ≡ self.old.are.0) × BeginsUnfit T.spells self.old.are.0)
             (λ elem. (self.old.are.0 ≡ elem.is.0 ∷ self.new.are.0) × Fits T.spells elem.is.0) }
     {
-        let elem = self.next()?;
-        if T::has_shape(elem) { Some(elem) } else { None }
+        let mut ahead = *self;
+        let elem = ahead.next()?;
+        if !T::has_shape(elem) {
+            return None;
+        }
+        *self = ahead;
+        Some(elem)
     }
 
-    /// The flag of a BOOLEAN DEFAULT FALSE, given or left out (X.690 11.5).
+    /// The flag of a BOOLEAN DEFAULT FALSE, given or left out (X.690 8.2, 11.5). FALSE is read where
+    /// it is given, too, and TRUE in any octet but 00. A BOOLEAN of another length is left.
     pub fn next_default_false(&mut self) -> Option<bool>
         ensures { MatchOption result
-            (HasBadFlag self.old.are.0)
+            ((self.new.are.0 ≡ self.old.are.0) × HasBadFlag self.old.are.0)
             (λ b. TakesDefault self.old.are.0 b self.new.are.0) }
     {
-        match self.next_tagged(BOOLEAN) {
-            None => Some(false),
-            Some(elem) => match boolean_at(elem) {
-                Some(b) => Some(b),
-                None => None,
-            },
-        }
+        let mut ahead = *self;
+        let Some(elem) = ahead.next_tagged(BOOLEAN) else {
+            return Some(false);
+        };
+        let b = boolean_at(elem)?;
+        *self = ahead;
+        Some(b)
     }
 
     /// There are no further elements.

@@ -1,13 +1,14 @@
 //! Laws on encodings and faults.
 
-ghost use Rattle.std.specs.Prelude.{◌≡◌, ◌↔◌, ℕ, List, Ok, MatchResult};
-ghost use Rattle.der_core.specs.Encoding.{encoding, IsDer, IsWellFormed};
+ghost use Rattle.std.specs.Prelude.{◌≡◌, ◌↔◌, ℕ, ◌<◌, List, Ok, Err, MatchResult};
+ghost use Rattle.der_core.specs.Encoding.{encoding, nesting, IsDer, IsWellFormed};
 ghost use Rattle.der_core.specs.Placed.{AreDer};
 ghost use Rattle.der_core.specs.Structure.{IsWithin};
 ghost use Rattle.der_core.specs.Writing.{RefusesToWrite};
 ghost use Rattle.der_core.specs.Fault.{IsFirstFault};
 ghost use Rattle.der_core.specs.Head.{IsOctets, head_at, HasHead};
 ghost use Rattle.der_core.specs.Reading.{IsPrefixFree, HasNoFirst};
+ghost use Rattle.der_core.specs.declared.error.DerError.TheVariants as errors;
 ghost use Rattle.der_core.specs.declared.fault.DerFault.{DerFault};
 
 use crate::error::DerError;
@@ -39,7 +40,8 @@ pub fn tests_of_a_head()
 /// What is written is read as the same tree.
 pub fn read_back(alloc: Global, tree: &Tree) -> Result<Tree, DerError>
     requires { IsWellFormed tree.now }
-    ensures { MatchResult result (λ again. again ≡ tree.now) (RefusesToWrite tree.now) }
+    ensures back { MatchResult result (λ again. IsDer tree.now × (again ≡ tree.now)) (RefusesToWrite tree.now) }
+    ensures deep { 64 < nesting tree.now → result ≡ Err errors.TooDeep }
 {
     let octets = write(alloc, tree)?;
     match read_exact(alloc, &octets) {

@@ -1,6 +1,6 @@
 //! The elements of a constructed element that is being written.
 
-ghost use Rattle.std.specs.Prelude.{◌≡◌, [], ◌∷◌, ◌++◌, OnOk};
+ghost use Rattle.std.specs.Prelude.{◌≡◌, [], ◌∷◌, ◌++◌, OnErr, OnOk};
 ghost use Rattle.der_core.specs.DerElement.{Constructed, row};
 ghost use Rattle.der_core.specs.Encoding.{IsWellFormed, AreWellFormed, IsTag, form_bit};
 ghost use Rattle.der_core.specs.Facts.InBounds.{AreWellFormed-prop};
@@ -28,7 +28,8 @@ impl NewKids {
     /// Appends an element.
     pub fn push(&mut self, kid: Tree) -> Result<(), AllocError>
         requires { IsWellFormed kid }
-        ensures { OnOk result (self.new.kids ≡ self.old.kids ++ kid ∷ []) }
+        ensures ok { OnOk result (self.new.kids ≡ self.old.kids ++ kid ∷ []) }
+        ensures err { OnErr result (self.new.kids ≡ self.old.kids) }
     {
         self.kids.push(kid)
     }

@@ -1,6 +1,6 @@
 //! Elements that are kept as octets.
 
-ghost use Rattle.std.specs.Prelude.{◌≡◌, ◌↔◌, IfOk, IsTrue, MatchResult, bytes_eq};
+ghost use Rattle.std.specs.Prelude.{◌≡◌, ◌↔◌, ◌<◌, Err, IfOk, IsTrue, MatchResult, bytes_eq};
 ghost use Rattle.std.specs.Ordering.{on};
 ghost use Rattle.std.specs.Cmp.Lexicographic.{nat_list_eq_equiv};
 ghost use Rattle.std.specs.Cmp.{on_per, on_equiv, partial_equiv_from_equiv};
@@ -9,6 +9,7 @@ ghost use Rattle.der_core.specs.Encoding.{encoding, nesting, IsWellFormed, IsDer
 ghost use Rattle.der_core.specs.Kept.{Kept, IsKept};
 ghost use Rattle.der_core.specs.Facts.Kept.{Kept-prop};
 ghost use Rattle.der_core.specs.Writing.{RefusesToWrite};
+ghost use Rattle.der_core.specs.declared.error.DerError.TheVariants as errors;
 
 use crate::elem::Elem;
 use crate::error::DerError;
@@ -42,7 +43,9 @@ impl Raw {
     /// The element of a tree, kept as its encoding. It is refused as `write` refuses it.
     pub fn from_tree(alloc: Global, tree: &Tree) -> Result<Raw, DerError>
         requires { IsWellFormed tree.now }
-        ensures { MatchResult result (λ raw. IsDer tree.now × (raw.element ≡ tree.now)) (RefusesToWrite tree.now) }
+        ensures kept { MatchResult result (λ raw. IsDer tree.now × (raw.element ≡ tree.now)) (RefusesToWrite tree.now) }
+        // Depth is looked at before memory is asked for.
+        ensures deep { 64 < nesting tree.now → result ≡ Err errors.TooDeep }
     {
         Ok(Raw::keep(write(alloc, tree)?))
     }

@@ -3,10 +3,11 @@
 //! The length of an element stands before its contents, so an element is put down from its last
 //! octet to its first, and the whole is turned round once.
 
-ghost use Rattle.std.specs.Prelude.{◌≡◌, ◌≤◌, ◌<◌, ◌^◌, ◌++◌, ◌↔◌, ◌∷◌, [], length, reverse, IsTrue, IfOk, OnOk, MatchResult, All};
+ghost use Rattle.std.specs.Prelude.{◌≡◌, ◌≤◌, ◌<◌, ◌^◌, ◌++◌, ◌↔◌, ◌∷◌, [], length, reverse, IsTrue, IfOk, OnOk, MatchResult, All, Err};
 ghost use Rattle.der_core.specs.DerElement.{DerElement, row};
 ghost use Rattle.der_core.specs.Encoding.{IsWellFormed, IsDer, IsShort, nesting, deepest, encoding, encodings, AreShort, length_octets};
 ghost use Rattle.der_core.specs.Writing.{RefusesToWrite, RefusesLong};
+ghost use Rattle.der_core.specs.declared.error.DerError.TheVariants as errors;
 
 use crate::error::DerError;
 use crate::tree::{Form, MAX_NESTING, Tree};
@@ -18,7 +19,9 @@ use std::alloc::{AllocError, Global};
 /// 4,294,967,295 octets as `TooLong`.
 pub fn write(alloc: Global, tree: &Tree) -> Result<Vec<u8>, DerError>
     requires { IsWellFormed tree.now }
-    ensures { MatchResult result (λ octets. IsDer tree.now × (octets.items ≡ encoding tree.now)) (RefusesToWrite tree.now) }
+    ensures written { MatchResult result (λ octets. IsDer tree.now × (octets.items ≡ encoding tree.now)) (RefusesToWrite tree.now) }
+    // Depth is looked at before memory is asked for.
+    ensures deep { 64 < nesting tree.now → result ≡ Err errors.TooDeep }
 {
     if !is_nested_within(tree, MAX_NESTING) {
         return Err(DerError::TooDeep);

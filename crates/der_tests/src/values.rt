@@ -1,6 +1,6 @@
 //! Trees, octets and kept elements as values: what is copied, compared and kept.
 
-use der_core::{Octets, Raw, Tree, Trees, read_exact, write};
+use der_core::{Octets, Raw, Tree, Trees, read_back, read_exact, write};
 use std::test::Fail;
 
 #[test]
@@ -35,6 +35,7 @@ fn kept_octets(rt: HostRuntime) -> Result<(), Fail> {
     let again = copy.tree(rt.alloc())?.try_clone(rt.alloc())?;
     let written = write(rt.alloc(), &again)?;
     assert_eq!(rt; written.as_slice(), octets.as_slice());
+    assert_eq!(rt; read_back(rt.alloc(), &again)?.tag(), 0x30);
     Ok(())
 }
 

@@ -3,7 +3,7 @@ use Rattle.std.specs.Prelude.{ℕ, Option, List, [], ◌∷◌, find, bytes_eq, 
 use Rattle.x509_types.specs.declared.name_attr.NameAttr.{NameAttr}
 use Rattle.x509_types.specs.declared.name_attr.NameAttr.TheVariants as attributes
 
--- the last arc of the identifier, under id-at of X.520 (RFC 5280 A.1; X.520 6.2.3 for the street)
+-- the last arc of the identifier, under id-at of X.520 (RFC 5280 A.1; RFC 4519 2.34 for the street)
 abbrev pub attribute_arc : NameAttr → ℕ
 attribute_arc attributes.CommonName = 3
 attribute_arc attributes.Surname = 4

@@ -70,6 +70,9 @@ impl Structure for DirectoryString {
     }
 
     fn read_at(alloc: Global, elem: Elem<'_>) -> Result<DirectoryString, DerError> {
+        if !is_string_tag(elem.tag) {
+            return Err(DerError::Shape);
+        }
         let octets = Octets::from_slice(alloc, elem.content)?;
         match elem.tag {
             PRINTABLE_STRING => Ok(DirectoryString::PrintableString(octets)),

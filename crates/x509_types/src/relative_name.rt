@@ -42,7 +42,8 @@ impl RelativeDistinguishedName {
         }
     }
 
-    /// Appends a member.
+    /// Appends a member. Members are written in the order that stands: DER asks for that of their
+    /// encodings (X.690 11.6), which is the caller's to keep.
     pub fn push(&mut self, item: AttributeTypeAndValue) -> Result<(), AllocError>
         ensures ok { OnOk result (self.new ≡ self.old ++ item ∷ []) }
         ensures err { OnErr result (self.new ≡ self.old) }

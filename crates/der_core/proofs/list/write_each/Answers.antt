@@ -10,4 +10,4 @@ returns-in_err-write g c =
 pub loop-value-preserved : goal.loop-value-preserved
 loop-value-preserved g c =
     let w = c.in_ok-write.ensures in
-    written_more g.T.Structure.written g.T.Structure.inner _ _ _ _ _ _ _ c.loop-value.invariant c.in-Some.ensures.cases.0 w.0 w.2 c.in_ok-push.ensures
+    written_more g.T.Structure.written g.T.Structure.inner _ _ _ _ _ _ _ c.loop-value.invariant c.in-Some.ensures.cases.0 w.0 w.2 c.in_ok-push.ensures.ok

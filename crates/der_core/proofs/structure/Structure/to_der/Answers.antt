@@ -13,6 +13,6 @@ returns-in_err-tree g c =
 pub returns : goal.returns
 returns g c =
     let w = c.in_ok-tree.ensures in
-    MatchResult-weaker c.write-2.result c.write-2.ensures
+    MatchResult-weaker c.write-2.result c.write-2.ensures.written
     (λ octets o. (o.1 ∙ ap encoding w.0, subst IsDer w.0 o.0, w.2))
     (λ e refused. refuses_last (g.Self.Structure.inner c.args.self.now) _ e w.2 (refuses_alone _ e (subst (λ x. RefusesToWrite x e) w.0 refused)))
