@@ -9,3 +9,4 @@ pub mod Placed
 pub mod Cursor
 pub mod Grammars
 pub mod Equality
+pub mod Lists

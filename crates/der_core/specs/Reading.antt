@@ -1,7 +1,6 @@
 -- What octets begin with, as far as a reader of trees asks.
-use Rattle.std.specs.Prelude.{◌≡◌, ℕ, ◌+◌, ◌<◌, ◌≤◌, ◌⊎◌, List, ◌++◌, length, take, Result, Ok, Err}
+use Rattle.std.specs.Prelude.{◌≡◌, ℕ, ◌+◌, ◌<◌, ◌≤◌, ◌⊎◌, List, ◌++◌, length, take}
 use Rattle.der_core.specs.declared.error.DerError.{DerError}
-use Rattle.der_core.specs.declared.error.DerError.TheVariants as errors
 use Rattle.der_core.specs.declared.fault.DerFault.{DerFault}
 use Rattle.der_core.specs.declared.fault.DerFault.TheVariants.{Trailing}
 use Rattle.der_core.specs.declared.fault.Malformed.{Malformed}
@@ -47,10 +46,6 @@ IsExactFault octets place fault = IsFirstFault octets place fault ⊎ ((fault �
 -- No encoding is a proper front of another: where two encodings begin the same octets they are of one element.
 abbrev pub IsPrefixFree : Type 0
 IsPrefixFree = (a b : DerElement) (x y : List ℕ) → IsDer a → IsDer b → encoding a ++ x ≡ encoding b ++ y → (a ≡ b) × (x ≡ y)
-
--- The answer is a value, unless memory runs out.
-abbrev pub GivesUnlessMemory : {X : Type 0} → Result X DerError → X → Type 0
-GivesUnlessMemory result x = (result ≡ Ok x) ⊎ (result ≡ Err errors.Memory)
 
 -- The fault is at a place, counted from where its octets begin.
 abbrev pub IsFaultFrom : ℕ → (ℕ → DerFault → Type 0) → Malformed → Type 0

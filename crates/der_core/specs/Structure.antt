@@ -19,6 +19,13 @@ pub record IsWithin {X : Type 0} (spells : DerElement → X → Type 0) (octets 
 abbrev pub FitsWithin : {X : Type 0} → (DerElement → X → Type 0) → List ℕ → Type 0
 FitsWithin {X} spells octets = (value : X) × IsWithin spells octets value
 
+-- The octets are the encoding of an element, all of them, and it spells no value.
+pub record SpellsNone {X : Type 0} (spells : DerElement → X → Type 0) (octets : List ℕ) : Type 0 where
+  pub element : DerElement
+  pub der : IsDer element
+  pub encoded : octets ≡ encoding element
+  pub none : (value : X) → spells element value → ⊥
+
 -- What every structure owes of its meanings.
 pub record IsGrammar {X : Type 0} (spells : DerElement → X → Type 0) (written : X → DerElement) (inner : X → List DerElement) : Type 0 where
   -- an element spells at most one value

@@ -4,7 +4,6 @@ use Rattle.der_core.specs.DerElement.{DerElement}
 use Rattle.der_core.specs.Causes.{NoFault, Refuses}
 use Rattle.der_core.specs.Encoding.{nesting, IsShort}
 use Rattle.der_core.specs.declared.error.DerError.{DerError}
-use Rattle.der_core.specs.declared.error.DerError.TheVariants as errors
 
 -- Too deep comes before too long.
 abbrev pub RefusesToWrite : DerElement → DerError → Type 0

@@ -1,10 +1,9 @@
 //! Octets as trees.
 
-ghost use Rattle.std.specs.Prelude.{◌≡◌, ℕ, length, Err, MatchResult, IfOk, IfErr};
-ghost use Rattle.der_core.specs.DerElement.{DerElement};
+ghost use Rattle.std.specs.Prelude.{◌≡◌, ℕ, Err, MatchResult, IfOk};
 ghost use Rattle.der_core.specs.Encoding.{encoding, IsDer};
 ghost use Rattle.der_core.specs.Fault.{IsFirstFault};
-ghost use Rattle.der_core.specs.Reading.{IsFirst, IsExactFault, GivesUnlessMemory, RefusesMalformed};
+ghost use Rattle.der_core.specs.Reading.{IsFirst, IsExactFault, RefusesMalformed};
 ghost use Rattle.der_core.specs.declared.fault.DerFault.{DerFault};
 ghost use Rattle.der_core.specs.declared.error.DerError.TheVariants as errors;
 
@@ -18,12 +17,9 @@ use std::alloc::{AllocError, Global};
 
 /// The first element of the octets as a tree, and how many octets it takes.
 pub fn read_first(alloc: Global, bytes: &[u8]) -> Result<(Tree, usize), DerError>
-    // What is read is the element that the octets begin with.
-    ensures found { IfOk result (λ x. IsFirst bytes.now x.0 x.1) }
-    // The element that the octets begin with is read, unless memory runs out.
-    ensures only { (t : DerElement) (n : ℕ) → IsFirst bytes.now t n → GivesUnlessMemory result (t, n) }
-    // It refuses for want of memory, or with the first fault from left to right.
-    ensures refused { IfErr result (RefusesMalformed (IsFirstFault bytes.now)) }
+    // What is read is the element that the octets begin with. It refuses for want of memory, or with
+    // the first fault from left to right.
+    ensures answer { MatchResult result (λ x. IsFirst bytes.now x.0 x.1) (RefusesMalformed (IsFirstFault bytes.now)) }
     // Octets with a fault are refused with it, whatever memory there is.
     ensures faulty { (at : ℕ) (fault : DerFault) → IsFirstFault bytes.now at fault → result ≡ Err (errors.Malformed (record { at = at; fault = fault })) }
 {
@@ -34,12 +30,9 @@ pub fn read_first(alloc: Global, bytes: &[u8]) -> Result<(Tree, usize), DerError
 
 /// The element that the octets are, as a tree.
 pub fn read_exact(alloc: Global, bytes: &[u8]) -> Result<Tree, DerError>
-    // What is read is the element whose encoding the octets are.
-    ensures found { IfOk result (λ t. IsDer t × (bytes.now ≡ encoding t)) }
-    // The element whose encoding the octets are is read, unless memory runs out.
-    ensures only { (t : DerElement) → IsDer t → bytes.now ≡ encoding t → GivesUnlessMemory result t }
-    // It refuses for want of memory, with the first fault, or at the first octet after the element.
-    ensures refused { IfErr result (RefusesMalformed (IsExactFault bytes.now)) }
+    // What is read is the element whose encoding the octets are. It refuses for want of memory, with
+    // the first fault, or at the first octet after the element.
+    ensures answer { MatchResult result (λ t. IsDer t × (bytes.now ≡ encoding t)) (RefusesMalformed (IsExactFault bytes.now)) }
     // Octets with a fault, or with more of them than the element, are refused so, whatever memory there is.
     ensures faulty { (at : ℕ) (fault : DerFault) → IsExactFault bytes.now at fault → result ≡ Err (errors.Malformed (record { at = at; fault = fault })) }
 {

@@ -1,11 +1,11 @@
 //! What all structures have in common.
 
-ghost use Rattle.std.specs.Prelude.{◌≡◌, ◌⊎◌, ◌∷◌, ◌++◌, [], ℕ, List, false, IsTrue, IfOk, IfErr, Ok, Err, MatchResult};
+ghost use Rattle.std.specs.Prelude.{◌≡◌, ◌∷◌, ◌++◌, [], ℕ, List, false, IsTrue, IfOk, IfErr, Ok, Err, MatchResult};
 ghost use Rattle.der_core.specs.DerElement.{DerElement};
 ghost use Rattle.der_core.specs.Encoding.{encoding, IsDer, IsWellFormed};
 ghost use Rattle.der_core.specs.Placed.{AreDer};
-ghost use Rattle.der_core.specs.Reading.{IsExactFault, GivesUnlessMemory};
-ghost use Rattle.der_core.specs.Refusals.{RefusesShape, RefusesInner};
+ghost use Rattle.der_core.specs.Reading.{IsExactFault};
+ghost use Rattle.der_core.specs.Refusals.{RefusesShape, RefusesOctets, RefusesInner};
 ghost use Rattle.der_core.specs.Structure.{Fits, IsWithin, IsGrammar};
 ghost use Rattle.der_core.specs.declared.error.DerError.TheVariants as errors;
 ghost use Rattle.der_core.specs.declared.fault.DerFault.{DerFault};
@@ -69,10 +69,9 @@ pub trait Structure: Sized + Drop {
     /// The value that octets spell, all of them. What is malformed or has another shape is refused
     /// without memory.
     final fn from_der(alloc: Global, octets: &[u8]) -> Result<Self, DerError>
-        // What is read is the value that the octets spell.
-        ensures found { IfOk result (IsWithin spells octets.now) }
-        // The value that the octets spell is read, unless memory runs out.
-        ensures only { (value : Self) → IsWithin spells octets.now value → GivesUnlessMemory result value }
+        // What is read is the value that the octets spell. It refuses for want of memory, with the
+        // first fault, at the first octet after the element, or as `Shape` where it spells none.
+        ensures answer { MatchResult result (IsWithin spells octets.now) (RefusesOctets spells octets.now) }
         // Octets with a fault are refused with it, whatever memory there is.
         ensures faulty { (at : ℕ) (fault : DerFault) → IsExactFault octets.now at fault → result ≡ Err (errors.Malformed (record { at = at; fault = fault })) }
         // An element that spells no value is refused as such, whatever memory there is.

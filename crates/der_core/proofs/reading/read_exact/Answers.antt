@@ -1,11 +1,8 @@
-use Rattle.std.proofs.Common.{Err, ap, ◌∙◌, inl}
+use Rattle.std.proofs.Common.{Err, ap}
 use Rattle.std.proofs.lemmas.Result.{err_from_is_err_and}
 use Rattle.der_core.specs.declared.error.DerError.TheVariants as errors
-use Rattle.der_core.proofs.Exact.{whole_once, no_fault_where_whole, refused_exactly}
+use Rattle.der_core.proofs.Exact.{no_fault_where_whole, refused_exactly}
 use Rattle.der_core.proofs.reading.read_exact.Goals as goal
-
-pub returns-in_err-elem-clause-only : goal.returns-in_err-elem-clause-only
-returns-in_err-elem-clause-only c = λ a der same. absurd (no_fault_where_whole c.args.bytes.now a _ _ der same c.in_err-elem.ensures)
 
 pub returns-in_err-elem-clause-faulty : goal.returns-in_err-elem-clause-faulty
 returns-in_err-elem-clause-faulty c = λ at fault there.
@@ -14,10 +11,6 @@ returns-in_err-elem-clause-faulty c = λ at fault there.
 
 pub returns-in_err-tree_of-clause-faulty : goal.returns-in_err-tree_of-clause-faulty
 returns-in_err-tree_of-clause-faulty c = λ at fault there. absurd (no_fault_where_whole c.args.bytes.now _ at fault c.in_ok-elem.elem.is.1.0 c.in_ok-elem.ensures there)
-
-pub returns-clause-only : goal.returns-clause-only
-returns-clause-only c = λ a der same.
-    inl (rw (c.in_ok-tree_of.ensures ∙ whole_once c.args.bytes.now _ a c.in_ok-elem.elem.is.1.0 der c.in_ok-elem.ensures same))
 
 pub returns-clause-faulty : goal.returns-clause-faulty
 returns-clause-faulty c = λ at fault there. absurd (no_fault_where_whole c.args.bytes.now _ at fault c.in_ok-elem.elem.is.1.0 c.in_ok-elem.ensures there)

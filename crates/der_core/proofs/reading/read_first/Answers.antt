@@ -1,13 +1,9 @@
-use Rattle.std.proofs.Common.{Err, ap, ◌∙◌, inl}
+use Rattle.std.proofs.Common.{Err, ap}
 use Rattle.std.proofs.lemmas.Result.{err_from_is_err_and}
 use Rattle.der_core.specs.declared.error.DerError.TheVariants as errors
-use Rattle.der_core.proofs.Elements.{first_once}
 use Rattle.der_core.proofs.Exact.{no_fault_where_first}
 use Rattle.der_core.proofs.Faults.{refused_as}
 use Rattle.der_core.proofs.reading.read_first.Goals as goal
-
-pub returns-in_err-elem-clause-only : goal.returns-in_err-elem-clause-only
-returns-in_err-elem-clause-only c = λ a n first. absurd (no_fault_where_first c.args.bytes.now a n _ _ first c.in_err-elem.ensures)
 
 pub returns-in_err-elem-clause-faulty : goal.returns-in_err-elem-clause-faulty
 returns-in_err-elem-clause-faulty c = λ at fault first.
@@ -16,12 +12,6 @@ returns-in_err-elem-clause-faulty c = λ at fault first.
 
 pub returns-in_err-tree-clause-faulty : goal.returns-in_err-tree-clause-faulty
 returns-in_err-tree-clause-faulty c = λ at fault first. absurd (no_fault_where_first c.args.bytes.now _ _ at fault c.in_ok-elem.ensures first)
-
-pub returns-clause-only : goal.returns-clause-only
-returns-clause-only c = λ a n first.
-    let same = first_once c.args.bytes.now _ a _ n c.in_ok-elem.ensures first in
-    let tree = c.in_ok-tree.ensures ∙ same.0 in
-    inl (rw (tree, same.1))
 
 pub returns-clause-faulty : goal.returns-clause-faulty
 returns-clause-faulty c = λ at fault first. absurd (no_fault_where_first c.args.bytes.now _ _ at fault c.in_ok-elem.ensures first)
