@@ -5,11 +5,11 @@ use Rattle.der_core.specs.Encoding.{encoding, IsDer}
 use Rattle.der_core.specs.declared.error.DerError.{DerError}
 use Rattle.der_core.specs.Refusals.{RefusesShape}
 use Rattle.der_core.specs.Structure.{IsWithin}
-use Rattle.x509_types.specs.RsaPublicKey.{rsa_public_key}
-use Rattle.x509_types.specs.PublicKeyInfo.{IsSubjectKey}
-use Rattle.x509_types.specs.declared.public_key.RsaPublicKey.{RsaPublicKey}
-use Rattle.x509_types.specs.declared.subject_key.SubjectKey.TheVariants as keys
-use Rattle.x509_types.proofs.Lists.{list_refused}
+use Rattle.key_types.specs.RsaPublicKey.{rsa_public_key}
+use Rattle.key_types.specs.PublicKeyInfo.{IsSubjectKey}
+use Rattle.key_types.specs.declared.public_key.RsaPublicKey.{RsaPublicKey}
+use Rattle.key_types.specs.declared.subject_key.SubjectKey.TheVariants as keys
+use Rattle.der_core.specs.Facts.Lists.{list_refused}
 
 abbrev IsRsaKey : List ℕ → RsaPublicKey → Type 0
 IsRsaKey payload key = IsWithin (λ (element : DerElement) (k : RsaPublicKey). element ≡ rsa_public_key k) payload key

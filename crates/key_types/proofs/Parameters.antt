@@ -9,11 +9,11 @@ use Rattle.asn1_types.specs.Elements.{object_identifier}
 use Rattle.std.specs.Prelude.{option_to_list}
 use Rattle.der_core.specs.Lent.{kept_option}
 use Rattle.asn1_types.specs.Values.{identifier_contents}
-use Rattle.x509_types.specs.AlgorithmIdentifier.{algorithm_of, algorithm_identifier}
-use Rattle.x509_types.specs.KeyKind.{IsOid, IsAlgorithmWith, IsAlgorithmOf}
-use Rattle.x509_types.specs.Facts.Algorithms.{same_kids}
-use Rattle.x509_types.specs.declared.algorithm.AlgorithmIdentifier.{AlgorithmIdentifier}
-use Rattle.x509_types.specs.declared.key_kind.KeyKind.{KeyKind}
+use Rattle.key_types.specs.AlgorithmIdentifier.{algorithm_of, algorithm_identifier}
+use Rattle.key_types.specs.KeyKind.{IsOid, IsAlgorithmWith, IsAlgorithmOf}
+use Rattle.key_types.specs.Facts.Algorithms.{same_kids}
+use Rattle.key_types.specs.declared.algorithm.AlgorithmIdentifier.{AlgorithmIdentifier}
+use Rattle.key_types.specs.declared.key_kind.KeyKind.{KeyKind}
 
 null_is_well_formed : IsWellFormed null
 null_is_well_formed = ((omega arith, omega arith, omega arith), refl)

@@ -4,7 +4,7 @@ use Rattle.der_core.specs.DerElement.{DerElement}
 use Rattle.der_core.specs.Elements.{sequence}
 use Rattle.der_core.specs.Lent.{kept_option}
 use Rattle.asn1_types.specs.Elements.{object_identifier}
-use Rattle.x509_types.specs.declared.algorithm.AlgorithmIdentifier.{AlgorithmIdentifier}
+use Rattle.key_types.specs.declared.algorithm.AlgorithmIdentifier.{AlgorithmIdentifier}
 
 -- by the elements of its fields
 abbrev pub algorithm_of : DerElement → Option DerElement → DerElement

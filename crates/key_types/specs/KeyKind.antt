@@ -5,10 +5,10 @@ use Rattle.asn1_types.specs.ObjectIdentifier.{IsIdentifier}
 use Rattle.der_core.specs.Elements.{null}
 use Rattle.der_core.specs.Lent.{kept_option}
 use Rattle.asn1_types.specs.Values.{identifier_contents}
-use Rattle.x509_types.specs.declared.algorithm.AlgorithmIdentifier.{AlgorithmIdentifier}
+use Rattle.key_types.specs.declared.algorithm.AlgorithmIdentifier.{AlgorithmIdentifier}
 use Rattle.asn1_types.specs.declared.oids.TheConstants.{RSA_ENCRYPTION, EC_PUBLIC_KEY, X25519, X448, ED25519, ED448, ML_DSA_44, ML_DSA_65, ML_DSA_87}
-use Rattle.x509_types.specs.declared.key_kind.KeyKind.{KeyKind}
-use Rattle.x509_types.specs.declared.key_kind.KeyKind.TheVariants as kinds
+use Rattle.key_types.specs.declared.key_kind.KeyKind.{KeyKind}
+use Rattle.key_types.specs.declared.key_kind.KeyKind.TheVariants as kinds
 
 -- whether an identifier names this kind of keys (RFC 3279 2.3.1, RFC 5480 2.1.1, RFC 8410 3, RFC 9881 2)
 abbrev pub names_kind : KeyKind → List ℕ → Bool

@@ -5,14 +5,14 @@ use Rattle.der_core.specs.Encoding.{encoding}
 use Rattle.der_core.specs.Placed.{AreDer}
 use Rattle.der_core.specs.Elements.{sequence}
 use Rattle.asn1_types.specs.Elements.{bit_string}
-use Rattle.x509_types.specs.AlgorithmIdentifier.{algorithm_identifier}
-use Rattle.x509_types.specs.RsaPublicKey.{rsa_public_key}
-use Rattle.x509_types.specs.SubjectKey.{kind_of}
-use Rattle.x509_types.specs.declared.key_kind.KeyKind.{KeyKind}
-use Rattle.x509_types.specs.declared.key_kind.KeyKind.TheVariants as kinds
-use Rattle.x509_types.specs.declared.key_info.SubjectPublicKeyInfo.{SubjectPublicKeyInfo}
-use Rattle.x509_types.specs.declared.subject_key.SubjectKey.{SubjectKey}
-use Rattle.x509_types.specs.declared.subject_key.SubjectKey.TheVariants as keys
+use Rattle.key_types.specs.AlgorithmIdentifier.{algorithm_identifier}
+use Rattle.key_types.specs.RsaPublicKey.{rsa_public_key}
+use Rattle.key_types.specs.SubjectKey.{kind_of}
+use Rattle.key_types.specs.declared.key_kind.KeyKind.{KeyKind}
+use Rattle.key_types.specs.declared.key_kind.KeyKind.TheVariants as kinds
+use Rattle.key_types.specs.declared.key_info.SubjectPublicKeyInfo.{SubjectPublicKeyInfo}
+use Rattle.key_types.specs.declared.subject_key.SubjectKey.{SubjectKey}
+use Rattle.key_types.specs.declared.subject_key.SubjectKey.TheVariants as keys
 
 -- The bits of an RSA key are those of the encoding of an RSAPublicKey (RFC 3279 2.3.1).
 abbrev pub subject_public_key : SubjectKey → DerElement

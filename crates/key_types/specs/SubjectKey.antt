@@ -1,8 +1,8 @@
 -- Public keys and their kinds.
-use Rattle.x509_types.specs.declared.key_kind.KeyKind.{KeyKind}
-use Rattle.x509_types.specs.declared.key_kind.KeyKind.TheVariants as kinds
-use Rattle.x509_types.specs.declared.subject_key.SubjectKey.{SubjectKey}
-use Rattle.x509_types.specs.declared.subject_key.SubjectKey.TheVariants as keys
+use Rattle.key_types.specs.declared.key_kind.KeyKind.{KeyKind}
+use Rattle.key_types.specs.declared.key_kind.KeyKind.TheVariants as kinds
+use Rattle.key_types.specs.declared.subject_key.SubjectKey.{SubjectKey}
+use Rattle.key_types.specs.declared.subject_key.SubjectKey.TheVariants as keys
 
 -- the kind of a key
 abbrev pub kind_of : SubjectKey → KeyKind

@@ -58,8 +58,8 @@ impl AlgorithmIdentifier {
 }
 
 impl Structure for AlgorithmIdentifier {
-    ghost use Rattle.x509_types.specs.AlgorithmIdentifier.{algorithm_identifier};
-    ghost use Rattle.x509_types.specs.Facts.Algorithms.{algorithms};
+    ghost use Rattle.key_types.specs.AlgorithmIdentifier.{algorithm_identifier};
+    ghost use Rattle.key_types.specs.Facts.Algorithms.{algorithms};
 
     ghost written = { algorithm_identifier };
 
@@ -114,7 +114,7 @@ impl PartialEq for AlgorithmIdentifier {
     ghost use Rattle.std.specs.Cmp.{on_per, partial_equiv_from_equiv};
     ghost use Rattle.std.specs.Prelude.{bytes_eq};
     ghost use Rattle.der_core.specs.Encoding.{encoding};
-    ghost use Rattle.x509_types.specs.AlgorithmIdentifier.{algorithm_identifier};
+    ghost use Rattle.key_types.specs.AlgorithmIdentifier.{algorithm_identifier};
 
     ghost eq = { on (λ value. encoding (algorithm_identifier value)) bytes_eq };
 
@@ -132,7 +132,7 @@ impl Eq for AlgorithmIdentifier {
     ghost use Rattle.std.specs.Cmp.Lexicographic.{nat_list_eq_equiv};
     ghost use Rattle.std.specs.Cmp.{on_equiv};
     ghost use Rattle.der_core.specs.Encoding.{encoding};
-    ghost use Rattle.x509_types.specs.AlgorithmIdentifier.{algorithm_identifier};
+    ghost use Rattle.key_types.specs.AlgorithmIdentifier.{algorithm_identifier};
 
     ghost laws = { on_equiv (λ value. encoding (algorithm_identifier value)) nat_list_eq_equiv };
 }

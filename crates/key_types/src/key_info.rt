@@ -1,9 +1,9 @@
 //! Public keys of subjects with their algorithms.
 
 ghost use Rattle.std.specs.Prelude.{◌≡◌, ◌↔◌, IsTrue, MatchOption};
-ghost use Rattle.x509_types.specs.SubjectKey.{kind_of};
-ghost use Rattle.x509_types.specs.KeyKind.{IsAlgorithmOf};
-ghost use Rattle.x509_types.specs.Facts.Kinds.{IsAlgorithmOf-prop};
+ghost use Rattle.key_types.specs.SubjectKey.{kind_of};
+ghost use Rattle.key_types.specs.KeyKind.{IsAlgorithmOf};
+ghost use Rattle.key_types.specs.Facts.Kinds.{IsAlgorithmOf-prop};
 
 use crate::algorithm::AlgorithmIdentifier;
 use crate::key_kind::KeyKind;
@@ -39,8 +39,8 @@ impl SubjectPublicKeyInfo {
 }
 
 impl Structure for SubjectPublicKeyInfo {
-    ghost use Rattle.x509_types.specs.PublicKeyInfo.{public_key_info, inner_key, IsPublicKeyInfo};
-    ghost use Rattle.x509_types.specs.Facts.Keys.{public_key_infos};
+    ghost use Rattle.key_types.specs.PublicKeyInfo.{public_key_info, inner_key, IsPublicKeyInfo};
+    ghost use Rattle.key_types.specs.Facts.Keys.{public_key_infos};
 
     ghost written = { public_key_info };
 
@@ -97,7 +97,7 @@ impl PartialEq for SubjectPublicKeyInfo {
     ghost use Rattle.std.specs.Cmp.{on_per, partial_equiv_from_equiv};
     ghost use Rattle.std.specs.Prelude.{bytes_eq};
     ghost use Rattle.der_core.specs.Encoding.{encoding};
-    ghost use Rattle.x509_types.specs.PublicKeyInfo.{public_key_info};
+    ghost use Rattle.key_types.specs.PublicKeyInfo.{public_key_info};
 
     ghost eq = { on (λ value. encoding (public_key_info value)) bytes_eq };
 
@@ -115,7 +115,7 @@ impl Eq for SubjectPublicKeyInfo {
     ghost use Rattle.std.specs.Cmp.Lexicographic.{nat_list_eq_equiv};
     ghost use Rattle.std.specs.Cmp.{on_equiv};
     ghost use Rattle.der_core.specs.Encoding.{encoding};
-    ghost use Rattle.x509_types.specs.PublicKeyInfo.{public_key_info};
+    ghost use Rattle.key_types.specs.PublicKeyInfo.{public_key_info};
 
     ghost laws = { on_equiv (λ value. encoding (public_key_info value)) nat_list_eq_equiv };
 }

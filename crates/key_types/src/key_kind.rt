@@ -3,9 +3,9 @@
 ghost use Rattle.std.specs.Prelude.{◌≡◌, ◌↔◌, IsTrue, MatchOption};
 ghost use Rattle.der_core.specs.Elements.{null};
 ghost use Rattle.der_core.specs.Lent.{at_option};
-ghost use Rattle.x509_types.specs.AlgorithmIdentifier.{algorithm_identifier};
-ghost use Rattle.x509_types.specs.KeyKind.{names_kind, IsAlgorithmOf, IsAlgorithmWith, MayHave, IsOid};
-ghost use Rattle.x509_types.specs.declared.algorithm.AlgorithmIdentifier.{AlgorithmIdentifier};
+ghost use Rattle.key_types.specs.AlgorithmIdentifier.{algorithm_identifier};
+ghost use Rattle.key_types.specs.KeyKind.{names_kind, IsAlgorithmOf, IsAlgorithmWith, MayHave, IsOid};
+ghost use Rattle.key_types.specs.declared.algorithm.AlgorithmIdentifier.{AlgorithmIdentifier};
 
 use crate::algorithm::AlgorithmIdentifier;
 use crate::algorithm_fields::AlgorithmFields;

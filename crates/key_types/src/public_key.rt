@@ -15,8 +15,8 @@ pub struct RsaPublicKey {
 }
 
 impl Structure for RsaPublicKey {
-    ghost use Rattle.x509_types.specs.RsaPublicKey.{rsa_public_key};
-    ghost use Rattle.x509_types.specs.Facts.Algorithms.{rsa_public_keys};
+    ghost use Rattle.key_types.specs.RsaPublicKey.{rsa_public_key};
+    ghost use Rattle.key_types.specs.Facts.Algorithms.{rsa_public_keys};
 
     ghost written = { rsa_public_key };
 
@@ -67,7 +67,7 @@ impl PartialEq for RsaPublicKey {
     ghost use Rattle.std.specs.Cmp.{on_per, partial_equiv_from_equiv};
     ghost use Rattle.std.specs.Prelude.{bytes_eq};
     ghost use Rattle.der_core.specs.Encoding.{encoding};
-    ghost use Rattle.x509_types.specs.RsaPublicKey.{rsa_public_key};
+    ghost use Rattle.key_types.specs.RsaPublicKey.{rsa_public_key};
 
     ghost eq = { on (λ value. encoding (rsa_public_key value)) bytes_eq };
 
@@ -85,7 +85,7 @@ impl Eq for RsaPublicKey {
     ghost use Rattle.std.specs.Cmp.Lexicographic.{nat_list_eq_equiv};
     ghost use Rattle.std.specs.Cmp.{on_equiv};
     ghost use Rattle.der_core.specs.Encoding.{encoding};
-    ghost use Rattle.x509_types.specs.RsaPublicKey.{rsa_public_key};
+    ghost use Rattle.key_types.specs.RsaPublicKey.{rsa_public_key};
 
     ghost laws = { on_equiv (λ value. encoding (rsa_public_key value)) nat_list_eq_equiv };
 }

@@ -4,11 +4,11 @@ ghost use Rattle.std.specs.Prelude.{◌≡◌, ◌≢◌, ◌∷◌, List, ℕ, 
 ghost use Rattle.der_core.specs.DerElement.{Primitive};
 ghost use Rattle.der_core.specs.Encoding.{IsWellFormed};
 ghost use Rattle.der_core.specs.Refusals.{RefusesShape, RefusesInner};
-ghost use Rattle.x509_types.specs.SubjectKey.{kind_of};
-ghost use Rattle.x509_types.specs.PublicKeyInfo.{IsKeyOf, IsSubjectKey, inner_key};
-ghost use Rattle.x509_types.specs.declared.subject_key.SubjectKey.{SubjectKey};
-ghost use Rattle.x509_types.specs.declared.subject_key.SubjectKey.TheVariants.{Rsa};
-ghost use Rattle.x509_types.specs.declared.public_key.RsaPublicKey.{RsaPublicKey};
+ghost use Rattle.key_types.specs.SubjectKey.{kind_of};
+ghost use Rattle.key_types.specs.PublicKeyInfo.{IsKeyOf, IsSubjectKey, inner_key};
+ghost use Rattle.key_types.specs.declared.subject_key.SubjectKey.{SubjectKey};
+ghost use Rattle.key_types.specs.declared.subject_key.SubjectKey.TheVariants.{Rsa};
+ghost use Rattle.key_types.specs.declared.public_key.RsaPublicKey.{RsaPublicKey};
 
 use crate::key_kind::KeyKind;
 use crate::public_key::RsaPublicKey;
@@ -154,7 +154,7 @@ impl PartialEq for SubjectKey {
     ghost use Rattle.std.specs.Cmp.Lexicographic.{nat_list_eq_equiv};
     ghost use Rattle.std.specs.Cmp.{on_per, partial_equiv_from_equiv};
     ghost use Rattle.std.specs.Prelude.{bytes_eq};
-    ghost use Rattle.x509_types.specs.PublicKeyInfo.{key_octets};
+    ghost use Rattle.key_types.specs.PublicKeyInfo.{key_octets};
 
     ghost eq = { on (λ value. key_octets value) bytes_eq };
 
@@ -177,7 +177,7 @@ impl PartialEq for SubjectKey {
 impl Eq for SubjectKey {
     ghost use Rattle.std.specs.Cmp.Lexicographic.{nat_list_eq_equiv};
     ghost use Rattle.std.specs.Cmp.{on_equiv};
-    ghost use Rattle.x509_types.specs.PublicKeyInfo.{key_octets};
+    ghost use Rattle.key_types.specs.PublicKeyInfo.{key_octets};
 
     ghost laws = { on_equiv (λ value. key_octets value) nat_list_eq_equiv };
 }

@@ -4,7 +4,7 @@ use Rattle.std.specs.Prelude.{Option, flat_map, filter_map}
 use Rattle.std.specs.List.{slice_get}
 use Rattle.std.specs.Option.{option_copied, option_or, is_some}
 use Rattle.std.proofs.lemmas.List.Elements.{filter_map-append}
-use Rattle.x509_types.specs.declared.attribute.AttributeTypeAndValue.{AttributeTypeAndValue}
+use Rattle.x501_types.specs.declared.attribute.AttributeTypeAndValue.{AttributeTypeAndValue}
 use Rattle.names_core.specs.DirectoryName.{common_name_of, common_names, first_common_name}
 
 first_of_two : {X : Type 0} (xs ys : List X) → slice_get (xs ++ ys) 0 ≡ option_or (slice_get xs 0) (slice_get ys 0)

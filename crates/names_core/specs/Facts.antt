@@ -3,9 +3,9 @@ use Rattle.std.proofs.Common.{◌≡◌, List, [], refl, ap}
 use Rattle.der_core.specs.DerElement.{DerElement}
 use Rattle.der_core.specs.Structure.{IsGrammar}
 use Rattle.der_core.specs.Facts.Grammars.{printed}
-use Rattle.x509_types.specs.Name.{name}
-use Rattle.x509_types.specs.Facts.Names.{names}
-use Rattle.x509_types.specs.declared.attribute.AttributeTypeAndValue.{AttributeTypeAndValue}
+use Rattle.x501_types.specs.Name.{name}
+use Rattle.x501_types.specs.Facts.Names.{names}
+use Rattle.x501_types.specs.declared.attribute.AttributeTypeAndValue.{AttributeTypeAndValue}
 use Rattle.names_core.specs.declared.name.DirectoryName.{DirectoryName}
 
 abbrev made_of : List (List AttributeTypeAndValue) → DirectoryName

@@ -3,10 +3,10 @@
 ghost use Rattle.std.specs.Prelude.{◌≡◌, ◌↔◌, [], IsTrue, Some, IfOk, OnOk, OnErr};
 ghost use Rattle.std.specs.Option.{option_copied};
 ghost use Rattle.asn1_types.specs.Values.{arcs_of};
-ghost use Rattle.x509_types.specs.declared.name_attr.NameAttr.TheVariants as attributes;
-ghost use Rattle.x509_types.specs.declared.attribute_value.AttributeValue.TheVariants as values;
-ghost use Rattle.x509_types.specs.NameAttr.{attribute_arcs};
-ghost use Rattle.x509_types.specs.NameText.{email_address, name_text};
+ghost use Rattle.x501_types.specs.declared.name_attr.NameAttr.TheVariants as attributes;
+ghost use Rattle.x501_types.specs.declared.attribute_value.AttributeValue.TheVariants as values;
+ghost use Rattle.x501_types.specs.NameAttr.{attribute_arcs};
+ghost use Rattle.x501_types.specs.NameText.{email_address, name_text};
 ghost use Rattle.names_core.specs.DirectoryName.{IsExtended, utf8_value, first_common_name};
 
 use crate::common_name::first_common_name;
@@ -14,7 +14,7 @@ use asn1_types::{Ia5String, ObjectIdentifier};
 use der_core::{DerError, Elem, ListOf, Structure, Tree};
 use std::alloc::{AllocError, Global};
 use std::fmt::{self, Display};
-use x509_types::{
+use x501_types::{
     AttributeTypeAndValue, AttributeValue, DirectoryString, Name, NameAttr,
     RelativeDistinguishedName, email_address_oid,
 };
@@ -126,7 +126,7 @@ impl fmt::Display for DirectoryName {
 
 /// A name of the directory is read and written as the Name that it holds.
 impl Structure for DirectoryName {
-    ghost use Rattle.x509_types.specs.Name.{name};
+    ghost use Rattle.x501_types.specs.Name.{name};
     ghost use Rattle.names_core.specs.Facts.{directory_names};
 
     ghost written = { λ made. name made.name };
@@ -161,7 +161,7 @@ impl PartialEq for DirectoryName {
     ghost use Rattle.std.specs.Cmp.Lexicographic.{nat_list_eq_equiv};
     ghost use Rattle.std.specs.Cmp.{on_per, partial_equiv_from_equiv};
     ghost use Rattle.der_core.specs.Encoding.{encoding};
-    ghost use Rattle.x509_types.specs.Name.{name};
+    ghost use Rattle.x501_types.specs.Name.{name};
 
     ghost eq = { on (λ made. encoding (name made.name)) bytes_eq };
 
@@ -179,7 +179,7 @@ impl Eq for DirectoryName {
     ghost use Rattle.std.specs.Cmp.Lexicographic.{nat_list_eq_equiv};
     ghost use Rattle.std.specs.Cmp.{on_equiv};
     ghost use Rattle.der_core.specs.Encoding.{encoding};
-    ghost use Rattle.x509_types.specs.Name.{name};
+    ghost use Rattle.x501_types.specs.Name.{name};
 
     ghost laws = { on_equiv (λ made. encoding (name made.name)) nat_list_eq_equiv };
 }

@@ -4,9 +4,9 @@ use Rattle.asn1_types.specs.Subidentifier.{subidentifier}
 use Rattle.asn1_types.specs.ObjectIdentifier.{IsArcs, IsIdentifier, contents_of}
 use Rattle.asn1_types.specs.Facts.OneIdentifier.{contents_once}
 use Rattle.asn1_types.specs.KnownIdentifiers.{is_known}
-use Rattle.x509_types.specs.declared.name_attr.NameAttr.{NameAttr}
-use Rattle.x509_types.specs.declared.name_attr.NameAttr.TheVariants.{CommonName, Surname, SerialNumber, CountryName, LocalityName, StateOrProvinceName, StreetName, OrganizationName, OrganizationalUnitName, GivenName}
-use Rattle.x509_types.specs.NameAttr.{attribute_arc, attribute_arcs, attribute_type, attribute_types}
+use Rattle.x501_types.specs.declared.name_attr.NameAttr.{NameAttr}
+use Rattle.x501_types.specs.declared.name_attr.NameAttr.TheVariants.{CommonName, Surname, SerialNumber, CountryName, LocalityName, StateOrProvinceName, StreetName, OrganizationName, OrganizationalUnitName, GivenName}
+use Rattle.x501_types.specs.NameAttr.{attribute_arc, attribute_arcs, attribute_type, attribute_types}
 
 -- the contents octets of the identifiers
 pub contents_of-type : (attr : NameAttr) → 0x55 ∷ 0x04 ∷ attribute_arc attr ∷ [] ≡ contents_of (attribute_arcs attr)

@@ -8,13 +8,13 @@ use Rattle.der_core.specs.Placed.{IsElem}
 use Rattle.asn1_types.specs.Elements.{ia5_string}
 use Rattle.asn1_types.specs.Ia5String.{IsIa5}
 use Rattle.asn1_types.specs.declared.ia5_string.Ia5String.{Ia5String}
-use Rattle.x509_types.specs.DirectoryString.{directory_string, IsStringTag}
-use Rattle.x509_types.specs.Facts.Names.{is_string_tag}
-use Rattle.x509_types.specs.AttributeValue.{attribute_value}
-use Rattle.x509_types.specs.declared.directory_string.DirectoryString.{DirectoryString}
-use Rattle.x509_types.specs.declared.directory_string.DirectoryString.TheVariants as strings
-use Rattle.x509_types.specs.declared.attribute_value.AttributeValue.{AttributeValue}
-use Rattle.x509_types.specs.declared.attribute_value.AttributeValue.TheVariants as values
+use Rattle.x501_types.specs.DirectoryString.{directory_string, IsStringTag}
+use Rattle.x501_types.specs.Facts.Names.{is_string_tag}
+use Rattle.x501_types.specs.AttributeValue.{attribute_value}
+use Rattle.x501_types.specs.declared.directory_string.DirectoryString.{DirectoryString}
+use Rattle.x501_types.specs.declared.directory_string.DirectoryString.TheVariants as strings
+use Rattle.x501_types.specs.declared.attribute_value.AttributeValue.{AttributeValue}
+use Rattle.x501_types.specs.declared.attribute_value.AttributeValue.TheVariants as values
 
 -- an element whose tag is of the primitive form is primitive
 pub primitive_at : (whole : List ℕ) (tag : ℕ) (content : List ℕ) (element : DerElement) → IsElem whole tag content element → form_bit tag ≡ 0 → element ≡ Primitive tag content

@@ -3,7 +3,7 @@ use Rattle.std.proofs.Common.{◌≡◌, ℕ, ◌+◌, ◌-◌, ◌^◌, ◌<◌
 use Rattle.std.specs.Fmt.{format_spec, digits, digit_glyph, digits_output, styled_digits_output}
 use Rattle.std.proofs.lemmas.Fmt.{hex_byte}
 use Rattle.std.proofs.lemmas.List.{take_more, flat_map_more}
-use Rattle.x509_types.specs.NameText.{hexadecimal}
+use Rattle.x501_types.specs.NameText.{hexadecimal}
 
 -- what `{:02x}` writes
 pub octet_written : (d : _) (s : _) (octet : ℕ) → s ≡ format_spec 32 0 4 2 (2 ^ 64 - 1) → digits_output d ≡ Some (digits 16 false octet) → octet < 256

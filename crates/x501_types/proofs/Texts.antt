@@ -2,7 +2,7 @@
 use Rattle.std.proofs.Common.{◌≡◌, ℕ, List, [], ◌∷◌, length, ◌<◌, arith, true, false, refl}
 use Rattle.std.specs.Str.{IsUtf8, is_utf8}
 use Rattle.std.proofs.lemmas.Str.{IsUtf8-from_is_utf8, is_utf8-from_IsUtf8}
-use Rattle.x509_types.specs.Text.{utf8_text, ascii_text, bmp_text, question_mark}
+use Rattle.x501_types.specs.Text.{utf8_text, ascii_text, bmp_text, question_mark}
 
 pub utf8_kept : (octets : List ℕ) → IsUtf8 octets → utf8_text octets ≡ octets
 utf8_kept octets utf8 = rw (is_utf8-from_IsUtf8 octets utf8) refl

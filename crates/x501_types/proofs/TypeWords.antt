@@ -5,11 +5,11 @@ use Rattle.std.proofs.lemmas.Bool.{false_from_ne_true}
 use Rattle.std.proofs.lemmas.Slice.Eq.{bytes_eq-Decides}
 use Rattle.asn1_types.specs.Subidentifier.{subidentifier}
 use Rattle.asn1_types.specs.ObjectIdentifier.{IsArcs, IsIdentifier, contents_of, dotted}
-use Rattle.x509_types.specs.declared.name_attr.NameAttr.{NameAttr}
+use Rattle.x501_types.specs.declared.name_attr.NameAttr.{NameAttr}
 use Rattle.asn1_types.specs.declared.oids.TheConstants.{EMAIL_ADDRESS}
-use Rattle.x509_types.specs.NameAttr.{attribute_arcs, attribute_types, attribute_word}
-use Rattle.x509_types.specs.NameText.{email_address, type_word, word_or_dotted}
-use Rattle.x509_types.proofs.AttributeTypes.{IsArcs-type, arcs_from_contents, attribute_type-arcs}
+use Rattle.x501_types.specs.NameAttr.{attribute_arcs, attribute_types, attribute_word}
+use Rattle.x501_types.specs.NameText.{email_address, type_word, word_or_dotted}
+use Rattle.x501_types.proofs.AttributeTypes.{IsArcs-type, arcs_from_contents, attribute_type-arcs}
 
 pub word_of_type : (attr : NameAttr) (contents : List ℕ) (identifier : IsIdentifier contents)
     → contents_of (attribute_arcs attr) ≡ contents → type_word identifier.arcs ≡ attribute_word attr

@@ -2,8 +2,8 @@
 -- utf8String UTF8String, bmpString BMPString } (RFC 5280 4.1.2.4), without universalString. Empty strings are read, too.
 use Rattle.std.specs.Prelude.{◌≡◌, ◌⊎◌, ℕ, List}
 use Rattle.der_core.specs.DerElement.{DerElement, Primitive}
-use Rattle.x509_types.specs.declared.directory_string.DirectoryString.{DirectoryString}
-use Rattle.x509_types.specs.declared.directory_string.DirectoryString.TheVariants as strings
+use Rattle.x501_types.specs.declared.directory_string.DirectoryString.{DirectoryString}
+use Rattle.x501_types.specs.declared.directory_string.DirectoryString.TheVariants as strings
 
 -- the tag of a string's type (X.680 8.4, table 1)
 abbrev pub string_tag : DirectoryString → ℕ

@@ -4,8 +4,8 @@ use Rattle.der_core.specs.DerElement.{DerElement}
 use Rattle.der_core.specs.Each.{list_element}
 use Rattle.der_core.specs.Elements.{sequence}
 use Rattle.asn1_types.specs.Elements.{object_identifier}
-use Rattle.x509_types.specs.AttributeValue.{attribute_value}
-use Rattle.x509_types.specs.declared.attribute.AttributeTypeAndValue.{AttributeTypeAndValue}
+use Rattle.x501_types.specs.AttributeValue.{attribute_value}
+use Rattle.x501_types.specs.declared.attribute.AttributeTypeAndValue.{AttributeTypeAndValue}
 
 -- AttributeTypeAndValue ::= SEQUENCE { type AttributeType, value AttributeValue }, AttributeType ::= OBJECT IDENTIFIER
 abbrev pub attribute_type_and_value : AttributeTypeAndValue → DerElement

@@ -1,7 +1,7 @@
 -- The attribute types of names that have a word of their own.
 use Rattle.std.specs.Prelude.{ℕ, Option, List, [], ◌∷◌, find, bytes_eq, codes}
-use Rattle.x509_types.specs.declared.name_attr.NameAttr.{NameAttr}
-use Rattle.x509_types.specs.declared.name_attr.NameAttr.TheVariants as attributes
+use Rattle.x501_types.specs.declared.name_attr.NameAttr.{NameAttr}
+use Rattle.x501_types.specs.declared.name_attr.NameAttr.TheVariants as attributes
 
 -- the last arc of the identifier, under id-at of X.520 (RFC 5280 A.1; RFC 4519 2.34 for the street)
 abbrev pub attribute_arc : NameAttr → ℕ

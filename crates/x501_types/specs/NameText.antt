@@ -4,12 +4,12 @@ use Rattle.std.specs.List.{join_with_byte}
 use Rattle.std.specs.Fmt.{digit_glyph}
 use Rattle.der_core.specs.Encoding.{encoding}
 use Rattle.asn1_types.specs.ObjectIdentifier.{dotted}
-use Rattle.x509_types.specs.Text.{text_of}
-use Rattle.x509_types.specs.NameAttr.{attribute_type, attribute_word}
-use Rattle.x509_types.specs.declared.name_attr.NameAttr.{NameAttr}
-use Rattle.x509_types.specs.declared.attribute_value.AttributeValue.{AttributeValue}
-use Rattle.x509_types.specs.declared.attribute_value.AttributeValue.TheVariants as values
-use Rattle.x509_types.specs.declared.attribute.AttributeTypeAndValue.{AttributeTypeAndValue}
+use Rattle.x501_types.specs.Text.{text_of}
+use Rattle.x501_types.specs.NameAttr.{attribute_type, attribute_word}
+use Rattle.x501_types.specs.declared.name_attr.NameAttr.{NameAttr}
+use Rattle.x501_types.specs.declared.attribute_value.AttributeValue.{AttributeValue}
+use Rattle.x501_types.specs.declared.attribute_value.AttributeValue.TheVariants as values
+use Rattle.x501_types.specs.declared.attribute.AttributeTypeAndValue.{AttributeTypeAndValue}
 
 -- two digits an octet, in lower case
 abbrev pub hexadecimal : List ℕ → List ℕ

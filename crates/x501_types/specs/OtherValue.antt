@@ -3,8 +3,8 @@ use Rattle.std.specs.Prelude.{◌≢◌}
 use Rattle.der_core.specs.DerElement.{DerElement}
 use Rattle.asn1_types.specs.declared.ia5_string.Ia5String.{Ia5String}
 use Rattle.asn1_types.specs.Elements.{ia5_string}
-use Rattle.x509_types.specs.DirectoryString.{directory_string}
-use Rattle.x509_types.specs.declared.directory_string.DirectoryString.{DirectoryString}
+use Rattle.x501_types.specs.DirectoryString.{directory_string}
+use Rattle.x501_types.specs.declared.directory_string.DirectoryString.{DirectoryString}
 
 -- no DirectoryString and no IA5String, as one with an octet past 127
 pub record IsOtherValue (element : DerElement) : Type 0 where

@@ -2,8 +2,8 @@
 use Rattle.std.specs.Prelude.{ℕ, ◌+◌, ◌*◌, nat_le, nat_lt, Bool, ◌&&◌, if◌then◌else◌, List, [], ◌∷◌, ◌++◌, map}
 use Rattle.std.specs.Char.{encode_utf8}
 use Rattle.std.specs.Str.{is_utf8}
-use Rattle.x509_types.specs.declared.directory_string.DirectoryString.{DirectoryString}
-use Rattle.x509_types.specs.declared.directory_string.DirectoryString.TheVariants as strings
+use Rattle.x501_types.specs.declared.directory_string.DirectoryString.{DirectoryString}
+use Rattle.x501_types.specs.declared.directory_string.DirectoryString.TheVariants as strings
 
 -- what is printed for what is no character
 abbrev pub question_mark : ℕ

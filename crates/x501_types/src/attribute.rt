@@ -16,8 +16,8 @@ pub struct AttributeTypeAndValue {
 }
 
 impl Structure for AttributeTypeAndValue {
-    ghost use Rattle.x509_types.specs.Name.{attribute_type_and_value};
-    ghost use Rattle.x509_types.specs.Facts.Names.{attributes};
+    ghost use Rattle.x501_types.specs.Name.{attribute_type_and_value};
+    ghost use Rattle.x501_types.specs.Facts.Names.{attributes};
 
     ghost written = { attribute_type_and_value };
 
@@ -64,7 +64,7 @@ impl PartialEq for AttributeTypeAndValue {
     ghost use Rattle.std.specs.Cmp.{on_per, partial_equiv_from_equiv};
     ghost use Rattle.std.specs.Prelude.{bytes_eq};
     ghost use Rattle.der_core.specs.Encoding.{encoding};
-    ghost use Rattle.x509_types.specs.Name.{attribute_type_and_value};
+    ghost use Rattle.x501_types.specs.Name.{attribute_type_and_value};
 
     ghost eq = { on (λ value. encoding (attribute_type_and_value value)) bytes_eq };
 
@@ -82,7 +82,7 @@ impl Eq for AttributeTypeAndValue {
     ghost use Rattle.std.specs.Cmp.Lexicographic.{nat_list_eq_equiv};
     ghost use Rattle.std.specs.Cmp.{on_equiv};
     ghost use Rattle.der_core.specs.Encoding.{encoding};
-    ghost use Rattle.x509_types.specs.Name.{attribute_type_and_value};
+    ghost use Rattle.x501_types.specs.Name.{attribute_type_and_value};
 
     ghost laws = { on_equiv (λ value. encoding (attribute_type_and_value value)) nat_list_eq_equiv };
 }

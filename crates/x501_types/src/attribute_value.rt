@@ -21,8 +21,8 @@ pub enum AttributeValue {
 }
 
 impl Structure for AttributeValue {
-    ghost use Rattle.x509_types.specs.AttributeValue.{attribute_value};
-    ghost use Rattle.x509_types.specs.Facts.Names.{attribute_values};
+    ghost use Rattle.x501_types.specs.AttributeValue.{attribute_value};
+    ghost use Rattle.x501_types.specs.Facts.Names.{attribute_values};
 
     ghost written = { attribute_value };
 
@@ -75,7 +75,7 @@ impl PartialEq for AttributeValue {
     ghost use Rattle.std.specs.Cmp.{on_per, partial_equiv_from_equiv};
     ghost use Rattle.std.specs.Prelude.{bytes_eq};
     ghost use Rattle.der_core.specs.Encoding.{encoding};
-    ghost use Rattle.x509_types.specs.AttributeValue.{attribute_value};
+    ghost use Rattle.x501_types.specs.AttributeValue.{attribute_value};
 
     ghost eq = { on (λ value. encoding (attribute_value value)) bytes_eq };
 
@@ -98,7 +98,7 @@ impl Eq for AttributeValue {
     ghost use Rattle.std.specs.Cmp.Lexicographic.{nat_list_eq_equiv};
     ghost use Rattle.std.specs.Cmp.{on_equiv};
     ghost use Rattle.der_core.specs.Encoding.{encoding};
-    ghost use Rattle.x509_types.specs.AttributeValue.{attribute_value};
+    ghost use Rattle.x501_types.specs.AttributeValue.{attribute_value};
 
     ghost laws = { on_equiv (λ value. encoding (attribute_value value)) nat_list_eq_equiv };
 }

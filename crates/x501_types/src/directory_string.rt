@@ -1,6 +1,6 @@
 //! The strings of names.
 
-ghost use Rattle.x509_types.specs.DirectoryString.{IsStringTag};
+ghost use Rattle.x501_types.specs.DirectoryString.{IsStringTag};
 ghost use Rattle.std.specs.Prelude.{◌≡◌, ◌↔◌, IfOk, IsTrue};
 
 use der_core::tag::{BMP_STRING, PRINTABLE_STRING, TELETEX_STRING, UTF8_STRING};
@@ -22,8 +22,8 @@ pub enum DirectoryString {
 }
 
 impl DirectoryString {
-    ghost use Rattle.x509_types.specs.DirectoryString.{string_tag, string_octets};
-    ghost use Rattle.x509_types.specs.declared.directory_string.DirectoryString.TheVariants.{Utf8String};
+    ghost use Rattle.x501_types.specs.DirectoryString.{string_tag, string_octets};
+    ghost use Rattle.x501_types.specs.declared.directory_string.DirectoryString.TheVariants.{Utf8String};
 
     /// The text as a UTF8String.
     pub fn from_text(alloc: Global, text: &str) -> Result<DirectoryString, AllocError>
@@ -58,8 +58,8 @@ impl DirectoryString {
 }
 
 impl Structure for DirectoryString {
-    ghost use Rattle.x509_types.specs.DirectoryString.{directory_string};
-    ghost use Rattle.x509_types.specs.Facts.Names.{directory_strings};
+    ghost use Rattle.x501_types.specs.DirectoryString.{directory_string};
+    ghost use Rattle.x501_types.specs.Facts.Names.{directory_strings};
 
     ghost written = { directory_string };
 
@@ -121,7 +121,7 @@ impl PartialEq for DirectoryString {
     ghost use Rattle.std.specs.Cmp.{on_per, partial_equiv_from_equiv};
     ghost use Rattle.std.specs.Prelude.{bytes_eq};
     ghost use Rattle.der_core.specs.Encoding.{encoding};
-    ghost use Rattle.x509_types.specs.DirectoryString.{directory_string};
+    ghost use Rattle.x501_types.specs.DirectoryString.{directory_string};
 
     ghost eq = { on (λ value. encoding (directory_string value)) bytes_eq };
 
@@ -139,7 +139,7 @@ impl Eq for DirectoryString {
     ghost use Rattle.std.specs.Cmp.Lexicographic.{nat_list_eq_equiv};
     ghost use Rattle.std.specs.Cmp.{on_equiv};
     ghost use Rattle.der_core.specs.Encoding.{encoding};
-    ghost use Rattle.x509_types.specs.DirectoryString.{directory_string};
+    ghost use Rattle.x501_types.specs.DirectoryString.{directory_string};
 
     ghost laws = { on_equiv (λ value. encoding (directory_string value)) nat_list_eq_equiv };
 }

@@ -1,7 +1,7 @@
 //! The attribute type emailAddress (RFC 2985 5.2.1).
 
 ghost use Rattle.std.specs.Prelude.{◌≡◌, ◌↔◌, IfOk, IsTrue};
-ghost use Rattle.x509_types.specs.NameText.{email_address};
+ghost use Rattle.x501_types.specs.NameText.{email_address};
 
 use asn1_types::ObjectIdentifier;
 use asn1_types::oids::EMAIL_ADDRESS;

@@ -22,8 +22,8 @@ pub struct Name {
 
 impl Model for Name {
     ghost use Rattle.std.specs.Prelude.{List};
-    ghost use Rattle.x509_types.specs.declared.attribute.AttributeTypeAndValue.{AttributeTypeAndValue};
-    ghost use Rattle.x509_types.specs.Facts.Names.{coded_name};
+    ghost use Rattle.x501_types.specs.declared.attribute.AttributeTypeAndValue.{AttributeTypeAndValue};
+    ghost use Rattle.x501_types.specs.Facts.Names.{coded_name};
 
     ghost Value = { List (List AttributeTypeAndValue) };
 
@@ -87,8 +87,8 @@ impl Name {
 }
 
 impl Structure for Name {
-    ghost use Rattle.x509_types.specs.Name.{name, IsName};
-    ghost use Rattle.x509_types.specs.Facts.Names.{names};
+    ghost use Rattle.x501_types.specs.Name.{name, IsName};
+    ghost use Rattle.x501_types.specs.Facts.Names.{names};
 
     ghost written = { name };
 
@@ -124,7 +124,7 @@ impl PartialEq for Name {
     ghost use Rattle.std.specs.Cmp.{on_per, partial_equiv_from_equiv};
     ghost use Rattle.std.specs.Prelude.{bytes_eq};
     ghost use Rattle.der_core.specs.Encoding.{encoding};
-    ghost use Rattle.x509_types.specs.Name.{name};
+    ghost use Rattle.x501_types.specs.Name.{name};
 
     ghost eq = { on (λ value. encoding (name value)) bytes_eq };
 
@@ -142,7 +142,7 @@ impl Eq for Name {
     ghost use Rattle.std.specs.Cmp.Lexicographic.{nat_list_eq_equiv};
     ghost use Rattle.std.specs.Cmp.{on_equiv};
     ghost use Rattle.der_core.specs.Encoding.{encoding};
-    ghost use Rattle.x509_types.specs.Name.{name};
+    ghost use Rattle.x501_types.specs.Name.{name};
 
     ghost laws = { on_equiv (λ value. encoding (name value)) nat_list_eq_equiv };
 }

@@ -2,8 +2,8 @@
 
 ghost use Rattle.std.specs.Prelude.{◌≡◌, ◌↔◌, IsTrue, [], ◌∷◌, IfOk, IfSome, Some};
 ghost use Rattle.asn1_types.specs.ObjectIdentifier.{contents_of};
-ghost use Rattle.x509_types.specs.declared.name_attr.NameAttr.{NameAttr};
-ghost use Rattle.x509_types.specs.NameAttr.{attribute_arc, attribute_arcs, attribute_word};
+ghost use Rattle.x501_types.specs.declared.name_attr.NameAttr.{NameAttr};
+ghost use Rattle.x501_types.specs.NameAttr.{attribute_arc, attribute_arcs, attribute_word};
 
 use asn1_types::{ObjectIdentifier, oids};
 use der_core::is_same;

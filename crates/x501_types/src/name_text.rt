@@ -3,7 +3,7 @@
 ghost use Rattle.std.specs.Prelude.{Some, ◌++◌, codes};
 ghost use Rattle.std.specs.Fmt.{WritesOnOk};
 ghost use Rattle.der_core.specs.Encoding.{encoding};
-ghost use Rattle.x509_types.specs.NameText.{attribute_text, hexadecimal, name_text, set_text, type_word, value_text};
+ghost use Rattle.x501_types.specs.NameText.{attribute_text, hexadecimal, name_text, set_text, type_word, value_text};
 
 use crate::attribute::AttributeTypeAndValue;
 use crate::attribute_value::AttributeValue;

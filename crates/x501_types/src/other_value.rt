@@ -1,7 +1,7 @@
 //! Values that are no string of a known type.
 
 ghost use Rattle.std.specs.Prelude.{◌≡◌, IfOk, ◌↔◌, IsTrue};
-ghost use Rattle.x509_types.specs.OtherValue.{IsOtherValue};
+ghost use Rattle.x501_types.specs.OtherValue.{IsOtherValue};
 
 use der_core::{Elem, Raw};
 use std::alloc::{AllocError, Global};

@@ -22,8 +22,8 @@ pub struct RelativeDistinguishedName {
 
 impl Model for RelativeDistinguishedName {
     ghost use Rattle.std.specs.Prelude.{List};
-    ghost use Rattle.x509_types.specs.declared.attribute.AttributeTypeAndValue.{AttributeTypeAndValue};
-    ghost use Rattle.x509_types.specs.Facts.Names.{coded_set};
+    ghost use Rattle.x501_types.specs.declared.attribute.AttributeTypeAndValue.{AttributeTypeAndValue};
+    ghost use Rattle.x501_types.specs.Facts.Names.{coded_set};
 
     ghost Value = { List AttributeTypeAndValue };
 
@@ -88,8 +88,8 @@ impl RelativeDistinguishedName {
 }
 
 impl Structure for RelativeDistinguishedName {
-    ghost use Rattle.x509_types.specs.Name.{relative_distinguished_name, IsRelativeDistinguishedName};
-    ghost use Rattle.x509_types.specs.Facts.Names.{relative_distinguished_names};
+    ghost use Rattle.x501_types.specs.Name.{relative_distinguished_name, IsRelativeDistinguishedName};
+    ghost use Rattle.x501_types.specs.Facts.Names.{relative_distinguished_names};
 
     ghost written = { relative_distinguished_name };
 
@@ -125,7 +125,7 @@ impl PartialEq for RelativeDistinguishedName {
     ghost use Rattle.std.specs.Cmp.{on_per, partial_equiv_from_equiv};
     ghost use Rattle.std.specs.Prelude.{bytes_eq};
     ghost use Rattle.der_core.specs.Encoding.{encoding};
-    ghost use Rattle.x509_types.specs.Name.{relative_distinguished_name};
+    ghost use Rattle.x501_types.specs.Name.{relative_distinguished_name};
 
     ghost eq = { on (λ value. encoding (relative_distinguished_name value)) bytes_eq };
 
@@ -143,7 +143,7 @@ impl Eq for RelativeDistinguishedName {
     ghost use Rattle.std.specs.Cmp.Lexicographic.{nat_list_eq_equiv};
     ghost use Rattle.std.specs.Cmp.{on_equiv};
     ghost use Rattle.der_core.specs.Encoding.{encoding};
-    ghost use Rattle.x509_types.specs.Name.{relative_distinguished_name};
+    ghost use Rattle.x501_types.specs.Name.{relative_distinguished_name};
 
     ghost laws = { on_equiv (λ value. encoding (relative_distinguished_name value)) nat_list_eq_equiv };
 }

@@ -3,7 +3,7 @@
 ghost use Rattle.std.specs.Prelude.{◌≡◌, ◌+◌, ◌<◌, ◌++◌, length, Some, IfOk, MatchOption, string_bytes};
 ghost use Rattle.std.specs.Char.{encode_utf8};
 ghost use Rattle.std.specs.Fmt.{WritesOnOk};
-ghost use Rattle.x509_types.specs.Text.{ascii_or_mark, ascii_text, utf8_text, unit_character, bmp_text, text_of};
+ghost use Rattle.x501_types.specs.Text.{ascii_or_mark, ascii_text, utf8_text, unit_character, bmp_text, text_of};
 
 use crate::directory_string::DirectoryString;
 use std::alloc::{AllocError, Global};

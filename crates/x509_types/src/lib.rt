@@ -1,34 +1,11 @@
-//! Structures of X.509 (RFC 5280) as values, read from octets or trees and written as trees.
+//! Structures of X.509 (RFC 5280) as values, read from octets or trees and written as trees. Names
+//! and keys stand in crates of their own, and are handed on here.
 #![tactic(auto)]
 
-mod algorithm;
-mod algorithm_fields;
-mod attribute;
-mod attribute_value;
-mod directory_string;
-mod email;
-mod key_info;
-mod key_kind;
-mod name;
-mod name_attr;
-mod name_text;
-mod other_value;
-mod public_key;
-mod relative_name;
-mod subject_key;
-mod text;
-
-pub use algorithm::AlgorithmIdentifier;
-pub use algorithm_fields::AlgorithmFields;
-pub use attribute::AttributeTypeAndValue;
-pub use attribute_value::AttributeValue;
-pub use directory_string::DirectoryString;
-pub use email::email_address_oid;
-pub use key_info::SubjectPublicKeyInfo;
-pub use key_kind::KeyKind;
-pub use name::Name;
-pub use name_attr::NameAttr;
-pub use other_value::OtherValue;
-pub use public_key::RsaPublicKey;
-pub use relative_name::RelativeDistinguishedName;
-pub use subject_key::SubjectKey;
+pub use key_types::{
+    AlgorithmIdentifier, KeyKind, RsaPublicKey, SubjectKey, SubjectPublicKeyInfo,
+};
+pub use x501_types::{
+    AttributeTypeAndValue, AttributeValue, DirectoryString, Name, NameAttr, OtherValue,
+    RelativeDistinguishedName, email_address_oid,
+};

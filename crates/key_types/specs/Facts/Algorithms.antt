@@ -13,10 +13,10 @@ use Rattle.asn1_types.specs.Elements.{object_identifier, integer}
 use Rattle.asn1_types.specs.Facts.Elements.{identifiers, integers}
 use Rattle.asn1_types.specs.declared.oid.ObjectIdentifier.{ObjectIdentifier}
 use Rattle.asn1_types.specs.declared.integer.IntegerAsn1.{IntegerAsn1}
-use Rattle.x509_types.specs.AlgorithmIdentifier.{algorithm_identifier}
-use Rattle.x509_types.specs.RsaPublicKey.{rsa_public_key}
-use Rattle.x509_types.specs.declared.algorithm.AlgorithmIdentifier.{AlgorithmIdentifier}
-use Rattle.x509_types.specs.declared.public_key.RsaPublicKey.{RsaPublicKey}
+use Rattle.key_types.specs.AlgorithmIdentifier.{algorithm_identifier}
+use Rattle.key_types.specs.RsaPublicKey.{rsa_public_key}
+use Rattle.key_types.specs.declared.algorithm.AlgorithmIdentifier.{AlgorithmIdentifier}
+use Rattle.key_types.specs.declared.public_key.RsaPublicKey.{RsaPublicKey}
 
 -- a sequence has its kids once
 pub same_kids : (kids kids' : List DerElement) → sequence kids ≡ sequence kids' → kids ≡ kids'

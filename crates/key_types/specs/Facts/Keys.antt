@@ -7,20 +7,20 @@ use Rattle.asn1_types.specs.Values.{identifier_contents}
 use Rattle.asn1_types.specs.Elements.{bit_string}
 use Rattle.asn1_types.specs.Facts.Elements.{bit_strings}
 use Rattle.asn1_types.specs.declared.bit_string.BitString.{BitString}
-use Rattle.x509_types.specs.AlgorithmIdentifier.{algorithm_identifier}
-use Rattle.x509_types.specs.RsaPublicKey.{rsa_public_key}
-use Rattle.x509_types.specs.KeyKind.{names_kind, IsAlgorithmOf}
-use Rattle.x509_types.specs.SubjectKey.{kind_of}
+use Rattle.key_types.specs.AlgorithmIdentifier.{algorithm_identifier}
+use Rattle.key_types.specs.RsaPublicKey.{rsa_public_key}
+use Rattle.key_types.specs.KeyKind.{names_kind, IsAlgorithmOf}
+use Rattle.key_types.specs.SubjectKey.{kind_of}
 use Rattle.std.specs.Prelude.{◌==◌, if◌then◌else◌}
-use Rattle.x509_types.specs.PublicKeyInfo.{kind_number, key_octets, subject_public_key, inner_key, public_key_info, IsPublicKeyInfo}
-use Rattle.x509_types.specs.Facts.Algorithms.{algorithms, rsa_public_keys}
-use Rattle.x509_types.specs.Facts.Kinds.{IsAlgorithmOf-prop, one_kind}
-use Rattle.x509_types.specs.declared.algorithm.AlgorithmIdentifier.{AlgorithmIdentifier}
-use Rattle.x509_types.specs.declared.key_kind.KeyKind.{KeyKind}
-use Rattle.x509_types.specs.declared.key_kind.KeyKind.TheVariants as kinds
-use Rattle.x509_types.specs.declared.subject_key.SubjectKey.{SubjectKey}
-use Rattle.x509_types.specs.declared.subject_key.SubjectKey.TheVariants as keys
-use Rattle.x509_types.specs.declared.key_info.SubjectPublicKeyInfo.{SubjectPublicKeyInfo}
+use Rattle.key_types.specs.PublicKeyInfo.{kind_number, key_octets, subject_public_key, inner_key, public_key_info, IsPublicKeyInfo}
+use Rattle.key_types.specs.Facts.Algorithms.{algorithms, rsa_public_keys}
+use Rattle.key_types.specs.Facts.Kinds.{IsAlgorithmOf-prop, one_kind}
+use Rattle.key_types.specs.declared.algorithm.AlgorithmIdentifier.{AlgorithmIdentifier}
+use Rattle.key_types.specs.declared.key_kind.KeyKind.{KeyKind}
+use Rattle.key_types.specs.declared.key_kind.KeyKind.TheVariants as kinds
+use Rattle.key_types.specs.declared.subject_key.SubjectKey.{SubjectKey}
+use Rattle.key_types.specs.declared.subject_key.SubjectKey.TheVariants as keys
+use Rattle.key_types.specs.declared.key_info.SubjectPublicKeyInfo.{SubjectPublicKeyInfo}
 
 bits_once : (a b : BitString) → bit_string a ≡ bit_string b → a ≡ b
 bits_once a b e = bit_strings.once (bit_string a) a b refl e

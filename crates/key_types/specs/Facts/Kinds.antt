@@ -11,10 +11,10 @@ use Rattle.der_core.specs.Facts.Codes.{coded_element}
 use Rattle.asn1_types.specs.Values.{identifier_contents}
 use Rattle.asn1_types.specs.Facts.OneIdentifier.{IsIdentifier-prop}
 use Rattle.asn1_types.specs.declared.oids.TheConstants.{RSA_ENCRYPTION, EC_PUBLIC_KEY, X25519, X448, ED25519, ED448, ML_DSA_44, ML_DSA_65, ML_DSA_87}
-use Rattle.x509_types.specs.KeyKind.{names_kind, IsOid, MayHave, IsAlgorithmWith, IsAlgorithmOf}
-use Rattle.x509_types.specs.declared.algorithm.AlgorithmIdentifier.{AlgorithmIdentifier}
-use Rattle.x509_types.specs.declared.key_kind.KeyKind.{KeyKind}
-use Rattle.x509_types.specs.declared.key_kind.KeyKind.TheVariants as kinds
+use Rattle.key_types.specs.KeyKind.{names_kind, IsOid, MayHave, IsAlgorithmWith, IsAlgorithmOf}
+use Rattle.key_types.specs.declared.algorithm.AlgorithmIdentifier.{AlgorithmIdentifier}
+use Rattle.key_types.specs.declared.key_kind.KeyKind.{KeyKind}
+use Rattle.key_types.specs.declared.key_kind.KeyKind.TheVariants as kinds
 
 IsOid-prop : (element : DerElement) → IsProp (IsOid element)
 IsOid-prop (Primitive tag contents) = ×_prop (Coded-set coded_ℕ tag 6) (IsIdentifier-prop contents)

@@ -15,16 +15,16 @@ use Rattle.asn1_types.specs.Elements.{object_identifier, ia5_string}
 use Rattle.asn1_types.specs.Facts.Elements.{identifiers, ia5_strings}
 use Rattle.asn1_types.specs.declared.oid.ObjectIdentifier.{ObjectIdentifier}
 use Rattle.asn1_types.specs.declared.ia5_string.Ia5String.{Ia5String}
-use Rattle.x509_types.specs.DirectoryString.{string_tag, string_octets, directory_string, IsStringTag}
-use Rattle.x509_types.specs.OtherValue.{IsOtherValue}
-use Rattle.x509_types.specs.AttributeValue.{attribute_value}
-use Rattle.x509_types.specs.Name.{attribute_type_and_value, relative_distinguished_name, name, IsRelativeDistinguishedName, IsName}
-use Rattle.x509_types.specs.declared.directory_string.DirectoryString.{DirectoryString}
-use Rattle.x509_types.specs.declared.directory_string.DirectoryString.TheVariants as strings
-use Rattle.x509_types.specs.declared.attribute_value.AttributeValue.{AttributeValue}
-use Rattle.x509_types.specs.declared.attribute_value.AttributeValue.TheVariants as values
-use Rattle.x509_types.specs.declared.other_value.OtherValue.{OtherValue}
-use Rattle.x509_types.specs.declared.attribute.AttributeTypeAndValue.{AttributeTypeAndValue}
+use Rattle.x501_types.specs.DirectoryString.{string_tag, string_octets, directory_string, IsStringTag}
+use Rattle.x501_types.specs.OtherValue.{IsOtherValue}
+use Rattle.x501_types.specs.AttributeValue.{attribute_value}
+use Rattle.x501_types.specs.Name.{attribute_type_and_value, relative_distinguished_name, name, IsRelativeDistinguishedName, IsName}
+use Rattle.x501_types.specs.declared.directory_string.DirectoryString.{DirectoryString}
+use Rattle.x501_types.specs.declared.directory_string.DirectoryString.TheVariants as strings
+use Rattle.x501_types.specs.declared.attribute_value.AttributeValue.{AttributeValue}
+use Rattle.x501_types.specs.declared.attribute_value.AttributeValue.TheVariants as values
+use Rattle.x501_types.specs.declared.other_value.OtherValue.{OtherValue}
+use Rattle.x501_types.specs.declared.attribute.AttributeTypeAndValue.{AttributeTypeAndValue}
 
 -- ---- strings, by their tags
 

@@ -1,7 +1,7 @@
 use Rattle.std.proofs.Common.{ap, sym, ◌∙◌}
 use Rattle.der_core.specs.Encoding.{encoding}
-use Rattle.x509_types.proofs.Parameters.{null_by_octets, null_octets}
-use Rattle.x509_types.proofs.key_kind.is_null.Goals as goal
+use Rattle.key_types.proofs.Parameters.{null_by_octets, null_octets}
+use Rattle.key_types.proofs.key_kind.is_null.Goals as goal
 
 pub returns : goal.returns
 returns c =

@@ -1,5 +1,5 @@
-use Rattle.x509_types.proofs.Parameters.{oid_fits, oid_unfit, decided}
-use Rattle.x509_types.proofs.key_kind.is_oid.Goals as goal
+use Rattle.key_types.proofs.Parameters.{oid_fits, oid_unfit, decided}
+use Rattle.key_types.proofs.key_kind.is_oid.Goals as goal
 
 pub returns : goal.returns
 returns c = (

@@ -1,5 +1,5 @@
-use Rattle.x509_types.proofs.Keys.{rsa_in_bits, rsa_of_bits}
-use Rattle.x509_types.proofs.subject_key.has_rsa_key.Goals as goal
+use Rattle.key_types.proofs.Keys.{rsa_in_bits, rsa_of_bits}
+use Rattle.key_types.proofs.subject_key.has_rsa_key.Goals as goal
 
 pub returns-in-Some-clause-fits : goal.returns-in-Some-clause-fits
 returns-in-Some-clause-fits c = λ w. let fit = c.has_within.ensures.fits w in (fit.0, rsa_in_bits _ _ fit.0 c.in-Some.ensures fit.1)

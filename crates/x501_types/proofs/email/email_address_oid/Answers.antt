@@ -1,6 +1,6 @@
 use Rattle.std.proofs.lemmas.Result.{IfOk-weaker}
-use Rattle.x509_types.proofs.TypeWords.{email_by_contents}
-use Rattle.x509_types.proofs.email.email_address_oid.Goals as goal
+use Rattle.x501_types.proofs.TypeWords.{email_by_contents}
+use Rattle.x501_types.proofs.email.email_address_oid.Goals as goal
 
 pub returns : goal.returns
 returns c =

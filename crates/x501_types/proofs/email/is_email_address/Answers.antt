@@ -1,6 +1,6 @@
 use Rattle.std.proofs.Common.{◌∙◌, sym}
-use Rattle.x509_types.proofs.TypeWords.{email_by_contents}
-use Rattle.x509_types.proofs.email.is_email_address.Goals as goal
+use Rattle.x501_types.proofs.TypeWords.{email_by_contents}
+use Rattle.x501_types.proofs.email.is_email_address.Goals as goal
 
 pub returns : goal.returns
 returns c =

@@ -1,8 +1,8 @@
 use Rattle.std.proofs.Common.{arith, subst, rules, slice_index}
 use Rattle.std.proofs.Output.{has_written_append, has_written_of_eq}
 use Rattle.std.specs.Fmt.{DisplaysOnOk}
-use Rattle.x509_types.proofs.Hexadecimal.{octet_written, one_more_octet}
-use Rattle.x509_types.proofs.name_text.write_hexadecimal.Goals as goal
+use Rattle.x501_types.proofs.Hexadecimal.{octet_written, one_more_octet}
+use Rattle.x501_types.proofs.name_text.write_hexadecimal.Goals as goal
 
 pub loop-octet-preserved : goal.loop-octet-preserved
 loop-octet-preserved g c =

@@ -1,7 +1,7 @@
 use Rattle.std.proofs.Common.{◌∙◌, sym}
 use Rattle.std.proofs.lemmas.Bool.{iff_false}
-use Rattle.x509_types.proofs.TypeWords.{word_of_type, word_of_other}
-use Rattle.x509_types.proofs.name_text.write_type.Goals as goal
+use Rattle.x501_types.proofs.TypeWords.{word_of_type, word_of_other}
+use Rattle.x501_types.proofs.name_text.write_type.Goals as goal
 
 pub returns-in-Some : goal.returns-in-Some
 returns-in-Some g c =

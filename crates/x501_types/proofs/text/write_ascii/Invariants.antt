@@ -1,7 +1,7 @@
 use Rattle.std.proofs.Common.{take}
 use Rattle.std.specs.Fmt.{HasWritten, IsPlainFormatter}
-use Rattle.x509_types.specs.Text.{ascii_text}
-use Rattle.x509_types.proofs.text.write_ascii.Given as goal
+use Rattle.x501_types.specs.Text.{ascii_text}
+use Rattle.x501_types.proofs.text.write_ascii.Given as goal
 
 abbrev pub invariant-loop-octet : goal.invariant-loop-octet
 invariant-loop-octet g l =

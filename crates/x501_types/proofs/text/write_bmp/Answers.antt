@@ -2,8 +2,8 @@ use Rattle.std.proofs.Common.{◌++◌, encode_utf8, sym, ap, ◌∙◌, append_
 use Rattle.std.proofs.Output.{has_written_append, has_written_of_eq}
 use Rattle.std.proofs.lemmas.Bool.Decides.{nat_tests}
 use Rattle.std.proofs.lemmas.Str.{encode_ascii}
-use Rattle.x509_types.proofs.Texts.{one_octet_left}
-use Rattle.x509_types.proofs.text.write_bmp.Goals as goal
+use Rattle.x501_types.proofs.Texts.{one_octet_left}
+use Rattle.x501_types.proofs.text.write_bmp.Goals as goal
 
 pub loop-character-preserved : goal.loop-character-preserved
 loop-character-preserved g c =

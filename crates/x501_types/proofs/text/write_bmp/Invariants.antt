@@ -1,7 +1,7 @@
 use Rattle.std.proofs.Common.{◌≡◌, ℕ, List, ◌++◌, length}
 use Rattle.std.specs.Fmt.{HasWritten, IsPlainFormatter}
-use Rattle.x509_types.specs.Text.{bmp_text}
-use Rattle.x509_types.proofs.text.write_bmp.Given as goal
+use Rattle.x501_types.specs.Text.{bmp_text}
+use Rattle.x501_types.proofs.text.write_bmp.Given as goal
 
 -- what was written and the text of the octets that are left make the text
 abbrev pub invariant-loop-character : goal.invariant-loop-character

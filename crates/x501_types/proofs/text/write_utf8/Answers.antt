@@ -1,5 +1,5 @@
-use Rattle.x509_types.proofs.Texts.{utf8_kept, utf8_marked}
-use Rattle.x509_types.proofs.text.write_utf8.Goals as goal
+use Rattle.x501_types.proofs.Texts.{utf8_kept, utf8_marked}
+use Rattle.x501_types.proofs.text.write_utf8.Goals as goal
 
 pub returns-in-Ok : goal.returns-in-Ok
 returns-in-Ok g c =

@@ -4,12 +4,11 @@ use Rattle.std.specs.Option.{option_eq}
 use Rattle.der_core.specs.Encoding.{encoding}
 use Rattle.der_core.specs.Kept.{KeptElement}
 use Rattle.asn1_types.specs.declared.oid.ObjectIdentifier.{ObjectIdentifier}
-use Rattle.x509_types.specs.declared.algorithm.AlgorithmIdentifier.{AlgorithmIdentifier}
-use Rattle.x509_types.proofs.Equal.{kept_same, options_same}
-use Rattle.der_core.specs.Facts.Equality.{octets_decide}
-use Rattle.x509_types.specs.AlgorithmIdentifier.{algorithm_identifier}
-use Rattle.x509_types.specs.Facts.Algorithms.{algorithms}
-use Rattle.x509_types.proofs.algorithm.AlgorithmIdentifierPartialEq.eq.Goals as goal
+use Rattle.key_types.specs.declared.algorithm.AlgorithmIdentifier.{AlgorithmIdentifier}
+use Rattle.der_core.specs.Facts.Equality.{kept_same, options_same, octets_decide}
+use Rattle.key_types.specs.AlgorithmIdentifier.{algorithm_identifier}
+use Rattle.key_types.specs.Facts.Algorithms.{algorithms}
+use Rattle.key_types.proofs.algorithm.AlgorithmIdentifierPartialEq.eq.Goals as goal
 
 pub returns-else-eq-clause-octets : goal.returns-else-eq-clause-octets
 returns-else-eq-clause-octets c = octets_decide algorithm_identifier (λ a b e. algorithms.once (algorithm_identifier a) a b refl e) algorithms.formed c.args.self.now c.args.other.now _ (search rules)

@@ -1,9 +1,9 @@
 use Rattle.std.proofs.Common.{◌≡◌, ◌↔◌, IsTrue, Bool, ap, rules}
 use Rattle.der_core.specs.Facts.Equality.{octets_decide}
-use Rattle.x509_types.specs.PublicKeyInfo.{public_key_info}
-use Rattle.x509_types.specs.Facts.Keys.{same_info, infos_once, infos_formed}
-use Rattle.x509_types.specs.declared.key_info.SubjectPublicKeyInfo.{SubjectPublicKeyInfo}
-use Rattle.x509_types.proofs.key_info.SubjectPublicKeyInfoPartialEq.eq.Goals as goal
+use Rattle.key_types.specs.PublicKeyInfo.{public_key_info}
+use Rattle.key_types.specs.Facts.Keys.{same_info, infos_once, infos_formed}
+use Rattle.key_types.specs.declared.key_info.SubjectPublicKeyInfo.{SubjectPublicKeyInfo}
+use Rattle.key_types.proofs.key_info.SubjectPublicKeyInfoPartialEq.eq.Goals as goal
 
 by_key : (a b : SubjectPublicKeyInfo) (t : Bool) → a.algorithm ≡ b.algorithm → (IsTrue t ↔ (a.subject_public_key ≡ b.subject_public_key)) → IsTrue t ↔ (a ≡ b)
 by_key a b t algorithm key = (λ w. same_info a b algorithm (key.0 w), λ e. key.1 (ap (λ (i : SubjectPublicKeyInfo). i.subject_public_key) e))

@@ -1,10 +1,10 @@
 use Rattle.std.proofs.Common.{◌∷◌, [], ap, sym, subst, ◌∙◌}
 use Rattle.der_core.specs.DerElement.{DerElement}
 use Rattle.der_core.specs.Elements.{sequence}
-use Rattle.x509_types.specs.AlgorithmIdentifier.{algorithm_identifier}
-use Rattle.x509_types.specs.KeyKind.{IsAlgorithmOf}
-use Rattle.x509_types.specs.declared.key_kind.KeyKind.{KeyKind}
-use Rattle.x509_types.proofs.key_info.SubjectPublicKeyInfoStructure.has_shape.Goals as goal
+use Rattle.key_types.specs.AlgorithmIdentifier.{algorithm_identifier}
+use Rattle.key_types.specs.KeyKind.{IsAlgorithmOf}
+use Rattle.key_types.specs.declared.key_kind.KeyKind.{KeyKind}
+use Rattle.key_types.proofs.key_info.SubjectPublicKeyInfoStructure.has_shape.Goals as goal
 
 pub returns-in-Some-at-clause-fits : goal.returns-in-Some-at-clause-fits
 returns-in-Some-at-clause-fits c = λ w.

@@ -1,6 +1,6 @@
-use Rattle.x509_types.proofs.Parameters.{of_fields}
+use Rattle.key_types.proofs.Parameters.{of_fields}
 use Rattle.std.proofs.Common.{rules}
-use Rattle.x509_types.proofs.key_kind.KeyKind.at.Goals as goal
+use Rattle.key_types.proofs.key_kind.KeyKind.at.Goals as goal
 
 pub returns-in-Some : goal.returns-in-Some
 returns-in-Some c =

@@ -1,6 +1,6 @@
 use Rattle.std.proofs.Common.{sym}
-use Rattle.x509_types.specs.declared.subject_key.SubjectKey.TheVariants as keys
-use Rattle.x509_types.proofs.subject_key.SubjectKey.has_shape_of.Goals as goal
+use Rattle.key_types.specs.declared.subject_key.SubjectKey.TheVariants as keys
+use Rattle.key_types.proofs.subject_key.SubjectKey.has_shape_of.Goals as goal
 
 pub returns-in-Rsa-clause-fits : goal.returns-in-Rsa-clause-fits
 returns-in-Rsa-clause-fits c = λ w. let fit = c.has_rsa_key.ensures.fits w in (keys.Rsa fit.0, (sym c.in-Rsa.is, fit.1))

@@ -1,13 +1,12 @@
 use Rattle.std.proofs.Common.{◌≡◌, ◌↔◌, IsTrue, Bool, sym, ap, ◌∙◌}
 use Rattle.std.specs.Prelude.{bytes_eq}
 use Rattle.std.proofs.lemmas.Slice.Eq.{bytes_eq-Decides}
-use Rattle.der_core.specs.Facts.Equality.{same_tests}
-use Rattle.x509_types.specs.PublicKeyInfo.{key_octets}
-use Rattle.x509_types.specs.Facts.Keys.{keys_by_octets}
-use Rattle.x509_types.specs.declared.subject_key.SubjectKey.{SubjectKey}
-use Rattle.x509_types.specs.declared.subject_key.SubjectKey.TheVariants as keys
-use Rattle.x509_types.proofs.Equal.{same_whole, unlike}
-use Rattle.x509_types.proofs.subject_key.SubjectKeyPartialEq.eq.Goals as goal
+use Rattle.der_core.specs.Facts.Equality.{same_tests, same_whole, unlike}
+use Rattle.key_types.specs.PublicKeyInfo.{key_octets}
+use Rattle.key_types.specs.Facts.Keys.{keys_by_octets}
+use Rattle.key_types.specs.declared.subject_key.SubjectKey.{SubjectKey}
+use Rattle.key_types.specs.declared.subject_key.SubjectKey.TheVariants as keys
+use Rattle.key_types.proofs.subject_key.SubjectKeyPartialEq.eq.Goals as goal
 
 by_octets : (a b : SubjectKey) (t : Bool) → (IsTrue t ↔ (a ≡ b)) → t ≡ bytes_eq (key_octets a) (key_octets b)
 by_octets a b t same =

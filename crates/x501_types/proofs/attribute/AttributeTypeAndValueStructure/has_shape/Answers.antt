@@ -2,7 +2,7 @@ use Rattle.std.proofs.Common.{◌∷◌, [], ap, ◌∙◌}
 use Rattle.der_core.specs.DerElement.{DerElement}
 use Rattle.der_core.specs.Elements.{sequence}
 use Rattle.asn1_types.specs.Elements.{object_identifier}
-use Rattle.x509_types.proofs.attribute.AttributeTypeAndValueStructure.has_shape.Goals as goal
+use Rattle.x501_types.proofs.attribute.AttributeTypeAndValueStructure.has_shape.Goals as goal
 
 pub returns-then-has_shape-clause-fits : goal.returns-then-has_shape-clause-fits
 returns-then-has_shape-clause-fits c = λ w.

@@ -1,13 +1,13 @@
 use Rattle.std.proofs.Common.{◌↔◌, ◌≡◌, IsTrue, Bool, refl, sym, ◌∙◌}
 use Rattle.std.specs.Prelude.{bytes_eq}
 use Rattle.der_core.specs.Encoding.{encoding}
-use Rattle.der_core.specs.Facts.Equality.{octets_decide}
-use Rattle.x509_types.specs.AttributeValue.{attribute_value}
-use Rattle.x509_types.specs.Facts.Names.{attribute_values}
-use Rattle.x509_types.specs.declared.attribute_value.AttributeValue.{AttributeValue}
-use Rattle.x509_types.specs.declared.attribute_value.AttributeValue.TheVariants as values
-use Rattle.x509_types.proofs.Equal.{same_whole, unlike, others_same}
-use Rattle.x509_types.proofs.attribute_value.AttributeValuePartialEq.eq.Goals as goal
+use Rattle.der_core.specs.Facts.Equality.{octets_decide, same_whole, unlike}
+use Rattle.x501_types.specs.AttributeValue.{attribute_value}
+use Rattle.x501_types.specs.Facts.Names.{attribute_values}
+use Rattle.x501_types.specs.declared.attribute_value.AttributeValue.{AttributeValue}
+use Rattle.x501_types.specs.declared.attribute_value.AttributeValue.TheVariants as values
+use Rattle.x501_types.proofs.Equal.{others_same}
+use Rattle.x501_types.proofs.attribute_value.AttributeValuePartialEq.eq.Goals as goal
 
 by_octets : (a b : AttributeValue) (t : Bool) → (IsTrue t ↔ (a ≡ b)) → t ≡ bytes_eq (encoding (attribute_value a)) (encoding (attribute_value b))
 by_octets a b t same = octets_decide attribute_value (λ a b e. attribute_values.once (attribute_value a) a b refl e) attribute_values.formed a b t same

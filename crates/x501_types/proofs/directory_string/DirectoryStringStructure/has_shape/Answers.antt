@@ -1,6 +1,6 @@
-use Rattle.x509_types.proofs.Elements.{lent_string, no_string}
+use Rattle.x501_types.proofs.Elements.{lent_string, no_string}
 use Rattle.std.proofs.lemmas.Bool.{iff_false}
-use Rattle.x509_types.proofs.directory_string.DirectoryStringStructure.has_shape.Goals as goal
+use Rattle.x501_types.proofs.directory_string.DirectoryStringStructure.has_shape.Goals as goal
 
 pub returns-clause-fits : goal.returns-clause-fits
 returns-clause-fits c = λ w. lent_string _ _ _ _ c.args.elem.is.1 (c.is_string_tag.ensures.0 w)

@@ -1,13 +1,12 @@
 use Rattle.std.proofs.Common.{◌≡◌, ◌↔◌, IsTrue, refl, List}
 use Rattle.std.specs.Prelude.{bytes_eq}
 use Rattle.der_core.specs.Encoding.{encoding}
-use Rattle.der_core.specs.Facts.Equality.{octets_decide}
-use Rattle.x509_types.specs.declared.attribute.AttributeTypeAndValue.{AttributeTypeAndValue}
-use Rattle.x509_types.specs.Name.{relative_distinguished_name, name}
-use Rattle.x509_types.specs.Facts.Names.{names, relative_distinguished_names}
-use Rattle.x509_types.proofs.Equal.{octets_same}
-use Rattle.x509_types.proofs.Lists.{lists_equal}
-use Rattle.x509_types.proofs.name.NamePartialEq.eq.Goals as goal
+use Rattle.der_core.specs.Facts.Equality.{octets_decide, octets_same}
+use Rattle.x501_types.specs.declared.attribute.AttributeTypeAndValue.{AttributeTypeAndValue}
+use Rattle.x501_types.specs.Name.{relative_distinguished_name, name}
+use Rattle.x501_types.specs.Facts.Names.{names, relative_distinguished_names}
+use Rattle.der_core.specs.Facts.Lists.{lists_equal}
+use Rattle.x501_types.proofs.name.NamePartialEq.eq.Goals as goal
 
 one : (a b : List AttributeTypeAndValue) → IsTrue (bytes_eq (encoding (relative_distinguished_name a)) (encoding (relative_distinguished_name b))) ↔ (a ≡ b)
 one = octets_same relative_distinguished_name (λ a b e. relative_distinguished_names.once (relative_distinguished_name a) a b refl e) relative_distinguished_names.formed

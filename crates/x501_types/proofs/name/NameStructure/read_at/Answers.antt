@@ -1,7 +1,7 @@
 use Rattle.std.proofs.lemmas.Result.{err_from_is_err_and}
-use Rattle.x509_types.specs.Name.{relative_distinguished_name}
-use Rattle.x509_types.proofs.Lists.{printed_list, list_printed, list_refused}
-use Rattle.x509_types.proofs.name.NameStructure.read_at.Goals as goal
+use Rattle.x501_types.specs.Name.{relative_distinguished_name}
+use Rattle.der_core.specs.Facts.Lists.{printed_list, list_printed, list_refused}
+use Rattle.x501_types.proofs.name.NameStructure.read_at.Goals as goal
 
 pub returns-in_err-read_list : goal.returns-in_err-read_list
 returns-in_err-read_list c =

@@ -1,8 +1,8 @@
 use Rattle.std.proofs.Common.{rules, ◌≡◌, ◌∙◌, ◌<◌, ap, arith, sym, Some}
 use Rattle.asn1_types.specs.ObjectIdentifier.{contents_of}
-use Rattle.x509_types.specs.NameAttr.{attribute_arcs}
-use Rattle.x509_types.proofs.AttributeTypes.{place, place-below, get_or-place, types_by_contents}
-use Rattle.x509_types.proofs.name_attr.NameAttr.from_contents.Goals as goal
+use Rattle.x501_types.specs.NameAttr.{attribute_arcs}
+use Rattle.x501_types.proofs.AttributeTypes.{place, place-below, get_or-place, types_by_contents}
+use Rattle.x501_types.proofs.name_attr.NameAttr.from_contents.Goals as goal
 
 pub returns-then-eq-clause-named : goal.returns-then-eq-clause-named
 returns-then-eq-clause-named c attr e =

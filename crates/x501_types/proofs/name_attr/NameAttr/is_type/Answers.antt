@@ -1,6 +1,6 @@
 use Rattle.std.proofs.Common.{◌∙◌, sym}
-use Rattle.x509_types.proofs.AttributeTypes.{type_by_contents}
-use Rattle.x509_types.proofs.name_attr.NameAttr.is_type.Goals as goal
+use Rattle.x501_types.proofs.AttributeTypes.{type_by_contents}
+use Rattle.x501_types.proofs.name_attr.NameAttr.is_type.Goals as goal
 
 pub returns : goal.returns
 returns c =

@@ -1,8 +1,8 @@
 use Rattle.std.proofs.Common.{IsTrue, ◌∙◌, sym, subst}
 use Rattle.std.proofs.lemmas.Result.{IfOk-weaker}
 use Rattle.asn1_types.specs.KnownIdentifiers.{is_known}
-use Rattle.x509_types.proofs.AttributeTypes.{is_known-type, type_by_contents}
-use Rattle.x509_types.proofs.name_attr.NameAttr.to_oid.Goals as goal
+use Rattle.x501_types.proofs.AttributeTypes.{is_known-type, type_by_contents}
+use Rattle.x501_types.proofs.name_attr.NameAttr.to_oid.Goals as goal
 
 pub from_known-requires : goal.from_known-requires
 from_known-requires c = subst (λ contents. IsTrue (is_known contents)) (sym c.oid_contents.ensures) (is_known-type c.args.self)

@@ -1,8 +1,8 @@
 use Rattle.std.proofs.Common.{◌∷◌, take}
 use Rattle.std.specs.Prelude.{flat_map}
 use Rattle.std.specs.Fmt.{HasWritten, IsPlainFormatter}
-use Rattle.x509_types.specs.NameText.{set_text, comma}
-use Rattle.x509_types.proofs.name_text.NameDisplay.fmt.Given as goal
+use Rattle.x501_types.specs.NameText.{set_text, comma}
+use Rattle.x501_types.proofs.name_text.NameDisplay.fmt.Given as goal
 
 abbrev pub invariant-loop-set : goal.invariant-loop-set
 invariant-loop-set g l =

@@ -1,8 +1,8 @@
 use Rattle.std.proofs.Common.{◌∙◌, sym, rules}
 use Rattle.std.proofs.Output.{has_written_append, has_written_of_eq}
-use Rattle.x509_types.specs.NameText.{attribute_text, plus}
-use Rattle.x509_types.proofs.Joined.{join_whole}
-use Rattle.x509_types.proofs.name_text.RelativeDistinguishedNameDisplay.fmt.Goals as goal
+use Rattle.x501_types.specs.NameText.{attribute_text, plus}
+use Rattle.x501_types.proofs.Joined.{join_whole}
+use Rattle.x501_types.proofs.name_text.RelativeDistinguishedNameDisplay.fmt.Goals as goal
 
 pub returns-clause-writes : goal.returns-clause-writes
 returns-clause-writes g c =

@@ -1,8 +1,8 @@
 use Rattle.std.proofs.Common.{◌∷◌, take}
 use Rattle.std.specs.Prelude.{flat_map}
 use Rattle.std.specs.Fmt.{HasWritten, IsPlainFormatter}
-use Rattle.x509_types.specs.NameText.{attribute_text, plus}
-use Rattle.x509_types.proofs.name_text.RelativeDistinguishedNameDisplay.fmt.Given as goal
+use Rattle.x501_types.specs.NameText.{attribute_text, plus}
+use Rattle.x501_types.proofs.name_text.RelativeDistinguishedNameDisplay.fmt.Given as goal
 
 abbrev pub invariant-loop-member : goal.invariant-loop-member
 invariant-loop-member g l =

@@ -1,8 +1,8 @@
 use Rattle.std.proofs.Common.{ap}
-use Rattle.x509_types.specs.Facts.Names.{same_other}
+use Rattle.x501_types.specs.Facts.Names.{same_other}
 use Rattle.der_core.specs.Kept.{KeptElement}
-use Rattle.x509_types.specs.declared.other_value.OtherValue.{OtherValue}
-use Rattle.x509_types.proofs.other_value.OtherValuePartialEq.eq.Goals as goal
+use Rattle.x501_types.specs.declared.other_value.OtherValue.{OtherValue}
+use Rattle.x501_types.proofs.other_value.OtherValuePartialEq.eq.Goals as goal
 
 pub returns-clause-same : goal.returns-clause-same
 returns-clause-same c = (

@@ -1,13 +1,12 @@
 use Rattle.std.proofs.Common.{◌≡◌, ◌↔◌, IsTrue, refl}
 use Rattle.std.specs.Prelude.{bytes_eq}
 use Rattle.der_core.specs.Encoding.{encoding}
-use Rattle.der_core.specs.Facts.Equality.{octets_decide}
-use Rattle.x509_types.specs.declared.attribute.AttributeTypeAndValue.{AttributeTypeAndValue}
-use Rattle.x509_types.specs.Name.{attribute_type_and_value, relative_distinguished_name}
-use Rattle.x509_types.specs.Facts.Names.{relative_distinguished_names, attributes}
-use Rattle.x509_types.proofs.Equal.{octets_same}
-use Rattle.x509_types.proofs.Lists.{lists_equal}
-use Rattle.x509_types.proofs.relative_name.RelativeDistinguishedNamePartialEq.eq.Goals as goal
+use Rattle.der_core.specs.Facts.Equality.{octets_decide, octets_same}
+use Rattle.x501_types.specs.declared.attribute.AttributeTypeAndValue.{AttributeTypeAndValue}
+use Rattle.x501_types.specs.Name.{attribute_type_and_value, relative_distinguished_name}
+use Rattle.x501_types.specs.Facts.Names.{relative_distinguished_names, attributes}
+use Rattle.der_core.specs.Facts.Lists.{lists_equal}
+use Rattle.x501_types.proofs.relative_name.RelativeDistinguishedNamePartialEq.eq.Goals as goal
 
 one : (a b : AttributeTypeAndValue) → IsTrue (bytes_eq (encoding (attribute_type_and_value a)) (encoding (attribute_type_and_value b))) ↔ (a ≡ b)
 one = octets_same attribute_type_and_value (λ a b e. attributes.once (attribute_type_and_value a) a b refl e) attributes.formed

@@ -1,4 +1,3 @@
-pub mod Lent
 pub mod AttributeTypes
 pub mod Hexadecimal
 pub mod Joined
@@ -6,6 +5,3 @@ pub mod Texts
 pub mod TypeWords
 pub mod Equal
 pub mod Elements
-pub mod Lists
-pub mod Parameters
-pub mod Keys

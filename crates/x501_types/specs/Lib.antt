@@ -1,5 +1,3 @@
-pub mod RsaPublicKey
-pub mod AlgorithmIdentifier
 pub mod DirectoryString
 pub mod OtherValue
 pub mod AttributeValue
@@ -7,7 +5,4 @@ pub mod Name
 pub mod Text
 pub mod NameAttr
 pub mod NameText
-pub mod KeyKind
-pub mod SubjectKey
-pub mod PublicKeyInfo
 pub mod Facts

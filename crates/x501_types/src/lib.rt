@@ -1,0 +1,23 @@
+//! Names as the Directory has them (X.501, RFC 5280 4.1.2.4), as values, read from octets or trees and
+//! written as trees.
+#![tactic(auto)]
+
+mod attribute;
+mod attribute_value;
+mod directory_string;
+mod email;
+mod name;
+mod name_attr;
+mod name_text;
+mod other_value;
+mod relative_name;
+mod text;
+
+pub use attribute::AttributeTypeAndValue;
+pub use attribute_value::AttributeValue;
+pub use directory_string::DirectoryString;
+pub use email::email_address_oid;
+pub use name::Name;
+pub use name_attr::NameAttr;
+pub use other_value::OtherValue;
+pub use relative_name::RelativeDistinguishedName;
