@@ -3,7 +3,7 @@
 
 Usage:
 
-    python3 bench/cursor.py [--repetitions N] PROGRAM
+    python3 bench/cursor.py [--repetitions N] [--cryptobyte PROGRAM] PROGRAM
 
 makes files of 4 and 16 MiB, one SEQUENCE each, and runs in turn
 
@@ -11,7 +11,12 @@ makes files of 4 and 16 MiB, one SEQUENCE each, and runs in turn
     PROGRAM count FILE
 
 PROGRAM is the path of `der_answers`, and must print how many elements the
-file has.  What openssl prints goes to the null device.  In a `deep` file the
+file has.  What openssl prints goes to the null device.  `--cryptobyte` names
+the program of `bench/cursor.go`, which does the same with Go's cryptobyte:
+
+    GO111MODULE=off GOPATH=/usr/share/gocode go build -o cursor_go bench/cursor.go
+
+with Debian's packages golang-go and golang-golang-x-crypto-dev.  In a `deep` file the
 SEQUENCE has elements with 62 levels each, in a `flat` one NULL values alone.
 A markdown table is printed, and the status is 1 where a limit is passed,
 else 0:
@@ -79,26 +84,35 @@ def seconds(words):
     return usage.ru_utime + usage.ru_stime
 
 
-def figures(program, path, elements, repetitions):
-    """The medians of openssl and of the program for a file."""
-    count = [program, "count", str(path)]
-    printed = subprocess.run(count, check=True, stdout=subprocess.PIPE).stdout
+def counts(words, elements):
+    """That a command prints how many elements there are."""
+    printed = subprocess.run(words, check=True, stdout=subprocess.PIPE).stdout
     if printed != b"%d\n" % elements:
-        sys.exit(f"{' '.join(count)}: printed {printed!r}, not {elements}")
-    parse = ["openssl", "asn1parse", "-inform", "DER", "-in", str(path)]
-    times = [(seconds(parse), seconds(count)) for _ in range(repetitions)]
+        sys.exit(f"{' '.join(words)}: printed {printed!r}, not {elements}")
+
+
+def figures(options, path, elements):
+    """The medians of openssl, of the program, and of cryptobyte where it is asked for, for a file."""
+    commands = [["openssl", "asn1parse", "-inform", "DER", "-in", str(path)],
+                [options.program, "count", str(path)]]
+    if options.cryptobyte:
+        commands.append([options.cryptobyte, str(path)])
+    for words in commands[1:]:
+        counts(words, elements)
+    times = [[seconds(words) for words in commands] for _ in range(options.repetitions)]
     return [median(each) for each in zip(*times)]
 
 
 def main():
     parser = argparse.ArgumentParser(description="Speed of a cursor.")
     parser.add_argument("--repetitions", type=int, default=3)
+    parser.add_argument("--cryptobyte", help="path of the program of bench/cursor.go")
     parser.add_argument("program", help="path of der_answers")
     options = parser.parse_args()
     kept = True
-    print(f"| file | MiB | elements | openssl s | cursor s | speed, at least {LEAST_SPEED} "
+    print(f"| file | MiB | elements | openssl s | cryptobyte s | cursor s | speed, at least {LEAST_SPEED} "
           f"| growth from 4 to 16 MiB, at most {MOST_GROWTH} |")
-    print("|---|---:|---:|---:|---:|---:|---:|")
+    print("|---|---:|---:|---:|---:|---:|---:|---:|")
     for name, block in BLOCKS.items():
         medians = {}
         for size in SIZES:
@@ -106,14 +120,15 @@ def main():
             with tempfile.NamedTemporaryFile() as file:
                 file.write(octets)
                 file.flush()
-                parse, count = figures(options.program, Path(file.name), elements, options.repetitions)
+                parse, count, *go = figures(options, Path(file.name), elements)
             medians[size] = count
             kept &= parse >= LEAST_SPEED * count
             growth = ""
             if size == 16:
                 kept &= count <= MOST_GROWTH * medians[4]
                 growth = f"{count / medians[4]:.2f}"
-            print(f"| {name} | {size} | {elements:,} | {parse:.2f} | {count:.3f} | {parse / count:.1f} | {growth} |",
+            cryptobyte = f"{go[0]:.3f}" if go else ""
+            print(f"| {name} | {size} | {elements:,} | {parse:.2f} | {cryptobyte} | {count:.3f} | {parse / count:.1f} | {growth} |",
                   flush=True)
     return 0 if kept else 1
 

@@ -18,6 +18,6 @@ pub use attribute_value::AttributeValue;
 pub use directory_string::DirectoryString;
 pub use email::email_address_oid;
 pub use name::Name;
-pub use name_attr::NameAttr;
+pub use name_attr::{NameAttr, list_has_each_attribute_type};
 pub use other_value::OtherValue;
 pub use relative_name::RelativeDistinguishedName;

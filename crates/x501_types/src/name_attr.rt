@@ -1,8 +1,9 @@
 //! Attribute types of names.
 
-ghost use Rattle.std.specs.Prelude.{◌≡◌, ◌↔◌, IsTrue, [], ◌∷◌, IfOk, IfSome, Some};
+ghost use Rattle.std.specs.Prelude.{◌≡◌, ◌↔◌, IsTrue, [], ◌∷◌, IfOk, IfSome, Some, Contains, length};
 ghost use Rattle.asn1_types.specs.ObjectIdentifier.{contents_of};
 ghost use Rattle.x501_types.specs.declared.name_attr.NameAttr.{NameAttr};
+ghost use Rattle.x501_types.specs.declared.name_attr.TheConstants.NameAttr as attributes;
 ghost use Rattle.x501_types.specs.NameAttr.{attribute_arc, attribute_arcs, attribute_word};
 
 use asn1_types::{ObjectIdentifier, oids};
@@ -99,3 +100,9 @@ impl NameAttr {
         ObjectIdentifier::from_known(alloc, self.oid_contents())
     }
 }
+
+/// `NameAttr::ALL` has each attribute type, once.
+pub fn list_has_each_attribute_type()
+    ensures each { (attr : NameAttr) → Contains attributes.ALL attr }
+    ensures once { length attributes.ALL ≡ 10 }
+{}

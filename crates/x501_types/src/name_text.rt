@@ -84,6 +84,7 @@ impl fmt::Display for RelativeDistinguishedName {
     }
 }
 
+/// A name as people read it, nothing escaped: two names may print alike, so no rule rests on it.
 impl fmt::Display for Name {
     ghost output = { λ sets. Some (name_text sets) };
 
