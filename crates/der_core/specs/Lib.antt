@@ -15,4 +15,5 @@ pub mod Structure
 pub mod Default
 pub mod Each
 pub mod Lent
+pub mod Equality
 pub mod Facts

@@ -1,11 +1,9 @@
 //! Elements that are kept as octets.
 
-ghost use Rattle.std.specs.Prelude.{◌≡◌, ◌↔◌, ◌<◌, Err, IfOk, IsTrue, MatchResult, bytes_eq};
-ghost use Rattle.std.specs.Ordering.{on};
-ghost use Rattle.std.specs.Cmp.Lexicographic.{nat_list_eq_equiv};
-ghost use Rattle.std.specs.Cmp.{on_per, on_equiv, partial_equiv_from_equiv};
+ghost use Rattle.std.specs.Prelude.{◌≡◌, ◌↔◌, ◌<◌, Err, IfOk, IsTrue, MatchResult};
 ghost use Rattle.der_core.specs.DerElement.{tag_of};
 ghost use Rattle.der_core.specs.Encoding.{encoding, nesting, IsWellFormed, IsDer};
+ghost use Rattle.der_core.specs.Equality.{same_octets, same_octets_per, same_octets_equiv};
 ghost use Rattle.der_core.specs.Kept.{Kept, IsKept};
 ghost use Rattle.der_core.specs.Facts.Kept.{Kept-prop};
 ghost use Rattle.der_core.specs.Writing.{RefusesToWrite};
@@ -142,12 +140,12 @@ impl Structure for Raw {
 
 /// Elements are equal exactly where their octets are.
 impl PartialEq for Raw {
-    ghost eq = { on (λ kept. encoding kept.element) bytes_eq };
+    ghost eq = { same_octets (λ kept. kept.element) };
 
-    ghost laws = { on_per (λ kept. encoding kept.element) (partial_equiv_from_equiv nat_list_eq_equiv) };
+    ghost laws = { same_octets_per (λ kept. kept.element) };
 
     fn eq(&self, other: &Raw) -> bool
-        ensures value { result ≡ bytes_eq (encoding self.now.element) (encoding other.now.element) }
+        ensures octets { result ≡ same_octets (λ kept. kept.element) self.now other.now }
         ensures same { IsTrue result ↔ (self.now ≡ other.now) }
     {
         self.as_bytes() == other.as_bytes()
@@ -155,7 +153,7 @@ impl PartialEq for Raw {
 }
 
 impl Eq for Raw {
-    ghost laws = { on_equiv (λ kept. encoding kept.element) nat_list_eq_equiv };
+    ghost laws = { same_octets_equiv (λ kept. kept.element) };
 }
 
 /// How many levels an element has, itself among them.

@@ -109,19 +109,15 @@ impl Structure for AlgorithmIdentifier {
 
 /// Identifiers of algorithms are equal exactly where their octets are.
 impl PartialEq for AlgorithmIdentifier {
-    ghost use Rattle.std.specs.Ordering.{on};
-    ghost use Rattle.std.specs.Cmp.Lexicographic.{nat_list_eq_equiv};
-    ghost use Rattle.std.specs.Cmp.{on_per, partial_equiv_from_equiv};
-    ghost use Rattle.std.specs.Prelude.{bytes_eq};
-    ghost use Rattle.der_core.specs.Encoding.{encoding};
+    ghost use Rattle.der_core.specs.Equality.{same_octets, same_octets_per};
     ghost use Rattle.key_types.specs.AlgorithmIdentifier.{algorithm_identifier};
 
-    ghost eq = { on (λ value. encoding (algorithm_identifier value)) bytes_eq };
+    ghost eq = { same_octets algorithm_identifier };
 
-    ghost laws = { on_per (λ value. encoding (algorithm_identifier value)) (partial_equiv_from_equiv nat_list_eq_equiv) };
+    ghost laws = { same_octets_per algorithm_identifier };
 
     fn eq(&self, other: &AlgorithmIdentifier) -> bool
-        ensures octets { result ≡ bytes_eq (encoding (algorithm_identifier self.now)) (encoding (algorithm_identifier other.now)) }
+        ensures octets { result ≡ same_octets algorithm_identifier self.now other.now }
         ensures same { IsTrue result ↔ (self.now ≡ other.now) }
     {
         self.oid == other.oid && self.parameters == other.parameters
@@ -129,10 +125,8 @@ impl PartialEq for AlgorithmIdentifier {
 }
 
 impl Eq for AlgorithmIdentifier {
-    ghost use Rattle.std.specs.Cmp.Lexicographic.{nat_list_eq_equiv};
-    ghost use Rattle.std.specs.Cmp.{on_equiv};
-    ghost use Rattle.der_core.specs.Encoding.{encoding};
+    ghost use Rattle.der_core.specs.Equality.{same_octets_equiv};
     ghost use Rattle.key_types.specs.AlgorithmIdentifier.{algorithm_identifier};
 
-    ghost laws = { on_equiv (λ value. encoding (algorithm_identifier value)) nat_list_eq_equiv };
+    ghost laws = { same_octets_equiv algorithm_identifier };
 }

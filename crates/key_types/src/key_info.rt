@@ -92,19 +92,15 @@ impl Structure for SubjectPublicKeyInfo {
 
 /// Keys with their algorithms are equal exactly where their octets are.
 impl PartialEq for SubjectPublicKeyInfo {
-    ghost use Rattle.std.specs.Ordering.{on};
-    ghost use Rattle.std.specs.Cmp.Lexicographic.{nat_list_eq_equiv};
-    ghost use Rattle.std.specs.Cmp.{on_per, partial_equiv_from_equiv};
-    ghost use Rattle.std.specs.Prelude.{bytes_eq};
-    ghost use Rattle.der_core.specs.Encoding.{encoding};
+    ghost use Rattle.der_core.specs.Equality.{same_octets, same_octets_per};
     ghost use Rattle.key_types.specs.PublicKeyInfo.{public_key_info};
 
-    ghost eq = { on (λ value. encoding (public_key_info value)) bytes_eq };
+    ghost eq = { same_octets public_key_info };
 
-    ghost laws = { on_per (λ value. encoding (public_key_info value)) (partial_equiv_from_equiv nat_list_eq_equiv) };
+    ghost laws = { same_octets_per public_key_info };
 
     fn eq(&self, other: &SubjectPublicKeyInfo) -> bool
-        ensures octets { result ≡ bytes_eq (encoding (public_key_info self.now)) (encoding (public_key_info other.now)) }
+        ensures octets { result ≡ same_octets public_key_info self.now other.now }
         ensures same { IsTrue result ↔ (self.now ≡ other.now) }
     {
         self.algorithm == other.algorithm && self.subject_public_key == other.subject_public_key
@@ -112,10 +108,8 @@ impl PartialEq for SubjectPublicKeyInfo {
 }
 
 impl Eq for SubjectPublicKeyInfo {
-    ghost use Rattle.std.specs.Cmp.Lexicographic.{nat_list_eq_equiv};
-    ghost use Rattle.std.specs.Cmp.{on_equiv};
-    ghost use Rattle.der_core.specs.Encoding.{encoding};
+    ghost use Rattle.der_core.specs.Equality.{same_octets_equiv};
     ghost use Rattle.key_types.specs.PublicKeyInfo.{public_key_info};
 
-    ghost laws = { on_equiv (λ value. encoding (public_key_info value)) nat_list_eq_equiv };
+    ghost laws = { same_octets_equiv public_key_info };
 }

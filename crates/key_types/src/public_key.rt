@@ -62,19 +62,15 @@ impl Structure for RsaPublicKey {
 
 /// Keys are equal exactly where their octets are.
 impl PartialEq for RsaPublicKey {
-    ghost use Rattle.std.specs.Ordering.{on};
-    ghost use Rattle.std.specs.Cmp.Lexicographic.{nat_list_eq_equiv};
-    ghost use Rattle.std.specs.Cmp.{on_per, partial_equiv_from_equiv};
-    ghost use Rattle.std.specs.Prelude.{bytes_eq};
-    ghost use Rattle.der_core.specs.Encoding.{encoding};
+    ghost use Rattle.der_core.specs.Equality.{same_octets, same_octets_per};
     ghost use Rattle.key_types.specs.RsaPublicKey.{rsa_public_key};
 
-    ghost eq = { on (λ value. encoding (rsa_public_key value)) bytes_eq };
+    ghost eq = { same_octets rsa_public_key };
 
-    ghost laws = { on_per (λ value. encoding (rsa_public_key value)) (partial_equiv_from_equiv nat_list_eq_equiv) };
+    ghost laws = { same_octets_per rsa_public_key };
 
     fn eq(&self, other: &RsaPublicKey) -> bool
-        ensures octets { result ≡ bytes_eq (encoding (rsa_public_key self.now)) (encoding (rsa_public_key other.now)) }
+        ensures octets { result ≡ same_octets rsa_public_key self.now other.now }
         ensures same { IsTrue result ↔ (self.now ≡ other.now) }
     {
         self.modulus == other.modulus && self.public_exponent == other.public_exponent
@@ -82,10 +78,8 @@ impl PartialEq for RsaPublicKey {
 }
 
 impl Eq for RsaPublicKey {
-    ghost use Rattle.std.specs.Cmp.Lexicographic.{nat_list_eq_equiv};
-    ghost use Rattle.std.specs.Cmp.{on_equiv};
-    ghost use Rattle.der_core.specs.Encoding.{encoding};
+    ghost use Rattle.der_core.specs.Equality.{same_octets_equiv};
     ghost use Rattle.key_types.specs.RsaPublicKey.{rsa_public_key};
 
-    ghost laws = { on_equiv (λ value. encoding (rsa_public_key value)) nat_list_eq_equiv };
+    ghost laws = { same_octets_equiv rsa_public_key };
 }

@@ -156,19 +156,15 @@ impl Structure for DirectoryName {
 
 /// Names are equal exactly where their octets are.
 impl PartialEq for DirectoryName {
-    ghost use Rattle.std.specs.Prelude.{bytes_eq};
-    ghost use Rattle.std.specs.Ordering.{on};
-    ghost use Rattle.std.specs.Cmp.Lexicographic.{nat_list_eq_equiv};
-    ghost use Rattle.std.specs.Cmp.{on_per, partial_equiv_from_equiv};
-    ghost use Rattle.der_core.specs.Encoding.{encoding};
+    ghost use Rattle.der_core.specs.Equality.{same_octets, same_octets_per};
     ghost use Rattle.x501_types.specs.Name.{name};
 
-    ghost eq = { on (λ made. encoding (name made.name)) bytes_eq };
+    ghost eq = { same_octets (λ made. name made.name) };
 
-    ghost laws = { on_per (λ made. encoding (name made.name)) (partial_equiv_from_equiv nat_list_eq_equiv) };
+    ghost laws = { same_octets_per (λ made. name made.name) };
 
     fn eq(&self, other: &DirectoryName) -> bool
-        ensures octets { result ≡ bytes_eq (encoding (name self.now.name)) (encoding (name other.now.name)) }
+        ensures octets { result ≡ same_octets (λ made. name made.name) self.now other.now }
         ensures same { IsTrue result ↔ (self.now ≡ other.now) }
     {
         self.name == other.name
@@ -176,10 +172,8 @@ impl PartialEq for DirectoryName {
 }
 
 impl Eq for DirectoryName {
-    ghost use Rattle.std.specs.Cmp.Lexicographic.{nat_list_eq_equiv};
-    ghost use Rattle.std.specs.Cmp.{on_equiv};
-    ghost use Rattle.der_core.specs.Encoding.{encoding};
+    ghost use Rattle.der_core.specs.Equality.{same_octets_equiv};
     ghost use Rattle.x501_types.specs.Name.{name};
 
-    ghost laws = { on_equiv (λ made. encoding (name made.name)) nat_list_eq_equiv };
+    ghost laws = { same_octets_equiv (λ made. name made.name) };
 }

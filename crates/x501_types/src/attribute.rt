@@ -59,19 +59,15 @@ impl Structure for AttributeTypeAndValue {
 
 /// Attributes are equal exactly where their octets are.
 impl PartialEq for AttributeTypeAndValue {
-    ghost use Rattle.std.specs.Ordering.{on};
-    ghost use Rattle.std.specs.Cmp.Lexicographic.{nat_list_eq_equiv};
-    ghost use Rattle.std.specs.Cmp.{on_per, partial_equiv_from_equiv};
-    ghost use Rattle.std.specs.Prelude.{bytes_eq};
-    ghost use Rattle.der_core.specs.Encoding.{encoding};
+    ghost use Rattle.der_core.specs.Equality.{same_octets, same_octets_per};
     ghost use Rattle.x501_types.specs.Name.{attribute_type_and_value};
 
-    ghost eq = { on (λ value. encoding (attribute_type_and_value value)) bytes_eq };
+    ghost eq = { same_octets attribute_type_and_value };
 
-    ghost laws = { on_per (λ value. encoding (attribute_type_and_value value)) (partial_equiv_from_equiv nat_list_eq_equiv) };
+    ghost laws = { same_octets_per attribute_type_and_value };
 
     fn eq(&self, other: &AttributeTypeAndValue) -> bool
-        ensures octets { result ≡ bytes_eq (encoding (attribute_type_and_value self.now)) (encoding (attribute_type_and_value other.now)) }
+        ensures octets { result ≡ same_octets attribute_type_and_value self.now other.now }
         ensures same { IsTrue result ↔ (self.now ≡ other.now) }
     {
         self.ty == other.ty && self.value == other.value
@@ -79,10 +75,8 @@ impl PartialEq for AttributeTypeAndValue {
 }
 
 impl Eq for AttributeTypeAndValue {
-    ghost use Rattle.std.specs.Cmp.Lexicographic.{nat_list_eq_equiv};
-    ghost use Rattle.std.specs.Cmp.{on_equiv};
-    ghost use Rattle.der_core.specs.Encoding.{encoding};
+    ghost use Rattle.der_core.specs.Equality.{same_octets_equiv};
     ghost use Rattle.x501_types.specs.Name.{attribute_type_and_value};
 
-    ghost laws = { on_equiv (λ value. encoding (attribute_type_and_value value)) nat_list_eq_equiv };
+    ghost laws = { same_octets_equiv attribute_type_and_value };
 }

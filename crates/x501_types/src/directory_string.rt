@@ -116,19 +116,15 @@ fn is_string_tag(tag: u8) -> bool
 
 /// Strings are equal exactly where their octets are.
 impl PartialEq for DirectoryString {
-    ghost use Rattle.std.specs.Ordering.{on};
-    ghost use Rattle.std.specs.Cmp.Lexicographic.{nat_list_eq_equiv};
-    ghost use Rattle.std.specs.Cmp.{on_per, partial_equiv_from_equiv};
-    ghost use Rattle.std.specs.Prelude.{bytes_eq};
-    ghost use Rattle.der_core.specs.Encoding.{encoding};
+    ghost use Rattle.der_core.specs.Equality.{same_octets, same_octets_per};
     ghost use Rattle.x501_types.specs.DirectoryString.{directory_string};
 
-    ghost eq = { on (λ value. encoding (directory_string value)) bytes_eq };
+    ghost eq = { same_octets directory_string };
 
-    ghost laws = { on_per (λ value. encoding (directory_string value)) (partial_equiv_from_equiv nat_list_eq_equiv) };
+    ghost laws = { same_octets_per directory_string };
 
     fn eq(&self, other: &DirectoryString) -> bool
-        ensures octets { result ≡ bytes_eq (encoding (directory_string self.now)) (encoding (directory_string other.now)) }
+        ensures octets { result ≡ same_octets directory_string self.now other.now }
         ensures same { IsTrue result ↔ (self.now ≡ other.now) }
     {
         self.tag() == other.tag() && self.as_bytes() == other.as_bytes()
@@ -136,10 +132,8 @@ impl PartialEq for DirectoryString {
 }
 
 impl Eq for DirectoryString {
-    ghost use Rattle.std.specs.Cmp.Lexicographic.{nat_list_eq_equiv};
-    ghost use Rattle.std.specs.Cmp.{on_equiv};
-    ghost use Rattle.der_core.specs.Encoding.{encoding};
+    ghost use Rattle.der_core.specs.Equality.{same_octets_equiv};
     ghost use Rattle.x501_types.specs.DirectoryString.{directory_string};
 
-    ghost laws = { on_equiv (λ value. encoding (directory_string value)) nat_list_eq_equiv };
+    ghost laws = { same_octets_equiv directory_string };
 }

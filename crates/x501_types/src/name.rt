@@ -119,19 +119,15 @@ impl Structure for Name {
 
 /// Names are equal exactly where their octets are.
 impl PartialEq for Name {
-    ghost use Rattle.std.specs.Ordering.{on};
-    ghost use Rattle.std.specs.Cmp.Lexicographic.{nat_list_eq_equiv};
-    ghost use Rattle.std.specs.Cmp.{on_per, partial_equiv_from_equiv};
-    ghost use Rattle.std.specs.Prelude.{bytes_eq};
-    ghost use Rattle.der_core.specs.Encoding.{encoding};
+    ghost use Rattle.der_core.specs.Equality.{same_octets, same_octets_per};
     ghost use Rattle.x501_types.specs.Name.{name};
 
-    ghost eq = { on (λ value. encoding (name value)) bytes_eq };
+    ghost eq = { same_octets name };
 
-    ghost laws = { on_per (λ value. encoding (name value)) (partial_equiv_from_equiv nat_list_eq_equiv) };
+    ghost laws = { same_octets_per name };
 
     fn eq(&self, other: &Name) -> bool
-        ensures octets { result ≡ bytes_eq (encoding (name self.now)) (encoding (name other.now)) }
+        ensures octets { result ≡ same_octets name self.now other.now }
         ensures same { IsTrue result ↔ (self.now ≡ other.now) }
     {
         self.sets == other.sets
@@ -139,10 +135,8 @@ impl PartialEq for Name {
 }
 
 impl Eq for Name {
-    ghost use Rattle.std.specs.Cmp.Lexicographic.{nat_list_eq_equiv};
-    ghost use Rattle.std.specs.Cmp.{on_equiv};
-    ghost use Rattle.der_core.specs.Encoding.{encoding};
+    ghost use Rattle.der_core.specs.Equality.{same_octets_equiv};
     ghost use Rattle.x501_types.specs.Name.{name};
 
-    ghost laws = { on_equiv (λ value. encoding (name value)) nat_list_eq_equiv };
+    ghost laws = { same_octets_equiv name };
 }

@@ -43,18 +43,14 @@ impl OtherValue {
 
 /// Values are equal exactly where their octets are.
 impl PartialEq for OtherValue {
-    ghost use Rattle.std.specs.Ordering.{on};
-    ghost use Rattle.std.specs.Cmp.Lexicographic.{nat_list_eq_equiv};
-    ghost use Rattle.std.specs.Cmp.{on_per, partial_equiv_from_equiv};
-    ghost use Rattle.std.specs.Prelude.{bytes_eq};
-    ghost use Rattle.der_core.specs.Encoding.{encoding};
+    ghost use Rattle.der_core.specs.Equality.{same_octets, same_octets_per};
 
-    ghost eq = { on (λ value. encoding value.element.element) bytes_eq };
+    ghost eq = { same_octets (λ value. value.element.element) };
 
-    ghost laws = { on_per (λ value. encoding value.element.element) (partial_equiv_from_equiv nat_list_eq_equiv) };
+    ghost laws = { same_octets_per (λ value. value.element.element) };
 
     fn eq(&self, other: &OtherValue) -> bool
-        ensures octets { result ≡ bytes_eq (encoding self.now.element.element) (encoding other.now.element.element) }
+        ensures octets { result ≡ same_octets (λ value. value.element.element) self.now other.now }
         ensures same { IsTrue result ↔ (self.now ≡ other.now) }
     {
         self.element == other.element
@@ -62,9 +58,7 @@ impl PartialEq for OtherValue {
 }
 
 impl Eq for OtherValue {
-    ghost use Rattle.std.specs.Cmp.Lexicographic.{nat_list_eq_equiv};
-    ghost use Rattle.std.specs.Cmp.{on_equiv};
-    ghost use Rattle.der_core.specs.Encoding.{encoding};
+    ghost use Rattle.der_core.specs.Equality.{same_octets_equiv};
 
-    ghost laws = { on_equiv (λ value. encoding value.element.element) nat_list_eq_equiv };
+    ghost laws = { same_octets_equiv (λ value. value.element.element) };
 }

@@ -120,19 +120,15 @@ impl Structure for RelativeDistinguishedName {
 
 /// Sets are equal exactly where their octets are.
 impl PartialEq for RelativeDistinguishedName {
-    ghost use Rattle.std.specs.Ordering.{on};
-    ghost use Rattle.std.specs.Cmp.Lexicographic.{nat_list_eq_equiv};
-    ghost use Rattle.std.specs.Cmp.{on_per, partial_equiv_from_equiv};
-    ghost use Rattle.std.specs.Prelude.{bytes_eq};
-    ghost use Rattle.der_core.specs.Encoding.{encoding};
+    ghost use Rattle.der_core.specs.Equality.{same_octets, same_octets_per};
     ghost use Rattle.x501_types.specs.Name.{relative_distinguished_name};
 
-    ghost eq = { on (λ value. encoding (relative_distinguished_name value)) bytes_eq };
+    ghost eq = { same_octets relative_distinguished_name };
 
-    ghost laws = { on_per (λ value. encoding (relative_distinguished_name value)) (partial_equiv_from_equiv nat_list_eq_equiv) };
+    ghost laws = { same_octets_per relative_distinguished_name };
 
     fn eq(&self, other: &RelativeDistinguishedName) -> bool
-        ensures octets { result ≡ bytes_eq (encoding (relative_distinguished_name self.now)) (encoding (relative_distinguished_name other.now)) }
+        ensures octets { result ≡ same_octets relative_distinguished_name self.now other.now }
         ensures same { IsTrue result ↔ (self.now ≡ other.now) }
     {
         self.members == other.members
@@ -140,10 +136,8 @@ impl PartialEq for RelativeDistinguishedName {
 }
 
 impl Eq for RelativeDistinguishedName {
-    ghost use Rattle.std.specs.Cmp.Lexicographic.{nat_list_eq_equiv};
-    ghost use Rattle.std.specs.Cmp.{on_equiv};
-    ghost use Rattle.der_core.specs.Encoding.{encoding};
+    ghost use Rattle.der_core.specs.Equality.{same_octets_equiv};
     ghost use Rattle.x501_types.specs.Name.{relative_distinguished_name};
 
-    ghost laws = { on_equiv (λ value. encoding (relative_distinguished_name value)) nat_list_eq_equiv };
+    ghost laws = { same_octets_equiv relative_distinguished_name };
 }
