@@ -1,48 +1,54 @@
--- Octets that were read are the octets of a key exactly where the tree is one.
-use Rattle.std.proofs.Common.{Bool, false, IsTrue, IfOk, MatchResult, ◌↔◌, ◌≡◌, ◌≢◌, ℕ, List, length, take, Result, Ok, Err, sym, ◌∙◌, ap, inl, inr, arith}
-use Rattle.std.proofs.lemmas.List.{take_all}
-use Rattle.der_core.specs.declared.error.DerError.{DerError}
-use Rattle.der_core.specs.declared.error.DerError.TheVariants.{Memory}
+-- Octets are those of a key exactly where they are one element, which is a key.
+use Rattle.std.proofs.Common.{◌≡◌, ℕ, Bool, true, false, ◌==◌, List, [], ◌∷◌, ◌++◌, length, Option, Some, IfSome, Result, Err, IsOk, sym, ◌∙◌, ap, subst, refl, arith}
+use Rattle.std.specs.Result.{is_ok}
+use Rattle.std.proofs.lemmas.Bool.{eqb-true, eqb-false, false≢true}
+use Rattle.std.proofs.lemmas.List.{take_all, append-nil, length-append}
 use Rattle.der_core.specs.DerElement.{DerElement}
-use Rattle.der_core.specs.Reading.{IsFirst, GivesUnlessMemory}
+use Rattle.der_core.specs.Encoding.{encoding}
+use Rattle.der_core.specs.Placed.{IsElem}
+use Rattle.der_core.specs.Cursor.{BeginsAt}
 use Rattle.authenticode_core.specs.PlainForm.{IsRsaKey, IsRsaPublicKey}
 
--- an answer that isn't want of memory is the one that is given
-pub given : {X : Type 0} {x y : X} → GivesUnlessMemory (Ok x) y → x ≡ y
-given (inl e) = cc
-given (inr e) = absurd cc
+pub begins_with_key : {key rest : List ℕ} {level : ℕ} → rest ≡ key → level ≡ 1 → (k : IsRsaKey key) → BeginsAt level rest k.element (length key)
+begins_with_key {key} same outermost k =
+    rw (same, outermost) (record {
+      first = record {
+        der = k.der;
+        many = ap length k.encoded;
+        front = take_all _ key (omega arith) ∙ k.encoded;
+      };
+      nested = omega (arith, k.der.nested);
+    })
 
-pub IsFirst-key : {key : List ℕ} → (k : IsRsaKey key) → IsFirst key k.element (length key)
-IsFirst-key {key} k = record {
-  der = k.der;
-  many = ap length k.encoded;
-  front = take_all _ key (omega arith) ∙ k.encoded;
-}
-
-pub IsRsaKey-read : {key : List ℕ} {tree : DerElement} {taken : ℕ} → IsFirst key tree taken → taken ≡ length key → IsRsaPublicKey tree → IsRsaKey key
-IsRsaKey-read {key} {tree} read whole public_key = record {
-  element = tree;
+-- an element with no octets after it
+pub key_of : {key whole rest content : List ℕ} {tag : ℕ} {element : DerElement} → IsElem whole tag content element → key ≡ whole ++ rest → rest ≡ [] → IsRsaPublicKey element → IsRsaKey key
+key_of {key} {whole} {rest} {element = element} is gone none public_key = record {
+  element = element;
   public_key = public_key;
-  der = read.der;
-  encoded = sym (take_all _ key (omega arith)) ∙ ap (λ n. take n key) (sym whole) ∙ read.front;
+  der = is.0;
+  encoded = gone ∙ ap (λ r. whole ++ r) none ∙ append-nil whole ∙ is.1;
 }
 
--- where the key was read, its tree and its length are what was read
-pub IsRsaKey-only : {key : List ℕ} {tree : DerElement} {taken : ℕ} → ((t : DerElement) (n : ℕ) → IsFirst key t n → GivesUnlessMemory {X = DerElement × ℕ} (Ok (tree, taken)) (t, n)) → (k : IsRsaKey key) → (tree ≡ k.element) × (taken ≡ length key)
-IsRsaKey-only {key} {tree} {taken} only k =
-    let read : DerElement × ℕ = (tree, taken) in
-    let key_read : DerElement × ℕ = (k.element, length key) in
-    let same : read ≡ key_read = given (only k.element (length key) (IsFirst-key k)) in
-    (ap (λ (x : DerElement × ℕ). x.0) same, ap (λ (x : DerElement × ℕ). x.1) same)
+no_more : (xs : List ℕ) → length xs ≡ 0 → xs ≡ []
+no_more [] e = refl
+no_more (x ∷ xs) e = absurd (omega (arith, e))
 
--- where nothing was read, and memory is not what was missing, there is no key
-pub no_key : {key : List ℕ} {e : DerError} → ((t : DerElement) (n : ℕ) → IsFirst key t n → GivesUnlessMemory {X = DerElement × ℕ} (Err e) (t, n)) → e ≢ Memory → IsRsaKey key → ⊥
-no_key {key} {e} only other k = absent other (only k.element (length key) (IsFirst-key k)) where
-  absent : {x : DerElement × ℕ} {e : DerError} → e ≢ Memory → GivesUnlessMemory (Err e) x → ⊥
-  absent other (inl h) = absurd cc
-  absent other (inr h) = other cc
+-- no octets follow the element of a key
+pub none_after : {key whole rest content : List ℕ} {tag : ℕ} {element : DerElement} → IsElem whole tag content element → key ≡ whole ++ rest → (k : IsRsaKey key) → element ≡ k.element → rest ≡ []
+none_after {key} {whole} {rest} {element = element} is gone k same =
+    let all : key ≡ whole = k.encoded ∙ ap encoding (sym same) ∙ sym is.1 in
+    no_more rest (omega (arith, ap length gone, length-append whole rest, ap length all))
 
--- no key, where the answer for want of an element is no
-pub refuses_key : {E K : Type 0} (P Q : Type 0) (r : Result Bool E) → MatchResult r (λ holds. (holds ≡ false) × P) (λ _. Q) → (P → K → ⊥) → IfOk r (λ holds. IsTrue holds ↔ K)
-refuses_key P Q (Ok holds) h none = (λ t. absurd cc, λ k. absurd (none h.1 k))
-refuses_key P Q (Err e) h none = tt
+-- what the test of what is left says
+pub none_left : {test : Bool} {rest : List ℕ} → test ≡ (length rest == 0) → test ≡ true → rest ≡ []
+none_left {rest = rest} tested found = no_more rest (eqb-true _ _ (sym tested ∙ found))
+
+pub some_left : {test : Bool} {rest : List ℕ} → test ≡ (length rest == 0) → test ≡ false → rest ≡ [] → ⊥
+some_left {rest = rest} tested found none = eqb-false _ _ (sym tested ∙ found) (ap length none)
+
+-- what holds of what is found
+pub of_found : {A : Type 0} (P : A → Type 0) {found : Option A} {x : A} → found ≡ Some x → IfSome found P → P x
+of_found P is h = subst (λ o. IfSome o P) is h
+
+pub no_error : {A E : Type 0} {r : Result A E} {e : E} → r ≡ Err e → IsOk r → ⊥
+no_error is ok = false≢true (sym (ap is_ok is) ∙ ok)

@@ -9,26 +9,17 @@ use Rattle.der_core.specs.Fault.{IsFirstFault}
 use Rattle.der_core.specs.Reading.{IsFirst, HasNoFirst}
 use Rattle.der_core.specs.declared.fault.DerFault.{DerFault}
 use Rattle.der_core.specs.declared.fault.Malformed.{Malformed}
-use Rattle.der_core.specs.declared.error.DerError.{DerError}
 use Rattle.der_core.specs.declared.error.DerError.TheVariants as der
 use Rattle.wincert_core.specs.Refusal.{contents_in}
 use Rattle.wincert_core.specs.declared.error.WinCertificateError.{WinCertificateError}
 use Rattle.authenticode_core.specs.PlainForm.{SignatureParts, IsPlainForm, signed_content}
-use Rattle.authenticode_core.specs.Basic.{Judge, IsJudged, IsBasicAnswer, IsUnread, IsSameUnlessMemory}
+use Rattle.authenticode_core.specs.Basic.{Judge, IsJudged, IsBasicAnswer, IsUnread, IsSameUnlessMemory, RefusesForm}
 use Rattle.authenticode_core.specs.declared.accepted.Accepted.{Accepted}
 use Rattle.authenticode_core.specs.declared.error.CheckError.{CheckError}
 use Rattle.authenticode_core.specs.declared.error.CheckError.TheVariants.{Win, Unread, NotThisForm, Authenticode, Memory}
 use Rattle.authenticode_core.specs.declared.error.AuthenticodeError.TheVariants as authenticode
 use Rattle.authenticode_core.proofs.OneForm.{one_form}
 use Rattle.authenticode_core.proofs.Padded.{IsFirst-padded}
-
-pub answer_of_judged : (judge : Judge) (octets file_hash : List ℕ) (p : SignatureParts) → IsPlainForm octets p → (r : Result Accepted CheckError) → IsJudged judge p file_hash r → IsBasicAnswer judge octets file_hash r
-answer_of_judged judge octets file_hash p form (Ok accepted) h = (p, form, h)
-answer_of_judged judge octets file_hash p form (Err (Authenticode e)) h = (p, form, h)
-answer_of_judged judge octets file_hash p form (Err (Win e)) h = absurd h
-answer_of_judged judge octets file_hash p form (Err (Unread e)) h = absurd h
-answer_of_judged judge octets file_hash p form (Err NotThisForm) h = absurd h
-answer_of_judged judge octets file_hash p form (Err Memory) h = tt
 
 -- Octets have one first fault at most, and none where they begin with an element.
 abbrev pub FaultsAreOne : Type 0
@@ -44,40 +35,77 @@ one_first octets a b m n first second =
       split : {t : DerElement} {k : ℕ} → IsFirst octets t k → encoding t ++ drop k octets ≡ octets
       split {t} {k} h = ap (λ front. front ++ drop k octets) (sym h.front) ∙ take-append-drop k octets
 
-same_malformed : (m n : Malformed) → m.at ≡ n.at → m.fault ≡ n.fault → der.Malformed m ≡ der.Malformed n
+abbrev malformed : ℕ → DerFault → Malformed
+malformed place fault = record { at = place; fault = fault }
+
+same_malformed : (m n : Malformed) → m.at ≡ n.at → m.fault ≡ n.fault → m ≡ n
 same_malformed m n same_place same_fault =
-    ap (λ place. der.Malformed (record { at = place; fault = m.fault })) same_place
-    ∙ ap (λ fault. der.Malformed (record { at = n.at; fault = fault })) same_fault
+    ap (λ place. malformed place m.fault) same_place ∙ ap (malformed n.at) same_fault
+
+-- a header that names a certificate has no refusal
+named_once : (octets certificate : List ℕ) (e : WinCertificateError) → contents_in octets ≡ Ok certificate → contents_in octets ≡ Err e → ⊥
+named_once octets certificate e named refused = absurd cc
+
+same_answer : (r : Result Accepted CheckError) → IsSameUnlessMemory r r
+same_answer (Ok a) = refl
+same_answer (Err (Win e)) = refl
+same_answer (Err (Unread e)) = refl
+same_answer (Err NotThisForm) = refl
+same_answer (Err (Authenticode e)) = refl
+same_answer (Err Memory) = tt
 
 module _ (at_most_one : FaultsAreOne) (exclude : FaultsExclude) where
-  not_both : (octets : List ℕ) (element : DerElement) (e : DerError) → IsPaddedEncoding octets element → IsUnread octets e → ⊥
-  not_both octets element (der.Malformed m) padded (inl fault) =
+  not_both : (octets : List ℕ) (element : DerElement) (m : Malformed) → IsPaddedEncoding octets element → IsUnread octets m → ⊥
+  not_both octets element m padded (inl fault) =
       exclude octets m.at m.fault fault element _ (IsFirst-padded octets element padded)
-  not_both octets element (der.Malformed m) padded (inr h) =
+  not_both octets element m padded (inr h) =
       let same = one_first octets element h.1.element _ m.at (IsFirst-padded octets element padded) h.1.first in
       h.1.unpadded (padded.1, padded.2, ap (drop m.at) padded.3 ∙ drop_at (encoding element) (replicate padded.1 0) m.at same.1)
-  not_both octets element der.Shape padded h = h
-  not_both octets element der.TooDeep padded h = h
-  not_both octets element der.TooLong padded h = h
-  not_both octets element der.Memory padded h = h
 
-  one_unread : (octets : List ℕ) (e f : DerError) → IsUnread octets e → IsUnread octets f → e ≡ f
-  one_unread octets (der.Malformed m) (der.Malformed n) (inl a) (inl b) =
+  one_unread : (octets : List ℕ) (m n : Malformed) → IsUnread octets m → IsUnread octets n → m ≡ n
+  one_unread octets m n (inl a) (inl b) =
       let same = at_most_one octets m.at n.at m.fault n.fault a b in same_malformed m n same.0 same.1
-  one_unread octets (der.Malformed m) (der.Malformed n) (inl a) (inr b) =
-      absurd (exclude octets m.at m.fault a b.1.element n.at b.1.first)
-  one_unread octets (der.Malformed m) (der.Malformed n) (inr a) (inl b) =
-      absurd (exclude octets n.at n.fault b a.1.element m.at a.1.first)
-  one_unread octets (der.Malformed m) (der.Malformed n) (inr a) (inr b) =
+  one_unread octets m n (inl a) (inr b) = absurd (exclude octets m.at m.fault a b.1.element n.at b.1.first)
+  one_unread octets m n (inr a) (inl b) = absurd (exclude octets n.at n.fault b a.1.element m.at a.1.first)
+  one_unread octets m n (inr a) (inr b) =
       same_malformed m n (one_first octets a.1.element b.1.element m.at n.at a.1.first b.1.first).1 (a.0 ∙ sym b.0)
-  one_unread octets der.Shape f a b = absurd a
-  one_unread octets der.TooDeep f a b = absurd a
-  one_unread octets der.TooLong f a b = absurd a
-  one_unread octets der.Memory f a b = absurd a
-  one_unread octets (der.Malformed m) der.Shape a b = absurd b
-  one_unread octets (der.Malformed m) der.TooDeep a b = absurd b
-  one_unread octets (der.Malformed m) der.TooLong a b = absurd b
-  one_unread octets (der.Malformed m) der.Memory a b = absurd b
+
+  no_element_unread : (octets a b : List ℕ) (m : Malformed) (element : DerElement) → contents_in octets ≡ Ok a → IsUnread a m → contents_in octets ≡ Ok b → IsPaddedEncoding b element → ⊥
+  no_element_unread octets a b m element named unread named' padded =
+      let same : a ≡ b = cc (named, named') in
+      not_both b element m padded (subst (λ c. IsUnread c m) same unread)
+
+  -- octets are refused for one cause
+  pub one_refusal : (octets : List ℕ) (e f : CheckError) → RefusesForm octets e → RefusesForm octets f → e ≡ f
+  one_refusal octets (Win e) (Win f) h k = let same : e ≡ f = cc in ap Win same
+  one_refusal octets (Win e) (Unread f) h k = absurd (named_once octets k.0 e k.2 h)
+  one_refusal octets (Win e) NotThisForm h k = absurd (named_once octets k.0 e k.2 h)
+  one_refusal octets (Win e) (Authenticode f) h k = absurd k
+  one_refusal octets (Win e) Memory h k = absurd k
+  one_refusal octets (Unread e) (Win f) h k = absurd (named_once octets h.0 f h.2 k)
+  one_refusal octets (Unread e) (Unread f) h k =
+      let same : h.0 ≡ k.0 = cc (h.2, k.2) in
+      let one : h.1 ≡ k.1 = one_unread k.0 h.1 k.1 (subst (λ c. IsUnread c h.1) same h.4) k.4 in
+      ap Unread (h.3 ∙ ap der.Malformed one ∙ sym k.3)
+  one_refusal octets (Unread e) NotThisForm h k = absurd (no_element_unread octets h.0 k.0 h.1 k.1 h.2 h.4 k.2 k.3)
+  one_refusal octets (Unread e) (Authenticode f) h k = absurd k
+  one_refusal octets (Unread e) Memory h k = absurd k
+  one_refusal octets NotThisForm (Win f) h k = absurd (named_once octets h.0 f h.2 k)
+  one_refusal octets NotThisForm (Unread f) h k = absurd (no_element_unread octets k.0 h.0 k.1 h.1 k.2 k.4 h.2 h.3)
+  one_refusal octets NotThisForm NotThisForm h k = refl
+  one_refusal octets NotThisForm (Authenticode f) h k = absurd k
+  one_refusal octets NotThisForm Memory h k = absurd k
+  one_refusal octets (Authenticode e) f h k = absurd h
+  one_refusal octets Memory f h k = absurd h
+
+  -- and not where they are of the plain form
+  pub no_refusal : (octets : List ℕ) (e : CheckError) (p : SignatureParts) → RefusesForm octets e → IsPlainForm octets p → ⊥
+  no_refusal octets (Win e) p h form = named_once octets form.certificate e form.named h
+  no_refusal octets (Unread e) p h form =
+      no_element_unread octets h.0 form.certificate h.1 (signed_content p) h.2 h.4 form.named form.spelled
+  no_refusal octets NotThisForm p h form = h.4 p form
+  no_refusal octets (Authenticode e) p h form = h
+  no_refusal octets Memory p h form = h
 
   one_judged : (judge : Judge) (p : SignatureParts) (file_hash : List ℕ) (r s : Result Accepted CheckError) → IsJudged judge p file_hash r → IsJudged judge p file_hash s → IsSameUnlessMemory r s
   one_judged judge p file_hash (Err Memory) s h k = tt
@@ -117,54 +145,13 @@ module _ (at_most_one : FaultsAreOne) (exclude : FaultsExclude) where
   both_judged judge octets file_hash p q r s form form' h k =
       one_judged judge p file_hash r s h (subst (λ parts. IsJudged judge parts file_hash s) (one_form form' form) k)
 
-  -- a header that names a certificate has no refusal, and names no other
-  named_once : (octets certificate : List ℕ) (e : WinCertificateError) → contents_in octets ≡ Ok certificate → contents_in octets ≡ Err e → ⊥
-  named_once octets certificate e named refused = absurd cc
-
-  no_form_unread : (octets certificate : List ℕ) (e : DerError) (p : SignatureParts) → contents_in octets ≡ Ok certificate → IsUnread certificate e → IsPlainForm octets p → ⊥
-  no_form_unread octets certificate e p named unread form =
-      let same : form.certificate ≡ certificate = cc (named, form.named) in
-      not_both form.certificate (signed_content p) e form.spelled (subst (λ c. IsUnread c e) (sym same) unread)
-
-  no_element_unread : (octets a b : List ℕ) (e : DerError) (element : DerElement) → contents_in octets ≡ Ok a → IsUnread a e → contents_in octets ≡ Ok b → IsPaddedEncoding b element → ⊥
-  no_element_unread octets a b e element named unread named' padded =
-      let same : a ≡ b = cc (named, named') in
-      not_both b element e padded (subst (λ c. IsUnread c e) same unread)
-
-  same_unread : (octets a b : List ℕ) (e f : DerError) → contents_in octets ≡ Ok a → IsUnread a e → contents_in octets ≡ Ok b → IsUnread b f → e ≡ f
-  same_unread octets a b e f named unread named' unread' =
-      let same : a ≡ b = cc (named, named') in
-      one_unread b e f (subst (λ c. IsUnread c e) same unread) unread'
-
   pub one_answer : (judge : Judge) (octets file_hash : List ℕ) (r s : Result Accepted CheckError) → IsBasicAnswer judge octets file_hash r → IsBasicAnswer judge octets file_hash s → IsSameUnlessMemory r s
-  one_answer judge octets file_hash (Err Memory) s h k = tt
-  one_answer judge octets file_hash (Ok a) (Ok b) h k = both_judged judge octets file_hash h.0 k.0 (Ok a) (Ok b) h.1 k.1 h.2 k.2
-  one_answer judge octets file_hash (Ok a) (Err (Authenticode e)) h k = both_judged judge octets file_hash h.0 k.0 (Ok a) (Err (Authenticode e)) h.1 k.1 h.2 k.2
-  one_answer judge octets file_hash (Ok a) (Err (Win e)) h k = absurd (named_once octets h.1.certificate e h.1.named k)
-  one_answer judge octets file_hash (Ok a) (Err (Unread e)) h k = absurd (no_form_unread octets k.0 e h.0 k.1 k.2 h.1)
-  one_answer judge octets file_hash (Ok a) (Err NotThisForm) h k = absurd (k.4 h.0 h.1)
-  one_answer judge octets file_hash (Ok a) (Err Memory) h k = tt
-  one_answer judge octets file_hash (Err (Authenticode e)) (Ok b) h k = both_judged judge octets file_hash h.0 k.0 (Err (Authenticode e)) (Ok b) h.1 k.1 h.2 k.2
-  one_answer judge octets file_hash (Err (Authenticode e)) (Err (Authenticode f)) h k = both_judged judge octets file_hash h.0 k.0 (Err (Authenticode e)) (Err (Authenticode f)) h.1 k.1 h.2 k.2
-  one_answer judge octets file_hash (Err (Authenticode e)) (Err (Win f)) h k = absurd (named_once octets h.1.certificate f h.1.named k)
-  one_answer judge octets file_hash (Err (Authenticode e)) (Err (Unread f)) h k = absurd (no_form_unread octets k.0 f h.0 k.1 k.2 h.1)
-  one_answer judge octets file_hash (Err (Authenticode e)) (Err NotThisForm) h k = absurd (k.4 h.0 h.1)
-  one_answer judge octets file_hash (Err (Authenticode e)) (Err Memory) h k = tt
-  one_answer judge octets file_hash (Err (Win e)) (Ok b) h k = absurd (named_once octets k.1.certificate e k.1.named h)
-  one_answer judge octets file_hash (Err (Win e)) (Err (Authenticode f)) h k = absurd (named_once octets k.1.certificate e k.1.named h)
-  one_answer judge octets file_hash (Err (Win e)) (Err (Win f)) h k = let same : e ≡ f = cc in ap (λ x. Err (Win x)) same
-  one_answer judge octets file_hash (Err (Win e)) (Err (Unread f)) h k = absurd (named_once octets k.0 e k.1 h)
-  one_answer judge octets file_hash (Err (Win e)) (Err NotThisForm) h k = absurd (named_once octets k.0 e k.2 h)
-  one_answer judge octets file_hash (Err (Win e)) (Err Memory) h k = tt
-  one_answer judge octets file_hash (Err (Unread e)) (Ok b) h k = absurd (no_form_unread octets h.0 e k.0 h.1 h.2 k.1)
-  one_answer judge octets file_hash (Err (Unread e)) (Err (Authenticode f)) h k = absurd (no_form_unread octets h.0 e k.0 h.1 h.2 k.1)
-  one_answer judge octets file_hash (Err (Unread e)) (Err (Win f)) h k = absurd (named_once octets h.0 f h.1 k)
-  one_answer judge octets file_hash (Err (Unread e)) (Err (Unread f)) h k = ap (λ x. Err (Unread x)) (same_unread octets h.0 k.0 e f h.1 h.2 k.1 k.2)
-  one_answer judge octets file_hash (Err (Unread e)) (Err NotThisForm) h k = absurd (no_element_unread octets h.0 k.0 e k.1 h.1 h.2 k.2 k.3)
-  one_answer judge octets file_hash (Err (Unread e)) (Err Memory) h k = tt
-  one_answer judge octets file_hash (Err NotThisForm) (Ok b) h k = absurd (h.4 k.0 k.1)
-  one_answer judge octets file_hash (Err NotThisForm) (Err (Authenticode f)) h k = absurd (h.4 k.0 k.1)
-  one_answer judge octets file_hash (Err NotThisForm) (Err (Win f)) h k = absurd (named_once octets h.0 f h.2 k)
-  one_answer judge octets file_hash (Err NotThisForm) (Err (Unread f)) h k = absurd (no_element_unread octets k.0 h.0 f h.1 k.1 k.2 h.2 h.3)
-  one_answer judge octets file_hash (Err NotThisForm) (Err NotThisForm) h k = refl
-  one_answer judge octets file_hash (Err NotThisForm) (Err Memory) h k = tt
+  one_answer judge octets file_hash (Ok a) s (inl h) k = absurd h
+  one_answer judge octets file_hash (Err e) (Ok b) (inl h) (inl k) = absurd k
+  one_answer judge octets file_hash (Err e) (Err f) (inl h) (inl k) =
+      subst (λ x. IsSameUnlessMemory (Err e) (Err x)) (one_refusal octets e f h k) (same_answer (Err e))
+  one_answer judge octets file_hash (Err e) s (inl h) (inr k) = absurd (no_refusal octets e k.0 h k.1)
+  one_answer judge octets file_hash r (Ok b) (inr h) (inl k) = absurd k
+  one_answer judge octets file_hash r (Err f) (inr h) (inl k) = absurd (no_refusal octets f h.0 k h.1)
+  one_answer judge octets file_hash r s (inr h) (inr k) =
+      both_judged judge octets file_hash h.0 k.0 r s h.1 k.1 h.2 k.2

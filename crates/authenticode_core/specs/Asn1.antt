@@ -1,26 +1,31 @@
--- The other types of ASN.1 that the plain form is made of, by their contents octets (X.690 8).
+-- Elements of the plain form by their contents octets (X.690 8). The words of `asn1_types` are of values, and the form has contents that no value has.
 use Rattle.std.specs.Prelude.{ℕ, ◌+◌, List, ◌∷◌}
 use Rattle.der_core.specs.DerElement.{DerElement, Primitive, Constructed, row}
 
--- a constructed element of the context-specific class
+-- a constructed element of the context-specific class (X.690 8.1.2.2)
 abbrev pub context : ℕ → List DerElement → DerElement
 context number kids = Constructed (0xA0 + number) (row kids)
 
+-- an INTEGER (X.690 8.3), of any contents
 abbrev pub integer : List ℕ → DerElement
 integer contents = Primitive 0x02 contents
 
--- whole octets: no bit of the last one is unused
+-- a BIT STRING of whole octets: no bit of the last one is unused (X.690 8.6)
 abbrev pub bit_string : List ℕ → DerElement
 bit_string payload = Primitive 0x03 (0 ∷ payload)
 
+-- an OCTET STRING (X.690 8.7)
 abbrev pub octet_string : List ℕ → DerElement
 octet_string contents = Primitive 0x04 contents
 
+-- an OBJECT IDENTIFIER (X.690 8.19)
 abbrev pub object_identifier : List ℕ → DerElement
 object_identifier contents = Primitive 0x06 contents
 
+-- a UTF8String (X.690 8.23), of any octets
 abbrev pub utf8_string : List ℕ → DerElement
 utf8_string text = Primitive 0x0C text
 
+-- a UTCTime (X.690 8.25), of any octets
 abbrev pub utc_time : List ℕ → DerElement
 utc_time text = Primitive 0x17 text

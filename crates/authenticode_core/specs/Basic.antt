@@ -1,5 +1,6 @@
 -- What basic validation of a signature file answers, and why.
 use Rattle.std.specs.Prelude.{◌≡◌, ◌≢◌, ◌≤◌, ◌⊎◌, ℕ, drop, replicate, List, [], Some, Result, Ok, Err}
+use Rattle.std.specs.Result.{IsErrAnd}
 use Rattle.sig_core.specs.declared.algorithm.SigAlg.{SigAlg}
 use Rattle.sig_core.specs.declared.algorithm.SigAlg.TheVariants.{RsaSha256}
 use Rattle.sig_core.specs.declared.scheme.Verdict.{Verdict}
@@ -9,7 +10,7 @@ use Rattle.der_core.specs.Encoding.{IsPaddedEncoding}
 use Rattle.der_core.specs.Reading.{IsFirst}
 use Rattle.der_core.specs.Fault.{IsFirstFault}
 use Rattle.der_core.specs.declared.fault.DerFault.TheVariants.{Trailing}
-use Rattle.der_core.specs.declared.error.DerError.{DerError}
+use Rattle.der_core.specs.declared.fault.Malformed.{Malformed}
 use Rattle.der_core.specs.declared.error.DerError.TheVariants as der
 use Rattle.wincert_core.specs.Refusal.{contents_in}
 use Rattle.authenticode_core.specs.PlainForm.{SignatureParts, IsPlainForm, signed_message}
@@ -42,13 +43,20 @@ pub record HasMoreThanPadding (octets : List ℕ) (place : ℕ) : Type 0 where
   pub unpadded : IsPadding (drop place octets) → ⊥
 
 -- Why the octets of a certificate are no element with at most seven zeros after it: the first fault of an element, or other octets after it.
-abbrev pub IsUnread : List ℕ → DerError → Type 0
-IsUnread certificate (der.Malformed m) =
+abbrev pub IsUnread : List ℕ → Malformed → Type 0
+IsUnread certificate m =
     IsFirstFault certificate m.at m.fault ⊎ ((m.fault ≡ Trailing) × HasMoreThanPadding certificate m.at)
-IsUnread certificate der.Shape = ⊥
-IsUnread certificate der.TooDeep = ⊥
-IsUnread certificate der.TooLong = ⊥
-IsUnread certificate der.Memory = ⊥
+
+-- Why the octets have no signed data of the plain form, in this order: the header, the element, the form.
+abbrev pub RefusesForm : List ℕ → CheckError → Type 0
+RefusesForm octets (Win e) = contents_in octets ≡ Err e
+RefusesForm octets (Unread e) =
+    (certificate : List ℕ) × (m : Malformed) × (contents_in octets ≡ Ok certificate) × (e ≡ der.Malformed m) × IsUnread certificate m
+RefusesForm octets NotThisForm =
+    (certificate : List ℕ) × (element : DerElement) × (contents_in octets ≡ Ok certificate)
+    × IsPaddedEncoding certificate element × ((p : SignatureParts) → IsPlainForm octets p → ⊥)
+RefusesForm octets (Authenticode e) = ⊥
+RefusesForm octets Memory = ⊥
 
 -- What is answered for parts of the plain form: the digest of the file is compared before the signature.
 abbrev pub IsJudged : Judge → SignatureParts → List ℕ → Result Accepted CheckError → Type 0
@@ -63,43 +71,10 @@ IsJudged judge p file_hash (Err (Unread e)) = ⊥
 IsJudged judge p file_hash (Err NotThisForm) = ⊥
 IsJudged judge p file_hash (Err Memory) = Unit {0}
 
--- Answers for parts, or one of the refusals before there are any, in this order: of the header, of the element, of the form.
+-- Octets without signed data of the plain form are refused for that; else the answer is one for the parts.
 abbrev pub IsBasicAnswer : Judge → List ℕ → List ℕ → Result Accepted CheckError → Type 0
-IsBasicAnswer judge octets file_hash (Err (Win e)) = contents_in octets ≡ Err e
-IsBasicAnswer judge octets file_hash (Err (Unread e)) =
-    (certificate : List ℕ) × (contents_in octets ≡ Ok certificate) × IsUnread certificate e
-IsBasicAnswer judge octets file_hash (Err NotThisForm) =
-    (certificate : List ℕ) × (element : DerElement) × (contents_in octets ≡ Ok certificate)
-    × IsPaddedEncoding certificate element × ((p : SignatureParts) → IsPlainForm octets p → ⊥)
-IsBasicAnswer judge octets file_hash (Err Memory) = Unit {0}
-IsBasicAnswer judge octets file_hash (Err (Authenticode e)) =
-    (p : SignatureParts) × IsPlainForm octets p × IsJudged judge p file_hash (Err (Authenticode e))
-IsBasicAnswer judge octets file_hash (Ok accepted) =
-    (p : SignatureParts) × IsPlainForm octets p × IsJudged judge p file_hash (Ok accepted)
-
--- Why the octets begin with no WIN_CERTIFICATE.
-abbrev pub RefusesHeader : List ℕ → CheckError → Type 0
-RefusesHeader octets (Win e) = contents_in octets ≡ Err e
-RefusesHeader octets (Unread e) = ⊥
-RefusesHeader octets NotThisForm = ⊥
-RefusesHeader octets (Authenticode e) = ⊥
-RefusesHeader octets Memory = ⊥
-
--- Why a certificate is not read.
-abbrev pub RefusesValue : List ℕ → CheckError → Type 0
-RefusesValue certificate (Unread e) = IsUnread certificate e
-RefusesValue certificate Memory = Unit {0}
-RefusesValue certificate (Win e) = ⊥
-RefusesValue certificate NotThisForm = ⊥
-RefusesValue certificate (Authenticode e) = ⊥
-
--- the refusal of a certificate that is not read
-abbrev pub unread_of : DerError → CheckError
-unread_of der.Memory = Memory
-unread_of (der.Malformed m) = Unread (der.Malformed m)
-unread_of der.Shape = Unread der.Shape
-unread_of der.TooDeep = Unread der.TooDeep
-unread_of der.TooLong = Unread der.TooLong
+IsBasicAnswer judge octets file_hash answer =
+    IsErrAnd answer (RefusesForm octets) ⊎ ((p : SignatureParts) × IsPlainForm octets p × IsJudged judge p file_hash answer)
 
 -- Two answers are one, but where one of them is want of memory.
 abbrev pub IsSameUnlessMemory : Result Accepted CheckError → Result Accepted CheckError → Type 0

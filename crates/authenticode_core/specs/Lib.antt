@@ -1,6 +1,4 @@
 pub mod Asn1
-pub mod Reads
-pub mod Identifiers
 pub mod PlainForm
 pub mod Views
 pub mod Basic

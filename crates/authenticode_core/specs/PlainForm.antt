@@ -1,5 +1,6 @@
 -- The plain form of signed data: one signer with an RSA key and SHA-256, one certificate, three
--- signed attributes.
+-- signed attributes. Identifiers are the constants of `asn1_types::oids`, which
+-- `asn1_types.specs.NamedIdentifiers` lists by name.
 use Rattle.std.specs.Prelude.{◌≡◌, ◌≢◌, ℕ, ◌≤◌, List, [], ◌∷◌, codes, Ok}
 use Rattle.sha2.specs.Sha256.{sha256}
 use Rattle.der_core.specs.DerElement.{DerElement, Primitive, row}
@@ -7,7 +8,7 @@ use Rattle.der_core.specs.Encoding.{encoding, encodings, IsDer, IsPaddedEncoding
 use Rattle.wincert_core.specs.Refusal.{contents_in}
 use Rattle.der_core.specs.Elements.{sequence, set, null}
 use Rattle.authenticode_core.specs.Asn1.{context, integer, bit_string, octet_string, object_identifier, utf8_string, utc_time}
-use Rattle.authenticode_core.specs.Identifiers.{rsa_encryption, sha256_with_rsa_encryption, signed_data_type, content_type, message_digest_type, indirect_data_type, opus_info, pe_image_data, sha256_type, common_name}
+use Rattle.asn1_types.specs.declared.oids.TheConstants as identifiers
 
 -- an AlgorithmIdentifier with NULL parameters (RFC 5280 4.1.1.2)
 abbrev pub algorithm : List ℕ → DerElement
@@ -16,7 +17,7 @@ algorithm oid = sequence (object_identifier oid ∷ null ∷ [])
 -- a Name of one common name (RFC 5280 4.1.2.4)
 abbrev pub name : List ℕ → DerElement
 name text =
-    sequence (set (sequence (object_identifier common_name ∷ utf8_string text ∷ []) ∷ []) ∷ [])
+    sequence (set (sequence (object_identifier identifiers.AT_COMMON_NAME.now ∷ utf8_string text ∷ []) ∷ []) ∷ [])
 
 -- a Validity between two times of two-digit years (RFC 5280 4.1.2.5)
 abbrev pub validity : List ℕ → List ℕ → DerElement
@@ -24,7 +25,7 @@ validity not_before not_after = sequence (utc_time not_before ∷ utc_time not_a
 
 -- the SubjectPublicKeyInfo of an RSA key (RFC 5280 4.1.2.7)
 abbrev pub public_key_info : List ℕ → DerElement
-public_key_info key = sequence (algorithm rsa_encryption ∷ bit_string key ∷ [])
+public_key_info key = sequence (algorithm identifiers.RSA_ENCRYPTION.now ∷ bit_string key ∷ [])
 
 -- what varies in the part of a certificate that is signed
 pub record TbsParts : Type 0 where
@@ -44,7 +45,7 @@ abbrev pub tbs_fields : TbsParts → List DerElement
 tbs_fields c =
     version_3
     ∷ integer c.serial
-    ∷ algorithm sha256_with_rsa_encryption
+    ∷ algorithm identifiers.SHA256_WITH_RSA_ENCRYPTION.now
     ∷ name c.issuer
     ∷ validity c.not_before c.not_after
     ∷ name c.subject
@@ -63,7 +64,7 @@ pub record CertificateParts : Type 0 where
 
 -- a Certificate (RFC 5280 4.1.1)
 abbrev pub certificate : CertificateParts → DerElement
-certificate c = sequence (tbs_certificate c.tbs ∷ algorithm sha256_with_rsa_encryption ∷ bit_string c.signature ∷ [])
+certificate c = sequence (tbs_certificate c.tbs ∷ algorithm identifiers.SHA256_WITH_RSA_ENCRYPTION.now ∷ bit_string c.signature ∷ [])
 
 -- an SpcLink to a file without a name (Authenticode)
 abbrev pub empty_link : DerElement
@@ -72,11 +73,11 @@ empty_link = context 0 (context 2 (Primitive 0x80 [] ∷ []) ∷ [])
 -- an SpcAttributeTypeAndOptionalValue: a portable executable, without page hashes (Authenticode)
 abbrev pub image_data : DerElement
 image_data =
-    sequence (object_identifier pe_image_data ∷ sequence (bit_string [] ∷ empty_link ∷ []) ∷ [])
+    sequence (object_identifier identifiers.SPC_PE_IMAGE_DATA.now ∷ sequence (bit_string [] ∷ empty_link ∷ []) ∷ [])
 
 -- a DigestInfo of SHA-256 (Authenticode, RFC 2315 9.4)
 abbrev pub digest_info : List ℕ → DerElement
-digest_info file_hash = sequence (algorithm sha256_type ∷ octet_string file_hash ∷ [])
+digest_info file_hash = sequence (algorithm identifiers.SHA256.now ∷ octet_string file_hash ∷ [])
 
 -- an SpcIndirectDataContent: what the file is, and its digest (Authenticode)
 abbrev pub indirect_data : List ℕ → DerElement
@@ -85,7 +86,7 @@ indirect_data file_hash = sequence (image_data ∷ digest_info file_hash ∷ [])
 -- a ContentInfo of indirect data (RFC 2315 7)
 abbrev pub content_info : List ℕ → DerElement
 content_info file_hash =
-    sequence (object_identifier indirect_data_type ∷ context 0 (indirect_data file_hash ∷ []) ∷ [])
+    sequence (object_identifier identifiers.SPC_INDIRECT_DATA.now ∷ context 0 (indirect_data file_hash ∷ []) ∷ [])
 
 -- an Attribute of one value (RFC 2986 4.1)
 abbrev pub attribute : List ℕ → DerElement → DerElement
@@ -99,9 +100,9 @@ no_program_name = sequence (context 1 (Primitive 0x80 [] ∷ []) ∷ [])
 -- the content (RFC 2985 5.3, Authenticode)
 abbrev pub attributes : List ℕ → List DerElement
 attributes message_digest =
-    attribute content_type (object_identifier indirect_data_type)
-    ∷ attribute opus_info no_program_name
-    ∷ attribute message_digest_type (octet_string message_digest)
+    attribute identifiers.CONTENT_TYPE.now (object_identifier identifiers.SPC_INDIRECT_DATA.now)
+    ∷ attribute identifiers.SPC_SP_OPUS_INFO.now no_program_name
+    ∷ attribute identifiers.MESSAGE_DIGEST.now (octet_string message_digest)
     ∷ []
 
 -- what varies in the signer
@@ -120,9 +121,9 @@ abbrev pub signer_fields : SignerParts → List DerElement
 signer_fields s =
     integer (1 ∷ [])
     ∷ issuer_and_serial_number s.issuer s.serial
-    ∷ algorithm sha256_type
+    ∷ algorithm identifiers.SHA256.now
     ∷ context 0 (attributes s.message_digest)
-    ∷ algorithm rsa_encryption
+    ∷ algorithm identifiers.RSA_ENCRYPTION.now
     ∷ octet_string s.signature
     ∷ []
 
@@ -141,7 +142,7 @@ pub record SignatureParts : Type 0 where
 abbrev pub signed_data_fields : SignatureParts → List DerElement
 signed_data_fields p =
     integer (1 ∷ [])
-    ∷ set (algorithm sha256_type ∷ [])
+    ∷ set (algorithm identifiers.SHA256.now ∷ [])
     ∷ content_info p.file_hash
     ∷ context 0 (certificate p.certificate ∷ [])
     ∷ context 1 []
@@ -155,7 +156,7 @@ signed_data p = sequence (signed_data_fields p)
 -- a ContentInfo of it (RFC 2315 7)
 abbrev pub signed_content : SignatureParts → DerElement
 signed_content p =
-    sequence (object_identifier signed_data_type ∷ context 0 (signed_data p ∷ []) ∷ [])
+    sequence (object_identifier identifiers.SIGNED_DATA.now ∷ context 0 (signed_data p ∷ []) ∷ [])
 
 -- `0` to `9`
 abbrev pub IsDigit : ℕ → Type 0

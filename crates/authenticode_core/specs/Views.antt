@@ -1,4 +1,4 @@
--- What the parts that are lent from a tree say.
+-- What the parts that are lent from octets say.
 use Rattle.authenticode_core.specs.PlainForm.{TbsParts, CertificateParts, SignerParts, SignatureParts}
 use Rattle.authenticode_core.specs.declared.parts.TbsCertificate.{TbsCertificate}
 use Rattle.authenticode_core.specs.declared.parts.PlainCertificate.{PlainCertificate}

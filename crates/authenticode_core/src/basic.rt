@@ -1,12 +1,10 @@
 //! Basic validation: the form of the signed data, the digest of the file, the signature.
 
-ghost use Rattle.std.specs.Prelude.{◌≡◌, ◌↔◌, Ok, Err, Result, IsTrue, IfOk, MatchResult};
-ghost use Rattle.der_core.specs.Encoding.{IsDer, IsPaddedEncoding};
-ghost use Rattle.wincert_core.specs.Refusal.{contents_in};
-ghost use Rattle.wincert_core.specs.declared.error.WinCertificateError.{WinCertificateError};
-ghost use Rattle.authenticode_core.specs.PlainForm.{signed_content};
+ghost use Rattle.std.specs.Prelude.{◌≡◌, ◌↔◌, Err, Result, IsTrue, IfOk, MatchResult};
+ghost use Rattle.der_core.specs.Encoding.{IsPaddedEncoding};
+ghost use Rattle.authenticode_core.specs.PlainForm.{IsPlainForm};
 ghost use Rattle.authenticode_core.specs.Views.{signature_parts};
-ghost use Rattle.authenticode_core.specs.Basic.{IsPadding, IsSigned, IsJudged, IsBasicAnswer, IsSameUnlessMemory, RefusesHeader, RefusesValue, unread_of};
+ghost use Rattle.authenticode_core.specs.Basic.{IsPadding, IsUnread, IsSigned, IsJudged, IsBasicAnswer, IsSameUnlessMemory, RefusesForm};
 ghost use Rattle.authenticode_core.specs.declared.accepted.Accepted.{Accepted};
 ghost use Rattle.authenticode_core.specs.declared.error.CheckError.{CheckError};
 
@@ -15,7 +13,7 @@ use crate::error::{AuthenticodeError, CheckError};
 use crate::parts::PlainSignature;
 use crate::plain_form::plain_signature_of;
 use crate::plain_rules::{is_plain, signed_message_of};
-use der_core::{DerError, DerFault, Malformed, Octets, Tree, is_same, one_first_fault, read_first};
+use der_core::{Cursor, DerFault, Elem, Malformed, Octets, is_same, one_first_fault};
 use sig_core::{Scheme, SigAlg, Verdict};
 use std::alloc::{AllocError, Global};
 use wincert_core::certificate_of;
@@ -32,81 +30,52 @@ pub fn check_basic<S: Scheme>(
     scheme: &S,
 ) -> Result<Accepted, CheckError>
     ensures answer { IsBasicAnswer (S.judge scheme.now) bytes.now file_hash.now result }
-    // A refusal of the header comes before memory is asked for.
-    ensures header { (e : WinCertificateError)
-        → contents_in bytes.now ≡ Err e → result ≡ Err (CheckError.Win e) }
+    // A refusal of the header, of the element or of the form comes whatever memory there is.
+    ensures refused { (e : CheckError) → RefusesForm bytes.now e → result ≡ Err e }
     // No other answer has its cause, want of memory aside.
     ensures only { (other : Result Accepted CheckError)
         → IsBasicAnswer (S.judge scheme.now) bytes.now file_hash.now other
         → IsSameUnlessMemory result other }
 {
     one_first_fault();
-    answer(alloc, bytes, file_hash, scheme)
-}
-
-fn answer<S: Scheme>(
-    alloc: Global,
-    bytes: &[u8],
-    file_hash: &[u8],
-    scheme: &S,
-) -> Result<Accepted, CheckError>
-    ensures answer { IsBasicAnswer (S.judge scheme.now) bytes.now file_hash.now result }
-    ensures header { (e : WinCertificateError)
-        → contents_in bytes.now ≡ Err e → result ≡ Err (CheckError.Win e) }
-{
-    let certificate = contents_named(bytes)?;
-    let tree = value_of(alloc, certificate)?;
-    let Some(signature) = plain_signature_of(&tree) else {
-        return Err(CheckError::NotThisForm);
-    };
-    if !is_plain(alloc, &signature)? {
-        return Err(CheckError::NotThisForm);
-    }
+    let signature = signature_of(bytes)?;
     judge(alloc, &signature, file_hash, scheme)
 }
 
-/// The certificate that the header names.
-fn contents_named(bytes: &[u8]) -> Result<&[u8], CheckError>
+/// The signed data of the plain form in a WIN_CERTIFICATE. It takes no memory.
+fn signature_of(bytes: &[u8]) -> Result<PlainSignature<'_>, CheckError>
     ensures { MatchResult result
-        (λ certificate. contents_in bytes.now ≡ Ok certificate.now)
-        (RefusesHeader bytes.now) }
+        (λ signature. IsPlainForm bytes.now (signature_parts signature))
+        (RefusesForm bytes.now) }
 {
-    match certificate_of(bytes) {
-        Ok(certificate) => Ok(certificate),
-        Err(error) => Err(CheckError::Win(error)),
+    let certificate = certificate_of(bytes)?;
+    let elem = padded_element(certificate)?;
+    let Some(signature) = plain_signature_of(elem) else {
+        return Err(CheckError::NotThisForm);
+    };
+    if !is_plain(&signature) {
+        return Err(CheckError::NotThisForm);
     }
+    Ok(signature)
 }
 
 /// The element that octets are, with at most seven zeros after it.
-fn value_of(alloc: Global, octets: &[u8]) -> Result<Tree, CheckError>
+fn padded_element(octets: &[u8]) -> Result<Elem<'_>, Malformed>
     ensures { MatchResult result
-        (λ tree. IsPaddedEncoding octets.now tree)
-        (RefusesValue octets.now) }
+        (λ elem. IsPaddedEncoding octets.now elem.is.0)
+        (IsUnread octets.now) }
 {
-    match read_first(alloc, octets) {
-        Ok((tree, taken)) if is_padding(&octets[taken..]) => Ok(tree),
-        Ok((_, taken)) => Err(trailing(taken)),
-        Err(error) => Err(unread(error)),
-    }
-}
-
-/// The refusal of octets after the element that are no padding.
-fn trailing(at: usize) -> CheckError
-    ensures { result ≡ CheckError.Unread
-        (DerError.Malformed (record { at = at; fault = DerFault.Trailing })) }
-{
-    CheckError::Unread(DerError::Malformed(Malformed {
-        at,
-        fault: DerFault::Trailing,
-    }))
-}
-
-fn unread(error: DerError) -> CheckError
-    ensures { result ≡ unread_of error }
-{
-    match error {
-        DerError::Memory => CheckError::Memory,
-        error => CheckError::Unread(error),
+    let mut cursor = Cursor::new(octets);
+    match cursor.next()? {
+        Some(elem) if is_padding(cursor.rest()) => Ok(elem),
+        Some(_) => Err(Malformed {
+            at: cursor.place(),
+            fault: DerFault::Trailing,
+        }),
+        None => Err(Malformed {
+            at: 0,
+            fault: DerFault::Truncated,
+        }),
     }
 }
 
@@ -123,7 +92,6 @@ fn judge<S: Scheme>(
     file_hash: &[u8],
     scheme: &S,
 ) -> Result<Accepted, CheckError>
-    requires { IsDer (signed_content (signature_parts signature.now)) }
     ensures { IsJudged (S.judge scheme.now) (signature_parts signature.now) file_hash.now result }
 {
     if !is_same(signature.content.file_hash, file_hash) {
@@ -154,7 +122,6 @@ fn is_signed<S: Scheme>(
     signature: &PlainSignature<'_>,
     scheme: &S,
 ) -> Result<bool, AllocError>
-    requires { IsDer (signed_content (signature_parts signature.now)) }
     ensures { IfOk result (λ holds.
         IsTrue holds ↔ IsSigned (S.judge scheme.now) (signature_parts signature.now)) }
 {

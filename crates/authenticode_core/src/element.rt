@@ -1,10 +1,11 @@
-//! Elements of a known tag, taken from their tree.
+//! Elements that are read where their octets lie, beside those that `der_core` reads.
 
-ghost use Rattle.std.specs.Prelude.{◌≡◌, ◌≢◌, ◌↔◌, IsTrue, length, MatchOption};
-ghost use Rattle.der_core.specs.DerElement.{DerElements, Primitive, Constructed, row, listed};
-ghost use Rattle.authenticode_core.specs.Reads.{Reads};
+ghost use Rattle.std.specs.Prelude.{◌≡◌, ◌≢◌, [], ◌∷◌, List, ℕ, MatchOption};
+ghost use Rattle.der_core.specs.DerElement.{DerElement, Primitive, Constructed, row};
+ghost use Rattle.authenticode_core.specs.Asn1.{bit_string};
 
-use der_core::{Tree, is_same};
+use der_core::tag::BIT_STRING;
+use der_core::{Elem, Kids, is_same, leaf_at};
 
 /// A primitive element of the context-specific class.
 pub(crate) const IMPLICIT_0: u8 = 0x80;
@@ -16,40 +17,40 @@ pub(crate) const CONTEXT_1: u8 = 0xA1;
 
 pub(crate) const CONTEXT_2: u8 = 0xA2;
 
-/// The contents octets of a primitive element of this tag.
-pub(crate) fn leaf_of(tree: &Tree, tag: u8) -> Option<&[u8]>
-    ensures { Reads (λ content. content.now) (λ content. Primitive tag content) tree.now result }
+/// The element in a constructed element of this tag that holds one.
+pub(crate) fn only_kid<'a>(elem: Elem<'a>, tag: u8) -> Option<Elem<'a>>
+    ensures { MatchOption result
+        ((kid : DerElement) → elem.entry.is.0 ≢ Constructed tag (row (kid ∷ [])))
+        (λ kid. elem.entry.is.0 ≡ Constructed tag (row (kid.is.0 ∷ []))) }
 {
-    if tree.tag() == tag {
-        tree.content()
+    let mut kids = Kids::of(elem, tag)?;
+    let kid = kids.next()?;
+    kids.end()?;
+    Some(kid)
+}
+
+/// The element is primitive, of this tag and these contents octets.
+pub(crate) fn expect_leaf(elem: Elem<'_>, tag: u8, content: &[u8]) -> Option<()>
+    ensures { MatchOption result
+        (elem.entry.is.0 ≢ Primitive tag content.now)
+        (λ _. elem.entry.is.0 ≡ Primitive tag content.now) }
+{
+    let found = leaf_at(elem, tag)?;
+    if is_same(found, content) {
+        Some(())
     } else {
         None
     }
 }
 
-/// The elements in a constructed element of this tag.
-pub(crate) fn branch_of(tree: &Tree, tag: u8) -> Option<&[Tree]>
-    ensures { Reads (λ kids. kids.now) (λ kids. Constructed tag (row kids)) tree.now result }
-{
-    if tree.tag() == tag { tree.kids() } else { None }
-}
-
-/// The elements in a constructed element of this tag, where there are just `N` of them.
-pub(crate) fn kids_of<const N: usize>(tree: &Tree, tag: u8) -> Option<&[Tree; N]>
+/// The octets of a BIT STRING without unused bits.
+pub(crate) fn whole_octets_at<'a>(elem: Elem<'a>) -> Option<&'a [u8]>
     ensures { MatchOption result
-        ((kids : DerElements) → length (listed kids) ≡ N → tree.now ≢ Constructed tag kids)
-        (λ kids. (length kids.now ≡ N) × (tree.now ≡ Constructed tag (row kids.now))) }
+        ((payload : List ℕ) → elem.entry.is.0 ≢ bit_string payload)
+        (λ payload. elem.entry.is.0 ≡ bit_string payload.now) }
 {
-    let kids = branch_of(tree, tag)?;
-    <&[Tree; N]>::try_from(kids).ok()
-}
-
-/// Whether the element is primitive, of this tag and these contents octets.
-pub(crate) fn is_leaf(tree: &Tree, tag: u8, content: &[u8]) -> bool
-    ensures { IsTrue result ↔ (tree.now ≡ Primitive tag content.now) }
-{
-    match leaf_of(tree, tag) {
-        Some(found) => is_same(found, content),
-        None => false,
+    match leaf_at(elem, BIT_STRING)? {
+        [0, payload @ ..] => Some(payload),
+        _ => None,
     }
 }

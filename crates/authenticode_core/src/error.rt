@@ -3,11 +3,12 @@
 ghost use Rattle.std.specs.Prelude.{◌≡◌, Some, IfOk, string_bytes};
 ghost use Rattle.std.specs.Fmt.{WritesOnOk};
 ghost use Rattle.hex.specs.Hex.{encode_lower};
+ghost use Rattle.der_core.specs.declared.error.DerError.TheVariants as der;
 ghost use Rattle.authenticode_core.specs.ErrorText.{check_error_text, content_error_text, mismatch_text};
 ghost use Rattle.authenticode_core.specs.RefusalName.{content_refusal_name, header_refusal_name, refusal_name};
-ghost use Rattle.authenticode_core.specs.declared.error.CheckError.TheVariants.{Memory};
+ghost use Rattle.authenticode_core.specs.declared.error.CheckError.TheVariants.{Memory, Unread, Win};
 
-use der_core::{DerError, Octets};
+use der_core::{DerError, Malformed, Octets};
 use std::alloc::{AllocError, AllocFailed, Global};
 use std::fmt::{self, Display};
 use thiserror::Error;
@@ -149,6 +150,22 @@ impl fmt::Display for CheckError {
             CheckError::Authenticode(error) => error.fmt(f),
             CheckError::Memory => write!(f, "out of memory"),
         }
+    }
+}
+
+impl From<WinCertificateError> for CheckError {
+    ghost from_gives = { λ error e. e ≡ Win error };
+
+    fn from(error: WinCertificateError) -> CheckError {
+        CheckError::Win(error)
+    }
+}
+
+impl From<Malformed> for CheckError {
+    ghost from_gives = { λ malformed e. e ≡ Unread (der.Malformed malformed) };
+
+    fn from(malformed: Malformed) -> CheckError {
+        CheckError::Unread(DerError::Malformed(malformed))
     }
 }
 

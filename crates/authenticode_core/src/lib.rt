@@ -5,7 +5,6 @@ mod accepted;
 mod basic;
 mod element;
 mod error;
-mod identifiers;
 mod laws;
 mod parts;
 mod plain_form;

@@ -1,108 +1,102 @@
-//! The plain form of signed data, read from its tree.
+//! The plain form of signed data, read where its octets lie.
 //!
 //! Each reader takes the element of one structure and gives what varies in it, field by field in
 //! the order of the structure's definition. The definitions stand in `specs/PlainForm.antt`.
 
-ghost use Rattle.std.specs.Prelude.{◌≡◌, ◌↔◌, ◌∷◌, [], IsTrue, List, ℕ};
-ghost use Rattle.authenticode_core.specs.Reads.{Reads};
-ghost use Rattle.der_core.specs.Elements.{set};
-ghost use Rattle.authenticode_core.specs.Asn1.{bit_string, object_identifier, context};
-ghost use Rattle.authenticode_core.specs.Identifiers.{content_type, indirect_data_type, opus_info, sha256_type};
-ghost use Rattle.authenticode_core.specs.PlainForm.{algorithm, name, validity, public_key_info, version_3, tbs_certificate, certificate, empty_link, image_data, digest_info, indirect_data, content_info, attribute, attributes, no_program_name, issuer_and_serial_number, signer_info, signed_data, signed_content};
+ghost use Rattle.std.specs.Prelude.{◌≡◌, ◌≢◌, List, ℕ, MatchOption};
+ghost use Rattle.der_core.specs.DerElement.{DerElement};
+ghost use Rattle.asn1_types.specs.declared.oids.TheConstants as identifiers;
+ghost use Rattle.authenticode_core.specs.Asn1.{object_identifier, context};
+ghost use Rattle.authenticode_core.specs.PlainForm.{algorithm, name, validity, public_key_info, version_3, TbsParts, tbs_certificate, CertificateParts, certificate, empty_link, image_data, digest_info, indirect_data, content_info, attribute, attributes, no_program_name, issuer_and_serial_number, SignerParts, signer_info, SignatureParts, signed_data, signed_content};
 ghost use Rattle.authenticode_core.specs.Views.{tbs_parts, certificate_parts, signer_parts, signature_parts};
 
-use crate::element::{CONTEXT_0, CONTEXT_1, CONTEXT_2, IMPLICIT_0, is_leaf, kids_of, leaf_of};
-use crate::identifiers::{
-    COMMON_NAME, CONTENT_TYPE, INDIRECT_DATA, MESSAGE_DIGEST, OPUS_INFO, PE_IMAGE_DATA,
-    RSA_ENCRYPTION, SHA256, SHA256_WITH_RSA_ENCRYPTION, SIGNED_DATA,
+use crate::element::{
+    CONTEXT_0, CONTEXT_1, CONTEXT_2, IMPLICIT_0, expect_leaf, only_kid, whole_octets_at,
 };
 use crate::parts::{IndirectData, PlainCertificate, PlainSignature, SignerInfo, TbsCertificate};
-use der_core::Tree;
+use asn1_types::oids::{
+    AT_COMMON_NAME, CONTENT_TYPE, MESSAGE_DIGEST, RSA_ENCRYPTION, SHA256,
+    SHA256_WITH_RSA_ENCRYPTION, SIGNED_DATA, SPC_INDIRECT_DATA, SPC_PE_IMAGE_DATA,
+    SPC_SP_OPUS_INFO,
+};
 use der_core::tag::{
     BIT_STRING, INTEGER, NULL, OBJECT_IDENTIFIER, OCTET_STRING, SEQUENCE, SET, UTC_TIME,
     UTF8_STRING,
 };
+use der_core::{Elem, Kids, leaf_at, three_kids, two_kids};
 
-/// Whether the element is the identifier of this algorithm, with NULL parameters.
-fn is_algorithm(tree: &Tree, oid: &[u8]) -> bool
-    ensures { IsTrue result ↔ (tree.now ≡ algorithm oid.now) }
+/// The element names this algorithm, with NULL parameters.
+fn expect_algorithm(elem: Elem<'_>, oid: &[u8]) -> Option<()>
+    ensures { MatchOption result
+        (elem.entry.is.0 ≢ algorithm oid.now)
+        (λ _. elem.entry.is.0 ≡ algorithm oid.now) }
 {
-    match kids_of::<2>(tree, SEQUENCE) {
-        Some([identifier, parameters]) => {
-            is_leaf(identifier, OBJECT_IDENTIFIER, oid) && is_leaf(parameters, NULL, &[])
-        }
-        None => false,
-    }
+    let (identifier, parameters) = two_kids(elem, SEQUENCE)?;
+    expect_leaf(identifier, OBJECT_IDENTIFIER, oid)?;
+    expect_leaf(parameters, NULL, &[])
 }
 
 /// The text of a name that is one common name.
-fn name_of(tree: &Tree) -> Option<&[u8]>
-    ensures { Reads (λ text. text.now) name tree.now result }
+fn name_of<'a>(elem: Elem<'a>) -> Option<&'a [u8]>
+    ensures { MatchOption result
+        ((text : List ℕ) → elem.entry.is.0 ≢ name text)
+        (λ text. elem.entry.is.0 ≡ name text.now) }
 {
-    let [set] = kids_of::<1>(tree, SEQUENCE)?;
-    let [attribute] = kids_of::<1>(set, SET)?;
-    let [oid, value] = kids_of::<2>(attribute, SEQUENCE)?;
-    if !is_leaf(oid, OBJECT_IDENTIFIER, &COMMON_NAME) {
-        return None;
-    }
-    leaf_of(value, UTF8_STRING)
-}
-
-/// The octets of a bit string without unused bits.
-fn whole_octets_of(tree: &Tree) -> Option<&[u8]>
-    ensures { Reads (λ payload. payload.now) bit_string tree.now result }
-{
-    match leaf_of(tree, BIT_STRING)? {
-        [0, payload @ ..] => Some(payload),
-        _ => None,
-    }
+    let set = only_kid(elem, SEQUENCE)?;
+    let attribute = only_kid(set, SET)?;
+    let (oid, value) = two_kids(attribute, SEQUENCE)?;
+    expect_leaf(oid, OBJECT_IDENTIFIER, AT_COMMON_NAME)?;
+    leaf_at(value, UTF8_STRING)
 }
 
 /// The two times of a validity.
-fn validity_of(tree: &Tree) -> Option<(&[u8], &[u8])>
-    ensures { Reads {X = List ℕ × List ℕ} (λ times. (times.0.now, times.1.now)) (λ times. validity times.0 times.1) tree.now result }
+fn validity_of<'a>(elem: Elem<'a>) -> Option<(&'a [u8], &'a [u8])>
+    ensures { MatchOption result
+        ((not_before not_after : List ℕ) → elem.entry.is.0 ≢ validity not_before not_after)
+        (λ times. elem.entry.is.0 ≡ validity times.0.now times.1.now) }
 {
-    let [not_before, not_after] = kids_of::<2>(tree, SEQUENCE)?;
-    let not_before = leaf_of(not_before, UTC_TIME)?;
-    let not_after = leaf_of(not_after, UTC_TIME)?;
+    let (not_before, not_after) = two_kids(elem, SEQUENCE)?;
+    let not_before = leaf_at(not_before, UTC_TIME)?;
+    let not_after = leaf_at(not_after, UTC_TIME)?;
     Some((not_before, not_after))
 }
 
 /// The octets of an RSA key.
-fn public_key_of(tree: &Tree) -> Option<&[u8]>
-    ensures { Reads (λ key. key.now) public_key_info tree.now result }
+fn public_key_of<'a>(elem: Elem<'a>) -> Option<&'a [u8]>
+    ensures { MatchOption result
+        ((key : List ℕ) → elem.entry.is.0 ≢ public_key_info key)
+        (λ key. elem.entry.is.0 ≡ public_key_info key.now) }
 {
-    let [kind, key] = kids_of::<2>(tree, SEQUENCE)?;
-    if !is_algorithm(kind, &RSA_ENCRYPTION) {
-        return None;
-    }
-    whole_octets_of(key)
+    let (kind, key) = two_kids(elem, SEQUENCE)?;
+    expect_algorithm(kind, RSA_ENCRYPTION)?;
+    whole_octets_at(key)
 }
 
-fn is_version_3(tree: &Tree) -> bool
-    ensures { IsTrue result ↔ (tree.now ≡ version_3) }
+/// The element is the version of certificates that may have extensions.
+fn expect_version_3(elem: Elem<'_>) -> Option<()>
+    ensures { MatchOption result
+        (elem.entry.is.0 ≢ version_3)
+        (λ _. elem.entry.is.0 ≡ version_3) }
 {
-    match kids_of::<1>(tree, CONTEXT_0) {
-        Some([version]) => is_leaf(version, INTEGER, &[2]),
-        None => false,
-    }
+    let version = only_kid(elem, CONTEXT_0)?;
+    expect_leaf(version, INTEGER, &[2])
 }
 
 /// The part of a certificate that is signed.
-fn tbs_certificate_of(tree: &Tree) -> Option<TbsCertificate<'_>>
-    ensures { Reads tbs_parts tbs_certificate tree.now result }
+fn tbs_certificate_of<'a>(elem: Elem<'a>) -> Option<TbsCertificate<'a>>
+    ensures { MatchOption result
+        ((parts : TbsParts) → elem.entry.is.0 ≢ tbs_certificate parts)
+        (λ tbs. elem.entry.is.0 ≡ tbs_certificate (tbs_parts tbs)) }
 {
-    let [version, serial, algorithm, issuer, validity, subject, key] = kids_of::<7>(
-        tree, SEQUENCE,
-    )?;
-    if !is_version_3(version) || !is_algorithm(algorithm, &SHA256_WITH_RSA_ENCRYPTION) {
-        return None;
-    }
-    let serial = leaf_of(serial, INTEGER)?;
-    let issuer = name_of(issuer)?;
-    let (not_before, not_after) = validity_of(validity)?;
-    let subject = name_of(subject)?;
-    let key = public_key_of(key)?;
+    let mut fields = Kids::of(elem, SEQUENCE)?;
+    expect_version_3(fields.next()?)?;
+    let serial = leaf_at(fields.next()?, INTEGER)?;
+    expect_algorithm(fields.next()?, SHA256_WITH_RSA_ENCRYPTION)?;
+    let issuer = name_of(fields.next()?)?;
+    let (not_before, not_after) = validity_of(fields.next()?)?;
+    let subject = name_of(fields.next()?)?;
+    let key = public_key_of(fields.next()?)?;
+    fields.end()?;
     Some(TbsCertificate {
         serial,
         issuer,
@@ -113,198 +107,177 @@ fn tbs_certificate_of(tree: &Tree) -> Option<TbsCertificate<'_>>
     })
 }
 
-fn plain_certificate_of(tree: &Tree) -> Option<PlainCertificate<'_>>
-    ensures { Reads certificate_parts certificate tree.now result }
+fn plain_certificate_of<'a>(elem: Elem<'a>) -> Option<PlainCertificate<'a>>
+    ensures { MatchOption result
+        ((parts : CertificateParts) → elem.entry.is.0 ≢ certificate parts)
+        (λ found. elem.entry.is.0 ≡ certificate (certificate_parts found)) }
 {
-    let [tbs, algorithm, signature] = kids_of::<3>(tree, SEQUENCE)?;
-    if !is_algorithm(algorithm, &SHA256_WITH_RSA_ENCRYPTION) {
-        return None;
-    }
+    let (tbs, algorithm, signature) = three_kids(elem, SEQUENCE)?;
     let tbs = tbs_certificate_of(tbs)?;
-    let signature = whole_octets_of(signature)?;
+    expect_algorithm(algorithm, SHA256_WITH_RSA_ENCRYPTION)?;
+    let signature = whole_octets_at(signature)?;
     Some(PlainCertificate { tbs, signature })
 }
 
-/// Whether the element links to no file (`SpcLink` of an empty `SpcString`).
-fn is_empty_link(tree: &Tree) -> bool
-    ensures { IsTrue result ↔ (tree.now ≡ empty_link) }
+/// The element links to no file (`SpcLink` of an empty `SpcString`).
+fn expect_empty_link(elem: Elem<'_>) -> Option<()>
+    ensures { MatchOption result
+        (elem.entry.is.0 ≢ empty_link)
+        (λ _. elem.entry.is.0 ≡ empty_link) }
 {
-    let Some([file]) = kids_of::<1>(tree, CONTEXT_0) else {
-        return false;
-    };
-    match kids_of::<1>(file, CONTEXT_2) {
-        Some([name]) => is_leaf(name, IMPLICIT_0, &[]),
-        None => false,
-    }
+    let file = only_kid(elem, CONTEXT_0)?;
+    let name = only_kid(file, CONTEXT_2)?;
+    expect_leaf(name, IMPLICIT_0, &[])
 }
 
-fn is_image_data(tree: &Tree) -> bool
-    ensures { IsTrue result ↔ (tree.now ≡ image_data) }
+/// The element says that the file is a portable executable, without page hashes.
+fn expect_image_data(elem: Elem<'_>) -> Option<()>
+    ensures { MatchOption result
+        (elem.entry.is.0 ≢ image_data)
+        (λ _. elem.entry.is.0 ≡ image_data) }
 {
-    let Some([kind, image]) = kids_of::<2>(tree, SEQUENCE) else {
-        return false;
-    };
-    match kids_of::<2>(image, SEQUENCE) {
-        Some([flags, link]) => {
-            is_leaf(kind, OBJECT_IDENTIFIER, &PE_IMAGE_DATA)
-                && is_leaf(flags, BIT_STRING, &[0])
-                && is_empty_link(link)
-        }
-        None => false,
-    }
+    let (kind, image) = two_kids(elem, SEQUENCE)?;
+    expect_leaf(kind, OBJECT_IDENTIFIER, SPC_PE_IMAGE_DATA)?;
+    let (flags, link) = two_kids(image, SEQUENCE)?;
+    expect_leaf(flags, BIT_STRING, &[0])?;
+    expect_empty_link(link)
 }
 
 /// A SHA-256 digest beside its algorithm.
-fn digest_info_of(tree: &Tree) -> Option<&[u8]>
-    ensures { Reads (λ digest. digest.now) digest_info tree.now result }
+fn digest_info_of<'a>(elem: Elem<'a>) -> Option<&'a [u8]>
+    ensures { MatchOption result
+        ((digest : List ℕ) → elem.entry.is.0 ≢ digest_info digest)
+        (λ digest. elem.entry.is.0 ≡ digest_info digest.now) }
 {
-    let [algorithm, digest] = kids_of::<2>(tree, SEQUENCE)?;
-    if !is_algorithm(algorithm, &SHA256) {
-        return None;
-    }
-    leaf_of(digest, OCTET_STRING)
+    let (algorithm, digest) = two_kids(elem, SEQUENCE)?;
+    expect_algorithm(algorithm, SHA256)?;
+    leaf_at(digest, OCTET_STRING)
 }
 
 /// The digest of the file in the indirect data.
-fn indirect_data_of(tree: &Tree) -> Option<&[u8]>
-    ensures { Reads (λ file_hash. file_hash.now) indirect_data tree.now result }
+fn indirect_data_of<'a>(elem: Elem<'a>) -> Option<&'a [u8]>
+    ensures { MatchOption result
+        ((file_hash : List ℕ) → elem.entry.is.0 ≢ indirect_data file_hash)
+        (λ file_hash. elem.entry.is.0 ≡ indirect_data file_hash.now) }
 {
-    let [image, digest] = kids_of::<2>(tree, SEQUENCE)?;
-    if !is_image_data(image) {
-        return None;
-    }
+    let (image, digest) = two_kids(elem, SEQUENCE)?;
+    expect_image_data(image)?;
     digest_info_of(digest)
 }
 
-fn content_info_of(tree: &Tree) -> Option<IndirectData<'_>>
-    ensures { Reads (λ found. found.file_hash.now) content_info tree.now result }
+fn content_info_of<'a>(elem: Elem<'a>) -> Option<IndirectData<'a>>
+    ensures { MatchOption result
+        ((file_hash : List ℕ) → elem.entry.is.0 ≢ content_info file_hash)
+        (λ found. elem.entry.is.0 ≡ content_info found.file_hash.now) }
 {
-    let [kind, content] = kids_of::<2>(tree, SEQUENCE)?;
-    if !is_leaf(kind, OBJECT_IDENTIFIER, &INDIRECT_DATA) {
-        return None;
-    }
-    let [element] = kids_of::<1>(content, CONTEXT_0)?;
+    let (kind, content) = two_kids(elem, SEQUENCE)?;
+    expect_leaf(kind, OBJECT_IDENTIFIER, SPC_INDIRECT_DATA)?;
+    let element = only_kid(content, CONTEXT_0)?;
     let file_hash = indirect_data_of(element)?;
-    Some(IndirectData { element, file_hash })
+    Some(IndirectData {
+        contents: element.content,
+        file_hash,
+    })
 }
 
 /// The one value of an attribute of this kind.
-fn attribute_value<'a>(tree: &'a Tree, kind: &[u8]) -> Option<&'a Tree>
-    ensures { Reads (λ value. value.now) (attribute kind.now) tree.now result }
+fn attribute_value<'a>(elem: Elem<'a>, kind: &[u8]) -> Option<Elem<'a>>
+    ensures { MatchOption result
+        ((value : DerElement) → elem.entry.is.0 ≢ attribute kind.now value)
+        (λ value. elem.entry.is.0 ≡ attribute kind.now value.is.0) }
 {
-    let [oid, values] = kids_of::<2>(tree, SEQUENCE)?;
-    if !is_leaf(oid, OBJECT_IDENTIFIER, kind) {
-        return None;
-    }
-    let [value] = kids_of::<1>(values, SET)?;
-    Some(value)
+    let (oid, values) = two_kids(elem, SEQUENCE)?;
+    expect_leaf(oid, OBJECT_IDENTIFIER, kind)?;
+    only_kid(values, SET)
 }
 
-fn is_content_type(tree: &Tree) -> bool
-    ensures { IsTrue result ↔ (tree.now ≡ attribute content_type (object_identifier indirect_data_type)) }
+/// The element is the attribute that says that the content is indirect data.
+fn expect_content_type(elem: Elem<'_>) -> Option<()>
+    ensures { let content_type = attribute identifiers.CONTENT_TYPE.now (object_identifier identifiers.SPC_INDIRECT_DATA.now) in MatchOption result
+        (elem.entry.is.0 ≢ content_type)
+        (λ _. elem.entry.is.0 ≡ content_type) }
 {
-    match attribute_value(tree, &CONTENT_TYPE) {
-        Some(value) => is_leaf(value, OBJECT_IDENTIFIER, &INDIRECT_DATA),
-        None => false,
-    }
+    let value = attribute_value(elem, CONTENT_TYPE)?;
+    expect_leaf(value, OBJECT_IDENTIFIER, SPC_INDIRECT_DATA)
 }
 
-/// Whether the element is the attribute of a publisher's information without a program's name.
-fn is_opus_info(tree: &Tree) -> bool
-    ensures { IsTrue result ↔ (tree.now ≡ attribute opus_info no_program_name) }
+/// The element is the attribute of a publisher's information without a program's name.
+fn expect_opus_info(elem: Elem<'_>) -> Option<()>
+    ensures { let opus_info = attribute identifiers.SPC_SP_OPUS_INFO.now no_program_name in MatchOption result
+        (elem.entry.is.0 ≢ opus_info)
+        (λ _. elem.entry.is.0 ≡ opus_info) }
 {
-    let Some(value) = attribute_value(tree, &OPUS_INFO) else {
-        return false;
-    };
-    let Some([more_info]) = kids_of::<1>(value, SEQUENCE) else {
-        return false;
-    };
-    match kids_of::<1>(more_info, CONTEXT_1) {
-        Some([url]) => is_leaf(url, IMPLICIT_0, &[]),
-        None => false,
-    }
+    let value = attribute_value(elem, SPC_SP_OPUS_INFO)?;
+    let more_info = only_kid(value, SEQUENCE)?;
+    let url = only_kid(more_info, CONTEXT_1)?;
+    expect_leaf(url, IMPLICIT_0, &[])
 }
 
 /// The digest of the content in the signed attributes.
-fn message_digest_of(tree: &Tree) -> Option<&[u8]>
-    ensures { Reads (λ digest. digest.now) (λ digest. context 0 (attributes digest)) tree.now result }
+fn message_digest_of<'a>(elem: Elem<'a>) -> Option<&'a [u8]>
+    ensures { MatchOption result
+        ((digest : List ℕ) → elem.entry.is.0 ≢ context 0 (attributes digest))
+        (λ digest. elem.entry.is.0 ≡ context 0 (attributes digest.now)) }
 {
-    let [content_type, opus_info, message_digest] = kids_of::<3>(tree, CONTEXT_0)?;
-    if !is_content_type(content_type) || !is_opus_info(opus_info) {
-        return None;
-    }
-    let value = attribute_value(message_digest, &MESSAGE_DIGEST)?;
-    leaf_of(value, OCTET_STRING)
+    let (content_type, opus_info, message_digest) = three_kids(elem, CONTEXT_0)?;
+    expect_content_type(content_type)?;
+    expect_opus_info(opus_info)?;
+    let value = attribute_value(message_digest, MESSAGE_DIGEST)?;
+    leaf_at(value, OCTET_STRING)
 }
 
 /// The issuer and the serial number by which a signer names its certificate.
-fn issuer_and_serial_number_of(tree: &Tree) -> Option<(&[u8], &[u8])>
-    ensures { Reads {X = List ℕ × List ℕ} (λ names. (names.0.now, names.1.now)) (λ names. issuer_and_serial_number names.0 names.1) tree.now result }
+fn issuer_and_serial_number_of<'a>(elem: Elem<'a>) -> Option<(&'a [u8], &'a [u8])>
+    ensures { MatchOption result
+        ((issuer serial : List ℕ) → elem.entry.is.0 ≢ issuer_and_serial_number issuer serial)
+        (λ names. elem.entry.is.0 ≡ issuer_and_serial_number names.0.now names.1.now) }
 {
-    let [issuer, serial] = kids_of::<2>(tree, SEQUENCE)?;
+    let (issuer, serial) = two_kids(elem, SEQUENCE)?;
     let issuer = name_of(issuer)?;
-    let serial = leaf_of(serial, INTEGER)?;
+    let serial = leaf_at(serial, INTEGER)?;
     Some((issuer, serial))
 }
 
-fn signer_info_of(tree: &Tree) -> Option<SignerInfo<'_>>
-    ensures { Reads signer_parts signer_info tree.now result }
+fn signer_info_of<'a>(elem: Elem<'a>) -> Option<SignerInfo<'a>>
+    ensures { MatchOption result
+        ((parts : SignerParts) → elem.entry.is.0 ≢ signer_info parts)
+        (λ signer. elem.entry.is.0 ≡ signer_info (signer_parts signer)) }
 {
-    let [
-        version,
-        names,
-        digest_algorithm,
-        attributes,
-        algorithm,
-        signature,
-    ] = kids_of::<6>(tree, SEQUENCE)?;
-    if !is_leaf(version, INTEGER, &[1])
-        || !is_algorithm(digest_algorithm, &SHA256)
-        || !is_algorithm(algorithm, &RSA_ENCRYPTION)
-    {
-        return None;
-    }
-    let (issuer, serial) = issuer_and_serial_number_of(names)?;
+    let mut fields = Kids::of(elem, SEQUENCE)?;
+    expect_leaf(fields.next()?, INTEGER, &[1])?;
+    let (issuer, serial) = issuer_and_serial_number_of(fields.next()?)?;
+    expect_algorithm(fields.next()?, SHA256)?;
+    let attributes = fields.next()?;
     let message_digest = message_digest_of(attributes)?;
-    let signature = leaf_of(signature, OCTET_STRING)?;
+    expect_algorithm(fields.next()?, RSA_ENCRYPTION)?;
+    let signature = leaf_at(fields.next()?, OCTET_STRING)?;
+    fields.end()?;
     Some(SignerInfo {
         issuer,
         serial,
-        attributes,
+        attributes: attributes.whole,
         message_digest,
         signature,
     })
 }
 
-fn is_digest_algorithms(tree: &Tree) -> bool
-    ensures { IsTrue result ↔ (tree.now ≡ set (algorithm sha256_type ∷ [])) }
+fn signed_data_of<'a>(elem: Elem<'a>) -> Option<PlainSignature<'a>>
+    ensures { MatchOption result
+        ((parts : SignatureParts) → elem.entry.is.0 ≢ signed_data parts)
+        (λ found. elem.entry.is.0 ≡ signed_data (signature_parts found)) }
 {
-    match kids_of::<1>(tree, SET) {
-        Some([only]) => is_algorithm(only, &SHA256),
-        None => false,
-    }
-}
-
-fn signed_data_of(tree: &Tree) -> Option<PlainSignature<'_>>
-    ensures { Reads signature_parts signed_data tree.now result }
-{
-    let [
-        version,
-        digest_algorithms,
-        content,
-        certificates,
-        crls,
-        signers,
-    ] = kids_of::<6>(tree, SEQUENCE)?;
-    if !is_leaf(version, INTEGER, &[1]) || !is_digest_algorithms(digest_algorithms) {
-        return None;
-    }
-    let [] = kids_of::<0>(crls, CONTEXT_1)?;
-    let [certificate] = kids_of::<1>(certificates, CONTEXT_0)?;
-    let [signer] = kids_of::<1>(signers, SET)?;
-    let content = content_info_of(content)?;
+    let mut fields = Kids::of(elem, SEQUENCE)?;
+    expect_leaf(fields.next()?, INTEGER, &[1])?;
+    let digest_algorithm = only_kid(fields.next()?, SET)?;
+    expect_algorithm(digest_algorithm, SHA256)?;
+    let content = content_info_of(fields.next()?)?;
+    let certificate = only_kid(fields.next()?, CONTEXT_0)?;
     let certificate = plain_certificate_of(certificate)?;
+    let crls = Kids::of(fields.next()?, CONTEXT_1)?;
+    crls.end()?;
+    let signer = only_kid(fields.next()?, SET)?;
     let signer = signer_info_of(signer)?;
+    fields.end()?;
     Some(PlainSignature {
         content,
         certificate,
@@ -312,14 +285,14 @@ fn signed_data_of(tree: &Tree) -> Option<PlainSignature<'_>>
     })
 }
 
-/// The signed data of the plain form that a tree holds.
-pub(crate) fn plain_signature_of(tree: &Tree) -> Option<PlainSignature<'_>>
-    ensures { Reads signature_parts signed_content tree.now result }
+/// The signed data of the plain form that an element holds.
+pub(crate) fn plain_signature_of<'a>(elem: Elem<'a>) -> Option<PlainSignature<'a>>
+    ensures { MatchOption result
+        ((parts : SignatureParts) → elem.entry.is.0 ≢ signed_content parts)
+        (λ found. elem.entry.is.0 ≡ signed_content (signature_parts found)) }
 {
-    let [kind, content] = kids_of::<2>(tree, SEQUENCE)?;
-    if !is_leaf(kind, OBJECT_IDENTIFIER, &SIGNED_DATA) {
-        return None;
-    }
-    let [signed_data] = kids_of::<1>(content, CONTEXT_0)?;
+    let (kind, content) = two_kids(elem, SEQUENCE)?;
+    expect_leaf(kind, OBJECT_IDENTIFIER, SIGNED_DATA)?;
+    let signed_data = only_kid(content, CONTEXT_0)?;
     signed_data_of(signed_data)
 }
