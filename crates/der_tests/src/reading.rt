@@ -1,27 +1,37 @@
 //! An element that is read, and written again.
 
-use der_core::{DerError, DerFault, Malformed, read_exact, read_first, write};
-use std::test::Fail;
+ghost use Rattle.der_core.specs.Encoding.{IsWellFormed};
+
+use der_core::{DerError, DerFault, Malformed, Tree, read_exact, read_first, write};
+use std::alloc::Global;
+
+/// An element, and an octet after it.
+const OCTETS: [u8; 6] = [0x30, 3, 2, 1, 5, 0xFF];
 
 #[test]
-fn read_and_written(rt: HostRuntime) -> Result<(), Fail> {
-    let octets = [0x30, 3, 2, 1, 5, 0xFF];
-    let (tree, taken) = read_first(rt.alloc(), &octets)?;
-    let written = write(rt.alloc(), &tree)?;
-    assert_eq!(rt; written.as_slice(), &octets[..5]);
-    assert_eq!(rt; taken, 5);
-    assert_eq!(rt; tree.tag(), 0x30);
+fn read_and_written(rt: HostRuntime) -> Result<(), DerError> {
+    let (tree, taken) = read_first(rt.alloc(), &OCTETS)?;
+    assert!(rt; taken == 5 && tree.tag() == 0x30);
+    assert!(rt; is_written(rt.alloc(), &tree, &OCTETS[..5])?);
+    Ok(())
+}
 
-    let again = read_exact(rt.alloc(), &octets[..5])?;
-    let written = write(rt.alloc(), &again)?;
-    assert_eq!(rt; written.as_slice(), &octets[..5]);
+#[test]
+fn nothing_else_is_exactly_an_element(rt: HostRuntime) -> Result<(), DerError> {
+    let tree = read_exact(rt.alloc(), &OCTETS[..5])?;
+    assert!(rt; is_written(rt.alloc(), &tree, &OCTETS[..5])?);
     let trailing = Malformed {
         at: 5,
         fault: DerFault::Trailing,
     };
-    assert_eq!(rt;
-        read_exact(rt.alloc(), &octets).err(),
-        Some(DerError::Malformed(trailing))
-    );
+    let refused = read_exact(rt.alloc(), &OCTETS).err();
+    assert!(rt; refused == Some(DerError::Malformed(trailing)));
     Ok(())
+}
+
+/// Whether a tree is written as these octets.
+pub(crate) fn is_written(alloc: Global, tree: &Tree, octets: &[u8]) -> Result<bool, DerError>
+    requires { IsWellFormed tree.now }
+{
+    Ok(write(alloc, tree)?.as_slice() == octets)
 }

@@ -1,11 +1,10 @@
 //! What a whole run answers to words, to tables and to signature files.
 
 use crate::signature::{
-    ACCEPTED, HASH, HEADER, ROW, VALUE, accepted_file, answer, octets, shelf_of,
+    ACCEPTED, HASH, HEADER, ROW, VALUE, accepted_file, is_answered, octets, shelf_of,
 };
+use hex::FromHexError;
 use std::alloc::{AllocError, Global};
-use std::process::Abort;
-use std::test::Fail;
 
 const ROOM: usize = 100;
 
@@ -124,24 +123,24 @@ const WORDS: &[(&str, &[&str], u8, &str)] = &[
 ];
 
 #[test]
-fn signature_files_are_judged(rt: HostRuntime) -> Result<(), Fail> {
+fn signature_files_are_judged(rt: HostRuntime) -> Result<(), FromHexError> {
+    let words = &["basic", "s", "t", HASH];
     for (why, header, value, after, status, line) in FILES {
         let file = joined(rt.alloc(), header, value, after)?;
-        is_answered(
-            &rt,
-            rt.alloc(),
-            why,
-            &["basic", "s", "t", HASH],
-            &file,
-            ROW.as_bytes(),
-            *status,
-            line,
-        )?;
+        assert!(rt;
+            answers(rt.alloc(), words, &file, ROW, *status, line)?,
+            "{why}"
+        );
     }
     Ok(())
 }
 
-fn joined(alloc: Global, header: &str, value: &[&str], after: &str) -> Result<Vec<u8>, Fail> {
+fn joined(
+    alloc: Global,
+    header: &str,
+    value: &[&str],
+    after: &str,
+) -> Result<Vec<u8>, FromHexError> {
     let mut file = octets(alloc, &[header])?;
     file.append(&mut octets(alloc, value)?)?;
     file.append(&mut octets(alloc, &[after])?)?;
@@ -149,20 +148,15 @@ fn joined(alloc: Global, header: &str, value: &[&str], after: &str) -> Result<Ve
 }
 
 #[test]
-fn tables_decide(rt: HostRuntime) -> Result<(), Fail> {
+fn tables_decide(rt: HostRuntime) -> Result<(), FromHexError> {
     let file = accepted_file(rt.alloc())?;
+    let words = &["basic", "s", "t", HASH];
     for (why, pieces, status, line) in TABLES {
         let table = text(rt.alloc(), pieces)?;
-        is_answered(
-            &rt,
-            rt.alloc(),
-            why,
-            &["basic", "s", "t", HASH],
-            &file,
-            table.as_bytes(),
-            *status,
-            line,
-        )?;
+        assert!(rt;
+            answers(rt.alloc(), words, &file, table.as_str(), *status, line)?,
+            "{why}"
+        );
     }
     Ok(())
 }
@@ -176,36 +170,26 @@ fn text(alloc: Global, pieces: &[&str]) -> Result<String, AllocError> {
 }
 
 #[test]
-fn words_name_the_files_and_the_hash(rt: HostRuntime) -> Result<(), Fail> {
+fn words_name_the_files_and_the_hash(rt: HostRuntime) -> Result<(), FromHexError> {
     let file = accepted_file(rt.alloc())?;
     for (why, words, status, line) in WORDS {
-        is_answered(
-            &rt,
-            rt.alloc(),
-            why,
-            words,
-            &file,
-            ROW.as_bytes(),
-            *status,
-            line,
-        )?;
+        assert!(rt;
+            answers(rt.alloc(), words, &file, ROW, *status, line)?,
+            "{why}"
+        );
     }
     Ok(())
 }
 
-fn is_answered(
-    rt: &impl Abort,
+/// Whether a run over a signature file and a table ends with a status and a line.
+fn answers(
     alloc: Global,
-    why: &str,
     words: &[&str],
     signature: &[u8],
-    table: &[u8],
+    table: &str,
     status: u8,
     line: &str,
-) -> Result<(), Fail> {
-    let mut shelf = shelf_of(alloc, signature, table)?;
-    let (got, written) = answer(alloc, words, &mut shelf, ROOM)?;
-    assert_eq!(rt; got, status, "{why}");
-    assert_eq!(rt; written.as_slice(), line.as_bytes(), "{why}");
-    Ok(())
+) -> Result<bool, AllocError> {
+    let mut shelf = shelf_of(alloc, signature, table.as_bytes())?;
+    is_answered(alloc, words, &mut shelf, ROOM, status, line.as_bytes())
 }

@@ -21,20 +21,18 @@ const LONG: [(&[u8], usize); 8] = [
 ];
 
 #[test]
-fn long_elements_are_read_and_written(rt: HostRuntime) -> Result<(), Fail> {
-    let alloc = rt.alloc();
+fn long_elements_are_read_and_written(rt: HostRuntime) -> Result<(), DerError> {
     for (head, size) in LONG {
-        let contents = vec![in alloc; 0xAAu8; size]?;
-        let mut octets = Vec::from_slice(alloc, head)?;
-        octets.extend_from_slice(&contents)?;
-        let (tree, taken) = read_first(alloc, &octets)?;
-        assert_eq!(rt; taken, octets.len(), "{size}");
-        assert!(rt;
-            write(alloc, &tree)?.as_slice() == octets.as_slice(),
-            "{size}"
-        );
+        assert!(rt; is_read_and_written(rt.alloc(), head, size)?, "{size}");
     }
     Ok(())
+}
+
+fn is_read_and_written(alloc: Global, head: &[u8], size: usize) -> Result<bool, DerError> {
+    let mut octets = Vec::from_slice(alloc, head)?;
+    octets.append(&mut vec![in alloc; 0xAAu8; size]?)?;
+    let (tree, taken) = read_first(alloc, &octets)?;
+    Ok(taken == octets.len() && write(alloc, &tree)?.as_slice() == octets.as_slice())
 }
 
 // 64 levels, the most that are read and written: each element has the next alone.
@@ -43,18 +41,14 @@ const DEEPEST: &str =
 
 #[test]
 fn a_tree_of_65_levels_is_not_written(rt: HostRuntime) -> Result<(), Fail> {
-    let alloc = rt.alloc();
-    let octets = crate::signature::octets(alloc, &[DEEPEST])?;
-    let deepest = read_exact(alloc, &octets)?;
-    assert!(rt; write(alloc, &deepest)?.as_slice() == octets.as_slice());
-    assert_eq!(rt; Raw::from_tree(alloc, &deepest)?.nesting(), 64);
+    let octets = crate::signature::octets(rt.alloc(), &[DEEPEST])?;
+    let deepest = read_exact(rt.alloc(), &octets)?;
+    assert!(rt; write(rt.alloc(), &deepest)?.as_slice() == octets.as_slice());
+    assert!(rt; Raw::from_tree(rt.alloc(), &deepest)?.nesting() == 64);
 
-    let deeper = wrapped(alloc, deepest)?;
-    assert_eq!(rt; write(alloc, &deeper).err(), Some(DerError::TooDeep));
-    assert_eq!(rt;
-        Raw::from_tree(alloc, &deeper).err(),
-        Some(DerError::TooDeep)
-    );
+    let deeper = wrapped(rt.alloc(), deepest)?;
+    assert!(rt; write(rt.alloc(), &deeper).err() == Some(DerError::TooDeep));
+    assert!(rt; Raw::from_tree(rt.alloc(), &deeper).err() == Some(DerError::TooDeep));
     Ok(())
 }
 

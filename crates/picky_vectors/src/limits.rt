@@ -1,7 +1,8 @@
 //! Calls that fail, sinks without room, and files of the greatest length.
 
-use crate::signature::{ACCEPTED, HASH, ROW, accepted_file, answer, shelf_of};
-use std::test::Fail;
+use crate::signature::{ACCEPTED, HASH, ROW, accepted_file, is_answered, shelf_of};
+use hex::FromHexError;
+use std::alloc::{AllocError, Global};
 
 const LONGEST: usize = 16_777_216;
 
@@ -23,59 +24,100 @@ const SIZES: [(usize, usize, u8, &str); 5] = [
 ];
 
 #[test]
-fn a_failing_call_writes_nothing(rt: HostRuntime) -> Result<(), Fail> {
-    let alloc = rt.alloc();
-    let file = accepted_file(alloc)?;
-    let mut reached = true;
+fn a_failing_call_writes_nothing(rt: HostRuntime) -> Result<(), FromHexError> {
+    let file = accepted_file(rt.alloc())?;
+    let mut calls = 0;
     for call in 0..MANY_CALLS {
-        let mut shelf = shelf_of(alloc, &file, ROW.as_bytes())?;
-        shelf.fail_at(call)?;
-        let (status, written) = answer(alloc, &["basic", "s", "t", HASH], &mut shelf, 100)?;
-        reached = reached && status != 0;
-        let (want, line) = if reached { (4, "") } else { (0, ACCEPTED) };
-        assert_eq!(rt; status, want, "call {call}");
-        assert_eq!(rt; written.as_slice(), line.as_bytes(), "call {call}");
+        if answers_where_a_call_fails(rt.alloc(), &file, call, 4, "")? {
+            calls = call + 1;
+        } else {
+            break;
+        }
+    }
+    assert!(rt;
+        4 <= calls && calls < MANY_CALLS,
+        "each file is picked and read: {calls} calls"
+    );
+    for call in calls..MANY_CALLS {
         assert!(rt;
-            reached || call >= 4,
-            "each file is picked and read: call {call}"
+            answers_where_a_call_fails(rt.alloc(), &file, call, 0, ACCEPTED)?,
+            "{call}"
         );
     }
-    assert!(rt; !reached);
     Ok(())
 }
 
+fn answers_where_a_call_fails(
+    alloc: Global,
+    file: &[u8],
+    call: u64,
+    status: u8,
+    line: &str,
+) -> Result<bool, AllocError> {
+    let mut shelf = shelf_of(alloc, file, ROW.as_bytes())?;
+    shelf.fail_at(call)?;
+    let words = &["basic", "s", "t", HASH];
+    is_answered(alloc, words, &mut shelf, 100, status, line.as_bytes())
+}
+
 #[test]
-fn a_line_is_cut_where_the_room_ends(rt: HostRuntime) -> Result<(), Fail> {
-    let alloc = rt.alloc();
-    let file = accepted_file(alloc)?;
+fn a_line_is_cut_where_the_room_ends(rt: HostRuntime) -> Result<(), FromHexError> {
+    let file = accepted_file(rt.alloc())?;
     for (hash, line, whole) in [(HASH, ACCEPTED, 0), (OTHER_HASH, OTHER, 1)] {
-        let line = line.as_bytes();
         for room in 0..=line.len() + 1 {
-            let mut shelf = shelf_of(alloc, &file, ROW.as_bytes())?;
-            let (status, written) = answer(alloc, &["basic", "s", "t", hash], &mut shelf, room)?;
-            let want = if room < line.len() { 5 } else { whole };
-            assert_eq!(rt; status, want, "room {room}");
-            let held = &line[..room.min(line.len())];
-            assert_eq!(rt; written.as_slice(), held, "room {room}");
+            assert!(rt;
+                is_cut(rt.alloc(), &file, hash, room, whole, line)?,
+                "room {room}"
+            );
         }
     }
     Ok(())
 }
 
+/// Whether a run writes what fits of a line, and ends with the status of a whole line or with 5.
+fn is_cut(
+    alloc: Global,
+    file: &[u8],
+    hash: &str,
+    room: usize,
+    whole: u8,
+    line: &str,
+) -> Result<bool, AllocError> {
+    let line = line.as_bytes();
+    let status = if room < line.len() { 5 } else { whole };
+    let held = &line[..room.min(line.len())];
+    let mut shelf = shelf_of(alloc, file, ROW.as_bytes())?;
+    is_answered(
+        alloc,
+        &["basic", "s", "t", hash],
+        &mut shelf,
+        room,
+        status,
+        held,
+    )
+}
+
 #[test]
-fn a_file_of_the_greatest_length_is_read(rt: HostRuntime) -> Result<(), Fail> {
-    let alloc = rt.alloc();
+fn a_file_of_the_greatest_length_is_read(rt: HostRuntime) -> Result<(), AllocError> {
     for (zeros, newlines, status, line) in SIZES {
-        let file = vec![in alloc; 0u8; zeros]?;
-        let table = vec![in alloc; b'\n'; newlines]?;
-        let mut shelf = shelf_of(alloc, &file, &table)?;
-        let (got, written) = answer(alloc, &["basic", "s", "t", HASH], &mut shelf, 100)?;
-        assert_eq!(rt; got, status, "{zeros} zeros, {newlines} newlines");
-        assert_eq!(rt;
-            written.as_slice(),
-            line.as_bytes(),
+        assert!(rt;
+            answers_to_sizes(rt.alloc(), zeros, newlines, status, line)?,
             "{zeros} zeros, {newlines} newlines"
         );
     }
     Ok(())
+}
+
+fn answers_to_sizes(
+    alloc: Global,
+    zeros: usize,
+    newlines: usize,
+    status: u8,
+    line: &str,
+) -> Result<bool, AllocError> {
+    let file = vec![in alloc; 0u8; zeros]?;
+    let table = vec![in alloc; b'\n'; newlines]?;
+    let mut shelf = shelf_of(alloc, &file, &table)?;
+    let words = &["basic", "s", "t", HASH];
+    is_answered(alloc, words, &mut shelf, 100, status, line.as_bytes())
 }

@@ -1,8 +1,8 @@
 //! A signature that is accepted, as `tools/first_path.py` writes it, and runs over it.
 
+use hex::FromHexError;
 use picky_check::{MemShelf, MemSink, run};
 use std::alloc::{AllocError, Global};
-use std::test::Fail;
 
 /// The SHA-256 of `abc`.
 pub(crate) const HASH: &str = "ba7816bf8f01cfea414140de5dae2223b00361a396177a9cb410ff61f20015ad";
@@ -45,17 +45,16 @@ pub(crate) const VALUE: &[&str] = &[
 ];
 
 /// The octets that pieces of hexadecimal digits stand for.
-pub(crate) fn octets(alloc: Global, pieces: &[&str]) -> Result<Vec<u8>, Fail> {
+pub(crate) fn octets(alloc: Global, pieces: &[&str]) -> Result<Vec<u8>, FromHexError> {
     let mut octets = Vec::new(alloc);
     for digits in pieces {
-        let piece = hex::decode(alloc, *digits)?;
-        octets.extend_from_slice(&piece)?;
+        octets.append(&mut hex::decode(alloc, *digits)?)?;
     }
     Ok(octets)
 }
 
 /// The accepted signature file.
-pub(crate) fn accepted_file(alloc: Global) -> Result<Vec<u8>, Fail> {
+pub(crate) fn accepted_file(alloc: Global) -> Result<Vec<u8>, FromHexError> {
     let mut file = octets(alloc, &[HEADER])?;
     file.append(&mut octets(alloc, VALUE)?)?;
     Ok(file)
@@ -73,18 +72,26 @@ pub(crate) fn shelf_of(
     Ok(shelf)
 }
 
-/// The status of a run, and what it wrote to a sink with room for so many octets.
-pub(crate) fn answer(
+/// Whether a run over a shelf ends with a status, and has written so much to a sink with room for
+/// so many octets.
+pub(crate) fn is_answered(
     alloc: Global,
     words: &[&str],
     shelf: &mut MemShelf,
     room: usize,
-) -> Result<(u8, Vec<u8>), AllocError> {
+    status: u8,
+    written: &[u8],
+) -> Result<bool, AllocError> {
+    let words = owned(alloc, words)?;
+    let mut sink = MemSink::with_room(alloc, room)?;
+    let got = run(alloc, &words, shelf, &mut sink);
+    Ok(got == status && sink.held() == written)
+}
+
+fn owned(alloc: Global, words: &[&str]) -> Result<Vec<String>, AllocError> {
     let mut strings = Vec::new(alloc);
     for word in words {
         strings.push(String::from_str(alloc, word)?)?;
     }
-    let mut sink = MemSink::with_room(alloc, room)?;
-    let status = run(alloc, &strings, shelf, &mut sink);
-    Ok((status, Vec::from_slice(alloc, sink.held())?))
+    Ok(strings)
 }

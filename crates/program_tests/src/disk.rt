@@ -1,8 +1,9 @@
 //! Real files and standard output.
 
+use crate::files::reads;
 use picky_check::{
-    DirShelf, Failed, FileError, OUT_OF_MEMORY, OutSink, Shelf, Sink, USAGE, read_file,
-    status_without_words, write_report,
+    DirShelf, Failed, FileError, OUT_OF_MEMORY, OutSink, Shelf, Sink, USAGE, status_without_words,
+    write_report,
 };
 use std::fmt::Display;
 use std::test::Fail;
@@ -17,14 +18,16 @@ fn reads_files_of_the_disk(rt: HostRuntime) -> Result<(), Fail> {
     let path = path.to_str().expect(&rt, "a path is text");
     fs::write(&rt, path, b"octets")?;
     let mut shelf = DirShelf::new(&rt);
-    let mut piece = [0; 4];
-    assert_eq!(rt; shelf.read(&mut piece), Err(Failed), "nothing is picked");
-    let read = read_file(alloc, &mut shelf, path);
+    assert!(rt; shelf.read(&mut [0; 4]) == Err(Failed), "nothing is picked");
+    let is_read = reads(alloc, &mut shelf, path, Ok(b"octets"));
     fs::remove_file(&rt, path)?;
-    assert_eq!(rt; read?.as_slice(), b"octets".as_slice());
-    assert!(rt; read_file(alloc, &mut shelf, path).is_err_and(|e| e == FileError::Fault));
+    assert!(rt; is_read, "a file");
     assert!(rt;
-        read_file(alloc, &mut shelf, "/").is_err_and(|e| e == FileError::Fault),
+        reads(alloc, &mut shelf, path, Err(FileError::Fault)),
+        "no file"
+    );
+    assert!(rt;
+        reads(alloc, &mut shelf, "/", Err(FileError::Fault)),
         "a folder"
     );
     Ok(())
@@ -69,16 +72,24 @@ impl Print for Full {
 }
 
 #[test]
-fn writes_to_standard_output(rt: HostRuntime) -> Result<(), Fail> {
-    assert_eq!(rt; write_report(&mut OutSink::new(&rt), LINE), Ok(()));
-    assert_eq!(rt; write_report(&mut OutSink::new(&Closed), LINE), Err(Failed));
-    assert_eq!(rt; write_report(&mut OutSink::new(&Full), LINE), Err(Failed));
-    assert_eq!(rt; OutSink::new(&Full).write(b""), Ok(0));
-    Ok(())
+fn writes_to_standard_output(rt: HostRuntime) {
+    assert!(rt; write_report(&mut OutSink::new(&rt), LINE) == Ok(()));
+    assert!(rt;
+        write_report(&mut OutSink::new(&Closed), LINE) == Err(Failed),
+        "closed"
+    );
+    assert!(rt;
+        write_report(&mut OutSink::new(&Full), LINE) == Err(Failed),
+        "full"
+    );
+    assert!(rt;
+        OutSink::new(&Full).write(b"") == Ok(0),
+        "nothing is asked for"
+    );
 }
 
 #[test]
-fn words_that_cant_be_had_have_a_status(rt: HostRuntime) -> Result<(), Fail> {
+fn words_that_cant_be_had_have_a_status(rt: HostRuntime) {
     let rows = [
         (io::ErrorKind::OutOfMemory, OUT_OF_MEMORY, 7),
         (io::ErrorKind::InvalidData, USAGE, 2),
@@ -86,7 +97,6 @@ fn words_that_cant_be_had_have_a_status(rt: HostRuntime) -> Result<(), Fail> {
     ];
     for (kind, named, status) in rows {
         let got = status_without_words(&io::Error::from(kind));
-        assert_eq!(rt; (got, named), (status, status), "{kind:?}");
+        assert!(rt; got == status && named == status, "{kind:?}");
     }
-    Ok(())
 }

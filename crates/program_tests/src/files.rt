@@ -1,7 +1,17 @@
 //! Whole files from a shelf in memory, and whole reports to a sink in memory.
 
 use picky_check::{Failed, FileError, MemShelf, MemSink, Shelf, read_file, write_report};
-use std::test::Fail;
+use std::alloc::{AllocError, Global};
+
+// Files of a shelf; of two of one name the later is read.
+#[rattlefmt::skip]
+const FILES: [(&str, &[u8]); 5] = [
+    ("a",  b"octets"),
+    ("b",  b"old"),
+    ("e",  b""),
+    ("a ", b"spaced"),
+    ("b",  b"new"),
+];
 
 // A name, the call that is set to fail, and what is read of it.
 #[rattlefmt::skip]
@@ -41,65 +51,86 @@ const WRITES: [(usize, bool, &str); 5] = [
 ];
 
 #[test]
-fn reads_whole_files(rt: HostRuntime) -> Result<(), Fail> {
-    let alloc = rt.alloc();
+fn reads_whole_files(rt: HostRuntime) -> Result<(), AllocError> {
     for (why, name, failing, want) in READS {
-        let mut shelf = MemShelf::new(alloc);
-        shelf.add("a", b"octets")?;
-        shelf.add("b", b"old")?;
-        shelf.add("e", b"")?;
-        shelf.add("a ", b"spaced")?;
-        shelf.add("b", b"new")?;
-        shelf.fail_at(failing)?;
-        match (read_file(alloc, &mut shelf, name), want) {
-            (Ok(octets), Ok(want)) => assert_eq!(rt; octets.as_slice(), want, "{why}"),
-            (Err(error), Err(want)) => assert_eq!(rt; error, want, "{why}"),
-            _ => panic!(rt; "{why}"),
-        }
+        let mut shelf = shelf_of_files(rt.alloc(), failing)?;
+        assert!(rt; reads(rt.alloc(), &mut shelf, name, want), "{why}");
     }
     Ok(())
 }
 
+fn shelf_of_files(alloc: Global, failing: u64) -> Result<MemShelf, AllocError> {
+    let mut shelf = MemShelf::new(alloc);
+    for (name, octets) in FILES {
+        shelf.add(name, octets)?;
+    }
+    shelf.fail_at(failing)?;
+    Ok(shelf)
+}
+
+/// Whether that is what is read of a name.
+pub(crate) fn reads<F: Shelf>(
+    alloc: Global,
+    shelf: &mut F,
+    name: &str,
+    want: Result<&[u8], FileError>,
+) -> bool {
+    match (read_file(alloc, shelf, name), want) {
+        (Ok(octets), Ok(want)) => octets.as_slice() == want,
+        (Err(error), Err(want)) => error == want,
+        _ => false,
+    }
+}
+
 #[test]
-fn stops_behind_the_longest_file(rt: HostRuntime) -> Result<(), Fail> {
-    let alloc = rt.alloc();
+fn stops_behind_the_longest_file(rt: HostRuntime) -> Result<(), AllocError> {
     for (size, is_read) in SIZES {
-        let octets = vec![in alloc; 7u8; size]?;
-        let mut shelf = MemShelf::new(alloc);
+        let octets = vec![in rt.alloc(); 7u8; size]?;
+        let mut shelf = MemShelf::new(rt.alloc());
         shelf.add("f", &octets)?;
-        match read_file(alloc, &mut shelf, "f") {
-            Err(FileError::TooLong) => assert!(rt; !is_read, "{size}"),
-            read => {
-                let read = read?;
-                assert!(rt; is_read && read.as_slice() == octets.as_slice(), "{size}");
-            }
-        }
+        let want = if is_read {
+            Ok(octets.as_slice())
+        } else {
+            Err(FileError::TooLong)
+        };
+        assert!(rt; reads(rt.alloc(), &mut shelf, "f", want), "{size}");
     }
     Ok(())
 }
 
 #[test]
-fn keeps_its_place_where_a_call_fails(rt: HostRuntime) -> Result<(), Fail> {
+fn keeps_its_place_where_a_call_fails(rt: HostRuntime) -> Result<(), AllocError> {
     let mut shelf = MemShelf::new(rt.alloc());
     shelf.add("a", b"octets")?;
     shelf.fail_at(4)?;
-    let mut piece = [0; 4];
-    assert_eq!(rt; shelf.read(&mut piece), Ok(0), "nothing is picked");
-    assert_eq!(rt; shelf.pick("a"), Ok(()));
-    assert_eq!(rt; shelf.read(&mut piece), Ok(4));
-    assert_eq!(rt; shelf.pick("missing"), Err(Failed));
-    assert_eq!(rt; shelf.read(&mut piece), Err(Failed), "set to fail");
-    assert_eq!(rt; shelf.read(&mut piece), Ok(2));
-    assert_eq!(rt; &piece[..2], b"ts".as_slice());
+    assert!(rt; gives(&mut shelf, Ok(b"")), "nothing is picked");
+    assert!(rt; shelf.pick("a") == Ok(()));
+    assert!(rt; gives(&mut shelf, Ok(b"octe")));
+    assert!(rt; shelf.pick("missing") == Err(Failed));
+    assert!(rt; gives(&mut shelf, Err(Failed)), "set to fail");
+    assert!(rt; gives(&mut shelf, Ok(b"ts")));
     Ok(())
 }
 
+/// Whether the next call reads these octets, of at most four.
+fn gives(shelf: &mut MemShelf, want: Result<&[u8], Failed>) -> bool {
+    let mut piece = [0; 4];
+    match (shelf.read(&mut piece), want) {
+        (Ok(count), Ok(want)) => piece.get(..count) == Some(want),
+        (Err(Failed), Err(Failed)) => true,
+        _ => false,
+    }
+}
+
 #[test]
-fn writes_whole_reports(rt: HostRuntime) -> Result<(), Fail> {
+fn writes_whole_reports(rt: HostRuntime) -> Result<(), AllocError> {
     for (room, is_whole, held) in WRITES {
         let mut sink = MemSink::with_room(rt.alloc(), room)?;
-        assert_eq!(rt; write_report(&mut sink, TEXT).is_ok(), is_whole, "{room}");
-        assert_eq!(rt; sink.held(), held.as_bytes(), "{room}");
+        let written = write_report(&mut sink, TEXT);
+        assert!(rt;
+            written.is_ok() == is_whole && sink.held() == held.as_bytes(),
+            "{room}"
+        );
     }
     Ok(())
 }

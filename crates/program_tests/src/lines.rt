@@ -3,7 +3,7 @@
 use authenticode_core::{Accepted, AuthenticodeError, CheckError, Excuse, Places};
 use der_core::{DerError, Octets};
 use picky_check::{accepted_line, refused_line};
-use std::test::Fail;
+use std::alloc::{AllocError, Global};
 use wincert_core::WinCertificateError;
 
 // Signer, path and excuse of an accepted signature, and its line.
@@ -28,37 +28,41 @@ const HEADERS: [(WinCertificateError, &str); 7] = [
 ];
 
 #[test]
-fn an_acceptance_is_a_line(rt: HostRuntime) -> Result<(), Fail> {
-    let alloc = rt.alloc();
+fn an_acceptance_is_a_line(rt: HostRuntime) -> Result<(), AllocError> {
     for (signer, places, excuse, want) in ACCEPTED {
-        let mut path = Places::new(alloc);
-        for place in places {
-            path.push(*place)?;
-        }
-        let accepted = Accepted {
-            signer,
-            path,
-            excuse,
-        };
-        assert_eq!(rt; accepted_line(alloc, &accepted)?.as_str(), want);
+        let accepted = accepted(rt.alloc(), signer, places, excuse)?;
+        assert!(rt;
+            accepted_line(rt.alloc(), &accepted)?.as_str() == want,
+            "{want}"
+        );
     }
     Ok(())
 }
 
-#[test]
-fn a_refusal_is_a_line_with_its_name(rt: HostRuntime) -> Result<(), Fail> {
-    let alloc = rt.alloc();
-    for (error, want) in HEADERS {
-        assert_eq!(rt;
-            refused_line(alloc, &CheckError::Win(error))?.as_str(),
-            want
-        );
+fn accepted(
+    alloc: Global,
+    signer: Option<usize>,
+    places: &[usize],
+    excuse: Excuse,
+) -> Result<Accepted, AllocError> {
+    let mut path = Places::new(alloc);
+    for place in places {
+        path.push(*place)?;
     }
+    Ok(Accepted {
+        signer,
+        path,
+        excuse,
+    })
+}
+
+#[test]
+fn a_refusal_is_a_line_with_its_name(rt: HostRuntime) -> Result<(), AllocError> {
     let mismatch = AuthenticodeError::FileHashMismatch {
-        actual: Octets::from_slice(alloc, b"")?,
-        expected: Octets::from_slice(alloc, b"")?,
+        actual: Octets::from_slice(rt.alloc(), b"")?,
+        expected: Octets::from_slice(rt.alloc(), b"")?,
     };
-    let others = [
+    let rows = [
         (
             CheckError::Unread(DerError::Shape),
             "refused Asn1Deserialization\n",
@@ -78,8 +82,23 @@ fn a_refusal_is_a_line_with_its_name(rt: HostRuntime) -> Result<(), Fail> {
         ),
         (CheckError::Memory, "refused Memory\n"),
     ];
-    for (error, want) in &others {
-        assert_eq!(rt; refused_line(alloc, error)?.as_str(), *want);
+    for (error, want) in &rows {
+        assert!(rt; is_line(rt.alloc(), error, want)?, "{want}");
     }
     Ok(())
+}
+
+#[test]
+fn a_refusal_of_a_header_is_a_line(rt: HostRuntime) -> Result<(), AllocError> {
+    for (error, want) in HEADERS {
+        assert!(rt;
+            is_line(rt.alloc(), &CheckError::Win(error), want)?,
+            "{want}"
+        );
+    }
+    Ok(())
+}
+
+fn is_line(alloc: Global, error: &CheckError, want: &str) -> Result<bool, AllocError> {
+    Ok(refused_line(alloc, error)?.as_str() == want)
 }

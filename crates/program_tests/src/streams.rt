@@ -1,12 +1,11 @@
 //! Shelves over readers that give a few octets a call, and sinks over writers that take a few.
 
-use picky_check::{
-    Failed, FileError, Opener, ReaderShelf, WriterSink, read_file, run, write_report,
-};
-use std::alloc::Global;
+use crate::files::reads;
+use crate::words::owned;
+use picky_check::{Failed, FileError, Opener, ReaderShelf, WriterSink, run, write_report};
+use std::alloc::{AllocError, Global};
 use std::io;
 use std::io::{ErrorKind, Read, Write};
-use std::test::Fail;
 
 /// Octets that are given two at a time. At their end, a call is an error where the reader breaks.
 #[derive(Drop)]
@@ -70,16 +69,11 @@ const READS: [(&str, Result<&[u8], FileError>); 9] = [
 ];
 
 #[test]
-fn whole_files_are_read(rt: HostRuntime) -> Result<(), Fail> {
-    let alloc = rt.alloc();
+fn whole_files_are_read(rt: HostRuntime) {
     for (name, want) in READS {
-        match (read_file(alloc, &mut ReaderShelf::over(Cans), name), want) {
-            (Ok(octets), Ok(want)) => assert_eq!(rt; octets.as_slice(), want, "{name}"),
-            (Err(error), Err(want)) => assert_eq!(rt; error, want, "{name}"),
-            _ => panic!(rt; "{name}"),
-        }
+        let mut shelf = ReaderShelf::over(Cans);
+        assert!(rt; reads(rt.alloc(), &mut shelf, name, want), "{name}");
     }
-    Ok(())
 }
 
 /// A writer that takes three octets a call until its room is used up. Then a call is an error, or
@@ -129,50 +123,58 @@ const WRITES: [(usize, bool, Result<(), Failed>, &str); 6] = [
 ];
 
 #[test]
-fn whole_texts_are_written(rt: HostRuntime) -> Result<(), Fail> {
+fn whole_texts_are_written(rt: HostRuntime) {
     for (room, fails, want, held) in WRITES {
         let mut narrow = Narrow::new(rt.alloc(), room, fails);
         let got = write_report(&mut WriterSink::over(&mut narrow), "12345678");
-        assert_eq!(rt; got, want, "{room}");
-        assert_eq!(rt; narrow.held.as_slice(), held.as_bytes(), "{room}");
+        assert!(rt;
+            got == want && narrow.held.as_slice() == held.as_bytes(),
+            "{room}"
+        );
     }
-    Ok(())
 }
 
 const LINE: &str = "refused WrongLength\n";
 
-// The words after the command, the room of the output, the status, and what is written.
+// The words, the room of the output, the status, and what is written.
 #[rattlefmt::skip]
 const RUNS: [(&[&str], usize, u8, &str); 8] = [
-    (&["seven", "empty", "00"], 99, 1, LINE),
-    (&["seven", "empty", "00"], 20, 1, LINE),
-    (&["seven", "empty", "00"], 19, 5, "refused WrongLength"),
-    (&["seven", "a",     "00"], 99, 3, ""),
-    (&["seven", "bad",   "00"], 99, 4, ""),
-    (&["none",  "empty", "00"], 99, 4, ""),
-    (&["b",     "a",     "00"], 99, 4, ""),
-    (&["seven", "empty", "0"],  99, 2, ""),
+    (&["basic", "seven", "empty", "00"], 99, 1, LINE),
+    (&["basic", "seven", "empty", "00"], 20, 1, LINE),
+    (&["basic", "seven", "empty", "00"], 19, 5, "refused WrongLength"),
+    (&["basic", "seven", "a",     "00"], 99, 3, ""),
+    (&["basic", "seven", "bad",   "00"], 99, 4, ""),
+    (&["basic", "none",  "empty", "00"], 99, 4, ""),
+    (&["basic", "b",     "a",     "00"], 99, 4, ""),
+    (&["basic", "seven", "empty", "0"],  99, 2, ""),
 ];
 
 #[test]
-fn runs_are_answered(rt: HostRuntime) -> Result<(), Fail> {
-    let alloc = rt.alloc();
-    for (others, room, status, written) in RUNS {
-        let mut words = Vec::new(alloc);
-        words.push(String::from_str(alloc, "basic")?)?;
-        for word in others {
-            words.push(String::from_str(alloc, word)?)?;
-        }
-        let mut narrow = Narrow::new(alloc, room, true);
-        let mut shelf = ReaderShelf::over(Cans);
-        let got = run(
-            alloc,
-            &words,
-            &mut shelf,
-            &mut WriterSink::over(&mut narrow),
+fn runs_are_answered(rt: HostRuntime) -> Result<(), AllocError> {
+    for (words, room, status, written) in RUNS {
+        assert!(rt;
+            answers(rt.alloc(), words, room, status, written)?,
+            "{words:?}"
         );
-        assert_eq!(rt; got, status, "{others:?}");
-        assert_eq!(rt; narrow.held.as_slice(), written.as_bytes(), "{others:?}");
     }
     Ok(())
+}
+
+fn answers(
+    alloc: Global,
+    words: &[&str],
+    room: usize,
+    status: u8,
+    written: &str,
+) -> Result<bool, AllocError> {
+    let words = owned(alloc, words)?;
+    let mut shelf = ReaderShelf::over(Cans);
+    let mut narrow = Narrow::new(alloc, room, true);
+    let got = run(
+        alloc,
+        &words,
+        &mut shelf,
+        &mut WriterSink::over(&mut narrow),
+    );
+    Ok(got == status && narrow.held.as_slice() == written.as_bytes())
 }

@@ -1,7 +1,7 @@
 //! Which words ask for a job, on an empty signature file `s` and an empty table `t`.
 
 use picky_check::{MemShelf, MemSink, REFUSED, USAGE, run};
-use std::test::Fail;
+use std::alloc::{AllocError, Global};
 
 const OCTETS_64: &str = "000102030405060708090a0b0c0d0e0f101112131415161718191a1b1c1d1e1f\
     202122232425262728292a2b2c2d2e2f303132333435363738393a3b3c3d3e3f";
@@ -32,19 +32,28 @@ const WORDS: [(&str, &[&str], bool); 17] = [
 ];
 
 #[test]
-fn words_ask_for_a_job(rt: HostRuntime) -> Result<(), Fail> {
-    let alloc = rt.alloc();
+fn words_ask_for_a_job(rt: HostRuntime) -> Result<(), AllocError> {
     for (why, words, asks) in WORDS {
-        let mut strings = Vec::new(alloc);
-        for word in words {
-            strings.push(String::from_str(alloc, word)?)?;
-        }
-        let mut shelf = MemShelf::new(alloc);
-        shelf.add("s", b"")?;
-        shelf.add("t", b"")?;
-        let mut sink = MemSink::with_room(alloc, 99)?;
         let want = if asks { REFUSED } else { USAGE };
-        assert_eq!(rt; run(alloc, &strings, &mut shelf, &mut sink), want, "{why}");
+        assert!(rt; status_of(rt.alloc(), words)? == want, "{why}");
     }
     Ok(())
+}
+
+fn status_of(alloc: Global, words: &[&str]) -> Result<u8, AllocError> {
+    let words = owned(alloc, words)?;
+    let mut shelf = MemShelf::new(alloc);
+    shelf.add("s", b"")?;
+    shelf.add("t", b"")?;
+    let mut sink = MemSink::with_room(alloc, 99)?;
+    Ok(run(alloc, &words, &mut shelf, &mut sink))
+}
+
+/// The words as a run takes them.
+pub(crate) fn owned(alloc: Global, words: &[&str]) -> Result<Vec<String>, AllocError> {
+    let mut strings = Vec::new(alloc);
+    for word in words {
+        strings.push(String::from_str(alloc, word)?)?;
+    }
+    Ok(strings)
 }
