@@ -9,3 +9,6 @@ pub mod Elements
 pub mod Lists
 pub mod Parameters
 pub mod Keys
+pub mod Constraints
+pub mod Found
+pub mod AuthorityKeys

@@ -3,3 +3,8 @@ pub mod Algorithms
 pub mod Names
 pub mod Kinds
 pub mod Keys
+pub mod Fields
+pub mod Constraints
+pub mod Usages
+pub mod Issuers
+pub mod AuthorityKeys

@@ -10,4 +10,10 @@ pub mod NameText
 pub mod KeyKind
 pub mod SubjectKey
 pub mod PublicKeyInfo
+pub mod Boolean
+pub mod BasicConstraints
+pub mod KeyUsage
+pub mod ExtendedKeyUsage
+pub mod AuthorityIssuer
+pub mod AuthorityKeyIdentifier
 pub mod Facts
