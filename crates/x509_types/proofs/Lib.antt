@@ -12,3 +12,5 @@ pub mod Keys
 pub mod Constraints
 pub mod Found
 pub mod AuthorityKeys
+pub mod ExtensionValues
+pub mod Extensions

@@ -8,3 +8,7 @@ pub mod Constraints
 pub mod Usages
 pub mod Issuers
 pub mod AuthorityKeys
+pub mod OctetStrings
+pub mod ExtensionKinds
+pub mod ExtensionViews
+pub mod Extensions

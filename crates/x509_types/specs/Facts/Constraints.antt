@@ -97,7 +97,7 @@ constraints_once element a b p q =
     let parts = split 0x01 p.flag q.flag (optional_integer a.pathlen) (optional_integer b.pathlen) (optional_field p.flag a.ca p.flagged) (optional_field q.flag b.ca q.flagged) (λ e. no_flag a.pathlen) (λ e. no_flag b.pathlen) kids in
     same_constraints a b (optional_once q.flag a.ca b.ca (subst (λ (f : List DerElement). IsOptionalBoolean f a.ca) parts.0 p.flagged) q.flagged) (lengths_once a.pathlen b.pathlen parts.1)
 
-formed_of : (ca : Option Bool) (pathlen : Option ℕ) → IsWellFormed (sequence (optional_boolean ca ++ optional_integer pathlen))
+pub formed_of : (ca : Option Bool) (pathlen : Option ℕ) → IsWellFormed (sequence (optional_boolean ca ++ optional_integer pathlen))
 formed_of None None = ((omega arith, omega arith, omega arith), refl, tt)
 formed_of None (Some n) = ((omega arith, omega arith, omega arith), refl, (integer_formed n, tt))
 formed_of (Some b) None = ((omega arith, omega arith, omega arith), refl, (boolean_formed b, tt))
