@@ -10,3 +10,4 @@ pub mod Cursor
 pub mod Grammars
 pub mod Equality
 pub mod Lists
+pub mod Lent

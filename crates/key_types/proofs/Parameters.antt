@@ -11,7 +11,7 @@ use Rattle.der_core.specs.Lent.{kept_option}
 use Rattle.asn1_types.specs.Values.{identifier_contents}
 use Rattle.key_types.specs.AlgorithmIdentifier.{algorithm_of, algorithm_identifier}
 use Rattle.key_types.specs.KeyKind.{IsOid, IsAlgorithmWith, IsAlgorithmOf}
-use Rattle.key_types.specs.Facts.Algorithms.{same_kids}
+use Rattle.der_core.specs.Facts.Grammars.{same_fields}
 use Rattle.key_types.specs.declared.algorithm.AlgorithmIdentifier.{AlgorithmIdentifier}
 use Rattle.key_types.specs.declared.key_kind.KeyKind.{KeyKind}
 
@@ -50,7 +50,7 @@ option_once (Some x) (Some y) e = let same : x ≡ y = cc in ap Some same
 pub of_fields : (element oid : DerElement) (parameters : Option DerElement) (contents : List ℕ) (a : AlgorithmIdentifier) (kind : KeyKind)
     → element ≡ algorithm_of oid parameters → oid ≡ Primitive 0x06 contents → element ≡ algorithm_identifier a → IsAlgorithmWith kind contents parameters → IsAlgorithmOf kind a
 of_fields element oid parameters contents a kind fields leaf is with =
-    let kids = same_kids (oid ∷ option_to_list parameters) (object_identifier a.oid ∷ option_to_list (kept_option a.parameters)) (sym fields ∙ is) in
+    let kids = same_fields (oid ∷ option_to_list parameters) (object_identifier a.oid ∷ option_to_list (kept_option a.parameters)) (sym fields ∙ is) in
     let first : oid ≡ object_identifier a.oid = cc in
     let others : option_to_list parameters ≡ option_to_list (kept_option a.parameters) = cc in
     let same : contents ≡ identifier_contents a.oid = leaf_once contents (identifier_contents a.oid) (sym leaf ∙ first) in

@@ -2,10 +2,27 @@
 //! and keys stand in crates of their own, and are handed on here.
 #![tactic(auto)]
 
-pub use key_types::{
-    AlgorithmIdentifier, KeyKind, RsaPublicKey, SubjectKey, SubjectPublicKeyInfo,
-};
+mod authority_key_fields;
+mod authority_key_identifier;
+mod basic_constraints;
+mod boolean;
+mod extended_key_usage;
+mod extension;
+mod extension_fields;
+mod extension_kind;
+mod extension_view;
+mod key_usage;
+mod octet_string;
+
+pub use authority_key_identifier::AuthorityKeyIdentifier;
+pub use basic_constraints::BasicConstraints;
+pub use extended_key_usage::{ExtendedKeyUsage, OidList};
+pub use extension::{Extension, Extensions};
+pub use extension_kind::ExtensionKind;
+pub use extension_view::ExtensionView;
+pub use key_types::{AlgorithmIdentifier, KeyKind, RsaPublicKey, SubjectKey, SubjectPublicKeyInfo};
+pub use key_usage::KeyUsage;
 pub use x501_types::{
     AttributeTypeAndValue, AttributeValue, DirectoryString, Name, NameAttr, OtherValue,
-    RelativeDistinguishedName, email_address_oid,
+    RelativeDistinguishedName, email_address_oid, list_has_each_attribute_type,
 };

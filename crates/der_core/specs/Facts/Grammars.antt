@@ -4,6 +4,7 @@ use Rattle.std.proofs.Common.{sym, ◌∙◌, ap, subst, arith}
 use Rattle.der_core.specs.DerElement.{DerElement, Constructed, row, listed, listed-row}
 use Rattle.der_core.specs.Encoding.{IsTag, IsWellFormed, AreWellFormed, form_bit}
 use Rattle.der_core.specs.Placed.{AreDer}
+use Rattle.der_core.specs.Elements.{sequence}
 use Rattle.der_core.specs.Each.{AreEach, IsListOf, list_element}
 use Rattle.der_core.specs.Structure.{IsGrammar}
 
@@ -52,7 +53,7 @@ each_spelled spells written inner spelled [] der = tt
 each_spelled spells written inner spelled (v ∷ values) der =
     (spelled v (AreDer-front (inner v) (flat_map inner values) der), each_spelled spells written inner spelled values (AreDer-back (inner v) (flat_map inner values) der))
 
-each_formed : {X : Type 0} (written : X → DerElement) → ((value : X) → IsWellFormed (written value)) → (values : List X) → AreWellFormed (row (map written values))
+pub each_formed : {X : Type 0} (written : X → DerElement) → ((value : X) → IsWellFormed (written value)) → (values : List X) → AreWellFormed (row (map written values))
 each_formed written formed [] = tt
 each_formed written formed (v ∷ values) = (formed v, each_formed written formed values)
 
@@ -60,6 +61,15 @@ same_list : (t : DerElement) (tag : ℕ) (kids kids' : List DerElement) → t �
 same_list t tag kids kids' is is' =
     let same : row kids ≡ row kids' = cc in
     sym (listed-row kids) ∙ ap listed same ∙ listed-row kids'
+
+each_printed : {X : Type 0} (written : X → DerElement) → ((a b : X) → written a ≡ written b → a ≡ b) → (xs ys : List X) → map written xs ≡ map written ys → xs ≡ ys
+each_printed written one [] [] e = refl
+each_printed written one [] (y ∷ ys) e = absurd cc
+each_printed written one (x ∷ xs) [] e = absurd cc
+each_printed written one (x ∷ xs) (y ∷ ys) e =
+    let first : written x ≡ written y = cc in
+    let others : map written xs ≡ map written ys = cc in
+    ap (λ v. v ∷ xs) (one x y first) ∙ ap (λ vs. y ∷ vs) (each_printed written one xs ys others)
 
 -- The grammar of a list under a tag is that of its values.
 pub lists : {X : Type 0} (tag : ℕ) (spells : DerElement → X → Type 0) (written : X → DerElement) (inner : X → List DerElement) → IsTag tag → form_bit tag ≡ 1 → IsGrammar spells written inner
@@ -70,6 +80,19 @@ lists tag spells written inner is_tag constructed grammar = record {
   spelled = λ values der. record { kids = map written values; holds = refl; each = each_spelled spells written inner grammar.spelled values der };
   formed = λ values. (is_tag, constructed, each_formed written grammar.formed values);
 }
+
+-- a list is told by what is written for its values
+pub list_once : {X : Type 0} (tag : ℕ) (written : X → DerElement) → ((a b : X) → written a ≡ written b → a ≡ b) → (xs ys : List X) → list_element tag written xs ≡ list_element tag written ys → xs ≡ ys
+list_once tag written one xs ys e = each_printed written one xs ys (same_list (list_element tag written xs) tag (map written xs) (map written ys) refl e)
+
+-- The grammar of a list of values that are written in one way.
+pub printed_lists : {X : Type 0} (tag : ℕ) (written : X → DerElement) → IsTag tag → form_bit tag ≡ 1 → ((a b : X) → written a ≡ written b → a ≡ b) → ((value : X) → IsWellFormed (written value))
+    → IsGrammar (λ element values. element ≡ list_element tag written values) (list_element tag written) (λ values. [])
+printed_lists tag written is_tag constructed one formed = printed (list_element tag written) (list_once tag written one) (λ values. (is_tag, constructed, each_formed written formed values))
+
+-- a sequence has its kids once
+pub same_fields : (kids kids' : List DerElement) → sequence kids ≡ sequence kids' → kids ≡ kids'
+same_fields kids kids' e = same_list (sequence kids) 0x30 kids kids' refl e
 
 -- SEQUENCE OF (X.690 8.10)
 pub sequences : {X : Type 0} (spells : DerElement → X → Type 0) (written : X → DerElement) (inner : X → List DerElement) → IsGrammar spells written inner

@@ -1,13 +1,12 @@
 -- Identifiers of algorithms and keys of RSA: unlike values have unlike elements, each well formed.
-use Rattle.std.proofs.Common.{◌≡◌, List, [], ◌∷◌, Option, Some, None, refl, ap, sym, ◌∙◌, arith}
+use Rattle.std.proofs.Common.{◌≡◌, [], ◌∷◌, Option, Some, None, refl, ap, ◌∙◌, arith}
 use Rattle.std.specs.Prelude.{option_to_list}
-use Rattle.der_core.specs.DerElement.{DerElement, row, listed, listed-row}
+use Rattle.der_core.specs.DerElement.{row}
 use Rattle.der_core.specs.Encoding.{AreWellFormed}
-use Rattle.der_core.specs.Elements.{sequence}
 use Rattle.der_core.specs.Kept.{KeptElement}
 use Rattle.der_core.specs.Lent.{kept_option}
 use Rattle.der_core.specs.Structure.{IsGrammar}
-use Rattle.der_core.specs.Facts.Grammars.{printed}
+use Rattle.der_core.specs.Facts.Grammars.{printed, same_fields}
 use Rattle.der_core.specs.Facts.Kept.{same_kept}
 use Rattle.asn1_types.specs.Elements.{object_identifier, integer}
 use Rattle.asn1_types.specs.Facts.Elements.{identifiers, integers}
@@ -18,12 +17,6 @@ use Rattle.key_types.specs.RsaPublicKey.{rsa_public_key}
 use Rattle.key_types.specs.declared.algorithm.AlgorithmIdentifier.{AlgorithmIdentifier}
 use Rattle.key_types.specs.declared.public_key.RsaPublicKey.{RsaPublicKey}
 
--- a sequence has its kids once
-pub same_kids : (kids kids' : List DerElement) → sequence kids ≡ sequence kids' → kids ≡ kids'
-same_kids kids kids' e =
-    let same : row kids ≡ row kids' = cc in
-    sym (listed-row kids) ∙ ap listed same ∙ listed-row kids'
-
 option_once : (a b : Option KeptElement) → option_to_list (kept_option a) ≡ option_to_list (kept_option b) → a ≡ b
 option_once None None e = refl
 option_once None (Some y) e = absurd cc
@@ -32,7 +25,7 @@ option_once (Some x) (Some y) e = let same : x.element ≡ y.element = cc in ap 
 
 algorithms_once : (a b : AlgorithmIdentifier) → algorithm_identifier a ≡ algorithm_identifier b → a ≡ b
 algorithms_once a b e =
-    let kids = same_kids (object_identifier a.oid ∷ option_to_list (kept_option a.parameters)) (object_identifier b.oid ∷ option_to_list (kept_option b.parameters)) e in
+    let kids = same_fields (object_identifier a.oid ∷ option_to_list (kept_option a.parameters)) (object_identifier b.oid ∷ option_to_list (kept_option b.parameters)) e in
     let first : object_identifier a.oid ≡ object_identifier b.oid = cc in
     let others : option_to_list (kept_option a.parameters) ≡ option_to_list (kept_option b.parameters) = cc in
     ap (λ (o : ObjectIdentifier). record { oid = o; parameters = a.parameters }) (identifiers.once (object_identifier a.oid) a.oid b.oid refl first)

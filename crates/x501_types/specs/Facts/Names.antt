@@ -1,15 +1,14 @@
 -- Names and their parts: unlike values have unlike elements, each well formed.
-use Rattle.std.proofs.Common.{◌≡◌, ℕ, List, [], ◌∷◌, refl, sym, ap, subst, ◌∙◌, arith, inl, inr}
-use Rattle.std.specs.Prelude.{◌==◌, if◌then◌else◌, map}
+use Rattle.std.proofs.Common.{◌≡◌, ℕ, List, [], refl, sym, ap, subst, ◌∙◌, arith, inl, inr}
+use Rattle.std.specs.Prelude.{◌==◌, if◌then◌else◌}
 use Rattle.std.proofs.Props.{props}
 use base.Stored.{Coded}
 use Rattle.der_core.specs.Facts.Codes.{stored, stored_inj}
-use Rattle.der_core.specs.DerElement.{DerElement, tag_of, row, listed, listed-row}
-use Rattle.der_core.specs.Encoding.{IsWellFormed, AreWellFormed}
-use Rattle.der_core.specs.Each.{list_element}
+use Rattle.der_core.specs.DerElement.{DerElement, tag_of}
+use Rattle.der_core.specs.Encoding.{IsWellFormed}
 use Rattle.der_core.specs.Structure.{IsGrammar}
 use Rattle.der_core.specs.Kept.{KeptElement}
-use Rattle.der_core.specs.Facts.Grammars.{printed}
+use Rattle.der_core.specs.Facts.Grammars.{printed, printed_lists, list_once}
 use Rattle.der_core.specs.Facts.Kept.{same_kept}
 use Rattle.asn1_types.specs.Elements.{object_identifier, ia5_string}
 use Rattle.asn1_types.specs.Facts.Elements.{identifiers, ia5_strings}
@@ -114,37 +113,16 @@ attributes_once a b e =
 pub attributes : IsGrammar (λ element attribute. element ≡ attribute_type_and_value attribute) attribute_type_and_value (λ attribute. [])
 attributes = printed attribute_type_and_value attributes_once (λ a. ((omega arith, omega arith, omega arith), refl, (identifiers.formed a.ty, (values_formed a.value, tt))))
 
--- ---- lists of values that are written in one way
-
-each_printed : {X : Type 0} (written : X → DerElement) → ((a b : X) → written a ≡ written b → a ≡ b) → (xs ys : List X) → map written xs ≡ map written ys → xs ≡ ys
-each_printed written one [] [] e = refl
-each_printed written one [] (y ∷ ys) e = absurd cc
-each_printed written one (x ∷ xs) [] e = absurd cc
-each_printed written one (x ∷ xs) (y ∷ ys) e =
-    let first : written x ≡ written y = cc in
-    let others : map written xs ≡ map written ys = cc in
-    ap (λ v. v ∷ xs) (one x y first) ∙ ap (λ vs. y ∷ vs) (each_printed written one xs ys others)
-
-list_printed : {X : Type 0} (tag : ℕ) (written : X → DerElement) → ((a b : X) → written a ≡ written b → a ≡ b) → (xs ys : List X) → list_element tag written xs ≡ list_element tag written ys → xs ≡ ys
-list_printed tag written one xs ys e =
-    let rows : row (map written xs) ≡ row (map written ys) = cc in
-    each_printed written one xs ys (sym (listed-row (map written xs)) ∙ ap listed rows ∙ listed-row (map written ys))
-
-each_formed : {X : Type 0} (written : X → DerElement) → ((value : X) → IsWellFormed (written value)) → (values : List X) → AreWellFormed (row (map written values))
-each_formed written formed [] = tt
-each_formed written formed (v ∷ values) = (formed v, each_formed written formed values)
-
-pub sets_once : (a b : List AttributeTypeAndValue) → relative_distinguished_name a ≡ relative_distinguished_name b → a ≡ b
-sets_once = list_printed 0x31 attribute_type_and_value attributes_once
-
-sets_formed : (members : List AttributeTypeAndValue) → IsWellFormed (relative_distinguished_name members)
-sets_formed members = ((omega arith, omega arith, omega arith), refl, each_formed attribute_type_and_value attributes.formed members)
+-- ---- sets and names
 
 pub relative_distinguished_names : IsGrammar IsRelativeDistinguishedName relative_distinguished_name (λ members. [])
-relative_distinguished_names = printed relative_distinguished_name sets_once sets_formed
+relative_distinguished_names = printed_lists 0x31 attribute_type_and_value (omega arith, omega arith, omega arith) refl attributes_once attributes.formed
+
+pub sets_once : (a b : List AttributeTypeAndValue) → relative_distinguished_name a ≡ relative_distinguished_name b → a ≡ b
+sets_once = list_once 0x31 attribute_type_and_value attributes_once
 
 pub names : IsGrammar IsName name (λ sets. [])
-names = printed name (list_printed 0x30 relative_distinguished_name sets_once) (λ sets. ((omega arith, omega arith, omega arith), refl, each_formed relative_distinguished_name sets_formed sets))
+names = printed_lists 0x30 relative_distinguished_name (omega arith, omega arith, omega arith) refl sets_once relative_distinguished_names.formed
 
 -- ---- sets and names have codes: those of their elements
 

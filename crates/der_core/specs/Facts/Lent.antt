@@ -1,5 +1,5 @@
 -- What lies in octets can be kept.
-use Rattle.std.proofs.Common.{◌≡◌, Option, Some, None, refl}
+use Rattle.std.specs.Prelude.{◌≡◌, Option, Some, None, refl}
 use Rattle.der_core.specs.Kept.{KeptElement}
 use Rattle.der_core.specs.Lent.{at_option, kept_option}
 use Rattle.der_core.specs.declared.elem.Elem.{Elem}

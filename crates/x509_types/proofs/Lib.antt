@@ -1,0 +1,5 @@
+pub mod Constraints
+pub mod Found
+pub mod AuthorityKeys
+pub mod ExtensionValues
+pub mod Extensions

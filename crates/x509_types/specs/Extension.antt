@@ -1,0 +1,19 @@
+-- Extension ::= SEQUENCE { extnID OBJECT IDENTIFIER, critical BOOLEAN DEFAULT FALSE, extnValue OCTET STRING } (RFC 5280 4.1, 4.1.2.9)
+use Rattle.std.specs.Prelude.{ℕ, List, [], ◌∷◌, ◌++◌}
+use Rattle.der_core.specs.DerElement.{DerElement, Primitive}
+use Rattle.der_core.specs.Elements.{sequence}
+use Rattle.asn1_types.specs.Elements.{object_identifier}
+use Rattle.x509_types.specs.Boolean.{default_false}
+use Rattle.x509_types.specs.ExtensionView.{value_octets, IsValueIn}
+use Rattle.x509_types.specs.ExtensionFields.{IsExtensionOf}
+use Rattle.x509_types.specs.declared.extension.Extension.{Extension}
+
+-- the element that is written: FALSE is left out, TRUE is FF
+abbrev pub extension : Extension → DerElement
+extension e = sequence (object_identifier e.extn_id ∷ (default_false e.critical ++ Primitive 0x04 (value_octets e.extn_value) ∷ []))
+
+-- The element spells the extension.
+pub record IsExtension (element : DerElement) (e : Extension) : Type 0 where
+  pub octets : List ℕ
+  pub fields : IsExtensionOf element (object_identifier e.extn_id) e.critical octets
+  pub value : IsValueIn octets e.extn_value

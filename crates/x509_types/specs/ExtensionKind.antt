@@ -1,0 +1,15 @@
+-- The kinds of extensions, by their identifiers.
+use Rattle.std.specs.Prelude.{ℕ, List, if◌then◌else◌, bytes_eq}
+use Rattle.asn1_types.specs.declared.oids.TheConstants.{CE_SUBJECT_KEY_IDENTIFIER, CE_KEY_USAGE, CE_BASIC_CONSTRAINTS, CE_AUTHORITY_KEY_IDENTIFIER, CE_EXT_KEY_USAGE}
+use Rattle.x509_types.specs.declared.extension_kind.ExtensionKind.{ExtensionKind}
+use Rattle.x509_types.specs.declared.extension_kind.ExtensionKind.TheVariants as kinds
+
+-- the kind that an identifier names, by its contents octets (RFC 5280 4.2.1.1, 4.2.1.2, 4.2.1.3, 4.2.1.9, 4.2.1.12)
+abbrev pub named_kind : List ℕ → ExtensionKind
+named_kind oid =
+    if bytes_eq oid CE_SUBJECT_KEY_IDENTIFIER.now then kinds.SubjectKeyIdentifier
+    else (if bytes_eq oid CE_KEY_USAGE.now then kinds.KeyUsage
+    else (if bytes_eq oid CE_BASIC_CONSTRAINTS.now then kinds.BasicConstraints
+    else (if bytes_eq oid CE_AUTHORITY_KEY_IDENTIFIER.now then kinds.AuthorityKeyIdentifier
+    else (if bytes_eq oid CE_EXT_KEY_USAGE.now then kinds.ExtendedKeyUsage
+    else kinds.Other))))

@@ -1,0 +1,41 @@
+-- Kinds of extensions are the same for one reason.
+use Rattle.std.specs.Prelude.{◌≡◌, ℕ, ◌==◌, if◌then◌else◌, refl}
+use Rattle.std.specs.Coded.{Coded-set}
+use Rattle.std.proofs.Common.{sym, ap, ◌∙◌}
+use base.Stored.{Coded, gnum, num}
+use Rattle.x509_types.specs.declared.extension_kind.ExtensionKind.{ExtensionKind}
+use Rattle.x509_types.specs.declared.extension_kind.ExtensionKind.TheVariants as kinds
+
+abbrev kind_number : ExtensionKind → ℕ
+kind_number kinds.SubjectKeyIdentifier = 0
+kind_number kinds.KeyUsage = 1
+kind_number kinds.BasicConstraints = 2
+kind_number kinds.AuthorityKeyIdentifier = 3
+kind_number kinds.ExtendedKeyUsage = 4
+kind_number kinds.Other = 5
+
+abbrev kind_at : ℕ → ExtensionKind
+kind_at number =
+    if number == 0 then kinds.SubjectKeyIdentifier
+    else (if number == 1 then kinds.KeyUsage
+    else (if number == 2 then kinds.BasicConstraints
+    else (if number == 3 then kinds.AuthorityKeyIdentifier
+    else (if number == 4 then kinds.ExtendedKeyUsage
+    else kinds.Other))))
+
+kind_of_number : (kind : ExtensionKind) → kind_at (kind_number kind) ≡ kind
+kind_of_number kinds.SubjectKeyIdentifier = refl
+kind_of_number kinds.KeyUsage = refl
+kind_of_number kinds.BasicConstraints = refl
+kind_of_number kinds.AuthorityKeyIdentifier = refl
+kind_of_number kinds.ExtendedKeyUsage = refl
+kind_of_number kinds.Other = refl
+
+abbrev coded_kind : Coded ExtensionKind
+coded_kind = record {
+  code = λ kind. gnum (kind_number kind);
+  inj = λ a b e. sym (kind_of_number a) ∙ ap (λ v. kind_at (num v)) e ∙ kind_of_number b;
+}
+
+pub same_kinds : (a b : ExtensionKind) → IsProp (a ≡ b)
+same_kinds a b = Coded-set coded_kind a b

@@ -1,0 +1,12 @@
+pub mod Boolean
+pub mod BasicConstraints
+pub mod KeyUsage
+pub mod ExtendedKeyUsage
+pub mod AuthorityIssuer
+pub mod AuthorityKeyIdentifier
+pub mod OctetString
+pub mod ExtensionKind
+pub mod ExtensionView
+pub mod ExtensionFields
+pub mod Extension
+pub mod Facts

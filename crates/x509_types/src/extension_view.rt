@@ -1,0 +1,129 @@
+//! The values of extensions.
+
+ghost use Rattle.std.specs.Prelude.{◌≡◌, ◌↔◌, ℕ, false, IfOk, IsTrue, MatchResult};
+ghost use Rattle.der_core.specs.Placed.{AreDer};
+ghost use Rattle.der_core.specs.Refusals.{RefusesShape, RefusesInner};
+ghost use Rattle.x509_types.specs.ExtensionView.{kind_of, value_octets, inner_value, IsValueOf};
+ghost use Rattle.x509_types.specs.declared.extension_view.ExtensionView.{ExtensionView};
+
+use crate::authority_key_identifier::AuthorityKeyIdentifier;
+use crate::basic_constraints::BasicConstraints;
+use crate::extended_key_usage::ExtendedKeyUsage;
+use crate::extension_kind::ExtensionKind;
+use crate::key_usage::KeyUsage;
+use crate::octet_string::{OctetString, write_octets_within};
+use der_core::{DerError, Octets, Structure, has_within, read_within, write_within};
+use std::alloc::{AllocError, Global};
+
+/// The value of an extension, by the extension's identifier (RFC 5280 4.2).
+#[derive(Debug, Drop)]
+pub enum ExtensionView {
+    /// The identifier of the key (RFC 5280 4.2.1.2).
+    SubjectKeyIdentifier(Octets),
+    /// What the key is for, a bit a purpose (RFC 5280 4.2.1.3).
+    KeyUsage(KeyUsage),
+    /// Whether the key is that of an authority (RFC 5280 4.2.1.9).
+    BasicConstraints(BasicConstraints),
+    /// Which key the authority signs with (RFC 5280 4.2.1.1).
+    AuthorityKeyIdentifier(AuthorityKeyIdentifier),
+    /// What the key is for, an identifier a purpose (RFC 5280 4.2.1.12).
+    ExtendedKeyUsage(ExtendedKeyUsage),
+    /// The octets of any other, as they are.
+    Raw(Octets),
+}
+
+impl ExtensionView {
+    /// The kind of extensions that have such a value.
+    pub fn kind(&self) -> ExtensionKind
+        ensures { result ≡ kind_of self.now }
+    {
+        match self {
+            ExtensionView::SubjectKeyIdentifier(_) => ExtensionKind::SubjectKeyIdentifier,
+            ExtensionView::KeyUsage(_) => ExtensionKind::KeyUsage,
+            ExtensionView::BasicConstraints(_) => ExtensionKind::BasicConstraints,
+            ExtensionView::AuthorityKeyIdentifier(_) => ExtensionKind::AuthorityKeyIdentifier,
+            ExtensionView::ExtendedKeyUsage(_) => ExtensionKind::ExtendedKeyUsage,
+            ExtensionView::Raw(_) => ExtensionKind::Other,
+        }
+    }
+
+    /// Whether octets hold a value of the kind, all of them.
+    pub(crate) fn has_value(kind: ExtensionKind, octets: &[u8]) -> bool
+        ensures fits { IsTrue result → (view : ExtensionView) × IsValueOf kind octets.now view }
+        ensures unfit { result ≡ false → (view : ExtensionView) → IsValueOf kind octets.now view → ⊥ }
+    {
+        match kind {
+            ExtensionKind::SubjectKeyIdentifier => has_within::<OctetString>(octets),
+            ExtensionKind::KeyUsage => has_within::<KeyUsage>(octets),
+            ExtensionKind::BasicConstraints => has_within::<BasicConstraints>(octets),
+            ExtensionKind::AuthorityKeyIdentifier => has_within::<AuthorityKeyIdentifier>(octets),
+            ExtensionKind::ExtendedKeyUsage => has_within::<ExtendedKeyUsage>(octets),
+            ExtensionKind::Other => true,
+        }
+    }
+
+    /// The value of the kind that octets hold, all of them.
+    pub(crate) fn read(
+        alloc: Global,
+        kind: ExtensionKind,
+        octets: &[u8],
+    ) -> Result<ExtensionView, DerError>
+        ensures { MatchResult result (IsValueOf kind octets.now) (RefusesShape (IsValueOf kind octets.now)) }
+    {
+        Ok(match kind {
+            ExtensionKind::SubjectKeyIdentifier => {
+                let string: OctetString = read_within(alloc, octets)?;
+                ExtensionView::SubjectKeyIdentifier(string.into_octets())
+            }
+            ExtensionKind::KeyUsage => ExtensionView::KeyUsage(read_within(alloc, octets)?),
+            ExtensionKind::BasicConstraints => {
+                ExtensionView::BasicConstraints(read_within(alloc, octets)?)
+            }
+            ExtensionKind::AuthorityKeyIdentifier => {
+                ExtensionView::AuthorityKeyIdentifier(read_within(alloc, octets)?)
+            }
+            ExtensionKind::ExtendedKeyUsage => {
+                ExtensionView::ExtendedKeyUsage(read_within(alloc, octets)?)
+            }
+            ExtensionKind::Other => ExtensionView::Raw(Octets::from_slice(alloc, octets)?),
+        })
+    }
+
+    /// The octets of the value.
+    pub(crate) fn write(&self, alloc: Global) -> Result<Vec<u8>, DerError>
+        ensures { MatchResult result
+            (λ octets. (octets.items ≡ value_octets self.now) × AreDer (inner_value self.now))
+            (RefusesInner (inner_value self.now)) }
+    {
+        match self {
+            ExtensionView::SubjectKeyIdentifier(key) => write_octets_within(alloc, key.as_slice()),
+            ExtensionView::KeyUsage(usage) => write_within(alloc, usage),
+            ExtensionView::BasicConstraints(constraints) => write_within(alloc, constraints),
+            ExtensionView::AuthorityKeyIdentifier(key) => write_within(alloc, key),
+            ExtensionView::ExtendedKeyUsage(usage) => write_within(alloc, usage),
+            ExtensionView::Raw(octets) => Ok(Vec::from_slice(alloc, octets.as_slice())?),
+        }
+    }
+
+    /// A copy of the value.
+    pub fn try_clone(&self, alloc: Global) -> Result<ExtensionView, AllocError>
+        ensures { IfOk result (λ copy. copy ≡ self.now) }
+    {
+        Ok(match self {
+            ExtensionView::SubjectKeyIdentifier(key) => {
+                ExtensionView::SubjectKeyIdentifier(key.try_clone(alloc)?)
+            }
+            ExtensionView::KeyUsage(usage) => ExtensionView::KeyUsage(usage.try_clone(alloc)?),
+            ExtensionView::BasicConstraints(constraints) => {
+                ExtensionView::BasicConstraints(*constraints)
+            }
+            ExtensionView::AuthorityKeyIdentifier(key) => {
+                ExtensionView::AuthorityKeyIdentifier(key.try_clone(alloc)?)
+            }
+            ExtensionView::ExtendedKeyUsage(usage) => {
+                ExtensionView::ExtendedKeyUsage(usage.try_clone(alloc)?)
+            }
+            ExtensionView::Raw(octets) => ExtensionView::Raw(octets.try_clone(alloc)?),
+        })
+    }
+}
