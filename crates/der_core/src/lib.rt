@@ -43,6 +43,6 @@ pub use octets::{Octets, is_same};
 pub use raw::Raw;
 pub use reading::{read_exact, read_first};
 pub use structure::Structure;
-pub use tree::{Tree, Trees};
+pub use tree::{MAX_NESTING, Tree, Trees};
 pub use within::{has_within, read_within, write_within};
 pub use writing::write;
