@@ -12,9 +12,9 @@ it, by the rules of docs/FORMATS.md, and not by what the program printed.
 """
 
 import sys
-from pathlib import Path
 
 from first_path import FILE_HASH as ABC, element, signature_file, verdict_line
+from stored_run import write_stored_run
 
 FILE = signature_file()
 FILE_HASH = ABC.hex()
@@ -397,27 +397,20 @@ def cases():
 
 
 def stored_files():
-    """The text of each file, by its path below the folder."""
+    """The octets of each file, by its path below the folder."""
     rows = list(cases())
     lines = (f"{file.hex()} {digest} {table.encode().hex()}\n" for file, digest, table, _ in rows)
     return {
-        "data/cases.txt": "".join(lines),
-        "stdout": "".join(f"{answer}\n" for _, _, _, answer in rows),
+        "data/cases.txt": "".join(lines).encode("ascii"),
+        "stdout": "".join(f"{answer}\n" for _, _, _, answer in rows).encode("ascii"),
     }
 
 
 def main(arguments):
-    if len(arguments) != 1:
-        print("usage: basic_answers.py FOLDER", file=sys.stderr)
-        return 2
     if wrapped(encoded(LINES)) != FILE:
         print("basic_answers.py: the lines are not those of the file", file=sys.stderr)
         return 1
-    for path, text in stored_files().items():
-        file = Path(arguments[0], path)
-        file.parent.mkdir(parents=True, exist_ok=True)
-        file.write_text(text, encoding="ascii")
-    return 0
+    return write_stored_run("basic_answers.py", stored_files, arguments)
 
 
 if __name__ == "__main__":

@@ -11,10 +11,10 @@ not from what the program printed.
 """
 
 import sys
-from pathlib import Path
 
 from compare_readers import case_file
 from hostile_inputs import ROWS
+from stored_run import write_stored_run
 
 
 def stored_files():
@@ -24,16 +24,5 @@ def stored_files():
     return {"data/cases.bin": cases, "stdout": lines.encode("ascii")}
 
 
-def main(arguments):
-    if len(arguments) != 1:
-        print("usage: stored_answers.py FOLDER", file=sys.stderr)
-        return 2
-    for path, octets in stored_files().items():
-        file = Path(arguments[0], path)
-        file.parent.mkdir(parents=True, exist_ok=True)
-        file.write_bytes(octets)
-    return 0
-
-
 if __name__ == "__main__":
-    sys.exit(main(sys.argv[1:]))
+    sys.exit(write_stored_run("stored_answers.py", stored_files, sys.argv[1:]))

@@ -185,8 +185,8 @@ class BasicAnswersTest(unittest.TestCase):
         self.assertEqual(made, basic_answers.FILE)
 
     def test_stored_files(self):
-        for path, text in basic_answers.stored_files().items():
-            self.assertEqual((CRATES / "basic_answers" / path).read_text("ascii"), text, path)
+        for path, octets in basic_answers.stored_files().items():
+            self.assertEqual((CRATES / "basic_answers" / path).read_bytes(), octets, path)
 
 
 class ComparisonTest(unittest.TestCase):
@@ -322,7 +322,7 @@ class ValueAnswersTest(unittest.TestCase):
 
     def test_stored_files(self):
         for path, octets in stored_values().items():
-            self.assertEqual((CRATES / "value_answers" / path).read_bytes(), octets)
+            self.assertEqual((CRATES / path).read_bytes(), octets, path)
 
     def test_shapes(self):
         for kind, octets, line in (

@@ -1,27 +1,27 @@
 #!/usr/bin/env python3
-"""Make the files of the stored run of `value_answers`.
+"""Make the files of the stored runs of `value_answers` and `structure_answers`.
 
 Usage:
 
     python3 tools/value_answers.py FOLDER
 
-writes FOLDER/data/rows, the rows that the program is asked for, and
-FOLDER/stdout, a line for each.  The lines come from `value_reader`, from
-Python's arithmetic and `datetime`, from the list in `oid_table`, and for the
-names and keys of certificates from what openssl said of them
-(`certificate_rows.txt`, which `certificate_parts.py` makes), and not from what
-the program printed.
+writes for each PROGRAM of the two FOLDER/PROGRAM/data/rows, the rows that it
+is asked for, and FOLDER/PROGRAM/stdout, a line for each.  The lines come from
+`value_reader`, from Python's arithmetic and `datetime`, from the list in
+`oid_table`, and for the names and keys of certificates from what openssl said
+of them (`certificate_rows.txt`, which `certificate_parts.py` makes), and not
+from what the programs printed.
 """
 
 import sys
 from datetime import datetime
-from pathlib import Path
 
 import structure_rows as structures
 import value_rows as values
 from certificate_parts import STORED, rows_of
 from der_reader import Constructed, Primitive, read_exact, write
 from oid_table import BAD_CONTENTS, BAD_TEXTS, KNOWN, READ, contents
+from stored_run import write_stored_run
 from value_reader import KINDS, Shape, bits, ia5, integer, name, structure_line, word
 
 
@@ -286,37 +286,40 @@ def certificate_rows():
         yield f"structure key {row.octets}", line
 
 
-def all_rows():
+def value_rows():
+    """The rows of `value_answers`."""
     yield from identifier_rows()
     yield from string_rows()
     yield from ((f"error {name}", text) for name, text in ERRORS)
     yield from time_rows()
+
+
+def structure_rows():
+    """The rows of `structure_answers`."""
     yield from read_rows()
     yield from unlike_rows()
     yield from made_rows()
     yield from certificate_rows()
 
 
-def stored_files():
-    """The octets of each file, by its path below the folder."""
+def stored_run(program, rows_and_lines):
+    """The octets of each file of a program's stored run, by its path."""
     rows = {}
-    for row, line in all_rows():
+    for row, line in rows_and_lines:
         assert rows.setdefault(row, line) == line, row
     asked = "".join(f"{row}\n" for row in rows)
     answered = "".join(f"{line}\n" for line in rows.values())
-    return {"data/rows": asked.encode("ascii"), "stdout": answered.encode("ascii")}
+    yield f"{program}/data/rows", asked.encode("ascii")
+    yield f"{program}/stdout", answered.encode("ascii")
 
 
-def main(arguments):
-    if len(arguments) != 1:
-        print("usage: value_answers.py FOLDER", file=sys.stderr)
-        return 2
-    for path, octets in stored_files().items():
-        file = Path(arguments[0], path)
-        file.parent.mkdir(parents=True, exist_ok=True)
-        file.write_bytes(octets)
-    return 0
+def stored_files():
+    """The octets of each file, by its path below the folder of the crates."""
+    return dict([
+        *stored_run("value_answers", value_rows()),
+        *stored_run("structure_answers", structure_rows()),
+    ])
 
 
 if __name__ == "__main__":
-    sys.exit(main(sys.argv[1:]))
+    sys.exit(write_stored_run("value_answers.py", stored_files, sys.argv[1:]))

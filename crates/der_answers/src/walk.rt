@@ -1,13 +1,10 @@
 //! All elements of some octets, one after another and each before those inside it.
 
-use der_core::{Cursor, Malformed};
-
-// Elements of certificates and signatures are at most so many levels deep.
-const LEVELS: u8 = 64;
+use der_core::{Cursor, MAX_NESTING, Malformed};
 
 /// How many elements octets have, those inside others among them.
 pub fn count_elements(octets: &[u8]) -> Result<u64, Malformed> {
-    count_within(Cursor::new(octets), LEVELS)
+    count_within(Cursor::new(octets), MAX_NESTING)
 }
 
 /// How many elements a cursor gives, with those of so many levels inside them.

@@ -30,7 +30,12 @@ const HEADERS: [(WinCertificateError, &str); 7] = [
 #[test]
 fn an_acceptance_is_a_line(rt: HostRuntime) -> Result<(), AllocError> {
     for (signer, places, excuse, want) in ACCEPTED {
-        let accepted = accepted(rt.alloc(), signer, places, excuse)?;
+        let path = places_of(rt.alloc(), places)?;
+        let accepted = Accepted {
+            signer,
+            path,
+            excuse,
+        };
         assert!(rt;
             accepted_line(rt.alloc(), &accepted)?.as_str() == want,
             "{want}"
@@ -39,21 +44,12 @@ fn an_acceptance_is_a_line(rt: HostRuntime) -> Result<(), AllocError> {
     Ok(())
 }
 
-fn accepted(
-    alloc: Global,
-    signer: Option<usize>,
-    places: &[usize],
-    excuse: Excuse,
-) -> Result<Accepted, AllocError> {
+fn places_of(alloc: Global, places: &[usize]) -> Result<Places, AllocError> {
     let mut path = Places::new(alloc);
     for place in places {
         path.push(*place)?;
     }
-    Ok(Accepted {
-        signer,
-        path,
-        excuse,
-    })
+    Ok(path)
 }
 
 #[test]

@@ -49,8 +49,7 @@ fn status_of(alloc: Global, words: &[&str]) -> Result<u8, AllocError> {
     Ok(run(alloc, &words, &mut shelf, &mut sink))
 }
 
-/// The words as a run takes them.
-pub(crate) fn owned(alloc: Global, words: &[&str]) -> Result<Vec<String>, AllocError> {
+fn owned(alloc: Global, words: &[&str]) -> Result<Vec<String>, AllocError> {
     let mut strings = Vec::new(alloc);
     for word in words {
         strings.push(String::from_str(alloc, word)?)?;

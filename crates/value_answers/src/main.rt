@@ -1,4 +1,5 @@
-//! What the libraries of values answer to the rows of a file, for a comparison with other answers.
+//! What is answered to rows of a file on identifiers, integers, strings, times and dates, for a
+//! comparison with other answers.
 //!
 //! ```text
 //! value_answers FILE
@@ -9,14 +10,12 @@
 //! row. `tools/value_answers.py` makes rows and lines.
 #![tactic(auto)]
 
-mod details;
 mod errors;
 mod identifiers;
-mod making;
 mod row;
 mod strings;
-mod structures;
 mod times;
+mod words;
 
 use anyhow::{Result, bail};
 use std::io::{BufWriter, Write};

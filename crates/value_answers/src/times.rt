@@ -1,10 +1,10 @@
 //! Both times and dates.
 
-use crate::row::{octets_of, word_of};
+use crate::words::{octets_of, word_of};
 use anyhow::{Context, Result, bail};
 use asn1_types::{GeneralizedTime, UTCTime};
 use names_core::UtcDate;
-use std::alloc::Global;
+use std::alloc::{AllocError, Global};
 
 /// The fields of a moment, which may not exist.
 #[derive(Clone, Copy)]
@@ -94,40 +94,40 @@ pub fn answer(alloc: Global, call: &str, args: &[&str]) -> Result<Option<String>
 }
 
 /// The text, the fields and the contents octets of a time.
-fn generalized(alloc: Global, time: Option<GeneralizedTime>) -> Result<String> {
+fn generalized(alloc: Global, time: Option<GeneralizedTime>) -> Result<String, AllocError> {
     let Some(time) = time else {
-        return Ok(String::from_str(alloc, "none")?);
+        return String::from_str(alloc, "none");
     };
     let (year, month, day) = (time.year(), time.month(), time.day());
     let (hour, minute, second) = (time.hour(), time.minute(), time.second());
     let content = word_of(alloc, time.to_content().as_slice())?;
-    Ok(format!(in alloc; "{time} {year} {month} {day} {hour} {minute} {second} {content}")?)
+    format!(in alloc; "{time} {year} {month} {day} {hour} {minute} {second} {content}")
 }
 
 /// The text, the fields and the contents octets of a time, and the contents octets of the
 /// GeneralizedTime of the same moment.
-fn utc(alloc: Global, time: Option<UTCTime>) -> Result<String> {
+fn utc(alloc: Global, time: Option<UTCTime>) -> Result<String, AllocError> {
     let Some(time) = time else {
-        return Ok(String::from_str(alloc, "none")?);
+        return String::from_str(alloc, "none");
     };
     let (year, month, day) = (time.year(), time.month(), time.day());
     let (hour, minute, second) = (time.hour(), time.minute(), time.second());
     let content = word_of(alloc, time.to_content().as_slice())?;
     let other = word_of(alloc, GeneralizedTime::from(time).to_content().as_slice())?;
-    Ok(format!(in alloc; "{time} {year} {month} {day} {hour} {minute} {second} {content} {other}")?)
+    format!(in alloc; "{time} {year} {month} {day} {hour} {minute} {second} {content} {other}")
 }
 
 /// The text of a date, its GeneralizedTime, and the contents octets of its UTCTime.
-fn date(alloc: Global, date: Option<UtcDate>) -> Result<String> {
+fn date(alloc: Global, date: Option<UtcDate>) -> Result<String, AllocError> {
     let Some(date) = date else {
-        return Ok(String::from_str(alloc, "none")?);
+        return String::from_str(alloc, "none");
     };
     let fields = generalized(alloc, Some(GeneralizedTime::from(date)))?;
     let utc = match date.utc_time() {
         Some(time) => word_of(alloc, time.to_content().as_slice())?,
         None => String::from_str(alloc, "none")?,
     };
-    Ok(format!(in alloc; "{date} {fields} {utc}")?)
+    format!(in alloc; "{date} {fields} {utc}")
 }
 
 /// How the first of two dates stands to the second.

@@ -1,5 +1,5 @@
 //! Tests of what rows of data can't show: a hash, and lists that grow. The rows of `value_answers`
-//! are the others.
+//! and `structure_answers` are the others.
 #![tactic(auto)]
 
 #[cfg(test)]

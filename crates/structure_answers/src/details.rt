@@ -1,10 +1,9 @@
 //! What is printed of a value beside whether it comes back as it was read.
 
-use crate::row::word_of;
-use anyhow::Result;
+use crate::words::word_of;
 use asn1_types::{BitString, Ia5String, IntegerAsn1, ObjectIdentifier};
 use names_core::DirectoryName;
-use std::alloc::Global;
+use std::alloc::{AllocError, Global};
 use x509_types::{
     AlgorithmIdentifier, AttributeTypeAndValue, AttributeValue, DirectoryString,
     RelativeDistinguishedName, RsaPublicKey, SubjectKey, SubjectPublicKeyInfo,
@@ -12,55 +11,55 @@ use x509_types::{
 
 /// A value of which details are printed.
 pub trait Details {
-    fn details(&self, alloc: Global) -> Result<String>;
+    fn details(&self, alloc: Global) -> Result<String, AllocError>;
 }
 
 impl Details for IntegerAsn1 {
-    fn details(&self, alloc: Global) -> Result<String> {
-        Ok(word_of(alloc, self.as_signed_bytes_be())?)
+    fn details(&self, alloc: Global) -> Result<String, AllocError> {
+        word_of(alloc, self.as_signed_bytes_be())
     }
 }
 
 impl Details for BitString {
-    fn details(&self, alloc: Global) -> Result<String> {
+    fn details(&self, alloc: Global) -> Result<String, AllocError> {
         let (unused, payload) = (self.unused(), word_of(alloc, self.payload_view())?);
-        Ok(format!(in alloc; "{unused} {payload}")?)
+        format!(in alloc; "{unused} {payload}")
     }
 }
 
 impl Details for ObjectIdentifier {
-    fn details(&self, alloc: Global) -> Result<String> {
-        Ok(self.to_text(alloc)?)
+    fn details(&self, alloc: Global) -> Result<String, AllocError> {
+        self.to_text(alloc)
     }
 }
 
 impl Details for Ia5String {
-    fn details(&self, alloc: Global) -> Result<String> {
-        Ok(word_of(alloc, self.as_str().as_bytes())?)
+    fn details(&self, alloc: Global) -> Result<String, AllocError> {
+        word_of(alloc, self.as_str().as_bytes())
     }
 }
 
 impl Details for AlgorithmIdentifier {
-    fn details(&self, alloc: Global) -> Result<String> {
+    fn details(&self, alloc: Global) -> Result<String, AllocError> {
         let oid = self.oid();
         let parameters = match self.parameters() {
             Some(parameters) => word_of(alloc, parameters.as_bytes())?,
             None => String::from_str(alloc, "none")?,
         };
-        Ok(format!(in alloc; "{oid} {parameters}")?)
+        format!(in alloc; "{oid} {parameters}")
     }
 }
 
 impl Details for RsaPublicKey {
-    fn details(&self, alloc: Global) -> Result<String> {
+    fn details(&self, alloc: Global) -> Result<String, AllocError> {
         let modulus = word_of(alloc, self.modulus.as_unsigned_bytes_be())?;
         let exponent = word_of(alloc, self.public_exponent.as_unsigned_bytes_be())?;
-        Ok(format!(in alloc; "{modulus} {exponent}")?)
+        format!(in alloc; "{modulus} {exponent}")
     }
 }
 
 impl Details for SubjectPublicKeyInfo {
-    fn details(&self, alloc: Global) -> Result<String> {
+    fn details(&self, alloc: Global) -> Result<String, AllocError> {
         let kind = self.subject_public_key.kind();
         let algorithm = self.algorithm.details(alloc)?;
         let key = match &self.subject_public_key {
@@ -69,12 +68,12 @@ impl Details for SubjectPublicKeyInfo {
                 bits.details(alloc)?
             }
         };
-        Ok(format!(in alloc; "{kind:?} {algorithm} {key}")?)
+        format!(in alloc; "{kind:?} {algorithm} {key}")
     }
 }
 
 impl Details for DirectoryString {
-    fn details(&self, alloc: Global) -> Result<String> {
+    fn details(&self, alloc: Global) -> Result<String, AllocError> {
         let (name, octets) = match self {
             DirectoryString::PrintableString(octets) => ("PrintableString", octets),
             DirectoryString::Utf8String(octets) => ("Utf8String", octets),
@@ -83,47 +82,47 @@ impl Details for DirectoryString {
         };
         let octets = word_of(alloc, octets.as_slice())?;
         let text = word_of(alloc, self.to_utf8_lossy(alloc)?.as_bytes())?;
-        Ok(format!(in alloc; "{name} {octets} {text}")?)
+        format!(in alloc; "{name} {octets} {text}")
     }
 }
 
 impl Details for AttributeValue {
-    fn details(&self, alloc: Global) -> Result<String> {
+    fn details(&self, alloc: Global) -> Result<String, AllocError> {
         let text = word_of(alloc, self.to_string(alloc)?.as_bytes())?;
         match self {
             AttributeValue::DirectoryString(string) => string.details(alloc),
             AttributeValue::Ia5String(string) => {
                 let octets = word_of(alloc, string.as_str().as_bytes())?;
-                Ok(format!(in alloc; "Ia5String {octets} {text}")?)
+                format!(in alloc; "Ia5String {octets} {text}")
             }
             AttributeValue::Other(other) => {
                 let octets = word_of(alloc, other.element().as_bytes())?;
-                Ok(format!(in alloc; "Other {octets} {text}")?)
+                format!(in alloc; "Other {octets} {text}")
             }
         }
     }
 }
 
 impl Details for AttributeTypeAndValue {
-    fn details(&self, alloc: Global) -> Result<String> {
+    fn details(&self, alloc: Global) -> Result<String, AllocError> {
         let (ty, value) = (&self.ty, self.value.details(alloc)?);
-        Ok(format!(in alloc; "{ty} {value}")?)
+        format!(in alloc; "{ty} {value}")
     }
 }
 
 impl Details for RelativeDistinguishedName {
-    fn details(&self, alloc: Global) -> Result<String> {
-        Ok(format!(in alloc; "{}", self.as_slice().len())?)
+    fn details(&self, alloc: Global) -> Result<String, AllocError> {
+        format!(in alloc; "{}", self.as_slice().len())
     }
 }
 
 impl Details for DirectoryName {
-    fn details(&self, alloc: Global) -> Result<String> {
+    fn details(&self, alloc: Global) -> Result<String, AllocError> {
         let text = word_of(alloc, self.to_string(alloc)?.as_bytes())?;
         let common_name = match self.find_common_name() {
             Some(string) => string.details(alloc)?,
             None => String::from_str(alloc, "none")?,
         };
-        Ok(format!(in alloc; "{text} {common_name}")?)
+        format!(in alloc; "{text} {common_name}")
     }
 }

@@ -1,7 +1,6 @@
 //! Shelves over readers that give a few octets a call, and sinks over writers that take a few.
 
 use crate::files::reads;
-use crate::words::owned;
 use picky_check::{Failed, FileError, Opener, ReaderShelf, WriterSink, run, write_report};
 use std::alloc::{AllocError, Global};
 use std::io;
@@ -177,4 +176,12 @@ fn answers(
         &mut WriterSink::over(&mut narrow),
     );
     Ok(got == status && narrow.held.as_slice() == written.as_bytes())
+}
+
+fn owned(alloc: Global, words: &[&str]) -> Result<Vec<String>, AllocError> {
+    let mut strings = Vec::new(alloc);
+    for word in words {
+        strings.push(String::from_str(alloc, word)?)?;
+    }
+    Ok(strings)
 }

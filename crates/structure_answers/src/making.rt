@@ -1,7 +1,7 @@
 //! Values that are put together of parts, and written.
 
 use crate::details::Details;
-use crate::row::{octets_of, text_of, word_of};
+use crate::words::{octets_of, text_of, word_of};
 use anyhow::{Context, Result};
 use asn1_types::{BitString, Ia5String, ObjectIdentifier, oids};
 use der_core::{DerError, Raw, Structure, read_exact, write};
@@ -16,10 +16,7 @@ pub fn answer(alloc: Global, call: &str, args: &[&str]) -> Result<Option<String>
         ("algorithm", [oid, parameters]) => algorithm(alloc, oid, Some(parameters))?,
         ("algorithm_null", [oid]) => algorithm_null(alloc, oid)?,
         ("ed25519_key", [bits]) => ed25519_key(alloc, bits)?,
-        ("common_name", [text]) => {
-            let name = DirectoryName::new_common_name(alloc, text_of(alloc, text)?.as_str())?;
-            shown(alloc, &name)?
-        }
+        ("common_name", [text]) => common_name(alloc, text)?,
         ("name", attributes) => name(alloc, attributes)?,
         _ => return Ok(None),
     };
@@ -32,7 +29,7 @@ fn algorithm(alloc: Global, oid: &str, parameters: Option<&&str>) -> Result<Stri
         None => None,
     };
     let oid = ObjectIdentifier::from_content(alloc, &octets_of(alloc, oid)?)?;
-    shown(alloc, &AlgorithmIdentifier::new(oid, parameters))
+    Ok(shown(alloc, &AlgorithmIdentifier::new(oid, parameters))?)
 }
 
 fn kept(alloc: Global, element: &[u8]) -> Result<Raw, DerError> {
@@ -41,7 +38,7 @@ fn kept(alloc: Global, element: &[u8]) -> Result<Raw, DerError> {
 
 fn algorithm_null(alloc: Global, oid: &str) -> Result<String> {
     let oid = ObjectIdentifier::from_content(alloc, &octets_of(alloc, oid)?)?;
-    shown(alloc, &AlgorithmIdentifier::with_null(alloc, oid)?)
+    Ok(shown(alloc, &AlgorithmIdentifier::with_null(alloc, oid)?)?)
 }
 
 fn ed25519_key(alloc: Global, bits: &str) -> Result<String> {
@@ -51,7 +48,13 @@ fn ed25519_key(alloc: Global, bits: &str) -> Result<String> {
         algorithm: AlgorithmIdentifier::new(oid, None),
         subject_public_key: SubjectKey::Ed(bits),
     };
-    shown(alloc, &key)
+    Ok(shown(alloc, &key)?)
+}
+
+fn common_name(alloc: Global, text: &str) -> Result<String> {
+    let text = octets_of(alloc, text)?;
+    let name = DirectoryName::new_common_name(alloc, text_of(&text)?)?;
+    Ok(shown(alloc, &name)?)
 }
 
 /// A name of attributes, each a type by its contents octets, `=`, and a text.
@@ -60,22 +63,23 @@ fn name(alloc: Global, attributes: &[&str]) -> Result<String> {
     for word in attributes {
         add_attribute(alloc, &mut name, word)?;
     }
-    shown(alloc, &name)
+    Ok(shown(alloc, &name)?)
 }
 
 /// Adds an attribute, an email address where the type is none of `NameAttr`.
 fn add_attribute(alloc: Global, name: &mut DirectoryName, word: &str) -> Result<()> {
     let (ty, text) = word.split_once('=').context("an attribute has a type")?;
-    let text = text_of(alloc, text)?;
+    let octets = octets_of(alloc, text)?;
+    let text = text_of(&octets)?;
     match NameAttr::from_contents(&octets_of(alloc, ty)?) {
-        Some(attr) => name.add_attr(attr, text.as_str())?,
-        None => name.add_email(Ia5String::from_string(alloc, text.as_str())?)?,
+        Some(attr) => name.add_attr(attr, text)?,
+        None => name.add_email(Ia5String::from_string(alloc, text)?)?,
     }
     Ok(())
 }
 
 /// The octets that are written for a value, and its details.
-fn shown<T: Structure + Details>(alloc: Global, value: &T) -> Result<String> {
+fn shown<T: Structure + Details>(alloc: Global, value: &T) -> Result<String, DerError> {
     let octets = write(alloc, &value.write(alloc)?)?;
     let (octets, details) = (word_of(alloc, &octets)?, value.details(alloc)?);
     Ok(format!(in alloc; "{octets} {details}")?)

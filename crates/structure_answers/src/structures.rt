@@ -1,7 +1,7 @@
 //! Structures that are read of elements, copied and written again.
 
 use crate::details::Details;
-use crate::row::octets_of;
+use crate::words::octets_of;
 use anyhow::Result;
 use asn1_types::{BitString, Ia5String, IntegerAsn1, ObjectIdentifier};
 use der_core::{DerError, Structure, read_exact, write};
@@ -16,21 +16,21 @@ use x509_types::{
 pub fn answer(alloc: Global, kind: &str, element: &str) -> Result<Option<String>> {
     let element = octets_of(alloc, element)?;
     let answer = match kind {
-        "integer" => read_of::<IntegerAsn1>(alloc, &element)?,
-        "bits" => read_of::<BitString>(alloc, &element)?,
-        "identifier" => read_of::<ObjectIdentifier>(alloc, &element)?,
-        "ia5" => read_of::<Ia5String>(alloc, &element)?,
-        "algorithm" => read_of::<AlgorithmIdentifier>(alloc, &element)?,
-        "rsa_key" => read_of::<RsaPublicKey>(alloc, &element)?,
-        "key" => read_of::<SubjectPublicKeyInfo>(alloc, &element)?,
-        "directory_string" => read_of::<DirectoryString>(alloc, &element)?,
-        "value" => read_of::<AttributeValue>(alloc, &element)?,
-        "attribute" => read_of::<AttributeTypeAndValue>(alloc, &element)?,
-        "set" => read_of::<RelativeDistinguishedName>(alloc, &element)?,
-        "name" => read_of::<DirectoryName>(alloc, &element)?,
+        "integer" => read_of::<IntegerAsn1>(alloc, &element),
+        "bits" => read_of::<BitString>(alloc, &element),
+        "identifier" => read_of::<ObjectIdentifier>(alloc, &element),
+        "ia5" => read_of::<Ia5String>(alloc, &element),
+        "algorithm" => read_of::<AlgorithmIdentifier>(alloc, &element),
+        "rsa_key" => read_of::<RsaPublicKey>(alloc, &element),
+        "key" => read_of::<SubjectPublicKeyInfo>(alloc, &element),
+        "directory_string" => read_of::<DirectoryString>(alloc, &element),
+        "value" => read_of::<AttributeValue>(alloc, &element),
+        "attribute" => read_of::<AttributeTypeAndValue>(alloc, &element),
+        "set" => read_of::<RelativeDistinguishedName>(alloc, &element),
+        "name" => read_of::<DirectoryName>(alloc, &element),
         _ => return Ok(None),
     };
-    Ok(Some(answer))
+    Ok(Some(answer?))
 }
 
 /// Whether two elements spell equal values, by the kind of structure; None where there is no such
@@ -39,33 +39,42 @@ pub fn answer_unlike(alloc: Global, kind: &str, one: &str, other: &str) -> Resul
     let one = octets_of(alloc, one)?;
     let other = octets_of(alloc, other)?;
     let equal = match kind {
-        "integer" => are_equal::<IntegerAsn1>(alloc, &one, &other)?,
-        "bits" => are_equal::<BitString>(alloc, &one, &other)?,
-        "identifier" => are_equal::<ObjectIdentifier>(alloc, &one, &other)?,
-        "ia5" => are_equal::<Ia5String>(alloc, &one, &other)?,
-        "algorithm" => are_equal::<AlgorithmIdentifier>(alloc, &one, &other)?,
-        "key" => are_equal::<SubjectPublicKeyInfo>(alloc, &one, &other)?,
-        "name" => are_equal::<DirectoryName>(alloc, &one, &other)?,
+        "integer" => are_equal::<IntegerAsn1>(alloc, &one, &other),
+        "bits" => are_equal::<BitString>(alloc, &one, &other),
+        "identifier" => are_equal::<ObjectIdentifier>(alloc, &one, &other),
+        "ia5" => are_equal::<Ia5String>(alloc, &one, &other),
+        "algorithm" => are_equal::<AlgorithmIdentifier>(alloc, &one, &other),
+        "key" => are_equal::<SubjectPublicKeyInfo>(alloc, &one, &other),
+        "name" => are_equal::<DirectoryName>(alloc, &one, &other),
         _ => return Ok(None),
     };
-    let answer = if equal { "equal" } else { "unlike" };
+    let answer = if equal? { "equal" } else { "unlike" };
     Ok(Some(String::from_str(alloc, answer)?))
 }
 
 /// Whether the value comes back as it was read, and its details; or that there is none.
-fn read_of<T: Structure + PartialEq + Details>(alloc: Global, element: &[u8]) -> Result<String> {
-    match value_of::<T>(alloc, element) {
-        Ok(value) => {
-            let word = if comes_back(alloc, element, &value)? {
-                "same"
-            } else {
-                "changed"
-            };
-            let details = value.details(alloc)?;
-            Ok(format!(in alloc; "{word} {details}")?)
-        }
-        Err(DerError::Shape) => Ok(String::from_str(alloc, "Shape")?),
-        Err(error) => Err(error.into()),
+fn read_of<T: Structure + PartialEq + Details>(
+    alloc: Global,
+    element: &[u8],
+) -> Result<String, DerError> {
+    let value = match value_of::<T>(alloc, element) {
+        Ok(value) => value,
+        Err(error) => return shown_shape(alloc, error),
+    };
+    let word = if comes_back(alloc, element, &value)? {
+        "same"
+    } else {
+        "changed"
+    };
+    let details = value.details(alloc)?;
+    Ok(format!(in alloc; "{word} {details}")?)
+}
+
+/// A refusal of the shape; another error ends the run.
+fn shown_shape(alloc: Global, error: DerError) -> Result<String, DerError> {
+    match error {
+        DerError::Shape => Ok(String::from_str(alloc, "Shape")?),
+        error => Err(error),
     }
 }
 

@@ -1,0 +1,10 @@
+//! What shelves and sinks do, call by call, as tables: whole files and whole reports, in memory, over
+//! readers and writers, and of the system.
+#![tactic(auto)]
+
+#[cfg(test)]
+mod disk;
+#[cfg(test)]
+mod files;
+#[cfg(test)]
+mod streams;

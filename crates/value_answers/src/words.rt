@@ -1,0 +1,26 @@
+//! The words of a row.
+
+use anyhow::{Context, Result};
+use std::alloc::{AllocError, Global};
+
+/// The octets of a word in hexadecimal digits, `-` for none.
+pub fn octets_of(alloc: Global, word: &str) -> Result<Vec<u8>> {
+    if word == "-" {
+        return Ok(Vec::new(alloc));
+    }
+    hex::decode(alloc, word).context("reading octets")
+}
+
+/// The text of octets.
+pub fn text_of(octets: &[u8]) -> Result<&str> {
+    str::from_utf8(octets).context("reading a text")
+}
+
+/// The word of octets.
+pub fn word_of(alloc: Global, octets: &[u8]) -> Result<String, AllocError> {
+    if octets.is_empty() {
+        String::from_str(alloc, "-")
+    } else {
+        hex::encode(alloc, octets)
+    }
+}
