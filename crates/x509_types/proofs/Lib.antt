@@ -14,3 +14,4 @@ pub mod Found
 pub mod AuthorityKeys
 pub mod ExtensionValues
 pub mod Extensions
+pub mod KeyUsages
