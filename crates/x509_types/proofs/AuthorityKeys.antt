@@ -6,7 +6,7 @@ use Rattle.std.proofs.lemmas.Slice.Eq.{bytes_eq-Decides}
 use Rattle.der_core.specs.DerElement.{DerElement}
 use Rattle.der_core.specs.Encoding.{encoding}
 use Rattle.der_core.specs.Kept.{KeptElement}
-use Rattle.der_core.specs.Lent.{at_option, kept_option}
+use Rattle.der_core.specs.Lent.{at_option}
 use Rattle.der_core.specs.declared.elem.Elem.{Elem}
 use Rattle.x509_types.specs.AuthorityIssuer.{HasIssuerTag}
 use Rattle.x509_types.specs.AuthorityKeyIdentifier.{authority_key_of, authority_key_identifier}

@@ -1,14 +1,14 @@
 -- Basic constraints by their kids.
-use Rattle.std.proofs.Common.{◌≡◌, ℕ, List, [], ◌∷◌, ◌++◌, Option, Some, None, refl, sym, ap, subst, ◌∙◌, arith}
+use Rattle.std.proofs.Common.{◌≡◌, ℕ, List, [], ◌∷◌, ◌++◌, Option, Some, None, refl, sym, ap, subst, ◌∙◌}
 use Rattle.std.specs.Prelude.{Bool}
-use Rattle.der_core.specs.DerElement.{DerElement, tag_of, row, Constructed}
+use Rattle.der_core.specs.DerElement.{DerElement, tag_of}
 use Rattle.der_core.specs.Elements.{sequence}
 use Rattle.der_core.specs.Default.{IsBoolean, HasBadFlag}
 use Rattle.der_core.specs.Structure.{HasMore, BeginsOtherwise}
 use Rattle.x509_types.specs.Boolean.{IsOptionalBoolean, TakesBoolean}
 use Rattle.x509_types.specs.BasicConstraints.{optional_integer, IsBasicConstraints, HasBadLength, TakesLength}
 use Rattle.x509_types.specs.Facts.Algorithms.{same_kids}
-use Rattle.x509_types.specs.Facts.Fields.{IsField, split}
+use Rattle.x509_types.specs.Facts.Fields.{split}
 use Rattle.x509_types.specs.Facts.Constraints.{optional_field, no_flag}
 use Rattle.x509_types.specs.declared.basic_constraints.BasicConstraints.{BasicConstraints}
 

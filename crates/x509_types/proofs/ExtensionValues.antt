@@ -7,7 +7,7 @@ use Rattle.x509_types.specs.KeyUsage.{key_usage}
 use Rattle.x509_types.specs.BasicConstraints.{IsBasicConstraints}
 use Rattle.x509_types.specs.AuthorityKeyIdentifier.{authority_key_identifier}
 use Rattle.x509_types.specs.ExtendedKeyUsage.{extended_key_usage}
-use Rattle.x509_types.specs.ExtensionView.{kind_of, IsValueOf}
+use Rattle.x509_types.specs.ExtensionView.{IsValueOf}
 use Rattle.x509_types.specs.declared.octet_string.OctetString.{OctetString}
 use Rattle.x509_types.specs.declared.key_usage.KeyUsage.{KeyUsage}
 use Rattle.x509_types.specs.declared.basic_constraints.BasicConstraints.{BasicConstraints}

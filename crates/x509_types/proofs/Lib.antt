@@ -15,3 +15,4 @@ pub mod AuthorityKeys
 pub mod ExtensionValues
 pub mod Extensions
 pub mod KeyUsages
+pub mod Spellings

@@ -1,8 +1,8 @@
 -- AuthorityKeyIdentifier ::= SEQUENCE { keyIdentifier [0] KeyIdentifier OPTIONAL, authorityCertIssuer [1] GeneralNames OPTIONAL,
 -- authorityCertSerialNumber [2] CertificateSerialNumber OPTIONAL } (RFC 5280 4.2.1.1). The tags are implicit; what stands under the
 -- last two is kept as it is.
-use Rattle.std.specs.Prelude.{◌≡◌, ⊤, ℕ, List, [], ◌∷◌, ◌++◌, Option, Some, None, option_to_list}
-use Rattle.der_core.specs.DerElement.{DerElement, Primitive, tag_of}
+use Rattle.std.specs.Prelude.{ℕ, List, [], ◌∷◌, ◌++◌, Option, Some, None, option_to_list}
+use Rattle.der_core.specs.DerElement.{DerElement, Primitive}
 use Rattle.der_core.specs.Elements.{sequence}
 use Rattle.der_core.specs.Lent.{kept_option}
 use Rattle.x509_types.specs.declared.authority_key_identifier.AuthorityKeyIdentifier.{AuthorityKeyIdentifier}

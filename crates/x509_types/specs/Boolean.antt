@@ -1,5 +1,5 @@
 -- BOOLEAN that may be left out (X.690 8.2, 11.1, 11.5).
-use Rattle.std.specs.Prelude.{◌≡◌, ℕ, Bool, if◌then◌else◌, List, [], ◌∷◌, ◌++◌, Option, Some, None}
+use Rattle.std.specs.Prelude.{◌≡◌, Bool, if◌then◌else◌, List, [], ◌∷◌, ◌++◌, Option, Some, None}
 use Rattle.der_core.specs.DerElement.{DerElement, Primitive}
 use Rattle.der_core.specs.Default.{IsBoolean}
 use Rattle.der_core.specs.Structure.{BeginsOtherwise}

@@ -1,17 +1,16 @@
 -- Identifiers of authorities' keys: unlike ones have unlike elements, each well formed.
-use Rattle.std.proofs.Common.{◌≡◌, ℕ, List, [], ◌∷◌, ◌++◌, Option, Some, None, refl, ap, sym, subst, ◌∙◌, arith}
+use Rattle.std.proofs.Common.{◌≡◌, ℕ, List, [], ◌++◌, Option, Some, None, refl, ap, subst, ◌∙◌, arith}
 use Rattle.std.specs.Prelude.{option_to_list}
-use Rattle.der_core.specs.DerElement.{DerElement, Primitive, tag_of}
-use Rattle.der_core.specs.Encoding.{IsWellFormed, AreWellFormed, IsTag, form_bit}
+use Rattle.der_core.specs.DerElement.{DerElement}
+use Rattle.der_core.specs.Encoding.{AreWellFormed}
 use Rattle.der_core.specs.DerElement.{row}
-use Rattle.der_core.specs.Elements.{sequence}
 use Rattle.der_core.specs.Kept.{KeptElement}
 use Rattle.der_core.specs.Lent.{kept_option}
 use Rattle.der_core.specs.Structure.{IsGrammar, BeginsOtherwise}
 use Rattle.der_core.specs.Facts.Grammars.{printed}
 use Rattle.der_core.specs.Facts.Kept.{same_kept}
 use Rattle.x509_types.specs.AuthorityIssuer.{HasIssuerTag}
-use Rattle.x509_types.specs.AuthorityKeyIdentifier.{optional_leaf, authority_key_of, authority_key_identifier}
+use Rattle.x509_types.specs.AuthorityKeyIdentifier.{optional_leaf, authority_key_identifier}
 use Rattle.x509_types.specs.Facts.Algorithms.{same_kids}
 use Rattle.x509_types.specs.Facts.Fields.{IsField, split}
 use Rattle.x509_types.specs.Facts.Issuers.{HasIssuerTag-prop}

@@ -1,8 +1,8 @@
 -- Basic constraints: unlike ones have unlike elements, each well formed and in bounds.
 use Rattle.std.proofs.Common.{◌≡◌, ℕ, List, [], ◌∷◌, ◌++◌, Option, Some, None, refl, ap, sym, subst, ◌∙◌, arith}
 use Rattle.std.specs.Prelude.{Bool, true, false, not, ◌==◌, nat_lt, if◌then◌else◌}
-use Rattle.der_core.specs.DerElement.{DerElement, Primitive, tag_of}
-use Rattle.der_core.specs.Encoding.{IsWellFormed, IsDer, length_octets}
+use Rattle.der_core.specs.DerElement.{DerElement, tag_of}
+use Rattle.der_core.specs.Encoding.{IsWellFormed}
 use Rattle.der_core.specs.Elements.{sequence}
 use Rattle.der_core.specs.Placed.{contents_octets}
 use Rattle.der_core.specs.Default.{IsBoolean, IsDefaultFalse}

@@ -3,7 +3,6 @@ use Rattle.std.proofs.Common.{◌≡◌, ℕ, List, [], ◌∷◌, ◌++◌, ref
 use Rattle.std.specs.Prelude.{Bool, true, false}
 use Rattle.der_core.specs.DerElement.{DerElement, Primitive, row}
 use Rattle.der_core.specs.Encoding.{IsWellFormed, AreWellFormed}
-use Rattle.der_core.specs.Elements.{sequence}
 use Rattle.der_core.specs.Default.{IsDefaultFalse}
 use Rattle.der_core.specs.Structure.{IsGrammar}
 use Rattle.asn1_types.specs.Values.{identifier_contents}

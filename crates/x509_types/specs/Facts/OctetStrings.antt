@@ -1,6 +1,5 @@
 -- Strings of octets: unlike ones have unlike elements, each well formed.
 use Rattle.std.proofs.Common.{◌≡◌, ℕ, List, [], refl, ap, arith}
-use Rattle.der_core.specs.DerElement.{Primitive}
 use Rattle.der_core.specs.Structure.{IsGrammar}
 use Rattle.der_core.specs.Facts.Grammars.{printed}
 use Rattle.x509_types.specs.OctetString.{octet_string}

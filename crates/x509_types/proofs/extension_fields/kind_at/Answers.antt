@@ -1,4 +1,3 @@
-use Rattle.std.proofs.Common.{refl, rules}
 use Rattle.x509_types.proofs.extension_fields.kind_at.Goals as goal
 
 pub returns-then-is_content : goal.returns-then-is_content

@@ -1,4 +1,4 @@
-use Rattle.std.proofs.Common.{◌↔◌, ◌≡◌, IsTrue, refl, sym, ◌∙◌, rules}
+use Rattle.std.proofs.Common.{refl, sym, ◌∙◌, rules}
 use Rattle.der_core.specs.Facts.Equality.{octets_decide}
 use Rattle.x509_types.specs.AuthorityKeyIdentifier.{authority_key_identifier}
 use Rattle.x509_types.specs.Facts.AuthorityKeys.{authority_key_identifiers}

@@ -1,4 +1,4 @@
-use Rattle.std.proofs.Common.{refl, rules}
+use Rattle.std.proofs.Common.{rules}
 use Rattle.der_core.specs.Facts.Equality.{octets_decide}
 use Rattle.x509_types.specs.BasicConstraints.{basic_constraints}
 use Rattle.x509_types.specs.Facts.Constraints.{all_basic_constraints, constraints_printed}

@@ -3,8 +3,6 @@ use Rattle.der_core.specs.Facts.Equality.{octets_decide}
 use Rattle.x509_types.specs.Extension.{extension}
 use Rattle.x509_types.specs.Facts.Extensions.{same_extension, extensions_printed, extensions_formed}
 use Rattle.x509_types.specs.declared.extension.Extension.{Extension}
-use Rattle.x509_types.proofs.Equal.{unlike}
-use Rattle.std.proofs.lemmas.Bool.{iff_false}
 use Rattle.x509_types.proofs.extension.ExtensionPartialEq.eq.Goals as goal
 
 -- extensions that are alike are told by their values
