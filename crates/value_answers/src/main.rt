@@ -11,6 +11,7 @@
 
 mod details;
 mod errors;
+mod extensions;
 mod identifiers;
 mod making;
 mod row;

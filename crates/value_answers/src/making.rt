@@ -1,6 +1,7 @@
 //! Values that are put together of parts, and written.
 
 use crate::details::Details;
+use crate::extensions;
 use crate::row::{octets_of, text_of, word_of};
 use anyhow::{Context, Result};
 use asn1_types::{BitString, Ia5String, ObjectIdentifier, oids};
@@ -21,6 +22,7 @@ pub fn answer(alloc: Global, call: &str, args: &[&str]) -> Result<Option<String>
             shown(alloc, &name)?
         }
         ("name", attributes) => name(alloc, attributes)?,
+        ("extension", [call, args @ ..]) => return extensions::made(alloc, call, args),
         _ => return Ok(None),
     };
     Ok(Some(answer))

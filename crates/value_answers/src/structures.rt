@@ -8,7 +8,7 @@ use der_core::{DerError, Structure, read_exact, write};
 use names_core::DirectoryName;
 use std::alloc::Global;
 use x509_types::{
-    AlgorithmIdentifier, AttributeTypeAndValue, AttributeValue, DirectoryString,
+    AlgorithmIdentifier, AttributeTypeAndValue, AttributeValue, DirectoryString, Extension,
     RelativeDistinguishedName, RsaPublicKey, SubjectPublicKeyInfo,
 };
 
@@ -28,6 +28,7 @@ pub fn answer(alloc: Global, kind: &str, element: &str) -> Result<Option<String>
         "attribute" => read_of::<AttributeTypeAndValue>(alloc, &element)?,
         "set" => read_of::<RelativeDistinguishedName>(alloc, &element)?,
         "name" => read_of::<DirectoryName>(alloc, &element)?,
+        "extension" => read_of::<Extension>(alloc, &element)?,
         _ => return Ok(None),
     };
     Ok(Some(answer))
@@ -46,6 +47,7 @@ pub fn answer_unlike(alloc: Global, kind: &str, one: &str, other: &str) -> Resul
         "algorithm" => are_equal::<AlgorithmIdentifier>(alloc, &one, &other)?,
         "key" => are_equal::<SubjectPublicKeyInfo>(alloc, &one, &other)?,
         "name" => are_equal::<DirectoryName>(alloc, &one, &other)?,
+        "extension" => are_equal::<Extension>(alloc, &one, &other)?,
         _ => return Ok(None),
     };
     let answer = if equal { "equal" } else { "unlike" };
