@@ -351,3 +351,117 @@ MADE_NAMES = [
     [("2.5.4.3", "CommonName"), ("2.5.4.8", "SomeState"), ("2.5.4.6", "SomeCountry")],
     [(text, "x") for _, text, _ in ATTRIBUTE_TYPES],
 ]
+
+# Extensions; those of openssl stand in certificates that `openssl req -x509 -addext` makes.
+EXTENSIONS = [
+    ("300c0603551d1304053003010100", "basic constraints, the flag given as FALSE"),
+    ("30120603551d130101ff040830060101ff020100", "openssl: critical basic constraints with path length 0"),
+    ("30090603551d1304023000", "openssl: basic constraints without a flag"),
+    ("30100603551d13040930070101ff02020080", "openssl: path length 128, whose contents begin with a zero"),
+    ("300d0603551d1304063004020200ff", "path length 255 without a flag"),
+    ("300c0603551d130405300302017f", "path length 127"),
+    ("300e0603551d0f0101ff040403020186", "openssl: three purposes, critical"),
+    ("300c0603551d0f04050303070980", "openssl: nine bits"),
+    ("300b0603551d0f040403020640", "openssl: the second bit alone"),
+    ("300a0603551d0f0403030100", "no bits"),
+    ("300c0603551d0f04050303000000", "bits that are 0, none of them unused"),
+    ("300b0603551d0f0404030207ff", "bits that are 1 and aren't used"),
+    ("301d0603551d250416301406082b0601050507030306082b06010505070308", "openssl: code signing and time stamping"),
+    ("302c0603551d250101ff0422302006082b0601050507030106082b06010505070302060a2b0601040182370a030d", "openssl: three purposes, critical"),
+    ("30090603551d2504023000", "no purposes"),
+    ("301d0603551d0e04160414236b61b8a152166f8dc897ab9a2046da2980153c", "openssl: the identifier of a key"),
+    ("30090603551d0e04020400", "an identifier of no octets"),
+    ("303d0603551d23043630348014236b61b8a152166f8dc897ab9a2046da2980153ca118a41630143112301006035504030c0954657374204341203182021001", "openssl: identifier, issuer and serial number"),
+    ("300e0603551d23040730058003aabbcc", "openssl: an identifier alone"),
+    ("30090603551d2304023000", "none of the three"),
+    ("300d0603551d2304063004a1008200", "no names and no octets"),
+    ("30140603551d11040d300b8209612e6578616d706c65", "openssl: names of the subject"),
+    ("30160603551d12040f300d810b6140622e6578616d706c65", "openssl: names of the issuer"),
+    ("30100603551d2004093007300506032a0304", "openssl: policies"),
+    ("300c06032a03040101ff04020500", "openssl: an unknown identifier, critical"),
+    ("300706032a03040400", "an unknown identifier with no octets"),
+    ("300806032a03040401ff", "octets that are no element"),
+    # Another spelling: FALSE is written by leaving it out, TRUE as FF.
+    ("30120603551d13010101040830060101ff020100", "critical in another octet of TRUE"),
+    ("300f0603551d1301010004053003010100", "critical given as FALSE"),
+    ("300c06032a030401010004020400", "an unknown identifier, critical given as FALSE"),
+    ("300c0603551d1304053003010101", "basic constraints in another octet of TRUE"),
+    ("300f0603551d1301018004053003010180", "both flags in another octet of TRUE"),
+]
+
+# Elements that are no extension.
+NO_EXTENSIONS = [
+    ("31090603551d1304023000", "a SET"),
+    ("3000", "no fields"),
+    ("30050603551d13", "an identifier alone"),
+    ("300b0603551d13040230000500", "a field behind the value"),
+    ("300b06032a0304010200000400", "a flag of two octets"),
+    ("300906032a030401000400", "a flag of no octets"),
+    ("300d06032a03040101ff0101ff0400", "two flags"),
+    ("300a06032a030404000101ff", "the flag behind the value"),
+    ("300706032a03040300", "a BIT STRING as the value"),
+    ("300906032a030424020400", "a value in parts"),
+    ("300406000400", "an identifier of no octets"),
+    ("30090603551d0f04020500", "NULL as the usage of a key"),
+    ("30090603551d0f04020300", "a BIT STRING of no octets"),
+    ("300a0603551d0f0403030101", "an unused bit of no octets"),
+    ("300b0603551d0f040403020880", "eight unused bits"),
+    ("300c0603551d0f04050302064000", "an octet behind the usage"),
+    ("300c0603551d13040530030201ff", "a path length below zero"),
+    ("300d0603551d130406300402020100", "a path length of 256"),
+    ("300d0603551d13040630040202007f", "a path length with a zero too many"),
+    ("300b0603551d13040430020200", "a path length of no octets"),
+    ("300f0603551d13040830060201000101ff", "the path length before the flag"),
+    ("300b0603551d130404300201ff", "a flag that is cut off"),
+    ("300d0603551d13040630040102ffff", "a flag of two octets in the value"),
+    ("300f0603551d1304083006020100020100", "two path lengths"),
+    ("300b0603551d13040430000500", "an element behind the constraints"),
+    ("30090603551d1304023100", "a SET as basic constraints"),
+    ("30070603551d130400", "no octets as basic constraints"),
+    ("30090603551d0e04023000", "a SEQUENCE as the identifier of a key"),
+    ("300b0603551d0e04040401aa00", "an octet behind the identifier of a key"),
+    ("300b0603551d25040430020600", "a purpose of no octets"),
+    ("300d0603551d250406300406028001", "a purpose with 80 in front"),
+    ("300b0603551d25040430020500", "NULL as a purpose"),
+    ("300b0603551d23040430028100", "another tag in the identifier of an authority's key"),
+    ("300d0603551d230406300482008000", "the serial number before the identifier"),
+    ("300d0603551d230406300480008000", "two identifiers"),
+    ("300b0603551d2304043002a000", "a constructed identifier"),
+]
+
+# Two extensions that are unlike one another, and in what.
+UNLIKE_EXTENSIONS = [
+    ("30090603551d1304023000", "300c0603551d1304053003010100", "a flag that is left out and FALSE"),
+    ("300706032a03040400", "300a06032a03040101ff0400", "critical or not"),
+    ("300706032a03040400", "300706032a03050400", "the identifiers"),
+    ("300706032a03040400", "300806032a03040401ff", "the octets"),
+    ("30090603551d1304023000", "30090603551d2504023000", "the kinds of their values"),
+    ("300b0603551d0f040403020640", "300b0603551d0f040403020540", "the number of bits that aren't used"),
+]
+
+# Two spellings of one extension.
+LIKE_EXTENSIONS = [
+    ("300706032a03040400", "300a06032a03040101000400", "critical left out and given as FALSE"),
+    ("300a06032a03040101ff0400", "300a06032a03040101010400", "critical in two octets"),
+    ("300c0603551d13040530030101ff", "300c0603551d1304053003010102", "the flag of basic constraints in two octets"),
+]
+
+# Flags of usages: each alone, none, all, and such as stand for none.
+MADE_USAGES = [0, *(1 << bit for bit in range(9)), 0x61, 0x1FF, 0x181, 0x200, 0xFE00, 0xFFFF, 0xAAAA]
+
+# Purposes in order.
+MADE_PURPOSES = [[], ["1.3.6.1.5.5.7.3.3"], ["1.3.6.1.5.5.7.3.8", "1.3.6.1.5.5.7.3.3"]]
+
+# Extensions of octets as they are: an identifier, octets, and whether they read.
+MADE_RAW = [
+    ("1.2.3.4", "", True),
+    ("1.2.3.4", "ff", True),
+    ("2.5.29.17", "3008a2061604612e6578", True),
+    ("2.5.29.15", "03020780", True),
+    ("2.5.29.15", "0500", False),
+    ("2.5.29.19", "3003010105", True),
+    ("2.5.29.19", "30030101ff00", False),
+    ("2.5.29.14", "04", False),
+    ("2.5.29.35", "30008000", False),
+    ("2.5.29.37", "30020600", False),
+]

@@ -1,11 +1,12 @@
 #!/usr/bin/env python3
-"""Make the files of the stored runs of `value_answers` and `structure_answers`.
+"""Make the files of the stored runs of `value_answers`, `structure_answers` and
+`extension_answers`.
 
 Usage:
 
     python3 tools/value_answers.py FOLDER
 
-writes for each PROGRAM of the two FOLDER/PROGRAM/data/rows, the rows that it
+writes for each PROGRAM of the three FOLDER/PROGRAM/data/rows, the rows that it
 is asked for, and FOLDER/PROGRAM/stdout, a line for each.  The lines come from
 `value_reader`, from Python's arithmetic and `datetime`, from the list in
 `oid_table`, and for the names and keys of certificates from what openssl said
@@ -15,6 +16,7 @@ from what the programs printed.
 
 import sys
 from datetime import datetime
+from itertools import filterfalse
 
 import structure_rows as structures
 import value_rows as values
@@ -201,6 +203,7 @@ READ_AS = [
     ("key", structures.ED_KEYS + structures.MLDSA_KEYS, []),
     ("name", structures.NAMES, structures.NO_NAMES),
     ("value", structures.VALUES, []),
+    ("extension", structures.EXTENSIONS, structures.NO_EXTENSIONS),
 ]
 
 UNLIKE = [
@@ -211,6 +214,7 @@ UNLIKE = [
     ("bits", structures.UNLIKE_BITS),
     ("identifier", structures.UNLIKE_IDENTIFIERS),
     ("ia5", structures.UNLIKE_IA5),
+    ("extension", structures.UNLIKE_EXTENSIONS),
 ]
 
 
@@ -238,6 +242,8 @@ def unlike_rows():
         for one, other, _ in rows:
             yield f"unlike {kind} {one} {other}", "unlike"
             yield f"unlike {kind} {one} {one}", "equal"
+    for one, other, _ in structures.LIKE_EXTENSIONS:
+        yield f"unlike extension {one} {other}", "equal"
 
 
 def made_row(call, kind, element):
@@ -273,6 +279,49 @@ def made_rows():
         yield made_row(f"name{words}", "name", Constructed(0x30, sets))
 
 
+def made_extension(arc, value):
+    oid = Primitive(6, contents(f"2.5.29.{arc}"))
+    return Constructed(0x30, (oid, Primitive(4, write(value))))
+
+
+def made_usage(flags):
+    """The BIT STRING of flags, which ends with the last one."""
+    digits = "".join(str(flags >> bit & 1) for bit in range(9)).rstrip("0")
+    octets = bytes(int(digits[at:at + 8].ljust(8, "0"), 2) for at in range(0, len(digits), 8))
+    return Primitive(3, bytes([-len(digits) % 8]) + octets)
+
+
+def made_extension_rows():
+    def row(call, arc, value):
+        return made_row(f"extension {call}", "extension", made_extension(arc, value))
+
+    for ca in False, True:
+        flag = Primitive(1, b"\xff" if ca else b"\0")
+        for pathlen in None, 0, 127, 128, 255:
+            number = () if pathlen is None else (Primitive(2, shortest(bytes([pathlen]))),)
+            words = f"{str(ca).lower()} {'none' if pathlen is None else pathlen}"
+            yield row(f"basic_constraints {words}", 19, Constructed(0x30, (flag, *number)))
+    for flags in structures.MADE_USAGES:
+        yield row(f"key_usage {flags}", 15, made_usage(flags))
+    for purposes in structures.MADE_PURPOSES:
+        value = Constructed(0x30, tuple(Primitive(6, contents(text)) for text in purposes))
+        words = "".join(f" {word(contents(text))}" for text in purposes)
+        yield row(f"extended_key_usage{words}", 37, value)
+    for octets in b"", b"\xaa\xbb", bytes(200):
+        yield row(f"subject_key {word(octets)}", 14, Primitive(4, octets))
+        yield row(f"authority_key {word(octets)}", 35, Constructed(0x30, (Primitive(0x80, octets),)))
+    for text, octets, is_read in structures.MADE_RAW:
+        oid, octets = Primitive(6, contents(text)), bytes.fromhex(octets)
+        line = structure_line("extension", write(Constructed(0x30, (oid, Primitive(4, octets)))))
+        assert (line != "Shape") == is_read, (text, octets, line)
+        _, _, details = line.partition(" ")
+        answer = f"{line.split()[-1]} {details}" if is_read else line
+        yield f"make extension raw {word(oid.contents)} {word(octets)}", answer
+    usage = made_extension(15, made_usage(1))
+    critical = Constructed(0x30, (usage.kids[0], Primitive(1, b"\xff"), usage.kids[1]))
+    yield made_row("extension critical_key_usage 1", "extension", critical)
+
+
 def certificate_rows():
     """Names and keys of certificates: text, kind and numbers are what openssl said."""
     names, keys = rows_of(STORED.read_text(encoding="ascii"))
@@ -295,10 +344,11 @@ def value_rows():
 
 
 def structure_rows():
-    """The rows of `structure_answers`."""
+    """The rows of `structure_answers` and `extension_answers`."""
     yield from read_rows()
     yield from unlike_rows()
     yield from made_rows()
+    yield from made_extension_rows()
     yield from certificate_rows()
 
 
@@ -313,11 +363,18 @@ def stored_run(program, rows_and_lines):
     yield f"{program}/stdout", answered.encode("ascii")
 
 
+def is_extension(row_and_line):
+    """Whether a row asks for an extension: its second word says so."""
+    row, _ = row_and_line
+    return row.split()[1] == "extension"
+
+
 def stored_files():
     """The octets of each file, by its path below the folder of the crates."""
     return dict([
         *stored_run("value_answers", value_rows()),
-        *stored_run("structure_answers", structure_rows()),
+        *stored_run("structure_answers", filterfalse(is_extension, structure_rows())),
+        *stored_run("extension_answers", filter(is_extension, structure_rows())),
     ])
 
 

@@ -235,6 +235,90 @@ def inner(octets):
         raise Shape from refusal
 
 
+# Extensions, with the element that is written for each: TRUE is FF, and FALSE by default left out.
+
+def boolean(element):
+    octets = contents(element, 1)
+    need(len(octets) == 1)
+    return octets != b"\0"
+
+
+def written_boolean(flag):
+    return Primitive(1, b"\xff" if flag else b"\0")
+
+
+def basic_constraints(element):
+    rest = list(kids(element, 0x30))
+    ca = boolean(rest.pop(0)) if rest and rest[0].tag == 1 else None
+    pathlen = contents(rest.pop(0), 2) if rest else None
+    need(not rest)
+    written = [] if ca is None else [written_boolean(ca)]
+    shown = "none"
+    if pathlen is not None:
+        need(pathlen)
+        number = int.from_bytes(pathlen, "big", signed=True)
+        need(0 <= number <= 255 and len(pathlen) == number.bit_length() // 8 + 1)
+        written.append(Primitive(2, pathlen))
+        shown = str(number)
+    return f"{'none' if ca is None else str(ca).lower()} {shown}", Constructed(0x30, tuple(written))
+
+
+def key_usage(element):
+    octets = contents(element, 3)
+    shown = bits(octets)
+    digits = "".join(f"{octet:08b}" for octet in octets[1:])
+    digits = digits[:len(digits) - octets[0]][:9].ljust(9, "0")
+    return f"{shown} {digits}", element
+
+
+def extended_key_usage(element):
+    purposes = [dotted(contents(purpose, 6)) for purpose in kids(element, 0x30)]
+    code_signing = "1.3.6.1.5.5.7.3.3" in purposes
+    return f"{','.join(purposes) or '-'} {str(code_signing).lower()}", element
+
+
+def authority_key(element):
+    rest = list(kids(element, 0x30))
+    shown = []
+    for tag in 0x80, 0xA1, 0x82:
+        found = rest.pop(0) if rest and rest[0].tag == tag else None
+        if found is None:
+            shown.append("none")
+        else:
+            shown.append(word(found.contents if isinstance(found, Primitive) else write(found)))
+    need(not rest)
+    return " ".join(shown), element
+
+
+def subject_key(element):
+    return word(contents(element, 4)), element
+
+
+EXTENSION_VALUES = {
+    "2.5.29.14": ("SubjectKeyIdentifier", subject_key),
+    "2.5.29.15": ("KeyUsage", key_usage),
+    "2.5.29.19": ("BasicConstraints", basic_constraints),
+    "2.5.29.35": ("AuthorityKeyIdentifier", authority_key),
+    "2.5.29.37": ("ExtendedKeyUsage", extended_key_usage),
+}
+
+
+def extension(element):
+    fields = kids(element, 0x30)
+    need(2 <= len(fields) <= 3)
+    oid = dotted(contents(fields[0], 6))
+    critical = len(fields) == 3 and boolean(fields[1])
+    octets = contents(fields[-1], 4)
+    kind, shown = "Raw", word(octets)
+    if oid in EXTENSION_VALUES:
+        kind, value_of = EXTENSION_VALUES[oid]
+        shown, value_element = value_of(inner(octets))
+        octets = write(value_element)
+    flag = (written_boolean(True),) if critical else ()
+    written = Constructed(0x30, (fields[0], *flag, Primitive(4, octets)))
+    return f"{oid} {str(critical).lower()} {kind} {shown} {word(write(written))}"
+
+
 KINDS = {
     "integer": lambda element: integer(contents(element, 2)).split()[0],
     "bits": lambda element: bits(contents(element, 3)),
@@ -248,12 +332,18 @@ KINDS = {
     "attribute": attribute,
     "set": members,
     "name": name,
+    "extension": extension,
 }
 
 
 def structure_line(kind, octets):
-    """What is printed of octets as a structure: each value comes back as it was read."""
+    """What is printed of octets as a structure: a value comes back as it was read.
+
+    An extension alone may come back otherwise, with its flags as DER has them.
+    """
     try:
-        return f"same {KINDS[kind](read_exact(octets))}"
+        line = KINDS[kind](read_exact(octets))
     except Shape:
         return "Shape"
+    same = kind != "extension" or line.endswith(f" {octets.hex()}")
+    return f"{'same' if same else 'changed'} {line}"

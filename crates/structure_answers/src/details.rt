@@ -1,8 +1,8 @@
 //! What is printed of a value beside whether it comes back as it was read.
 
-use crate::words::word_of;
 use asn1_types::{BitString, Ia5String, IntegerAsn1, ObjectIdentifier};
 use names_core::DirectoryName;
+use row_answers::word_of;
 use std::alloc::{AllocError, Global};
 use x509_types::{
     AlgorithmIdentifier, AttributeTypeAndValue, AttributeValue, DirectoryString,

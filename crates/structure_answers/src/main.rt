@@ -14,7 +14,6 @@ mod details;
 mod making;
 mod row;
 mod structures;
-mod words;
 
 use anyhow::{Result, bail};
 use std::io::{BufWriter, Write};

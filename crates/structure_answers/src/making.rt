@@ -1,11 +1,11 @@
 //! Values that are put together of parts, and written.
 
 use crate::details::Details;
-use crate::words::{octets_of, text_of, word_of};
 use anyhow::{Context, Result};
 use asn1_types::{BitString, Ia5String, ObjectIdentifier, oids};
 use der_core::{DerError, Raw, Structure, read_exact, write};
 use names_core::DirectoryName;
+use row_answers::{octets_of, text_of, word_of};
 use std::alloc::Global;
 use x509_types::{AlgorithmIdentifier, NameAttr, SubjectKey, SubjectPublicKeyInfo};
 

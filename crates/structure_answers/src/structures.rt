@@ -1,11 +1,11 @@
 //! Structures that are read of elements, copied and written again.
 
 use crate::details::Details;
-use crate::words::octets_of;
 use anyhow::Result;
 use asn1_types::{BitString, Ia5String, IntegerAsn1, ObjectIdentifier};
-use der_core::{DerError, Structure, read_exact, write};
+use der_core::{DerError, Structure};
 use names_core::DirectoryName;
+use row_answers::{are_equal, comes_back, octets_of, shown_shape, value_of};
 use std::alloc::Global;
 use x509_types::{
     AlgorithmIdentifier, AttributeTypeAndValue, AttributeValue, DirectoryString,
@@ -68,39 +68,4 @@ fn read_of<T: Structure + PartialEq + Details>(
     };
     let details = value.details(alloc)?;
     Ok(format!(in alloc; "{word} {details}")?)
-}
-
-/// A refusal of the shape; another error ends the run.
-fn shown_shape(alloc: Global, error: DerError) -> Result<String, DerError> {
-    match error {
-        DerError::Shape => Ok(String::from_str(alloc, "Shape")?),
-        error => Err(error),
-    }
-}
-
-fn value_of<T: Structure>(alloc: Global, element: &[u8]) -> Result<T, DerError> {
-    T::read(alloc, &read_exact(alloc, element)?)
-}
-
-/// Whether a value and its copy are written as the element, and are equal.
-fn comes_back<T: Structure + PartialEq>(
-    alloc: Global,
-    element: &[u8],
-    value: &T,
-) -> Result<bool, DerError> {
-    let copy = value.try_clone(alloc)?;
-    let written = write(alloc, &value.write(alloc)?)?;
-    let copied = write(alloc, &copy.write(alloc)?)?;
-    Ok(copy == *value && written.as_slice() == element && copied.as_slice() == element)
-}
-
-/// Whether the values of two elements are equal, asked both ways.
-fn are_equal<T: Structure + PartialEq>(
-    alloc: Global,
-    one: &[u8],
-    other: &[u8],
-) -> Result<bool, DerError> {
-    let one = value_of::<T>(alloc, one)?;
-    let other = value_of::<T>(alloc, other)?;
-    Ok(one == other || other == one)
 }

@@ -1,11 +1,11 @@
 //! Object identifiers, their table, and the attribute types among them.
 
 use crate::strings::shown_shape;
-use crate::words::{octets_of, text_of, word_of};
 use anyhow::Result;
 use asn1_types::oids::{self, KnownOid};
 use asn1_types::{ObjectIdentifier, TextError};
 use der_core::DerError;
+use row_answers::{octets_of, text_of, word_of};
 use std::alloc::{AllocError, Global};
 use x509_types::NameAttr;
 

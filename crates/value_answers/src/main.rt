@@ -15,7 +15,6 @@ mod identifiers;
 mod row;
 mod strings;
 mod times;
-mod words;
 
 use anyhow::{Result, bail};
 use std::io::{BufWriter, Write};

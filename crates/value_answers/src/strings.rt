@@ -1,9 +1,9 @@
 //! Integers, bit strings and IA5 strings by their contents octets.
 
-use crate::words::{octets_of, text_of, word_of};
 use anyhow::Result;
 use asn1_types::{BitString, CharSetError, Ia5String, IntegerAsn1};
 use der_core::DerError;
+use row_answers::{octets_of, text_of, word_of};
 use std::alloc::Global;
 
 /// The answer to a call on integers, bit strings and IA5 strings, None where there is no such call.

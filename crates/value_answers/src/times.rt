@@ -1,9 +1,9 @@
 //! Both times and dates.
 
-use crate::words::{octets_of, word_of};
 use anyhow::{Context, Result, bail};
 use asn1_types::{GeneralizedTime, UTCTime};
 use names_core::UtcDate;
+use row_answers::{octets_of, word_of};
 use std::alloc::{AllocError, Global};
 
 /// The fields of a moment, which may not exist.

@@ -19,3 +19,7 @@ authority_key_of key_identifier issuer serial_number =
 
 abbrev pub authority_key_identifier : AuthorityKeyIdentifier → DerElement
 authority_key_identifier a = authority_key_of a.key_identifier (kept_option a.issuer) a.serial_number
+
+-- the key of this identifier alone
+abbrev pub key_of_identifier : List ℕ → AuthorityKeyIdentifier
+key_of_identifier key = record { key_identifier = Some key; issuer = None; serial_number = None; tagged = tt }

@@ -13,3 +13,12 @@ named_kind oid =
     else (if bytes_eq oid CE_AUTHORITY_KEY_IDENTIFIER.now then kinds.AuthorityKeyIdentifier
     else (if bytes_eq oid CE_EXT_KEY_USAGE.now then kinds.ExtendedKeyUsage
     else kinds.Other))))
+
+-- a number for each kind
+abbrev pub kind_number : ExtensionKind → ℕ
+kind_number kinds.SubjectKeyIdentifier = 0
+kind_number kinds.KeyUsage = 1
+kind_number kinds.BasicConstraints = 2
+kind_number kinds.AuthorityKeyIdentifier = 3
+kind_number kinds.ExtendedKeyUsage = 4
+kind_number kinds.Other = 5

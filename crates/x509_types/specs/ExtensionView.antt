@@ -8,6 +8,7 @@ use Rattle.x509_types.specs.KeyUsage.{key_usage}
 use Rattle.x509_types.specs.BasicConstraints.{basic_constraints, IsBasicConstraints}
 use Rattle.x509_types.specs.AuthorityKeyIdentifier.{authority_key_identifier}
 use Rattle.x509_types.specs.ExtendedKeyUsage.{extended_key_usage}
+use Rattle.x509_types.specs.ExtensionKind.{kind_number}
 use Rattle.x509_types.specs.declared.octet_string.OctetString.{OctetString}
 use Rattle.x509_types.specs.declared.key_usage.KeyUsage.{KeyUsage}
 use Rattle.x509_types.specs.declared.authority_key_identifier.AuthorityKeyIdentifier.{AuthorityKeyIdentifier}
@@ -63,3 +64,7 @@ IsValueIn octets (views.Raw kept) = octets ≡ kept
 -- the octets hold the value, which is of the kind
 abbrev pub IsValueOf : ExtensionKind → List ℕ → ExtensionView → Type 0
 IsValueOf kind octets view = (kind_of view ≡ kind) × IsValueIn octets view
+
+-- the kind of a value, and its octets
+abbrev pub view_octets : ExtensionView → List ℕ
+view_octets view = kind_number (kind_of view) ∷ value_octets view

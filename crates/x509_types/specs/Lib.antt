@@ -9,4 +9,5 @@ pub mod ExtensionKind
 pub mod ExtensionView
 pub mod ExtensionFields
 pub mod Extension
+pub mod ExtensionSpellings
 pub mod Facts

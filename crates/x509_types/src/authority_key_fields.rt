@@ -23,7 +23,7 @@ pub(crate) const SERIAL_NUMBER: u8 = 0x82;
 
 /// The fields of an AuthorityKeyIdentifier, the issuer's names as any element of their tag.
 #[derive(Clone, Copy)]
-pub struct AuthorityKeyFields<'a> {
+pub(crate) struct AuthorityKeyFields<'a> {
     pub key_identifier: Option<&'a [u8]>,
     pub issuer: Option<Elem<'a>>,
     pub serial_number: Option<&'a [u8]>,

@@ -1,6 +1,6 @@
 //! Which key an authority signs with (RFC 5280 4.2.1.1).
 
-ghost use Rattle.std.specs.Prelude.{◌≡◌, ◌↔◌, Some, None, IfOk, IsTrue};
+ghost use Rattle.std.specs.Prelude.{◌≡◌, ◌↔◌, IfOk, IsTrue};
 ghost use Rattle.std.specs.Option.{option_copied};
 ghost use Rattle.der_core.specs.Lent.{at_option, kept_option};
 ghost use Rattle.x509_types.specs.AuthorityIssuer.{HasIssuerTag};
@@ -23,12 +23,14 @@ pub struct AuthorityKeyIdentifier {
 }
 
 impl AuthorityKeyIdentifier {
+    ghost use Rattle.x509_types.specs.AuthorityKeyIdentifier.{key_of_identifier};
+
     /// The key of this identifier.
     pub fn from_key_identifier(
         alloc: Global,
         key_identifier: &[u8],
     ) -> Result<AuthorityKeyIdentifier, AllocError>
-        ensures { IfOk result (λ a. (a.key_identifier ≡ Some key_identifier.now) × (a.issuer ≡ None) × (a.serial_number ≡ None)) }
+        ensures { IfOk result (λ a. a ≡ key_of_identifier key_identifier.now) }
     {
         Ok(AuthorityKeyIdentifier {
             key_identifier: Some(Octets::from_slice(alloc, key_identifier)?),

@@ -1,17 +1,28 @@
 //! Extensions of certificates (RFC 5280 4.1.2.9, 4.2).
 
-ghost use Rattle.std.specs.Prelude.{◌≡◌, ◌↔◌, true, false, IsTrue, MatchResult};
+ghost use Rattle.std.specs.Prelude.{◌≡◌, ◌↔◌, true, false, Some, IfOk, IfErr, IsTrue, MatchResult};
+ghost use Rattle.der_core.specs.declared.error.DerError.TheVariants as errors;
 ghost use Rattle.der_core.specs.Refusals.{RefusesShape};
 ghost use Rattle.asn1_types.specs.Values.{identifier_contents};
+ghost use Rattle.asn1_types.specs.KnownIdentifiers.{is_known};
+ghost use Rattle.asn1_types.specs.declared.oids.TheConstants.{CE_SUBJECT_KEY_IDENTIFIER, CE_KEY_USAGE, CE_BASIC_CONSTRAINTS, CE_AUTHORITY_KEY_IDENTIFIER, CE_EXT_KEY_USAGE};
 ghost use Rattle.x509_types.specs.ExtensionKind.{named_kind};
 ghost use Rattle.x509_types.specs.ExtensionView.{kind_of, IsValueOf};
 ghost use Rattle.x509_types.specs.Facts.ExtensionKinds.{same_kinds};
 
+use crate::authority_key_identifier::AuthorityKeyIdentifier;
+use crate::basic_constraints::BasicConstraints;
 use crate::boolean::write_boolean;
+use crate::extended_key_usage::ExtendedKeyUsage;
 use crate::extension_fields::{ExtensionFields, kind_at};
 use crate::extension_kind::ExtensionKind;
 use crate::extension_view::ExtensionView;
+use crate::key_usage::KeyUsage;
 use asn1_types::ObjectIdentifier;
+use asn1_types::oids::{
+    CE_AUTHORITY_KEY_IDENTIFIER, CE_BASIC_CONSTRAINTS, CE_EXT_KEY_USAGE, CE_KEY_USAGE,
+    CE_SUBJECT_KEY_IDENTIFIER,
+};
 use der_core::tag::{OCTET_STRING, SEQUENCE};
 use der_core::{DerError, Elem, ListOf, NewKids, Octets, Structure, Tree};
 use std::alloc::{AllocError, Global};
@@ -31,6 +42,78 @@ pub struct Extension {
 }
 
 impl Extension {
+    ghost use Rattle.x509_types.specs.AuthorityKeyIdentifier.{key_of_identifier};
+    ghost use Rattle.x509_types.specs.Extension.{IsPlainExtension};
+    ghost use Rattle.x509_types.specs.declared.extension_view.ExtensionView.TheVariants as views;
+
+    /// Whether the key is that of an authority, and how many may stand below it (RFC 5280 4.2.1.9).
+    /// The flag is written also where it is false.
+    pub fn new_basic_constraints(
+        alloc: Global,
+        ca: bool,
+        pathlen: Option<u8>,
+    ) -> Result<Extension, DerError>
+        ensures made { IfOk result (λ e. IsPlainExtension e CE_BASIC_CONSTRAINTS.now (views.BasicConstraints (record { ca = Some ca; pathlen = pathlen }))) }
+        ensures refused { IfErr result (λ e. e ≡ errors.Memory) }
+    {
+        let constraints = BasicConstraints::new(Some(ca), pathlen);
+        let value = ExtensionView::BasicConstraints(constraints);
+        Ok(Extension::plain(alloc, CE_BASIC_CONSTRAINTS, value)?)
+    }
+
+    /// What the key is for, a bit a purpose (RFC 5280 4.2.1.3).
+    pub fn new_key_usage(alloc: Global, usage: KeyUsage) -> Result<Extension, DerError>
+        ensures made { IfOk result (λ e. IsPlainExtension e CE_KEY_USAGE.now (views.KeyUsage usage)) }
+        ensures refused { IfErr result (λ e. e ≡ errors.Memory) }
+    {
+        let value = ExtensionView::KeyUsage(usage);
+        Ok(Extension::plain(alloc, CE_KEY_USAGE, value)?)
+    }
+
+    /// What the key is for, an identifier a purpose (RFC 5280 4.2.1.12).
+    pub fn new_extended_key_usage(
+        alloc: Global,
+        usage: ExtendedKeyUsage,
+    ) -> Result<Extension, DerError>
+        ensures made { IfOk result (λ e. IsPlainExtension e CE_EXT_KEY_USAGE.now (views.ExtendedKeyUsage usage)) }
+        ensures refused { IfErr result (λ e. e ≡ errors.Memory) }
+    {
+        let value = ExtensionView::ExtendedKeyUsage(usage);
+        Ok(Extension::plain(alloc, CE_EXT_KEY_USAGE, value)?)
+    }
+
+    /// The identifier of the key (RFC 5280 4.2.1.2).
+    pub fn new_subject_key_identifier(alloc: Global, key: &[u8]) -> Result<Extension, DerError>
+        ensures made { IfOk result (λ e. IsPlainExtension e CE_SUBJECT_KEY_IDENTIFIER.now (views.SubjectKeyIdentifier key.now)) }
+        ensures refused { IfErr result (λ e. e ≡ errors.Memory) }
+    {
+        let value = ExtensionView::SubjectKeyIdentifier(Octets::from_slice(alloc, key)?);
+        Ok(Extension::plain(alloc, CE_SUBJECT_KEY_IDENTIFIER, value)?)
+    }
+
+    /// Which key the authority signs with, by its identifier (RFC 5280 4.2.1.1).
+    pub fn new_authority_key_identifier(alloc: Global, key: &[u8]) -> Result<Extension, DerError>
+        ensures made { IfOk result (λ e. IsPlainExtension e CE_AUTHORITY_KEY_IDENTIFIER.now (views.AuthorityKeyIdentifier (key_of_identifier key.now))) }
+        ensures refused { IfErr result (λ e. e ≡ errors.Memory) }
+    {
+        let identifier = AuthorityKeyIdentifier::from_key_identifier(alloc, key)?;
+        let value = ExtensionView::AuthorityKeyIdentifier(identifier);
+        Ok(Extension::plain(alloc, CE_AUTHORITY_KEY_IDENTIFIER, value)?)
+    }
+
+    /// The extension of a known identifier and a value of its kind, not critical.
+    fn plain(alloc: Global, oid: &[u8], extn_value: ExtensionView) -> Result<Extension, AllocError>
+        requires { IsTrue (is_known oid.now) × (kind_of extn_value ≡ named_kind oid.now) }
+        ensures { IfOk result (λ e. IsPlainExtension e oid.now extn_value) }
+    {
+        let extn_id = ObjectIdentifier::from_known(alloc, oid)?;
+        Ok(Extension {
+            extn_id,
+            critical: false,
+            extn_value,
+        })
+    }
+
     /// The extension of an identifier whose OCTET STRING holds these octets, not critical. The octets
     /// are read where the identifier names a known kind, and `Shape` exactly where they don't read.
     pub fn new_raw(
@@ -49,6 +132,13 @@ impl Extension {
             critical: false,
             extn_value,
         })
+    }
+
+    /// Whether the identifiers and the flags are the same.
+    fn is_alike(&self, other: &Extension) -> bool
+        ensures { IsTrue result ↔ ((self.now.extn_id ≡ other.now.extn_id) × (self.now.critical ≡ other.now.critical)) }
+    {
+        self.extn_id == other.extn_id && self.critical == other.critical
     }
 
     /// The extension, critical: who doesn't know it must not accept the certificate (RFC 5280 4.2).
@@ -160,4 +250,28 @@ impl Structure for Extension {
     }
 
     ghost grammar = { all_extensions };
+}
+
+/// Extensions are equal exactly where the octets are that are written for them.
+impl PartialEq for Extension {
+    ghost use Rattle.der_core.specs.Equality.{same_octets, same_octets_per};
+    ghost use Rattle.x509_types.specs.Extension.{extension};
+
+    ghost eq = { same_octets extension };
+
+    ghost laws = { same_octets_per extension };
+
+    fn eq(&self, other: &Extension) -> bool
+        ensures octets { result ≡ same_octets extension self.now other.now }
+        ensures same { IsTrue result ↔ (self.now ≡ other.now) }
+    {
+        self.is_alike(other) && self.extn_value == other.extn_value
+    }
+}
+
+impl Eq for Extension {
+    ghost use Rattle.der_core.specs.Equality.{same_octets_equiv};
+    ghost use Rattle.x509_types.specs.Extension.{extension};
+
+    ghost laws = { same_octets_equiv extension };
 }

@@ -127,3 +127,41 @@ impl ExtensionView {
         })
     }
 }
+
+/// Values are equal exactly where their kinds and their octets are.
+impl PartialEq for ExtensionView {
+    ghost use Rattle.std.specs.Ordering.{on};
+    ghost use Rattle.std.specs.Cmp.Lexicographic.{nat_list_eq_equiv};
+    ghost use Rattle.std.specs.Cmp.{on_per, partial_equiv_from_equiv};
+    ghost use Rattle.std.specs.Prelude.{bytes_eq};
+    ghost use Rattle.x509_types.specs.ExtensionView.{view_octets};
+
+    ghost eq = { on (λ value. view_octets value) bytes_eq };
+
+    ghost laws = { on_per (λ value. view_octets value) (partial_equiv_from_equiv nat_list_eq_equiv) };
+
+    fn eq(&self, other: &ExtensionView) -> bool
+        ensures octets { result ≡ bytes_eq (view_octets self.now) (view_octets other.now) }
+        ensures same { IsTrue result ↔ (self.now ≡ other.now) }
+    {
+        match (self, other) {
+            (ExtensionView::SubjectKeyIdentifier(a), ExtensionView::SubjectKeyIdentifier(b)) => *a
+                == *b,
+            (ExtensionView::KeyUsage(a), ExtensionView::KeyUsage(b)) => *a == *b,
+            (ExtensionView::BasicConstraints(a), ExtensionView::BasicConstraints(b)) => *a == *b,
+            (ExtensionView::AuthorityKeyIdentifier(a), ExtensionView::AuthorityKeyIdentifier(b)) =>
+                *a == *b,
+            (ExtensionView::ExtendedKeyUsage(a), ExtensionView::ExtendedKeyUsage(b)) => *a == *b,
+            (ExtensionView::Raw(a), ExtensionView::Raw(b)) => *a == *b,
+            _ => false,
+        }
+    }
+}
+
+impl Eq for ExtensionView {
+    ghost use Rattle.std.specs.Cmp.Lexicographic.{nat_list_eq_equiv};
+    ghost use Rattle.std.specs.Cmp.{on_equiv};
+    ghost use Rattle.x509_types.specs.ExtensionView.{view_octets};
+
+    ghost laws = { on_equiv (λ value. view_octets value) nat_list_eq_equiv };
+}

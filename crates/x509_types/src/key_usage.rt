@@ -1,7 +1,7 @@
 //! What a key is for (RFC 5280 4.2.1.3).
 
-ghost use Rattle.std.specs.Prelude.{◌≡◌, ◌↔◌, ◌<◌, IfOk, IsTrue};
-ghost use Rattle.x509_types.specs.KeyUsage.{HasBit};
+ghost use Rattle.std.specs.Prelude.{◌≡◌, ◌≢◌, ◌↔◌, ◌∷◌, ◌<◌, ◌≤◌, ◌+◌, ◌-◌, ◌/◌, ◌%◌, ◌^◌, ℕ, IfOk, IsTrue};
+ghost use Rattle.x509_types.specs.KeyUsage.{HasBit, IsUsageOf};
 
 use asn1_types::BitString;
 use der_core::{DerError, Elem, Structure, Tree};
@@ -14,6 +14,32 @@ pub struct KeyUsage {
 }
 
 impl KeyUsage {
+    /// The usage of flags: the purpose of number i stands for `1 << i`, i at most 8. Other flags are
+    /// passed over. The string ends with its last bit that is 1 (X.690 11.2.2), so it is empty where
+    /// there is none.
+    pub fn new(alloc: Global, flags: u16) -> Result<KeyUsage, AllocError>
+        ensures { IfOk result (λ usage. IsUsageOf flags usage.bits) }
+    {
+        let low = (flags % 256) as u8;
+        if flags / 256 % 2 == 1 {
+            return KeyUsage::with_content(alloc, &[7, reversed(low), 0x80]);
+        }
+        if low == 0 {
+            return KeyUsage::with_content(alloc, &[0]);
+        }
+        KeyUsage::with_content(alloc, &[unused_behind(low), reversed(low)])
+    }
+
+    /// The usage whose bits have these contents octets.
+    fn with_content(alloc: Global, content: &[u8]) -> Result<KeyUsage, AllocError>
+        ensures { IfOk result (λ usage. content.now ≡ usage.bits.unused ∷ usage.bits.payload) }
+    {
+        match BitString::from_content(alloc, content) {
+            Ok(bits) => Ok(KeyUsage { bits }),
+            Err(_) => Err(AllocError),
+        }
+    }
+
     /// The bits.
     pub fn bits(&self) -> &BitString
         ensures { result.now ≡ self.now.bits }
@@ -99,6 +125,39 @@ impl KeyUsage {
             return false;
         }
         payload[place] >> (7 - bit) & 1 == 1
+    }
+}
+
+/// The octet with its bits in the other order.
+fn reversed(octet: u8) -> u8
+    ensures { (number : ℕ) → number < 8 → result / 2 ^ (7 - number) % 2 ≡ octet / 2 ^ number % 2 }
+{
+    octet % 2 * 128
+        + octet / 2 % 2 * 64
+        + octet / 4 % 2 * 32
+        + octet / 8 % 2 * 16
+        + octet / 16 % 2 * 8
+        + octet / 32 % 2 * 4
+        + octet / 64 % 2 * 2
+        + octet / 128
+}
+
+/// How many bits stand above the highest one that is 1.
+fn unused_behind(octet: u8) -> u8
+    requires { octet ≢ 0 }
+    ensures few { result ≤ 7 }
+    ensures none { (number : ℕ) → number < 8 → octet / 2 ^ number % 2 ≡ 1 → number + result < 8 }
+    ensures next { octet / 2 ^ (7 - result) % 2 ≡ 1 }
+{
+    match octet {
+        128.. => 0,
+        64.. => 1,
+        32.. => 2,
+        16.. => 3,
+        8.. => 4,
+        4.. => 5,
+        2.. => 6,
+        _ => 7,
     }
 }
 

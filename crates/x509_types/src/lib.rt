@@ -12,6 +12,7 @@ mod extension_fields;
 mod extension_kind;
 mod extension_view;
 mod key_usage;
+mod laws;
 mod octet_string;
 
 pub use authority_key_identifier::AuthorityKeyIdentifier;
@@ -22,6 +23,7 @@ pub use extension_kind::ExtensionKind;
 pub use extension_view::ExtensionView;
 pub use key_types::{AlgorithmIdentifier, KeyKind, RsaPublicKey, SubjectKey, SubjectPublicKeyInfo};
 pub use key_usage::KeyUsage;
+pub use laws::extensions_are_written_as_read;
 pub use x501_types::{
     AttributeTypeAndValue, AttributeValue, DirectoryString, Name, NameAttr, OtherValue,
     RelativeDistinguishedName, email_address_oid, list_has_each_attribute_type,

@@ -3,16 +3,9 @@ use Rattle.std.specs.Prelude.{◌≡◌, ℕ, ◌==◌, if◌then◌else◌, ref
 use Rattle.std.specs.Coded.{Coded-set}
 use Rattle.std.proofs.Common.{sym, ap, ◌∙◌}
 use base.Stored.{Coded, gnum, num}
+use Rattle.x509_types.specs.ExtensionKind.{kind_number}
 use Rattle.x509_types.specs.declared.extension_kind.ExtensionKind.{ExtensionKind}
 use Rattle.x509_types.specs.declared.extension_kind.ExtensionKind.TheVariants as kinds
-
-abbrev kind_number : ExtensionKind → ℕ
-kind_number kinds.SubjectKeyIdentifier = 0
-kind_number kinds.KeyUsage = 1
-kind_number kinds.BasicConstraints = 2
-kind_number kinds.AuthorityKeyIdentifier = 3
-kind_number kinds.ExtendedKeyUsage = 4
-kind_number kinds.Other = 5
 
 abbrev kind_at : ℕ → ExtensionKind
 kind_at number =
@@ -39,3 +32,6 @@ coded_kind = record {
 
 pub same_kinds : (a b : ExtensionKind) → IsProp (a ≡ b)
 same_kinds a b = Coded-set coded_kind a b
+
+pub kinds_by_number : (a b : ExtensionKind) → kind_number a ≡ kind_number b → a ≡ b
+kinds_by_number a b e = sym (kind_of_number a) ∙ ap kind_at e ∙ kind_of_number b

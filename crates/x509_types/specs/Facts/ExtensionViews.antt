@@ -13,7 +13,9 @@ use Rattle.x509_types.specs.AuthorityKeyIdentifier.{authority_key_identifier}
 use Rattle.x509_types.specs.KeyUsage.{key_usage}
 use Rattle.x509_types.specs.ExtendedKeyUsage.{extended_key_usage}
 use Rattle.x509_types.specs.OctetString.{octet_string}
-use Rattle.x509_types.specs.ExtensionView.{kind_of, value_octets, inner_value, IsValueIn}
+use Rattle.x509_types.specs.ExtensionKind.{kind_number}
+use Rattle.x509_types.specs.ExtensionView.{kind_of, value_octets, inner_value, view_octets, IsValueIn}
+use Rattle.x509_types.specs.Facts.ExtensionKinds.{kinds_by_number}
 use Rattle.x509_types.specs.Facts.Constraints.{all_basic_constraints, constraints_printed, formed_of}
 use Rattle.x509_types.specs.Facts.Usages.{key_usages, extended_key_usages}
 use Rattle.x509_types.specs.Facts.AuthorityKeys.{authority_key_identifiers}
@@ -164,3 +166,9 @@ values_written (views.BasicConstraints x) der = within_written IsBasicConstraint
 values_written (views.AuthorityKeyIdentifier x) der = within_written (λ element a. element ≡ authority_key_identifier a) authority_key_identifier authority_key_identifiers x der
 values_written (views.ExtendedKeyUsage x) der = within_written (λ element usage. element ≡ extended_key_usage usage) extended_key_usage extended_key_usages x der
 values_written (views.Raw x) der = refl
+
+pub views_by_octets : (a b : ExtensionView) → view_octets a ≡ view_octets b → a ≡ b
+views_by_octets a b e =
+    let numbers : kind_number (kind_of a) ≡ kind_number (kind_of b) = cc in
+    let octets : value_octets a ≡ value_octets b = cc in
+    values_by_octets a b (kinds_by_number (kind_of a) (kind_of b) numbers) octets

@@ -1,0 +1,9 @@
+//! What programs share that answer to rows of a file: words of rows, and whether values come back
+//! as they were read.
+#![tactic(auto)]
+
+mod values;
+mod words;
+
+pub use values::{are_equal, comes_back, shown_shape, value_of};
+pub use words::{octets_of, text_of, word_of};
