@@ -3,3 +3,4 @@ pub mod Algorithms
 pub mod Names
 pub mod Kinds
 pub mod Keys
+pub mod Times

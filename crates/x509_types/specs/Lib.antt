@@ -10,4 +10,5 @@ pub mod NameText
 pub mod KeyKind
 pub mod SubjectKey
 pub mod PublicKeyInfo
+pub mod Validity
 pub mod Facts

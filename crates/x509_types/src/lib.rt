@@ -17,6 +17,8 @@ mod public_key;
 mod relative_name;
 mod subject_key;
 mod text;
+mod time;
+mod validity;
 
 pub use algorithm::AlgorithmIdentifier;
 pub use algorithm_fields::AlgorithmFields;
@@ -32,3 +34,5 @@ pub use other_value::OtherValue;
 pub use public_key::RsaPublicKey;
 pub use relative_name::RelativeDistinguishedName;
 pub use subject_key::SubjectKey;
+pub use time::Time;
+pub use validity::Validity;
