@@ -9,3 +9,4 @@ pub mod Elements
 pub mod Lists
 pub mod Parameters
 pub mod Keys
+pub mod Parties

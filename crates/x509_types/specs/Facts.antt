@@ -4,3 +4,4 @@ pub mod Names
 pub mod Kinds
 pub mod Keys
 pub mod Times
+pub mod GeneralNames

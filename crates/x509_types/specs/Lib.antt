@@ -11,4 +11,5 @@ pub mod KeyKind
 pub mod SubjectKey
 pub mod PublicKeyInfo
 pub mod Validity
+pub mod GeneralName
 pub mod Facts

@@ -1,0 +1,104 @@
+//! Names of forms that are known by an identifier.
+
+ghost use Rattle.std.specs.Prelude.{◌≡◌, ◌≢◌, ◌↔◌, IsTrue, MatchOption};
+ghost use Rattle.der_core.specs.DerElement.{DerElement};
+ghost use Rattle.x509_types.specs.GeneralName.{other_name_of};
+
+use crate::tagging::{explicit, explicit_at};
+use asn1_types::ObjectIdentifier;
+use der_core::{DerError, Elem, NewKids, Raw, Structure, Tree, two_kids};
+use std::alloc::{AllocError, Global};
+
+const OTHER_NAME: u8 = 0xA0;
+
+const VALUE: u8 = 0xA0;
+
+/// A name of a form that its identifier tells, with any element as its value (RFC 5280 4.2.1.6). As
+/// an element it is the alternative \[0\] of GeneralName.
+#[derive(Debug, Drop)]
+pub struct OtherName {
+    pub type_id: ObjectIdentifier,
+    pub value: Raw,
+}
+
+/// The identifier and the value in the element of another name.
+fn fields_of<'a>(elem: Elem<'a>) -> Option<(Elem<'a>, Elem<'a>)>
+    ensures { MatchOption result
+        ((type_id value : DerElement) → elem.entry.is.0 ≢ other_name_of type_id value)
+        (λ fields. elem.entry.is.0 ≡ other_name_of fields.0.is.0 fields.1.is.0) }
+{
+    let (type_id, tagged) = two_kids(elem, OTHER_NAME)?;
+    let value = explicit_at(tagged, VALUE)?;
+    Some((type_id, value))
+}
+
+impl Structure for OtherName {
+    ghost use Rattle.x509_types.specs.GeneralName.{other_name};
+    ghost use Rattle.x509_types.specs.Facts.GeneralNames.{other_names};
+
+    ghost written = { other_name };
+
+    ghost spells = { λ element name. element ≡ other_name name };
+
+    fn has_shape(elem: Elem<'_>) -> bool {
+        match fields_of(elem) {
+            Some((type_id, _)) => ObjectIdentifier::has_shape(type_id),
+            None => false,
+        }
+    }
+
+    fn read_at(alloc: Global, elem: Elem<'_>) -> Result<OtherName, DerError> {
+        let Some((type_id, value)) = fields_of(elem) else {
+            return Err(DerError::Shape);
+        };
+        let type_id = ObjectIdentifier::read_at(alloc, type_id)?;
+        let value = Raw::from_elem(alloc, value)?;
+        Ok(OtherName { type_id, value })
+    }
+
+    fn write(&self, alloc: Global) -> Result<Tree, DerError> {
+        let mut kids = NewKids::new(alloc);
+        kids.push(self.type_id.write(alloc)?)?;
+        kids.push(explicit(alloc, VALUE, self.value.write(alloc)?)?)?;
+        Ok(kids.into_branch(OTHER_NAME))
+    }
+
+    fn try_clone(&self, alloc: Global) -> Result<OtherName, AllocError> {
+        Ok(OtherName {
+            type_id: self.type_id.try_clone(alloc)?,
+            value: self.value.try_clone(alloc)?,
+        })
+    }
+
+    ghost grammar = { other_names };
+}
+
+/// Names are equal exactly where their octets are.
+impl PartialEq for OtherName {
+    ghost use Rattle.std.specs.Ordering.{on};
+    ghost use Rattle.std.specs.Cmp.Lexicographic.{nat_list_eq_equiv};
+    ghost use Rattle.std.specs.Cmp.{on_per, partial_equiv_from_equiv};
+    ghost use Rattle.std.specs.Prelude.{bytes_eq};
+    ghost use Rattle.der_core.specs.Encoding.{encoding};
+    ghost use Rattle.x509_types.specs.GeneralName.{other_name};
+
+    ghost eq = { on (λ value. encoding (other_name value)) bytes_eq };
+
+    ghost laws = { on_per (λ value. encoding (other_name value)) (partial_equiv_from_equiv nat_list_eq_equiv) };
+
+    fn eq(&self, other: &OtherName) -> bool
+        ensures octets { result ≡ bytes_eq (encoding (other_name self.now)) (encoding (other_name other.now)) }
+        ensures same { IsTrue result ↔ (self.now ≡ other.now) }
+    {
+        self.type_id == other.type_id && self.value == other.value
+    }
+}
+
+impl Eq for OtherName {
+    ghost use Rattle.std.specs.Cmp.Lexicographic.{nat_list_eq_equiv};
+    ghost use Rattle.std.specs.Cmp.{on_equiv};
+    ghost use Rattle.der_core.specs.Encoding.{encoding};
+    ghost use Rattle.x509_types.specs.GeneralName.{other_name};
+
+    ghost laws = { on_equiv (λ value. encoding (other_name value)) nat_list_eq_equiv };
+}
