@@ -1,5 +1,5 @@
 -- GeneralName ::= CHOICE of eight forms, each under a tag of its own (RFC 5280 4.2.1.6)
-use Rattle.std.specs.Prelude.{ℕ, List, [], ◌∷◌, Option, Some, None}
+use Rattle.std.specs.Prelude.{◌≡◌, ℕ, List, [], ◌∷◌, Option, Some, None}
 use Rattle.der_core.specs.DerElement.{DerElement, Primitive, Constructed, row}
 use Rattle.der_core.specs.Each.{list_element}
 use Rattle.asn1_types.specs.Elements.{object_identifier}
@@ -46,3 +46,11 @@ general_name (forms.EdiPartyName party) = edi_party_name party
 general_name (forms.Uri text) = Primitive 0x86 (ia5_contents text)
 general_name (forms.IpAddress address) = Primitive 0x87 address
 general_name (forms.RegisteredId id) = Primitive 0x88 (identifier_contents id)
+
+-- GeneralNames ::= SEQUENCE SIZE (1..MAX) OF GeneralName; an empty one is read, too
+abbrev pub general_names : List RawGeneralName → DerElement
+general_names = list_element 0x30 general_name
+
+-- An element spells general names by being the one that is written for them.
+abbrev pub AreGeneralNames : DerElement → List RawGeneralName → Type 0
+AreGeneralNames element names = element ≡ general_names names

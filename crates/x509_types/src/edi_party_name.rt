@@ -10,7 +10,7 @@ use crate::tagging::{explicit, explicit_at};
 use der_core::{DerError, Elem, Kids, NewKids, Structure, Tree};
 use std::alloc::{AllocError, Global};
 
-const EDI_PARTY_NAME: u8 = 0xA5;
+pub(crate) const EDI_PARTY_NAME: u8 = 0xA5;
 
 const NAME_ASSIGNER: u8 = 0xA0;
 

@@ -7,23 +7,19 @@ ghost use Rattle.x509_types.specs.GeneralName.{explicit};
 ghost use Rattle.x509_types.specs.Name.{name};
 ghost use Rattle.x509_types.specs.declared.attribute.AttributeTypeAndValue.{AttributeTypeAndValue};
 
-use crate::edi_party_name::EdiPartyName;
+use crate::edi_party_name::{EDI_PARTY_NAME, EdiPartyName};
 use crate::name::Name;
-use crate::other_name::OtherName;
+use crate::other_name::{OTHER_NAME, OtherName};
 use crate::tagging::{explicit, explicit_at, has_identifier, has_text, read_identifier, read_text};
 use asn1_types::{Ia5String, ObjectIdentifier};
 use der_core::{DerError, Elem, Octets, Structure, Tree, leaf};
 use std::alloc::{AllocError, Global};
-
-const OTHER_NAME: u8 = 0xA0;
 
 const RFC822_NAME: u8 = 0x81;
 
 const DNS_NAME: u8 = 0x82;
 
 const DIRECTORY_NAME: u8 = 0xA4;
-
-const EDI_PARTY_NAME: u8 = 0xA5;
 
 const URI: u8 = 0x86;
 

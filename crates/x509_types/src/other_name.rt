@@ -9,7 +9,7 @@ use asn1_types::ObjectIdentifier;
 use der_core::{DerError, Elem, NewKids, Raw, Structure, Tree, two_kids};
 use std::alloc::{AllocError, Global};
 
-const OTHER_NAME: u8 = 0xA0;
+pub(crate) const OTHER_NAME: u8 = 0xA0;
 
 const VALUE: u8 = 0xA0;
 

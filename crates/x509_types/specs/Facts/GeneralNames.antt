@@ -1,6 +1,8 @@
 -- General names: unlike values have unlike elements, each well formed.
-use Rattle.std.proofs.Common.{◌≡◌, ℕ, List, [], ◌∷◌, Option, Some, None, refl, sym, ap, ◌∙◌, arith}
-use Rattle.der_core.specs.DerElement.{DerElement, Primitive, Constructed, DerElements, row, tag_of}
+use Rattle.std.proofs.Common.{◌≡◌, ℕ, List, [], Option, Some, None, refl, sym, ap, ◌∙◌, arith}
+use base.Stored.{Coded}
+use Rattle.der_core.specs.Facts.Codes.{stored, stored_inj}
+use Rattle.der_core.specs.DerElement.{DerElement, Primitive, tag_of}
 use Rattle.der_core.specs.Encoding.{IsWellFormed}
 use Rattle.der_core.specs.Kept.{KeptElement}
 use Rattle.der_core.specs.Structure.{IsGrammar}
@@ -12,8 +14,8 @@ use Rattle.asn1_types.specs.declared.oid.ObjectIdentifier.{ObjectIdentifier}
 use Rattle.asn1_types.specs.declared.ia5_string.Ia5String.{Ia5String}
 use Rattle.x509_types.specs.DirectoryString.{directory_string}
 use Rattle.x509_types.specs.Name.{name}
-use Rattle.x509_types.specs.GeneralName.{explicit, other_name_of, other_name, edi_party_name_of, string_option, edi_party_name, general_name}
-use Rattle.x509_types.specs.Facts.Names.{directory_strings, names}
+use Rattle.x509_types.specs.GeneralName.{explicit, other_name_of, other_name, edi_party_name_of, string_option, edi_party_name, general_name, general_names, AreGeneralNames}
+use Rattle.x509_types.specs.Facts.Names.{directory_strings, names, list_printed, each_formed}
 use Rattle.x509_types.specs.declared.directory_string.DirectoryString.{DirectoryString}
 use Rattle.x509_types.specs.declared.other_name.OtherName.{OtherName}
 use Rattle.x509_types.specs.declared.edi_party_name.EdiPartyName.{EdiPartyName}
@@ -152,3 +154,15 @@ forms_formed (forms.RegisteredId x) = ((omega arith, omega arith, omega arith), 
 
 pub general_name_forms : IsGrammar (λ element value. element ≡ general_name value) general_name (λ value. [])
 general_name_forms = printed general_name forms_once forms_formed
+
+-- ---- lists of them
+
+pub general_names_once : (a b : List RawGeneralName) → general_names a ≡ general_names b → a ≡ b
+general_names_once = list_printed 0x30 general_name forms_once
+
+pub general_name_lists : IsGrammar AreGeneralNames general_names (λ names. [])
+general_name_lists = printed general_names general_names_once (λ names. ((omega arith, omega arith, omega arith), refl, each_formed general_name forms_formed names))
+
+-- lists have codes: those of their elements
+abbrev pub coded_general_names : Coded (List RawGeneralName)
+coded_general_names = record { code = λ names. stored (general_names names); inj = λ a b e. general_names_once a b (stored_inj (general_names a) (general_names b) e) }

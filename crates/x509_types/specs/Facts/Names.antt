@@ -125,12 +125,12 @@ each_printed written one (x ∷ xs) (y ∷ ys) e =
     let others : map written xs ≡ map written ys = cc in
     ap (λ v. v ∷ xs) (one x y first) ∙ ap (λ vs. y ∷ vs) (each_printed written one xs ys others)
 
-list_printed : {X : Type 0} (tag : ℕ) (written : X → DerElement) → ((a b : X) → written a ≡ written b → a ≡ b) → (xs ys : List X) → list_element tag written xs ≡ list_element tag written ys → xs ≡ ys
+pub list_printed : {X : Type 0} (tag : ℕ) (written : X → DerElement) → ((a b : X) → written a ≡ written b → a ≡ b) → (xs ys : List X) → list_element tag written xs ≡ list_element tag written ys → xs ≡ ys
 list_printed tag written one xs ys e =
     let rows : row (map written xs) ≡ row (map written ys) = cc in
     each_printed written one xs ys (sym (listed-row (map written xs)) ∙ ap listed rows ∙ listed-row (map written ys))
 
-each_formed : {X : Type 0} (written : X → DerElement) → ((value : X) → IsWellFormed (written value)) → (values : List X) → AreWellFormed (row (map written values))
+pub each_formed : {X : Type 0} (written : X → DerElement) → ((value : X) → IsWellFormed (written value)) → (values : List X) → AreWellFormed (row (map written values))
 each_formed written formed [] = tt
 each_formed written formed (v ∷ values) = (formed v, each_formed written formed values)
 
