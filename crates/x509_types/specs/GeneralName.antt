@@ -20,6 +20,7 @@ explicit tag kid = Constructed tag (row (kid ∷ []))
 abbrev pub other_name_of : DerElement → DerElement → DerElement
 other_name_of type_id value = Constructed 0xA0 (row (type_id ∷ explicit 0xA0 value ∷ []))
 
+-- the element of such a name
 abbrev pub other_name : OtherName → DerElement
 other_name name = other_name_of (object_identifier name.type_id) name.value.element
 
@@ -34,9 +35,12 @@ abbrev pub string_option : Option DirectoryString → Option DerElement
 string_option None = None
 string_option (Some string) = Some (directory_string string)
 
+-- the element of such a name
 abbrev pub edi_party_name : EdiPartyName → DerElement
 edi_party_name name = edi_party_name_of (string_option name.name_assigner) (directory_string name.party_name)
 
+-- The tags are [0] to [8] (RFC 5280 A.2). Those of a text, an address and an identifier stand in place of their own, that of a Name,
+-- which is a choice, around its own.
 abbrev pub general_name : RawGeneralName → DerElement
 general_name (forms.OtherName other) = other_name other
 general_name (forms.Rfc822Name text) = Primitive 0x81 (ia5_contents text)

@@ -12,5 +12,6 @@ abbrev pub time : Time → DerElement
 time (times.Utc moment) = utc_time moment
 time (times.Generalized moment) = generalized_time moment
 
+-- the element of a validity, its times in this order
 abbrev pub validity : Validity → DerElement
 validity value = sequence (time value.not_before ∷ time value.not_after ∷ [])
