@@ -201,12 +201,16 @@ READ_AS = [
     ("key", structures.ED_KEYS + structures.MLDSA_KEYS, []),
     ("name", structures.NAMES, structures.NO_NAMES),
     ("value", structures.VALUES, []),
+    ("validity", structures.VALIDITIES, structures.NO_VALIDITIES),
+    ("general_names", structures.GENERAL_NAMES, structures.NO_GENERAL_NAMES),
 ]
 
 UNLIKE = [
     ("algorithm", structures.UNLIKE_ALGORITHMS),
     ("key", structures.UNLIKE_KEYS),
     ("name", structures.UNLIKE_NAMES),
+    ("validity", structures.UNLIKE_VALIDITIES),
+    ("general_names", structures.UNLIKE_GENERAL_NAMES),
     ("integer", structures.UNLIKE_INTEGERS),
     ("bits", structures.UNLIKE_BITS),
     ("identifier", structures.UNLIKE_IDENTIFIERS),

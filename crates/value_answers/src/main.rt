@@ -11,6 +11,7 @@
 
 mod details;
 mod errors;
+mod general_details;
 mod identifiers;
 mod making;
 mod row;

@@ -8,8 +8,8 @@ use der_core::{DerError, Structure, read_exact, write};
 use names_core::DirectoryName;
 use std::alloc::Global;
 use x509_types::{
-    AlgorithmIdentifier, AttributeTypeAndValue, AttributeValue, DirectoryString,
-    RelativeDistinguishedName, RsaPublicKey, SubjectPublicKeyInfo,
+    AlgorithmIdentifier, AttributeTypeAndValue, AttributeValue, DirectoryString, RawGeneralNames,
+    RelativeDistinguishedName, RsaPublicKey, SubjectPublicKeyInfo, Validity,
 };
 
 /// What is read of an element, by the kind of structure; None where there is no such kind.
@@ -28,6 +28,8 @@ pub fn answer(alloc: Global, kind: &str, element: &str) -> Result<Option<String>
         "attribute" => read_of::<AttributeTypeAndValue>(alloc, &element)?,
         "set" => read_of::<RelativeDistinguishedName>(alloc, &element)?,
         "name" => read_of::<DirectoryName>(alloc, &element)?,
+        "validity" => read_of::<Validity>(alloc, &element)?,
+        "general_names" => read_of::<RawGeneralNames>(alloc, &element)?,
         _ => return Ok(None),
     };
     Ok(Some(answer))
@@ -46,6 +48,8 @@ pub fn answer_unlike(alloc: Global, kind: &str, one: &str, other: &str) -> Resul
         "algorithm" => are_equal::<AlgorithmIdentifier>(alloc, &one, &other)?,
         "key" => are_equal::<SubjectPublicKeyInfo>(alloc, &one, &other)?,
         "name" => are_equal::<DirectoryName>(alloc, &one, &other)?,
+        "validity" => are_equal::<Validity>(alloc, &one, &other)?,
+        "general_names" => are_equal::<RawGeneralNames>(alloc, &one, &other)?,
         _ => return Ok(None),
     };
     let answer = if equal { "equal" } else { "unlike" };
