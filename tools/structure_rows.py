@@ -295,6 +295,142 @@ VALUES = [
     ("c102fe09", "an element of another class"),
 ]
 
+# Validities.
+VALIDITIES = [
+    ("301e170d3236313132373132323732345a170d3236313232373132323732345a", "a month, as openssl req -x509 writes it"),
+    ("301e170d3530303130313030303030305a170d3439313233313233353935395a", "the first and the last UTCTime"),
+    ("3020170d3439313233313233353935395a180f32303530303130313030303030305a", "a UTCTime, then a GeneralizedTime"),
+    ("3022180f32303530303130313030303030305a180f39393939313233313233353935395a", "no well-defined end (RFC 5280 4.1.2.5)"),
+    ("3020180f32303236303130313030303030305a170d3236313233313233353935395a", "a GeneralizedTime of a year before 2050, which RFC 5280 4.1.2.5 does not write"),
+    ("3022180f30303030303232393030303030305a180f30303030303232393030303030305a", "a leap day of the year 0, twice"),
+    ("301e170d3236313233313233353935395a170d3236303130313030303030305a", "the first is the later one"),
+]
+
+# Elements that are no validity.
+NO_VALIDITIES = [
+    ("302d170d3236303130313030303030305a170d3236313233313233353935395a170d3236313233313233353935395a", "three times"),
+    ("300f170d3236303130313030303030305a", "one time"),
+    ("3000", "no time"),
+    ("311e170d3236303130313030303030305a170d3236313233313233353935395a", "a SET"),
+    ("101e170d3236303130313030303030305a170d3236313233313233353935395a", "a leaf of the number of SEQUENCE"),
+    ("170d3236303130313030303030305a", "a time alone"),
+    ("301e170d3236303130313030303030305a0c0d3236313233313233353935395a", "a UTF8String as a time"),
+    ("301e0c0d3236303130313030303030305a170d3236313233313233353935395a", "a UTF8String as the first time"),
+    ("301e170d3236303130313030303030305a160d3236313233313233353935395a", "an IA5String as a time"),
+    ("301e170d3236303130313030303030305a970d3236313233313233353935395a", "a tag of the context"),
+    ("3020170d3236303130313030303030305a370f170d3236313233313233353935395a", "a UTCTime in parts"),
+    ("30223811180f32303236303130313030303030305a170d3236313233313233353935395a", "a GeneralizedTime in parts"),
+    ("3020170f32303236303130313030303030305a170d3236313233313233353935395a", "four digits of the year in a UTCTime"),
+    ("301e180d3236303130313030303030305a170d3236313233313233353935395a", "two digits of the year in a GeneralizedTime"),
+    ("301c170b323630313031303030305a170d3236313233313233353935395a", "no seconds"),
+    ("302217113236303130313030303030302b30313030170d3236313233313233353935395a", "another zone"),
+    ("3022170d3236303130313030303030305a181132303236313233313233353935392e355a", "half a second"),
+    ("301e170d3236303130313030303030305a170d3236303232393030303030305a", "a day that does not exist"),
+    ("3011170d3236303130313030303030305a1700", "a time of no octets"),
+]
+
+# Two validities that are unlike one another, and in what.
+UNLIKE_VALIDITIES = [
+    ("301e170d3236303130313030303030305a170d3236313233313233353935395a", "3020180f32303236303130313030303030305a170d3236313233313233353935395a", "one moment in two forms"),
+    ("301e170d3236303130313030303030305a170d3236313233313233353935395a", "3020170d3236303130313030303030305a180f32303236313233313233353935395a", "the second moment in another form"),
+    ("301e170d3236303130313030303030305a170d3236313233313233353935395a", "301e170d3236313233313233353935395a170d3236303130313030303030305a", "times in another order"),
+    ("301e170d3236303130313030303030305a170d3236313233313233353935395a", "301e170d3236303130313030303030305a170d3236313233313233353935385a", "a second less"),
+]
+
+# General names.
+GENERAL_NAMES = [
+    ("30819ca020060a2b060104018237140203a0120c1075736572406578616d706c652e6f7267810d61406578616d706c652e6f7267820f7777772e6578616d706c652e6f7267a421301f310b30090603550406130253453110300e060355040a0c074578616d706c65861568747470733a2f2f6578616d706c652e6f72672f618704c0000201871020010db800000000000000000000000188062a864886f70d", "all but the party, as openssl req -x509 writes them: UPN, email, DNS, dirName, URI, IP of both kinds, RID"),
+    ("3000", "no names"),
+    ("3007a505a103130142", "a party, a PrintableString"),
+    ("300ca50aa0030c0141a1030c0142", "a party and who assigned it"),
+    ("300ba509a0021e00a103140142", "a party, a TeletexString, and an empty BMPString"),
+    ("3008a506a1041e020042", "a party, a BMPString"),
+    ("300aa00806022a03a0020500", "another name, NULL"),
+    ("300da00b06022a03a005a003010101", "another name, an element of the context with another octet of TRUE"),
+    ("30028100", "no octets in a mailbox"),
+    ("300382017f", "the last octet of the alphabet"),
+    ("3003860100", "a zero"),
+    ("30028700", "an address of no octets"),
+    ("3005870380ff00", "an address of three octets"),
+    ("3004a4023000", "a directory name without sets"),
+    ("3020a40e300c310a300806035504030c0141a40e300c310a300806035504030c0141", "a directory name twice"),
+    ("300388012a", "the shortest identifier"),
+    ("3006820162820161", "two of one form"),
+]
+
+# Elements that are no general names.
+NO_GENERAL_NAMES = [
+    ("3103820161", "a SET"),
+    ("1003820161", "a leaf of the number of SEQUENCE"),
+    ("820161", "a name alone"),
+    ("3003810180", "an octet past 7F in a mailbox"),
+    ("3004820261e9", "an octet past 7F in a DNS name"),
+    ("30048602c3a9", "UTF-8 in a URI"),
+    ("3005a103160161", "a mailbox in parts"),
+    ("3005a203160161", "a DNS name under a tag around its own"),
+    ("3005a603160161", "a URI in parts"),
+    ("3008a706040461626364", "an address in parts"),
+    ("3006a80406022a03", "an identifier under a tag around its own"),
+    ("300a800806022a03a0020500", "another name that is a leaf"),
+    ("3010840e300c310a300806035504030c0141", "a directory name that is a leaf"),
+    ("30078505a1030c0142", "a party that is a leaf"),
+    ("3002a300", "an X.400 address"),
+    ("30028300", "a leaf of the number of an X.400 address"),
+    ("3003890161", "a tag of no form"),
+    ("3003160161", "an IA5String"),
+    ("3002a000", "another name without fields"),
+    ("3006a00406022a03", "another name without a value"),
+    ("3006a004a0020500", "another name without an identifier"),
+    ("3008a00606022a030500", "a value without its tag"),
+    ("300aa00806022a03a1020500", "a value under another tag"),
+    ("3008a00606022a03a000", "an empty tag around the value"),
+    ("300ca00a06022a03a00405000500", "two values"),
+    ("300ca00a06022a03a00205000500", "another name of three fields"),
+    ("300aa00806028001a0020500", "an identifier with 80 in front"),
+    ("300ba0091303312e32a0020500", "an identifier as a text"),
+    ("3002a500", "a party without a name"),
+    ("3007a505a0030c0141", "who assigned a name, without the party"),
+    ("300ca50aa1030c0142a0030c0141", "the party in front"),
+    ("3011a50fa0030c0141a0030c0141a1030c0142", "two that assigned a name"),
+    ("300ca50aa1030c0142a1030c0142", "two parties"),
+    ("3007a505a103160142", "a party, an IA5String"),
+    ("300ca50aa003160141a1030c0142", "an IA5String as who assigned a name"),
+    ("300aa508a1061c0400000042", "a party, a UniversalString"),
+    ("3005a503810142", "a party without the tag of its type"),
+    ("3005a5030c0142", "a party without its tag"),
+    ("3004a502a100", "an empty tag around the party"),
+    ("300aa508a1060c01420c0143", "two strings of a party"),
+    ("3009a507a000a1030c0142", "an empty tag around who assigned a name"),
+    ("3009a507a1030c01420500", "a NULL after the party"),
+    ("3002a400", "an empty tag around a directory name"),
+    ("300ea40c310a300806035504030c0141", "a directory name without its tag"),
+    ("301ea41c300c310a300806035504030c0141300c310a300806035504030c0141", "two directory names under one tag"),
+    ("3010a40e310c310a300806035504030c0141", "a SET as a directory name"),
+    ("30028800", "an identifier of no octets"),
+    ("300488028001", "an identifier that begins with 80"),
+    ("300588032a8001", "an arc with 80 in front"),
+    ("300488022a86", "an identifier that is cut off"),
+    ("3006820161810180", "the second name has no shape"),
+]
+
+# Two lists of general names that are unlike one another, and in what.
+UNLIKE_GENERAL_NAMES = [
+    ("3003810161", "3003820161", "one text in two forms"),
+    ("3003820161", "3003860161", "a DNS name and a URI"),
+    ("3003820161", "3003820141", "another case"),
+    ("300387012a", "300388012a", "an address and an identifier"),
+    ("3006870461626364", "3006870461626365", "another address"),
+    ("300388012a", "300388012b", "another identifier"),
+    ("3006820161820162", "3006820162820161", "names in another order"),
+    ("3003820161", "3000", "no names"),
+    ("3007a505a1030c0142", "300ba509a0020c00a1030c0142", "absent and empty"),
+    ("300ca50aa0030c0141a1030c0142", "300ca50aa0030c0142a1030c0141", "the party and who assigned its name"),
+    ("3007a505a1030c0142", "3007a505a103130142", "a party in two types of string"),
+    ("300aa00806022a03a0020500", "300aa00806022a04a0020500", "another form of name"),
+    ("300aa00806022a03a0020500", "300aa00806022a03a0023000", "another value"),
+    ("3010a40e300c310a300806035504030c0141", "3004a4023000", "another directory name"),
+]
+
 # Attribute types by their names and arcs (X.520), and the words that are printed.
 ATTRIBUTE_TYPES = [
     ("CommonName", "2.5.4.3", "CN"),

@@ -204,12 +204,16 @@ READ_AS = [
     ("name", structures.NAMES, structures.NO_NAMES),
     ("value", structures.VALUES, []),
     ("extension", structures.EXTENSIONS, structures.NO_EXTENSIONS),
+    ("validity", structures.VALIDITIES, structures.NO_VALIDITIES),
+    ("general_names", structures.GENERAL_NAMES, structures.NO_GENERAL_NAMES),
 ]
 
 UNLIKE = [
     ("algorithm", structures.UNLIKE_ALGORITHMS),
     ("key", structures.UNLIKE_KEYS),
     ("name", structures.UNLIKE_NAMES),
+    ("validity", structures.UNLIKE_VALIDITIES),
+    ("general_names", structures.UNLIKE_GENERAL_NAMES),
     ("integer", structures.UNLIKE_INTEGERS),
     ("bits", structures.UNLIKE_BITS),
     ("identifier", structures.UNLIKE_IDENTIFIERS),
@@ -364,9 +368,9 @@ def stored_run(program, rows_and_lines):
 
 
 def is_extension(row_and_line):
-    """Whether a row asks for an extension: its second word says so."""
+    """Whether a row is one of `extension_answers`: its second word says so."""
     row, _ = row_and_line
-    return row.split()[1] == "extension"
+    return row.split()[1] in ("extension", "general_names", "validity")
 
 
 def stored_files():

@@ -16,6 +16,8 @@ two octets, `?` for a surrogate or a last single octet; of an IA5String its
 octets; of anything else `#` and the element in hexadecimal.
 """
 
+from datetime import datetime
+
 from der_reader import Constructed, Primitive, read_exact, write
 
 LIMIT = 1 << 128
@@ -45,6 +47,9 @@ STRINGS = {
     0x14: "TeletexString",
     0x1E: "BmpString",
 }
+
+
+TIMES = {0x17: ("Utc", 2), 0x18: ("Generalized", 4)}
 
 
 class Shape(Exception):
@@ -227,12 +232,87 @@ def key(element):
     return f"{'Ed' if oid in ED else 'Mldsa'} {shown} {found}"
 
 
+def time(element):
+    """A UTCTime or a GeneralizedTime, by its moment (X.690 11.7, 11.8)."""
+    need(element.tag in TIMES)
+    form, digits = TIMES[element.tag]
+    octets = contents(element, element.tag)
+    numbers = octets[:-1]
+    need(len(octets) == digits + 11 and octets.endswith(b"Z") and numbers.isdigit())
+    year = int(numbers[:digits])
+    if form == "Utc":
+        year += 1900 if year >= 50 else 2000
+    try:
+        # `datetime` has no year 0, and the year 400 is like it.
+        moment = datetime.strptime(f"{year or 400:04}{numbers[digits:].decode()}", "%Y%m%d%H%M%S")
+    except ValueError as refusal:
+        raise Shape from refusal
+    return f"{form} {year:04}-{moment:%m-%d %H:%M:%S}"
+
+
+def validity(element):
+    times = kids(element, 0x30)
+    need(len(times) == 2)
+    return " ".join(map(time, times))
+
+
+def explicit(element, tag):
+    """The element under a tag around its own."""
+    found = kids(element, tag)
+    need(len(found) == 1)
+    return found[0]
+
+
+def other_name(element):
+    fields = kids(element, 0xA0)
+    need(len(fields) == 2)
+    return f"{dotted(contents(fields[0], 6))} {word(write(explicit(fields[1], 0xA0)))}"
+
+
+def edi_party_name(element):
+    *assigners, party = kids(element, 0xA5) or [None]
+    need(party and len(assigners) <= 1)
+    strings = [directory_string(explicit(assigner, 0xA0)) for assigner in assigners] or ["none"]
+    return f"{strings[0]} {directory_string(explicit(party, 0xA1))}"
+
+
+def directory_name(element):
+    found = explicit(element, 0xA4)
+    name(found)
+    return word(name_text(found).encode())
+
+
+def general_name(element):
+    """A name in one of the forms of RFC 5280 4.2.1.6."""
+    need(element.tag in GENERAL_NAMES)
+    form, read = GENERAL_NAMES[element.tag]
+    return f"{form} {read(element)}"
+
+
+def general_names(element):
+    """How many names there are, and each."""
+    names = kids(element, 0x30)
+    return " ".join((str(len(names)), *map(general_name, names)))
+
+
 def inner(octets):
     """The element that a string holds."""
     try:
         return read_exact(octets)
     except Exception as refusal:
         raise Shape from refusal
+
+
+GENERAL_NAMES = {
+    0xA0: ("OtherName", other_name),
+    0x81: ("Rfc822Name", lambda element: ia5(contents(element, 0x81))),
+    0x82: ("DnsName", lambda element: ia5(contents(element, 0x82))),
+    0xA4: ("DirectoryName", directory_name),
+    0xA5: ("EdiPartyName", edi_party_name),
+    0x86: ("Uri", lambda element: ia5(contents(element, 0x86))),
+    0x87: ("IpAddress", lambda element: word(contents(element, 0x87))),
+    0x88: ("RegisteredId", lambda element: dotted(contents(element, 0x88))),
+}
 
 
 # Extensions, with the element that is written for each: TRUE is FF, and FALSE by default left out.
@@ -333,6 +413,8 @@ KINDS = {
     "set": members,
     "name": name,
     "extension": extension,
+    "validity": validity,
+    "general_names": general_names,
 }
 
 

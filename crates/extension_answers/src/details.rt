@@ -1,4 +1,4 @@
-//! What is printed of an extension.
+//! What is printed of a value beside whether it comes back as it was read: of an extension.
 
 use asn1_types::BitString;
 use asn1_types::oids::KP_CODE_SIGNING;
@@ -9,12 +9,19 @@ use x509_types::{
     AuthorityKeyIdentifier, BasicConstraints, ExtendedKeyUsage, Extension, ExtensionView, KeyUsage,
 };
 
+/// A value of which details are printed.
+pub trait Details {
+    fn details(&self, alloc: Global) -> Result<String, DerError>;
+}
+
 /// The identifier, whether it is critical, the value, and the octets that are written.
-pub fn details_of(alloc: Global, extension: &Extension) -> Result<String, DerError> {
-    let (oid, critical) = (extension.extn_id(), extension.critical());
-    let value = value(alloc, extension.extn_value())?;
-    let written = word_of(alloc, &extension.to_der(alloc)?)?;
-    Ok(format!(in alloc; "{oid} {critical} {value} {written}")?)
+impl Details for Extension {
+    fn details(&self, alloc: Global) -> Result<String, DerError> {
+        let (oid, critical) = (self.extn_id(), self.critical());
+        let value = value(alloc, self.extn_value())?;
+        let written = word_of(alloc, &self.to_der(alloc)?)?;
+        Ok(format!(in alloc; "{oid} {critical} {value} {written}")?)
+    }
 }
 
 fn value(alloc: Global, view: &ExtensionView) -> Result<String, AllocError> {

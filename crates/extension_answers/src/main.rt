@@ -1,4 +1,4 @@
-//! What is answered to rows of a file on extensions of certificates, for a comparison with other
+//! What is answered to rows of a file on extensions, general names and validities, for a comparison with other
 //! answers.
 //!
 //! ```text
@@ -11,6 +11,7 @@
 #![tactic(auto)]
 
 mod details;
+mod general_details;
 mod making;
 mod reading;
 mod row;

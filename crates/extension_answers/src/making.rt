@@ -1,6 +1,6 @@
 //! Extensions that are put together of parts.
 
-use crate::details::details_of;
+use crate::details::Details;
 use anyhow::{Context, Result, bail};
 use asn1_types::ObjectIdentifier;
 use der_core::{DerError, Structure};
@@ -74,6 +74,6 @@ fn shown(alloc: Global, made: Made) -> Result<String, DerError> {
         Err(error) => return shown_shape(alloc, error),
     };
     let octets = word_of(alloc, &extension.to_der(alloc)?)?;
-    let details = details_of(alloc, &extension)?;
+    let details = extension.details(alloc)?;
     Ok(format!(in alloc; "{octets} {details}")?)
 }

@@ -8,8 +8,8 @@ use std::alloc::Global;
 pub fn answer(alloc: Global, text: &str) -> Result<String> {
     let words: Vec<&str> = text.split(' ').collect(alloc)?;
     match words.as_slice() {
-        ["structure", "extension", element] => reading::answer(alloc, element),
-        ["unlike", "extension", one, other] => reading::answer_unlike(alloc, one, other),
+        ["structure", kind, element] => reading::answer(alloc, kind, element),
+        ["unlike", kind, one, other] => reading::answer_unlike(alloc, kind, one, other),
         ["make", "extension", call, args @ ..] => making::answer(alloc, call, args),
         _ => bail!("no call has the row {text}"),
     }

@@ -5,3 +5,4 @@ pub mod Texts
 pub mod TypeWords
 pub mod Equal
 pub mod Elements
+pub mod Parties

@@ -2,6 +2,7 @@ pub mod DirectoryString
 pub mod OtherValue
 pub mod AttributeValue
 pub mod Name
+pub mod GeneralName
 pub mod Text
 pub mod NameAttr
 pub mod NameText

@@ -1,3 +1,4 @@
+pub mod Validity
 pub mod Boolean
 pub mod BasicConstraints
 pub mod KeyUsage

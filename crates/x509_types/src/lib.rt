@@ -14,6 +14,8 @@ mod extension_view;
 mod key_usage;
 mod laws;
 mod octet_string;
+mod time;
+mod validity;
 
 pub use authority_key_identifier::AuthorityKeyIdentifier;
 pub use basic_constraints::BasicConstraints;
@@ -24,7 +26,10 @@ pub use extension_view::ExtensionView;
 pub use key_types::{AlgorithmIdentifier, KeyKind, RsaPublicKey, SubjectKey, SubjectPublicKeyInfo};
 pub use key_usage::KeyUsage;
 pub use laws::extensions_are_written_as_read;
+pub use time::Time;
+pub use validity::Validity;
 pub use x501_types::{
-    AttributeTypeAndValue, AttributeValue, DirectoryString, Name, NameAttr, OtherValue,
-    RelativeDistinguishedName, email_address_oid, list_has_each_attribute_type,
+    AttributeTypeAndValue, AttributeValue, DirectoryString, EdiPartyName, Name, NameAttr, OtherName,
+    OtherValue, RawGeneralName, RawGeneralNames, RelativeDistinguishedName, email_address_oid,
+    list_has_each_attribute_type,
 };
