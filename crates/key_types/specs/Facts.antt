@@ -2,3 +2,4 @@
 pub mod Algorithms
 pub mod Kinds
 pub mod Keys
+pub mod RsaPrivateKeys

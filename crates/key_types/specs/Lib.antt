@@ -1,4 +1,5 @@
 pub mod RsaPublicKey
+pub mod RsaPrivateKey
 pub mod AlgorithmIdentifier
 pub mod KeyKind
 pub mod SubjectKey
