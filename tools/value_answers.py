@@ -199,6 +199,7 @@ def time_rows():
 READ_AS = [
     ("algorithm", structures.ALGORITHMS, structures.NO_ALGORITHMS),
     ("rsa_key", structures.RSA_PUBLIC_KEYS, structures.NO_RSA_PUBLIC_KEYS),
+    ("rsa_private_key", structures.RSA_PRIVATE_KEYS, structures.NO_RSA_PRIVATE_KEYS),
     ("key", structures.RSA_KEYS + structures.EC_KEYS, structures.NO_KEYS),
     ("key", structures.ED_KEYS + structures.MLDSA_KEYS, []),
     ("name", structures.NAMES, structures.NO_NAMES),

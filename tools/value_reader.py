@@ -213,6 +213,12 @@ def rsa_key(element):
     return " ".join(integer(contents(field, 2)).split()[1] for field in fields)
 
 
+def rsa_private_key(element):
+    version, *numbers = kids(element, 0x30) or [None]
+    need(version == Primitive(2, b"\0") and len(numbers) == 8)
+    return " ".join(integer(contents(number, 2)).split()[0] for number in numbers)
+
+
 def key(element):
     """A SubjectPublicKeyInfo of a kind that is known, with the parameters of its kind."""
     fields = kids(element, 0x30)
@@ -406,6 +412,7 @@ KINDS = {
     "ia5": lambda element: ia5(contents(element, 0x16)),
     "algorithm": algorithm,
     "rsa_key": rsa_key,
+    "rsa_private_key": rsa_private_key,
     "key": key,
     "directory_string": directory_string,
     "value": value,

@@ -1,6 +1,6 @@
 //! Private keys of RSA.
 
-ghost use Rattle.std.specs.Prelude.{◌≡◌, ◌≢◌, MatchOption};
+ghost use Rattle.std.specs.Prelude.{◌≡◌, ◌≢◌, ◌↔◌, IsTrue, MatchOption};
 ghost use Rattle.key_types.specs.RsaPrivateKey.{two_prime, rsa_private_key, rsa_private_key_of};
 ghost use Rattle.der_core.specs.Structure.{Fits};
 
@@ -9,7 +9,8 @@ use der_core::tag::{INTEGER, SEQUENCE};
 use der_core::{DerError, Elem, Kids, NewKids, Structure, Tree, leaf, leaf_at};
 use std::alloc::{AllocError, Global};
 
-/// An RSA private key of two primes (RFC 8017 A.1.2).
+/// An RSA private key of two primes (RFC 8017 A.1.2). It has no `Debug`, so no secret is printed by
+/// mistake.
 #[derive(Drop)]
 pub struct RsaPrivateKey {
     pub modulus: IntegerAsn1,
@@ -137,4 +138,33 @@ impl Structure for RsaPrivateKey {
     }
 
     ghost grammar = { rsa_private_keys };
+}
+
+/// Keys are equal exactly where their octets are. How long this takes tells of the keys.
+impl PartialEq for RsaPrivateKey {
+    ghost use Rattle.der_core.specs.Equality.{same_octets, same_octets_per};
+
+    ghost eq = { same_octets rsa_private_key };
+
+    ghost laws = { same_octets_per rsa_private_key };
+
+    fn eq(&self, other: &RsaPrivateKey) -> bool
+        ensures octets { result ≡ same_octets rsa_private_key self.now other.now }
+        ensures same { IsTrue result ↔ (self.now ≡ other.now) }
+    {
+        self.modulus == other.modulus
+            && self.public_exponent == other.public_exponent
+            && self.private_exponent == other.private_exponent
+            && self.prime1 == other.prime1
+            && self.prime2 == other.prime2
+            && self.exponent1 == other.exponent1
+            && self.exponent2 == other.exponent2
+            && self.coefficient == other.coefficient
+    }
+}
+
+impl Eq for RsaPrivateKey {
+    ghost use Rattle.der_core.specs.Equality.{same_octets_equiv};
+
+    ghost laws = { same_octets_equiv rsa_private_key };
 }

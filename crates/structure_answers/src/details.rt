@@ -6,7 +6,7 @@ use row_answers::word_of;
 use std::alloc::{AllocError, Global};
 use x509_types::{
     AlgorithmIdentifier, AttributeTypeAndValue, AttributeValue, DirectoryString,
-    RelativeDistinguishedName, RsaPublicKey, SubjectKey, SubjectPublicKeyInfo,
+    RelativeDistinguishedName, RsaPrivateKey, RsaPublicKey, SubjectKey, SubjectPublicKeyInfo,
 };
 
 /// A value of which details are printed.
@@ -47,6 +47,29 @@ impl Details for AlgorithmIdentifier {
             None => String::from_str(alloc, "none")?,
         };
         format!(in alloc; "{oid} {parameters}")
+    }
+}
+
+impl Details for RsaPrivateKey {
+    fn details(&self, alloc: Global) -> Result<String, AllocError> {
+        let numbers = [
+            &self.modulus,
+            &self.public_exponent,
+            &self.private_exponent,
+            &self.prime1,
+            &self.prime2,
+            &self.exponent1,
+            &self.exponent2,
+            &self.coefficient,
+        ];
+        let mut line = String::new(alloc);
+        for number in numbers {
+            if !line.is_empty() {
+                line.push(' ')?;
+            }
+            line.push_str(&word_of(alloc, number.as_signed_bytes_be())?)?;
+        }
+        Ok(line)
     }
 }
 

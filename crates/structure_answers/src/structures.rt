@@ -9,7 +9,7 @@ use row_answers::{are_equal, comes_back, octets_of, shown_shape, value_of};
 use std::alloc::Global;
 use x509_types::{
     AlgorithmIdentifier, AttributeTypeAndValue, AttributeValue, DirectoryString,
-    RelativeDistinguishedName, RsaPublicKey, SubjectPublicKeyInfo,
+    RelativeDistinguishedName, RsaPrivateKey, RsaPublicKey, SubjectPublicKeyInfo,
 };
 
 /// What is read of an element, by the kind of structure; None where there is no such kind.
@@ -22,6 +22,7 @@ pub fn answer(alloc: Global, kind: &str, element: &str) -> Result<Option<String>
         "ia5" => read_of::<Ia5String>(alloc, &element),
         "algorithm" => read_of::<AlgorithmIdentifier>(alloc, &element),
         "rsa_key" => read_of::<RsaPublicKey>(alloc, &element),
+        "rsa_private_key" => read_of::<RsaPrivateKey>(alloc, &element),
         "key" => read_of::<SubjectPublicKeyInfo>(alloc, &element),
         "directory_string" => read_of::<DirectoryString>(alloc, &element),
         "value" => read_of::<AttributeValue>(alloc, &element),
