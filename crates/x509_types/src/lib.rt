@@ -23,13 +23,15 @@ pub use extended_key_usage::{ExtendedKeyUsage, OidList};
 pub use extension::{Extension, Extensions};
 pub use extension_kind::ExtensionKind;
 pub use extension_view::ExtensionView;
-pub use key_types::{AlgorithmIdentifier, KeyKind, RsaPrivateKey, RsaPublicKey, SubjectKey, SubjectPublicKeyInfo};
+pub use key_types::{
+    AlgorithmIdentifier, KeyKind, RsaPrivateKey, RsaPublicKey, SubjectKey, SubjectPublicKeyInfo,
+};
 pub use key_usage::KeyUsage;
 pub use laws::extensions_are_written_as_read;
 pub use time::Time;
 pub use validity::Validity;
 pub use x501_types::{
-    AttributeTypeAndValue, AttributeValue, DirectoryString, EdiPartyName, Name, NameAttr, OtherName,
-    OtherValue, RawGeneralName, RawGeneralNames, RelativeDistinguishedName, email_address_oid,
-    list_has_each_attribute_type,
+    AttributeTypeAndValue, AttributeValue, DirectoryString, EdiPartyName, Name, NameAttr,
+    OtherName, OtherValue, RawGeneralName, RawGeneralNames, RelativeDistinguishedName,
+    email_address_oid, list_has_each_attribute_type,
 };
