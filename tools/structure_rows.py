@@ -68,6 +68,20 @@ NO_RSA_PUBLIC_KEYS = [
     ("020111", "the modulus alone"),
 ]
 
+# Algorithms that a public key of bits is put together with.
+KEY_ALGORITHMS = [
+    ("300d06092a864886f70d0101010500", "RSA"),
+    ("301306072a8648ce3d020106082a8648ce3d030107", "a named curve"),
+    ("300906072a8648ce3d0201", "ecPublicKey without parameters"),
+    ("300b06072a8648ce3d02010500", "ecPublicKey with NULL"),
+    ("300506032b6570", "Ed25519"),
+    ("300506032b656f", "X448"),
+    ("300706032b65700500", "Ed25519 with NULL"),
+    ("300b0609608648016503040311", "ML-DSA-44"),
+    ("300b0609608648016503040313", "ML-DSA-87"),
+    ("300b0609608648016503040201", "SHA-256, no algorithm of keys"),
+]
+
 # RSA private keys. Nothing is computed with any of them.
 RSA_PRIVATE_KEYS = [
     ("301b02010002010b02010302010502010702010b020101020102020104", "a small key"),

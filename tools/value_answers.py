@@ -265,6 +265,16 @@ def made_set(oid, tag, text):
     return Constructed(0x31, (attribute,))
 
 
+def made_key(kind, algorithm):
+    """A key of bits with an algorithm: None where a reader of the whole finds another kind, or no key."""
+    key = Constructed(0x30, (algorithm, Primitive(3, b"\0\xaa\xbb")))
+    call = f"public_key {kind} {word(write(algorithm))} aabb"
+    line = structure_line("key", write(key))
+    if line.split()[1:2] != [kind]:
+        return f"make {call}", "None"
+    return made_row(call, "key", key)
+
+
 def made_rows():
     sha256 = "2.16.840.1.101.3.4.2.1"
     oid = word(contents(sha256))
@@ -275,6 +285,9 @@ def made_rows():
     for octets in b"", b"\xaa", bytes(32):
         key = Constructed(0x30, (made_algorithm("1.3.101.112"), Primitive(3, b"\0" + octets)))
         yield made_row(f"ed25519_key {word(octets)}", "key", key)
+    for kind in "Ec", "Ed", "Mldsa":
+        for algorithm, _ in structures.KEY_ALGORITHMS:
+            yield made_key(kind, read_exact(bytes.fromhex(algorithm)))
     for text in "A", "", "caf\u00e9":
         name = Constructed(0x30, (made_set("2.5.4.3", 0x0C, text),))
         yield made_row(f"common_name {text_word(text)}", "name", name)

@@ -1,7 +1,7 @@
 //! Values that are put together of parts, and written.
 
 use crate::details::Details;
-use anyhow::{Context, Result};
+use anyhow::{Context, Result, bail};
 use asn1_types::{BitString, Ia5String, ObjectIdentifier, oids};
 use der_core::{DerError, Raw, Structure, read_exact, write};
 use names_core::DirectoryName;
@@ -16,6 +16,7 @@ pub fn answer(alloc: Global, call: &str, args: &[&str]) -> Result<Option<String>
         ("algorithm", [oid, parameters]) => algorithm(alloc, oid, Some(parameters))?,
         ("algorithm_null", [oid]) => algorithm_null(alloc, oid)?,
         ("ed25519_key", [bits]) => ed25519_key(alloc, bits)?,
+        ("public_key", [kind, algorithm, bits]) => public_key(alloc, kind, algorithm, bits)?,
         ("common_name", [text]) => common_name(alloc, text)?,
         ("name", attributes) => name(alloc, attributes)?,
         _ => return Ok(None),
@@ -49,6 +50,28 @@ fn ed25519_key(alloc: Global, bits: &str) -> Result<String> {
         subject_public_key: SubjectKey::Ed(bits),
     };
     Ok(shown(alloc, &key)?)
+}
+
+/// A key of bits with an algorithm, `None` where the algorithm isn't one for keys of its kind.
+fn public_key(alloc: Global, kind: &str, algorithm: &str, bits: &str) -> Result<String> {
+    let algorithm = AlgorithmIdentifier::from_der(alloc, &octets_of(alloc, algorithm)?)?;
+    let key = key_of_bits(
+        kind,
+        BitString::with_bytes(alloc, &octets_of(alloc, bits)?)?,
+    )?;
+    match SubjectPublicKeyInfo::new(algorithm, key) {
+        Some(key) => Ok(shown(alloc, &key)?),
+        None => Ok(String::from_str(alloc, "None")?),
+    }
+}
+
+fn key_of_bits(kind: &str, bits: BitString) -> Result<SubjectKey> {
+    match kind {
+        "Ec" => Ok(SubjectKey::Ec(bits)),
+        "Ed" => Ok(SubjectKey::Ed(bits)),
+        "Mldsa" => Ok(SubjectKey::Mldsa(bits)),
+        _ => bail!("no key of bits has the kind {kind}"),
+    }
 }
 
 fn common_name(alloc: Global, text: &str) -> Result<String> {
