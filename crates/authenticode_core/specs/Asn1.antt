@@ -1,5 +1,5 @@
 -- Elements of the plain form by their contents octets (X.690 8). The words of `asn1_types` are of values, and the form has contents that no value has.
-use Rattle.std.specs.Prelude.{ℕ, ◌+◌, List, ◌∷◌}
+use Rattle.std.specs.Prelude.{ℕ, ◌+◌, List}
 use Rattle.der_core.specs.DerElement.{DerElement, Primitive, Constructed, row}
 
 -- a constructed element of the context-specific class (X.690 8.1.2.2)
@@ -9,14 +9,6 @@ context number kids = Constructed (0xA0 + number) (row kids)
 -- an INTEGER (X.690 8.3), of any contents
 abbrev pub integer : List ℕ → DerElement
 integer contents = Primitive 0x02 contents
-
--- a BIT STRING of whole octets: no bit of the last one is unused (X.690 8.6)
-abbrev pub bit_string : List ℕ → DerElement
-bit_string payload = Primitive 0x03 (0 ∷ payload)
-
--- an OCTET STRING (X.690 8.7)
-abbrev pub octet_string : List ℕ → DerElement
-octet_string contents = Primitive 0x04 contents
 
 -- an OBJECT IDENTIFIER (X.690 8.19)
 abbrev pub object_identifier : List ℕ → DerElement

@@ -6,8 +6,8 @@ use Rattle.sha2.specs.Sha256.{sha256}
 use Rattle.der_core.specs.DerElement.{DerElement, Primitive, row}
 use Rattle.der_core.specs.Encoding.{encoding, encodings, IsDer, IsPaddedEncoding}
 use Rattle.wincert_core.specs.Refusal.{contents_in}
-use Rattle.der_core.specs.Elements.{sequence, set, null}
-use Rattle.authenticode_core.specs.Asn1.{context, integer, bit_string, octet_string, object_identifier, utf8_string, utc_time}
+use Rattle.der_core.specs.Elements.{sequence, set, null, bit_octets, octet_string}
+use Rattle.authenticode_core.specs.Asn1.{context, integer, object_identifier, utf8_string, utc_time}
 use Rattle.asn1_types.specs.declared.oids.TheConstants as identifiers
 
 -- an AlgorithmIdentifier with NULL parameters (RFC 5280 4.1.1.2)
@@ -25,7 +25,7 @@ validity not_before not_after = sequence (utc_time not_before ∷ utc_time not_a
 
 -- the SubjectPublicKeyInfo of an RSA key (RFC 5280 4.1.2.7)
 abbrev pub public_key_info : List ℕ → DerElement
-public_key_info key = sequence (algorithm identifiers.RSA_ENCRYPTION.now ∷ bit_string key ∷ [])
+public_key_info key = sequence (algorithm identifiers.RSA_ENCRYPTION.now ∷ bit_octets key ∷ [])
 
 -- what varies in the part of a certificate that is signed
 pub record TbsParts : Type 0 where
@@ -64,7 +64,7 @@ pub record CertificateParts : Type 0 where
 
 -- a Certificate (RFC 5280 4.1.1)
 abbrev pub certificate : CertificateParts → DerElement
-certificate c = sequence (tbs_certificate c.tbs ∷ algorithm identifiers.SHA256_WITH_RSA_ENCRYPTION.now ∷ bit_string c.signature ∷ [])
+certificate c = sequence (tbs_certificate c.tbs ∷ algorithm identifiers.SHA256_WITH_RSA_ENCRYPTION.now ∷ bit_octets c.signature ∷ [])
 
 -- an SpcLink to a file without a name (Authenticode)
 abbrev pub empty_link : DerElement
@@ -73,7 +73,7 @@ empty_link = context 0 (context 2 (Primitive 0x80 [] ∷ []) ∷ [])
 -- an SpcAttributeTypeAndOptionalValue: a portable executable, without page hashes (Authenticode)
 abbrev pub image_data : DerElement
 image_data =
-    sequence (object_identifier identifiers.SPC_PE_IMAGE_DATA.now ∷ sequence (bit_string [] ∷ empty_link ∷ []) ∷ [])
+    sequence (object_identifier identifiers.SPC_PE_IMAGE_DATA.now ∷ sequence (bit_octets [] ∷ empty_link ∷ []) ∷ [])
 
 -- a DigestInfo of SHA-256 (Authenticode, RFC 2315 9.4)
 abbrev pub digest_info : List ℕ → DerElement
@@ -88,7 +88,7 @@ abbrev pub content_info : List ℕ → DerElement
 content_info file_hash =
     sequence (object_identifier identifiers.SPC_INDIRECT_DATA.now ∷ context 0 (indirect_data file_hash ∷ []) ∷ [])
 
--- an Attribute of one value (RFC 2986 4.1)
+-- an Attribute of one value (RFC 5652 5.3)
 abbrev pub attribute : List ℕ → DerElement → DerElement
 attribute oid value = sequence (object_identifier oid ∷ set (value ∷ []) ∷ [])
 

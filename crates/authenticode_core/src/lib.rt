@@ -3,7 +3,6 @@
 
 mod accepted;
 mod basic;
-mod element;
 mod error;
 mod laws;
 mod parts;

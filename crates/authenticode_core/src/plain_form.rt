@@ -10,9 +10,6 @@ ghost use Rattle.authenticode_core.specs.Asn1.{object_identifier, context};
 ghost use Rattle.authenticode_core.specs.PlainForm.{algorithm, name, validity, public_key_info, version_3, TbsParts, tbs_certificate, CertificateParts, certificate, empty_link, image_data, digest_info, indirect_data, content_info, attribute, attributes, no_program_name, issuer_and_serial_number, SignerParts, signer_info, SignatureParts, signed_data, signed_content};
 ghost use Rattle.authenticode_core.specs.Views.{tbs_parts, certificate_parts, signer_parts, signature_parts};
 
-use crate::element::{
-    CONTEXT_0, CONTEXT_1, CONTEXT_2, IMPLICIT_0, expect_leaf, only_kid, whole_octets_at,
-};
 use crate::parts::{IndirectData, PlainCertificate, PlainSignature, SignerInfo, TbsCertificate};
 use asn1_types::oids::{
     AT_COMMON_NAME, CONTENT_TYPE, MESSAGE_DIGEST, RSA_ENCRYPTION, SHA256,
@@ -23,7 +20,19 @@ use der_core::tag::{
     BIT_STRING, INTEGER, NULL, OBJECT_IDENTIFIER, OCTET_STRING, SEQUENCE, SET, UTC_TIME,
     UTF8_STRING,
 };
-use der_core::{Elem, Kids, leaf_at, three_kids, two_kids};
+use der_core::{
+    Elem, Kids, bit_octets_at, expect_leaf, explicit_at, leaf_at, three_kids, two_kids,
+};
+
+/// A primitive element of the context-specific class (X.690 8.1.2.2).
+const IMPLICIT_0: u8 = 0x80;
+
+/// Constructed elements of the context-specific class.
+const CONTEXT_0: u8 = 0xA0;
+
+const CONTEXT_1: u8 = 0xA1;
+
+const CONTEXT_2: u8 = 0xA2;
 
 /// The element names this algorithm, with NULL parameters.
 fn expect_algorithm(elem: Elem<'_>, oid: &[u8]) -> Option<()>
@@ -42,8 +51,8 @@ fn name_of<'a>(elem: Elem<'a>) -> Option<&'a [u8]>
         ((text : List ℕ) → elem.entry.is.0 ≢ name text)
         (λ text. elem.entry.is.0 ≡ name text.now) }
 {
-    let set = only_kid(elem, SEQUENCE)?;
-    let attribute = only_kid(set, SET)?;
+    let set = explicit_at(elem, SEQUENCE)?;
+    let attribute = explicit_at(set, SET)?;
     let (oid, value) = two_kids(attribute, SEQUENCE)?;
     expect_leaf(oid, OBJECT_IDENTIFIER, AT_COMMON_NAME)?;
     leaf_at(value, UTF8_STRING)
@@ -69,7 +78,7 @@ fn public_key_of<'a>(elem: Elem<'a>) -> Option<&'a [u8]>
 {
     let (kind, key) = two_kids(elem, SEQUENCE)?;
     expect_algorithm(kind, RSA_ENCRYPTION)?;
-    whole_octets_at(key)
+    bit_octets_at(key)
 }
 
 /// The element is the version of certificates that may have extensions.
@@ -78,7 +87,7 @@ fn expect_version_3(elem: Elem<'_>) -> Option<()>
         (elem.entry.is.0 ≢ version_3)
         (λ _. elem.entry.is.0 ≡ version_3) }
 {
-    let version = only_kid(elem, CONTEXT_0)?;
+    let version = explicit_at(elem, CONTEXT_0)?;
     expect_leaf(version, INTEGER, &[2])
 }
 
@@ -115,7 +124,7 @@ fn plain_certificate_of<'a>(elem: Elem<'a>) -> Option<PlainCertificate<'a>>
     let (tbs, algorithm, signature) = three_kids(elem, SEQUENCE)?;
     let tbs = tbs_certificate_of(tbs)?;
     expect_algorithm(algorithm, SHA256_WITH_RSA_ENCRYPTION)?;
-    let signature = whole_octets_at(signature)?;
+    let signature = bit_octets_at(signature)?;
     Some(PlainCertificate { tbs, signature })
 }
 
@@ -125,8 +134,8 @@ fn expect_empty_link(elem: Elem<'_>) -> Option<()>
         (elem.entry.is.0 ≢ empty_link)
         (λ _. elem.entry.is.0 ≡ empty_link) }
 {
-    let file = only_kid(elem, CONTEXT_0)?;
-    let name = only_kid(file, CONTEXT_2)?;
+    let file = explicit_at(elem, CONTEXT_0)?;
+    let name = explicit_at(file, CONTEXT_2)?;
     expect_leaf(name, IMPLICIT_0, &[])
 }
 
@@ -172,7 +181,7 @@ fn content_info_of<'a>(elem: Elem<'a>) -> Option<IndirectData<'a>>
 {
     let (kind, content) = two_kids(elem, SEQUENCE)?;
     expect_leaf(kind, OBJECT_IDENTIFIER, SPC_INDIRECT_DATA)?;
-    let element = only_kid(content, CONTEXT_0)?;
+    let element = explicit_at(content, CONTEXT_0)?;
     let file_hash = indirect_data_of(element)?;
     Some(IndirectData {
         contents: element.content,
@@ -188,7 +197,7 @@ fn attribute_value<'a>(elem: Elem<'a>, kind: &[u8]) -> Option<Elem<'a>>
 {
     let (oid, values) = two_kids(elem, SEQUENCE)?;
     expect_leaf(oid, OBJECT_IDENTIFIER, kind)?;
-    only_kid(values, SET)
+    explicit_at(values, SET)
 }
 
 /// The element is the attribute that says that the content is indirect data.
@@ -208,8 +217,8 @@ fn expect_opus_info(elem: Elem<'_>) -> Option<()>
         (λ _. elem.entry.is.0 ≡ opus_info) }
 {
     let value = attribute_value(elem, SPC_SP_OPUS_INFO)?;
-    let more_info = only_kid(value, SEQUENCE)?;
-    let url = only_kid(more_info, CONTEXT_1)?;
+    let more_info = explicit_at(value, SEQUENCE)?;
+    let url = explicit_at(more_info, CONTEXT_1)?;
     expect_leaf(url, IMPLICIT_0, &[])
 }
 
@@ -268,14 +277,14 @@ fn signed_data_of<'a>(elem: Elem<'a>) -> Option<PlainSignature<'a>>
 {
     let mut fields = Kids::of(elem, SEQUENCE)?;
     expect_leaf(fields.next()?, INTEGER, &[1])?;
-    let digest_algorithm = only_kid(fields.next()?, SET)?;
+    let digest_algorithm = explicit_at(fields.next()?, SET)?;
     expect_algorithm(digest_algorithm, SHA256)?;
     let content = content_info_of(fields.next()?)?;
-    let certificate = only_kid(fields.next()?, CONTEXT_0)?;
+    let certificate = explicit_at(fields.next()?, CONTEXT_0)?;
     let certificate = plain_certificate_of(certificate)?;
     let crls = Kids::of(fields.next()?, CONTEXT_1)?;
     crls.end()?;
-    let signer = only_kid(fields.next()?, SET)?;
+    let signer = explicit_at(fields.next()?, SET)?;
     let signer = signer_info_of(signer)?;
     fields.end()?;
     Some(PlainSignature {
@@ -293,6 +302,6 @@ pub(crate) fn plain_signature_of<'a>(elem: Elem<'a>) -> Option<PlainSignature<'a
 {
     let (kind, content) = two_kids(elem, SEQUENCE)?;
     expect_leaf(kind, OBJECT_IDENTIFIER, SIGNED_DATA)?;
-    let signed_data = only_kid(content, CONTEXT_0)?;
+    let signed_data = explicit_at(content, CONTEXT_0)?;
     signed_data_of(signed_data)
 }
