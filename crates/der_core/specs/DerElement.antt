@@ -21,6 +21,7 @@ abbrev pub listed : DerElements → List DerElement
 listed Nil = []
 listed (Cons kid kids) = kid ∷ listed kids
 
+-- the identifier octet
 abbrev pub tag_of : DerElement → ℕ
 tag_of (Primitive tag content) = tag
 tag_of (Constructed tag kids) = tag

@@ -33,6 +33,7 @@ IsTag tag = (tag < 256) × (tag ≢ 0) × (tag % 32 ≢ 31)
 abbrev pub form_bit : ℕ → ℕ
 form_bit tag = tag / 32 % 2
 
+-- each tag is one, and says the form that its element has
 abbrev mutual
   pub IsWellFormed : DerElement → Type 0
   IsWellFormed (Primitive tag content) = IsTag tag × (form_bit tag ≡ 0)

@@ -12,5 +12,6 @@ pub record KeptElement : Type 0 where
 abbrev pub IsKept : List ℕ → DerElement → Type 0
 IsKept octets element = IsDer element × (octets ≡ encoding element)
 
+-- The octets are those of some element in bounds.
 abbrev pub Kept : List ℕ → Type 0
 Kept octets = (element : DerElement) × IsKept octets element

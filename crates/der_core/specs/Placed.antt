@@ -18,6 +18,7 @@ abbrev pub IsElem : List ℕ → ℕ → List ℕ → DerElement → Type 0
 IsElem whole tag content element =
     IsDer element × (whole ≡ encoding element) × (tag ≡ tag_of element) × (content ≡ contents_octets element)
 
+-- The octets are some element of this tag and these contents.
 abbrev pub HasElem : List ℕ → ℕ → List ℕ → Type 0
 HasElem whole tag content = (element : DerElement) × IsElem whole tag content element
 
@@ -25,5 +26,6 @@ HasElem whole tag content = (element : DerElement) × IsElem whole tag content e
 abbrev pub AreElems : List ℕ → List DerElement → Type 0
 AreElems octets elements = AreDer elements × (octets ≡ encodings (row elements))
 
+-- The octets are some elements, one after another.
 abbrev pub HasElems : List ℕ → Type 0
 HasElems octets = (elements : List DerElement) × AreElems octets elements

@@ -28,6 +28,7 @@ inner_key (keys.Ec bits) = []
 inner_key (keys.Ed bits) = []
 inner_key (keys.Mldsa bits) = []
 
+-- the algorithm, then the key
 abbrev pub public_key_info : SubjectPublicKeyInfo → DerElement
 public_key_info info = sequence (algorithm_identifier info.algorithm ∷ subject_public_key info.subject_public_key ∷ [])
 
@@ -35,6 +36,7 @@ public_key_info info = sequence (algorithm_identifier info.algorithm ∷ subject
 abbrev pub IsSubjectKey : DerElement → SubjectKey → Type 0
 IsSubjectKey element key = (element ≡ subject_public_key key) × AreDer (inner_key key)
 
+-- the element is the one of this algorithm and key, whose inner element is one that is read
 abbrev pub IsPublicKeyInfo : DerElement → SubjectPublicKeyInfo → Type 0
 IsPublicKeyInfo element info = (element ≡ public_key_info info) × AreDer (inner_key info.subject_public_key)
 

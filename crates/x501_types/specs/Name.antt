@@ -23,5 +23,6 @@ name = list_element 0x30 relative_distinguished_name
 abbrev pub IsRelativeDistinguishedName : DerElement → List AttributeTypeAndValue → Type 0
 IsRelativeDistinguishedName element members = element ≡ relative_distinguished_name members
 
+-- the element is a name of these sets
 abbrev pub IsName : DerElement → List (List AttributeTypeAndValue) → Type 0
 IsName element sets = element ≡ name sets
