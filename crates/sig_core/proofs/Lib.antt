@@ -1,4 +1,5 @@
 pub mod Names
+pub mod Variants
 pub mod Lines
 pub mod Rows
 pub mod Tables

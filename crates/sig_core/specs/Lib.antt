@@ -1,4 +1,5 @@
 pub mod Digest
+pub mod ShaVariant
 pub mod Algorithm
 pub mod VerdictTable
 pub mod ErrorText

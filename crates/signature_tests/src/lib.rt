@@ -1,4 +1,4 @@
-//! Tests of the public calls of `sig_core`: digests, algorithms of signatures, verdict tables.
+//! Tests of the public calls of `sig_core`: digests, algorithms of signatures, schemes.
 #![tactic(auto)]
 
 #[cfg(test)]
@@ -9,5 +9,7 @@ mod digests;
 mod rows;
 #[cfg(test)]
 mod tables;
+#[cfg(test)]
+mod variants;
 #[cfg(test)]
 mod verdicts;
