@@ -1,6 +1,10 @@
-//! Laws on verdict tables and on the lists of algorithms.
+//! Laws on verdict tables, on keys of the demonstration scheme and on the lists of algorithms.
 
-ghost use Rattle.std.specs.Prelude.{◌≡◌, ℕ, List, length, Contains};
+ghost use Rattle.std.specs.Prelude.{◌≡◌, ℕ, List, length, Contains, Some, None};
+ghost use Rattle.der_core.specs.Encoding.{encoding};
+ghost use Rattle.sig_core.specs.DemoScheme.{demo_key};
+ghost use Rattle.sig_core.specs.RsaSecret.{IsRsaSecret, rsa_public_key};
+ghost use Rattle.sig_core.specs.declared.algorithm.SchemeKind.TheVariants.{Rsa};
 ghost use Rattle.sig_core.specs.VerdictTable.{IsTable, IsFirstBadLine};
 ghost use Rattle.sig_core.specs.declared.algorithm.SigAlg.{SigAlg};
 ghost use Rattle.sig_core.specs.declared.algorithm.TheConstants.SigAlg as signatures;
@@ -20,6 +24,15 @@ pub fn one_table()
         → IsFirstBadLine text m → IsFirstBadLine text n → m ≡ n }
     ensures not_both { (text : List ℕ) (rows : List VerdictRow) (number : ℕ)
         → IsTable text rows → IsFirstBadLine text number → ⊥ }
+{}
+
+/// The key that the demonstration scheme derives from a secret of RSA is the public key in it, and
+/// there is none exactly where the secret is no private key of RSA.
+pub fn demo_keys_of_rsa()
+    ensures derived { (secret : List ℕ) (rsa : IsRsaSecret secret)
+        → demo_key Rsa secret
+        ≡ Some (encoding (rsa_public_key rsa.numbers.modulus rsa.numbers.public_exponent)) }
+    ensures none { (secret : List ℕ) → (IsRsaSecret secret → ⊥) → demo_key Rsa secret ≡ None }
 {}
 
 /// No two digest algorithms have one identifier. So the identifier that is written for a variant is
