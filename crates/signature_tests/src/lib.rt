@@ -4,6 +4,10 @@
 #[cfg(test)]
 mod algorithms;
 #[cfg(test)]
+mod demo;
+#[cfg(test)]
+mod demo_rows;
+#[cfg(test)]
 mod digests;
 #[cfg(test)]
 mod rows;
