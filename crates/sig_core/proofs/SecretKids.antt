@@ -3,7 +3,8 @@ use Rattle.std.proofs.Common.{◌≡◌, ℕ, List, [], ◌∷◌, ◌++◌, len
 use Rattle.std.proofs.lemmas.List.{take_all, length-append}
 use Rattle.der_core.specs.Cursor.{BeginsAt}
 use Rattle.der_core.specs.Encoding.{encoding, IsDer}
-use Rattle.der_core.specs.DerElement.{DerElement, Constructed, listed, listed-row}
+use Rattle.der_core.specs.DerElement.{DerElement, Constructed, listed}
+use Rattle.der_core.specs.Facts.Rows.{listed-row}
 use Rattle.der_core.specs.Elements.{sequence}
 use Rattle.sig_core.specs.RsaSecret.{RsaNumbers, integer_of}
 

@@ -9,7 +9,7 @@ ghost use Rattle.sig_core.specs.declared.scheme.SchemeError.TheVariants.{Memory}
 
 use crate::scheme::SchemeError;
 use der_core::tag::{INTEGER, SEQUENCE};
-use der_core::{Cursor, Elem, Kids, NewKids, leaf, leaf_at, write};
+use der_core::{Cursor, Elem, Kids, NewKids, expect_leaf, leaf, leaf_at, write};
 use std::alloc::Global;
 
 /// The contents octets of the modulus and of the public exponent in an RSA private key of two
@@ -43,7 +43,8 @@ impl<'a> RsaSecret<'a> {
             × (numbers.modulus ≡ rsa.modulus.now) × (numbers.public_exponent ≡ rsa.public_exponent.now)) }
     {
         let mut kids = Kids::of(elem, SEQUENCE)?;
-        two_prime(kids.next()?)?;
+        // The version of keys of two primes.
+        expect_leaf(kids.next()?, INTEGER, &[0])?;
         let modulus = next_integer(&mut kids)?;
         let public_exponent = next_integer(&mut kids)?;
         let _private_exponent = next_integer(&mut kids)?;
@@ -88,18 +89,6 @@ fn whole_element(octets: &[u8]) -> Option<Elem<'_>>
         Some(elem)
     } else {
         None
-    }
-}
-
-/// The element is the version of keys of two primes.
-fn two_prime(elem: Elem<'_>) -> Option<()>
-    ensures { MatchOption result
-        (elem.entry.is.0 ≢ integer_of (0 ∷ []))
-        (λ _. elem.entry.is.0 ≡ integer_of (0 ∷ [])) }
-{
-    match leaf_at(elem, INTEGER)? {
-        [0] => Some(()),
-        _ => None,
     }
 }
 

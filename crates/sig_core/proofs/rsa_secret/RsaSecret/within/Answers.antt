@@ -97,7 +97,7 @@ returns c =
     let from_private_exponent = joined _ _ _ _ c.in_ok-_private_exponent.ensures.1 from_prime1 in
     let from_public_exponent = joined _ _ _ _ c.in_ok-public_exponent.ensures.1 from_private_exponent in
     let from_modulus = joined _ _ _ _ c.in_ok-modulus.ensures.1 from_public_exponent in
-    let all = joined_as _ _ _ _ _ c.in_ok-next.ensures c.in_ok-two_prime.ensures from_modulus in (
+    let all = joined_as _ _ _ _ _ c.in_ok-next.ensures c.in_ok-expect_leaf.ensures from_modulus in (
       record {
         modulus = c.in_ok-modulus.modulus.now;
         public_exponent = c.in_ok-public_exponent.public_exponent.now;
