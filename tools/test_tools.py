@@ -15,6 +15,7 @@ import certificate_parts
 import basic_answers
 import compare_readers
 import der_reader
+import demo_signatures
 import oid_table
 import reader_stand_in
 import run_program
@@ -341,6 +342,9 @@ class ValueAnswersTest(unittest.TestCase):
     def test_identifiers_of_the_crate(self):
         for lines, file in oid_table.SOURCES:
             self.assertTrue(oid_table.stands_in(lines(), file))
+
+    def test_demonstration_signatures_of_the_crate(self):
+        self.assertTrue(demo_signatures.stands())
 
 
 @unittest.skipUnless(which("openssl"), "openssl isn't there")

@@ -1,5 +1,5 @@
 -- The digests of a message: MD5 of RFC 1321, SHA-1 and SHA-2 of FIPS 180-4.
-use Rattle.std.specs.Prelude.{ℕ, List}
+use Rattle.std.specs.Prelude.{ℕ, List, codes}
 use Rattle.md5.specs.Md5.{md5}
 use Rattle.sha1.specs.Sha1.{sha1}
 use Rattle.sha2.specs.Sha256.{sha224, sha256}
@@ -24,3 +24,12 @@ digest_size SHA2_224 = 28
 digest_size SHA2_256 = 32
 digest_size SHA2_384 = 48
 digest_size SHA2_512 = 64
+
+-- what an algorithm is called (RFC 1321, FIPS 180-4)
+abbrev pub digest_name : HashAlgorithm → List ℕ
+digest_name MD5 = codes "MD5"
+digest_name SHA1 = codes "SHA-1"
+digest_name SHA2_224 = codes "SHA-224"
+digest_name SHA2_256 = codes "SHA-256"
+digest_name SHA2_384 = codes "SHA-384"
+digest_name SHA2_512 = codes "SHA-512"

@@ -1,6 +1,8 @@
 -- The texts of errors.
 use Rattle.std.specs.Prelude.{ℕ, List, ◌++◌, codes}
 use Rattle.std.specs.Fmt.{decimal}
+use Rattle.sig_core.specs.Digest.{digest_name}
+use Rattle.sig_core.specs.declared.error.UnsupportedHashAlgorithmError.{UnsupportedHashAlgorithmError}
 use Rattle.sig_core.specs.declared.scheme.SchemeError.{SchemeError}
 use Rattle.sig_core.specs.declared.scheme.SchemeError.TheVariants as scheme
 use Rattle.sig_core.specs.declared.verdict_table.TableError.{TableError}
@@ -16,3 +18,12 @@ table_error_text table.Memory = codes "out of memory"
 abbrev pub scheme_error_text : SchemeError → List ℕ
 scheme_error_text scheme.Refused = codes "the signature scheme refused"
 scheme_error_text scheme.Memory = codes "out of memory"
+
+-- what is told of a digest algorithm that signatures are not made with
+abbrev pub unsupported_hash_text : UnsupportedHashAlgorithmError → List ℕ
+unsupported_hash_text error =
+    codes "digests by " ++ digest_name error.algorithm ++ codes " are not supported"
+
+-- what is told of an identifier that names no digest algorithm
+abbrev pub unsupported_algorithm_text : List ℕ
+unsupported_algorithm_text = codes "the identifier names no supported digest algorithm"

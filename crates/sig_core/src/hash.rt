@@ -1,7 +1,7 @@
 //! Digests of messages.
 
 ghost use Rattle.std.specs.Prelude.{◌≡◌, IfOk, vec_len};
-ghost use Rattle.sig_core.specs.Digest.{digest_of, digest_size};
+ghost use Rattle.sig_core.specs.Digest.{digest_of, digest_size, digest_name};
 
 use md5::{Digest as _, Md5};
 use sha1::Sha1;
@@ -56,6 +56,20 @@ impl HashAlgorithm {
             HashAlgorithm::SHA2_256 => 32,
             HashAlgorithm::SHA2_384 => 48,
             HashAlgorithm::SHA2_512 => 64,
+        }
+    }
+
+    /// What the algorithm is called.
+    pub(crate) fn name(self) -> &'static str
+        ensures { result.now ≡ digest_name self }
+    {
+        match self {
+            HashAlgorithm::MD5 => "MD5",
+            HashAlgorithm::SHA1 => "SHA-1",
+            HashAlgorithm::SHA2_224 => "SHA-224",
+            HashAlgorithm::SHA2_256 => "SHA-256",
+            HashAlgorithm::SHA2_384 => "SHA-384",
+            HashAlgorithm::SHA2_512 => "SHA-512",
         }
     }
 }

@@ -1,12 +1,19 @@
-//! Laws on verdict tables and on the lists of algorithms.
+//! Laws on verdict tables, on keys of the demonstration scheme and on the lists of algorithms.
 
-ghost use Rattle.std.specs.Prelude.{◌≡◌, ℕ, List, length, Contains};
+ghost use Rattle.std.specs.Prelude.{◌≡◌, ℕ, List, length, Contains, Some, None};
+ghost use Rattle.der_core.specs.Encoding.{encoding};
+ghost use Rattle.sig_core.specs.DemoScheme.{demo_key};
+ghost use Rattle.sig_core.specs.RsaSecret.{IsRsaSecret, rsa_public_key};
+ghost use Rattle.sig_core.specs.declared.algorithm.SchemeKind.TheVariants.{Rsa};
 ghost use Rattle.sig_core.specs.VerdictTable.{IsTable, IsFirstBadLine};
 ghost use Rattle.sig_core.specs.declared.algorithm.SigAlg.{SigAlg};
 ghost use Rattle.sig_core.specs.declared.algorithm.TheConstants.SigAlg as signatures;
 ghost use Rattle.sig_core.specs.declared.hash.HashAlgorithm.{HashAlgorithm};
 ghost use Rattle.sig_core.specs.declared.hash.TheConstants.HashAlgorithm as digests;
+ghost use Rattle.sig_core.specs.declared.sha_variant.ShaVariant.{ShaVariant};
+ghost use Rattle.sig_core.specs.declared.sha_variant.TheConstants.ShaVariant as variants;
 ghost use Rattle.sig_core.specs.declared.verdict_row.VerdictRow.{VerdictRow};
+ghost use Rattle.sig_core.specs.ShaVariant.{digest_identifier};
 
 /// A text is the table of at most one list of rows, so there is the table that a text is. It has at
 /// most one first bad line, and none where it is a table.
@@ -19,10 +26,27 @@ pub fn one_table()
         → IsTable text rows → IsFirstBadLine text number → ⊥ }
 {}
 
-/// `SigAlg::ALL` and `HashAlgorithm::ALL` have each algorithm, once.
+/// The key that the demonstration scheme derives from a secret of RSA is the public key in it, and
+/// there is none exactly where the secret is no private key of RSA.
+pub fn demo_keys_of_rsa()
+    ensures derived { (secret : List ℕ) (rsa : IsRsaSecret secret)
+        → demo_key Rsa secret
+        ≡ Some (encoding (rsa_public_key rsa.numbers.modulus rsa.numbers.public_exponent)) }
+    ensures none { (secret : List ℕ) → (IsRsaSecret secret → ⊥) → demo_key Rsa secret ≡ None }
+{}
+
+/// No two digest algorithms have one identifier. So the identifier that is written for a variant is
+/// read as that variant again.
+pub fn one_identifier_each()
+    ensures { (a b : ShaVariant) → digest_identifier a ≡ digest_identifier b → a ≡ b }
+{}
+
+/// `SigAlg::ALL`, `HashAlgorithm::ALL` and `ShaVariant::ALL` have each algorithm, once.
 pub fn lists_have_each_algorithm()
     ensures each_signature { (alg : SigAlg) → Contains signatures.ALL alg }
     ensures signatures_once { length signatures.ALL ≡ 10 }
     ensures each_digest { (hash : HashAlgorithm) → Contains digests.ALL hash }
     ensures digests_once { length digests.ALL ≡ 6 }
+    ensures each_variant { (variant : ShaVariant) → Contains variants.ALL variant }
+    ensures variants_once { length variants.ALL ≡ 6 }
 {}

@@ -4,6 +4,7 @@ use Rattle.sig_core.specs.declared.hash.HashAlgorithm.{HashAlgorithm}
 use Rattle.sig_core.specs.declared.hash.HashAlgorithm.TheVariants.{MD5, SHA1, SHA2_224, SHA2_256, SHA2_384, SHA2_512}
 use Rattle.sig_core.specs.declared.hash.TheConstants.HashAlgorithm.{ALL}
 use Rattle.sig_core.proofs.Names.{has_each}
+use Rattle.sig_core.proofs.Variants as variants
 use Rattle.sig_core.proofs.laws.lists_have_each_algorithm.Goals as goal
 
 pub returns-clause-each_signature : goal.returns-clause-each_signature
@@ -19,3 +20,6 @@ has_each_digest SHA2_512 = (5, lit< tt, refl)
 
 pub returns-clause-each_digest : goal.returns-clause-each_digest
 returns-clause-each_digest c = has_each_digest
+
+pub returns-clause-each_variant : goal.returns-clause-each_variant
+returns-clause-each_variant c = variants.has_each

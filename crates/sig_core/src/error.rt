@@ -1,0 +1,35 @@
+//! Why a digest algorithm is not one that is asked for.
+
+ghost use Rattle.std.specs.Prelude.{Some};
+ghost use Rattle.sig_core.specs.ErrorText.{unsupported_hash_text, unsupported_algorithm_text};
+
+use crate::hash::HashAlgorithm;
+use std::fmt;
+use thiserror::Error;
+
+/// A digest algorithm that signatures are not made with: SHA-224.
+#[derive(Clone, Copy, PartialEq, Eq, Debug, Error)]
+pub struct UnsupportedHashAlgorithmError {
+    /// The algorithm.
+    pub algorithm: HashAlgorithm,
+}
+
+impl fmt::Display for UnsupportedHashAlgorithmError {
+    ghost output = { λ error. Some (unsupported_hash_text error) };
+
+    fn fmt<W: fmt::Write>(&self, f: &mut fmt::Formatter<W>) -> fmt::Result {
+        write!(f, "digests by {} are not supported", self.algorithm.name())
+    }
+}
+
+/// An identifier that names no digest algorithm.
+#[derive(Clone, Copy, PartialEq, Eq, Debug, Error)]
+pub struct UnsupportedAlgorithmError;
+
+impl fmt::Display for UnsupportedAlgorithmError {
+    ghost output = { λ _. Some unsupported_algorithm_text };
+
+    fn fmt<W: fmt::Write>(&self, f: &mut fmt::Formatter<W>) -> fmt::Result {
+        write!(f, "the identifier names no supported digest algorithm")
+    }
+}

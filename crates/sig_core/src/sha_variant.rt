@@ -1,0 +1,107 @@
+//! The digest algorithms by their identifiers.
+
+ghost use Rattle.std.specs.Prelude.{◌≡◌, ℕ, List, Ok, IfOk};
+ghost use Rattle.asn1_types.specs.Values.{identifier_contents};
+ghost use Rattle.sig_core.specs.ShaVariant.{digest_identifier, GivesVariant, GivesHash};
+
+use crate::error::{UnsupportedAlgorithmError, UnsupportedHashAlgorithmError};
+use crate::hash::HashAlgorithm;
+use asn1_types::{ObjectIdentifier, oids};
+use std::alloc::{AllocError, Global};
+
+/// The digest algorithms that have an identifier (RFC 8017 appendix B.1).
+#[derive(Clone, Copy, PartialEq, Eq, Debug)]
+pub enum ShaVariant {
+    MD5,
+    SHA1,
+    SHA2_224,
+    SHA2_256,
+    SHA2_384,
+    SHA2_512,
+}
+
+impl ShaVariant {
+    /// Every variant, in the order of the enum.
+    pub const ALL: [ShaVariant; 6] = [
+        ShaVariant::MD5,
+        ShaVariant::SHA1,
+        ShaVariant::SHA2_224,
+        ShaVariant::SHA2_256,
+        ShaVariant::SHA2_384,
+        ShaVariant::SHA2_512,
+    ];
+
+    /// The variant that an identifier names, refused exactly where it names none.
+    pub fn from_oid(oid: &ObjectIdentifier) -> Result<ShaVariant, UnsupportedAlgorithmError>
+        ensures named { (variant : ShaVariant) → digest_identifier variant ≡ identifier_contents oid.now
+            → result ≡ Ok variant }
+        ensures name { IfOk result (λ variant. digest_identifier variant ≡ identifier_contents oid.now) }
+    {
+        let contents = oid.as_bytes();
+        for variant in ShaVariant::ALL {
+            if variant.oid_contents() == contents {
+                return Ok(variant);
+            }
+        }
+        Err(UnsupportedAlgorithmError)
+    }
+
+    /// The identifier of the variant.
+    pub fn to_oid(self, alloc: Global) -> Result<ObjectIdentifier, AllocError>
+        ensures { IfOk result (λ oid. identifier_contents oid ≡ digest_identifier self) }
+    {
+        ObjectIdentifier::from_known(alloc, self.oid_contents())
+    }
+
+    /// The contents octets of the identifier.
+    pub fn oid_contents(self) -> &'static [u8]
+        ensures { result.now ≡ digest_identifier self }
+    {
+        match self {
+            ShaVariant::MD5 => oids::MD5,
+            ShaVariant::SHA1 => oids::SHA1,
+            ShaVariant::SHA2_224 => oids::SHA224,
+            ShaVariant::SHA2_256 => oids::SHA256,
+            ShaVariant::SHA2_384 => oids::SHA384,
+            ShaVariant::SHA2_512 => oids::SHA512,
+        }
+    }
+}
+
+/// The variant of the same algorithm. SHA-224 is refused.
+impl TryFrom<HashAlgorithm> for ShaVariant {
+    type Error = UnsupportedHashAlgorithmError;
+
+    ghost try_from_gives = { GivesVariant };
+
+    fn try_from(hash: HashAlgorithm) -> Result<ShaVariant, UnsupportedHashAlgorithmError> {
+        match hash {
+            HashAlgorithm::MD5 => Ok(ShaVariant::MD5),
+            HashAlgorithm::SHA1 => Ok(ShaVariant::SHA1),
+            HashAlgorithm::SHA2_224 => Err(UnsupportedHashAlgorithmError { algorithm: hash }),
+            HashAlgorithm::SHA2_256 => Ok(ShaVariant::SHA2_256),
+            HashAlgorithm::SHA2_384 => Ok(ShaVariant::SHA2_384),
+            HashAlgorithm::SHA2_512 => Ok(ShaVariant::SHA2_512),
+        }
+    }
+}
+
+/// The algorithm of the variant. SHA-224 is refused, as the other way round.
+impl TryFrom<ShaVariant> for HashAlgorithm {
+    type Error = UnsupportedHashAlgorithmError;
+
+    ghost try_from_gives = { GivesHash };
+
+    fn try_from(variant: ShaVariant) -> Result<HashAlgorithm, UnsupportedHashAlgorithmError> {
+        match variant {
+            ShaVariant::MD5 => Ok(HashAlgorithm::MD5),
+            ShaVariant::SHA1 => Ok(HashAlgorithm::SHA1),
+            ShaVariant::SHA2_224 => Err(UnsupportedHashAlgorithmError {
+                algorithm: HashAlgorithm::SHA2_224,
+            }),
+            ShaVariant::SHA2_256 => Ok(HashAlgorithm::SHA2_256),
+            ShaVariant::SHA2_384 => Ok(HashAlgorithm::SHA2_384),
+            ShaVariant::SHA2_512 => Ok(HashAlgorithm::SHA2_512),
+        }
+    }
+}

@@ -1,0 +1,81 @@
+//! Digest algorithms by their identifiers, and which signatures are made with.
+
+use asn1_types::ObjectIdentifier;
+use sig_core::{
+    HashAlgorithm, ShaVariant, UnsupportedAlgorithmError, UnsupportedHashAlgorithmError,
+};
+use std::test::Fail;
+
+/// The identifiers as RFC 8017 appendix B.1 has them.
+#[rattlefmt::skip]
+const VARIANTS: [(ShaVariant, HashAlgorithm, &str); 6] = [
+    (ShaVariant::MD5, HashAlgorithm::MD5, "1.2.840.113549.2.5"),
+    (ShaVariant::SHA1, HashAlgorithm::SHA1, "1.3.14.3.2.26"),
+    (ShaVariant::SHA2_224, HashAlgorithm::SHA2_224, "2.16.840.1.101.3.4.2.4"),
+    (ShaVariant::SHA2_256, HashAlgorithm::SHA2_256, "2.16.840.1.101.3.4.2.1"),
+    (ShaVariant::SHA2_384, HashAlgorithm::SHA2_384, "2.16.840.1.101.3.4.2.2"),
+    (ShaVariant::SHA2_512, HashAlgorithm::SHA2_512, "2.16.840.1.101.3.4.2.3"),
+];
+
+#[test]
+fn identifiers(rt: HostRuntime) -> Result<(), Fail> {
+    assert_eq!(rt; ShaVariant::ALL.len(), VARIANTS.len());
+    for (variant, _, text) in VARIANTS {
+        assert!(rt; ShaVariant::ALL.contains(&variant), "{text}");
+        let oid = variant.to_oid(rt.alloc())?;
+        assert_eq!(rt; oid.to_text(rt.alloc())?.as_str(), text);
+        assert_eq!(rt; ShaVariant::from_oid(&oid), Ok(variant), "{text}");
+        assert_eq!(rt; variant.oid_contents(), oid.as_bytes(), "{text}");
+    }
+    Ok(())
+}
+
+/// Identifiers of no digest algorithm here: SHA-512/256, an arc less, an arc more, a signature.
+const NO_VARIANTS: [&str; 5] = [
+    "2.16.840.1.101.3.4.2.6",
+    "2.16.840.1.101.3.4.2",
+    "1.3.14.3.2.26.0",
+    "1.2.840.113549.1.1.11",
+    "1.2.3",
+];
+
+#[test]
+fn other_identifiers(rt: HostRuntime) -> Result<(), Fail> {
+    for text in NO_VARIANTS {
+        let oid = ObjectIdentifier::from_text(rt.alloc(), text)?;
+        assert_eq!(rt;
+            ShaVariant::from_oid(&oid),
+            Err(UnsupportedAlgorithmError),
+            "{text}"
+        );
+    }
+    Ok(())
+}
+
+#[test]
+fn conversions(rt: HostRuntime) -> Result<(), Fail> {
+    for (variant, hash, text) in VARIANTS {
+        let refused = UnsupportedHashAlgorithmError { algorithm: hash };
+        if hash == HashAlgorithm::SHA2_224 {
+            assert_eq!(rt; ShaVariant::try_from(hash), Err(refused), "{text}");
+            assert_eq!(rt; HashAlgorithm::try_from(variant), Err(refused), "{text}");
+        } else {
+            assert_eq!(rt; ShaVariant::try_from(hash), Ok(variant), "{text}");
+            assert_eq!(rt; HashAlgorithm::try_from(variant), Ok(hash), "{text}");
+        }
+    }
+    Ok(())
+}
+
+#[test]
+fn texts_of_errors(rt: HostRuntime) -> Result<(), Fail> {
+    let refused = UnsupportedHashAlgorithmError {
+        algorithm: HashAlgorithm::SHA2_224,
+    };
+    let told = format!(in rt.alloc(); "{refused}; {}", UnsupportedAlgorithmError)?;
+    assert_eq!(rt;
+        told.as_str(),
+        "digests by SHA-224 are not supported; the identifier names no supported digest algorithm"
+    );
+    Ok(())
+}
