@@ -9,18 +9,18 @@ use Rattle.der_core.specs.Kept.{KeptElement}
 use Rattle.der_core.specs.Lent.{at_option}
 use Rattle.der_core.specs.declared.elem.Elem.{Elem}
 use Rattle.x509_values.specs.AuthorityIssuer.{HasIssuerTag}
-use Rattle.x509_values.specs.AuthorityKeyIdentifier.{authority_key_of, authority_key_identifier}
+use Rattle.x509_values.specs.AuthorityKeyIdentifier.{authority_key_of, authority_key_identifier, IsAuthorityKeyOf}
 use Rattle.x509_values.specs.Facts.AuthorityKeys.{same_authority}
 use Rattle.x509_values.specs.declared.authority_key_identifier.AuthorityKeyIdentifier.{AuthorityKeyIdentifier}
 use Rattle.der_core.specs.Facts.Equality.{kept_same, options_same}
 use Rattle.der_core.specs.Facts.Lent.{keep_option}
 
-pub of_fields : (t : DerElement) (key serial : Option (List ℕ)) (issuer : Option Elem) → t ≡ authority_key_of key (at_option issuer) serial → HasIssuerTag (at_option issuer)
+pub of_fields : (t : DerElement) (key serial : Option (List ℕ)) (issuer : Option Elem) → IsAuthorityKeyOf t key (at_option issuer) serial
     → (a : AuthorityKeyIdentifier) × (t ≡ authority_key_identifier a)
-of_fields t key serial issuer is tagged =
+of_fields t key serial issuer fields =
     let kept = keep_option issuer in (
-      record { key_identifier = key; issuer = kept.0; serial_number = serial; tagged = subst HasIssuerTag kept.1 tagged },
-      is ∙ ap (λ (i : Option DerElement). authority_key_of key i serial) kept.1,
+      record { key_identifier = key; issuer = kept.0; serial_number = serial; tagged = subst HasIssuerTag kept.1 fields.tagged },
+      fields.is ∙ ap (λ (i : Option DerElement). authority_key_of key i serial) kept.1,
     )
 
 pub same_octets : (a b : Option (List ℕ)) → IsTrue (option_eq bytes_eq a b) ↔ (a ≡ b)

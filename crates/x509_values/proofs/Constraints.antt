@@ -8,7 +8,7 @@ use Rattle.der_core.specs.Structure.{HasMore, BeginsOtherwise}
 use Rattle.x509_values.specs.Boolean.{IsOptionalBoolean, TakesBoolean}
 use Rattle.x509_values.specs.BasicConstraints.{optional_integer, IsBasicConstraints, HasBadLength, TakesLength}
 use Rattle.der_core.specs.Facts.Grammars.{same_fields}
-use Rattle.x509_values.specs.Facts.Fields.{split}
+use Rattle.der_core.specs.Facts.Fields.{split}
 use Rattle.x509_values.specs.Facts.Constraints.{optional_field, no_flag}
 use Rattle.x509_values.specs.declared.basic_constraints.BasicConstraints.{BasicConstraints}
 

@@ -43,10 +43,7 @@ impl AuthorityKeyIdentifier {
     pub fn key_identifier(&self) -> Option<&[u8]>
         ensures { option_copied result ≡ self.now.key_identifier }
     {
-        match &self.key_identifier {
-            Some(octets) => Some(octets.as_slice()),
-            None => None,
-        }
+        self.key_identifier.as_ref().map(Octets::as_slice)
     }
 
     /// The names of the issuer of the authority's certificate, under the tag [1].
@@ -60,10 +57,7 @@ impl AuthorityKeyIdentifier {
     pub fn serial_number(&self) -> Option<&[u8]>
         ensures { option_copied result ≡ self.now.serial_number }
     {
-        match &self.serial_number {
-            Some(octets) => Some(octets.as_slice()),
-            None => None,
-        }
+        self.serial_number.as_ref().map(Octets::as_slice)
     }
 }
 

@@ -64,10 +64,7 @@ fn next_length(kids: &mut Kids<'_>) -> Option<Option<u8>>
     let Some(elem) = kids.next() else {
         return Some(None);
     };
-    match small_integer_at(elem) {
-        Some(number) => Some(Some(number)),
-        None => None,
-    }
+    Some(Some(small_integer_at(elem)?))
 }
 
 /// The number of an INTEGER from 0 to 255 in its shortest contents (X.690 8.3.2).

@@ -18,19 +18,12 @@ pub(crate) fn next_boolean(kids: &mut Kids<'_>) -> Option<Option<bool>>
     let Some(elem) = kids.next_tagged(BOOLEAN) else {
         return Some(None);
     };
-    match boolean_at(elem) {
-        Some(b) => Some(Some(b)),
-        None => None,
-    }
+    Some(Some(boolean_at(elem)?))
 }
 
 /// The BOOLEAN of a flag: FF for TRUE (X.690 11.1).
 pub fn write_boolean(alloc: Global, b: bool) -> Result<Tree, AllocError>
     ensures { IfOk result (λ tree. (tree ≡ boolean b) × IsWellFormed tree) }
 {
-    if b {
-        leaf(alloc, BOOLEAN, &[0xFF])
-    } else {
-        leaf(alloc, BOOLEAN, &[0x00])
-    }
+    leaf(alloc, BOOLEAN, &[if b { 0xFF } else { 0x00 }])
 }

@@ -39,14 +39,9 @@ impl ExtendedKeyUsage {
     pub fn contains(&self, oid: &[u8]) -> bool
         ensures { result ≡ list_any (λ purpose. bytes_eq (identifier_contents purpose) oid.now) self.now.purposes }
     {
-        let mut rest = self.purposes.as_slice();
-        while let Some((purpose, others)) = rest.split_first() {
-            if purpose.as_bytes() == oid {
-                return true;
-            }
-            rest = others;
-        }
-        false
+        self.as_slice()
+            .iter()
+            .any(|purpose| purpose.as_bytes() == oid)
     }
 }
 

@@ -1,6 +1,6 @@
 //! What a key is for (RFC 5280 4.2.1.3).
 
-ghost use Rattle.std.specs.Prelude.{◌≡◌, ◌≢◌, ◌↔◌, ◌∷◌, ◌<◌, ◌≤◌, ◌+◌, ◌-◌, ◌/◌, ◌%◌, ◌^◌, ℕ, IfOk, IsTrue};
+ghost use Rattle.std.specs.Prelude.{◌≡◌, ◌↔◌, IfOk, IsTrue};
 ghost use Rattle.x509_values.specs.KeyUsage.{HasBit, IsUsageOf};
 
 use asn1_types::BitString;
@@ -20,24 +20,16 @@ impl KeyUsage {
     pub fn new(alloc: Global, flags: u16) -> Result<KeyUsage, AllocError>
         ensures { IfOk result (λ usage. IsUsageOf flags usage.bits) }
     {
-        let low = (flags % 256) as u8;
-        if flags / 256 % 2 == 1 {
-            return KeyUsage::with_content(alloc, &[7, reversed(low), 0x80]);
-        }
-        if low == 0 {
-            return KeyUsage::with_content(alloc, &[0]);
-        }
-        KeyUsage::with_content(alloc, &[unused_behind(low), reversed(low)])
-    }
-
-    /// The usage whose bits have these contents octets.
-    fn with_content(alloc: Global, content: &[u8]) -> Result<KeyUsage, AllocError>
-        ensures { IfOk result (λ usage. content.now ≡ usage.bits.unused ∷ usage.bits.payload) }
-    {
-        match BitString::from_content(alloc, content) {
-            Ok(bits) => Ok(KeyUsage { bits }),
-            Err(_) => Err(AllocError),
-        }
+        // The lowest flag is the highest bit.
+        let first = ((flags % 256) as u8).reverse_bits();
+        let bits = if flags >> 8 & 1 == 1 {
+            BitString::with_unused(alloc, &[first, 0x80], 7)?
+        } else if first != 0 {
+            BitString::with_unused(alloc, &[first], first.trailing_zeros() as u8)?
+        } else {
+            BitString::with_bytes(alloc, &[])?
+        };
+        Ok(KeyUsage { bits })
     }
 
     /// The bits.
@@ -47,14 +39,16 @@ impl KeyUsage {
         &self.bits
     }
 
-    /// Whether the key is for signatures other than those on certificates and revocation lists: `digitalSignature`.
+    /// Whether the key is for signatures other than those on certificates and revocation lists:
+    /// `digitalSignature`.
     pub fn digital_signature(&self) -> bool
         ensures { IsTrue result ↔ HasBit self.now.bits 0 }
     {
         self.has_bit(0)
     }
 
-    /// Whether the key is for signatures that their signer cannot deny: `nonRepudiation`, also called `contentCommitment`.
+    /// Whether the key is for signatures that their signer cannot deny: `nonRepudiation`, also called
+    /// `contentCommitment`.
     pub fn non_repudiation(&self) -> bool
         ensures { IsTrue result ↔ HasBit self.now.bits 1 }
     {
@@ -125,39 +119,6 @@ impl KeyUsage {
             return false;
         }
         payload[place] >> (7 - bit) & 1 == 1
-    }
-}
-
-/// The octet with its bits in the other order.
-fn reversed(octet: u8) -> u8
-    ensures { (number : ℕ) → number < 8 → result / 2 ^ (7 - number) % 2 ≡ octet / 2 ^ number % 2 }
-{
-    octet % 2 * 128
-        + octet / 2 % 2 * 64
-        + octet / 4 % 2 * 32
-        + octet / 8 % 2 * 16
-        + octet / 16 % 2 * 8
-        + octet / 32 % 2 * 4
-        + octet / 64 % 2 * 2
-        + octet / 128
-}
-
-/// How many bits stand above the highest one that is 1.
-fn unused_behind(octet: u8) -> u8
-    requires { octet ≢ 0 }
-    ensures few { result ≤ 7 }
-    ensures none { (number : ℕ) → number < 8 → octet / 2 ^ number % 2 ≡ 1 → number + result < 8 }
-    ensures next { octet / 2 ^ (7 - result) % 2 ≡ 1 }
-{
-    match octet {
-        128.. => 0,
-        64.. => 1,
-        32.. => 2,
-        16.. => 3,
-        8.. => 4,
-        4.. => 5,
-        2.. => 6,
-        _ => 7,
     }
 }
 

@@ -10,8 +10,9 @@ use Rattle.der_core.specs.Structure.{IsGrammar, BeginsOtherwise}
 use Rattle.der_core.specs.Facts.Grammars.{printed, same_fields}
 use Rattle.der_core.specs.Facts.Kept.{same_kept}
 use Rattle.x509_values.specs.AuthorityIssuer.{HasIssuerTag}
-use Rattle.x509_values.specs.AuthorityKeyIdentifier.{optional_leaf, authority_key_identifier}
-use Rattle.x509_values.specs.Facts.Fields.{IsField, split}
+use Rattle.der_core.specs.Elements.{optional_leaf}
+use Rattle.x509_values.specs.AuthorityKeyIdentifier.{authority_key_identifier}
+use Rattle.der_core.specs.Facts.Fields.{IsField, split}
 use Rattle.x509_values.specs.Facts.Issuers.{HasIssuerTag-prop}
 use Rattle.x509_values.specs.declared.authority_key_identifier.AuthorityKeyIdentifier.{AuthorityKeyIdentifier}
 

@@ -11,7 +11,7 @@ use Rattle.der_core.specs.Structure.{IsGrammar, BeginsOtherwise}
 use Rattle.x509_values.specs.Boolean.{boolean, default_false, optional_boolean, IsOptionalBoolean}
 use Rattle.x509_values.specs.BasicConstraints.{small_integer, optional_integer, basic_constraints, IsBasicConstraints, HasOtherTrue}
 use Rattle.der_core.specs.Facts.Grammars.{same_fields}
-use Rattle.x509_values.specs.Facts.Fields.{IsField, split}
+use Rattle.der_core.specs.Facts.Fields.{IsField, split}
 use Rattle.x509_values.specs.declared.basic_constraints.BasicConstraints.{BasicConstraints}
 
 -- ---- flags
