@@ -1,4 +1,3 @@
-pub mod Found
 pub mod ExtensionValues
 pub mod Extensions
 pub mod Spellings

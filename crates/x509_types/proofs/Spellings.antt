@@ -46,6 +46,8 @@ constraints_stand octets b within =
 value_stands : (octets : List ℕ) (view : ExtensionView) → IsValueIn octets view → (octets ≡ value_octets view) ⊎ HasOtherConstraints octets view
 value_stands octets (views.SubjectKeyIdentifier x) within = inl (written_octets _ octets _ within)
 value_stands octets (views.KeyUsage x) within = inl (written_octets _ octets x within)
+value_stands octets (views.SubjectAltName x) within = inl (written_octets _ octets x within)
+value_stands octets (views.IssuerAltName x) within = inl (written_octets _ octets x within)
 value_stands octets (views.BasicConstraints x) within = constraints_stand octets x within
 value_stands octets (views.AuthorityKeyIdentifier x) within = inl (written_octets _ octets x within)
 value_stands octets (views.ExtendedKeyUsage x) within = inl (written_octets _ octets x within)

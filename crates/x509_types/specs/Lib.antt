@@ -1,4 +1,3 @@
-pub mod OctetString
 pub mod ExtensionKind
 pub mod ExtensionView
 pub mod ExtensionFields

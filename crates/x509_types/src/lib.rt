@@ -7,7 +7,6 @@ mod extension_fields;
 mod extension_kind;
 mod extension_view;
 mod laws;
-mod octet_string;
 
 pub use extension::{Extension, Extensions};
 pub use extension_kind::ExtensionKind;
