@@ -551,6 +551,15 @@ EXTENSIONS = [
     ("300d0603551d2304063004a1008200", "no names and no octets"),
     ("30140603551d11040d300b8209612e6578616d706c65", "openssl: names of the subject"),
     ("30160603551d12040f300d810b6140622e6578616d706c65", "openssl: names of the issuer"),
+    # othername: 1.2.3.4::other, email:a@b.example, DNS:a.example, DNS:*.b.example, DirName:/C=DE/O=Example/CN=A,
+    # URI:https://a.example/x, IP Address:127.0.0.1, IP Address:2001:DB8:0:0:0:0:0:1, Registered ID:1.2.3.4
+    ("3081a10603551d11048199308196a00e06032a0304a0070c056f74686572810b6140622e6578616d706c658209612e6578616d706c65820b2a2e622e6578616d706c65a42d302b310b30090603550406130244453110300e060355040a0c074578616d706c65310a300806035504030c0141861368747470733a2f2f612e6578616d706c652f7887047f000001871020010db800000000000000000000000188032a0304", "openssl: names of the subject in seven forms"),
+    ("30310603551d12042a3028820e6973737565722e6578616d706c658616687474703a2f2f6973737565722e6578616d706c652f", "openssl: DNS:issuer.example, URI:http://issuer.example/"),
+    ("30170603551d110101ff040d300b8209612e6578616d706c65", "names of the subject, critical"),
+    ("30110603551d11040a3008a2061604612e6578", "a DNS name under a constructed tag"),
+    ("30070603551d110400", "no octets as names of the subject"),
+    ("30080603551d12040130", "a cut head as names of the issuer"),
+    ("30150603551d11040e300b8209612e6578616d706c6500", "an octet behind the names"),
     ("30100603551d2004093007300506032a0304", "openssl: policies"),
     ("300c06032a03040101ff04020500", "openssl: an unknown identifier, critical"),
     ("300706032a03040400", "an unknown identifier with no octets"),
@@ -611,6 +620,10 @@ UNLIKE_EXTENSIONS = [
     ("300706032a03040400", "300806032a03040401ff", "the octets"),
     ("30090603551d1304023000", "30090603551d2504023000", "the kinds of their values"),
     ("300b0603551d0f040403020640", "300b0603551d0f040403020540", "the number of bits that aren't used"),
+    ("300c0603551d1104053003820161", "300c0603551d1204053003820161", "names of the subject and of the issuer"),
+    ("300c0603551d1104053003820161", "300c0603551d1104053003820162", "the names"),
+    ("300c0603551d1104053003820161", "300c0603551d1104053003a20161", "names and octets that hold none"),
+    ("30080603551d11040130", "30080603551d11040131", "octets that hold no names"),
 ]
 
 # Two spellings of one extension.
@@ -631,6 +644,10 @@ MADE_RAW = [
     ("1.2.3.4", "", True),
     ("1.2.3.4", "ff", True),
     ("2.5.29.17", "3008a2061604612e6578", True),
+    ("2.5.29.17", "300b8209612e6578616d706c65", True),
+    ("2.5.29.17", "", True),
+    ("2.5.29.18", "300b8209612e6578616d706c65", True),
+    ("2.5.29.18", "ff", True),
     ("2.5.29.15", "03020780", True),
     ("2.5.29.15", "0500", False),
     ("2.5.29.19", "3003010105", True),

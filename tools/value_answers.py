@@ -235,11 +235,33 @@ def read_rows():
             yield structure_row(kind, element, True)
         for element, _ in refused:
             yield structure_row(kind, element, False)
+    yield from alternative_name_rows()
     for kind, read, refused in structures.PARTS:
         for element in read:
             yield structure_row(kind, element, True)
         for element in refused:
             yield structure_row(kind, element, False)
+
+
+def deep_names(levels):
+    """The octets of a general name with a value of so many levels, in a list: 64 levels are in bounds."""
+    value = Primitive(5, b"")
+    for _ in range(levels - 1):
+        value = Constructed(0x30, (value,))
+    name = write(Constructed(0xA0, (Primitive(6, b"\x2a"), Constructed(0xA0, (value,)))))
+    assert 128 <= len(name) < 256
+    return bytes([0x30, 0x81, len(name)]) + name
+
+
+def alternative_name_rows():
+    """General names, and what is none, as the names of subjects and issuers: all of them read, some as octets."""
+    read = [bytes.fromhex(element) for element, _ in structures.GENERAL_NAMES] + [deep_names(61)]
+    kept = [bytes.fromhex(element) for element, _ in structures.NO_GENERAL_NAMES] + [deep_names(62)]
+    for octets in read + kept:
+        for arc, kind in (17, "SubjectAltName"), (18, "IssuerAltName"):
+            row, line = structure_row("extension", write(made_extension(arc, octets)).hex(), True)
+            assert line.split()[3] == (kind if octets in read else "Raw"), line
+            yield row, line
 
 
 def unlike_rows():
@@ -297,9 +319,9 @@ def made_rows():
         yield made_row(f"name{words}", "name", Constructed(0x30, sets))
 
 
-def made_extension(arc, value):
+def made_extension(arc, octets):
     oid = Primitive(6, contents(f"2.5.29.{arc}"))
-    return Constructed(0x30, (oid, Primitive(4, write(value))))
+    return Constructed(0x30, (oid, Primitive(4, octets)))
 
 
 def made_usage(flags):
@@ -311,7 +333,7 @@ def made_usage(flags):
 
 def made_extension_rows():
     def row(call, arc, value):
-        return made_row(f"extension {call}", "extension", made_extension(arc, value))
+        return made_row(f"extension {call}", "extension", made_extension(arc, write(value)))
 
     for ca in False, True:
         flag = Primitive(1, b"\xff" if ca else b"\0")
@@ -335,7 +357,11 @@ def made_extension_rows():
         _, _, details = line.partition(" ")
         answer = f"{line.split()[-1]} {details}" if is_read else line
         yield f"make extension raw {word(oid.contents)} {word(octets)}", answer
-    usage = made_extension(15, made_usage(1))
+    for element, _ in structures.GENERAL_NAMES:
+        names = read_exact(bytes.fromhex(element))
+        yield row(f"subject_alt_name {element}", 17, names)
+        yield row(f"issuer_alt_name {element}", 18, names)
+    usage = made_extension(15, write(made_usage(1)))
     critical = Constructed(0x30, (usage.kids[0], Primitive(1, b"\xff"), usage.kids[1]))
     yield made_row("extension critical_key_usage 1", "extension", critical)
 

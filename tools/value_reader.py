@@ -389,20 +389,34 @@ EXTENSION_VALUES = {
 }
 
 
+# Names beside a name, by the identifiers of the extensions that hold them.
+ALTERNATIVE_NAMES = {"2.5.29.17": "SubjectAltName", "2.5.29.18": "IssuerAltName"}
+
+
+def alternative_names(kind, octets):
+    """General names where the octets hold some, else the octets."""
+    try:
+        return f"{kind} {general_names(inner(octets))}"
+    except Shape:
+        return f"Raw {word(octets)}"
+
+
 def extension(element):
     fields = kids(element, 0x30)
     need(2 <= len(fields) <= 3)
     oid = dotted(contents(fields[0], 6))
     critical = len(fields) == 3 and boolean(fields[1])
     octets = contents(fields[-1], 4)
-    kind, shown = "Raw", word(octets)
-    if oid in EXTENSION_VALUES:
+    value = f"Raw {word(octets)}"
+    if oid in ALTERNATIVE_NAMES:
+        value = alternative_names(ALTERNATIVE_NAMES[oid], octets)
+    elif oid in EXTENSION_VALUES:
         kind, value_of = EXTENSION_VALUES[oid]
         shown, value_element = value_of(inner(octets))
-        octets = write(value_element)
+        value, octets = f"{kind} {shown}", write(value_element)
     flag = (written_boolean(True),) if critical else ()
     written = Constructed(0x30, (fields[0], *flag, Primitive(4, octets)))
-    return f"{oid} {str(critical).lower()} {kind} {shown} {word(write(written))}"
+    return f"{oid} {str(critical).lower()} {value} {word(write(written))}"
 
 
 KINDS = {

@@ -60,8 +60,16 @@ impl BitString {
     pub fn with_bytes(alloc: Global, bytes: &[u8]) -> Result<BitString, AllocError>
         ensures { IfOk result (λ bits. (bits.unused ≡ 0) × (bits.payload ≡ bytes.now)) }
     {
+        BitString::with_unused(alloc, bytes, 0)
+    }
+
+    /// The string of the bits of the octets but for the last `unused` ones.
+    pub fn with_unused(alloc: Global, bytes: &[u8], unused: u8) -> Result<BitString, AllocError>
+        requires { IsBitString unused bytes.now }
+        ensures { IfOk result (λ bits. (bits.unused ≡ unused) × (bits.payload ≡ bytes.now)) }
+    {
         Ok(BitString {
-            unused: 0,
+            unused,
             payload: Octets::from_slice(alloc, bytes)?,
         })
     }

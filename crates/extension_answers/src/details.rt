@@ -7,6 +7,7 @@ use row_answers::word_of;
 use std::alloc::{AllocError, Global};
 use x509_types::{
     AuthorityKeyIdentifier, BasicConstraints, ExtendedKeyUsage, Extension, ExtensionView, KeyUsage,
+    RawGeneralNames,
 };
 
 /// A value of which details are printed.
@@ -24,17 +25,24 @@ impl Details for Extension {
     }
 }
 
-fn value(alloc: Global, view: &ExtensionView) -> Result<String, AllocError> {
-    match view {
+fn value(alloc: Global, view: &ExtensionView) -> Result<String, DerError> {
+    Ok(match view {
         ExtensionView::SubjectKeyIdentifier(octets) => {
-            octets_value(alloc, "SubjectKeyIdentifier", octets.as_slice())
+            octets_value(alloc, "SubjectKeyIdentifier", octets.as_slice())?
         }
-        ExtensionView::KeyUsage(usage) => key_usage(alloc, usage),
-        ExtensionView::BasicConstraints(constraints) => basic_constraints(alloc, constraints),
-        ExtensionView::AuthorityKeyIdentifier(key) => authority_key(alloc, key),
-        ExtensionView::ExtendedKeyUsage(usage) => extended_key_usage(alloc, usage),
-        ExtensionView::Raw(octets) => octets_value(alloc, "Raw", octets.as_slice()),
-    }
+        ExtensionView::KeyUsage(usage) => key_usage(alloc, usage)?,
+        ExtensionView::SubjectAltName(names) => names_value(alloc, "SubjectAltName", names)?,
+        ExtensionView::IssuerAltName(names) => names_value(alloc, "IssuerAltName", names)?,
+        ExtensionView::BasicConstraints(constraints) => basic_constraints(alloc, constraints)?,
+        ExtensionView::AuthorityKeyIdentifier(key) => authority_key(alloc, key)?,
+        ExtensionView::ExtendedKeyUsage(usage) => extended_key_usage(alloc, usage)?,
+        ExtensionView::Raw(octets) => octets_value(alloc, "Raw", octets.as_slice())?,
+    })
+}
+
+fn names_value(alloc: Global, kind: &str, names: &RawGeneralNames) -> Result<String, DerError> {
+    let names = names.details(alloc)?;
+    Ok(format!(in alloc; "{kind} {names}")?)
 }
 
 fn octets_value(alloc: Global, kind: &str, octets: &[u8]) -> Result<String, AllocError> {

@@ -6,7 +6,7 @@ use asn1_types::ObjectIdentifier;
 use der_core::{DerError, Structure};
 use row_answers::{octets_of, shown_shape, word_of};
 use std::alloc::Global;
-use x509_types::{ExtendedKeyUsage, Extension, KeyUsage, OidList};
+use x509_types::{ExtendedKeyUsage, Extension, KeyUsage, OidList, RawGeneralNames};
 
 /// The octets of the extension, and its details; or that there is none.
 pub fn answer(alloc: Global, call: &str, args: &[&str]) -> Result<String> {
@@ -15,6 +15,8 @@ pub fn answer(alloc: Global, call: &str, args: &[&str]) -> Result<String> {
         ("key_usage", [flags]) => key_usage(alloc, flags)?,
         ("critical_key_usage", [flags]) => critical_key_usage(alloc, flags)?,
         ("extended_key_usage", purposes) => extended_key_usage(alloc, purposes)?,
+        ("subject_alt_name", [names]) => subject_alt_name(alloc, names)?,
+        ("issuer_alt_name", [names]) => issuer_alt_name(alloc, names)?,
         ("subject_key", [key]) => subject_key(alloc, key)?,
         ("authority_key", [key]) => authority_key(alloc, key)?,
         ("raw", [oid, octets]) => raw(alloc, oid, octets)?,
@@ -49,6 +51,16 @@ fn extended_key_usage(alloc: Global, purposes: &[&str]) -> Result<Made> {
         list.push(identifier(alloc, oid)?)?;
     }
     Ok(Extension::new_extended_key_usage(alloc, ExtendedKeyUsage::new(list)))
+}
+
+fn subject_alt_name(alloc: Global, names: &str) -> Result<Made> {
+    let names = RawGeneralNames::from_der(alloc, &octets_of(alloc, names)?)?;
+    Ok(Extension::new_subject_alt_name(alloc, names))
+}
+
+fn issuer_alt_name(alloc: Global, names: &str) -> Result<Made> {
+    let names = RawGeneralNames::from_der(alloc, &octets_of(alloc, names)?)?;
+    Ok(Extension::new_issuer_alt_name(alloc, names))
 }
 
 fn subject_key(alloc: Global, key: &str) -> Result<Made> {

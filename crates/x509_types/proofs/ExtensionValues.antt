@@ -1,60 +1,77 @@
 -- The values of extensions by their kinds.
-use Rattle.std.proofs.Common.{◌≡◌, ℕ, List}
+use Rattle.std.proofs.Common.{◌≡◌, ◌⊎◌, inl, inr, ℕ, List, Bool, true, false, IsTrue, Option, Some, None, MatchOption, refl, sym, subst}
 use Rattle.der_core.specs.DerElement.{DerElement}
-use Rattle.der_core.specs.Structure.{IsWithin}
-use Rattle.x509_types.specs.OctetString.{octet_string}
-use Rattle.x509_types.specs.KeyUsage.{key_usage}
-use Rattle.x509_types.specs.BasicConstraints.{IsBasicConstraints}
-use Rattle.x509_types.specs.AuthorityKeyIdentifier.{authority_key_identifier}
-use Rattle.x509_types.specs.ExtendedKeyUsage.{extended_key_usage}
-use Rattle.x509_types.specs.ExtensionView.{IsValueOf}
-use Rattle.x509_types.specs.declared.octet_string.OctetString.{OctetString}
-use Rattle.x509_types.specs.declared.key_usage.KeyUsage.{KeyUsage}
-use Rattle.x509_types.specs.declared.basic_constraints.BasicConstraints.{BasicConstraints}
-use Rattle.x509_types.specs.declared.authority_key_identifier.AuthorityKeyIdentifier.{AuthorityKeyIdentifier}
-use Rattle.x509_types.specs.declared.extended_key_usage.ExtendedKeyUsage.{ExtendedKeyUsage}
+use Rattle.der_core.specs.Structure.{IsWithin, FitsWithin}
+use Rattle.der_core.specs.Refusals.{RefusesShape}
+use Rattle.der_core.specs.declared.error.DerError.{DerError}
+use Rattle.der_core.specs.declared.error.DerError.TheVariants as errors
+use Rattle.x501_types.specs.GeneralName.{AreGeneralNames}
+use Rattle.x501_types.specs.declared.general_name.RawGeneralName.{RawGeneralName}
+use Rattle.x509_values.specs.KeyUsage.{key_usage}
+use Rattle.x509_values.specs.BasicConstraints.{IsBasicConstraints}
+use Rattle.x509_values.specs.AuthorityKeyIdentifier.{authority_key_identifier}
+use Rattle.x509_values.specs.ExtendedKeyUsage.{extended_key_usage}
+use Rattle.x509_values.specs.declared.key_usage.KeyUsage.{KeyUsage}
+use Rattle.x509_values.specs.declared.basic_constraints.BasicConstraints.{BasicConstraints}
+use Rattle.x509_values.specs.declared.authority_key_identifier.AuthorityKeyIdentifier.{AuthorityKeyIdentifier}
+use Rattle.x509_values.specs.declared.extended_key_usage.ExtendedKeyUsage.{ExtendedKeyUsage}
+use Rattle.x509_types.specs.ExtensionView.{key_identifier, HoldsNoNames, MayBeKept, IsValueOf}
+use Rattle.x509_types.specs.Facts.ExtensionViews.{HoldsOf, holds_of}
 use Rattle.x509_types.specs.declared.extension_kind.ExtensionKind.{ExtensionKind}
 use Rattle.x509_types.specs.declared.extension_kind.ExtensionKind.TheVariants as kinds
 use Rattle.x509_types.specs.declared.extension_view.ExtensionView.{ExtensionView}
 use Rattle.x509_types.specs.declared.extension_view.ExtensionView.TheVariants as views
 
+held : (kind named : ExtensionKind) (octets : List ℕ) (view : ExtensionView) → kind ≡ named → IsValueOf kind octets view → HoldsOf named octets view
+held kind named octets view is of = subst (λ (k : ExtensionKind). HoldsOf k octets view) is (holds_of kind octets view of)
+
 -- a value of a kind is that of the kind's own structure
-pub subject_key_of : (kind : ExtensionKind) (octets : List ℕ) (view : ExtensionView) → kind ≡ kinds.SubjectKeyIdentifier → IsValueOf kind octets view → (value : OctetString) × IsWithin (λ (element : DerElement) (s : OctetString). element ≡ octet_string s) octets value
-subject_key_of kind octets (views.SubjectKeyIdentifier x) is of = (record { octets = x }, of.1)
-subject_key_of kind octets (views.KeyUsage x) is of = absurd cc (is, of.0)
-subject_key_of kind octets (views.BasicConstraints x) is of = absurd cc (is, of.0)
-subject_key_of kind octets (views.AuthorityKeyIdentifier x) is of = absurd cc (is, of.0)
-subject_key_of kind octets (views.ExtendedKeyUsage x) is of = absurd cc (is, of.0)
-subject_key_of kind octets (views.Raw x) is of = absurd cc (is, of.0)
+pub subject_key_of : (kind : ExtensionKind) (octets : List ℕ) (view : ExtensionView) → kind ≡ kinds.SubjectKeyIdentifier → IsValueOf kind octets view → (value : List ℕ) × IsWithin (λ (element : DerElement) (k : List ℕ). element ≡ key_identifier k) octets value
+subject_key_of kind octets view is of = let h = held kind kinds.SubjectKeyIdentifier octets view is of in (h.0, h.2)
 
 pub usage_of : (kind : ExtensionKind) (octets : List ℕ) (view : ExtensionView) → kind ≡ kinds.KeyUsage → IsValueOf kind octets view → (value : KeyUsage) × IsWithin (λ (element : DerElement) (u : KeyUsage). element ≡ key_usage u) octets value
-usage_of kind octets (views.SubjectKeyIdentifier x) is of = absurd cc (is, of.0)
-usage_of kind octets (views.KeyUsage x) is of = (x, of.1)
-usage_of kind octets (views.BasicConstraints x) is of = absurd cc (is, of.0)
-usage_of kind octets (views.AuthorityKeyIdentifier x) is of = absurd cc (is, of.0)
-usage_of kind octets (views.ExtendedKeyUsage x) is of = absurd cc (is, of.0)
-usage_of kind octets (views.Raw x) is of = absurd cc (is, of.0)
+usage_of kind octets view is of = let h = held kind kinds.KeyUsage octets view is of in (h.0, h.2)
 
-pub constraints_of : (kind : ExtensionKind) (octets : List ℕ) (view : ExtensionView) → kind ≡ kinds.BasicConstraints → IsValueOf kind octets view → (value : BasicConstraints) × IsWithin (IsBasicConstraints) octets value
-constraints_of kind octets (views.SubjectKeyIdentifier x) is of = absurd cc (is, of.0)
-constraints_of kind octets (views.KeyUsage x) is of = absurd cc (is, of.0)
-constraints_of kind octets (views.BasicConstraints x) is of = (x, of.1)
-constraints_of kind octets (views.AuthorityKeyIdentifier x) is of = absurd cc (is, of.0)
-constraints_of kind octets (views.ExtendedKeyUsage x) is of = absurd cc (is, of.0)
-constraints_of kind octets (views.Raw x) is of = absurd cc (is, of.0)
+pub constraints_of : (kind : ExtensionKind) (octets : List ℕ) (view : ExtensionView) → kind ≡ kinds.BasicConstraints → IsValueOf kind octets view → (value : BasicConstraints) × IsWithin IsBasicConstraints octets value
+constraints_of kind octets view is of = let h = held kind kinds.BasicConstraints octets view is of in (h.0, h.2)
 
 pub authority_key_of : (kind : ExtensionKind) (octets : List ℕ) (view : ExtensionView) → kind ≡ kinds.AuthorityKeyIdentifier → IsValueOf kind octets view → (value : AuthorityKeyIdentifier) × IsWithin (λ (element : DerElement) (a : AuthorityKeyIdentifier). element ≡ authority_key_identifier a) octets value
-authority_key_of kind octets (views.SubjectKeyIdentifier x) is of = absurd cc (is, of.0)
-authority_key_of kind octets (views.KeyUsage x) is of = absurd cc (is, of.0)
-authority_key_of kind octets (views.BasicConstraints x) is of = absurd cc (is, of.0)
-authority_key_of kind octets (views.AuthorityKeyIdentifier x) is of = (x, of.1)
-authority_key_of kind octets (views.ExtendedKeyUsage x) is of = absurd cc (is, of.0)
-authority_key_of kind octets (views.Raw x) is of = absurd cc (is, of.0)
+authority_key_of kind octets view is of = let h = held kind kinds.AuthorityKeyIdentifier octets view is of in (h.0, h.2)
 
 pub extended_usage_of : (kind : ExtensionKind) (octets : List ℕ) (view : ExtensionView) → kind ≡ kinds.ExtendedKeyUsage → IsValueOf kind octets view → (value : ExtendedKeyUsage) × IsWithin (λ (element : DerElement) (u : ExtendedKeyUsage). element ≡ extended_key_usage u) octets value
-extended_usage_of kind octets (views.SubjectKeyIdentifier x) is of = absurd cc (is, of.0)
-extended_usage_of kind octets (views.KeyUsage x) is of = absurd cc (is, of.0)
-extended_usage_of kind octets (views.BasicConstraints x) is of = absurd cc (is, of.0)
-extended_usage_of kind octets (views.AuthorityKeyIdentifier x) is of = absurd cc (is, of.0)
-extended_usage_of kind octets (views.ExtendedKeyUsage x) is of = (x, of.1)
-extended_usage_of kind octets (views.Raw x) is of = absurd cc (is, of.0)
+extended_usage_of kind octets view is of = let h = held kind kinds.ExtendedKeyUsage octets view is of in (h.0, h.2)
+
+subject_names : (kind : ExtensionKind) (octets : List ℕ) (names : Bool) → kinds.SubjectAltName ≡ kind → (IsTrue names → FitsWithin AreGeneralNames octets) → (names ≡ false → HoldsNoNames octets)
+    → (view : ExtensionView) × IsValueOf kind octets view
+subject_names kind octets true is fits unfit = let fit = fits refl in (views.SubjectAltName fit.0, (is, fit.1))
+subject_names kind octets false is fits unfit = (views.Raw octets, (subst (λ (k : ExtensionKind). MayBeKept k octets) is (unfit refl), refl))
+
+issuer_names : (kind : ExtensionKind) (octets : List ℕ) (names : Bool) → kinds.IssuerAltName ≡ kind → (IsTrue names → FitsWithin AreGeneralNames octets) → (names ≡ false → HoldsNoNames octets)
+    → (view : ExtensionView) × IsValueOf kind octets view
+issuer_names kind octets true is fits unfit = let fit = fits refl in (views.IssuerAltName fit.0, (is, fit.1))
+issuer_names kind octets false is fits unfit = (views.Raw octets, (subst (λ (k : ExtensionKind). MayBeKept k octets) is (unfit refl), refl))
+
+-- under the two kinds any octets hold names, or are kept
+pub names_fit : (kind : ExtensionKind) (octets : List ℕ) (names : Bool) → (kind ≡ kinds.SubjectAltName) ⊎ (kind ≡ kinds.IssuerAltName) → (IsTrue names → FitsWithin AreGeneralNames octets) → (names ≡ false → HoldsNoNames octets)
+    → (view : ExtensionView) × IsValueOf kind octets view
+names_fit kind octets names (inl is) fits unfit = subject_names kind octets names (sym is) fits unfit
+names_fit kind octets names (inr is) fits unfit = issuer_names kind octets names (sym is) fits unfit
+
+-- octets that hold no names are kept under their kind
+pub subject_kept : (kind : ExtensionKind) (octets kept : List ℕ) (names : Option (List RawGeneralName)) → kind ≡ kinds.SubjectAltName → names ≡ None → MatchOption names (HoldsNoNames octets) (IsWithin AreGeneralNames octets) → kept ≡ octets
+    → MayBeKept kind kept × (octets ≡ kept)
+subject_kept kind octets kept None is none held same = (subst (λ (k : ExtensionKind). MayBeKept k kept) (sym is) (subst HoldsNoNames (sym same) held), sym same)
+subject_kept kind octets kept (Some names) is none held same = absurd cc
+
+pub issuer_kept : (kind : ExtensionKind) (octets kept : List ℕ) (names : Option (List RawGeneralName)) → kind ≡ kinds.IssuerAltName → names ≡ None → MatchOption names (HoldsNoNames octets) (IsWithin AreGeneralNames octets) → kept ≡ octets
+    → MayBeKept kind kept × (octets ≡ kept)
+issuer_kept kind octets kept None is none held same = (subst (λ (k : ExtensionKind). MayBeKept k kept) (sym is) (subst HoldsNoNames (sym same) held), sym same)
+issuer_kept kind octets kept (Some names) is none held same = absurd cc
+
+-- what holds names is refused for want of memory alone
+pub names_refused : (octets : List ℕ) (e : DerError) → FitsWithin AreGeneralNames octets → RefusesShape (IsWithin AreGeneralNames octets) e → e ≡ errors.Memory
+names_refused octets errors.Memory fit refused = refl
+names_refused octets errors.Shape fit refused = absurd (refused fit.0 fit.1)
+names_refused octets (errors.Malformed fault) fit refused = absurd refused
+names_refused octets errors.TooDeep fit refused = absurd refused
+names_refused octets errors.TooLong fit refused = absurd refused

@@ -2,10 +2,13 @@
 use Rattle.std.specs.Prelude.{◌≡◌, ℕ, false, List, [], ◌∷◌, ◌++◌}
 use Rattle.der_core.specs.DerElement.{DerElement, Primitive}
 use Rattle.der_core.specs.Elements.{sequence}
+use Rattle.der_core.specs.Encoding.{encoding}
 use Rattle.asn1_types.specs.Values.{identifier_contents}
 use Rattle.asn1_types.specs.Elements.{object_identifier}
-use Rattle.x509_types.specs.Boolean.{default_false}
-use Rattle.x509_types.specs.ExtensionView.{value_octets, IsValueIn}
+use Rattle.asn1_types.specs.declared.oid.ObjectIdentifier.{ObjectIdentifier}
+use Rattle.x509_values.specs.Boolean.{default_false}
+use Rattle.x509_types.specs.ExtensionKind.{kind_number, named_kind}
+use Rattle.x509_types.specs.ExtensionView.{kind_of, value_octets, IsValueIn, IsValueOf}
 use Rattle.x509_types.specs.ExtensionFields.{IsExtensionOf}
 use Rattle.x509_types.specs.declared.extension.Extension.{Extension}
 use Rattle.x509_types.specs.declared.extension_view.ExtensionView.{ExtensionView}
@@ -14,14 +17,28 @@ use Rattle.x509_types.specs.declared.extension_view.ExtensionView.{ExtensionView
 abbrev pub extension : Extension → DerElement
 extension e = sequence (object_identifier e.extn_id ∷ (default_false e.critical ++ Primitive 0x04 (value_octets e.extn_value) ∷ []))
 
+-- the kind of the value, and the octets that are written
+abbrev pub extension_octets : Extension → List ℕ
+extension_octets e = kind_number (kind_of e.extn_value) ∷ encoding (extension e)
+
 -- The element spells the extension.
 pub record IsExtension (element : DerElement) (e : Extension) : Type 0 where
   pub octets : List ℕ
   pub fields : IsExtensionOf element (object_identifier e.extn_id) e.critical octets
   pub value : IsValueIn octets e.extn_value
 
+-- the octets hold the value of the kind that the identifier names
+abbrev pub IsNamedValue : ObjectIdentifier → List ℕ → ExtensionView → Type 0
+IsNamedValue id = IsValueOf (named_kind (identifier_contents id))
+
 -- The extension has this identifier, by its contents octets, and this value, and isn't critical.
 pub record IsPlainExtension (e : Extension) (oid : List ℕ) (value : ExtensionView) : Type 0 where
   pub named : identifier_contents e.extn_id ≡ oid
   pub not_critical : e.critical ≡ false
   pub valued : e.extn_value ≡ value
+
+-- The extension has this identifier and the value of it that the octets hold, and isn't critical.
+pub record IsRawExtension (e : Extension) (id : ObjectIdentifier) (octets : List ℕ) : Type 0 where
+  pub named : e.extn_id ≡ id
+  pub not_critical : e.critical ≡ false
+  pub valued : IsNamedValue id octets e.extn_value

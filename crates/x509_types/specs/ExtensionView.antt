@@ -1,18 +1,19 @@
 -- The values of extensions, which an OCTET STRING holds (RFC 5280 4.1, 4.2.1).
-use Rattle.std.specs.Prelude.{◌≡◌, ℕ, List, [], ◌∷◌}
+use Rattle.std.specs.Prelude.{◌≡◌, ⊤, ℕ, List, [], ◌∷◌}
 use Rattle.der_core.specs.DerElement.{DerElement}
+use Rattle.der_core.specs.Elements.{octet_string}
 use Rattle.der_core.specs.Encoding.{encoding}
 use Rattle.der_core.specs.Structure.{IsWithin}
-use Rattle.x509_types.specs.OctetString.{octet_string}
-use Rattle.x509_types.specs.KeyUsage.{key_usage}
-use Rattle.x509_types.specs.BasicConstraints.{basic_constraints, IsBasicConstraints}
-use Rattle.x509_types.specs.AuthorityKeyIdentifier.{authority_key_identifier}
-use Rattle.x509_types.specs.ExtendedKeyUsage.{extended_key_usage}
+use Rattle.x501_types.specs.GeneralName.{general_names, AreGeneralNames}
+use Rattle.x501_types.specs.declared.general_name.RawGeneralName.{RawGeneralName}
+use Rattle.x509_values.specs.KeyUsage.{key_usage}
+use Rattle.x509_values.specs.BasicConstraints.{basic_constraints, IsBasicConstraints}
+use Rattle.x509_values.specs.AuthorityKeyIdentifier.{authority_key_identifier}
+use Rattle.x509_values.specs.ExtendedKeyUsage.{extended_key_usage}
+use Rattle.x509_values.specs.declared.key_usage.KeyUsage.{KeyUsage}
+use Rattle.x509_values.specs.declared.authority_key_identifier.AuthorityKeyIdentifier.{AuthorityKeyIdentifier}
+use Rattle.x509_values.specs.declared.extended_key_usage.ExtendedKeyUsage.{ExtendedKeyUsage}
 use Rattle.x509_types.specs.ExtensionKind.{kind_number}
-use Rattle.x509_types.specs.declared.octet_string.OctetString.{OctetString}
-use Rattle.x509_types.specs.declared.key_usage.KeyUsage.{KeyUsage}
-use Rattle.x509_types.specs.declared.authority_key_identifier.AuthorityKeyIdentifier.{AuthorityKeyIdentifier}
-use Rattle.x509_types.specs.declared.extended_key_usage.ExtendedKeyUsage.{ExtendedKeyUsage}
 use Rattle.x509_types.specs.declared.extension_kind.ExtensionKind.{ExtensionKind}
 use Rattle.x509_types.specs.declared.extension_kind.ExtensionKind.TheVariants as kinds
 use Rattle.x509_types.specs.declared.extension_view.ExtensionView.{ExtensionView}
@@ -22,6 +23,8 @@ use Rattle.x509_types.specs.declared.extension_view.ExtensionView.TheVariants as
 abbrev pub kind_of : ExtensionView → ExtensionKind
 kind_of (views.SubjectKeyIdentifier key) = kinds.SubjectKeyIdentifier
 kind_of (views.KeyUsage usage) = kinds.KeyUsage
+kind_of (views.SubjectAltName names) = kinds.SubjectAltName
+kind_of (views.IssuerAltName names) = kinds.IssuerAltName
 kind_of (views.BasicConstraints constraints) = kinds.BasicConstraints
 kind_of (views.AuthorityKeyIdentifier key) = kinds.AuthorityKeyIdentifier
 kind_of (views.ExtendedKeyUsage usage) = kinds.ExtendedKeyUsage
@@ -29,12 +32,14 @@ kind_of (views.Raw octets) = kinds.Other
 
 -- SubjectKeyIdentifier ::= KeyIdentifier, KeyIdentifier ::= OCTET STRING (RFC 5280 4.2.1.1, 4.2.1.2)
 abbrev pub key_identifier : List ℕ → DerElement
-key_identifier key = octet_string (record { octets = key })
+key_identifier = octet_string
 
 -- the octets that are written for a value: the encoding of its element, but for one that is kept as octets
 abbrev pub value_octets : ExtensionView → List ℕ
 value_octets (views.SubjectKeyIdentifier key) = encoding (key_identifier key)
 value_octets (views.KeyUsage usage) = encoding (key_usage usage)
+value_octets (views.SubjectAltName names) = encoding (general_names names)
+value_octets (views.IssuerAltName names) = encoding (general_names names)
 value_octets (views.BasicConstraints constraints) = encoding (basic_constraints constraints)
 value_octets (views.AuthorityKeyIdentifier key) = encoding (authority_key_identifier key)
 value_octets (views.ExtendedKeyUsage usage) = encoding (extended_key_usage usage)
@@ -44,6 +49,8 @@ value_octets (views.Raw octets) = octets
 abbrev pub inner_value : ExtensionView → List DerElement
 inner_value (views.SubjectKeyIdentifier key) = key_identifier key ∷ []
 inner_value (views.KeyUsage usage) = key_usage usage ∷ []
+inner_value (views.SubjectAltName names) = general_names names ∷ []
+inner_value (views.IssuerAltName names) = general_names names ∷ []
 inner_value (views.BasicConstraints constraints) = basic_constraints constraints ∷ []
 inner_value (views.AuthorityKeyIdentifier key) = authority_key_identifier key ∷ []
 inner_value (views.ExtendedKeyUsage usage) = extended_key_usage usage ∷ []
@@ -51,9 +58,10 @@ inner_value (views.Raw octets) = []
 
 -- The octets hold the value: the encoding of one element that spells it, and nothing more, or the octets that are kept.
 abbrev pub IsValueIn : List ℕ → ExtensionView → Type 0
-IsValueIn octets (views.SubjectKeyIdentifier key) =
-    IsWithin (λ (element : DerElement) (s : OctetString). element ≡ octet_string s) octets (record { octets = key })
+IsValueIn octets (views.SubjectKeyIdentifier key) = IsWithin (λ (element : DerElement) (k : List ℕ). element ≡ key_identifier k) octets key
 IsValueIn octets (views.KeyUsage usage) = IsWithin (λ (element : DerElement) (u : KeyUsage). element ≡ key_usage u) octets usage
+IsValueIn octets (views.SubjectAltName names) = IsWithin AreGeneralNames octets names
+IsValueIn octets (views.IssuerAltName names) = IsWithin AreGeneralNames octets names
 IsValueIn octets (views.BasicConstraints constraints) = IsWithin IsBasicConstraints octets constraints
 IsValueIn octets (views.AuthorityKeyIdentifier key) =
     IsWithin (λ (element : DerElement) (a : AuthorityKeyIdentifier). element ≡ authority_key_identifier a) octets key
@@ -61,9 +69,35 @@ IsValueIn octets (views.ExtendedKeyUsage usage) =
     IsWithin (λ (element : DerElement) (u : ExtendedKeyUsage). element ≡ extended_key_usage u) octets usage
 IsValueIn octets (views.Raw kept) = octets ≡ kept
 
+-- the octets hold no general names
+abbrev pub HoldsNoNames : List ℕ → Type 0
+HoldsNoNames octets = (names : List RawGeneralName) → IsWithin AreGeneralNames octets names → ⊥
+
+-- octets are kept where the identifier names no kind, and under the two of alternative names where they hold no general names
+abbrev pub MayBeKept : ExtensionKind → List ℕ → Type 0
+MayBeKept kinds.SubjectKeyIdentifier octets = ⊥
+MayBeKept kinds.KeyUsage octets = ⊥
+MayBeKept kinds.SubjectAltName octets = HoldsNoNames octets
+MayBeKept kinds.IssuerAltName octets = HoldsNoNames octets
+MayBeKept kinds.BasicConstraints octets = ⊥
+MayBeKept kinds.AuthorityKeyIdentifier octets = ⊥
+MayBeKept kinds.ExtendedKeyUsage octets = ⊥
+MayBeKept kinds.Other octets = ⊤
+
+-- an extension whose identifier names the kind may have the value
+abbrev pub IsOfKind : ExtensionKind → ExtensionView → Type 0
+IsOfKind kind (views.SubjectKeyIdentifier key) = kinds.SubjectKeyIdentifier ≡ kind
+IsOfKind kind (views.KeyUsage usage) = kinds.KeyUsage ≡ kind
+IsOfKind kind (views.SubjectAltName names) = kinds.SubjectAltName ≡ kind
+IsOfKind kind (views.IssuerAltName names) = kinds.IssuerAltName ≡ kind
+IsOfKind kind (views.BasicConstraints constraints) = kinds.BasicConstraints ≡ kind
+IsOfKind kind (views.AuthorityKeyIdentifier key) = kinds.AuthorityKeyIdentifier ≡ kind
+IsOfKind kind (views.ExtendedKeyUsage usage) = kinds.ExtendedKeyUsage ≡ kind
+IsOfKind kind (views.Raw octets) = MayBeKept kind octets
+
 -- the octets hold the value, which is of the kind
 abbrev pub IsValueOf : ExtensionKind → List ℕ → ExtensionView → Type 0
-IsValueOf kind octets view = (kind_of view ≡ kind) × IsValueIn octets view
+IsValueOf kind octets view = IsOfKind kind view × IsValueIn octets view
 
 -- the kind of a value, and its octets
 abbrev pub view_octets : ExtensionView → List ℕ

@@ -1,49 +1,50 @@
 //! Extensions of certificates (RFC 5280 4.1.2.9, 4.2).
 
-ghost use Rattle.std.specs.Prelude.{◌≡◌, ◌↔◌, true, false, Some, IfOk, IfErr, IsTrue, MatchResult};
+ghost use Rattle.std.specs.Prelude.{◌≡◌, ◌↔◌, true, false, Some, Err, IfOk, IfErr, IsTrue};
 ghost use Rattle.der_core.specs.declared.error.DerError.TheVariants as errors;
-ghost use Rattle.der_core.specs.Refusals.{RefusesShape};
 ghost use Rattle.asn1_types.specs.Values.{identifier_contents};
 ghost use Rattle.asn1_types.specs.KnownIdentifiers.{is_known};
-ghost use Rattle.asn1_types.specs.declared.oids.TheConstants.{CE_SUBJECT_KEY_IDENTIFIER, CE_KEY_USAGE, CE_BASIC_CONSTRAINTS, CE_AUTHORITY_KEY_IDENTIFIER, CE_EXT_KEY_USAGE};
+ghost use Rattle.asn1_types.specs.declared.oids.TheConstants.{CE_SUBJECT_KEY_IDENTIFIER, CE_KEY_USAGE, CE_SUBJECT_ALT_NAME, CE_ISSUER_ALT_NAME, CE_BASIC_CONSTRAINTS, CE_AUTHORITY_KEY_IDENTIFIER, CE_EXT_KEY_USAGE};
 ghost use Rattle.x509_types.specs.ExtensionKind.{named_kind};
-ghost use Rattle.x509_types.specs.ExtensionView.{kind_of, IsValueOf};
-ghost use Rattle.x509_types.specs.Facts.ExtensionKinds.{same_kinds};
+ghost use Rattle.x509_types.specs.ExtensionView.{IsOfKind};
+ghost use Rattle.x509_types.specs.Facts.ExtensionViews.{IsOfKind-prop};
 
-use crate::authority_key_identifier::AuthorityKeyIdentifier;
-use crate::basic_constraints::BasicConstraints;
-use crate::boolean::write_boolean;
-use crate::extended_key_usage::ExtendedKeyUsage;
 use crate::extension_fields::{ExtensionFields, kind_at};
 use crate::extension_kind::ExtensionKind;
 use crate::extension_view::ExtensionView;
-use crate::key_usage::KeyUsage;
 use asn1_types::ObjectIdentifier;
 use asn1_types::oids::{
-    CE_AUTHORITY_KEY_IDENTIFIER, CE_BASIC_CONSTRAINTS, CE_EXT_KEY_USAGE, CE_KEY_USAGE,
-    CE_SUBJECT_KEY_IDENTIFIER,
+    CE_AUTHORITY_KEY_IDENTIFIER, CE_BASIC_CONSTRAINTS, CE_EXT_KEY_USAGE, CE_ISSUER_ALT_NAME,
+    CE_KEY_USAGE, CE_SUBJECT_ALT_NAME, CE_SUBJECT_KEY_IDENTIFIER,
 };
 use der_core::tag::{OCTET_STRING, SEQUENCE};
 use der_core::{DerError, Elem, ListOf, NewKids, Octets, Structure, Tree};
 use std::alloc::{AllocError, Global};
+use x501_types::RawGeneralNames;
+use x509_values::{
+    AuthorityKeyIdentifier, BasicConstraints, ExtendedKeyUsage, KeyUsage, write_boolean,
+};
 
 /// Extensions in order (RFC 5280 4.1).
 pub type Extensions = ListOf<Extension>;
 
 /// An extension: its identifier, whether it is critical, and its value, which is of the kind that the
 /// identifier names (RFC 5280 4.1, 4.2). An extension of a known kind whose value doesn't read is
-/// none: it is `Shape`.
+/// none: it is `Shape`. Alternative names alone are kept as octets where they don't read.
 #[derive(Debug, Drop)]
 pub struct Extension {
     extn_id: ObjectIdentifier,
     critical: bool,
     extn_value: ExtensionView,
-    pub ghost agrees: { kind_of extn_value ≡ named_kind (identifier_contents extn_id) } by { same_kinds (kind_of extn_value) (named_kind (identifier_contents extn_id)) },
+    pub ghost agrees: { IsOfKind (named_kind (identifier_contents extn_id)) extn_value } by { IsOfKind-prop (named_kind (identifier_contents extn_id)) extn_value },
 }
 
 impl Extension {
-    ghost use Rattle.x509_types.specs.AuthorityKeyIdentifier.{key_of_identifier};
-    ghost use Rattle.x509_types.specs.Extension.{IsPlainExtension};
+    ghost use Rattle.x509_values.specs.AuthorityKeyIdentifier.{key_of_identifier};
+    ghost use Rattle.x509_values.specs.BasicConstraints.{constraints_with};
+    ghost use Rattle.der_core.specs.Refusals.{RefusesShape};
+    ghost use Rattle.x509_types.specs.Extension.{IsPlainExtension, IsNamedValue, IsRawExtension};
+    ghost use Rattle.x509_types.specs.declared.extension_view.ExtensionView.{ExtensionView};
     ghost use Rattle.x509_types.specs.declared.extension_view.ExtensionView.TheVariants as views;
 
     /// Whether the key is that of an authority, and how many may stand below it (RFC 5280 4.2.1.9).
@@ -53,7 +54,7 @@ impl Extension {
         ca: bool,
         pathlen: Option<u8>,
     ) -> Result<Extension, DerError>
-        ensures made { IfOk result (λ e. IsPlainExtension e CE_BASIC_CONSTRAINTS.now (views.BasicConstraints (record { ca = Some ca; pathlen = pathlen }))) }
+        ensures made { IfOk result (λ e. IsPlainExtension e CE_BASIC_CONSTRAINTS.now (views.BasicConstraints (constraints_with (Some ca) pathlen))) }
         ensures refused { IfErr result (λ e. e ≡ errors.Memory) }
     {
         let constraints = BasicConstraints::new(Some(ca), pathlen);
@@ -82,6 +83,27 @@ impl Extension {
         Ok(Extension::plain(alloc, CE_EXT_KEY_USAGE, value)?)
     }
 
+    /// Further names of the subject (RFC 5280 4.2.1.6).
+    pub fn new_subject_alt_name(
+        alloc: Global,
+        names: RawGeneralNames,
+    ) -> Result<Extension, DerError>
+        ensures made { IfOk result (λ e. IsPlainExtension e CE_SUBJECT_ALT_NAME.now (views.SubjectAltName names)) }
+        ensures refused { IfErr result (λ e. e ≡ errors.Memory) }
+    {
+        let value = ExtensionView::SubjectAltName(names);
+        Ok(Extension::plain(alloc, CE_SUBJECT_ALT_NAME, value)?)
+    }
+
+    /// Further names of the issuer (RFC 5280 4.2.1.7).
+    pub fn new_issuer_alt_name(alloc: Global, names: RawGeneralNames) -> Result<Extension, DerError>
+        ensures made { IfOk result (λ e. IsPlainExtension e CE_ISSUER_ALT_NAME.now (views.IssuerAltName names)) }
+        ensures refused { IfErr result (λ e. e ≡ errors.Memory) }
+    {
+        let value = ExtensionView::IssuerAltName(names);
+        Ok(Extension::plain(alloc, CE_ISSUER_ALT_NAME, value)?)
+    }
+
     /// The identifier of the key (RFC 5280 4.2.1.2).
     pub fn new_subject_key_identifier(alloc: Global, key: &[u8]) -> Result<Extension, DerError>
         ensures made { IfOk result (λ e. IsPlainExtension e CE_SUBJECT_KEY_IDENTIFIER.now (views.SubjectKeyIdentifier key.now)) }
@@ -103,7 +125,7 @@ impl Extension {
 
     /// The extension of a known identifier and a value of its kind, not critical.
     fn plain(alloc: Global, oid: &[u8], extn_value: ExtensionView) -> Result<Extension, AllocError>
-        requires { IsTrue (is_known oid.now) × (kind_of extn_value ≡ named_kind oid.now) }
+        requires { IsTrue (is_known oid.now) × IsOfKind (named_kind oid.now) extn_value }
         ensures { IfOk result (λ e. IsPlainExtension e oid.now extn_value) }
     {
         let extn_id = ObjectIdentifier::from_known(alloc, oid)?;
@@ -115,17 +137,22 @@ impl Extension {
     }
 
     /// The extension of an identifier whose OCTET STRING holds these octets, not critical. The octets
-    /// are read where the identifier names a known kind, and `Shape` exactly where they don't read.
+    /// are read where the identifier names a known kind, and `Shape` exactly where they have to read
+    /// and don't; alternative names that don't read are kept.
     pub fn new_raw(
         alloc: Global,
         oid: ObjectIdentifier,
         value: &[u8],
     ) -> Result<Extension, DerError>
-        ensures { MatchResult result
-            (λ e. (e.extn_id ≡ oid) × (e.critical ≡ false) × IsValueOf (named_kind (identifier_contents oid)) value.now e.extn_value)
-            (RefusesShape (IsValueOf (named_kind (identifier_contents oid)) value.now)) }
+        ensures made { IfOk result (λ e. IsRawExtension e oid value.now) }
+        ensures refused { IfErr result (RefusesShape (IsNamedValue oid value.now)) }
+        // Whatever memory there is.
+        ensures shapeless { ((view : ExtensionView) → IsNamedValue oid value.now view → ⊥) → result ≡ Err errors.Shape }
     {
         let kind = ExtensionKind::named(oid.as_bytes());
+        if !ExtensionView::has_value(kind, value) {
+            return Err(DerError::Shape);
+        }
         let extn_value = ExtensionView::read(alloc, kind, value)?;
         Ok(Extension {
             extn_id: oid,
@@ -135,7 +162,7 @@ impl Extension {
     }
 
     /// Whether the identifiers and the flags are the same.
-    fn is_alike(&self, other: &Extension) -> bool
+    fn has_same_id_and_flag(&self, other: &Extension) -> bool
         ensures { IsTrue result ↔ ((self.now.extn_id ≡ other.now.extn_id) × (self.now.critical ≡ other.now.critical)) }
     {
         self.extn_id == other.extn_id && self.critical == other.critical
@@ -252,26 +279,35 @@ impl Structure for Extension {
     ghost grammar = { all_extensions };
 }
 
-/// Extensions are equal exactly where the octets are that are written for them.
+/// Extensions are equal exactly where the kinds of their values are, and the octets that are written
+/// for them; the octets alone decide where they can be written.
 impl PartialEq for Extension {
-    ghost use Rattle.der_core.specs.Equality.{same_octets, same_octets_per};
-    ghost use Rattle.x509_types.specs.Extension.{extension};
+    ghost use Rattle.std.specs.Ordering.{on};
+    ghost use Rattle.std.specs.Cmp.Lexicographic.{nat_list_eq_equiv};
+    ghost use Rattle.std.specs.Cmp.{on_per, partial_equiv_from_equiv};
+    ghost use Rattle.std.specs.Prelude.{bytes_eq};
+    ghost use Rattle.der_core.specs.Equality.{same_octets};
+    ghost use Rattle.der_core.specs.Placed.{AreDer};
+    ghost use Rattle.x509_types.specs.ExtensionView.{inner_value};
+    ghost use Rattle.x509_types.specs.Extension.{extension, extension_octets};
 
-    ghost eq = { same_octets extension };
+    ghost eq = { on (λ e. extension_octets e) bytes_eq };
 
-    ghost laws = { same_octets_per extension };
+    ghost laws = { on_per (λ e. extension_octets e) (partial_equiv_from_equiv nat_list_eq_equiv) };
 
     fn eq(&self, other: &Extension) -> bool
-        ensures octets { result ≡ same_octets extension self.now other.now }
+        ensures octets { AreDer (inner_value self.now.extn_value) → AreDer (inner_value other.now.extn_value) → result ≡ same_octets extension self.now other.now }
+        ensures told { result ≡ bytes_eq (extension_octets self.now) (extension_octets other.now) }
         ensures same { IsTrue result ↔ (self.now ≡ other.now) }
     {
-        self.is_alike(other) && self.extn_value == other.extn_value
+        self.has_same_id_and_flag(other) && self.extn_value == other.extn_value
     }
 }
 
 impl Eq for Extension {
-    ghost use Rattle.der_core.specs.Equality.{same_octets_equiv};
-    ghost use Rattle.x509_types.specs.Extension.{extension};
+    ghost use Rattle.std.specs.Cmp.Lexicographic.{nat_list_eq_equiv};
+    ghost use Rattle.std.specs.Cmp.{on_equiv};
+    ghost use Rattle.x509_types.specs.Extension.{extension_octets};
 
-    ghost laws = { same_octets_equiv extension };
+    ghost laws = { on_equiv (λ e. extension_octets e) nat_list_eq_equiv };
 }

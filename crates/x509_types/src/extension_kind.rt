@@ -4,8 +4,8 @@ ghost use Rattle.std.specs.Prelude.{◌≡◌};
 ghost use Rattle.x509_types.specs.ExtensionKind.{named_kind};
 
 use asn1_types::oids::{
-    CE_AUTHORITY_KEY_IDENTIFIER, CE_BASIC_CONSTRAINTS, CE_EXT_KEY_USAGE, CE_KEY_USAGE,
-    CE_SUBJECT_KEY_IDENTIFIER,
+    CE_AUTHORITY_KEY_IDENTIFIER, CE_BASIC_CONSTRAINTS, CE_EXT_KEY_USAGE, CE_ISSUER_ALT_NAME,
+    CE_KEY_USAGE, CE_SUBJECT_ALT_NAME, CE_SUBJECT_KEY_IDENTIFIER,
 };
 
 /// A kind of extensions.
@@ -15,6 +15,10 @@ pub enum ExtensionKind {
     SubjectKeyIdentifier,
     /// What the key is for, a bit a purpose (RFC 5280 4.2.1.3).
     KeyUsage,
+    /// Further names of the subject (RFC 5280 4.2.1.6).
+    SubjectAltName,
+    /// Further names of the issuer (RFC 5280 4.2.1.7).
+    IssuerAltName,
     /// Whether the key is that of an authority (RFC 5280 4.2.1.9).
     BasicConstraints,
     /// Which key the authority signs with (RFC 5280 4.2.1.1).
@@ -35,6 +39,12 @@ impl ExtensionKind {
         }
         if oid == CE_KEY_USAGE {
             return ExtensionKind::KeyUsage;
+        }
+        if oid == CE_SUBJECT_ALT_NAME {
+            return ExtensionKind::SubjectAltName;
+        }
+        if oid == CE_ISSUER_ALT_NAME {
+            return ExtensionKind::IssuerAltName;
         }
         if oid == CE_BASIC_CONSTRAINTS {
             return ExtensionKind::BasicConstraints;

@@ -1,19 +1,19 @@
 //! The values of extensions.
 
-ghost use Rattle.std.specs.Prelude.{◌≡◌, ◌↔◌, ℕ, false, IfOk, IsTrue, MatchResult};
+ghost use Rattle.std.specs.Prelude.{◌≡◌, ◌↔◌, ℕ, false, IfOk, IsTrue, MatchOption, MatchResult};
 ghost use Rattle.der_core.specs.Placed.{AreDer};
 ghost use Rattle.der_core.specs.Refusals.{RefusesShape, RefusesInner};
-ghost use Rattle.x509_types.specs.ExtensionView.{kind_of, value_octets, inner_value, IsValueOf};
+ghost use Rattle.der_core.specs.Structure.{IsWithin};
+ghost use Rattle.der_core.specs.declared.error.DerError.TheVariants as errors;
+ghost use Rattle.x501_types.specs.GeneralName.{AreGeneralNames};
+ghost use Rattle.x509_types.specs.ExtensionView.{kind_of, value_octets, inner_value, HoldsNoNames, IsValueOf};
 ghost use Rattle.x509_types.specs.declared.extension_view.ExtensionView.{ExtensionView};
 
-use crate::authority_key_identifier::AuthorityKeyIdentifier;
-use crate::basic_constraints::BasicConstraints;
-use crate::extended_key_usage::ExtendedKeyUsage;
 use crate::extension_kind::ExtensionKind;
-use crate::key_usage::KeyUsage;
-use crate::octet_string::{OctetString, write_octets_within};
 use der_core::{DerError, Octets, Structure, has_within, read_within, write_within};
 use std::alloc::{AllocError, Global};
+use x501_types::RawGeneralNames;
+use x509_values::{AuthorityKeyIdentifier, BasicConstraints, ExtendedKeyUsage, KeyUsage};
 
 /// The value of an extension, by the extension's identifier (RFC 5280 4.2).
 #[derive(Debug, Drop)]
@@ -22,24 +22,30 @@ pub enum ExtensionView {
     SubjectKeyIdentifier(Octets),
     /// What the key is for, a bit a purpose (RFC 5280 4.2.1.3).
     KeyUsage(KeyUsage),
+    /// Further names of the subject (RFC 5280 4.2.1.6).
+    SubjectAltName(RawGeneralNames),
+    /// Further names of the issuer (RFC 5280 4.2.1.7).
+    IssuerAltName(RawGeneralNames),
     /// Whether the key is that of an authority (RFC 5280 4.2.1.9).
     BasicConstraints(BasicConstraints),
     /// Which key the authority signs with (RFC 5280 4.2.1.1).
     AuthorityKeyIdentifier(AuthorityKeyIdentifier),
     /// What the key is for, an identifier a purpose (RFC 5280 4.2.1.12).
     ExtendedKeyUsage(ExtendedKeyUsage),
-    /// The octets of any other, as they are.
+    /// The octets of any other as they are, and of further names that are no general names.
     Raw(Octets),
 }
 
 impl ExtensionView {
-    /// The kind of extensions that have such a value.
+    /// The kind of extensions that have such a value; `Other` for octets that are kept.
     pub fn kind(&self) -> ExtensionKind
         ensures { result ≡ kind_of self.now }
     {
         match self {
             ExtensionView::SubjectKeyIdentifier(_) => ExtensionKind::SubjectKeyIdentifier,
             ExtensionView::KeyUsage(_) => ExtensionKind::KeyUsage,
+            ExtensionView::SubjectAltName(_) => ExtensionKind::SubjectAltName,
+            ExtensionView::IssuerAltName(_) => ExtensionKind::IssuerAltName,
             ExtensionView::BasicConstraints(_) => ExtensionKind::BasicConstraints,
             ExtensionView::AuthorityKeyIdentifier(_) => ExtensionKind::AuthorityKeyIdentifier,
             ExtensionView::ExtendedKeyUsage(_) => ExtensionKind::ExtendedKeyUsage,
@@ -47,14 +53,19 @@ impl ExtensionView {
         }
     }
 
-    /// Whether octets hold a value of the kind, all of them.
+    /// Whether octets hold a value of the kind, all of them. Any do where others are kept.
     pub(crate) fn has_value(kind: ExtensionKind, octets: &[u8]) -> bool
         ensures fits { IsTrue result → (view : ExtensionView) × IsValueOf kind octets.now view }
         ensures unfit { result ≡ false → (view : ExtensionView) → IsValueOf kind octets.now view → ⊥ }
     {
         match kind {
-            ExtensionKind::SubjectKeyIdentifier => has_within::<OctetString>(octets),
+            ExtensionKind::SubjectKeyIdentifier => has_within::<Octets>(octets),
             ExtensionKind::KeyUsage => has_within::<KeyUsage>(octets),
+            ExtensionKind::SubjectAltName | ExtensionKind::IssuerAltName => {
+                // Which of both they hold is told to the contract alone.
+                let _names = has_within::<RawGeneralNames>(octets);
+                true
+            }
             ExtensionKind::BasicConstraints => has_within::<BasicConstraints>(octets),
             ExtensionKind::AuthorityKeyIdentifier => has_within::<AuthorityKeyIdentifier>(octets),
             ExtensionKind::ExtendedKeyUsage => has_within::<ExtendedKeyUsage>(octets),
@@ -70,23 +81,30 @@ impl ExtensionView {
     ) -> Result<ExtensionView, DerError>
         ensures { MatchResult result (IsValueOf kind octets.now) (RefusesShape (IsValueOf kind octets.now)) }
     {
-        Ok(match kind {
-            ExtensionKind::SubjectKeyIdentifier => {
-                let string: OctetString = read_within(alloc, octets)?;
-                ExtensionView::SubjectKeyIdentifier(string.into_octets())
-            }
-            ExtensionKind::KeyUsage => ExtensionView::KeyUsage(read_within(alloc, octets)?),
+        match kind {
+            ExtensionKind::SubjectKeyIdentifier => Ok(ExtensionView::SubjectKeyIdentifier(
+                read_within(alloc, octets)?,
+            )),
+            ExtensionKind::KeyUsage => Ok(ExtensionView::KeyUsage(read_within(alloc, octets)?)),
+            ExtensionKind::SubjectAltName => match read_names(alloc, octets)? {
+                Some(names) => Ok(ExtensionView::SubjectAltName(names)),
+                None => Ok(ExtensionView::Raw(Octets::from_slice(alloc, octets)?)),
+            },
+            ExtensionKind::IssuerAltName => match read_names(alloc, octets)? {
+                Some(names) => Ok(ExtensionView::IssuerAltName(names)),
+                None => Ok(ExtensionView::Raw(Octets::from_slice(alloc, octets)?)),
+            },
             ExtensionKind::BasicConstraints => {
-                ExtensionView::BasicConstraints(read_within(alloc, octets)?)
+                Ok(ExtensionView::BasicConstraints(read_within(alloc, octets)?))
             }
-            ExtensionKind::AuthorityKeyIdentifier => {
-                ExtensionView::AuthorityKeyIdentifier(read_within(alloc, octets)?)
-            }
+            ExtensionKind::AuthorityKeyIdentifier => Ok(ExtensionView::AuthorityKeyIdentifier(
+                read_within(alloc, octets)?,
+            )),
             ExtensionKind::ExtendedKeyUsage => {
-                ExtensionView::ExtendedKeyUsage(read_within(alloc, octets)?)
+                Ok(ExtensionView::ExtendedKeyUsage(read_within(alloc, octets)?))
             }
-            ExtensionKind::Other => ExtensionView::Raw(Octets::from_slice(alloc, octets)?),
-        })
+            ExtensionKind::Other => Ok(ExtensionView::Raw(Octets::from_slice(alloc, octets)?)),
+        }
     }
 
     /// The octets of the value.
@@ -96,8 +114,10 @@ impl ExtensionView {
             (RefusesInner (inner_value self.now)) }
     {
         match self {
-            ExtensionView::SubjectKeyIdentifier(key) => write_octets_within(alloc, key.as_slice()),
+            ExtensionView::SubjectKeyIdentifier(key) => write_within(alloc, key),
             ExtensionView::KeyUsage(usage) => write_within(alloc, usage),
+            ExtensionView::SubjectAltName(names) => write_within(alloc, names),
+            ExtensionView::IssuerAltName(names) => write_within(alloc, names),
             ExtensionView::BasicConstraints(constraints) => write_within(alloc, constraints),
             ExtensionView::AuthorityKeyIdentifier(key) => write_within(alloc, key),
             ExtensionView::ExtendedKeyUsage(usage) => write_within(alloc, usage),
@@ -114,6 +134,12 @@ impl ExtensionView {
                 ExtensionView::SubjectKeyIdentifier(key.try_clone(alloc)?)
             }
             ExtensionView::KeyUsage(usage) => ExtensionView::KeyUsage(usage.try_clone(alloc)?),
+            ExtensionView::SubjectAltName(names) => {
+                ExtensionView::SubjectAltName(names.try_clone(alloc)?)
+            }
+            ExtensionView::IssuerAltName(names) => {
+                ExtensionView::IssuerAltName(names.try_clone(alloc)?)
+            }
             ExtensionView::BasicConstraints(constraints) => {
                 ExtensionView::BasicConstraints(*constraints)
             }
@@ -125,6 +151,19 @@ impl ExtensionView {
             }
             ExtensionView::Raw(octets) => ExtensionView::Raw(octets.try_clone(alloc)?),
         })
+    }
+}
+
+/// The general names that octets hold, all of them, None where they hold none.
+fn read_names(alloc: Global, octets: &[u8]) -> Result<Option<RawGeneralNames>, DerError>
+    ensures { MatchResult result
+        (λ names. MatchOption names (HoldsNoNames octets.now) (IsWithin AreGeneralNames octets.now))
+        (λ e. e ≡ errors.Memory) }
+{
+    if has_within::<RawGeneralNames>(octets) {
+        Ok(Some(read_within(alloc, octets)?))
+    } else {
+        Ok(None)
     }
 }
 
@@ -148,6 +187,8 @@ impl PartialEq for ExtensionView {
             (ExtensionView::SubjectKeyIdentifier(a), ExtensionView::SubjectKeyIdentifier(b)) => *a
                 == *b,
             (ExtensionView::KeyUsage(a), ExtensionView::KeyUsage(b)) => *a == *b,
+            (ExtensionView::SubjectAltName(a), ExtensionView::SubjectAltName(b)) => *a == *b,
+            (ExtensionView::IssuerAltName(a), ExtensionView::IssuerAltName(b)) => *a == *b,
             (ExtensionView::BasicConstraints(a), ExtensionView::BasicConstraints(b)) => *a == *b,
             (ExtensionView::AuthorityKeyIdentifier(a), ExtensionView::AuthorityKeyIdentifier(b)) =>
                 *a == *b,

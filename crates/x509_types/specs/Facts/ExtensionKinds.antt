@@ -11,14 +11,18 @@ abbrev kind_at : ℕ → ExtensionKind
 kind_at number =
     if number == 0 then kinds.SubjectKeyIdentifier
     else (if number == 1 then kinds.KeyUsage
-    else (if number == 2 then kinds.BasicConstraints
-    else (if number == 3 then kinds.AuthorityKeyIdentifier
-    else (if number == 4 then kinds.ExtendedKeyUsage
-    else kinds.Other))))
+    else (if number == 2 then kinds.SubjectAltName
+    else (if number == 3 then kinds.IssuerAltName
+    else (if number == 4 then kinds.BasicConstraints
+    else (if number == 5 then kinds.AuthorityKeyIdentifier
+    else (if number == 6 then kinds.ExtendedKeyUsage
+    else kinds.Other))))))
 
 kind_of_number : (kind : ExtensionKind) → kind_at (kind_number kind) ≡ kind
 kind_of_number kinds.SubjectKeyIdentifier = refl
 kind_of_number kinds.KeyUsage = refl
+kind_of_number kinds.SubjectAltName = refl
+kind_of_number kinds.IssuerAltName = refl
 kind_of_number kinds.BasicConstraints = refl
 kind_of_number kinds.AuthorityKeyIdentifier = refl
 kind_of_number kinds.ExtendedKeyUsage = refl

@@ -1,26 +1,30 @@
 -- Values of extensions: octets hold at most one of a kind, and what is written for it holds it.
-use Rattle.std.proofs.Common.{◌≡◌, ℕ, List, [], ◌∷◌, ◌++◌, Option, Some, None, refl, ap, sym, subst, ◌∙◌, arith}
-use Rattle.std.specs.Prelude.{Bool, true, false, nat_lt, if◌then◌else◌}
-use Rattle.der_core.specs.DerElement.{DerElement, Primitive}
-use Rattle.der_core.specs.Encoding.{encoding, IsDer, IsShort, IsWellFormed, length_octets}
+use Rattle.std.proofs.Common.{◌≡◌, ◌⊎◌, inl, inr, ℕ, List, [], ◌∷◌, refl, ap, sym, subst, ◌∙◌}
+use Rattle.std.proofs.Props.{props}
+use Rattle.der_core.specs.DerElement.{DerElement}
+use Rattle.der_core.specs.Encoding.{encoding, IsDer, IsWellFormed}
 use Rattle.der_core.specs.Placed.{AreDer}
 use Rattle.der_core.specs.Structure.{IsWithin, IsGrammar}
-use Rattle.der_core.specs.Elements.{sequence}
 use Rattle.der_core.specs.Facts.Fronts.{formed_encoding_once}
-use Rattle.x509_types.specs.Boolean.{boolean, optional_boolean}
-use Rattle.x509_types.specs.BasicConstraints.{basic_constraints, optional_integer, IsBasicConstraints}
-use Rattle.x509_types.specs.AuthorityKeyIdentifier.{authority_key_identifier}
-use Rattle.x509_types.specs.KeyUsage.{key_usage}
-use Rattle.x509_types.specs.ExtendedKeyUsage.{extended_key_usage}
-use Rattle.x509_types.specs.OctetString.{octet_string}
+use Rattle.der_core.specs.Facts.OctetStrings.{octet_strings}
+use Rattle.x501_types.specs.GeneralName.{general_names, AreGeneralNames}
+use Rattle.x501_types.specs.Facts.GeneralNames.{general_name_lists}
+use Rattle.x501_types.specs.declared.general_name.RawGeneralName.{RawGeneralName}
+use Rattle.x509_values.specs.BasicConstraints.{basic_constraints, IsBasicConstraints}
+use Rattle.x509_values.specs.AuthorityKeyIdentifier.{authority_key_identifier}
+use Rattle.x509_values.specs.KeyUsage.{key_usage}
+use Rattle.x509_values.specs.ExtendedKeyUsage.{extended_key_usage}
+use Rattle.x509_values.specs.Facts.Constraints.{all_basic_constraints, constraints_printed, constraints_der}
+use Rattle.x509_values.specs.Facts.Usages.{key_usages, extended_key_usages}
+use Rattle.x509_values.specs.Facts.AuthorityKeys.{authority_key_identifiers}
+use Rattle.x509_values.specs.declared.key_usage.KeyUsage.{KeyUsage}
+use Rattle.x509_values.specs.declared.authority_key_identifier.AuthorityKeyIdentifier.{AuthorityKeyIdentifier}
+use Rattle.x509_values.specs.declared.extended_key_usage.ExtendedKeyUsage.{ExtendedKeyUsage}
 use Rattle.x509_types.specs.ExtensionKind.{kind_number}
-use Rattle.x509_types.specs.ExtensionView.{kind_of, value_octets, inner_value, view_octets, IsValueIn}
-use Rattle.x509_types.specs.Facts.ExtensionKinds.{kinds_by_number}
-use Rattle.x509_types.specs.Facts.Constraints.{all_basic_constraints, constraints_printed, formed_of}
-use Rattle.x509_types.specs.Facts.Usages.{key_usages, extended_key_usages}
-use Rattle.x509_types.specs.Facts.AuthorityKeys.{authority_key_identifiers}
-use Rattle.x509_types.specs.Facts.OctetStrings.{octet_strings}
-use Rattle.x509_types.specs.declared.octet_string.OctetString.{OctetString}
+use Rattle.x509_types.specs.ExtensionView.{kind_of, key_identifier, value_octets, inner_value, view_octets, IsValueIn, HoldsNoNames, MayBeKept, IsOfKind, IsValueOf}
+use Rattle.x509_types.specs.Facts.ExtensionKinds.{same_kinds, kinds_by_number}
+use Rattle.x509_types.specs.declared.extension_kind.ExtensionKind.{ExtensionKind}
+use Rattle.x509_types.specs.declared.extension_kind.ExtensionKind.TheVariants as kinds
 use Rattle.x509_types.specs.declared.extension_view.ExtensionView.{ExtensionView}
 use Rattle.x509_types.specs.declared.extension_view.ExtensionView.TheVariants as views
 
@@ -47,128 +51,153 @@ encoded_once written one formed a b e = one a b (formed_encoding_once (written a
 printed_once : {X : Type 0} (written : X → DerElement) → IsGrammar (λ (element : DerElement) (x : X). element ≡ written x) written (λ x. []) → (a b : X) → encoding (written a) ≡ encoding (written b) → a ≡ b
 printed_once written grammar = encoded_once written (λ a b e. grammar.once (written a) a b refl e) grammar.formed
 
--- ---- basic constraints are short
+-- ---- values are of their kinds for one reason
 
-abbrev integer_with : Bool → ℕ → DerElement
-integer_with low number = Primitive 0x02 (if low then number ∷ [] else 0 ∷ number ∷ [])
+MayBeKept-prop : (kind : ExtensionKind) (octets : List ℕ) → IsProp (MayBeKept kind octets)
+MayBeKept-prop kinds.SubjectKeyIdentifier octets = hlevel props
+MayBeKept-prop kinds.KeyUsage octets = hlevel props
+MayBeKept-prop kinds.SubjectAltName octets = hlevel props
+MayBeKept-prop kinds.IssuerAltName octets = hlevel props
+MayBeKept-prop kinds.BasicConstraints octets = hlevel props
+MayBeKept-prop kinds.AuthorityKeyIdentifier octets = hlevel props
+MayBeKept-prop kinds.ExtendedKeyUsage octets = hlevel props
+MayBeKept-prop kinds.Other octets = hlevel props
 
-length_short : (low : Bool) (number : ℕ) → IsShort (sequence (integer_with low number ∷ []))
-unfolding length_octets
-length_short true number = (omega arith, (omega arith, tt))
-length_short false number = (omega arith, (omega arith, tt))
+pub IsOfKind-prop : (kind : ExtensionKind) (view : ExtensionView) → IsProp (IsOfKind kind view)
+IsOfKind-prop kind (views.SubjectKeyIdentifier x) = same_kinds kinds.SubjectKeyIdentifier kind
+IsOfKind-prop kind (views.KeyUsage x) = same_kinds kinds.KeyUsage kind
+IsOfKind-prop kind (views.SubjectAltName x) = same_kinds kinds.SubjectAltName kind
+IsOfKind-prop kind (views.IssuerAltName x) = same_kinds kinds.IssuerAltName kind
+IsOfKind-prop kind (views.BasicConstraints x) = same_kinds kinds.BasicConstraints kind
+IsOfKind-prop kind (views.AuthorityKeyIdentifier x) = same_kinds kinds.AuthorityKeyIdentifier kind
+IsOfKind-prop kind (views.ExtendedKeyUsage x) = same_kinds kinds.ExtendedKeyUsage kind
+IsOfKind-prop kind (views.Raw x) = MayBeKept-prop kind x
 
-both_short : (b low : Bool) (number : ℕ) → IsShort (sequence (boolean b ∷ integer_with low number ∷ []))
-unfolding length_octets
-both_short b true number = (omega arith, (omega arith, (omega arith, tt)))
-both_short b false number = (omega arith, (omega arith, (omega arith, tt)))
+-- ---- octets hold at most one value of a kind
 
-flag_short : (b : Bool) → IsShort (sequence (boolean b ∷ []))
-unfolding length_octets
-flag_short b = (omega arith, (omega arith, tt))
+-- the value is one of a form, held in these octets
+abbrev IsHeld : {X : Type 0} → (X → ExtensionView) → (List ℕ → X → Type 0) → List ℕ → ExtensionView → Type 0
+IsHeld {X} named held octets view = (value : X) × (view ≡ named value) × held octets value
 
-constraints_der : (ca : Option Bool) (pathlen : Option ℕ) → IsDer (sequence (optional_boolean ca ++ optional_integer pathlen))
-constraints_der None None = record { formed = formed_of None None; nested = omega arith; short = (omega arith, tt) }
-constraints_der None (Some n) = record { formed = formed_of None (Some n); nested = omega arith; short = length_short (nat_lt n 128) n }
-constraints_der (Some b) None = record { formed = formed_of (Some b) None; nested = omega arith; short = flag_short b }
-constraints_der (Some b) (Some n) = record { formed = formed_of (Some b) (Some n); nested = omega arith; short = both_short b (nat_lt n 128) n }
+-- general names, or octets that are kept
+abbrev AreNames : (List RawGeneralName → ExtensionView) → List ℕ → ExtensionView → Type 0
+AreNames named octets view = IsHeld named (IsWithin AreGeneralNames) octets view ⊎ ((view ≡ views.Raw octets) × HoldsNoNames octets)
 
--- ---- values of extensions
+-- what octets hold of each kind
+abbrev pub HoldsOf : ExtensionKind → List ℕ → ExtensionView → Type 0
+HoldsOf kinds.SubjectKeyIdentifier octets view = IsHeld views.SubjectKeyIdentifier (IsWithin (λ (element : DerElement) (k : List ℕ). element ≡ key_identifier k)) octets view
+HoldsOf kinds.KeyUsage octets view = IsHeld views.KeyUsage (IsWithin (λ (element : DerElement) (u : KeyUsage). element ≡ key_usage u)) octets view
+HoldsOf kinds.SubjectAltName octets view = AreNames views.SubjectAltName octets view
+HoldsOf kinds.IssuerAltName octets view = AreNames views.IssuerAltName octets view
+HoldsOf kinds.BasicConstraints octets view = IsHeld views.BasicConstraints (IsWithin IsBasicConstraints) octets view
+HoldsOf kinds.AuthorityKeyIdentifier octets view = IsHeld views.AuthorityKeyIdentifier (IsWithin (λ (element : DerElement) (a : AuthorityKeyIdentifier). element ≡ authority_key_identifier a)) octets view
+HoldsOf kinds.ExtendedKeyUsage octets view = IsHeld views.ExtendedKeyUsage (IsWithin (λ (element : DerElement) (u : ExtendedKeyUsage). element ≡ extended_key_usage u)) octets view
+HoldsOf kinds.Other octets view = view ≡ views.Raw octets
 
-pub values_once : (a b : ExtensionView) (octets : List ℕ) → kind_of a ≡ kind_of b → IsValueIn octets a → IsValueIn octets b → a ≡ b
-values_once (views.SubjectKeyIdentifier x) (views.SubjectKeyIdentifier y) octets kind p q = ap (λ (s : OctetString). views.SubjectKeyIdentifier s.octets) (within_once (λ (element : DerElement) (s : OctetString). element ≡ octet_string s) octet_string octet_strings octets (record { octets = x }) (record { octets = y }) p q)
-values_once (views.SubjectKeyIdentifier x) (views.KeyUsage y) octets kind p q = absurd cc
-values_once (views.SubjectKeyIdentifier x) (views.BasicConstraints y) octets kind p q = absurd cc
-values_once (views.SubjectKeyIdentifier x) (views.AuthorityKeyIdentifier y) octets kind p q = absurd cc
-values_once (views.SubjectKeyIdentifier x) (views.ExtendedKeyUsage y) octets kind p q = absurd cc
-values_once (views.SubjectKeyIdentifier x) (views.Raw y) octets kind p q = absurd cc
-values_once (views.KeyUsage x) (views.SubjectKeyIdentifier y) octets kind p q = absurd cc
-values_once (views.KeyUsage x) (views.KeyUsage y) octets kind p q = ap views.KeyUsage (within_once (λ element usage. element ≡ key_usage usage) key_usage key_usages octets x y p q)
-values_once (views.KeyUsage x) (views.BasicConstraints y) octets kind p q = absurd cc
-values_once (views.KeyUsage x) (views.AuthorityKeyIdentifier y) octets kind p q = absurd cc
-values_once (views.KeyUsage x) (views.ExtendedKeyUsage y) octets kind p q = absurd cc
-values_once (views.KeyUsage x) (views.Raw y) octets kind p q = absurd cc
-values_once (views.BasicConstraints x) (views.SubjectKeyIdentifier y) octets kind p q = absurd cc
-values_once (views.BasicConstraints x) (views.KeyUsage y) octets kind p q = absurd cc
-values_once (views.BasicConstraints x) (views.BasicConstraints y) octets kind p q = ap views.BasicConstraints (within_once IsBasicConstraints basic_constraints all_basic_constraints octets x y p q)
-values_once (views.BasicConstraints x) (views.AuthorityKeyIdentifier y) octets kind p q = absurd cc
-values_once (views.BasicConstraints x) (views.ExtendedKeyUsage y) octets kind p q = absurd cc
-values_once (views.BasicConstraints x) (views.Raw y) octets kind p q = absurd cc
-values_once (views.AuthorityKeyIdentifier x) (views.SubjectKeyIdentifier y) octets kind p q = absurd cc
-values_once (views.AuthorityKeyIdentifier x) (views.KeyUsage y) octets kind p q = absurd cc
-values_once (views.AuthorityKeyIdentifier x) (views.BasicConstraints y) octets kind p q = absurd cc
-values_once (views.AuthorityKeyIdentifier x) (views.AuthorityKeyIdentifier y) octets kind p q = ap views.AuthorityKeyIdentifier (within_once (λ element a. element ≡ authority_key_identifier a) authority_key_identifier authority_key_identifiers octets x y p q)
-values_once (views.AuthorityKeyIdentifier x) (views.ExtendedKeyUsage y) octets kind p q = absurd cc
-values_once (views.AuthorityKeyIdentifier x) (views.Raw y) octets kind p q = absurd cc
-values_once (views.ExtendedKeyUsage x) (views.SubjectKeyIdentifier y) octets kind p q = absurd cc
-values_once (views.ExtendedKeyUsage x) (views.KeyUsage y) octets kind p q = absurd cc
-values_once (views.ExtendedKeyUsage x) (views.BasicConstraints y) octets kind p q = absurd cc
-values_once (views.ExtendedKeyUsage x) (views.AuthorityKeyIdentifier y) octets kind p q = absurd cc
-values_once (views.ExtendedKeyUsage x) (views.ExtendedKeyUsage y) octets kind p q = ap views.ExtendedKeyUsage (within_once (λ element usage. element ≡ extended_key_usage usage) extended_key_usage extended_key_usages octets x y p q)
-values_once (views.ExtendedKeyUsage x) (views.Raw y) octets kind p q = absurd cc
-values_once (views.Raw x) (views.SubjectKeyIdentifier y) octets kind p q = absurd cc
-values_once (views.Raw x) (views.KeyUsage y) octets kind p q = absurd cc
-values_once (views.Raw x) (views.BasicConstraints y) octets kind p q = absurd cc
-values_once (views.Raw x) (views.AuthorityKeyIdentifier y) octets kind p q = absurd cc
-values_once (views.Raw x) (views.ExtendedKeyUsage y) octets kind p q = absurd cc
-values_once (views.Raw x) (views.Raw y) octets kind p q = ap views.Raw (sym p ∙ q)
+kept_of : (kind : ExtensionKind) (octets kept : List ℕ) → MayBeKept kind kept → octets ≡ kept → HoldsOf kind octets (views.Raw kept)
+kept_of kinds.SubjectKeyIdentifier octets kept may same = absurd may
+kept_of kinds.KeyUsage octets kept may same = absurd may
+kept_of kinds.SubjectAltName octets kept may same = inr (ap views.Raw (sym same), subst HoldsNoNames (sym same) may)
+kept_of kinds.IssuerAltName octets kept may same = inr (ap views.Raw (sym same), subst HoldsNoNames (sym same) may)
+kept_of kinds.BasicConstraints octets kept may same = absurd may
+kept_of kinds.AuthorityKeyIdentifier octets kept may same = absurd may
+kept_of kinds.ExtendedKeyUsage octets kept may same = absurd may
+kept_of kinds.Other octets kept may same = ap views.Raw (sym same)
 
--- a value is told by its kind and its octets
+pub holds_of : (kind : ExtensionKind) (octets : List ℕ) (view : ExtensionView) → IsValueOf kind octets view → HoldsOf kind octets view
+holds_of kind octets (views.SubjectKeyIdentifier x) of = subst (λ (k : ExtensionKind). HoldsOf k octets (views.SubjectKeyIdentifier x)) of.0 (x, refl, of.1)
+holds_of kind octets (views.KeyUsage x) of = subst (λ (k : ExtensionKind). HoldsOf k octets (views.KeyUsage x)) of.0 (x, refl, of.1)
+holds_of kind octets (views.SubjectAltName x) of = subst (λ (k : ExtensionKind). HoldsOf k octets (views.SubjectAltName x)) of.0 (inl (x, refl, of.1))
+holds_of kind octets (views.IssuerAltName x) of = subst (λ (k : ExtensionKind). HoldsOf k octets (views.IssuerAltName x)) of.0 (inl (x, refl, of.1))
+holds_of kind octets (views.BasicConstraints x) of = subst (λ (k : ExtensionKind). HoldsOf k octets (views.BasicConstraints x)) of.0 (x, refl, of.1)
+holds_of kind octets (views.AuthorityKeyIdentifier x) of = subst (λ (k : ExtensionKind). HoldsOf k octets (views.AuthorityKeyIdentifier x)) of.0 (x, refl, of.1)
+holds_of kind octets (views.ExtendedKeyUsage x) of = subst (λ (k : ExtensionKind). HoldsOf k octets (views.ExtendedKeyUsage x)) of.0 (x, refl, of.1)
+holds_of kind octets (views.Raw x) of = kept_of kind octets x of.0 of.1
+
+names_once : (named : List RawGeneralName → ExtensionView) (octets : List ℕ) (a b : ExtensionView) → AreNames named octets a → AreNames named octets b → a ≡ b
+names_once named octets a b (inl p) (inl q) = p.1 ∙ ap named (within_once AreGeneralNames general_names general_name_lists octets p.0 q.0 p.2 q.2) ∙ sym q.1
+names_once named octets a b (inl p) (inr q) = absurd (q.1 p.0 p.2)
+names_once named octets a b (inr p) (inl q) = absurd (p.1 q.0 q.2)
+names_once named octets a b (inr p) (inr q) = p.0 ∙ sym q.0
+
+holds_once : (kind : ExtensionKind) (octets : List ℕ) (a b : ExtensionView) → HoldsOf kind octets a → HoldsOf kind octets b → a ≡ b
+holds_once kinds.SubjectKeyIdentifier octets a b p q = p.1 ∙ ap views.SubjectKeyIdentifier (within_once (λ (element : DerElement) (k : List ℕ). element ≡ key_identifier k) key_identifier octet_strings octets p.0 q.0 p.2 q.2) ∙ sym q.1
+holds_once kinds.KeyUsage octets a b p q = p.1 ∙ ap views.KeyUsage (within_once (λ (element : DerElement) (u : KeyUsage). element ≡ key_usage u) key_usage key_usages octets p.0 q.0 p.2 q.2) ∙ sym q.1
+holds_once kinds.SubjectAltName octets a b p q = names_once views.SubjectAltName octets a b p q
+holds_once kinds.IssuerAltName octets a b p q = names_once views.IssuerAltName octets a b p q
+holds_once kinds.BasicConstraints octets a b p q = p.1 ∙ ap views.BasicConstraints (within_once IsBasicConstraints basic_constraints all_basic_constraints octets p.0 q.0 p.2 q.2) ∙ sym q.1
+holds_once kinds.AuthorityKeyIdentifier octets a b p q = p.1 ∙ ap views.AuthorityKeyIdentifier (within_once (λ (element : DerElement) (a : AuthorityKeyIdentifier). element ≡ authority_key_identifier a) authority_key_identifier authority_key_identifiers octets p.0 q.0 p.2 q.2) ∙ sym q.1
+holds_once kinds.ExtendedKeyUsage octets a b p q = p.1 ∙ ap views.ExtendedKeyUsage (within_once (λ (element : DerElement) (u : ExtendedKeyUsage). element ≡ extended_key_usage u) extended_key_usage extended_key_usages octets p.0 q.0 p.2 q.2) ∙ sym q.1
+holds_once kinds.Other octets a b p q = p ∙ sym q
+
+pub values_once : (kind : ExtensionKind) (octets : List ℕ) (a b : ExtensionView) → IsValueOf kind octets a → IsValueOf kind octets b → a ≡ b
+values_once kind octets a b p q = holds_once kind octets a b (holds_of kind octets a p) (holds_of kind octets b q)
+
+-- ---- a value is told by its kind and its octets
+
+-- the octets are those of the value's element
+abbrev IsEncoded : {X : Type 0} → (X → DerElement) → List ℕ → X → Type 0
+IsEncoded written octets value = octets ≡ encoding (written value)
+
+abbrev IsWrittenAs : ExtensionKind → List ℕ → ExtensionView → Type 0
+IsWrittenAs kinds.SubjectKeyIdentifier octets view = IsHeld views.SubjectKeyIdentifier (IsEncoded key_identifier) octets view
+IsWrittenAs kinds.KeyUsage octets view = IsHeld views.KeyUsage (IsEncoded key_usage) octets view
+IsWrittenAs kinds.SubjectAltName octets view = IsHeld views.SubjectAltName (IsEncoded general_names) octets view
+IsWrittenAs kinds.IssuerAltName octets view = IsHeld views.IssuerAltName (IsEncoded general_names) octets view
+IsWrittenAs kinds.BasicConstraints octets view = IsHeld views.BasicConstraints (IsEncoded basic_constraints) octets view
+IsWrittenAs kinds.AuthorityKeyIdentifier octets view = IsHeld views.AuthorityKeyIdentifier (IsEncoded authority_key_identifier) octets view
+IsWrittenAs kinds.ExtendedKeyUsage octets view = IsHeld views.ExtendedKeyUsage (IsEncoded extended_key_usage) octets view
+IsWrittenAs kinds.Other octets view = view ≡ views.Raw octets
+
+written_as : (view : ExtensionView) → IsWrittenAs (kind_of view) (value_octets view) view
+written_as (views.SubjectKeyIdentifier x) = (x, refl, refl)
+written_as (views.KeyUsage x) = (x, refl, refl)
+written_as (views.SubjectAltName x) = (x, refl, refl)
+written_as (views.IssuerAltName x) = (x, refl, refl)
+written_as (views.BasicConstraints x) = (x, refl, refl)
+written_as (views.AuthorityKeyIdentifier x) = (x, refl, refl)
+written_as (views.ExtendedKeyUsage x) = (x, refl, refl)
+written_as (views.Raw x) = refl
+
+written_once : (kind : ExtensionKind) (octets : List ℕ) (a b : ExtensionView) → IsWrittenAs kind octets a → IsWrittenAs kind octets b → a ≡ b
+written_once kinds.SubjectKeyIdentifier octets a b p q = p.1 ∙ ap views.SubjectKeyIdentifier (printed_once key_identifier octet_strings p.0 q.0 (sym p.2 ∙ q.2)) ∙ sym q.1
+written_once kinds.KeyUsage octets a b p q = p.1 ∙ ap views.KeyUsage (printed_once key_usage key_usages p.0 q.0 (sym p.2 ∙ q.2)) ∙ sym q.1
+written_once kinds.SubjectAltName octets a b p q = p.1 ∙ ap views.SubjectAltName (printed_once general_names general_name_lists p.0 q.0 (sym p.2 ∙ q.2)) ∙ sym q.1
+written_once kinds.IssuerAltName octets a b p q = p.1 ∙ ap views.IssuerAltName (printed_once general_names general_name_lists p.0 q.0 (sym p.2 ∙ q.2)) ∙ sym q.1
+written_once kinds.BasicConstraints octets a b p q = p.1 ∙ ap views.BasicConstraints (encoded_once basic_constraints constraints_printed all_basic_constraints.formed p.0 q.0 (sym p.2 ∙ q.2)) ∙ sym q.1
+written_once kinds.AuthorityKeyIdentifier octets a b p q = p.1 ∙ ap views.AuthorityKeyIdentifier (printed_once authority_key_identifier authority_key_identifiers p.0 q.0 (sym p.2 ∙ q.2)) ∙ sym q.1
+written_once kinds.ExtendedKeyUsage octets a b p q = p.1 ∙ ap views.ExtendedKeyUsage (printed_once extended_key_usage extended_key_usages p.0 q.0 (sym p.2 ∙ q.2)) ∙ sym q.1
+written_once kinds.Other octets a b p q = p ∙ sym q
+
 pub values_by_octets : (a b : ExtensionView) → kind_of a ≡ kind_of b → value_octets a ≡ value_octets b → a ≡ b
-values_by_octets (views.SubjectKeyIdentifier x) (views.SubjectKeyIdentifier y) kind e = ap (λ (s : OctetString). views.SubjectKeyIdentifier s.octets) (printed_once octet_string octet_strings (record { octets = x }) (record { octets = y }) e)
-values_by_octets (views.SubjectKeyIdentifier x) (views.KeyUsage y) kind e = absurd cc
-values_by_octets (views.SubjectKeyIdentifier x) (views.BasicConstraints y) kind e = absurd cc
-values_by_octets (views.SubjectKeyIdentifier x) (views.AuthorityKeyIdentifier y) kind e = absurd cc
-values_by_octets (views.SubjectKeyIdentifier x) (views.ExtendedKeyUsage y) kind e = absurd cc
-values_by_octets (views.SubjectKeyIdentifier x) (views.Raw y) kind e = absurd cc
-values_by_octets (views.KeyUsage x) (views.SubjectKeyIdentifier y) kind e = absurd cc
-values_by_octets (views.KeyUsage x) (views.KeyUsage y) kind e = ap views.KeyUsage (printed_once key_usage key_usages x y e)
-values_by_octets (views.KeyUsage x) (views.BasicConstraints y) kind e = absurd cc
-values_by_octets (views.KeyUsage x) (views.AuthorityKeyIdentifier y) kind e = absurd cc
-values_by_octets (views.KeyUsage x) (views.ExtendedKeyUsage y) kind e = absurd cc
-values_by_octets (views.KeyUsage x) (views.Raw y) kind e = absurd cc
-values_by_octets (views.BasicConstraints x) (views.SubjectKeyIdentifier y) kind e = absurd cc
-values_by_octets (views.BasicConstraints x) (views.KeyUsage y) kind e = absurd cc
-values_by_octets (views.BasicConstraints x) (views.BasicConstraints y) kind e = ap views.BasicConstraints (encoded_once basic_constraints constraints_printed all_basic_constraints.formed x y e)
-values_by_octets (views.BasicConstraints x) (views.AuthorityKeyIdentifier y) kind e = absurd cc
-values_by_octets (views.BasicConstraints x) (views.ExtendedKeyUsage y) kind e = absurd cc
-values_by_octets (views.BasicConstraints x) (views.Raw y) kind e = absurd cc
-values_by_octets (views.AuthorityKeyIdentifier x) (views.SubjectKeyIdentifier y) kind e = absurd cc
-values_by_octets (views.AuthorityKeyIdentifier x) (views.KeyUsage y) kind e = absurd cc
-values_by_octets (views.AuthorityKeyIdentifier x) (views.BasicConstraints y) kind e = absurd cc
-values_by_octets (views.AuthorityKeyIdentifier x) (views.AuthorityKeyIdentifier y) kind e = ap views.AuthorityKeyIdentifier (printed_once authority_key_identifier authority_key_identifiers x y e)
-values_by_octets (views.AuthorityKeyIdentifier x) (views.ExtendedKeyUsage y) kind e = absurd cc
-values_by_octets (views.AuthorityKeyIdentifier x) (views.Raw y) kind e = absurd cc
-values_by_octets (views.ExtendedKeyUsage x) (views.SubjectKeyIdentifier y) kind e = absurd cc
-values_by_octets (views.ExtendedKeyUsage x) (views.KeyUsage y) kind e = absurd cc
-values_by_octets (views.ExtendedKeyUsage x) (views.BasicConstraints y) kind e = absurd cc
-values_by_octets (views.ExtendedKeyUsage x) (views.AuthorityKeyIdentifier y) kind e = absurd cc
-values_by_octets (views.ExtendedKeyUsage x) (views.ExtendedKeyUsage y) kind e = ap views.ExtendedKeyUsage (printed_once extended_key_usage extended_key_usages x y e)
-values_by_octets (views.ExtendedKeyUsage x) (views.Raw y) kind e = absurd cc
-values_by_octets (views.Raw x) (views.SubjectKeyIdentifier y) kind e = absurd cc
-values_by_octets (views.Raw x) (views.KeyUsage y) kind e = absurd cc
-values_by_octets (views.Raw x) (views.BasicConstraints y) kind e = absurd cc
-values_by_octets (views.Raw x) (views.AuthorityKeyIdentifier y) kind e = absurd cc
-values_by_octets (views.Raw x) (views.ExtendedKeyUsage y) kind e = absurd cc
-values_by_octets (views.Raw x) (views.Raw y) kind e = ap views.Raw e
-
-pub values_bounded : (view : ExtensionView) (octets : List ℕ) → IsValueIn octets view → AreDer (inner_value view)
-values_bounded (views.SubjectKeyIdentifier x) octets p = within_bounds octet_string octets (record { octets = x }) p
-values_bounded (views.KeyUsage x) octets p = within_bounds key_usage octets x p
-values_bounded (views.BasicConstraints x) octets p = (constraints_der x.ca x.pathlen, tt)
-values_bounded (views.AuthorityKeyIdentifier x) octets p = within_bounds authority_key_identifier octets x p
-values_bounded (views.ExtendedKeyUsage x) octets p = within_bounds extended_key_usage octets x p
-values_bounded (views.Raw x) octets p = tt
-
-pub values_written : (view : ExtensionView) → AreDer (inner_value view) → IsValueIn (value_octets view) view
-values_written (views.SubjectKeyIdentifier x) der = within_written (λ (element : DerElement) (s : OctetString). element ≡ octet_string s) octet_string octet_strings (record { octets = x }) der
-values_written (views.KeyUsage x) der = within_written (λ element usage. element ≡ key_usage usage) key_usage key_usages x der
-values_written (views.BasicConstraints x) der = within_written IsBasicConstraints basic_constraints all_basic_constraints x der
-values_written (views.AuthorityKeyIdentifier x) der = within_written (λ element a. element ≡ authority_key_identifier a) authority_key_identifier authority_key_identifiers x der
-values_written (views.ExtendedKeyUsage x) der = within_written (λ element usage. element ≡ extended_key_usage usage) extended_key_usage extended_key_usages x der
-values_written (views.Raw x) der = refl
+values_by_octets a b kind octets =
+    written_once (kind_of b) (value_octets b) a b
+    (subst (λ (o : List ℕ). IsWrittenAs (kind_of b) o a) octets (subst (λ (k : ExtensionKind). IsWrittenAs k (value_octets a) a) kind (written_as a))) (written_as b)
 
 pub views_by_octets : (a b : ExtensionView) → view_octets a ≡ view_octets b → a ≡ b
 views_by_octets a b e =
     let numbers : kind_number (kind_of a) ≡ kind_number (kind_of b) = cc in
     let octets : value_octets a ≡ value_octets b = cc in
     values_by_octets a b (kinds_by_number (kind_of a) (kind_of b) numbers) octets
+
+-- ---- what is written for a value holds it
+
+pub values_bounded : (view : ExtensionView) (octets : List ℕ) → IsValueIn octets view → AreDer (inner_value view)
+values_bounded (views.SubjectKeyIdentifier x) octets p = within_bounds key_identifier octets x p
+values_bounded (views.KeyUsage x) octets p = within_bounds key_usage octets x p
+values_bounded (views.SubjectAltName x) octets p = within_bounds general_names octets x p
+values_bounded (views.IssuerAltName x) octets p = within_bounds general_names octets x p
+values_bounded (views.BasicConstraints x) octets p = (constraints_der x, tt)
+values_bounded (views.AuthorityKeyIdentifier x) octets p = within_bounds authority_key_identifier octets x p
+values_bounded (views.ExtendedKeyUsage x) octets p = within_bounds extended_key_usage octets x p
+values_bounded (views.Raw x) octets p = tt
+
+pub values_written : (view : ExtensionView) → AreDer (inner_value view) → IsValueIn (value_octets view) view
+values_written (views.SubjectKeyIdentifier x) der = within_written (λ (element : DerElement) (k : List ℕ). element ≡ key_identifier k) key_identifier octet_strings x der
+values_written (views.KeyUsage x) der = within_written (λ (element : DerElement) (u : KeyUsage). element ≡ key_usage u) key_usage key_usages x der
+values_written (views.SubjectAltName x) der = within_written AreGeneralNames general_names general_name_lists x der
+values_written (views.IssuerAltName x) der = within_written AreGeneralNames general_names general_name_lists x der
+values_written (views.BasicConstraints x) der = within_written IsBasicConstraints basic_constraints all_basic_constraints x der
+values_written (views.AuthorityKeyIdentifier x) der = within_written (λ (element : DerElement) (a : AuthorityKeyIdentifier). element ≡ authority_key_identifier a) authority_key_identifier authority_key_identifiers x der
+values_written (views.ExtendedKeyUsage x) der = within_written (λ (element : DerElement) (u : ExtendedKeyUsage). element ≡ extended_key_usage u) extended_key_usage extended_key_usages x der
+values_written (views.Raw x) der = refl

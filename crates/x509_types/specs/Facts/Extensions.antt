@@ -1,24 +1,28 @@
 -- Extensions: an element spells at most one, and what is written for one spells it.
 use Rattle.std.proofs.Common.{◌≡◌, ℕ, List, [], ◌∷◌, ◌++◌, refl, ap, sym, subst, ◌∙◌, arith}
-use Rattle.std.specs.Prelude.{Bool, true, false}
+use Rattle.std.specs.Prelude.{◌↔◌, IsTrue, Bool, true, false, bytes_eq}
+use Rattle.std.proofs.lemmas.Slice.Eq.{bytes_eq-Decides}
 use Rattle.der_core.specs.DerElement.{DerElement, Primitive, row}
-use Rattle.der_core.specs.Encoding.{IsWellFormed, AreWellFormed}
+use Rattle.der_core.specs.Encoding.{encoding, IsWellFormed, AreWellFormed}
+use Rattle.der_core.specs.Placed.{AreDer}
+use Rattle.der_core.specs.Facts.Equality.{same_tests}
+use Rattle.der_core.specs.Facts.Fronts.{formed_encoding_once}
 use Rattle.der_core.specs.Default.{IsDefaultFalse}
 use Rattle.der_core.specs.Structure.{IsGrammar}
 use Rattle.asn1_types.specs.Values.{identifier_contents}
 use Rattle.asn1_types.specs.Elements.{object_identifier}
 use Rattle.asn1_types.specs.Facts.Elements.{identifiers}
 use Rattle.asn1_types.specs.declared.oid.ObjectIdentifier.{ObjectIdentifier}
-use Rattle.x509_types.specs.Boolean.{default_false}
+use Rattle.x509_values.specs.Boolean.{default_false}
 use Rattle.x509_types.specs.ExtensionFields.{IsExtensionOf}
-use Rattle.x509_types.specs.ExtensionKind.{named_kind}
-use Rattle.x509_types.specs.ExtensionView.{kind_of, value_octets, inner_value, IsValueIn}
-use Rattle.x509_types.specs.Extension.{extension, IsExtension}
+use Rattle.x509_types.specs.ExtensionKind.{kind_number, named_kind}
+use Rattle.x509_types.specs.ExtensionView.{kind_of, value_octets, inner_value, IsOfKind, IsValueIn}
+use Rattle.x509_types.specs.Extension.{extension, extension_octets, IsExtension}
 use Rattle.der_core.specs.Facts.Grammars.{same_fields}
-use Rattle.x509_types.specs.Facts.Fields.{split}
-use Rattle.x509_types.specs.Facts.Constraints.{default_is, default_field, default_once}
-use Rattle.x509_types.specs.Facts.ExtensionKinds.{same_kinds}
-use Rattle.x509_types.specs.Facts.ExtensionViews.{values_once, values_by_octets, values_bounded, values_written}
+use Rattle.der_core.specs.Facts.Fields.{split}
+use Rattle.x509_values.specs.Facts.Constraints.{default_is, default_field, default_once}
+use Rattle.x509_types.specs.Facts.ExtensionKinds.{kinds_by_number}
+use Rattle.x509_types.specs.Facts.ExtensionViews.{IsOfKind-prop, values_once, values_by_octets, values_bounded, values_written}
 use Rattle.x509_types.specs.declared.extension.Extension.{Extension}
 use Rattle.x509_types.specs.declared.extension_view.ExtensionView.{ExtensionView}
 
@@ -35,20 +39,16 @@ fields_once element oid oid' b c v w p q =
     value_once : (x y : List ℕ) → Primitive 0x04 x ∷ [] ≡ Primitive 0x04 y ∷ [] → x ≡ y
     value_once x y e = cc
 
-abbrev extension_of : (id : ObjectIdentifier) (critical : Bool) (view : ExtensionView) → kind_of view ≡ named_kind (identifier_contents id) → Extension
+abbrev extension_of : (id : ObjectIdentifier) (critical : Bool) (view : ExtensionView) → IsOfKind (named_kind (identifier_contents id)) view → Extension
 extension_of id critical view agrees = record { extn_id = id; critical = critical; extn_value = view; agrees = agrees }
 
 pub same_extension : (a b : Extension) → a.extn_id ≡ b.extn_id → a.critical ≡ b.critical → a.extn_value ≡ b.extn_value → a ≡ b
 same_extension a b id critical view =
-    let with_view : (h : kind_of b.extn_value ≡ named_kind (identifier_contents a.extn_id)) → a ≡ extension_of a.extn_id b.critical b.extn_value h =
-    subst (λ (v : ExtensionView). (h : kind_of v ≡ named_kind (identifier_contents a.extn_id)) → a ≡ extension_of a.extn_id b.critical v h) view
+    let with_view : (h : IsOfKind (named_kind (identifier_contents a.extn_id)) b.extn_value) → a ≡ extension_of a.extn_id b.critical b.extn_value h =
+    subst (λ (v : ExtensionView). (h : IsOfKind (named_kind (identifier_contents a.extn_id)) v) → a ≡ extension_of a.extn_id b.critical v h) view
     (λ h. ap (λ (c : Bool). extension_of a.extn_id c a.extn_value a.agrees) critical
-    ∙ ap (extension_of a.extn_id b.critical a.extn_value) (same_kinds (kind_of a.extn_value) (named_kind (identifier_contents a.extn_id)) a.agrees h)) in
-    subst (λ (i : ObjectIdentifier). (h : kind_of b.extn_value ≡ named_kind (identifier_contents i)) → a ≡ extension_of i b.critical b.extn_value h) id with_view b.agrees
-
--- extensions with one identifier have values of one kind
-pub kinds_agree : (a b : Extension) → a.extn_id ≡ b.extn_id → kind_of a.extn_value ≡ kind_of b.extn_value
-kinds_agree a b id = a.agrees ∙ ap (λ (i : ObjectIdentifier). named_kind (identifier_contents i)) id ∙ sym b.agrees
+    ∙ ap (extension_of a.extn_id b.critical a.extn_value) (IsOfKind-prop (named_kind (identifier_contents a.extn_id)) a.extn_value a.agrees h)) in
+    subst (λ (i : ObjectIdentifier). (h : IsOfKind (named_kind (identifier_contents i)) b.extn_value) → a ≡ extension_of i b.critical b.extn_value h) id with_view b.agrees
 
 same_id : (a b : ObjectIdentifier) → object_identifier a ≡ object_identifier b → a ≡ b
 same_id a b e = identifiers.once (object_identifier a) a b refl e
@@ -57,18 +57,20 @@ extensions_once : (element : DerElement) (a b : Extension) → IsExtension eleme
 extensions_once element a b p q =
     let fields = fields_once element (object_identifier a.extn_id) (object_identifier b.extn_id) a.critical b.critical p.octets q.octets p.fields q.fields in
     let id = same_id a.extn_id b.extn_id fields.0 in
-    same_extension a b id fields.1 (values_once a.extn_value b.extn_value q.octets (kinds_agree a b id) (subst (λ (o : List ℕ). IsValueIn o a.extn_value) fields.2 p.value) q.value)
+    let kind = named_kind (identifier_contents b.extn_id) in
+    let agrees : IsOfKind kind a.extn_value = subst (λ (i : ObjectIdentifier). IsOfKind (named_kind (identifier_contents i)) a.extn_value) id a.agrees in
+    same_extension a b id fields.1 (values_once kind q.octets a.extn_value b.extn_value (agrees, subst (λ (o : List ℕ). IsValueIn o a.extn_value) fields.2 p.value) (b.agrees, q.value))
 
 -- what is written has the fields of the extension
 pub written_fields : (e : Extension) → IsExtensionOf (extension e) (object_identifier e.extn_id) e.critical (value_octets e.extn_value)
 written_fields e = record { flag = default_false e.critical; flagged = default_is e.critical; is = refl }
 
-pub extensions_printed : (a b : Extension) → extension a ≡ extension b → a ≡ b
-extensions_printed a b e =
+-- extensions with one element and values of one kind are the same
+pub extensions_told : (a b : Extension) → kind_of a.extn_value ≡ kind_of b.extn_value → extension a ≡ extension b → a ≡ b
+extensions_told a b kind e =
     let fields = fields_once (extension b) (object_identifier a.extn_id) (object_identifier b.extn_id) a.critical b.critical (value_octets a.extn_value) (value_octets b.extn_value)
     (subst (λ (x : DerElement). IsExtensionOf x (object_identifier a.extn_id) a.critical (value_octets a.extn_value)) e (written_fields a)) (written_fields b) in
-    let id = same_id a.extn_id b.extn_id fields.0 in
-    same_extension a b id fields.1 (values_by_octets a.extn_value b.extn_value (kinds_agree a b id) fields.2)
+    same_extension a b (same_id a.extn_id b.extn_id fields.0) fields.1 (values_by_octets a.extn_value b.extn_value kind fields.2)
 
 flag_formed : (critical : Bool) (octets : List ℕ) → AreWellFormed (row (default_false critical ++ Primitive 0x04 octets ∷ []))
 flag_formed true octets = (((omega arith, omega arith, omega arith), refl), (((omega arith, omega arith, omega arith), refl), tt))
@@ -84,3 +86,21 @@ all_extensions = record {
   spelled = λ e der. record { octets = value_octets e.extn_value; fields = written_fields e; value = values_written e.extn_value der };
   formed = extensions_formed;
 }
+
+pub extensions_by_octets : (a b : Extension) → extension_octets a ≡ extension_octets b → a ≡ b
+extensions_by_octets a b e =
+    let numbers : kind_number (kind_of a.extn_value) ≡ kind_number (kind_of b.extn_value) = cc in
+    let octets : encoding (extension a) ≡ encoding (extension b) = cc in
+    extensions_told a b (kinds_by_number (kind_of a.extn_value) (kind_of b.extn_value) numbers) (formed_encoding_once (extension a) (extension b) (extensions_formed a) (extensions_formed b) octets)
+
+-- A test that holds exactly where two values are the same is that of their octets, where these can be written.
+pub writable_decide : {X : Type 0} (spells : DerElement → X → Type 0) (written : X → DerElement) (inner : X → List DerElement) → IsGrammar spells written inner
+    → (a b : X) (test : Bool) → (IsTrue test ↔ (a ≡ b)) → AreDer (inner a) → AreDer (inner b) → test ≡ bytes_eq (encoding (written a)) (encoding (written b))
+writable_decide {X} spells written inner grammar a b test same der der' =
+    let decides = bytes_eq-Decides (encoding (written a)) (encoding (written b)) in
+    same_tests test (bytes_eq (encoding (written a)) (encoding (written b))) same (
+      λ t.
+          let one = formed_encoding_once (written a) (written b) (grammar.formed a) (grammar.formed b) (decides.0 t) in
+          grammar.once (written b) a b (subst (λ (x : DerElement). spells x a) one (grammar.spelled a der)) (grammar.spelled b der'),
+      λ e. decides.1 (ap (λ (v : X). encoding (written v)) e),
+    )

@@ -25,6 +25,18 @@ returns-in-KeyUsage-KeyUsage-clause-same c = same_whole views.KeyUsage (λ a b e
 pub returns-in-KeyUsage-KeyUsage-clause-octets : goal.returns-in-KeyUsage-KeyUsage-clause-octets
 returns-in-KeyUsage-KeyUsage-clause-octets c = by_octets _ _ _ (same_whole views.KeyUsage (λ a b e. cc) _ _ _ _ _ c.in-KeyUsage-KeyUsage.is-0 c.in-KeyUsage-KeyUsage.is-1 c.eq-in-KeyUsage-KeyUsage.ensures.same)
 
+pub returns-in-SubjectAltName-SubjectAltName-clause-same : goal.returns-in-SubjectAltName-SubjectAltName-clause-same
+returns-in-SubjectAltName-SubjectAltName-clause-same c = same_whole views.SubjectAltName (λ a b e. cc) _ _ _ _ _ c.in-SubjectAltName-SubjectAltName.is-0 c.in-SubjectAltName-SubjectAltName.is-1 c.eq-in-SubjectAltName-SubjectAltName.ensures.same
+
+pub returns-in-SubjectAltName-SubjectAltName-clause-octets : goal.returns-in-SubjectAltName-SubjectAltName-clause-octets
+returns-in-SubjectAltName-SubjectAltName-clause-octets c = by_octets _ _ _ (same_whole views.SubjectAltName (λ a b e. cc) _ _ _ _ _ c.in-SubjectAltName-SubjectAltName.is-0 c.in-SubjectAltName-SubjectAltName.is-1 c.eq-in-SubjectAltName-SubjectAltName.ensures.same)
+
+pub returns-in-IssuerAltName-IssuerAltName-clause-same : goal.returns-in-IssuerAltName-IssuerAltName-clause-same
+returns-in-IssuerAltName-IssuerAltName-clause-same c = same_whole views.IssuerAltName (λ a b e. cc) _ _ _ _ _ c.in-IssuerAltName-IssuerAltName.is-0 c.in-IssuerAltName-IssuerAltName.is-1 c.eq-in-IssuerAltName-IssuerAltName.ensures.same
+
+pub returns-in-IssuerAltName-IssuerAltName-clause-octets : goal.returns-in-IssuerAltName-IssuerAltName-clause-octets
+returns-in-IssuerAltName-IssuerAltName-clause-octets c = by_octets _ _ _ (same_whole views.IssuerAltName (λ a b e. cc) _ _ _ _ _ c.in-IssuerAltName-IssuerAltName.is-0 c.in-IssuerAltName-IssuerAltName.is-1 c.eq-in-IssuerAltName-IssuerAltName.ensures.same)
+
 pub returns-in-BasicConstraints-BasicConstraints-clause-same : goal.returns-in-BasicConstraints-BasicConstraints-clause-same
 returns-in-BasicConstraints-BasicConstraints-clause-same c = same_whole views.BasicConstraints (λ a b e. cc) _ _ _ _ _ c.in-BasicConstraints-BasicConstraints.is-0 c.in-BasicConstraints-BasicConstraints.is-1 c.eq-in-BasicConstraints-BasicConstraints.ensures.same
 
@@ -61,20 +73,30 @@ returns-in_default-2 c =
 
 pub returns-in_default-3 : goal.returns-in_default-3
 returns-in_default-3 c =
-    let apart = unlike (λ e. c.in_default.not-BasicConstraints-1 _ (sym e ∙ c.in_default.is-0)) in
+    let apart = unlike (λ e. c.in_default.not-SubjectAltName-1 _ (sym e ∙ c.in_default.is-0)) in
     record { octets = by_octets _ _ _ apart; same = apart }
 
 pub returns-in_default-4 : goal.returns-in_default-4
 returns-in_default-4 c =
-    let apart = unlike (λ e. c.in_default.not-AuthorityKeyIdentifier-1 _ (sym e ∙ c.in_default.is-0)) in
+    let apart = unlike (λ e. c.in_default.not-IssuerAltName-1 _ (sym e ∙ c.in_default.is-0)) in
     record { octets = by_octets _ _ _ apart; same = apart }
 
 pub returns-in_default-5 : goal.returns-in_default-5
 returns-in_default-5 c =
-    let apart = unlike (λ e. c.in_default.not-ExtendedKeyUsage-1 _ (sym e ∙ c.in_default.is-0)) in
+    let apart = unlike (λ e. c.in_default.not-BasicConstraints-1 _ (sym e ∙ c.in_default.is-0)) in
     record { octets = by_octets _ _ _ apart; same = apart }
 
 pub returns-in_default-6 : goal.returns-in_default-6
 returns-in_default-6 c =
+    let apart = unlike (λ e. c.in_default.not-AuthorityKeyIdentifier-1 _ (sym e ∙ c.in_default.is-0)) in
+    record { octets = by_octets _ _ _ apart; same = apart }
+
+pub returns-in_default-7 : goal.returns-in_default-7
+returns-in_default-7 c =
+    let apart = unlike (λ e. c.in_default.not-ExtendedKeyUsage-1 _ (sym e ∙ c.in_default.is-0)) in
+    record { octets = by_octets _ _ _ apart; same = apart }
+
+pub returns-in_default-8 : goal.returns-in_default-8
+returns-in_default-8 c =
     let apart = unlike (λ e. c.in_default.not-Raw-1 _ (sym e ∙ c.in_default.is-0)) in
     record { octets = by_octets _ _ _ apart; same = apart }
