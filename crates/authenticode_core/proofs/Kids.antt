@@ -1,6 +1,7 @@
 -- The kids of an element that was read are those of the element that was written.
 use Rattle.std.proofs.Common.{◌≡◌, ℕ, List, [], ◌∷◌, Option, Some, None, MatchOption, sym, ◌∙◌, ap}
-use Rattle.der_core.specs.DerElement.{DerElement, Constructed, row, listed, listed-row}
+use Rattle.der_core.specs.DerElement.{DerElement, Constructed, row, listed}
+use Rattle.der_core.specs.Facts.Rows.{listed-row}
 
 pub same_kids : {element : DerElement} {tag tag' : ℕ} {kids expected : List DerElement} → element ≡ Constructed tag (row kids) → element ≡ Constructed tag' (row expected) → kids ≡ expected
 same_kids {kids = kids} {expected = expected} read written =

@@ -1,7 +1,8 @@
 -- The steps of a cursor.
 use Rattle.std.proofs.Common.{◌≡◌, ℕ, ◌<◌, ◌≤◌, List, ◌∷◌, ◌++◌, length, take, sym, ap, ◌∙◌, arith}
 use Rattle.std.proofs.lemmas.List.{length-append, take_at, length-take}
-use Rattle.der_core.specs.DerElement.{DerElement, DerElements, Nil, Cons, row, listed, row-listed}
+use Rattle.der_core.specs.DerElement.{DerElement, DerElements, Nil, Cons, row, listed}
+use Rattle.der_core.specs.Facts.Rows.{row-listed}
 use Rattle.der_core.specs.Encoding.{encoding, encodings, nesting, IsDer}
 use Rattle.der_core.specs.Facts.Fronts.{some_octets, fronts, same_kids}
 use Rattle.der_core.specs.Placed.{AreDer, IsElem, AreElems, HasElems}

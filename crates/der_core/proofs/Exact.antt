@@ -1,12 +1,15 @@
 -- Octets that are one element, and what else they are refused for.
 use Rattle.std.proofs.Common.{◌≡◌, ℕ, List, length, drop, sym, ap, ◌∙◌, arith, inl, inr}
 use Rattle.std.proofs.lemmas.List.{take_all}
+use Rattle.der_core.specs.declared.error.DerError.{DerError}
+use Rattle.der_core.specs.declared.error.DerError.TheVariants as errors
 use Rattle.der_core.specs.declared.fault.DerFault.{DerFault}
 use Rattle.der_core.specs.declared.fault.Malformed.{Malformed}
 use Rattle.der_core.specs.DerElement.{DerElement}
 use Rattle.der_core.specs.Encoding.{encoding, IsDer}
 use Rattle.der_core.specs.Fault.{IsFirstFault}
-use Rattle.der_core.specs.Reading.{IsFirst, IsExactFault}
+use Rattle.der_core.specs.Reading.{IsFirst, IsExactFault, RefusesMalformed}
+use Rattle.der_core.specs.Writing.{RefusesToWrite}
 use Rattle.der_core.proofs.Elements.{first_parts, first_once}
 use Rattle.der_core.proofs.Faults.{same_malformed, no_fault_where_read, refused_as}
 
@@ -31,3 +34,11 @@ refused_exactly octets at fault m (inl there) (inr trailing) = absurd (no_fault_
 refused_exactly octets at fault m (inr trailing) (inl here) = absurd (no_fault_where_first octets trailing.1.element at m.at m.fault trailing.1.first here)
 refused_exactly octets at fault m (inr there) (inr here) =
     same_malformed m at fault (first_once octets here.1.element there.1.element m.at at here.1.first there.1.first).1 (here.0 ∙ sym there.0)
+
+-- what is one element has no fault to be refused for
+pub refuses_none : (octets : List ℕ) (a : DerElement) (e : DerError) → IsDer a → octets ≡ encoding a → RefusesMalformed (IsExactFault octets) e → RefusesToWrite a e
+refuses_none octets a (errors.Malformed m) der is fault = absurd (no_fault_where_whole octets a m.at m.fault der is fault)
+refuses_none octets a errors.Memory der is refused = tt
+refuses_none octets a errors.Shape der is refused = absurd refused
+refuses_none octets a errors.TooDeep der is refused = absurd refused
+refuses_none octets a errors.TooLong der is refused = absurd refused

@@ -2,13 +2,14 @@
 use Rattle.std.proofs.Common.{◌≡◌, ℕ, ◌-◌, List, [], ◌∷◌, ◌++◌, length, take, Some, None, Ok, Err, refl, sym, ap, subst, ◌∙◌, arith}
 use Rattle.std.proofs.lemmas.List.{append-nil, length-append, take_at}
 use Rattle.der_core.specs.declared.fault.DerFault.{DerFault}
-use Rattle.der_core.specs.DerElement.{DerElement, Primitive, Constructed, DerElements, Nil, Cons, row, listed, row-listed, tag_of, kids_of}
+use Rattle.der_core.specs.DerElement.{DerElement, Primitive, Constructed, DerElements, Nil, Cons, row, listed, tag_of, kids_of}
+use Rattle.der_core.specs.Facts.Rows.{row-listed}
 use Rattle.der_core.specs.Encoding.{encoding, encodings, form_bit, IsDer, IsDerWithin}
 use Rattle.der_core.specs.Facts.Fronts.{ok_is, some_octets}
 use Rattle.der_core.specs.Reading.{HasElements, IsFirst}
 use Rattle.der_core.specs.Head.{head_at}
 use Rattle.der_core.specs.Placed.{contents_octets, AreDer, IsElem, HasElem, AreElems, HasElems}
-use Rattle.der_core.specs.Facts.Placed.{HasElem-prop, HasElems-prop, same_elements}
+use Rattle.der_core.specs.Facts.Placed.{HasElem-prop, HasElems-prop, same_elements, kids_in_bounds}
 use Rattle.der_core.specs.Kept.{IsKept, Kept}
 use Rattle.der_core.proofs.Heads.{contents_of, head_again}
 
@@ -16,22 +17,11 @@ contents_same : (a : DerElement) → contents_of a ≡ contents_octets a
 contents_same (Primitive tag content) = refl
 contents_same (Constructed tag kids) = refl
 
-within : (tag : ℕ) (kids : DerElements) → IsDer (Constructed tag kids) → AreDer (listed kids)
-within tag Nil der = tt
-within tag (Cons kid kids) der =
-    let here : IsDer kid = record { formed = der.formed.2.0; nested = omega arith; short = der.short.1.0 } in
-    let after : IsDer (Constructed tag kids) = record {
-      formed = (der.formed.0, der.formed.1, der.formed.2.1);
-      nested = omega arith;
-      short = (omega (arith, length-append (encoding kid) (encodings kids)), der.short.1.1);
-    } in
-    (here, within tag kids after)
-
 -- ---- the kids of an element
 
 kids_there' : (whole : List ℕ) (tag : ℕ) (content : List ℕ) (a : DerElement) → IsElem whole tag content a → form_bit tag ≡ 1 → HasElems content
 kids_there' whole tag content (Primitive t octets) is bit = absurd (omega (arith, is.0.formed.1, ap form_bit is.2))
-kids_there' whole tag content (Constructed t kids) is bit = (listed kids, (within t kids is.0, is.3 ∙ ap encodings (sym (row-listed kids))))
+kids_there' whole tag content (Constructed t kids) is bit = (listed kids, (kids_in_bounds t kids is.0, is.3 ∙ ap encodings (sym (row-listed kids))))
 
 pub kids_there : (whole : List ℕ) (tag : ℕ) (content : List ℕ) → HasElem whole tag content → form_bit tag ≡ 1 → HasElems content
 kids_there whole tag content h bit = kids_there' whole tag content h.0 h.1 bit
@@ -39,7 +29,7 @@ kids_there whole tag content h bit = kids_there' whole tag content h.0 h.1 bit
 pub kids_are : (whole : List ℕ) (tag : ℕ) (content : List ℕ) (a : DerElement) (kids : List DerElement) → IsElem whole tag content a → form_bit tag ≡ 1 → AreElems content kids → kids_of a ≡ Some kids
 kids_are whole tag content (Primitive t octets) ks is bit k = absurd (omega (arith, is.0.formed.1, ap form_bit is.2))
 kids_are whole tag content (Constructed t kids) ks is bit k =
-    ap Some (same_elements (listed kids) ks (within t kids is.0) k.0 (ap encodings (row-listed kids) ∙ sym is.3 ∙ k.1))
+    ap Some (same_elements (listed kids) ks (kids_in_bounds t kids is.0) k.0 (ap encodings (row-listed kids) ∙ sym is.3 ∙ k.1))
 
 no_kids' : (whole : List ℕ) (tag : ℕ) (content : List ℕ) (a : DerElement) → IsElem whole tag content a → (form_bit tag ≡ 1 → ⊥) → kids_of a ≡ None
 no_kids' whole tag content (Primitive t octets) is bit = refl

@@ -1,7 +1,8 @@
 -- How the nesting of an element follows from that of its kids.
 use Rattle.std.proofs.Common.{◌≡◌, ℕ, ◌+◌, ◌<◌, ◌≤◌, max, Some, None, List, drop, length, get_or, refl, sym, ◌∙◌, ap, arith}
 use Rattle.std.proofs.lemmas.List.{at_drop_more, at_drop_all}
-use Rattle.der_core.specs.DerElement.{DerElement, Primitive, Constructed, row, listed, row-listed, kids_of}
+use Rattle.der_core.specs.DerElement.{DerElement, Primitive, Constructed, row, listed, kids_of}
+use Rattle.der_core.specs.Facts.Rows.{row-listed}
 use Rattle.der_core.specs.Encoding.{nesting, deepest}
 
 pub nesting_is_positive : (t : DerElement) → 0 < nesting t

@@ -1,6 +1,7 @@
 -- Elements by their kids: what is known of an element whose kids were looked at.
 use Rattle.std.proofs.Common.{◌++◌, Result, Ok, Err, OnOk, OnErr, subst, ℕ, ◌≡◌, ◌≢◌, refl, List, [], ◌∷◌, None, sym, ◌∙◌, ap}
-use Rattle.der_core.specs.DerElement.{DerElement, Primitive, Constructed, DerElements, row, listed, listed-row, kids_of}
+use Rattle.der_core.specs.DerElement.{DerElement, Primitive, Constructed, DerElements, row, listed, kids_of}
+use Rattle.der_core.specs.Facts.Rows.{listed-row}
 use Rattle.der_core.specs.Encoding.{IsWellFormed, AreWellFormed}
 use Rattle.der_core.specs.Refusals.{RefusesShape}
 use Rattle.der_core.specs.Structure.{HasMore}

@@ -1,6 +1,5 @@
 -- Data values of X.690 as data: an element is primitive, with contents octets, or constructed, with elements in order (X.690 8.1.1).
-use Rattle.std.specs.Prelude.{◌≡◌, ℕ, ◌+◌, List, [], ◌∷◌, Option, Some, None, refl}
-use Rattle.std.proofs.Common.{ap}
+use Rattle.std.specs.Prelude.{ℕ, ◌+◌, List, [], ◌∷◌, Option, Some, None}
 
 -- An element's tag is its identifier octet.
 mutual
@@ -45,14 +44,3 @@ abbrev mutual
   pub elements_count : DerElements → ℕ
   elements_count Nil = 0
   elements_count (Cons kid kids) = element_count kid + elements_count kids
-
-pub listed-row : (kids : List DerElement) → listed (row kids) ≡ kids
-listed-row [] = refl
-listed-row (kid ∷ kids) = ap (λ rest. kid ∷ rest) (listed-row kids)
-
-pub row-listed : (kids : DerElements) → row (listed kids) ≡ kids
-row-listed Nil = refl
-row-listed (Cons kid kids) = ap (Cons kid) (row-listed kids)
-
--- facts on lists of kids that proofs rest on
-pub ruleset kid_lists = (listed-row, row-listed)

@@ -1,5 +1,5 @@
 -- Elements of the universal types that hold other elements or none (X.690 8).
-use Rattle.std.specs.Prelude.{List, []}
+use Rattle.std.specs.Prelude.{ℕ, List, [], ◌∷◌, Option, Some, None}
 use Rattle.der_core.specs.DerElement.{DerElement, Primitive, Constructed, row}
 
 -- SEQUENCE and SEQUENCE OF (X.690 8.9, 8.10)
@@ -13,3 +13,25 @@ set kids = Constructed 0x31 (row kids)
 -- NULL (X.690 8.8)
 abbrev pub null : DerElement
 null = Primitive 0x05 []
+
+-- BIT STRING of whole octets: no bit of the last one is unused (X.690 8.6.2.2)
+abbrev pub bit_octets : List ℕ → DerElement
+bit_octets octets = Primitive 0x03 (0 ∷ octets)
+
+-- OCTET STRING (X.690 8.7)
+abbrev pub octet_string : List ℕ → DerElement
+octet_string octets = Primitive 0x04 octets
+
+-- an element under an explicit tag, around its own (X.690 8.14.2)
+abbrev pub explicit : ℕ → DerElement → DerElement
+explicit tag kid = Constructed tag (row (kid ∷ []))
+
+-- a primitive element of the tag, where there are contents
+abbrev pub optional_leaf : ℕ → Option (List ℕ) → List DerElement
+optional_leaf tag None = []
+optional_leaf tag (Some content) = Primitive tag content ∷ []
+
+-- an element under the explicit tag, where there is one
+abbrev pub optional_explicit : ℕ → Option DerElement → List DerElement
+optional_explicit tag None = []
+optional_explicit tag (Some kid) = explicit tag kid ∷ []

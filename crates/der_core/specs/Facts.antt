@@ -1,4 +1,5 @@
 -- Lemmas that facts of values rest on. Nothing in this folder needs reading: no public clause cites it.
+pub mod Rows
 pub mod Codes
 pub mod TreeFalls
 pub mod Fronts
@@ -11,3 +12,5 @@ pub mod Grammars
 pub mod Equality
 pub mod Lists
 pub mod Lent
+pub mod Fields
+pub mod OctetStrings

@@ -10,9 +10,10 @@ pub mod Kept
 pub mod Placed
 pub mod Cursor
 pub mod Elements
-pub mod Refusals
 pub mod Structure
+pub mod Refusals
 pub mod Default
+pub mod Optional
 pub mod Each
 pub mod Lent
 pub mod Equality

@@ -1,7 +1,10 @@
 //! The elements in an element, where their octets lie.
 
 ghost use Rattle.std.specs.Prelude.{◌≡◌, ◌≢◌, ◌↔◌, IsTrue, [], ◌∷◌, Some, None, MatchOption};
-ghost use Rattle.der_core.specs.DerElement.{DerElement, DerElements, Constructed, row, tag_of, kids_of};
+ghost use Rattle.der_core.specs.DerElement.{DerElement, DerElements, Primitive, Constructed, row, tag_of, kids_of};
+ghost use Rattle.der_core.specs.Encoding.{form_bit};
+ghost use Rattle.der_core.specs.Lent.{at_option};
+ghost use Rattle.der_core.specs.Optional.{TakesExplicit, HasBadTagging};
 ghost use Rattle.der_core.specs.Default.{HasBadFlag, TakesDefault};
 ghost use Rattle.der_core.specs.Structure.{Fits, BeginsOtherwise, BeginsUnfit, HasMore};
 ghost use Rattle.der_core.specs.Placed.{HasElems};
@@ -12,6 +15,7 @@ use crate::header::{head_of, is_constructed};
 use crate::leaves::boolean_at;
 use crate::structure::Structure;
 use crate::tag::BOOLEAN;
+use crate::tagging::explicit_at;
 use crate::tree::MAX_NESTING;
 
 /// Elements in bounds, one after another, that aren't read yet.
@@ -69,10 +73,7 @@ impl<'a> Kids<'a> {
         if elem.tag != tag {
             return None;
         }
-        match Kids::within(elem) {
-            Some(kids) => Some(kids),
-            None => None,
-        }
+        Kids::within(elem)
     }
 
     /// The next element, where it has this tag. One of another tag is left.
@@ -119,6 +120,34 @@ impl<'a> Kids<'a> {
         let b = boolean_at(elem)?;
         *self = ahead;
         Some(b)
+    }
+
+    /// The contents octets of the next element, where it has this tag, which is one of primitive
+    /// elements. One of another tag is left.
+    pub fn next_leaf(&mut self, tag: u8) -> Option<&'a [u8]>
+        requires { form_bit tag ≡ 0 }
+        ensures { MatchOption result
+            ((self.new.are.0 ≡ self.old.are.0) × BeginsOtherwise tag self.old.are.0)
+            (λ content. self.old.are.0 ≡ Primitive tag content.now ∷ self.new.are.0) }
+    {
+        let elem = self.next_tagged(tag)?;
+        Some(elem.content)
+    }
+
+    /// The element in the next one, where that has this explicit tag; `Some(None)` where there is
+    /// none of the tag. One of the tag that doesn't hold one element is left.
+    pub fn next_explicit(&mut self, tag: u8) -> Option<Option<Elem<'a>>>
+        ensures { MatchOption result
+            ((self.new.are.0 ≡ self.old.are.0) × HasBadTagging tag self.old.are.0)
+            (λ inner. TakesExplicit tag self.old.are.0 (at_option inner) self.new.are.0) }
+    {
+        let mut ahead = *self;
+        let Some(tagged) = ahead.next_tagged(tag) else {
+            return Some(None);
+        };
+        let inner = explicit_at(tagged, tag)?;
+        *self = ahead;
+        Some(Some(inner))
     }
 
     /// There are no further elements.

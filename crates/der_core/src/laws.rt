@@ -44,10 +44,7 @@ pub fn read_back(alloc: Global, tree: &Tree) -> Result<Tree, DerError>
     ensures deep { 64 < nesting tree.now → result ≡ Err errors.TooDeep }
 {
     let octets = write(alloc, tree)?;
-    match read_exact(alloc, &octets) {
-        Ok(again) => Ok(again),
-        Err(_) => Err(DerError::Memory),
-    }
+    read_exact(alloc, &octets)
 }
 
 /// Values of a structure are equal exactly where their octets are, and the octets that are written

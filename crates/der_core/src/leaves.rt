@@ -2,13 +2,14 @@
 
 ghost use Rattle.std.specs.Prelude.{◌≡◌, ◌≢◌, IfOk, List, ℕ, Bool, MatchOption};
 ghost use Rattle.der_core.specs.DerElement.{Primitive};
+ghost use Rattle.der_core.specs.Elements.{bit_octets};
 ghost use Rattle.der_core.specs.Encoding.{IsWellFormed, IsTag, form_bit};
 ghost use Rattle.der_core.specs.Default.{IsBoolean};
 
 use crate::elem::Elem;
 use crate::kids::Kids;
-use crate::octets::Octets;
-use crate::tag::BOOLEAN;
+use crate::octets::{Octets, is_same};
+use crate::tag::{BIT_STRING, BOOLEAN};
 use crate::tree::Tree;
 use std::alloc::{AllocError, Global};
 
@@ -24,6 +25,32 @@ pub fn leaf_at<'a>(elem: Elem<'a>, tag: u8) -> Option<&'a [u8]>
     match Kids::within(elem) {
         Some(_) => None,
         None => Some(elem.content),
+    }
+}
+
+/// The element is primitive, of this tag and these contents octets.
+pub fn expect_leaf(elem: Elem<'_>, tag: u8, content: &[u8]) -> Option<()>
+    ensures { MatchOption result
+        (elem.entry.is.0 ≢ Primitive tag content.now)
+        (λ _. elem.entry.is.0 ≡ Primitive tag content.now) }
+{
+    let found = leaf_at(elem, tag)?;
+    if is_same(found, content) {
+        Some(())
+    } else {
+        None
+    }
+}
+
+/// The octets of a BIT STRING whose last octet has no unused bits (X.690 8.6.2.2).
+pub fn bit_octets_at<'a>(elem: Elem<'a>) -> Option<&'a [u8]>
+    ensures { MatchOption result
+        ((octets : List ℕ) → elem.entry.is.0 ≢ bit_octets octets)
+        (λ octets. elem.entry.is.0 ≡ bit_octets octets.now) }
+{
+    match leaf_at(elem, BIT_STRING)? {
+        [0, octets @ ..] => Some(octets),
+        _ => None,
     }
 }
 

@@ -14,12 +14,14 @@ mod laws;
 mod leaves;
 mod list;
 mod new_kids;
+mod octet_string;
 mod octets;
 mod raw;
 mod reading;
 mod sequence_of;
 mod structure;
 pub mod tag;
+mod tagging;
 mod testing;
 mod tree;
 mod within;
@@ -34,7 +36,7 @@ pub use laws::{
     no_encoding_begins_another, one_first_fault, read_back, tests_of_a_head,
     values_are_their_octets,
 };
-pub use leaves::{boolean_at, leaf, leaf_at};
+pub use leaves::{bit_octets_at, boolean_at, expect_leaf, leaf, leaf_at};
 pub use list::{
     ListOf, copy_each, has_each, has_list, read_each, read_list, write_each, write_list,
 };
@@ -43,6 +45,7 @@ pub use octets::{Octets, is_same};
 pub use raw::Raw;
 pub use reading::{read_exact, read_first};
 pub use structure::Structure;
+pub use tagging::{explicit, explicit_at};
 pub use tree::{MAX_NESTING, Tree, Trees};
 pub use within::{has_within, read_within, write_within};
 pub use writing::write;

@@ -57,13 +57,9 @@ pub trait Structure: Sized + Drop {
         requires { IsDer tree.now }
         ensures { MatchResult result (spells tree.now) (RefusesShape (spells tree.now)) }
     {
-        let Ok(octets) = write(alloc, tree) else {
-            return Err(DerError::Memory);
-        };
-        match exact_of(&octets) {
-            Ok(elem) => Self::read_at(alloc, elem),
-            Err(_) => Err(DerError::Memory),
-        }
+        let octets = write(alloc, tree)?;
+        let elem = exact_of(&octets)?;
+        Self::read_at(alloc, elem)
     }
 
     /// The value that octets spell, all of them. What is malformed or has another shape is refused

@@ -83,7 +83,7 @@ impl Tree {
     }
 
     /// The elements in a branch in order, `None` exactly for a leaf.
-    #[tactic(auto, using(crate::specs::DerElement::kid_lists))]
+    #[tactic(auto, using(crate::specs::Facts::Rows::kid_lists))]
     pub fn kids(&self) -> Option<&[Tree]>
         ensures { option_copied result ≡ kids_of self.now }
     {

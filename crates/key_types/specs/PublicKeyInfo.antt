@@ -1,9 +1,9 @@
 -- SubjectPublicKeyInfo ::= SEQUENCE { algorithm AlgorithmIdentifier, subjectPublicKey BIT STRING } (RFC 5280 4.1)
 use Rattle.std.specs.Prelude.{◌≡◌, ℕ, List, [], ◌∷◌}
-use Rattle.der_core.specs.DerElement.{DerElement, Primitive}
+use Rattle.der_core.specs.DerElement.{DerElement}
 use Rattle.der_core.specs.Encoding.{encoding}
 use Rattle.der_core.specs.Placed.{AreDer}
-use Rattle.der_core.specs.Elements.{sequence}
+use Rattle.der_core.specs.Elements.{sequence, bit_octets}
 use Rattle.asn1_types.specs.Elements.{bit_string}
 use Rattle.key_types.specs.AlgorithmIdentifier.{algorithm_identifier}
 use Rattle.key_types.specs.RsaPublicKey.{rsa_public_key}
@@ -16,7 +16,7 @@ use Rattle.key_types.specs.declared.subject_key.SubjectKey.TheVariants as keys
 
 -- The bits of an RSA key are those of the encoding of an RSAPublicKey (RFC 3279 2.3.1).
 abbrev pub subject_public_key : SubjectKey → DerElement
-subject_public_key (keys.Rsa key) = Primitive 0x03 (0 ∷ encoding (rsa_public_key key))
+subject_public_key (keys.Rsa key) = bit_octets (encoding (rsa_public_key key))
 subject_public_key (keys.Ec bits) = bit_string bits
 subject_public_key (keys.Ed bits) = bit_string bits
 subject_public_key (keys.Mldsa bits) = bit_string bits

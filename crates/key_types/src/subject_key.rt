@@ -1,7 +1,6 @@
 //! The keys of subjects.
 
-ghost use Rattle.std.specs.Prelude.{◌≡◌, ◌≢◌, ◌∷◌, List, ℕ, false, IfOk, IsTrue, MatchOption, MatchResult, ◌↔◌};
-ghost use Rattle.der_core.specs.DerElement.{Primitive};
+ghost use Rattle.std.specs.Prelude.{◌≡◌, ◌↔◌, false, IfOk, IsTrue, MatchResult};
 ghost use Rattle.der_core.specs.Encoding.{IsWellFormed};
 ghost use Rattle.der_core.specs.Refusals.{RefusesShape, RefusesInner};
 ghost use Rattle.key_types.specs.SubjectKey.{kind_of};
@@ -15,7 +14,7 @@ use crate::public_key::RsaPublicKey;
 use asn1_types::BitString;
 use der_core::tag::BIT_STRING;
 use der_core::{
-    DerError, Elem, Octets, Structure, Tree, has_within, leaf_at, read_within, write_within,
+    DerError, Elem, Octets, Structure, Tree, bit_octets_at, has_within, read_within, write_within,
 };
 use std::alloc::{AllocError, Global};
 
@@ -106,7 +105,7 @@ fn has_rsa_key(elem: Elem<'_>) -> bool
     ensures fits { IsTrue result → (key : RsaPublicKey) × IsSubjectKey elem.entry.is.0 (Rsa key) }
     ensures unfit { result ≡ false → (key : RsaPublicKey) → IsSubjectKey elem.entry.is.0 (Rsa key) → ⊥ }
 {
-    match whole_octets_at(elem) {
+    match bit_octets_at(elem) {
         Some(payload) => has_within::<RsaPublicKey>(payload),
         None => false,
     }
@@ -118,21 +117,9 @@ fn read_rsa_key(alloc: Global, elem: Elem<'_>) -> Result<RsaPublicKey, DerError>
         (λ key. IsSubjectKey elem.entry.is.0 (Rsa key))
         (RefusesShape (λ key. IsSubjectKey elem.entry.is.0 (Rsa key))) }
 {
-    match whole_octets_at(elem) {
+    match bit_octets_at(elem) {
         Some(payload) => read_within(alloc, payload),
         None => Err(DerError::Shape),
-    }
-}
-
-/// The octets of a BIT STRING without unused bits.
-fn whole_octets_at<'a>(elem: Elem<'a>) -> Option<&'a [u8]>
-    ensures { MatchOption result
-        ((payload : List ℕ) → elem.entry.is.0 ≢ Primitive 0x03 (0 ∷ payload))
-        (λ payload. elem.entry.is.0 ≡ Primitive 0x03 (0 ∷ payload.now)) }
-{
-    match leaf_at(elem, BIT_STRING)? {
-        [0, payload @ ..] => Some(payload),
-        _ => None,
     }
 }
 

@@ -1,7 +1,8 @@
 -- GeneralName ::= CHOICE of eight forms, each under a tag of its own (RFC 5280 4.2.1.6)
-use Rattle.std.specs.Prelude.{◌≡◌, ℕ, List, [], ◌∷◌, Option, Some, None}
+use Rattle.std.specs.Prelude.{◌≡◌, List, [], ◌∷◌, ◌++◌, Option, Some, None}
 use Rattle.der_core.specs.DerElement.{DerElement, Primitive, Constructed, row}
 use Rattle.der_core.specs.Each.{list_element}
+use Rattle.der_core.specs.Elements.{explicit, optional_explicit}
 use Rattle.asn1_types.specs.Elements.{object_identifier}
 use Rattle.asn1_types.specs.Values.{identifier_contents, ia5_contents}
 use Rattle.x501_types.specs.DirectoryString.{directory_string}
@@ -11,10 +12,6 @@ use Rattle.x501_types.specs.declared.other_name.OtherName.{OtherName}
 use Rattle.x501_types.specs.declared.edi_party_name.EdiPartyName.{EdiPartyName}
 use Rattle.x501_types.specs.declared.general_name.RawGeneralName.{RawGeneralName}
 use Rattle.x501_types.specs.declared.general_name.RawGeneralName.TheVariants as forms
-
--- an element under a tag around its own (X.690 8.14.2)
-abbrev pub explicit : ℕ → DerElement → DerElement
-explicit tag kid = Constructed tag (row (kid ∷ []))
 
 -- OtherName ::= [0] SEQUENCE { type-id OBJECT IDENTIFIER, value [0] EXPLICIT ANY DEFINED BY type-id }, by the elements of its fields
 abbrev pub other_name_of : DerElement → DerElement → DerElement
@@ -27,8 +24,7 @@ other_name name = other_name_of (object_identifier name.type_id) name.value.elem
 -- EDIPartyName ::= [5] SEQUENCE { nameAssigner [0] DirectoryString OPTIONAL, partyName [1] DirectoryString }, by the elements of its
 -- fields. The tag of a choice is explicit (X.680 31.2.7).
 abbrev pub edi_party_name_of : Option DerElement → DerElement → DerElement
-edi_party_name_of None party = Constructed 0xA5 (row (explicit 0xA1 party ∷ []))
-edi_party_name_of (Some assigner) party = Constructed 0xA5 (row (explicit 0xA0 assigner ∷ explicit 0xA1 party ∷ []))
+edi_party_name_of assigner party = Constructed 0xA5 (row (optional_explicit 0xA0 assigner ++ explicit 0xA1 party ∷ []))
 
 -- the element of a string that may be left out
 abbrev pub string_option : Option DirectoryString → Option DerElement

@@ -6,8 +6,7 @@ ghost use Rattle.der_core.specs.Lent.{at_option};
 ghost use Rattle.x501_types.specs.GeneralName.{edi_party_name_of};
 
 use crate::directory_string::DirectoryString;
-use crate::tagging::{explicit, explicit_at};
-use der_core::{DerError, Elem, Kids, NewKids, Structure, Tree};
+use der_core::{DerError, Elem, Kids, NewKids, Structure, Tree, explicit, explicit_at};
 use std::alloc::{AllocError, Global};
 
 pub(crate) const EDI_PARTY_NAME: u8 = 0xA5;
@@ -31,10 +30,7 @@ fn fields_of<'a>(elem: Elem<'a>) -> Option<(Option<Elem<'a>>, Elem<'a>)>
         (λ fields. elem.entry.is.0 ≡ edi_party_name_of (at_option fields.0) fields.1.is.0) }
 {
     let mut kids = Kids::of(elem, EDI_PARTY_NAME)?;
-    let assigner = match kids.next_tagged(NAME_ASSIGNER) {
-        Some(tagged) => Some(explicit_at(tagged, NAME_ASSIGNER)?),
-        None => None,
-    };
+    let assigner = kids.next_explicit(NAME_ASSIGNER)?;
     let party = explicit_at(kids.next()?, PARTY_NAME)?;
     kids.end()?;
     Some((assigner, party))

@@ -3,16 +3,16 @@
 ghost use Rattle.std.specs.Prelude.{◌≡◌, ◌≢◌, ◌↔◌, ◌∷◌, [], List, false, IsTrue, MatchResult};
 ghost use Rattle.der_core.specs.Refusals.{RefusesShape, RefusesInner};
 ghost use Rattle.der_core.specs.Encoding.{IsWellFormed};
-ghost use Rattle.x501_types.specs.GeneralName.{explicit};
+ghost use Rattle.der_core.specs.Elements.{explicit};
 ghost use Rattle.x501_types.specs.Name.{name};
 ghost use Rattle.x501_types.specs.declared.attribute.AttributeTypeAndValue.{AttributeTypeAndValue};
 
 use crate::edi_party_name::{EDI_PARTY_NAME, EdiPartyName};
 use crate::name::Name;
 use crate::other_name::{OTHER_NAME, OtherName};
-use crate::tagging::{explicit, explicit_at, has_identifier, has_text, read_identifier, read_text};
+use crate::tagging::{has_identifier, has_text, read_identifier, read_text};
 use asn1_types::{Ia5String, ObjectIdentifier};
-use der_core::{DerError, Elem, Octets, Structure, Tree, leaf};
+use der_core::{DerError, Elem, Octets, Structure, Tree, explicit, explicit_at, leaf};
 use std::alloc::{AllocError, Global};
 
 const RFC822_NAME: u8 = 0x81;

@@ -4,9 +4,8 @@ ghost use Rattle.std.specs.Prelude.{◌≡◌, ◌≢◌, ◌↔◌, IsTrue, Mat
 ghost use Rattle.der_core.specs.DerElement.{DerElement};
 ghost use Rattle.x501_types.specs.GeneralName.{other_name_of};
 
-use crate::tagging::{explicit, explicit_at};
 use asn1_types::ObjectIdentifier;
-use der_core::{DerError, Elem, NewKids, Raw, Structure, Tree, two_kids};
+use der_core::{DerError, Elem, NewKids, Raw, Structure, Tree, explicit, explicit_at, two_kids};
 use std::alloc::{AllocError, Global};
 
 pub(crate) const OTHER_NAME: u8 = 0xA0;

@@ -1,38 +1,14 @@
-//! Elements under the tags of a context (X.690 8.14).
+//! Values under the tag of a context in place of their own (X.690 8.14.3).
 
-ghost use Rattle.std.specs.Prelude.{◌≡◌, ◌≢◌, ◌∷◌, [], false, IfOk, IsTrue, MatchOption, MatchResult};
-ghost use Rattle.der_core.specs.DerElement.{DerElement, Primitive};
-ghost use Rattle.der_core.specs.Encoding.{IsWellFormed, IsTag, form_bit};
+ghost use Rattle.std.specs.Prelude.{◌≡◌, ◌≢◌, false, IsTrue, MatchResult};
+ghost use Rattle.der_core.specs.DerElement.{Primitive};
 ghost use Rattle.der_core.specs.Refusals.{RefusesShape};
 ghost use Rattle.asn1_types.specs.declared.oid.ObjectIdentifier.{ObjectIdentifier};
 ghost use Rattle.asn1_types.specs.declared.ia5_string.Ia5String.{Ia5String};
-ghost use Rattle.x501_types.specs.GeneralName.{explicit};
 
 use asn1_types::{Ia5String, ObjectIdentifier};
-use der_core::{DerError, Elem, Kids, NewKids, Tree, leaf_at};
-use std::alloc::{AllocError, Global};
-
-/// The element in a constructed element of this tag that holds one.
-pub(crate) fn explicit_at<'a>(elem: Elem<'a>, tag: u8) -> Option<Elem<'a>>
-    ensures { MatchOption result
-        ((kid : DerElement) → elem.entry.is.0 ≢ explicit tag kid)
-        (λ kid. elem.entry.is.0 ≡ explicit tag kid.is.0) }
-{
-    let mut kids = Kids::of(elem, tag)?;
-    let kid = kids.next()?;
-    kids.end()?;
-    Some(kid)
-}
-
-/// The constructed element of this tag around one element.
-pub(crate) fn explicit(alloc: Global, tag: u8, kid: Tree) -> Result<Tree, AllocError>
-    requires { IsTag tag × (form_bit tag ≡ 1) × IsWellFormed kid }
-    ensures { IfOk result (λ tree. (tree ≡ explicit tag kid) × IsWellFormed tree) }
-{
-    let mut kids = NewKids::new(alloc);
-    kids.push(kid)?;
-    Ok(kids.into_branch(tag))
-}
+use der_core::{DerError, Elem, leaf_at};
+use std::alloc::Global;
 
 /// Whether the element is an IA5String under this tag in place of its own.
 pub(crate) fn has_text(elem: Elem<'_>, tag: u8) -> bool

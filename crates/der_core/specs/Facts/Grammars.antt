@@ -1,7 +1,8 @@
 -- Grammars of structures that are written in one way, and of lists.
 use Rattle.std.specs.Prelude.{◌≡◌, ℕ, List, [], ◌∷◌, ◌++◌, map, flat_map, refl}
 use Rattle.std.proofs.Common.{sym, ◌∙◌, ap, subst, arith}
-use Rattle.der_core.specs.DerElement.{DerElement, Constructed, row, listed, listed-row}
+use Rattle.der_core.specs.DerElement.{DerElement, Constructed, row, listed}
+use Rattle.der_core.specs.Facts.Rows.{listed-row}
 use Rattle.der_core.specs.Encoding.{IsTag, IsWellFormed, AreWellFormed, form_bit}
 use Rattle.der_core.specs.Placed.{AreDer}
 use Rattle.der_core.specs.Elements.{sequence}

@@ -13,13 +13,13 @@ use Rattle.der_core.specs.declared.error.DerError.TheVariants as errors
 abbrev prints : {X : Type 0} → (X → DerElement) → DerElement → X → Type 0
 prints written element value = element ≡ written value
 
-each_written : {X : Type 0} (written : X → DerElement) (elements : List DerElement) (values : List X) → AreEach (prints written) elements values → elements ≡ map written values
+pub each_written : {X : Type 0} (written : X → DerElement) (elements : List DerElement) (values : List X) → AreEach (prints written) elements values → elements ≡ map written values
 each_written written [] [] each = refl
 each_written written [] (v ∷ values) each = absurd each
 each_written written (e ∷ elements) [] each = absurd each
 each_written written (e ∷ elements) (v ∷ values) each = ap (λ x. x ∷ elements) each.0 ∙ ap (λ xs. written v ∷ xs) (each_written written elements values each.1)
 
-written_each : {X : Type 0} (written : X → DerElement) (values : List X) → AreEach (prints written) (map written values) values
+pub written_each : {X : Type 0} (written : X → DerElement) (values : List X) → AreEach (prints written) (map written values) values
 written_each written [] = tt
 written_each written (v ∷ values) = (refl, written_each written values)
 
@@ -41,7 +41,7 @@ list_refused P Q errors.TooLong f none = absurd none
 abbrev no_element : List DerElement
 no_element = []
 
-none_inner : {X : Type 0} (values : List X) → flat_map (λ (value : X). no_element) values ≡ []
+pub none_inner : {X : Type 0} (values : List X) → flat_map (λ (value : X). no_element) values ≡ []
 none_inner [] = refl
 none_inner (v ∷ values) = none_inner values
 

@@ -1,10 +1,11 @@
 -- Octets are those of one element, or of one list of elements, for one reason.
-use Rattle.std.specs.Prelude.{◌≡◌, ℕ, List, [], ◌∷◌, ◌++◌}
+use Rattle.std.specs.Prelude.{◌≡◌, ℕ, List, [], ◌∷◌, ◌++◌, length}
 use Rattle.std.specs.Coded.{×_prop, Unit-prop}
-use Rattle.std.proofs.Common.{sym, ap, ◌∙◌}
+use Rattle.std.proofs.Common.{sym, ap, ◌∙◌, arith, length-append}
 use mathlib.Core.HLevel.{Σ_prop_path}
-use Rattle.der_core.specs.DerElement.{DerElement, row, listed, listed-row}
-use Rattle.der_core.specs.Encoding.{encodings, AreWellFormed, AreShort}
+use Rattle.der_core.specs.DerElement.{DerElement, DerElements, Nil, Cons, Constructed, row, listed}
+use Rattle.der_core.specs.Facts.Rows.{listed-row}
+use Rattle.der_core.specs.Encoding.{encoding, encodings, IsDer, AreWellFormed, AreShort}
 use Rattle.der_core.specs.Placed.{AreDer, IsElem, HasElem, AreElems, HasElems}
 use Rattle.der_core.specs.Facts.Fronts.{fronts, same_kids}
 use Rattle.der_core.specs.Facts.InBounds.{same_numbers, same_octets, IsDerWithin-prop}
@@ -37,3 +38,15 @@ AreElems-prop octets elements = ×_prop (AreDer-prop elements) (same_octets octe
 
 pub HasElems-prop : (octets : List ℕ) → IsProp (HasElems octets)
 HasElems-prop octets a b = Σ_prop_path (AreElems-prop octets) (same_elements a.0 b.0 a.1.0 b.1.0 (sym a.1.1 ∙ b.1.1))
+
+-- the elements in one in bounds are in bounds
+pub kids_in_bounds : (tag : ℕ) (kids : DerElements) → IsDer (Constructed tag kids) → AreDer (listed kids)
+kids_in_bounds tag Nil der = tt
+kids_in_bounds tag (Cons kid kids) der =
+    let here : IsDer kid = record { formed = der.formed.2.0; nested = omega arith; short = der.short.1.0 } in
+    let after : IsDer (Constructed tag kids) = record {
+      formed = (der.formed.0, der.formed.1, der.formed.2.1);
+      nested = omega arith;
+      short = (omega (arith, length-append (encoding kid) (encodings kids)), der.short.1.1);
+    } in
+    (here, kids_in_bounds tag kids after)

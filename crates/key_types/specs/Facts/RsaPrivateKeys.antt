@@ -1,5 +1,5 @@
 -- Private keys of RSA: unlike ones have unlike elements, each well formed.
-use Rattle.std.proofs.Common.{◌≡◌, [], refl, ap, ◌∙◌, arith}
+use Rattle.std.proofs.Common.{◌≡◌, [], refl, arith}
 use Rattle.der_core.specs.Structure.{IsGrammar}
 use Rattle.der_core.specs.Facts.Grammars.{printed}
 use Rattle.asn1_types.specs.Elements.{integer}

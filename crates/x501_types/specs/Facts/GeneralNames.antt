@@ -14,7 +14,8 @@ use Rattle.asn1_types.specs.declared.oid.ObjectIdentifier.{ObjectIdentifier}
 use Rattle.asn1_types.specs.declared.ia5_string.Ia5String.{Ia5String}
 use Rattle.x501_types.specs.DirectoryString.{directory_string}
 use Rattle.x501_types.specs.Name.{name}
-use Rattle.x501_types.specs.GeneralName.{explicit, other_name_of, other_name, edi_party_name_of, string_option, edi_party_name, general_name, general_names, AreGeneralNames}
+use Rattle.der_core.specs.Elements.{explicit}
+use Rattle.x501_types.specs.GeneralName.{other_name_of, other_name, edi_party_name_of, string_option, edi_party_name, general_name, general_names, AreGeneralNames}
 use Rattle.x501_types.specs.Facts.Names.{directory_strings, names}
 use Rattle.x501_types.specs.declared.directory_string.DirectoryString.{DirectoryString}
 use Rattle.x501_types.specs.declared.other_name.OtherName.{OtherName}
