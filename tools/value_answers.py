@@ -153,7 +153,15 @@ def date_line(fields):
     if not fields:
         return "none"
     utc = word(digits(fields, 2)) if is_utc_year(fields[0]) else "none"
-    return f"{time_text(fields)} {generalized_line(fields)} {utc}"
+    element = word(write(time_element(fields)))
+    return f"{time_text(fields)} {generalized_line(fields)} {utc} {element} {time_text(fields)}"
+
+
+def time_element(fields):
+    """The time that a certificate has for a moment (RFC 5280 4.1.2.5)."""
+    if is_utc_year(fields[0]):
+        return Primitive(0x17, digits(fields, 2))
+    return Primitive(0x18, digits(fields, 0))
 
 
 def read_time(octets, size):
@@ -188,6 +196,10 @@ def time_rows():
         yield f"time utc_content {word(octets)}", utc_line(read_time(octets, 2))
     for text in values.DATES:
         yield f"time date {text}", date_line(moment(fields_of(text)))
+    for text, _ in values.MOMENTS_IN_BOTH_FORMS:
+        fields = fields_of(text)
+        for element in time_element(fields), Primitive(0x18, digits(fields, 0)):
+            yield f"time date_of {word(write(element))}", date_line(fields)
     for text in values.DAYS:
         yield f"time day {text}", date_line(moment((*fields_of(text), 0, 0, 0)))
     for one, other in values.ORDER:

@@ -1,2 +1,3 @@
+pub mod UtcDate
 pub mod DirectoryName
 pub mod Facts
