@@ -469,6 +469,24 @@ UNLIKE_GENERAL_NAMES = [
     ("3010a40e300c310a300806035504030c0141", "3004a4023000", "another directory name"),
 ]
 
+# Texts of mailboxes, hosts and resources that a name is made of, and whether it can be.
+MADE_NAME_TEXTS = [
+    ("localhost", True, "a host"),
+    ("a", True, "one character"),
+    ("u", True, "another"),
+    ("", True, "no text"),
+    ("\x7f", True, "the last octet of the alphabet"),
+    ("caf\u00e9", False, "an e with an accent"),
+    ("\x80", False, "the first character past the alphabet"),
+]
+
+# Octets of addresses.
+MADE_ADDRESSES = [
+    ("7f000001", "127.0.0.1"),
+    ("20010db8000000000000000000000001", "an address of version 6"),
+    ("-", "no octets"),
+]
+
 # Attribute types by their names and arcs (X.520), and the words that are printed.
 ATTRIBUTE_TYPES = [
     ("CommonName", "2.5.4.3", "CN"),

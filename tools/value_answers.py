@@ -24,7 +24,7 @@ from certificate_parts import STORED, rows_of
 from der_reader import Constructed, Primitive, read_exact, write
 from oid_table import BAD_CONTENTS, BAD_TEXTS, KNOWN, READ, contents
 from stored_run import write_stored_run
-from value_reader import KINDS, Shape, bits, ia5, integer, name, structure_line, word
+from value_reader import KINDS, Shape, bits, general_name, ia5, integer, name, structure_line, word
 
 
 EMAIL = "1.2.840.113549.1.9.1"
@@ -352,6 +352,35 @@ def made_extension_rows():
     yield made_row("extension critical_key_usage 1", "extension", critical)
 
 
+def made_general_name(call, element):
+    return f"make general_name {call}", f"{word(write(element))} {general_name(element)} same"
+
+
+def made_general_name_rows():
+    """Names of each form that is made; a text past the alphabet of seven bits makes none."""
+    for call, tag in ("rfc822_name", 0x81), ("dns_name", 0x82), ("uri", 0x86):
+        for text, is_made, _ in structures.MADE_NAME_TEXTS:
+            words = f"{call} {text_word(text)}"
+            if is_made:
+                yield made_general_name(words, Primitive(tag, text.encode("ascii")))
+            else:
+                yield f"make general_name {words}", "CharSet"
+    for octets, _ in structures.MADE_ADDRESSES:
+        address = bytes.fromhex(octets.replace("-", ""))
+        yield made_general_name(f"ip_address {octets}", Primitive(0x87, address))
+    for text in "1.2.3", "2.999":
+        oid = contents(text)
+        yield made_general_name(f"registered_id {word(oid)}", Primitive(0x88, oid))
+    for text in "A", "p", "", "caf\u00e9":
+        name = Constructed(0x30, (made_set("2.5.4.3", 0x0C, text),))
+        yield made_general_name(f"directory_name {text_word(text)}", Constructed(0xA4, (name,)))
+        party = Constructed(0xA1, (Primitive(0x0C, text.encode()),))
+        words = f"edi_party_name {text_word(text)}"
+        yield made_general_name(words, Constructed(0xA5, (party,)))
+        assigner = Constructed(0xA0, (Primitive(0x0C, b"q"),))
+        yield made_general_name(f"{words} {text_word('q')}", Constructed(0xA5, (assigner, party)))
+
+
 def certificate_rows():
     """Names and keys of certificates: text, kind and numbers are what openssl said."""
     names, keys = rows_of(STORED.read_text(encoding="ascii"))
@@ -379,6 +408,7 @@ def structure_rows():
     yield from unlike_rows()
     yield from made_rows()
     yield from made_extension_rows()
+    yield from made_general_name_rows()
     yield from certificate_rows()
 
 
@@ -396,7 +426,7 @@ def stored_run(program, rows_and_lines):
 def is_extension(row_and_line):
     """Whether a row is one of `extension_answers`: its second word says so."""
     row, _ = row_and_line
-    return row.split()[1] in ("extension", "general_names", "validity")
+    return row.split()[1] in ("extension", "general_name", "general_names", "validity")
 
 
 def stored_files():

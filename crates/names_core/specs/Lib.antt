@@ -1,3 +1,4 @@
 pub mod UtcDate
 pub mod DirectoryName
+pub mod GeneralName
 pub mod Facts
