@@ -381,6 +381,20 @@ def made_general_name_rows():
         yield made_general_name(f"{words} {text_word('q')}", Constructed(0xA5, (assigner, party)))
 
 
+def first_of(tag, names):
+    """What is printed of the value of the first name of a form."""
+    found = [general_name(name).split(" ")[1] for name in names if name.tag == tag]
+    return found[0] if found else "none"
+
+
+def found_general_name_rows():
+    """The first host and the first name of the directory in lists of names."""
+    for element, _ in structures.GENERAL_NAMES + structures.FOUND_GENERAL_NAMES:
+        names = read_exact(bytes.fromhex(element)).kids
+        line = f"{len(names)} {first_of(0x82, names)} {first_of(0xA4, names)} same"
+        yield f"find general_names {element}", line
+
+
 def certificate_rows():
     """Names and keys of certificates: text, kind and numbers are what openssl said."""
     names, keys = rows_of(STORED.read_text(encoding="ascii"))
@@ -409,6 +423,7 @@ def structure_rows():
     yield from made_rows()
     yield from made_extension_rows()
     yield from made_general_name_rows()
+    yield from found_general_name_rows()
     yield from certificate_rows()
 
 
