@@ -469,6 +469,37 @@ UNLIKE_GENERAL_NAMES = [
     ("3010a40e300c310a300806035504030c0141", "3004a4023000", "another directory name"),
 ]
 
+# Texts of mailboxes, hosts and resources that a name is made of, and whether it can be.
+MADE_NAME_TEXTS = [
+    ("localhost", True, "a host"),
+    ("a", True, "one character"),
+    ("u", True, "another"),
+    ("", True, "no text"),
+    ("\x7f", True, "the last octet of the alphabet"),
+    ("caf\u00e9", False, "an e with an accent"),
+    ("\x80", False, "the first character past the alphabet"),
+]
+
+# Octets of addresses.
+MADE_ADDRESSES = [
+    ("7f000001", "127.0.0.1"),
+    ("20010db8000000000000000000000001", "an address of version 6"),
+    ("-", "no octets"),
+]
+
+# Lists of general names in which names are found, beside those that are read.
+FOUND_GENERAL_NAMES = [
+    ("300b82096c6f63616c686f7374", "one host"),
+    ("3010a40e300c310a300806035504030c0141", "one name of the directory"),
+    ("3009820161820162820163", "three hosts"),
+    ("3020a40e300c310a300806035504030c0141a40e300c310a300806035504030c0142", "two names of the directory"),
+    ("3009810161860162820163", "a host after a mailbox and a resource"),
+    ("30148201618201628101638704010203048803550403", "hosts before an address and an identifier"),
+    ("3016820161a40e300c310a300806035504030c0141820162", "a name of the directory between hosts"),
+    ("3003810161", "a mailbox alone"),
+    ("302482096c6f63616c686f7374860175820162a40e300c310a300806035504030c0141810161", "five names"),
+]
+
 # Attribute types by their names and arcs (X.520), and the words that are printed.
 ATTRIBUTE_TYPES = [
     ("CommonName", "2.5.4.3", "CN"),

@@ -24,7 +24,7 @@ from certificate_parts import STORED, rows_of
 from der_reader import Constructed, Primitive, read_exact, write
 from oid_table import BAD_CONTENTS, BAD_TEXTS, KNOWN, READ, contents
 from stored_run import write_stored_run
-from value_reader import KINDS, Shape, bits, ia5, integer, name, structure_line, word
+from value_reader import KINDS, Shape, bits, general_name, ia5, integer, name, structure_line, word
 
 
 EMAIL = "1.2.840.113549.1.9.1"
@@ -153,7 +153,15 @@ def date_line(fields):
     if not fields:
         return "none"
     utc = word(digits(fields, 2)) if is_utc_year(fields[0]) else "none"
-    return f"{time_text(fields)} {generalized_line(fields)} {utc}"
+    element = word(write(time_element(fields)))
+    return f"{time_text(fields)} {generalized_line(fields)} {utc} {element} {time_text(fields)}"
+
+
+def time_element(fields):
+    """The time that a certificate has for a moment (RFC 5280 4.1.2.5)."""
+    if is_utc_year(fields[0]):
+        return Primitive(0x17, digits(fields, 2))
+    return Primitive(0x18, digits(fields, 0))
 
 
 def read_time(octets, size):
@@ -188,6 +196,10 @@ def time_rows():
         yield f"time utc_content {word(octets)}", utc_line(read_time(octets, 2))
     for text in values.DATES:
         yield f"time date {text}", date_line(moment(fields_of(text)))
+    for text, _ in values.MOMENTS_IN_BOTH_FORMS:
+        fields = fields_of(text)
+        for element in time_element(fields), Primitive(0x18, digits(fields, 0)):
+            yield f"time date_of {word(write(element))}", date_line(fields)
     for text in values.DAYS:
         yield f"time day {text}", date_line(moment((*fields_of(text), 0, 0, 0)))
     for one, other in values.ORDER:
@@ -366,6 +378,49 @@ def made_extension_rows():
     yield made_row("extension critical_key_usage 1", "extension", critical)
 
 
+def made_general_name(call, element):
+    return f"make general_name {call}", f"{word(write(element))} {general_name(element)} same"
+
+
+def made_general_name_rows():
+    """Names of each form that is made; a text past the alphabet of seven bits makes none."""
+    for call, tag in ("rfc822_name", 0x81), ("dns_name", 0x82), ("uri", 0x86):
+        for text, is_made, _ in structures.MADE_NAME_TEXTS:
+            words = f"{call} {text_word(text)}"
+            if is_made:
+                yield made_general_name(words, Primitive(tag, text.encode("ascii")))
+            else:
+                yield f"make general_name {words}", "CharSet"
+    for octets, _ in structures.MADE_ADDRESSES:
+        address = bytes.fromhex(octets.replace("-", ""))
+        yield made_general_name(f"ip_address {octets}", Primitive(0x87, address))
+    for text in "1.2.3", "2.999":
+        oid = contents(text)
+        yield made_general_name(f"registered_id {word(oid)}", Primitive(0x88, oid))
+    for text in "A", "p", "", "caf\u00e9":
+        name = Constructed(0x30, (made_set("2.5.4.3", 0x0C, text),))
+        yield made_general_name(f"directory_name {text_word(text)}", Constructed(0xA4, (name,)))
+        party = Constructed(0xA1, (Primitive(0x0C, text.encode()),))
+        words = f"edi_party_name {text_word(text)}"
+        yield made_general_name(words, Constructed(0xA5, (party,)))
+        assigner = Constructed(0xA0, (Primitive(0x0C, b"q"),))
+        yield made_general_name(f"{words} {text_word('q')}", Constructed(0xA5, (assigner, party)))
+
+
+def first_of(tag, names):
+    """What is printed of the value of the first name of a form."""
+    found = [general_name(name).split(" ")[1] for name in names if name.tag == tag]
+    return found[0] if found else "none"
+
+
+def found_general_name_rows():
+    """The first host and the first name of the directory in lists of names."""
+    for element, _ in structures.GENERAL_NAMES + structures.FOUND_GENERAL_NAMES:
+        names = read_exact(bytes.fromhex(element)).kids
+        line = f"{len(names)} {first_of(0x82, names)} {first_of(0xA4, names)} same"
+        yield f"find general_names {element}", line
+
+
 def certificate_rows():
     """Names and keys of certificates: text, kind and numbers are what openssl said."""
     names, keys = rows_of(STORED.read_text(encoding="ascii"))
@@ -393,6 +448,8 @@ def structure_rows():
     yield from unlike_rows()
     yield from made_rows()
     yield from made_extension_rows()
+    yield from made_general_name_rows()
+    yield from found_general_name_rows()
     yield from certificate_rows()
 
 
@@ -410,7 +467,7 @@ def stored_run(program, rows_and_lines):
 def is_extension(row_and_line):
     """Whether a row is one of `extension_answers`: its second word says so."""
     row, _ = row_and_line
-    return row.split()[1] in ("extension", "general_names", "validity")
+    return row.split()[1] in ("extension", "general_name", "general_names", "validity")
 
 
 def stored_files():

@@ -6,6 +6,7 @@ MOMENTS = [
     ("2050 1 1 0 0 0", "the first second of 2050"),
     ("1949 12 31 23 59 59", "the last second before 1950"),
     ("1950 1 1 0 0 0", "the first second of 1950"),
+    ("1949 12 31 0 0 0", "the last day before 1950"),
     ("0 1 1 0 0 0", "the first second of year 0"),
     ("0 2 29 0 0 0", "the leap day of year 0"),
     ("9999 12 31 23 59 59", "the last second of year 9999"),
@@ -32,6 +33,17 @@ MOMENTS = [
     ("2023 1 1 23 60 0", "minute 60"),
     ("2016 12 31 23 59 60", "second 60"),
     ("2023 1 1 0 0 255", "second 255"),
+]
+
+# Moments as times of certificates, each in the form of its year and as a GeneralizedTime.
+MOMENTS_IN_BOTH_FORMS = [
+    ("2049 12 31 23 59 59", "the last second before 2050"),
+    ("2050 1 1 0 0 0", "the first second of 2050"),
+    ("1949 12 31 23 59 59", "the last second before 1950"),
+    ("1950 1 1 0 0 0", "the first second of 1950"),
+    ("2004 2 29 12 34 56", "a leap day"),
+    ("0 1 1 0 0 0", "the first second of year 0"),
+    ("9999 12 31 23 59 59", "the last second of year 9999"),
 ]
 
 # Contents octets of a GeneralizedTime, or of none.

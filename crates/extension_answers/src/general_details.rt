@@ -38,7 +38,8 @@ impl Details for RawGeneralNames {
     }
 }
 
-fn general_name(alloc: Global, name: &RawGeneralName) -> Result<String, AllocError> {
+/// The form of a name, and its value.
+pub fn general_name(alloc: Global, name: &RawGeneralName) -> Result<String, AllocError> {
     match name {
         RawGeneralName::OtherName(name) => other_name(alloc, name),
         RawGeneralName::Rfc822Name(name) => text(alloc, "Rfc822Name", name),

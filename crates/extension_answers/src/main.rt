@@ -12,6 +12,8 @@
 
 mod details;
 mod general_details;
+mod general_finding;
+mod general_making;
 mod making;
 mod reading;
 mod row;

@@ -1,1 +1,2 @@
 mod CommonNames
+pub mod RawNames

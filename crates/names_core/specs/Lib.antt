@@ -1,2 +1,5 @@
+pub mod UtcDate
 pub mod DirectoryName
+pub mod GeneralName
+pub mod GeneralNames
 pub mod Facts

@@ -4,11 +4,13 @@ ghost use Rattle.std.specs.Prelude.{◌≡◌, ◌↔◌, [], ◌∷◌, IsSome,
 ghost use Rattle.asn1_types.specs.declared.generalized_time.GeneralizedTime.{GeneralizedTime};
 ghost use Rattle.asn1_types.specs.Calendar.{IsCalendarDate, IsMoment, IsUtcYear};
 ghost use Rattle.asn1_types.specs.Time.{generalized_fields, time_text, utc_fields};
+ghost use Rattle.names_core.specs.UtcDate.{fields_of, IsTimeOf};
 
 use asn1_types::{GeneralizedTime, UTCTime};
 use std::fmt;
 use std::marker::Model;
 use std::ops::Deref;
+use x509_values::Time;
 
 /// A moment of the years 0 to 9999 in universal time, to the second. Contracts see it as its
 /// GeneralizedTime. Dates are ordered by year, month, day, hour, minute and second, in this order.
@@ -94,6 +96,30 @@ impl From<UTCTime> for UtcDate {
     fn from(time: UTCTime) -> UtcDate {
         UtcDate {
             time: GeneralizedTime::from(time),
+        }
+    }
+}
+
+/// The moment of a time in either form.
+impl From<Time> for UtcDate {
+    ghost from_gives = { λ time date. generalized_fields date ≡ fields_of time };
+
+    fn from(time: Time) -> UtcDate {
+        match time {
+            Time::Utc(time) => UtcDate::from(time),
+            Time::Generalized(time) => UtcDate::from(time),
+        }
+    }
+}
+
+/// The date as the time of a certificate: a UTCTime exactly in the years 1950 to 2049.
+impl From<UtcDate> for Time {
+    ghost from_gives = { IsTimeOf };
+
+    fn from(date: UtcDate) -> Time {
+        match date.utc_time() {
+            Some(time) => Time::Utc(time),
+            None => Time::Generalized(date.time),
         }
     }
 }

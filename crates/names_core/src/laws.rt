@@ -1,4 +1,4 @@
-//! Laws on dates.
+//! Laws on dates and general names.
 
 ghost use Rattle.std.specs.Prelude.{◌≡◌, ◌↔◌, ◌++◌, IsTrue};
 ghost use Rattle.std.specs.Cmp.Lexicographic.{slice_cmp};
@@ -7,6 +7,9 @@ ghost use Rattle.std.specs.declared.cmp.Ordering.TheVariants.{Equal};
 ghost use Rattle.std.specs.Hash as fed;
 ghost use Rattle.asn1_types.specs.declared.generalized_time.GeneralizedTime.{GeneralizedTime};
 ghost use Rattle.asn1_types.specs.Time.{generalized_fields};
+ghost use Rattle.x501_types.specs.declared.general_name.RawGeneralName.{RawGeneralName};
+ghost use Rattle.names_core.specs.GeneralName.{raw_name};
+ghost use Rattle.names_core.specs.declared.general_name.GeneralName.{GeneralName};
 
 use crate::UtcDate;
 use std::hash::Hash;
@@ -21,4 +24,11 @@ pub fn dates_are_their_fields()
     ensures hashed { (date : GeneralizedTime) → ⟦<UtcDate as Hash>⟧.hash_input date
         ≡ fed.u16 date.year ++ fed.u8 date.month ++ fed.u8 date.day ++ fed.u8 date.hour
         ++ fed.u8 date.minute ++ fed.u8 date.second }
+{}
+
+/// General names and raw names are one for one: each raw name stands for one general name alone, so
+/// what one conversion makes of a name the other turns back.
+pub fn general_names_are_their_raw_names()
+    ensures one { (a b : GeneralName) → raw_name a ≡ raw_name b → a ≡ b }
+    ensures each { (raw : RawGeneralName) → (name : GeneralName) × (raw ≡ raw_name name) }
 {}

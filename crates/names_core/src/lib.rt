@@ -3,9 +3,14 @@
 
 mod common_name;
 mod date;
+mod first_name;
+mod general_name;
+mod general_names;
 mod laws;
 mod name;
 
 pub use date::UtcDate;
-pub use laws::dates_are_their_fields;
+pub use general_name::GeneralName;
+pub use general_names::GeneralNames;
+pub use laws::{dates_are_their_fields, general_names_are_their_raw_names};
 pub use name::{DirectoryName, NameList};

@@ -2,9 +2,11 @@
 
 use anyhow::{Context, Result, bail};
 use asn1_types::{GeneralizedTime, UTCTime};
+use der_core::{DerError, Structure};
 use names_core::UtcDate;
 use row_answers::{octets_of, word_of};
 use std::alloc::{AllocError, Global};
+use x509_types::Time;
 
 /// The fields of a moment, which may not exist.
 #[derive(Clone, Copy)]
@@ -88,6 +90,10 @@ pub fn answer(alloc: Global, call: &str, args: &[&str]) -> Result<Option<String>
             )?
         }
         ("utc_content", [word]) => utc(alloc, UTCTime::from_content(&octets_of(alloc, word)?))?,
+        ("date_of", [element]) => {
+            let time = Time::from_der(alloc, &octets_of(alloc, element)?)?;
+            date(alloc, Some(UtcDate::from(time)))?
+        }
         _ => return Ok(None),
     };
     Ok(Some(answer))
@@ -117,17 +123,27 @@ fn utc(alloc: Global, time: Option<UTCTime>) -> Result<String, AllocError> {
     format!(in alloc; "{time} {year} {month} {day} {hour} {minute} {second} {content} {other}")
 }
 
-/// The text of a date, its GeneralizedTime, and the contents octets of its UTCTime.
-fn date(alloc: Global, date: Option<UtcDate>) -> Result<String, AllocError> {
+/// The text of a date, its GeneralizedTime, the contents octets of its UTCTime, and its time in a
+/// certificate.
+fn date(alloc: Global, date: Option<UtcDate>) -> Result<String, DerError> {
     let Some(date) = date else {
-        return String::from_str(alloc, "none");
+        return Ok(String::from_str(alloc, "none")?);
     };
     let fields = generalized(alloc, Some(GeneralizedTime::from(date)))?;
     let utc = match date.utc_time() {
         Some(time) => word_of(alloc, time.to_content().as_slice())?,
         None => String::from_str(alloc, "none")?,
     };
-    format!(in alloc; "{date} {fields} {utc}")
+    let time = certificate_time(alloc, date)?;
+    Ok(format!(in alloc; "{date} {fields} {utc} {time}")?)
+}
+
+/// The octets of the time that a certificate has for a date, and the date that is read of them.
+fn certificate_time(alloc: Global, date: UtcDate) -> Result<String, DerError> {
+    let octets = Time::from(date).to_der(alloc)?;
+    let read = UtcDate::from(Time::from_der(alloc, &octets)?);
+    let octets = word_of(alloc, &octets)?;
+    Ok(format!(in alloc; "{octets} {read}")?)
 }
 
 /// How the first of two dates stands to the second.

@@ -3,6 +3,8 @@
 #![tactic(auto)]
 
 #[cfg(test)]
+mod general_names;
+#[cfg(test)]
 mod identifiers;
 #[cfg(test)]
 mod lists;
