@@ -4,7 +4,7 @@ use Rattle.std.specs.Prelude.{[], ◌∷◌}
 use Rattle.der_core.specs.DerElement.{DerElement, Primitive}
 use Rattle.der_core.specs.Elements.{sequence}
 use Rattle.asn1_types.specs.Elements.{integer}
-use Rattle.key_types.specs.declared.rsa_private_key.RsaPrivateKey.{RsaPrivateKey}
+use Rattle.private_key_types.specs.declared.rsa_private_key.RsaPrivateKey.{RsaPrivateKey}
 
 -- the version of keys of two primes
 abbrev pub two_prime : DerElement

@@ -5,8 +5,8 @@ use Rattle.der_core.specs.Facts.Grammars.{printed}
 use Rattle.asn1_types.specs.Elements.{integer}
 use Rattle.asn1_types.specs.Facts.Elements.{integers}
 use Rattle.asn1_types.specs.declared.integer.IntegerAsn1.{IntegerAsn1}
-use Rattle.key_types.specs.RsaPrivateKey.{rsa_private_key}
-use Rattle.key_types.specs.declared.rsa_private_key.RsaPrivateKey.{RsaPrivateKey}
+use Rattle.private_key_types.specs.RsaPrivateKey.{rsa_private_key}
+use Rattle.private_key_types.specs.declared.rsa_private_key.RsaPrivateKey.{RsaPrivateKey}
 
 same_integer : (a b : IntegerAsn1) → integer a ≡ integer b → a ≡ b
 same_integer a b e = integers.once (integer a) a b refl e

@@ -1,6 +1,6 @@
 use Rattle.std.proofs.Common.{rules, ◌≡◌, ◌∙◌}
-use Rattle.key_types.specs.RsaPrivateKey.{rsa_private_key_of}
-use Rattle.key_types.proofs.rsa_private_key.Fields.of.Goals as goal
+use Rattle.private_key_types.specs.RsaPrivateKey.{rsa_private_key_of}
+use Rattle.private_key_types.proofs.rsa_private_key.Fields.of.Goals as goal
 
 pub returns : goal.returns
 returns c =

@@ -1,7 +1,7 @@
 //! Private keys of RSA.
 
 ghost use Rattle.std.specs.Prelude.{◌≡◌, ◌≢◌, ◌↔◌, IsTrue, MatchOption};
-ghost use Rattle.key_types.specs.RsaPrivateKey.{two_prime, rsa_private_key, rsa_private_key_of};
+ghost use Rattle.private_key_types.specs.RsaPrivateKey.{two_prime, rsa_private_key, rsa_private_key_of};
 ghost use Rattle.der_core.specs.Structure.{Fits};
 
 use asn1_types::IntegerAsn1;
@@ -37,7 +37,7 @@ struct Fields<'a> {
 }
 
 impl<'a> Fields<'a> {
-    ghost use Rattle.key_types.specs.declared.rsa_private_key.RsaPrivateKey.{RsaPrivateKey};
+    ghost use Rattle.private_key_types.specs.declared.rsa_private_key.RsaPrivateKey.{RsaPrivateKey};
 
     /// The fields of the element.
     fn of(elem: Elem<'a>) -> Option<Fields<'a>>
@@ -84,7 +84,7 @@ fn two_prime(elem: Elem<'_>) -> Option<()>
 }
 
 impl Structure for RsaPrivateKey {
-    ghost use Rattle.key_types.specs.Facts.RsaPrivateKeys.{rsa_private_keys};
+    ghost use Rattle.private_key_types.specs.Facts.RsaPrivateKeys.{rsa_private_keys};
 
     ghost written = { rsa_private_key };
 

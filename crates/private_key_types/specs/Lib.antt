@@ -1,0 +1,2 @@
+pub mod RsaPrivateKey
+pub mod Facts
