@@ -2,6 +2,9 @@
 //! written as trees: those of RSA (RFC 8017 A.1.2) and of elliptic curves (RFC 5915).
 #![tactic(auto)]
 
+mod ec_private_key;
+mod optional;
 mod rsa_private_key;
 
+pub use ec_private_key::ECPrivateKey;
 pub use rsa_private_key::RsaPrivateKey;
