@@ -4,4 +4,7 @@ pub mod KeyAlgorithm
 pub mod PrivateKeyFields
 pub mod Agreement
 pub mod PrivateKeyInfo
+pub mod KeyRefusals
+pub mod MadeKeys
+pub mod ErrorText
 pub mod Facts
