@@ -11,13 +11,15 @@ is asked for, and FOLDER/PROGRAM/stdout, a line for each.  The lines come from
 `value_reader`, from Python's arithmetic and `datetime`, from the list in
 `oid_table`, and for the names and keys of certificates from what openssl said
 of them (`certificate_rows.txt`, which `certificate_parts.py` makes), and not
-from what the programs printed.
+from what the programs printed.  Private keys are among the rows that openssl
+made (`private_key_rows.txt`, from `private_keys.py`).
 """
 
 import sys
 from datetime import datetime
 from itertools import filterfalse
 
+import private_keys
 import structure_rows as structures
 import value_rows as values
 from certificate_parts import STORED, rows_of
@@ -212,6 +214,8 @@ READ_AS = [
     ("algorithm", structures.ALGORITHMS, structures.NO_ALGORITHMS),
     ("rsa_key", structures.RSA_PUBLIC_KEYS, structures.NO_RSA_PUBLIC_KEYS),
     ("rsa_private_key", structures.RSA_PRIVATE_KEYS, structures.NO_RSA_PRIVATE_KEYS),
+    ("ec_private_key", structures.EC_PRIVATE_KEYS, structures.NO_EC_PRIVATE_KEYS),
+    ("private_key_info", structures.PRIVATE_KEY_INFOS, structures.NO_PRIVATE_KEY_INFOS),
     ("key", structures.RSA_KEYS + structures.EC_KEYS, structures.NO_KEYS),
     ("key", structures.ED_KEYS + structures.MLDSA_KEYS, []),
     ("name", structures.NAMES, structures.NO_NAMES),
@@ -223,6 +227,9 @@ READ_AS = [
 
 UNLIKE = [
     ("algorithm", structures.UNLIKE_ALGORITHMS),
+    ("rsa_private_key", structures.UNLIKE_RSA_PRIVATE_KEYS),
+    ("ec_private_key", structures.UNLIKE_EC_PRIVATE_KEYS),
+    ("private_key_info", structures.UNLIKE_PRIVATE_KEY_INFOS),
     ("key", structures.UNLIKE_KEYS),
     ("name", structures.UNLIKE_NAMES),
     ("validity", structures.UNLIKE_VALIDITIES),
@@ -442,6 +449,12 @@ def value_rows():
     yield from time_rows()
 
 
+def private_key_rows():
+    """Private keys that openssl made."""
+    for kind, _, element in private_keys.rows_of(private_keys.STORED.read_text(encoding="ascii")):
+        yield structure_row(kind, element.hex(), True)
+
+
 def structure_rows():
     """The rows of `structure_answers` and `extension_answers`."""
     yield from read_rows()
@@ -451,6 +464,7 @@ def structure_rows():
     yield from made_general_name_rows()
     yield from found_general_name_rows()
     yield from certificate_rows()
+    yield from private_key_rows()
 
 
 def stored_run(program, rows_and_lines):

@@ -219,6 +219,46 @@ def rsa_private_key(element):
     return " ".join(integer(contents(number, 2)).split()[0] for number in numbers)
 
 
+def optional(fields, tag, printed):
+    """What is printed of the next field, which is taken off, where it has the tag."""
+    return printed(fields.pop(0)) if fields and fields[0].tag == tag else "none"
+
+
+def ec_private_key(element):
+    """An ECPrivateKey (RFC 5915 3)."""
+    fields = list(kids(element, 0x30))
+    need(len(fields) >= 2 and fields[0] == Primitive(2, b"\1"))
+    private, rest = word(contents(fields[1], 4)), fields[2:]
+    curve = optional(rest, 0xA0, lambda one: dotted(contents(explicit(one, 0xA0), 6)))
+    point = optional(rest, 0xA1, lambda one: bits(contents(explicit(one, 0xA1), 3)))
+    need(not rest)
+    return f"{private} {curve} {point}"
+
+
+PRIVATE_KEYS = {
+    "Rsa": rsa_private_key,
+    "Ec": ec_private_key,
+    "Ed": lambda element: word(contents(element, 4)),
+}
+
+
+def private_key_info(element):
+    """A PrivateKeyInfo (RFC 5208 5, RFC 5958 2) of an algorithm that is known."""
+    fields = list(kids(element, 0x30))
+    need(len(fields) >= 3)
+    number = contents(fields[0], 2)
+    need(number in (b"\0", b"\1"))
+    shown = algorithm(fields[1])
+    oid = shown.split()[0]
+    need(oid in ED | {RSA, EC})
+    kind = "Rsa" if oid == RSA else "Ec" if oid == EC else "Ed"
+    private, rest = PRIVATE_KEYS[kind](inner(contents(fields[2], 4))), fields[3:]
+    attributes = optional(rest, 0xA0, lambda one: word(write(one)))
+    public = optional(rest, 0x81, lambda one: bits(contents(one, 0x81)))
+    need(not rest)
+    return f"V{number[0] + 1} {shown} {kind} {private} {attributes} {public}"
+
+
 def key(element):
     """A SubjectPublicKeyInfo of a kind that is known, with the parameters of its kind."""
     fields = kids(element, 0x30)
@@ -427,6 +467,8 @@ KINDS = {
     "algorithm": algorithm,
     "rsa_key": rsa_key,
     "rsa_private_key": rsa_private_key,
+    "ec_private_key": ec_private_key,
+    "private_key_info": private_key_info,
     "key": key,
     "directory_string": directory_string,
     "value": value,

@@ -2,4 +2,3 @@
 pub mod Algorithms
 pub mod Kinds
 pub mod Keys
-pub mod RsaPrivateKeys

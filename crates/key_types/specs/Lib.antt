@@ -1,5 +1,4 @@
 pub mod RsaPublicKey
-pub mod RsaPrivateKey
 pub mod AlgorithmIdentifier
 pub mod KeyKind
 pub mod SubjectKey

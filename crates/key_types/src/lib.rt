@@ -7,12 +7,10 @@ mod algorithm_fields;
 mod key_info;
 mod key_kind;
 mod public_key;
-mod rsa_private_key;
 mod subject_key;
 
 pub use algorithm::AlgorithmIdentifier;
 pub use key_info::SubjectPublicKeyInfo;
 pub use key_kind::KeyKind;
 pub use public_key::RsaPublicKey;
-pub use rsa_private_key::RsaPrivateKey;
 pub use subject_key::SubjectKey;

@@ -1,12 +1,14 @@
 //! What is printed of a value beside whether it comes back as it was read.
 
 use asn1_types::{BitString, Ia5String, IntegerAsn1, ObjectIdentifier};
+use key_core::{PrivateKeyInfo, PrivateKeyValue};
 use names_core::DirectoryName;
+use private_key_types::{ECPrivateKey, RsaPrivateKey};
 use row_answers::word_of;
 use std::alloc::{AllocError, Global};
 use x509_types::{
     AlgorithmIdentifier, AttributeTypeAndValue, AttributeValue, DirectoryString,
-    RelativeDistinguishedName, RsaPrivateKey, RsaPublicKey, SubjectKey, SubjectPublicKeyInfo,
+    RelativeDistinguishedName, RsaPublicKey, SubjectKey, SubjectPublicKeyInfo,
 };
 
 /// A value of which details are printed.
@@ -70,6 +72,47 @@ impl Details for RsaPrivateKey {
             line.push_str(&word_of(alloc, number.as_signed_bytes_be())?)?;
         }
         Ok(line)
+    }
+}
+
+impl Details for ECPrivateKey {
+    fn details(&self, alloc: Global) -> Result<String, AllocError> {
+        let private_key = word_of(alloc, self.private_key.as_slice())?;
+        let parameters = option_details(alloc, &self.parameters)?;
+        let public_key = option_details(alloc, &self.public_key)?;
+        format!(in alloc; "{private_key} {parameters} {public_key}")
+    }
+}
+
+impl Details for PrivateKeyInfo {
+    fn details(&self, alloc: Global) -> Result<String, AllocError> {
+        let (version, kind) = (self.version, self.private_key.kind());
+        let algorithm = self.private_key_algorithm.details(alloc)?;
+        let key = self.private_key.details(alloc)?;
+        let attributes = match &self.attributes {
+            Some(attributes) => word_of(alloc, attributes.as_bytes())?,
+            None => String::from_str(alloc, "none")?,
+        };
+        let public_key = option_details(alloc, &self.public_key)?;
+        format!(in alloc; "{version:?} {algorithm} {kind:?} {key} {attributes} {public_key}")
+    }
+}
+
+impl Details for PrivateKeyValue {
+    fn details(&self, alloc: Global) -> Result<String, AllocError> {
+        match self {
+            PrivateKeyValue::Rsa(key) => key.details(alloc),
+            PrivateKeyValue::Ec(key) => key.details(alloc),
+            PrivateKeyValue::Ed(octets) => word_of(alloc, octets.as_slice()),
+        }
+    }
+}
+
+/// The details of a value that may be left out.
+fn option_details<T: Details>(alloc: Global, value: &Option<T>) -> Result<String, AllocError> {
+    match value {
+        Some(value) => value.details(alloc),
+        None => String::from_str(alloc, "none"),
     }
 }
 

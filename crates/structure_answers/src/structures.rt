@@ -4,12 +4,14 @@ use crate::details::Details;
 use anyhow::Result;
 use asn1_types::{BitString, Ia5String, IntegerAsn1, ObjectIdentifier};
 use der_core::{DerError, Structure};
+use key_core::PrivateKeyInfo;
 use names_core::DirectoryName;
+use private_key_types::{ECPrivateKey, RsaPrivateKey};
 use row_answers::{are_equal, comes_back, octets_of, shown_shape, value_of};
 use std::alloc::Global;
 use x509_types::{
     AlgorithmIdentifier, AttributeTypeAndValue, AttributeValue, DirectoryString,
-    RelativeDistinguishedName, RsaPrivateKey, RsaPublicKey, SubjectPublicKeyInfo,
+    RelativeDistinguishedName, RsaPublicKey, SubjectPublicKeyInfo,
 };
 
 /// What is read of an element, by the kind of structure; None where there is no such kind.
@@ -23,6 +25,8 @@ pub fn answer(alloc: Global, kind: &str, element: &str) -> Result<Option<String>
         "algorithm" => read_of::<AlgorithmIdentifier>(alloc, &element),
         "rsa_key" => read_of::<RsaPublicKey>(alloc, &element),
         "rsa_private_key" => read_of::<RsaPrivateKey>(alloc, &element),
+        "ec_private_key" => read_of::<ECPrivateKey>(alloc, &element),
+        "private_key_info" => read_of::<PrivateKeyInfo>(alloc, &element),
         "key" => read_of::<SubjectPublicKeyInfo>(alloc, &element),
         "directory_string" => read_of::<DirectoryString>(alloc, &element),
         "value" => read_of::<AttributeValue>(alloc, &element),
@@ -45,6 +49,9 @@ pub fn answer_unlike(alloc: Global, kind: &str, one: &str, other: &str) -> Resul
         "identifier" => are_equal::<ObjectIdentifier>(alloc, &one, &other),
         "ia5" => are_equal::<Ia5String>(alloc, &one, &other),
         "algorithm" => are_equal::<AlgorithmIdentifier>(alloc, &one, &other),
+        "rsa_private_key" => are_equal::<RsaPrivateKey>(alloc, &one, &other),
+        "ec_private_key" => are_equal::<ECPrivateKey>(alloc, &one, &other),
+        "private_key_info" => are_equal::<PrivateKeyInfo>(alloc, &one, &other),
         "key" => are_equal::<SubjectPublicKeyInfo>(alloc, &one, &other),
         "name" => are_equal::<DirectoryName>(alloc, &one, &other),
         _ => return Ok(None),

@@ -12,7 +12,7 @@ pub use extension::{Extension, Extensions};
 pub use extension_kind::ExtensionKind;
 pub use extension_view::ExtensionView;
 pub use key_types::{
-    AlgorithmIdentifier, KeyKind, RsaPrivateKey, RsaPublicKey, SubjectKey, SubjectPublicKeyInfo,
+    AlgorithmIdentifier, KeyKind, RsaPublicKey, SubjectKey, SubjectPublicKeyInfo,
 };
 pub use laws::extensions_are_written_as_read;
 pub use x501_types::{

@@ -1,0 +1,15 @@
+-- What the fields of a PrivateKeyInfo have to do with one another.
+use Rattle.std.specs.Prelude.{Option}
+use Rattle.der_core.specs.Kept.{KeptElement}
+use Rattle.der_core.specs.Lent.{kept_option}
+use Rattle.key_types.specs.declared.algorithm.AlgorithmIdentifier.{AlgorithmIdentifier}
+use Rattle.key_core.specs.KeyAlgorithm.{Names}
+use Rattle.key_core.specs.PrivateKeyValue.{private_kind}
+use Rattle.key_core.specs.PrivateKeyFields.{HaveTag}
+use Rattle.key_core.specs.declared.private_key_value.PrivateKeyValue.{PrivateKeyValue}
+
+pub record Agree (algorithm : AlgorithmIdentifier) (key : PrivateKeyValue) (attributes : Option KeptElement) : Type 0 where
+  -- the algorithm names keys of the kind that the key is
+  pub named : Names algorithm (private_kind key)
+  -- the attributes stand under their tag
+  pub tagged : HaveTag (kept_option attributes)

@@ -1,0 +1,33 @@
+-- The texts of errors.
+use Rattle.std.specs.Prelude.{ℕ, List, ◌++◌, codes, Option, Some, None}
+use Rattle.key_core.specs.declared.element.Element.{Element}
+use Rattle.key_core.specs.declared.element.Element.TheVariants as elements
+use Rattle.key_core.specs.declared.error.KeyContext.{KeyContext}
+use Rattle.key_core.specs.declared.error.KeyContext.TheVariants as contexts
+use Rattle.key_core.specs.declared.error.KeyError.{KeyError}
+use Rattle.key_core.specs.declared.error.KeyError.TheVariants as errors
+
+-- what a structure is called
+abbrev pub element_text : Element → List ℕ
+element_text elements.Certificate = codes "x509 certificate"
+element_text elements.TbsCertificate = codes "tbs certificate"
+element_text elements.Request = codes "certification request"
+element_text elements.RequestInfo = codes "certification request info"
+element_text elements.Pkcs7 = codes "pkcs7 certificate"
+element_text elements.TimestampRequest = codes "TimestampRequest"
+element_text elements.PrivateKeyInfo = codes "private key info (pkcs8)"
+element_text elements.RsaPrivateKey = codes "rsa private key"
+element_text elements.EcPrivateKey = codes "ec private key"
+element_text elements.SubjectPublicKeyInfo = codes "subject public key info"
+element_text elements.RsaPublicKey = codes "rsa public key"
+
+-- why a key of a kind can't be had
+abbrev pub context_text : KeyContext → List ℕ
+context_text contexts.UnsupportedEd = codes "the algorithm is none of Ed25519, X25519, Ed448 and X448"
+
+-- What is told of a key that isn't read, made or written. Of an element that isn't read or written no contract says what is told.
+abbrev pub key_error_text : KeyError → Option (List ℕ)
+key_error_text (errors.Asn1Serialization element source) = None
+key_error_text (errors.Asn1Deserialization element source) = None
+key_error_text (errors.ED context) = Some (codes "ED error: " ++ context_text context)
+key_error_text errors.Memory = Some (codes "out of memory")

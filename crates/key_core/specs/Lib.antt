@@ -1,0 +1,10 @@
+pub mod PrivateKeyVersion
+pub mod PrivateKeyValue
+pub mod KeyAlgorithm
+pub mod PrivateKeyFields
+pub mod Agreement
+pub mod PrivateKeyInfo
+pub mod KeyRefusals
+pub mod MadeKeys
+pub mod ErrorText
+pub mod Facts

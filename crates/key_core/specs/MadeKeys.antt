@@ -1,0 +1,56 @@
+-- Public keys that are put together of their parts.
+use Rattle.std.specs.Prelude.{◌≡◌, ⊤, ℕ, List, Some, None, IsTrue}
+use Rattle.der_core.specs.Elements.{null}
+use Rattle.der_core.specs.Lent.{kept_option}
+use Rattle.asn1_types.specs.Elements.{object_identifier}
+use Rattle.asn1_types.specs.Integer.{IsUnsignedInteger, number_of}
+use Rattle.asn1_types.specs.Values.{identifier_contents, integer_contents}
+use Rattle.asn1_types.specs.declared.bit_string.BitString.{BitString}
+use Rattle.asn1_types.specs.declared.oid.ObjectIdentifier.{ObjectIdentifier}
+use Rattle.asn1_types.specs.declared.oids.TheConstants.{RSA_ENCRYPTION, EC_PUBLIC_KEY}
+use Rattle.key_types.specs.KeyKind.{names_kind}
+use Rattle.key_types.specs.declared.key_kind.KeyKind.TheVariants as kinds
+use Rattle.key_types.specs.declared.key_info.SubjectPublicKeyInfo.{SubjectPublicKeyInfo}
+use Rattle.key_types.specs.declared.public_key.RsaPublicKey.{RsaPublicKey}
+use Rattle.key_types.specs.declared.subject_key.SubjectKey.TheVariants as keys
+use Rattle.key_core.specs.declared.error.KeyContext.TheVariants as contexts
+use Rattle.key_core.specs.declared.error.KeyError.{KeyError}
+use Rattle.key_core.specs.declared.error.KeyError.TheVariants as errors
+
+-- A key of RSA by its two numbers (RFC 3279 2.3.1): the parameters are NULL.
+pub record IsRsaKey (modulus exponent : List ℕ) (info : SubjectPublicKeyInfo) : Type 0 where
+  pub key : RsaPublicKey
+  pub is : info.subject_public_key ≡ keys.Rsa key
+  pub identifier : identifier_contents info.algorithm.oid ≡ RSA_ENCRYPTION.now
+  pub parameters : kept_option info.algorithm.parameters ≡ Some null
+  pub modulus_is : IsUnsignedInteger (number_of modulus) (integer_contents key.modulus)
+  pub exponent_is : IsUnsignedInteger (number_of exponent) (integer_contents key.public_exponent)
+
+-- A point of a named curve by its octets (RFC 5480 2.1.1, 2.2): the parameters are the identifier of the curve, and no bits are unused.
+pub record IsEcKey (curve : ObjectIdentifier) (octets : List ℕ) (info : SubjectPublicKeyInfo) : Type 0 where
+  pub key : BitString
+  pub is : info.subject_public_key ≡ keys.Ec key
+  pub identifier : identifier_contents info.algorithm.oid ≡ EC_PUBLIC_KEY.now
+  pub parameters : kept_option info.algorithm.parameters ≡ Some (object_identifier curve)
+  pub whole : key.unused ≡ 0
+  pub payload : key.payload ≡ octets
+
+-- A key on a curve 25519 or 448 by its octets (RFC 8410 3, 4): there are no parameters, and no bits are unused.
+pub record IsEdKey (algorithm : ObjectIdentifier) (octets : List ℕ) (info : SubjectPublicKeyInfo) : Type 0 where
+  pub key : BitString
+  pub is : info.subject_public_key ≡ keys.Ed key
+  pub identifier : info.algorithm.oid ≡ algorithm
+  pub parameters : info.algorithm.parameters ≡ None
+  pub whole : key.unused ≡ 0
+  pub payload : key.payload ≡ octets
+
+-- the identifier is that of a curve 25519 or 448
+abbrev pub NamesEd : ObjectIdentifier → Type 0
+NamesEd algorithm = IsTrue (names_kind kinds.Ed (identifier_contents algorithm))
+
+-- such a key isn't made of the identifier of another algorithm
+abbrev pub RefusesEd : ObjectIdentifier → KeyError → Type 0
+RefusesEd algorithm (errors.Asn1Serialization element source) = ⊥
+RefusesEd algorithm (errors.Asn1Deserialization element source) = ⊥
+RefusesEd algorithm (errors.ED contexts.UnsupportedEd) = NamesEd algorithm → ⊥
+RefusesEd algorithm errors.Memory = ⊤

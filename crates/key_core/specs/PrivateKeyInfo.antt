@@ -1,0 +1,31 @@
+-- Private keys with their algorithms (RFC 5958 2).
+use Rattle.std.specs.Prelude.{◌≡◌, List, [], ◌∷◌}
+use Rattle.std.specs.Option.{option_map}
+use Rattle.der_core.specs.DerElement.{DerElement}
+use Rattle.der_core.specs.Encoding.{encoding}
+use Rattle.der_core.specs.Lent.{kept_option}
+use Rattle.der_core.specs.Placed.{AreDer}
+use Rattle.asn1_types.specs.Values.{bit_string_contents}
+use Rattle.key_types.specs.AlgorithmIdentifier.{algorithm_identifier}
+use Rattle.key_core.specs.PrivateKeyVersion.{version}
+use Rattle.key_core.specs.PrivateKeyValue.{private_key}
+use Rattle.key_core.specs.PrivateKeyFields.{private_key_info_of}
+use Rattle.key_core.specs.declared.private_key_info.PrivateKeyInfo.{PrivateKeyInfo}
+
+-- The private key stands in its octets as an element of its own, and the public key as the contents octets of a BIT STRING.
+abbrev pub private_key_info : PrivateKeyInfo → DerElement
+private_key_info info =
+    private_key_info_of
+    (version info.version)
+    (algorithm_identifier info.private_key_algorithm)
+    (encoding (private_key info.private_key))
+    (kept_option info.attributes)
+    (option_map bit_string_contents info.public_key)
+
+-- what is written into the octets
+abbrev pub inner_private_key : PrivateKeyInfo → List DerElement
+inner_private_key info = private_key info.private_key ∷ []
+
+-- the element is the one of this key, whose inner element is one that is read
+abbrev pub IsPrivateKeyInfo : DerElement → PrivateKeyInfo → Type 0
+IsPrivateKeyInfo element info = (element ≡ private_key_info info) × AreDer (inner_private_key info)

@@ -1,0 +1,103 @@
+//! Why a key isn't read, made or written.
+
+ghost use Rattle.std.specs.Prelude.{◌≡◌, Some};
+ghost use Rattle.key_core.specs.ErrorText.{context_text, key_error_text};
+ghost use Rattle.key_core.specs.KeyRefusals.{unread, unwritten};
+ghost use Rattle.key_core.specs.declared.error.KeyError.TheVariants.{Memory};
+
+use crate::element::Element;
+use der_core::DerError;
+use std::alloc::{AllocError, AllocFailed};
+use std::fmt;
+use thiserror::Error;
+
+/// Why a key isn't read, made or written.
+#[derive(Clone, Copy, Debug, PartialEq, Eq, Error)]
+pub enum KeyError {
+    /// The value has no encoding: it is nested too deep, or some contents are too long. Never with
+    /// want of memory.
+    Asn1Serialization { element: Element, source: DerError },
+    /// The octets are no element, or one of another structure. Never with want of memory.
+    Asn1Deserialization { element: Element, source: DerError },
+    /// A key on a curve 25519 or 448 can't be had.
+    ED { context: KeyContext },
+    /// No memory was left.
+    Memory,
+}
+
+/// Why a key of a kind can't be had.
+#[derive(Clone, Copy, Debug, PartialEq, Eq)]
+pub enum KeyContext {
+    /// The algorithm is none of Ed25519, X25519, Ed448 and X448.
+    UnsupportedEd,
+}
+
+impl KeyError {
+    /// Why octets of the structure aren't read.
+    pub(crate) fn unread(element: Element, source: DerError) -> KeyError
+        ensures { result ≡ unread element source }
+    {
+        match source {
+            DerError::Memory => KeyError::Memory,
+            source => KeyError::Asn1Deserialization { element, source },
+        }
+    }
+
+    /// Why a value of the structure isn't written.
+    pub(crate) fn unwritten(element: Element, source: DerError) -> KeyError
+        ensures { result ≡ unwritten element source }
+    {
+        match source {
+            DerError::Memory => KeyError::Memory,
+            source => KeyError::Asn1Serialization { element, source },
+        }
+    }
+}
+
+impl fmt::Display for KeyContext {
+    ghost output = { λ context. Some (context_text context) };
+
+    fn fmt<W: fmt::Write>(&self, f: &mut fmt::Formatter<W>) -> fmt::Result {
+        match self {
+            KeyContext::UnsupportedEd => write!(
+                f,
+                "the algorithm is none of Ed25519, X25519, Ed448 and X448"
+            ),
+        }
+    }
+}
+
+impl fmt::Display for KeyError {
+    ghost output = { key_error_text };
+
+    fn fmt<W: fmt::Write>(&self, f: &mut fmt::Formatter<W>) -> fmt::Result {
+        match self {
+            KeyError::Asn1Serialization { element, source } => write!(
+                f,
+                "(ASN1) couldn't serialize {element}: {source}"
+            ),
+            KeyError::Asn1Deserialization { element, source } => write!(
+                f,
+                "(ASN1) couldn't deserialize {element}: {source}"
+            ),
+            KeyError::ED { context } => write!(f, "ED error: {context}"),
+            KeyError::Memory => write!(f, "out of memory"),
+        }
+    }
+}
+
+impl From<AllocError> for KeyError {
+    ghost from_gives = { λ _ e. e ≡ Memory };
+
+    fn from(_refused: AllocError) -> KeyError {
+        KeyError::Memory
+    }
+}
+
+impl<T: Drop> From<AllocFailed<T>> for KeyError {
+    ghost from_gives = { λ _ e. e ≡ Memory };
+
+    fn from(_refused: AllocFailed<T>) -> KeyError {
+        KeyError::Memory
+    }
+}

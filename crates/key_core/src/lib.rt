@@ -1,0 +1,22 @@
+//! Keys: public keys, and private keys with their algorithms (RFC 5208 5, RFC 5958 2), as values,
+//! read from octets or trees and written as trees. The structures that they are made of stand in
+//! crates of their own, and are handed on here.
+#![tactic(auto)]
+
+mod element;
+mod error;
+mod key_algorithm;
+mod private_key_fields;
+mod private_key_info;
+mod private_key_value;
+mod private_key_version;
+mod public_key;
+
+pub use element::Element;
+pub use error::{KeyContext, KeyError};
+pub use key_types::{AlgorithmIdentifier, KeyKind, RsaPublicKey, SubjectKey, SubjectPublicKeyInfo};
+pub use private_key_info::PrivateKeyInfo;
+pub use private_key_types::{ECPrivateKey, RsaPrivateKey};
+pub use private_key_value::PrivateKeyValue;
+pub use private_key_version::PrivateKeyVersion;
+pub use public_key::PublicKey;

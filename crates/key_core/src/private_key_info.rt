@@ -1,0 +1,242 @@
+//! Private keys with their algorithms.
+
+ghost use Rattle.std.specs.Prelude.{◌≡◌, ◌≢◌, ◌∷◌, [], ◌↔◌, false, Option, IfOk, IsTrue, MatchOption, MatchResult};
+ghost use Rattle.std.specs.Option.{option_copied, option_map};
+ghost use Rattle.der_core.specs.Elements.{octet_string};
+ghost use Rattle.der_core.specs.Lent.{kept_option};
+ghost use Rattle.key_core.specs.PrivateKeyFields.{HaveTag};
+ghost use Rattle.der_core.specs.Encoding.{encoding, IsDer, IsWellFormed};
+ghost use Rattle.der_core.specs.Refusals.{RefusesShape, RefusesInner};
+ghost use Rattle.asn1_types.specs.Values.{bit_string_contents};
+ghost use Rattle.asn1_types.specs.declared.bit_string.BitString.{BitString};
+ghost use Rattle.key_core.specs.Agreement.{Agree};
+ghost use Rattle.key_core.specs.PrivateKeyValue.{private_key};
+ghost use Rattle.key_core.specs.Facts.Agreements.{Agree-prop};
+
+use crate::key_algorithm::kind_at;
+use crate::private_key_fields::{ATTRIBUTES, PUBLIC_KEY, PrivateKeyFields};
+use crate::private_key_value::PrivateKeyValue;
+use crate::private_key_version::PrivateKeyVersion;
+use asn1_types::BitString;
+use der_core::tag::{OCTET_STRING, SEQUENCE};
+use der_core::{DerError, Elem, NewKids, Raw, Structure, Tree};
+use key_types::{AlgorithmIdentifier, KeyKind};
+use std::alloc::{AllocError, Global};
+
+/// A private key with its algorithm, which names keys of its kind (RFC 5208 5, RFC 5958 2). What
+/// parameters the algorithm has isn't asked, and neither is what the attributes are, which are kept
+/// as an element of the tag \[0\]. The public key is what stands beside the private one; that the two
+/// belong together isn't asked. An algorithm of no known kind has no private key here: it is
+/// `Shape`, as one of ML-DSA is. It has no `Debug`, so no secret is printed by mistake.
+#[derive(Drop)]
+pub struct PrivateKeyInfo {
+    pub version: PrivateKeyVersion,
+    pub private_key_algorithm: AlgorithmIdentifier,
+    pub private_key: PrivateKeyValue,
+    pub attributes: Option<Raw>,
+    pub public_key: Option<BitString>,
+    pub ghost agree: { Agree private_key_algorithm private_key attributes } by { Agree-prop private_key_algorithm private_key attributes },
+}
+
+impl PrivateKeyInfo {
+    /// The key with its algorithm, None exactly where the algorithm doesn't name keys of its kind,
+    /// or the attributes don't stand under the tag \[0\].
+    pub fn new(
+        version: PrivateKeyVersion,
+        private_key_algorithm: AlgorithmIdentifier,
+        private_key: PrivateKeyValue,
+        attributes: Option<Raw>,
+        public_key: Option<BitString>,
+    ) -> Option<PrivateKeyInfo>
+        ensures { MatchOption result
+            (Agree private_key_algorithm private_key attributes → ⊥)
+            (λ info. (info.version ≡ version) × (info.private_key_algorithm ≡ private_key_algorithm) × (info.private_key ≡ private_key) × (info.attributes ≡ attributes) × (info.public_key ≡ public_key)) }
+    {
+        let oid = private_key_algorithm.oid().as_bytes();
+        if !private_key.kind().is_named(oid) || !have_tag(&attributes) {
+            return None;
+        }
+        Some(PrivateKeyInfo {
+            version,
+            private_key_algorithm,
+            private_key,
+            attributes,
+            public_key,
+        })
+    }
+}
+
+/// Whether attributes, where there are any, stand under their tag.
+fn have_tag(attributes: &Option<Raw>) -> bool
+    ensures { IsTrue result ↔ HaveTag (kept_option attributes.now) }
+{
+    match attributes {
+        Some(attributes) => attributes.tag() == ATTRIBUTES,
+        None => true,
+    }
+}
+
+/// Whether contents octets, where there are any, are those of a BIT STRING.
+fn has_bits(content: Option<&[u8]>) -> bool
+    ensures fits { IsTrue result → (bits : Option BitString) × (option_copied content.entry ≡ option_map bit_string_contents bits) }
+    ensures unfit { result ≡ false → (bits : Option BitString) → option_copied content.entry ≢ option_map bit_string_contents bits }
+{
+    match content {
+        Some(content) => BitString::is_content(content),
+        None => true,
+    }
+}
+
+/// The BIT STRING of contents octets, where there are any.
+fn read_bits(alloc: Global, content: Option<&[u8]>) -> Result<Option<BitString>, DerError>
+    ensures { MatchResult result
+        (λ bits. option_copied content.entry ≡ option_map bit_string_contents bits)
+        (RefusesShape (λ (bits : Option BitString). option_copied content.entry ≡ option_map bit_string_contents bits)) }
+{
+    match content {
+        Some(content) => Ok(Some(BitString::from_content(alloc, content)?)),
+        None => Ok(None),
+    }
+}
+
+/// The octets of the key, as an element.
+fn write_key(alloc: Global, key: &PrivateKeyValue) -> Result<Tree, DerError>
+    ensures { MatchResult result
+        (λ tree. (tree ≡ octet_string (encoding (private_key key.now))) × IsWellFormed tree × IsDer (private_key key.now))
+        (RefusesInner (private_key key.now ∷ [])) }
+{
+    Ok(Tree::leaf(OCTET_STRING, key.write(alloc)?))
+}
+
+/// A copy of a value, where it isn't left out.
+fn copy_option<T: Structure>(alloc: Global, value: &Option<T>) -> Result<Option<T>, AllocError>
+    ensures { IfOk result (λ copy. copy ≡ value.now) }
+{
+    match value {
+        Some(value) => Ok(Some(value.try_clone(alloc)?)),
+        None => Ok(None),
+    }
+}
+
+impl Structure for PrivateKeyInfo {
+    ghost use Rattle.key_core.specs.PrivateKeyInfo.{private_key_info, inner_private_key, IsPrivateKeyInfo};
+    ghost use Rattle.key_core.specs.Facts.PrivateKeyInfos.{private_key_infos};
+
+    ghost written = { private_key_info };
+
+    ghost spells = { IsPrivateKeyInfo };
+
+    ghost inner = { inner_private_key };
+
+    fn has_shape(elem: Elem<'_>) -> bool {
+        let Some(fields) = PrivateKeyFields::of(elem) else {
+            return false;
+        };
+        match kind_at(fields.algorithm) {
+            Some(kind) => {
+                PrivateKeyValue::is_of(kind, fields.private_key) && has_bits(fields.public_key)
+            }
+            None => false,
+        }
+    }
+
+    fn read_at(alloc: Global, elem: Elem<'_>) -> Result<PrivateKeyInfo, DerError> {
+        let Some(fields) = PrivateKeyFields::of(elem) else {
+            return Err(DerError::Shape);
+        };
+        let private_key_algorithm = AlgorithmIdentifier::read_at(alloc, fields.algorithm)?;
+        let Some(kind) = KeyKind::named(private_key_algorithm.oid().as_bytes()) else {
+            return Err(DerError::Shape);
+        };
+        let private_key = PrivateKeyValue::read(alloc, kind, fields.private_key)?;
+        let attributes = match fields.attributes {
+            Some(attributes) => Some(Raw::from_elem(alloc, attributes)?),
+            None => None,
+        };
+        let public_key = read_bits(alloc, fields.public_key)?;
+        Ok(PrivateKeyInfo {
+            version: fields.version,
+            private_key_algorithm,
+            private_key,
+            attributes,
+            public_key,
+        })
+    }
+
+    fn write(&self, alloc: Global) -> Result<Tree, DerError> {
+        let mut kids = NewKids::new(alloc);
+        kids.push(self.version.write(alloc)?)?;
+        kids.push(self.private_key_algorithm.write(alloc)?)?;
+        kids.push(write_key(alloc, &self.private_key)?)?;
+        if let Some(attributes) = &self.attributes {
+            kids.push(attributes.write(alloc)?)?;
+        }
+        if let Some(public_key) = &self.public_key {
+            kids.push(Tree::leaf(PUBLIC_KEY, public_key.to_content(alloc)?))?;
+        }
+        Ok(kids.into_branch(SEQUENCE))
+    }
+
+    fn try_clone(&self, alloc: Global) -> Result<PrivateKeyInfo, AllocError> {
+        Ok(PrivateKeyInfo {
+            version: self.version,
+            private_key_algorithm: self.private_key_algorithm.try_clone(alloc)?,
+            private_key: self.private_key.try_clone(alloc)?,
+            attributes: copy_option(alloc, &self.attributes)?,
+            public_key: copy_option(alloc, &self.public_key)?,
+        })
+    }
+
+    ghost grammar = { private_key_infos };
+}
+
+/// Keys with their algorithms are equal exactly where their octets are. How long this takes tells of
+/// the keys.
+impl PartialEq for PrivateKeyInfo {
+    ghost use Rattle.der_core.specs.Equality.{same_octets, same_octets_per};
+    ghost use Rattle.key_core.specs.PrivateKeyInfo.{private_key_info};
+
+    ghost eq = { same_octets private_key_info };
+
+    ghost laws = { same_octets_per private_key_info };
+
+    fn eq(&self, other: &PrivateKeyInfo) -> bool
+        ensures octets { result ≡ same_octets private_key_info self.now other.now }
+        ensures same { IsTrue result ↔ (self.now ≡ other.now) }
+    {
+        self.version == other.version
+            && self.private_key_algorithm == other.private_key_algorithm
+            && self.private_key == other.private_key
+            && are_same(&self.attributes, &other.attributes)
+            && are_same_bits(&self.public_key, &other.public_key)
+    }
+}
+
+impl Eq for PrivateKeyInfo {
+    ghost use Rattle.der_core.specs.Equality.{same_octets_equiv};
+    ghost use Rattle.key_core.specs.PrivateKeyInfo.{private_key_info};
+
+    ghost laws = { same_octets_equiv private_key_info };
+}
+
+/// Whether attributes are the same.
+fn are_same(a: &Option<Raw>, b: &Option<Raw>) -> bool
+    ensures { IsTrue result ↔ (a.now ≡ b.now) }
+{
+    match (a, b) {
+        (Some(a), Some(b)) => *a == *b,
+        (None, None) => true,
+        _ => false,
+    }
+}
+
+/// Whether public keys are the same.
+fn are_same_bits(a: &Option<BitString>, b: &Option<BitString>) -> bool
+    ensures { IsTrue result ↔ (a.now ≡ b.now) }
+{
+    match (a, b) {
+        (Some(a), Some(b)) => *a == *b,
+        (None, None) => true,
+        _ => false,
+    }
+}

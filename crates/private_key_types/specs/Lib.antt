@@ -1,0 +1,4 @@
+pub mod RsaPrivateKey
+pub mod Optional
+pub mod ECPrivateKey
+pub mod Facts

@@ -1,0 +1,137 @@
+//! Private keys of elliptic curves.
+
+ghost use Rattle.std.specs.Prelude.{◌≡◌, ◌≢◌, ◌↔◌, IsTrue, Option, MatchOption};
+ghost use Rattle.der_core.specs.DerElement.{DerElement};
+ghost use Rattle.der_core.specs.Lent.{at_option};
+ghost use Rattle.private_key_types.specs.ECPrivateKey.{ec_private_key, ec_private_key_of};
+
+use crate::optional::{copy_option, has_option, read_option};
+use asn1_types::{BitString, ObjectIdentifier};
+use der_core::tag::{INTEGER, SEQUENCE};
+use der_core::{
+    DerError, Elem, Kids, NewKids, Octets, Structure, Tree, expect_leaf, explicit, leaf,
+};
+use std::alloc::{AllocError, Global};
+
+/// The contents octets of the version, which is 1.
+const VERSION: [u8; 1] = [1];
+
+const PARAMETERS: u8 = 0xA0;
+
+const PUBLIC_KEY: u8 = 0xA1;
+
+/// A private key of an elliptic curve (RFC 5915 3): the octets of a number, the identifier of its
+/// curve, and its public key, a point. How many octets there are, which curve it is, and that the
+/// point is that of the number isn't asked. It has no `Debug`, so no secret is printed by mistake.
+#[derive(Drop)]
+pub struct ECPrivateKey {
+    pub private_key: Octets,
+    pub parameters: Option<ObjectIdentifier>,
+    pub public_key: Option<BitString>,
+}
+
+/// The fields of a private key where they lie, each any element.
+#[derive(Clone, Copy)]
+struct Fields<'a> {
+    private_key: Elem<'a>,
+    parameters: Option<Elem<'a>>,
+    public_key: Option<Elem<'a>>,
+}
+
+impl<'a> Fields<'a> {
+    /// The fields of the element.
+    fn of(elem: Elem<'a>) -> Option<Fields<'a>>
+        ensures { MatchOption result
+            ((private_key : DerElement) (parameters public_key : Option DerElement) → elem.entry.is.0 ≢ ec_private_key_of private_key parameters public_key)
+            (λ f. elem.entry.is.0 ≡ ec_private_key_of f.private_key.is.0 (at_option f.parameters) (at_option f.public_key)) }
+    {
+        let mut kids = Kids::of(elem, SEQUENCE)?;
+        expect_leaf(kids.next()?, INTEGER, &VERSION)?;
+        let private_key = kids.next()?;
+        let parameters = kids.next_explicit(PARAMETERS)?;
+        let public_key = kids.next_explicit(PUBLIC_KEY)?;
+        kids.end()?;
+        Some(Fields {
+            private_key,
+            parameters,
+            public_key,
+        })
+    }
+}
+
+impl Structure for ECPrivateKey {
+    ghost use Rattle.private_key_types.specs.Facts.ECPrivateKeys.{ec_private_keys};
+
+    ghost written = { ec_private_key };
+
+    ghost spells = { λ element key. element ≡ ec_private_key key };
+
+    fn has_shape(elem: Elem<'_>) -> bool {
+        match Fields::of(elem) {
+            Some(fields) => {
+                Octets::has_shape(fields.private_key)
+                    && has_option::<ObjectIdentifier>(fields.parameters)
+                    && has_option::<BitString>(fields.public_key)
+            }
+            None => false,
+        }
+    }
+
+    fn read_at(alloc: Global, elem: Elem<'_>) -> Result<ECPrivateKey, DerError> {
+        let Some(fields) = Fields::of(elem) else {
+            return Err(DerError::Shape);
+        };
+        Ok(ECPrivateKey {
+            private_key: Octets::read_at(alloc, fields.private_key)?,
+            parameters: read_option(alloc, fields.parameters)?,
+            public_key: read_option(alloc, fields.public_key)?,
+        })
+    }
+
+    fn write(&self, alloc: Global) -> Result<Tree, DerError> {
+        let mut kids = NewKids::new(alloc);
+        kids.push(leaf(alloc, INTEGER, &VERSION)?)?;
+        kids.push(self.private_key.write(alloc)?)?;
+        if let Some(parameters) = &self.parameters {
+            kids.push(explicit(alloc, PARAMETERS, parameters.write(alloc)?)?)?;
+        }
+        if let Some(public_key) = &self.public_key {
+            kids.push(explicit(alloc, PUBLIC_KEY, public_key.write(alloc)?)?)?;
+        }
+        Ok(kids.into_branch(SEQUENCE))
+    }
+
+    fn try_clone(&self, alloc: Global) -> Result<ECPrivateKey, AllocError> {
+        Ok(ECPrivateKey {
+            private_key: self.private_key.try_clone(alloc)?,
+            parameters: copy_option(alloc, &self.parameters)?,
+            public_key: copy_option(alloc, &self.public_key)?,
+        })
+    }
+
+    ghost grammar = { ec_private_keys };
+}
+
+/// Keys are equal exactly where their octets are. How long this takes tells of the keys.
+impl PartialEq for ECPrivateKey {
+    ghost use Rattle.der_core.specs.Equality.{same_octets, same_octets_per};
+
+    ghost eq = { same_octets ec_private_key };
+
+    ghost laws = { same_octets_per ec_private_key };
+
+    fn eq(&self, other: &ECPrivateKey) -> bool
+        ensures octets { result ≡ same_octets ec_private_key self.now other.now }
+        ensures same { IsTrue result ↔ (self.now ≡ other.now) }
+    {
+        self.private_key == other.private_key
+            && self.parameters == other.parameters
+            && self.public_key == other.public_key
+    }
+}
+
+impl Eq for ECPrivateKey {
+    ghost use Rattle.der_core.specs.Equality.{same_octets_equiv};
+
+    ghost laws = { same_octets_equiv ec_private_key };
+}

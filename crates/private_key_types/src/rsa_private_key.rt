@@ -1,0 +1,170 @@
+//! Private keys of RSA.
+
+ghost use Rattle.std.specs.Prelude.{◌≡◌, ◌≢◌, ◌↔◌, IsTrue, MatchOption};
+ghost use Rattle.private_key_types.specs.RsaPrivateKey.{two_prime, rsa_private_key, rsa_private_key_of};
+ghost use Rattle.der_core.specs.Structure.{Fits};
+
+use asn1_types::IntegerAsn1;
+use der_core::tag::{INTEGER, SEQUENCE};
+use der_core::{DerError, Elem, Kids, NewKids, Structure, Tree, leaf, leaf_at};
+use std::alloc::{AllocError, Global};
+
+/// An RSA private key of two primes (RFC 8017 A.1.2). It has no `Debug`, so no secret is printed by
+/// mistake.
+#[derive(Drop)]
+pub struct RsaPrivateKey {
+    pub modulus: IntegerAsn1,
+    pub public_exponent: IntegerAsn1,
+    pub private_exponent: IntegerAsn1,
+    pub prime1: IntegerAsn1,
+    pub prime2: IntegerAsn1,
+    pub exponent1: IntegerAsn1,
+    pub exponent2: IntegerAsn1,
+    pub coefficient: IntegerAsn1,
+}
+
+/// The fields of an RSA private key where they lie.
+#[derive(Clone, Copy)]
+struct Fields<'a> {
+    modulus: Elem<'a>,
+    public_exponent: Elem<'a>,
+    private_exponent: Elem<'a>,
+    prime1: Elem<'a>,
+    prime2: Elem<'a>,
+    exponent1: Elem<'a>,
+    exponent2: Elem<'a>,
+    coefficient: Elem<'a>,
+}
+
+impl<'a> Fields<'a> {
+    ghost use Rattle.private_key_types.specs.declared.rsa_private_key.RsaPrivateKey.{RsaPrivateKey};
+
+    /// The fields of the element.
+    fn of(elem: Elem<'a>) -> Option<Fields<'a>>
+        ensures { MatchOption result
+            ((key : RsaPrivateKey) → elem.entry.is.0 ≢ rsa_private_key key)
+            (λ f. (elem.entry.is.0 ≡ rsa_private_key_of f.modulus.is.0 f.public_exponent.is.0 f.private_exponent.is.0
+            f.prime1.is.0 f.prime2.is.0 f.exponent1.is.0 f.exponent2.is.0 f.coefficient.is.0)
+            × Fits (λ element key. element ≡ rsa_private_key key) elem.entry.is.0) }
+    {
+        let mut kids = Kids::of(elem, SEQUENCE)?;
+        two_prime(kids.next()?)?;
+        let modulus = kids.next_as::<IntegerAsn1>()?;
+        let public_exponent = kids.next_as::<IntegerAsn1>()?;
+        let private_exponent = kids.next_as::<IntegerAsn1>()?;
+        let prime1 = kids.next_as::<IntegerAsn1>()?;
+        let prime2 = kids.next_as::<IntegerAsn1>()?;
+        let exponent1 = kids.next_as::<IntegerAsn1>()?;
+        let exponent2 = kids.next_as::<IntegerAsn1>()?;
+        let coefficient = kids.next_as::<IntegerAsn1>()?;
+        kids.end()?;
+        Some(Fields {
+            modulus,
+            public_exponent,
+            private_exponent,
+            prime1,
+            prime2,
+            exponent1,
+            exponent2,
+            coefficient,
+        })
+    }
+}
+
+/// The element is the version of keys of two primes.
+fn two_prime(elem: Elem<'_>) -> Option<()>
+    ensures { MatchOption result
+        (elem.entry.is.0 ≢ two_prime)
+        (λ _. elem.entry.is.0 ≡ two_prime) }
+{
+    match leaf_at(elem, INTEGER)? {
+        [0] => Some(()),
+        _ => None,
+    }
+}
+
+impl Structure for RsaPrivateKey {
+    ghost use Rattle.private_key_types.specs.Facts.RsaPrivateKeys.{rsa_private_keys};
+
+    ghost written = { rsa_private_key };
+
+    ghost spells = { λ element key. element ≡ rsa_private_key key };
+
+    fn has_shape(elem: Elem<'_>) -> bool {
+        matches!(Fields::of(elem), Some(_))
+    }
+
+    fn read_at(alloc: Global, elem: Elem<'_>) -> Result<RsaPrivateKey, DerError> {
+        let Some(fields) = Fields::of(elem) else {
+            return Err(DerError::Shape);
+        };
+        Ok(RsaPrivateKey {
+            modulus: IntegerAsn1::read_at(alloc, fields.modulus)?,
+            public_exponent: IntegerAsn1::read_at(alloc, fields.public_exponent)?,
+            private_exponent: IntegerAsn1::read_at(alloc, fields.private_exponent)?,
+            prime1: IntegerAsn1::read_at(alloc, fields.prime1)?,
+            prime2: IntegerAsn1::read_at(alloc, fields.prime2)?,
+            exponent1: IntegerAsn1::read_at(alloc, fields.exponent1)?,
+            exponent2: IntegerAsn1::read_at(alloc, fields.exponent2)?,
+            coefficient: IntegerAsn1::read_at(alloc, fields.coefficient)?,
+        })
+    }
+
+    fn write(&self, alloc: Global) -> Result<Tree, DerError> {
+        let mut kids = NewKids::new(alloc);
+        kids.push(leaf(alloc, INTEGER, &[0])?)?;
+        kids.push(self.modulus.write(alloc)?)?;
+        kids.push(self.public_exponent.write(alloc)?)?;
+        kids.push(self.private_exponent.write(alloc)?)?;
+        kids.push(self.prime1.write(alloc)?)?;
+        kids.push(self.prime2.write(alloc)?)?;
+        kids.push(self.exponent1.write(alloc)?)?;
+        kids.push(self.exponent2.write(alloc)?)?;
+        kids.push(self.coefficient.write(alloc)?)?;
+        Ok(kids.into_branch(SEQUENCE))
+    }
+
+    fn try_clone(&self, alloc: Global) -> Result<RsaPrivateKey, AllocError> {
+        Ok(RsaPrivateKey {
+            modulus: self.modulus.try_clone(alloc)?,
+            public_exponent: self.public_exponent.try_clone(alloc)?,
+            private_exponent: self.private_exponent.try_clone(alloc)?,
+            prime1: self.prime1.try_clone(alloc)?,
+            prime2: self.prime2.try_clone(alloc)?,
+            exponent1: self.exponent1.try_clone(alloc)?,
+            exponent2: self.exponent2.try_clone(alloc)?,
+            coefficient: self.coefficient.try_clone(alloc)?,
+        })
+    }
+
+    ghost grammar = { rsa_private_keys };
+}
+
+/// Keys are equal exactly where their octets are. How long this takes tells of the keys.
+impl PartialEq for RsaPrivateKey {
+    ghost use Rattle.der_core.specs.Equality.{same_octets, same_octets_per};
+
+    ghost eq = { same_octets rsa_private_key };
+
+    ghost laws = { same_octets_per rsa_private_key };
+
+    fn eq(&self, other: &RsaPrivateKey) -> bool
+        ensures octets { result ≡ same_octets rsa_private_key self.now other.now }
+        ensures same { IsTrue result ↔ (self.now ≡ other.now) }
+    {
+        self.modulus == other.modulus
+            && self.public_exponent == other.public_exponent
+            && self.private_exponent == other.private_exponent
+            && self.prime1 == other.prime1
+            && self.prime2 == other.prime2
+            && self.exponent1 == other.exponent1
+            && self.exponent2 == other.exponent2
+            && self.coefficient == other.coefficient
+    }
+}
+
+impl Eq for RsaPrivateKey {
+    ghost use Rattle.der_core.specs.Equality.{same_octets_equiv};
+
+    ghost laws = { same_octets_equiv rsa_private_key };
+}
