@@ -3,16 +3,16 @@ use Rattle.std.proofs.Common.{◌≡◌, ℕ, List}
 use Rattle.der_core.specs.DerElement.{DerElement}
 use Rattle.der_core.specs.Structure.{IsWithin}
 use Rattle.x509_types.specs.OctetString.{octet_string}
-use Rattle.x509_types.specs.KeyUsage.{key_usage}
-use Rattle.x509_types.specs.BasicConstraints.{IsBasicConstraints}
-use Rattle.x509_types.specs.AuthorityKeyIdentifier.{authority_key_identifier}
-use Rattle.x509_types.specs.ExtendedKeyUsage.{extended_key_usage}
+use Rattle.x509_values.specs.KeyUsage.{key_usage}
+use Rattle.x509_values.specs.BasicConstraints.{IsBasicConstraints}
+use Rattle.x509_values.specs.AuthorityKeyIdentifier.{authority_key_identifier}
+use Rattle.x509_values.specs.ExtendedKeyUsage.{extended_key_usage}
 use Rattle.x509_types.specs.ExtensionView.{IsValueOf}
 use Rattle.x509_types.specs.declared.octet_string.OctetString.{OctetString}
-use Rattle.x509_types.specs.declared.key_usage.KeyUsage.{KeyUsage}
-use Rattle.x509_types.specs.declared.basic_constraints.BasicConstraints.{BasicConstraints}
-use Rattle.x509_types.specs.declared.authority_key_identifier.AuthorityKeyIdentifier.{AuthorityKeyIdentifier}
-use Rattle.x509_types.specs.declared.extended_key_usage.ExtendedKeyUsage.{ExtendedKeyUsage}
+use Rattle.x509_values.specs.declared.key_usage.KeyUsage.{KeyUsage}
+use Rattle.x509_values.specs.declared.basic_constraints.BasicConstraints.{BasicConstraints}
+use Rattle.x509_values.specs.declared.authority_key_identifier.AuthorityKeyIdentifier.{AuthorityKeyIdentifier}
+use Rattle.x509_values.specs.declared.extended_key_usage.ExtendedKeyUsage.{ExtendedKeyUsage}
 use Rattle.x509_types.specs.declared.extension_kind.ExtensionKind.{ExtensionKind}
 use Rattle.x509_types.specs.declared.extension_kind.ExtensionKind.TheVariants as kinds
 use Rattle.x509_types.specs.declared.extension_view.ExtensionView.{ExtensionView}

@@ -4,7 +4,7 @@ use Rattle.der_core.specs.DerElement.{DerElement, Primitive}
 use Rattle.der_core.specs.Elements.{sequence}
 use Rattle.asn1_types.specs.Values.{identifier_contents}
 use Rattle.asn1_types.specs.Elements.{object_identifier}
-use Rattle.x509_types.specs.Boolean.{default_false}
+use Rattle.x509_values.specs.Boolean.{default_false}
 use Rattle.x509_types.specs.ExtensionView.{value_octets, IsValueIn}
 use Rattle.x509_types.specs.ExtensionFields.{IsExtensionOf}
 use Rattle.x509_types.specs.declared.extension.Extension.{Extension}

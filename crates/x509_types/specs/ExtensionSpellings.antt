@@ -1,9 +1,10 @@
 -- The two ways in which an element that spells an extension is another than the one that is written for it.
-use Rattle.std.specs.Prelude.{◌≡◌, ◌≢◌, ℕ, ◌==◌, Bool, true, not, List, [], ◌∷◌, Option, Some}
+use Rattle.std.specs.Prelude.{◌≡◌, ◌≢◌, ℕ, ◌==◌, Bool, not, List, [], ◌∷◌}
 use Rattle.der_core.specs.DerElement.{DerElement, Primitive}
 use Rattle.der_core.specs.Encoding.{encoding}
 use Rattle.der_core.specs.Elements.{sequence}
-use Rattle.x509_types.specs.BasicConstraints.{optional_integer}
+use Rattle.x509_values.specs.BasicConstraints.{HasOtherTrue}
+use Rattle.x509_values.specs.declared.basic_constraints.BasicConstraints.{BasicConstraints}
 use Rattle.x509_types.specs.declared.extension_view.ExtensionView.{ExtensionView}
 use Rattle.x509_types.specs.declared.extension_view.ExtensionView.TheVariants as views
 
@@ -16,9 +17,8 @@ pub record HasOtherFlag (element oid : DerElement) (critical : Bool) (octets : L
 
 -- The octets hold basic constraints whose TRUE stands in another octet than FF, against X.690 11.1.
 pub record HasOtherConstraints (octets : List ℕ) (view : ExtensionView) : Type 0 where
-  pub octet : ℕ
-  pub pathlen : Option ℕ
-  pub other : octet ≢ 0xFF
-  pub flagged : octet ≢ 0
-  pub valued : view ≡ views.BasicConstraints (record { ca = Some true; pathlen = pathlen })
-  pub are : octets ≡ encoding (sequence (Primitive 0x01 (octet ∷ []) ∷ optional_integer pathlen))
+  pub element : DerElement
+  pub constraints : BasicConstraints
+  pub other : HasOtherTrue element constraints
+  pub valued : view ≡ views.BasicConstraints constraints
+  pub are : octets ≡ encoding element

@@ -1,10 +1,3 @@
-pub mod Validity
-pub mod Boolean
-pub mod BasicConstraints
-pub mod KeyUsage
-pub mod ExtendedKeyUsage
-pub mod AuthorityIssuer
-pub mod AuthorityKeyIdentifier
 pub mod OctetString
 pub mod ExtensionKind
 pub mod ExtensionView

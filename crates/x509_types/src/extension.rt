@@ -10,14 +10,9 @@ ghost use Rattle.x509_types.specs.ExtensionKind.{named_kind};
 ghost use Rattle.x509_types.specs.ExtensionView.{kind_of, IsValueOf};
 ghost use Rattle.x509_types.specs.Facts.ExtensionKinds.{same_kinds};
 
-use crate::authority_key_identifier::AuthorityKeyIdentifier;
-use crate::basic_constraints::BasicConstraints;
-use crate::boolean::write_boolean;
-use crate::extended_key_usage::ExtendedKeyUsage;
 use crate::extension_fields::{ExtensionFields, kind_at};
 use crate::extension_kind::ExtensionKind;
 use crate::extension_view::ExtensionView;
-use crate::key_usage::KeyUsage;
 use asn1_types::ObjectIdentifier;
 use asn1_types::oids::{
     CE_AUTHORITY_KEY_IDENTIFIER, CE_BASIC_CONSTRAINTS, CE_EXT_KEY_USAGE, CE_KEY_USAGE,
@@ -26,6 +21,9 @@ use asn1_types::oids::{
 use der_core::tag::{OCTET_STRING, SEQUENCE};
 use der_core::{DerError, Elem, ListOf, NewKids, Octets, Structure, Tree};
 use std::alloc::{AllocError, Global};
+use x509_values::{
+    AuthorityKeyIdentifier, BasicConstraints, ExtendedKeyUsage, KeyUsage, write_boolean,
+};
 
 /// Extensions in order (RFC 5280 4.1).
 pub type Extensions = ListOf<Extension>;
@@ -42,7 +40,8 @@ pub struct Extension {
 }
 
 impl Extension {
-    ghost use Rattle.x509_types.specs.AuthorityKeyIdentifier.{key_of_identifier};
+    ghost use Rattle.x509_values.specs.AuthorityKeyIdentifier.{key_of_identifier};
+    ghost use Rattle.x509_values.specs.BasicConstraints.{constraints_with};
     ghost use Rattle.x509_types.specs.Extension.{IsPlainExtension};
     ghost use Rattle.x509_types.specs.declared.extension_view.ExtensionView.TheVariants as views;
 
@@ -53,7 +52,7 @@ impl Extension {
         ca: bool,
         pathlen: Option<u8>,
     ) -> Result<Extension, DerError>
-        ensures made { IfOk result (λ e. IsPlainExtension e CE_BASIC_CONSTRAINTS.now (views.BasicConstraints (record { ca = Some ca; pathlen = pathlen }))) }
+        ensures made { IfOk result (λ e. IsPlainExtension e CE_BASIC_CONSTRAINTS.now (views.BasicConstraints (constraints_with (Some ca) pathlen))) }
         ensures refused { IfErr result (λ e. e ≡ errors.Memory) }
     {
         let constraints = BasicConstraints::new(Some(ca), pathlen);

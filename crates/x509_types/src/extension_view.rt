@@ -6,14 +6,11 @@ ghost use Rattle.der_core.specs.Refusals.{RefusesShape, RefusesInner};
 ghost use Rattle.x509_types.specs.ExtensionView.{kind_of, value_octets, inner_value, IsValueOf};
 ghost use Rattle.x509_types.specs.declared.extension_view.ExtensionView.{ExtensionView};
 
-use crate::authority_key_identifier::AuthorityKeyIdentifier;
-use crate::basic_constraints::BasicConstraints;
-use crate::extended_key_usage::ExtendedKeyUsage;
 use crate::extension_kind::ExtensionKind;
-use crate::key_usage::KeyUsage;
 use crate::octet_string::{OctetString, write_octets_within};
 use der_core::{DerError, Octets, Structure, has_within, read_within, write_within};
 use std::alloc::{AllocError, Global};
+use x509_values::{AuthorityKeyIdentifier, BasicConstraints, ExtendedKeyUsage, KeyUsage};
 
 /// The value of an extension, by the extension's identifier (RFC 5280 4.2).
 #[derive(Debug, Drop)]

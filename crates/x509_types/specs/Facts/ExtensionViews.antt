@@ -1,24 +1,21 @@
 -- Values of extensions: octets hold at most one of a kind, and what is written for it holds it.
-use Rattle.std.proofs.Common.{◌≡◌, ℕ, List, [], ◌∷◌, ◌++◌, Option, Some, None, refl, ap, sym, subst, ◌∙◌, arith}
-use Rattle.std.specs.Prelude.{Bool, true, false, nat_lt, if◌then◌else◌}
-use Rattle.der_core.specs.DerElement.{DerElement, Primitive}
-use Rattle.der_core.specs.Encoding.{encoding, IsDer, IsShort, IsWellFormed, length_octets}
+use Rattle.std.proofs.Common.{◌≡◌, ℕ, List, [], ◌∷◌, refl, ap, sym, subst, ◌∙◌}
+use Rattle.der_core.specs.DerElement.{DerElement}
+use Rattle.der_core.specs.Encoding.{encoding, IsDer, IsWellFormed}
 use Rattle.der_core.specs.Placed.{AreDer}
 use Rattle.der_core.specs.Structure.{IsWithin, IsGrammar}
-use Rattle.der_core.specs.Elements.{sequence}
 use Rattle.der_core.specs.Facts.Fronts.{formed_encoding_once}
-use Rattle.x509_types.specs.Boolean.{boolean, optional_boolean}
-use Rattle.x509_types.specs.BasicConstraints.{basic_constraints, optional_integer, IsBasicConstraints}
-use Rattle.x509_types.specs.AuthorityKeyIdentifier.{authority_key_identifier}
-use Rattle.x509_types.specs.KeyUsage.{key_usage}
-use Rattle.x509_types.specs.ExtendedKeyUsage.{extended_key_usage}
+use Rattle.x509_values.specs.BasicConstraints.{basic_constraints, IsBasicConstraints}
+use Rattle.x509_values.specs.AuthorityKeyIdentifier.{authority_key_identifier}
+use Rattle.x509_values.specs.KeyUsage.{key_usage}
+use Rattle.x509_values.specs.ExtendedKeyUsage.{extended_key_usage}
 use Rattle.x509_types.specs.OctetString.{octet_string}
 use Rattle.x509_types.specs.ExtensionKind.{kind_number}
 use Rattle.x509_types.specs.ExtensionView.{kind_of, value_octets, inner_value, view_octets, IsValueIn}
 use Rattle.x509_types.specs.Facts.ExtensionKinds.{kinds_by_number}
-use Rattle.x509_types.specs.Facts.Constraints.{all_basic_constraints, constraints_printed, formed_of}
-use Rattle.x509_types.specs.Facts.Usages.{key_usages, extended_key_usages}
-use Rattle.x509_types.specs.Facts.AuthorityKeys.{authority_key_identifiers}
+use Rattle.x509_values.specs.Facts.Constraints.{all_basic_constraints, constraints_printed, constraints_der}
+use Rattle.x509_values.specs.Facts.Usages.{key_usages, extended_key_usages}
+use Rattle.x509_values.specs.Facts.AuthorityKeys.{authority_key_identifiers}
 use Rattle.x509_types.specs.Facts.OctetStrings.{octet_strings}
 use Rattle.x509_types.specs.declared.octet_string.OctetString.{OctetString}
 use Rattle.x509_types.specs.declared.extension_view.ExtensionView.{ExtensionView}
@@ -46,31 +43,6 @@ encoded_once written one formed a b e = one a b (formed_encoding_once (written a
 
 printed_once : {X : Type 0} (written : X → DerElement) → IsGrammar (λ (element : DerElement) (x : X). element ≡ written x) written (λ x. []) → (a b : X) → encoding (written a) ≡ encoding (written b) → a ≡ b
 printed_once written grammar = encoded_once written (λ a b e. grammar.once (written a) a b refl e) grammar.formed
-
--- ---- basic constraints are short
-
-abbrev integer_with : Bool → ℕ → DerElement
-integer_with low number = Primitive 0x02 (if low then number ∷ [] else 0 ∷ number ∷ [])
-
-length_short : (low : Bool) (number : ℕ) → IsShort (sequence (integer_with low number ∷ []))
-unfolding length_octets
-length_short true number = (omega arith, (omega arith, tt))
-length_short false number = (omega arith, (omega arith, tt))
-
-both_short : (b low : Bool) (number : ℕ) → IsShort (sequence (boolean b ∷ integer_with low number ∷ []))
-unfolding length_octets
-both_short b true number = (omega arith, (omega arith, (omega arith, tt)))
-both_short b false number = (omega arith, (omega arith, (omega arith, tt)))
-
-flag_short : (b : Bool) → IsShort (sequence (boolean b ∷ []))
-unfolding length_octets
-flag_short b = (omega arith, (omega arith, tt))
-
-constraints_der : (ca : Option Bool) (pathlen : Option ℕ) → IsDer (sequence (optional_boolean ca ++ optional_integer pathlen))
-constraints_der None None = record { formed = formed_of None None; nested = omega arith; short = (omega arith, tt) }
-constraints_der None (Some n) = record { formed = formed_of None (Some n); nested = omega arith; short = length_short (nat_lt n 128) n }
-constraints_der (Some b) None = record { formed = formed_of (Some b) None; nested = omega arith; short = flag_short b }
-constraints_der (Some b) (Some n) = record { formed = formed_of (Some b) (Some n); nested = omega arith; short = both_short b (nat_lt n 128) n }
 
 -- ---- values of extensions
 
@@ -154,7 +126,7 @@ values_by_octets (views.Raw x) (views.Raw y) kind e = ap views.Raw e
 pub values_bounded : (view : ExtensionView) (octets : List ℕ) → IsValueIn octets view → AreDer (inner_value view)
 values_bounded (views.SubjectKeyIdentifier x) octets p = within_bounds octet_string octets (record { octets = x }) p
 values_bounded (views.KeyUsage x) octets p = within_bounds key_usage octets x p
-values_bounded (views.BasicConstraints x) octets p = (constraints_der x.ca x.pathlen, tt)
+values_bounded (views.BasicConstraints x) octets p = (constraints_der x, tt)
 values_bounded (views.AuthorityKeyIdentifier x) octets p = within_bounds authority_key_identifier octets x p
 values_bounded (views.ExtendedKeyUsage x) octets p = within_bounds extended_key_usage octets x p
 values_bounded (views.Raw x) octets p = tt

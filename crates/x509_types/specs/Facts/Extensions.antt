@@ -9,14 +9,14 @@ use Rattle.asn1_types.specs.Values.{identifier_contents}
 use Rattle.asn1_types.specs.Elements.{object_identifier}
 use Rattle.asn1_types.specs.Facts.Elements.{identifiers}
 use Rattle.asn1_types.specs.declared.oid.ObjectIdentifier.{ObjectIdentifier}
-use Rattle.x509_types.specs.Boolean.{default_false}
+use Rattle.x509_values.specs.Boolean.{default_false}
 use Rattle.x509_types.specs.ExtensionFields.{IsExtensionOf}
 use Rattle.x509_types.specs.ExtensionKind.{named_kind}
 use Rattle.x509_types.specs.ExtensionView.{kind_of, value_octets, inner_value, IsValueIn}
 use Rattle.x509_types.specs.Extension.{extension, IsExtension}
 use Rattle.der_core.specs.Facts.Grammars.{same_fields}
-use Rattle.x509_types.specs.Facts.Fields.{split}
-use Rattle.x509_types.specs.Facts.Constraints.{default_is, default_field, default_once}
+use Rattle.x509_values.specs.Facts.Fields.{split}
+use Rattle.x509_values.specs.Facts.Constraints.{default_is, default_field, default_once}
 use Rattle.x509_types.specs.Facts.ExtensionKinds.{same_kinds}
 use Rattle.x509_types.specs.Facts.ExtensionViews.{values_once, values_by_octets, values_bounded, values_written}
 use Rattle.x509_types.specs.declared.extension.Extension.{Extension}

@@ -1,6 +1,0 @@
-use Rattle.std.proofs.Common.{sym, ◌∙◌}
-use Rattle.x509_types.proofs.Found.{missing}
-use Rattle.x509_types.proofs.basic_constraints.BasicConstraintsStructure.has_shape.Goals as goal
-
-pub returns-clause-unfit : goal.returns-clause-unfit
-returns-clause-unfit c = λ no. missing _ _ _ c.at.ensures (sym c.is_some.ensures ∙ no)

@@ -1,0 +1,4 @@
+pub mod Constraints
+pub mod Found
+pub mod AuthorityKeys
+pub mod KeyUsages

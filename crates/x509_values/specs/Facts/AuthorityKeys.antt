@@ -1,0 +1,81 @@
+-- Identifiers of authorities' keys: unlike ones have unlike elements, each well formed.
+use Rattle.std.proofs.Common.{◌≡◌, ℕ, List, [], ◌++◌, Option, Some, None, refl, ap, subst, ◌∙◌, arith}
+use Rattle.std.specs.Prelude.{option_to_list}
+use Rattle.der_core.specs.DerElement.{DerElement}
+use Rattle.der_core.specs.Encoding.{AreWellFormed}
+use Rattle.der_core.specs.DerElement.{row}
+use Rattle.der_core.specs.Kept.{KeptElement}
+use Rattle.der_core.specs.Lent.{kept_option}
+use Rattle.der_core.specs.Structure.{IsGrammar, BeginsOtherwise}
+use Rattle.der_core.specs.Facts.Grammars.{printed, same_fields}
+use Rattle.der_core.specs.Facts.Kept.{same_kept}
+use Rattle.x509_values.specs.AuthorityIssuer.{HasIssuerTag}
+use Rattle.x509_values.specs.AuthorityKeyIdentifier.{optional_leaf, authority_key_identifier}
+use Rattle.x509_values.specs.Facts.Fields.{IsField, split}
+use Rattle.x509_values.specs.Facts.Issuers.{HasIssuerTag-prop}
+use Rattle.x509_values.specs.declared.authority_key_identifier.AuthorityKeyIdentifier.{AuthorityKeyIdentifier}
+
+pub leaf_field : (tag : ℕ) (content : Option (List ℕ)) → IsField tag (optional_leaf tag content)
+leaf_field tag None = tt
+leaf_field tag (Some content) = refl
+
+pub issuer_field : (issuer : Option DerElement) → HasIssuerTag issuer → IsField 0xA1 (option_to_list issuer)
+issuer_field None tagged = tt
+issuer_field (Some issuer) tagged = tagged
+
+pub no_issuer : (serial : Option (List ℕ)) → BeginsOtherwise 0xA1 (optional_leaf 0x82 serial)
+no_issuer None = tt
+no_issuer (Some content) = λ e. omega (arith, e)
+
+pub no_key : (issuer : Option DerElement) (serial : Option (List ℕ)) → HasIssuerTag issuer → BeginsOtherwise 0x80 (option_to_list issuer ++ optional_leaf 0x82 serial)
+no_key None None tagged = tt
+no_key None (Some content) tagged = λ e. omega (arith, e)
+no_key (Some issuer) serial tagged = λ e. omega (arith, e, tagged)
+
+leaves_once : (tag : ℕ) (a b : Option (List ℕ)) → optional_leaf tag a ≡ optional_leaf tag b → a ≡ b
+leaves_once tag None None e = refl
+leaves_once tag None (Some y) e = absurd cc
+leaves_once tag (Some x) None e = absurd cc
+leaves_once tag (Some x) (Some y) e = let same : x ≡ y = cc in ap Some same
+
+issuers_once : (a b : Option KeptElement) → option_to_list (kept_option a) ≡ option_to_list (kept_option b) → a ≡ b
+issuers_once None None e = refl
+issuers_once None (Some y) e = absurd cc
+issuers_once (Some x) None e = absurd cc
+issuers_once (Some x) (Some y) e = let same : x.element ≡ y.element = cc in ap Some (same_kept x y same)
+
+abbrev authority_with : (key : Option (List ℕ)) (issuer : Option KeptElement) (serial : Option (List ℕ)) → HasIssuerTag (kept_option issuer) → AuthorityKeyIdentifier
+authority_with key issuer serial tagged = record { key_identifier = key; issuer = issuer; serial_number = serial; tagged = tagged }
+
+pub same_authority : (a b : AuthorityKeyIdentifier) → a.key_identifier ≡ b.key_identifier → a.issuer ≡ b.issuer → a.serial_number ≡ b.serial_number → a ≡ b
+same_authority a b key issuer serial =
+    subst (λ (i : Option KeptElement). (h : HasIssuerTag (kept_option i)) → a ≡ authority_with b.key_identifier i b.serial_number h) issuer
+    (λ h. ap (λ (k : Option (List ℕ)). authority_with k a.issuer a.serial_number a.tagged) key
+    ∙ ap (λ (s : Option (List ℕ)). authority_with b.key_identifier a.issuer s a.tagged) serial
+    ∙ ap (authority_with b.key_identifier a.issuer b.serial_number) (HasIssuerTag-prop (kept_option a.issuer) a.tagged h)) b.tagged
+
+authorities_once : (a b : AuthorityKeyIdentifier) → authority_key_identifier a ≡ authority_key_identifier b → a ≡ b
+authorities_once a b e =
+    let i = option_to_list (kept_option a.issuer) in
+    let j = option_to_list (kept_option b.issuer) in
+    let s = optional_leaf 0x82 a.serial_number in
+    let t = optional_leaf 0x82 b.serial_number in
+    let kids = same_fields (optional_leaf 0x80 a.key_identifier ++ (i ++ s)) (optional_leaf 0x80 b.key_identifier ++ (j ++ t)) e in
+    let keys = split 0x80 (optional_leaf 0x80 a.key_identifier) (optional_leaf 0x80 b.key_identifier) (i ++ s) (j ++ t) (leaf_field 0x80 a.key_identifier) (leaf_field 0x80 b.key_identifier) (λ none. no_key (kept_option a.issuer) a.serial_number a.tagged) (λ none. no_key (kept_option b.issuer) b.serial_number b.tagged) kids in
+    let issuers = split 0xA1 i j s t (issuer_field (kept_option a.issuer) a.tagged) (issuer_field (kept_option b.issuer) b.tagged) (λ none. no_issuer a.serial_number) (λ none. no_issuer b.serial_number) keys.1 in
+    same_authority a b (leaves_once 0x80 a.key_identifier b.key_identifier keys.0) (issuers_once a.issuer b.issuer issuers.0) (leaves_once 0x82 a.serial_number b.serial_number issuers.1)
+
+serial_formed : (serial : Option (List ℕ)) → AreWellFormed (row (optional_leaf 0x82 serial))
+serial_formed None = tt
+serial_formed (Some content) = (((omega arith, omega arith, omega arith), refl), tt)
+
+issuer_formed : (issuer : Option KeptElement) (serial : Option (List ℕ)) → AreWellFormed (row (option_to_list (kept_option issuer) ++ optional_leaf 0x82 serial))
+issuer_formed None serial = serial_formed serial
+issuer_formed (Some issuer) serial = (issuer.der.formed, serial_formed serial)
+
+key_formed : (key : Option (List ℕ)) (issuer : Option KeptElement) (serial : Option (List ℕ)) → AreWellFormed (row (optional_leaf 0x80 key ++ (option_to_list (kept_option issuer) ++ optional_leaf 0x82 serial)))
+key_formed None issuer serial = issuer_formed issuer serial
+key_formed (Some key) issuer serial = (((omega arith, omega arith, omega arith), refl), issuer_formed issuer serial)
+
+pub authority_key_identifiers : IsGrammar (λ element a. element ≡ authority_key_identifier a) authority_key_identifier (λ a. [])
+authority_key_identifiers = printed authority_key_identifier authorities_once (λ a. ((omega arith, omega arith, omega arith), refl, key_formed a.key_identifier a.issuer a.serial_number))
