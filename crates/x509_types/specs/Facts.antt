@@ -3,3 +3,8 @@ pub mod OctetStrings
 pub mod ExtensionKinds
 pub mod ExtensionViews
 pub mod Extensions
+pub mod Versions
+pub mod Optional
+pub mod TbsElements
+pub mod TbsCertificates
+pub mod Certificates
