@@ -2,3 +2,8 @@
 pub mod ExtensionKinds
 pub mod ExtensionViews
 pub mod Extensions
+pub mod Versions
+pub mod Optional
+pub mod TbsElements
+pub mod TbsCertificates
+pub mod Certificates

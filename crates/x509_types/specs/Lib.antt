@@ -3,4 +3,10 @@ pub mod ExtensionView
 pub mod ExtensionFields
 pub mod Extension
 pub mod ExtensionSpellings
+pub mod Version
+pub mod Optional
+pub mod TbsElements
+pub mod LentTbs
+pub mod TbsCertificate
+pub mod Certificate
 pub mod Facts

@@ -2,12 +2,18 @@
 //! keys, and what extensions hold stand in crates of their own, and are handed on here.
 #![tactic(auto)]
 
+mod certificate;
 mod extension;
 mod extension_fields;
 mod extension_kind;
 mod extension_view;
 mod laws;
+mod optional;
+mod tbs_certificate;
+mod tbs_fields;
+mod version;
 
+pub use certificate::Certificate;
 pub use extension::{Extension, Extensions};
 pub use extension_kind::ExtensionKind;
 pub use extension_view::ExtensionView;
@@ -15,6 +21,8 @@ pub use key_types::{
     AlgorithmIdentifier, KeyKind, RsaPublicKey, SubjectKey, SubjectPublicKeyInfo,
 };
 pub use laws::extensions_are_written_as_read;
+pub use tbs_certificate::TbsCertificate;
+pub use version::Version;
 pub use x501_types::{
     AttributeTypeAndValue, AttributeValue, DirectoryString, EdiPartyName, Name, NameAttr,
     OtherName, OtherValue, RawGeneralName, RawGeneralNames, RelativeDistinguishedName,

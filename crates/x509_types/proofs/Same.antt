@@ -1,0 +1,27 @@
+-- Fields that may be left out are compared.
+use Rattle.std.proofs.Common.{◌≡◌, ◌↔◌, IsTrue, Bool, ℕ, List, Option, sym, ◌∙◌}
+use Rattle.std.specs.Prelude.{bytes_eq}
+use Rattle.std.specs.Cmp.Lexicographic.{pointwise}
+use Rattle.std.specs.Option.{option_eq}
+use Rattle.std.proofs.lemmas.Slice.Eq.{bytes_eq-Decides}
+use Rattle.der_core.specs.Equality.{same_octets}
+use Rattle.der_core.specs.Facts.Equality.{octets_same, options_same, pointwise_same}
+use Rattle.x509_types.specs.Version.{version}
+use Rattle.x509_types.specs.Extension.{extension}
+use Rattle.x509_types.specs.Facts.Extensions.{extensions_printed, extensions_formed}
+use Rattle.x509_types.specs.Facts.Versions.{versions, versions_once}
+use Rattle.x509_types.specs.declared.extension.Extension.{Extension}
+use Rattle.x509_types.specs.declared.version.Version.{Version}
+
+by_test : (t u : Bool) (P : Type 0) → t ≡ u → (IsTrue u ↔ P) → IsTrue t ↔ P
+by_test t u P test same = (λ w. same.0 (sym test ∙ w), λ p. test ∙ same.1 p)
+
+pub same_versions : (a b : Option Version) (t : Bool) → t ≡ option_eq (same_octets version) a b → IsTrue t ↔ (a ≡ b)
+same_versions a b t test = by_test t _ (a ≡ b) test (options_same (same_octets version) (octets_same version versions_once versions.formed) a b)
+
+pub same_ids : (a b : Option (List ℕ)) (t : Bool) → t ≡ option_eq bytes_eq a b → IsTrue t ↔ (a ≡ b)
+same_ids a b t test = by_test t _ (a ≡ b) test (options_same bytes_eq (λ (x y : List ℕ). bytes_eq-Decides x y) a b)
+
+pub same_extensions : (a b : Option (List Extension)) (t : Bool) → t ≡ option_eq (pointwise (same_octets extension)) a b → IsTrue t ↔ (a ≡ b)
+same_extensions a b t test =
+    by_test t _ (a ≡ b) test (options_same (pointwise (same_octets extension)) (pointwise_same (same_octets extension) (octets_same extension extensions_printed extensions_formed)) a b)

@@ -1,0 +1,64 @@
+-- What an element spells by the elements of its fields.
+use Rattle.std.proofs.Common.{◌≡◌, Result, Ok, Err, MatchResult, refl, sym, subst, ◌∙◌}
+use Rattle.der_core.specs.DerElement.{DerElement}
+use Rattle.der_core.specs.Refusals.{RefusesShape}
+use Rattle.der_core.specs.Structure.{Fits}
+use Rattle.der_core.specs.Facts.Lists.{list_refused}
+use Rattle.der_core.specs.declared.error.DerError.{DerError}
+use Rattle.asn1_types.specs.Values.{integer_contents}
+use Rattle.asn1_types.specs.declared.integer.IntegerAsn1.{IntegerAsn1}
+use Rattle.x501_types.specs.Name.{IsName}
+use Rattle.key_types.specs.AlgorithmIdentifier.{algorithm_identifier}
+use Rattle.key_types.specs.PublicKeyInfo.{IsPublicKeyInfo}
+use Rattle.key_types.specs.declared.algorithm.AlgorithmIdentifier.{AlgorithmIdentifier}
+use Rattle.x509_values.specs.Validity.{validity}
+use Rattle.x509_values.specs.declared.validity.Validity.{Validity}
+use Rattle.x509_types.specs.Optional.{IsOptional}
+use Rattle.x509_types.specs.TbsElements.{TbsElements, tbs_of}
+use Rattle.x509_types.specs.TbsCertificate.{IsVersion, IsExtensions, AreTbsFields, IsTbsCertificate}
+use Rattle.x509_types.specs.Facts.TbsElements.{same_elements}
+use Rattle.x509_types.specs.declared.tbs_certificate.TbsCertificate.{TbsCertificate}
+
+-- the elements of the fields spell the value that the element around them spells
+pub by_fields : (element : DerElement) (f : TbsElements) (tbs : TbsCertificate) → element ≡ tbs_of f → IsTbsCertificate element tbs → AreTbsFields f tbs
+by_fields element f tbs is spelled = subst (λ (g : TbsElements). AreTbsFields g tbs) (same_elements spelled.elements f (sym spelled.is ∙ is)) spelled.spelled
+
+-- and the other way around
+pub of_fields : (element : DerElement) (f : TbsElements) (tbs : TbsCertificate) → element ≡ tbs_of f → AreTbsFields f tbs → IsTbsCertificate element tbs
+of_fields element f tbs is spelled = record { elements = f; is = is; spelled = spelled }
+
+-- what is read of the fields is read of the element
+pub read_of_fields : (element : DerElement) (f : TbsElements) (r : Result TbsCertificate DerError) → element ≡ tbs_of f
+    → MatchResult r (AreTbsFields f) (RefusesShape (AreTbsFields f)) → MatchResult r (IsTbsCertificate element) (RefusesShape (IsTbsCertificate element))
+read_of_fields element f (Ok tbs) is spelled = of_fields element f tbs is spelled
+read_of_fields element f (Err e) is refused = list_refused (AreTbsFields f) (IsTbsCertificate element) e (λ tbs p. (tbs, by_fields element f tbs is p)) refused
+
+-- what each element spells are the fields of one value
+pub all_fit : (f : TbsElements) → Fits (IsOptional IsVersion) f.version → (value : IntegerAsn1) × (f.serial_number ≡ integer_contents value) → (a : AlgorithmIdentifier) × (f.signature ≡ algorithm_identifier a)
+    → Fits IsName f.issuer → (v : Validity) × (f.validity ≡ validity v) → Fits IsName f.subject → Fits IsPublicKeyInfo f.subject_public_key_info → Fits (IsOptional IsExtensions) f.extensions → Fits AreTbsFields f
+all_fit f version serial signature issuer valid subject key extensions = (
+  record {
+    version = version.0;
+    serial_number = serial.0;
+    signature = signature.0;
+    issuer = issuer.0;
+    validity = valid.0;
+    subject = subject.0;
+    subject_public_key_info = key.0;
+    issuer_unique_id = f.issuer_unique_id;
+    subject_unique_id = f.subject_unique_id;
+    extensions = extensions.0;
+  },
+  record {
+    version = version.1;
+    serial_number = serial.1;
+    signature = signature.1;
+    issuer = issuer.1;
+    validity = valid.1;
+    subject = subject.1;
+    subject_public_key_info = key.1;
+    issuer_unique_id = refl;
+    subject_unique_id = refl;
+    extensions = extensions.1;
+  },
+)

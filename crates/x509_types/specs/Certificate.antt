@@ -1,0 +1,22 @@
+-- Certificate ::= SEQUENCE { tbsCertificate TBSCertificate, signatureAlgorithm AlgorithmIdentifier, signatureValue BIT STRING } (RFC 5280 4.1)
+use Rattle.std.specs.Prelude.{◌≡◌, [], ◌∷◌, List}
+use Rattle.der_core.specs.DerElement.{DerElement}
+use Rattle.der_core.specs.Elements.{sequence}
+use Rattle.asn1_types.specs.Elements.{bit_string}
+use Rattle.key_types.specs.AlgorithmIdentifier.{algorithm_identifier}
+use Rattle.x509_types.specs.TbsCertificate.{IsTbsCertificate, tbs_certificate, inner_tbs}
+use Rattle.x509_types.specs.declared.certificate.Certificate.{Certificate}
+
+-- The element spells the certificate.
+pub record IsCertificate (element : DerElement) (c : Certificate) : Type 0 where
+  pub tbs : DerElement
+  pub is : element ≡ sequence (tbs ∷ algorithm_identifier c.signature_algorithm ∷ bit_string c.signature_value ∷ [])
+  pub spelled : IsTbsCertificate tbs c.tbs_certificate
+
+-- the element that is written
+abbrev pub certificate : Certificate → DerElement
+certificate c = sequence (tbs_certificate c.tbs_certificate ∷ algorithm_identifier c.signature_algorithm ∷ bit_string c.signature_value ∷ [])
+
+-- the elements that are written into strings of it
+abbrev pub inner_certificate : Certificate → List DerElement
+inner_certificate c = inner_tbs c.tbs_certificate

@@ -1,0 +1,52 @@
+-- Certificates: an element spells at most one, and what is written for one spells it.
+use Rattle.std.proofs.Common.{◌≡◌, List, [], ◌∷◌, refl, sym, subst, ◌∙◌, arith}
+use Rattle.der_core.specs.DerElement.{DerElement}
+use Rattle.der_core.specs.Encoding.{IsWellFormed}
+use Rattle.der_core.specs.Elements.{sequence}
+use Rattle.der_core.specs.Structure.{IsGrammar}
+use Rattle.asn1_types.specs.Elements.{bit_string}
+use Rattle.asn1_types.specs.Facts.Elements.{bit_strings}
+use Rattle.asn1_types.specs.declared.bit_string.BitString.{BitString}
+use Rattle.key_types.specs.AlgorithmIdentifier.{algorithm_identifier}
+use Rattle.key_types.specs.Facts.Algorithms.{algorithms}
+use Rattle.key_types.specs.declared.algorithm.AlgorithmIdentifier.{AlgorithmIdentifier}
+use Rattle.x509_types.specs.TbsCertificate.{IsTbsCertificate, tbs_certificate}
+use Rattle.x509_types.specs.Certificate.{IsCertificate, certificate, inner_certificate}
+use Rattle.x509_types.specs.Facts.TbsCertificates.{tbs_certificates, tbs_printed}
+use Rattle.x509_types.specs.declared.certificate.Certificate.{Certificate}
+use Rattle.x509_types.specs.declared.tbs_certificate.TbsCertificate.{TbsCertificate}
+
+same_algorithm : (a b : AlgorithmIdentifier) → algorithm_identifier a ≡ algorithm_identifier b → a ≡ b
+same_algorithm a b e = algorithms.once (algorithm_identifier a) a b refl e
+
+same_bits : (a b : BitString) → bit_string a ≡ bit_string b → a ≡ b
+same_bits a b e = bit_strings.once (bit_string a) a b refl e
+
+pub same_certificate : (a b : Certificate) → a.tbs_certificate ≡ b.tbs_certificate → a.signature_algorithm ≡ b.signature_algorithm → a.signature_value ≡ b.signature_value → a ≡ b
+same_certificate a b tbs algorithm value i = record { tbs_certificate = tbs i; signature_algorithm = algorithm i; signature_value = value i }
+
+-- three elements stand in a sequence once
+pub same_three : (s t u x y z : DerElement) → sequence (s ∷ t ∷ u ∷ []) ≡ sequence (x ∷ y ∷ z ∷ []) → (s ≡ x) × (t ≡ y) × (u ≡ z)
+same_three s t u x y z e = (cc, cc, cc)
+
+certificates_once : (element : DerElement) (a b : Certificate) → IsCertificate element a → IsCertificate element b → a ≡ b
+certificates_once element a b p q =
+    let same = same_three p.tbs (algorithm_identifier a.signature_algorithm) (bit_string a.signature_value) q.tbs (algorithm_identifier b.signature_algorithm) (bit_string b.signature_value) (sym p.is ∙ q.is) in
+    same_certificate a b (tbs_certificates.once q.tbs a.tbs_certificate b.tbs_certificate (subst (λ (e : DerElement). IsTbsCertificate e a.tbs_certificate) same.0 p.spelled) q.spelled)
+    (same_algorithm a.signature_algorithm b.signature_algorithm same.1) (same_bits a.signature_value b.signature_value same.2)
+
+pub certificates_printed : (a b : Certificate) → certificate a ≡ certificate b → a ≡ b
+certificates_printed a b e =
+    let same = same_three (tbs_certificate a.tbs_certificate) (algorithm_identifier a.signature_algorithm) (bit_string a.signature_value) (tbs_certificate b.tbs_certificate) (algorithm_identifier b.signature_algorithm) (bit_string b.signature_value) e in
+    same_certificate a b (tbs_printed a.tbs_certificate b.tbs_certificate same.0) (same_algorithm a.signature_algorithm b.signature_algorithm same.1) (same_bits a.signature_value b.signature_value same.2)
+
+pub certificates_formed : (c : Certificate) → IsWellFormed (certificate c)
+certificates_formed c = ((omega arith, omega arith, omega arith), refl, (tbs_certificates.formed c.tbs_certificate, (algorithms.formed c.signature_algorithm, (bit_strings.formed c.signature_value, tt))))
+
+pub certificates : IsGrammar IsCertificate certificate inner_certificate
+certificates = record {
+  once = certificates_once;
+  bounded = λ element c p. tbs_certificates.bounded p.tbs c.tbs_certificate p.spelled;
+  spelled = λ c der. record { tbs = tbs_certificate c.tbs_certificate; is = refl; spelled = tbs_certificates.spelled c.tbs_certificate der };
+  formed = certificates_formed;
+}

@@ -1,0 +1,15 @@
+-- Version ::= INTEGER { v1(0), v2(1), v3(2) } (RFC 5280 4.1, 4.1.2.1)
+use Rattle.std.specs.Prelude.{ℕ, [], ◌∷◌}
+use Rattle.der_core.specs.DerElement.{DerElement, Primitive}
+use Rattle.x509_types.specs.declared.version.Version.{Version}
+use Rattle.x509_types.specs.declared.version.Version.TheVariants as versions
+
+-- the number of a version
+abbrev pub version_number : Version → ℕ
+version_number versions.V1 = 0
+version_number versions.V2 = 1
+version_number versions.V3 = 2
+
+-- the INTEGER of it, in its shortest contents (X.690 8.3.2)
+abbrev pub version : Version → DerElement
+version value = Primitive 0x02 (version_number value ∷ [])

@@ -1,0 +1,115 @@
+//! Certificates.
+
+ghost use Rattle.std.specs.Prelude.{◌≡◌, ◌↔◌, IsTrue, MatchOption};
+ghost use Rattle.der_core.specs.Structure.{Fits};
+
+use crate::AlgorithmIdentifier;
+use crate::optional::expect;
+use crate::tbs_certificate::TbsCertificate;
+use asn1_types::BitString;
+use der_core::tag::SEQUENCE;
+use der_core::{DerError, Elem, NewKids, Structure, Tree, three_kids};
+use std::alloc::{AllocError, Global};
+
+/// A certificate: what is signed, the algorithm of the signature, and the signature (RFC 5280 4.1.1).
+/// The algorithm stands a second time in what is signed; that both are the same isn't asked of what
+/// is read.
+#[derive(Debug, Drop)]
+pub struct Certificate {
+    pub tbs_certificate: TbsCertificate,
+    pub signature_algorithm: AlgorithmIdentifier,
+    pub signature_value: BitString,
+}
+
+impl Certificate {
+    ghost use Rattle.x509_types.specs.Certificate.{IsCertificate};
+    ghost use Rattle.x509_types.specs.declared.certificate.Certificate.{Certificate};
+
+    /// The element spells a certificate.
+    fn expect_shapes(elem: Elem<'_>) -> Option<()>
+        ensures { MatchOption result
+            ((c : Certificate) → IsCertificate elem.entry.is.0 c → ⊥)
+            (λ _. Fits IsCertificate elem.entry.is.0) }
+    {
+        let Some((tbs, algorithm, value)) = three_kids(elem, SEQUENCE) else {
+            return None;
+        };
+        expect::<TbsCertificate>(tbs)?;
+        expect::<AlgorithmIdentifier>(algorithm)?;
+        expect::<BitString>(value)?;
+        Some(())
+    }
+}
+
+impl Structure for Certificate {
+    ghost use Rattle.x509_types.specs.Certificate.{certificate, inner_certificate, IsCertificate};
+    ghost use Rattle.x509_types.specs.Facts.Certificates.{certificates};
+
+    ghost written = { certificate };
+
+    ghost spells = { IsCertificate };
+
+    ghost inner = { inner_certificate };
+
+    fn has_shape(elem: Elem<'_>) -> bool {
+        Certificate::expect_shapes(elem).is_some()
+    }
+
+    fn read_at(alloc: Global, elem: Elem<'_>) -> Result<Certificate, DerError> {
+        let Some((tbs, algorithm, value)) = three_kids(elem, SEQUENCE) else {
+            return Err(DerError::Shape);
+        };
+        let tbs_certificate = TbsCertificate::read_at(alloc, tbs)?;
+        let signature_algorithm = AlgorithmIdentifier::read_at(alloc, algorithm)?;
+        let signature_value = BitString::read_at(alloc, value)?;
+        Ok(Certificate {
+            tbs_certificate,
+            signature_algorithm,
+            signature_value,
+        })
+    }
+
+    fn write(&self, alloc: Global) -> Result<Tree, DerError> {
+        let mut kids = NewKids::new(alloc);
+        kids.push(self.tbs_certificate.write(alloc)?)?;
+        kids.push(self.signature_algorithm.write(alloc)?)?;
+        kids.push(self.signature_value.write(alloc)?)?;
+        Ok(kids.into_branch(SEQUENCE))
+    }
+
+    fn try_clone(&self, alloc: Global) -> Result<Certificate, AllocError> {
+        Ok(Certificate {
+            tbs_certificate: self.tbs_certificate.try_clone(alloc)?,
+            signature_algorithm: self.signature_algorithm.try_clone(alloc)?,
+            signature_value: self.signature_value.try_clone(alloc)?,
+        })
+    }
+
+    ghost grammar = { certificates };
+}
+
+/// Certificates are equal exactly where the octets are that are written for them.
+impl PartialEq for Certificate {
+    ghost use Rattle.der_core.specs.Equality.{same_octets, same_octets_per};
+    ghost use Rattle.x509_types.specs.Certificate.{certificate};
+
+    ghost eq = { same_octets certificate };
+
+    ghost laws = { same_octets_per certificate };
+
+    fn eq(&self, other: &Certificate) -> bool
+        ensures octets { result ≡ same_octets certificate self.now other.now }
+        ensures same { IsTrue result ↔ (self.now ≡ other.now) }
+    {
+        self.tbs_certificate == other.tbs_certificate
+            && self.signature_algorithm == other.signature_algorithm
+            && self.signature_value == other.signature_value
+    }
+}
+
+impl Eq for Certificate {
+    ghost use Rattle.der_core.specs.Equality.{same_octets_equiv};
+    ghost use Rattle.x509_types.specs.Certificate.{certificate};
+
+    ghost laws = { same_octets_equiv certificate };
+}

@@ -1,0 +1,108 @@
+//! Fields that may be left out.
+
+ghost use Rattle.std.specs.Prelude.{◌≡◌, ◌++◌, IfOk, OnOk, MatchOption, MatchResult, Option};
+ghost use Rattle.std.specs.Option.{option_map, option_copied};
+ghost use Rattle.der_core.specs.Encoding.{IsTag, form_bit};
+ghost use Rattle.der_core.specs.Lent.{at_option};
+ghost use Rattle.der_core.specs.Placed.{AreDer};
+ghost use Rattle.der_core.specs.Refusals.{RefusesShape, RefusesInner};
+ghost use Rattle.der_core.specs.Structure.{Fits};
+ghost use Rattle.der_core.specs.Elements.{optional_explicit, optional_leaf};
+ghost use Rattle.x509_types.specs.Optional.{IsOptional, inner_option};
+
+use der_core::{DerError, Elem, NewKids, Octets, Structure, explicit, leaf};
+use std::alloc::{AllocError, Global};
+
+/// The element spells a value.
+pub(crate) fn expect<T: Structure>(elem: Elem<'_>) -> Option<()>
+    ensures { MatchOption result
+        ((value : T) → T.spells elem.entry.is.0 value → ⊥)
+        (λ _. Fits T.spells elem.entry.is.0) }
+{
+    if T::has_shape(elem) { Some(()) } else { None }
+}
+
+/// The element, where there is one, spells a value.
+pub(crate) fn expect_optional<T: Structure>(elem: Option<Elem<'_>>) -> Option<()>
+    ensures { MatchOption result
+        ((value : Option T) → IsOptional T.spells (at_option elem.entry) value → ⊥)
+        (λ _. Fits (IsOptional T.spells) (at_option elem.entry)) }
+{
+    match elem {
+        Some(elem) => expect::<T>(elem),
+        None => Some(()),
+    }
+}
+
+/// The value that the element spells, where there is one.
+pub(crate) fn read_optional<T: Structure>(
+    alloc: Global,
+    elem: Option<Elem<'_>>,
+) -> Result<Option<T>, DerError>
+    ensures { MatchResult result (IsOptional T.spells (at_option elem.entry)) (RefusesShape (IsOptional T.spells (at_option elem.entry))) }
+{
+    match elem {
+        Some(elem) => Ok(Some(T::read_at(alloc, elem)?)),
+        None => Ok(None),
+    }
+}
+
+/// A copy of the value, where there is one.
+pub(crate) fn copy_optional<T: Structure>(
+    alloc: Global,
+    value: &Option<T>,
+) -> Result<Option<T>, AllocError>
+    ensures { IfOk result (λ copy. copy ≡ value.now) }
+{
+    match value {
+        Some(value) => Ok(Some(value.try_clone(alloc)?)),
+        None => Ok(None),
+    }
+}
+
+/// A copy of the octets, where there are any.
+pub(crate) fn copy_octets(
+    alloc: Global,
+    octets: Option<&[u8]>,
+) -> Result<Option<Octets>, AllocError>
+    ensures { IfOk result (λ copy. copy ≡ option_copied octets.entry) }
+{
+    match octets {
+        Some(octets) => Ok(Some(Octets::from_slice(alloc, octets)?)),
+        None => Ok(None),
+    }
+}
+
+/// Appends the element of the value under an explicit tag, where there is one.
+pub(crate) fn push_explicit<T: Structure>(
+    alloc: Global,
+    kids: &mut NewKids,
+    tag: u8,
+    value: &Option<T>,
+) -> Result<(), DerError>
+    requires { IsTag tag × (form_bit tag ≡ 1) }
+    ensures { MatchResult result
+        (λ _. (kids.new.kids ≡ kids.old.kids ++ optional_explicit tag (option_map T.written value.now)) × AreDer (inner_option T.inner value.now))
+        (RefusesInner (inner_option T.inner value.now)) }
+{
+    if let Some(value) = value {
+        kids.push(explicit(alloc, tag, value.write(alloc)?)?)?;
+    }
+    Ok(())
+}
+
+/// Appends a primitive element of the octets, where there are any.
+pub(crate) fn push_leaf(
+    alloc: Global,
+    kids: &mut NewKids,
+    tag: u8,
+    octets: &Option<Octets>,
+) -> Result<(), AllocError>
+    requires { IsTag tag × (form_bit tag ≡ 0) }
+    ensures { OnOk result (kids.new.kids ≡ kids.old.kids ++ optional_leaf tag octets.now) }
+{
+    if let Some(octets) = octets {
+        kids.push(leaf(alloc, tag, octets.as_slice())?)?;
+    }
+    Ok(())
+}

@@ -1,0 +1,150 @@
+//! What is signed of a certificate.
+
+ghost use Rattle.std.specs.Prelude.{◌≡◌, ◌↔◌, IsTrue};
+
+use crate::optional::{copy_optional, push_explicit, push_leaf};
+use crate::tbs_fields::{EXTENSIONS, ISSUER_UNIQUE_ID, SUBJECT_UNIQUE_ID, TbsFields, VERSION};
+use crate::version::Version;
+use crate::{AlgorithmIdentifier, Extensions, Name, SubjectPublicKeyInfo, Validity};
+use asn1_types::IntegerAsn1;
+use der_core::tag::SEQUENCE;
+use der_core::{DerError, Elem, NewKids, Octets, Structure, Tree};
+use std::alloc::{AllocError, Global};
+
+/// What is signed of a certificate (RFC 5280 4.1.2). A version that is left out, which means V1, and
+/// one that is given are told apart. The unique identifiers are kept as contents octets.
+#[derive(Debug, Drop)]
+pub struct TbsCertificate {
+    pub version: Option<Version>,
+    pub serial_number: IntegerAsn1,
+    pub signature: AlgorithmIdentifier,
+    pub issuer: Name,
+    pub validity: Validity,
+    pub subject: Name,
+    pub subject_public_key_info: SubjectPublicKeyInfo,
+    pub issuer_unique_id: Option<Octets>,
+    pub subject_unique_id: Option<Octets>,
+    pub extensions: Option<Extensions>,
+}
+
+impl TbsCertificate {
+    ghost use Rattle.x509_types.specs.TbsCertificate.{HasSameOptions};
+
+    /// Whether the fields that may be left out are the same.
+    fn has_same_options(&self, other: &TbsCertificate) -> bool
+        ensures { IsTrue result ↔ HasSameOptions self.now other.now }
+    {
+        is_same_version(&self.version, &other.version)
+            && is_same_id(&self.issuer_unique_id, &other.issuer_unique_id)
+            && is_same_id(&self.subject_unique_id, &other.subject_unique_id)
+            && are_same_extensions(&self.extensions, &other.extensions)
+    }
+}
+
+/// Whether the versions are the same, each given or left out.
+fn is_same_version(a: &Option<Version>, b: &Option<Version>) -> bool
+    ensures { IsTrue result ↔ (a.now ≡ b.now) }
+{
+    a == b
+}
+
+/// Whether the unique identifiers are the same, each given or left out.
+fn is_same_id(a: &Option<Octets>, b: &Option<Octets>) -> bool
+    ensures { IsTrue result ↔ (a.now ≡ b.now) }
+{
+    a == b
+}
+
+/// Whether the extensions are the same, each given or left out.
+fn are_same_extensions(a: &Option<Extensions>, b: &Option<Extensions>) -> bool
+    ensures { IsTrue result ↔ (a.now ≡ b.now) }
+{
+    a == b
+}
+
+impl Structure for TbsCertificate {
+    ghost use Rattle.x509_types.specs.TbsCertificate.{tbs_certificate, inner_tbs, IsTbsCertificate};
+    ghost use Rattle.x509_types.specs.Facts.TbsCertificates.{tbs_certificates};
+
+    ghost written = { tbs_certificate };
+
+    ghost spells = { IsTbsCertificate };
+
+    ghost inner = { inner_tbs };
+
+    fn has_shape(elem: Elem<'_>) -> bool {
+        match TbsFields::of(elem) {
+            Some(fields) => fields.expect_shapes().is_some(),
+            None => false,
+        }
+    }
+
+    fn read_at(alloc: Global, elem: Elem<'_>) -> Result<TbsCertificate, DerError> {
+        match TbsFields::of(elem) {
+            Some(fields) => fields.read(alloc),
+            None => Err(DerError::Shape),
+        }
+    }
+
+    fn write(&self, alloc: Global) -> Result<Tree, DerError> {
+        let mut kids = NewKids::new(alloc);
+        push_explicit(alloc, &mut kids, VERSION, &self.version)?;
+        kids.push(self.serial_number.write(alloc)?)?;
+        kids.push(self.signature.write(alloc)?)?;
+        kids.push(self.issuer.write(alloc)?)?;
+        kids.push(self.validity.write(alloc)?)?;
+        kids.push(self.subject.write(alloc)?)?;
+        kids.push(self.subject_public_key_info.write(alloc)?)?;
+        push_leaf(alloc, &mut kids, ISSUER_UNIQUE_ID, &self.issuer_unique_id)?;
+        push_leaf(alloc, &mut kids, SUBJECT_UNIQUE_ID, &self.subject_unique_id)?;
+        push_explicit(alloc, &mut kids, EXTENSIONS, &self.extensions)?;
+        Ok(kids.into_branch(SEQUENCE))
+    }
+
+    fn try_clone(&self, alloc: Global) -> Result<TbsCertificate, AllocError> {
+        Ok(TbsCertificate {
+            version: self.version,
+            serial_number: self.serial_number.try_clone(alloc)?,
+            signature: self.signature.try_clone(alloc)?,
+            issuer: self.issuer.try_clone(alloc)?,
+            validity: self.validity.try_clone(alloc)?,
+            subject: self.subject.try_clone(alloc)?,
+            subject_public_key_info: self.subject_public_key_info.try_clone(alloc)?,
+            issuer_unique_id: copy_optional(alloc, &self.issuer_unique_id)?,
+            subject_unique_id: copy_optional(alloc, &self.subject_unique_id)?,
+            extensions: copy_optional(alloc, &self.extensions)?,
+        })
+    }
+
+    ghost grammar = { tbs_certificates };
+}
+
+/// TBSCertificates are equal exactly where the octets are that are written for them.
+impl PartialEq for TbsCertificate {
+    ghost use Rattle.der_core.specs.Equality.{same_octets, same_octets_per};
+    ghost use Rattle.x509_types.specs.TbsCertificate.{tbs_certificate};
+
+    ghost eq = { same_octets tbs_certificate };
+
+    ghost laws = { same_octets_per tbs_certificate };
+
+    fn eq(&self, other: &TbsCertificate) -> bool
+        ensures octets { result ≡ same_octets tbs_certificate self.now other.now }
+        ensures same { IsTrue result ↔ (self.now ≡ other.now) }
+    {
+        self.has_same_options(other)
+            && self.serial_number == other.serial_number
+            && self.signature == other.signature
+            && self.issuer == other.issuer
+            && self.validity == other.validity
+            && self.subject == other.subject
+            && self.subject_public_key_info == other.subject_public_key_info
+    }
+}
+
+impl Eq for TbsCertificate {
+    ghost use Rattle.der_core.specs.Equality.{same_octets_equiv};
+    ghost use Rattle.x509_types.specs.TbsCertificate.{tbs_certificate};
+
+    ghost laws = { same_octets_equiv tbs_certificate };
+}
