@@ -1,12 +1,12 @@
 #!/usr/bin/env python3
-"""Make the files of the stored runs of `value_answers`, `structure_answers` and
-`extension_answers`.
+"""Make the files of the stored runs of `value_answers`, `structure_answers`,
+`extension_answers` and `certificate_answers`.
 
 Usage:
 
     python3 tools/value_answers.py FOLDER
 
-writes for each PROGRAM of the three FOLDER/PROGRAM/data/rows, the rows that it
+writes for each PROGRAM of the four FOLDER/PROGRAM/data/rows, the rows that it
 is asked for, and FOLDER/PROGRAM/stdout, a line for each.  The lines come from
 `value_reader`, from Python's arithmetic and `datetime`, from the list in
 `oid_table`, and for the names and keys of certificates from what openssl said
@@ -22,6 +22,7 @@ from itertools import filterfalse
 import private_keys
 import structure_rows as structures
 import value_rows as values
+import whole_certificates
 from certificate_parts import STORED, rows_of
 from der_reader import Constructed, Primitive, read_exact, write
 from oid_table import BAD_CONTENTS, BAD_TEXTS, KNOWN, READ, contents
@@ -441,6 +442,21 @@ def certificate_rows():
         yield f"structure key {row.octets}", line
 
 
+def whole_certificate_rows():
+    """The rows of `certificate_answers`: whole certificates, and pairs of them that are unlike."""
+    for label, octets in whole_certificates.stored():
+        yield structure_row("certificate", octets.hex(), whole_certificates.READS[label])
+    for octets, _ in whole_certificates.WRITTEN:
+        yield structure_row("certificate", octets.hex(), True)
+    for octets, _ in whole_certificates.REFUSED:
+        yield structure_row("certificate", octets.hex(), False)
+    for one, other, _ in whole_certificates.UNLIKE:
+        yield f"unlike certificate {one.hex()} {other.hex()}", "unlike"
+        yield f"unlike certificate {one.hex()} {one.hex()}", "equal"
+    for one, other, _ in whole_certificates.LIKE:
+        yield f"unlike certificate {one.hex()} {other.hex()}", "equal"
+
+
 def value_rows():
     """The rows of `value_answers`."""
     yield from identifier_rows()
@@ -490,6 +506,7 @@ def stored_files():
         *stored_run("value_answers", value_rows()),
         *stored_run("structure_answers", filterfalse(is_extension, structure_rows())),
         *stored_run("extension_answers", filter(is_extension, structure_rows())),
+        *stored_run("certificate_answers", whole_certificate_rows()),
     ])
 
 

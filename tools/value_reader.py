@@ -459,6 +459,48 @@ def extension(element):
     return f"{oid} {str(critical).lower()} {value} {word(write(written))}"
 
 
+def given(fields, tag):
+    """The first of the fields, which goes, where it has this tag."""
+    return fields.pop(0) if fields and fields[0].tag == tag else None
+
+
+def whole(value):
+    """A whole element as a word, `none` for none."""
+    return "none" if value is None else word(write(value))
+
+
+def certificate(element):
+    """A Certificate (RFC 5280 4.1), field by field, and what is written for it."""
+    parts = kids(element, 0x30)
+    need(len(parts) == 3)
+    to_be_signed, outer, signature = parts
+    fields = list(kids(to_be_signed, 0x30))
+    version, shown_version = given(fields, 0xA0), "none"
+    if version is not None:
+        shown_version = word(contents(explicit(version, 0xA0), 2))
+        need(shown_version in ("00", "01", "02"))
+    need(len(fields) >= 6)
+    serial, inner_algorithm, issuer, dates, subject, subject_key, *rest = fields
+    oids = algorithm(inner_algorithm).split()[0], algorithm(outer).split()[0]
+    name(issuer), name(subject), key(subject_key)
+    ids = [one and contents(one, tag) for tag in (0x81, 0x82) for one in [given(rest, tag)]]
+    listed, written = given(rest, 0xA3), None
+    need(not rest)
+    if listed is not None:
+        lines = map(extension, kids(explicit(listed, 0xA3), 0x30))
+        written = Constructed(0x30, tuple(read_exact(bytes.fromhex(line.split()[-1])) for line in lines))
+        replaced = (*to_be_signed.kids[:-1], Constructed(0xA3, (written,)))
+        to_be_signed = Constructed(0x30, replaced)
+    return " ".join((
+        shown_version, integer(contents(serial, 2)).split()[0], oids[0], whole(issuer), validity(dates), whole(subject), whole(subject_key),
+        *("none" if one is None else word(one) for one in ids), whole(written), oids[1], bits(contents(signature, 3)),
+        whole(Constructed(0x30, (to_be_signed, outer, signature))),
+    ))
+
+
+# Of these what is written may be another element than the one that was read; it is printed last.
+WRITTEN_ANEW = ("extension", "certificate")
+
 KINDS = {
     "integer": lambda element: integer(contents(element, 2)).split()[0],
     "bits": lambda element: bits(contents(element, 3)),
@@ -478,17 +520,18 @@ KINDS = {
     "extension": extension,
     "validity": validity,
     "general_names": general_names,
+    "certificate": certificate,
 }
 
 
 def structure_line(kind, octets):
     """What is printed of octets as a structure: a value comes back as it was read.
 
-    An extension alone may come back otherwise, with its flags as DER has them.
+    Extensions alone may come back otherwise, with their flags as DER has them.
     """
     try:
         line = KINDS[kind](read_exact(octets))
     except Shape:
         return "Shape"
-    same = kind != "extension" or line.endswith(f" {octets.hex()}")
+    same = kind not in WRITTEN_ANEW or line.endswith(f" {octets.hex()}")
     return f"{'same' if same else 'changed'} {line}"
