@@ -1,5 +1,5 @@
 -- Fields that may be left out are compared.
-use Rattle.std.proofs.Common.{◌≡◌, ◌↔◌, IsTrue, Bool, ℕ, List, Option, sym, ◌∙◌}
+use Rattle.std.proofs.Common.{◌≡◌, ◌↔◌, IsTrue, Bool, ℕ, List, Option, sym, ap, ◌∙◌}
 use Rattle.std.specs.Prelude.{bytes_eq}
 use Rattle.std.specs.Cmp.Lexicographic.{pointwise}
 use Rattle.std.specs.Option.{option_eq}
@@ -7,8 +7,8 @@ use Rattle.std.proofs.lemmas.Slice.Eq.{bytes_eq-Decides}
 use Rattle.der_core.specs.Equality.{same_octets}
 use Rattle.der_core.specs.Facts.Equality.{octets_same, options_same, pointwise_same}
 use Rattle.x509_types.specs.Version.{version}
-use Rattle.x509_types.specs.Extension.{extension}
-use Rattle.x509_types.specs.Facts.Extensions.{extensions_printed, extensions_formed}
+use Rattle.x509_types.specs.Extension.{extension_octets}
+use Rattle.x509_types.specs.Facts.Extensions.{extensions_by_octets}
 use Rattle.x509_types.specs.Facts.Versions.{versions, versions_once}
 use Rattle.x509_types.specs.declared.extension.Extension.{Extension}
 use Rattle.x509_types.specs.declared.version.Version.{Version}
@@ -22,6 +22,13 @@ same_versions a b t test = by_test t _ (a ≡ b) test (options_same (same_octets
 pub same_ids : (a b : Option (List ℕ)) (t : Bool) → t ≡ option_eq bytes_eq a b → IsTrue t ↔ (a ≡ b)
 same_ids a b t test = by_test t _ (a ≡ b) test (options_same bytes_eq (λ (x y : List ℕ). bytes_eq-Decides x y) a b)
 
-pub same_extensions : (a b : Option (List Extension)) (t : Bool) → t ≡ option_eq (pointwise (same_octets extension)) a b → IsTrue t ↔ (a ≡ b)
-same_extensions a b t test =
-    by_test t _ (a ≡ b) test (options_same (pointwise (same_octets extension)) (pointwise_same (same_octets extension) (octets_same extension extensions_printed extensions_formed)) a b)
+abbrev told : Extension → Extension → Bool
+told a b = bytes_eq (extension_octets a) (extension_octets b)
+
+told_same : (a b : Extension) → IsTrue (told a b) ↔ (a ≡ b)
+told_same a b =
+    let decides = bytes_eq-Decides (extension_octets a) (extension_octets b) in
+    (λ w. extensions_by_octets a b (decides.0 w), λ e. decides.1 (ap (λ (v : Extension). extension_octets v) e))
+
+pub same_extensions : (a b : Option (List Extension)) (t : Bool) → t ≡ option_eq (pointwise told) a b → IsTrue t ↔ (a ≡ b)
+same_extensions a b t test = by_test t _ (a ≡ b) test (options_same (pointwise told) (pointwise_same told told_same) a b)

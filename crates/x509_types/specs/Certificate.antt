@@ -1,9 +1,11 @@
 -- Certificate ::= SEQUENCE { tbsCertificate TBSCertificate, signatureAlgorithm AlgorithmIdentifier, signatureValue BIT STRING } (RFC 5280 4.1)
-use Rattle.std.specs.Prelude.{◌≡◌, [], ◌∷◌, List}
+use Rattle.std.specs.Prelude.{◌≡◌, ℕ, [], ◌∷◌, ◌++◌, List}
 use Rattle.der_core.specs.DerElement.{DerElement}
 use Rattle.der_core.specs.Elements.{sequence}
+use Rattle.der_core.specs.Encoding.{encoding}
 use Rattle.asn1_types.specs.Elements.{bit_string}
 use Rattle.key_types.specs.AlgorithmIdentifier.{algorithm_identifier}
+use Rattle.x509_types.specs.Extension.{value_kinds}
 use Rattle.x509_types.specs.TbsCertificate.{IsTbsCertificate, tbs_certificate, inner_tbs}
 use Rattle.x509_types.specs.declared.certificate.Certificate.{Certificate}
 
@@ -20,3 +22,7 @@ certificate c = sequence (tbs_certificate c.tbs_certificate ∷ algorithm_identi
 -- the elements that are written into strings of it
 abbrev pub inner_certificate : Certificate → List DerElement
 inner_certificate c = inner_tbs c.tbs_certificate
+
+-- the kinds of the values of its extensions, and the octets that are written
+abbrev pub certificate_octets : Certificate → List ℕ
+certificate_octets c = value_kinds c.tbs_certificate.extensions ++ encoding (certificate c)

@@ -1,5 +1,5 @@
 -- Extension ::= SEQUENCE { extnID OBJECT IDENTIFIER, critical BOOLEAN DEFAULT FALSE, extnValue OCTET STRING } (RFC 5280 4.1, 4.1.2.9)
-use Rattle.std.specs.Prelude.{◌≡◌, ℕ, false, List, [], ◌∷◌, ◌++◌}
+use Rattle.std.specs.Prelude.{◌≡◌, ℕ, false, List, [], ◌∷◌, ◌++◌, map, Option, Some, None}
 use Rattle.der_core.specs.DerElement.{DerElement, Primitive}
 use Rattle.der_core.specs.Elements.{sequence}
 use Rattle.der_core.specs.Encoding.{encoding}
@@ -20,6 +20,11 @@ extension e = sequence (object_identifier e.extn_id ∷ (default_false e.critica
 -- the kind of the value, and the octets that are written
 abbrev pub extension_octets : Extension → List ℕ
 extension_octets e = kind_number (kind_of e.extn_value) ∷ encoding (extension e)
+
+-- the kinds of the values of extensions, where there are any
+abbrev pub value_kinds : Option (List Extension) → List ℕ
+value_kinds None = []
+value_kinds (Some extensions) = map (λ e. kind_number (kind_of e.extn_value)) extensions
 
 -- The element spells the extension.
 pub record IsExtension (element : DerElement) (e : Extension) : Type 0 where

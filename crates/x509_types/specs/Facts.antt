@@ -2,6 +2,7 @@
 pub mod ExtensionKinds
 pub mod ExtensionViews
 pub mod Extensions
+pub mod ToldExtensions
 pub mod Versions
 pub mod Optional
 pub mod TbsElements

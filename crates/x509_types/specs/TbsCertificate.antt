@@ -1,7 +1,8 @@
 -- Which element spells a TBSCertificate (RFC 5280 4.1, 4.1.2).
-use Rattle.std.specs.Prelude.{◌≡◌, List, ◌++◌, flat_map}
+use Rattle.std.specs.Prelude.{◌≡◌, ℕ, List, ◌++◌, flat_map}
 use Rattle.std.specs.Option.{option_map}
 use Rattle.der_core.specs.DerElement.{DerElement}
+use Rattle.der_core.specs.Encoding.{encoding}
 use Rattle.der_core.specs.Each.{IsListOf, list_element}
 use Rattle.asn1_types.specs.Values.{integer_contents}
 use Rattle.x501_types.specs.Name.{name, IsName}
@@ -10,7 +11,7 @@ use Rattle.key_types.specs.PublicKeyInfo.{public_key_info, inner_key, IsPublicKe
 use Rattle.x509_types.specs.Version.{version}
 use Rattle.x509_values.specs.Validity.{validity}
 use Rattle.x509_types.specs.ExtensionView.{inner_value}
-use Rattle.x509_types.specs.Extension.{extension, IsExtension}
+use Rattle.x509_types.specs.Extension.{extension, value_kinds, IsExtension}
 use Rattle.x509_types.specs.Optional.{IsOptional, inner_option}
 use Rattle.x509_types.specs.TbsElements.{TbsElements, tbs_of}
 use Rattle.x509_types.specs.declared.extension.Extension.{Extension}
@@ -79,3 +80,7 @@ tbs_certificate tbs = tbs_of (tbs_elements tbs)
 -- the elements that are written into strings of it: that of the key, then those of the extensions
 abbrev pub inner_tbs : TbsCertificate → List DerElement
 inner_tbs tbs = inner_key tbs.subject_public_key_info.subject_public_key ++ inner_option inner_extensions tbs.extensions
+
+-- the kinds of the values of its extensions, and the octets that are written
+abbrev pub tbs_octets : TbsCertificate → List ℕ
+tbs_octets tbs = value_kinds tbs.extensions ++ encoding (tbs_certificate tbs)

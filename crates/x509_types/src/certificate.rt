@@ -88,17 +88,24 @@ impl Structure for Certificate {
     ghost grammar = { certificates };
 }
 
-/// Certificates are equal exactly where the octets are that are written for them.
+/// Certificates are equal exactly where the kinds of the values of their extensions are, and the octets that
+/// are written for them; the octets alone decide where they can be written.
 impl PartialEq for Certificate {
-    ghost use Rattle.der_core.specs.Equality.{same_octets, same_octets_per};
-    ghost use Rattle.x509_types.specs.Certificate.{certificate};
+    ghost use Rattle.std.specs.Ordering.{on};
+    ghost use Rattle.std.specs.Cmp.Lexicographic.{nat_list_eq_equiv};
+    ghost use Rattle.std.specs.Cmp.{on_per, partial_equiv_from_equiv};
+    ghost use Rattle.std.specs.Prelude.{bytes_eq};
+    ghost use Rattle.der_core.specs.Equality.{same_octets};
+    ghost use Rattle.der_core.specs.Placed.{AreDer};
+    ghost use Rattle.x509_types.specs.Certificate.{certificate, inner_certificate, certificate_octets};
 
-    ghost eq = { same_octets certificate };
+    ghost eq = { on (λ value. certificate_octets value) bytes_eq };
 
-    ghost laws = { same_octets_per certificate };
+    ghost laws = { on_per (λ value. certificate_octets value) (partial_equiv_from_equiv nat_list_eq_equiv) };
 
     fn eq(&self, other: &Certificate) -> bool
-        ensures octets { result ≡ same_octets certificate self.now other.now }
+        ensures octets { AreDer (inner_certificate self.now) → AreDer (inner_certificate other.now) → result ≡ same_octets certificate self.now other.now }
+        ensures told { result ≡ bytes_eq (certificate_octets self.now) (certificate_octets other.now) }
         ensures same { IsTrue result ↔ (self.now ≡ other.now) }
     {
         self.tbs_certificate == other.tbs_certificate
@@ -108,8 +115,9 @@ impl PartialEq for Certificate {
 }
 
 impl Eq for Certificate {
-    ghost use Rattle.der_core.specs.Equality.{same_octets_equiv};
-    ghost use Rattle.x509_types.specs.Certificate.{certificate};
+    ghost use Rattle.std.specs.Cmp.Lexicographic.{nat_list_eq_equiv};
+    ghost use Rattle.std.specs.Cmp.{on_equiv};
+    ghost use Rattle.x509_types.specs.Certificate.{certificate_octets};
 
-    ghost laws = { same_octets_equiv certificate };
+    ghost laws = { on_equiv (λ value. certificate_octets value) nat_list_eq_equiv };
 }

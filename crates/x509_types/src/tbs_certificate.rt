@@ -119,17 +119,24 @@ impl Structure for TbsCertificate {
     ghost grammar = { tbs_certificates };
 }
 
-/// TBSCertificates are equal exactly where the octets are that are written for them.
+/// TBSCertificates are equal exactly where the kinds of the values of their extensions are, and the octets that
+/// are written for them; the octets alone decide where they can be written.
 impl PartialEq for TbsCertificate {
-    ghost use Rattle.der_core.specs.Equality.{same_octets, same_octets_per};
-    ghost use Rattle.x509_types.specs.TbsCertificate.{tbs_certificate};
+    ghost use Rattle.std.specs.Ordering.{on};
+    ghost use Rattle.std.specs.Cmp.Lexicographic.{nat_list_eq_equiv};
+    ghost use Rattle.std.specs.Cmp.{on_per, partial_equiv_from_equiv};
+    ghost use Rattle.std.specs.Prelude.{bytes_eq};
+    ghost use Rattle.der_core.specs.Equality.{same_octets};
+    ghost use Rattle.der_core.specs.Placed.{AreDer};
+    ghost use Rattle.x509_types.specs.TbsCertificate.{tbs_certificate, inner_tbs, tbs_octets};
 
-    ghost eq = { same_octets tbs_certificate };
+    ghost eq = { on (λ value. tbs_octets value) bytes_eq };
 
-    ghost laws = { same_octets_per tbs_certificate };
+    ghost laws = { on_per (λ value. tbs_octets value) (partial_equiv_from_equiv nat_list_eq_equiv) };
 
     fn eq(&self, other: &TbsCertificate) -> bool
-        ensures octets { result ≡ same_octets tbs_certificate self.now other.now }
+        ensures octets { AreDer (inner_tbs self.now) → AreDer (inner_tbs other.now) → result ≡ same_octets tbs_certificate self.now other.now }
+        ensures told { result ≡ bytes_eq (tbs_octets self.now) (tbs_octets other.now) }
         ensures same { IsTrue result ↔ (self.now ≡ other.now) }
     {
         self.has_same_options(other)
@@ -143,8 +150,9 @@ impl PartialEq for TbsCertificate {
 }
 
 impl Eq for TbsCertificate {
-    ghost use Rattle.der_core.specs.Equality.{same_octets_equiv};
-    ghost use Rattle.x509_types.specs.TbsCertificate.{tbs_certificate};
+    ghost use Rattle.std.specs.Cmp.Lexicographic.{nat_list_eq_equiv};
+    ghost use Rattle.std.specs.Cmp.{on_equiv};
+    ghost use Rattle.x509_types.specs.TbsCertificate.{tbs_octets};
 
-    ghost laws = { same_octets_equiv tbs_certificate };
+    ghost laws = { on_equiv (λ value. tbs_octets value) nat_list_eq_equiv };
 }

@@ -4,6 +4,7 @@ use Rattle.der_core.specs.DerElement.{DerElement}
 use Rattle.der_core.specs.Encoding.{IsWellFormed}
 use Rattle.der_core.specs.Elements.{sequence}
 use Rattle.der_core.specs.Structure.{IsGrammar}
+use Rattle.der_core.specs.Facts.Fronts.{formed_encoding_once}
 use Rattle.asn1_types.specs.Elements.{bit_string}
 use Rattle.asn1_types.specs.Facts.Elements.{bit_strings}
 use Rattle.asn1_types.specs.declared.bit_string.BitString.{BitString}
@@ -11,8 +12,10 @@ use Rattle.key_types.specs.AlgorithmIdentifier.{algorithm_identifier}
 use Rattle.key_types.specs.Facts.Algorithms.{algorithms}
 use Rattle.key_types.specs.declared.algorithm.AlgorithmIdentifier.{AlgorithmIdentifier}
 use Rattle.x509_types.specs.TbsCertificate.{IsTbsCertificate, tbs_certificate}
-use Rattle.x509_types.specs.Certificate.{IsCertificate, certificate, inner_certificate}
-use Rattle.x509_types.specs.Facts.TbsCertificates.{tbs_certificates, tbs_printed}
+use Rattle.x509_types.specs.Extension.{value_kinds}
+use Rattle.x509_types.specs.Certificate.{IsCertificate, certificate, certificate_octets, inner_certificate}
+use Rattle.x509_types.specs.Facts.ToldExtensions.{kinds_and_octets}
+use Rattle.x509_types.specs.Facts.TbsCertificates.{tbs_certificates, tbs_told}
 use Rattle.x509_types.specs.declared.certificate.Certificate.{Certificate}
 use Rattle.x509_types.specs.declared.tbs_certificate.TbsCertificate.{TbsCertificate}
 
@@ -35,10 +38,10 @@ certificates_once element a b p q =
     same_certificate a b (tbs_certificates.once q.tbs a.tbs_certificate b.tbs_certificate (subst (λ (e : DerElement). IsTbsCertificate e a.tbs_certificate) same.0 p.spelled) q.spelled)
     (same_algorithm a.signature_algorithm b.signature_algorithm same.1) (same_bits a.signature_value b.signature_value same.2)
 
-pub certificates_printed : (a b : Certificate) → certificate a ≡ certificate b → a ≡ b
-certificates_printed a b e =
+certificates_told : (a b : Certificate) → value_kinds a.tbs_certificate.extensions ≡ value_kinds b.tbs_certificate.extensions → certificate a ≡ certificate b → a ≡ b
+certificates_told a b kinds e =
     let same = same_three (tbs_certificate a.tbs_certificate) (algorithm_identifier a.signature_algorithm) (bit_string a.signature_value) (tbs_certificate b.tbs_certificate) (algorithm_identifier b.signature_algorithm) (bit_string b.signature_value) e in
-    same_certificate a b (tbs_printed a.tbs_certificate b.tbs_certificate same.0) (same_algorithm a.signature_algorithm b.signature_algorithm same.1) (same_bits a.signature_value b.signature_value same.2)
+    same_certificate a b (tbs_told a.tbs_certificate b.tbs_certificate kinds same.0) (same_algorithm a.signature_algorithm b.signature_algorithm same.1) (same_bits a.signature_value b.signature_value same.2)
 
 pub certificates_formed : (c : Certificate) → IsWellFormed (certificate c)
 certificates_formed c = ((omega arith, omega arith, omega arith), refl, (tbs_certificates.formed c.tbs_certificate, (algorithms.formed c.signature_algorithm, (bit_strings.formed c.signature_value, tt))))
@@ -50,3 +53,8 @@ certificates = record {
   spelled = λ c der. record { tbs = tbs_certificate c.tbs_certificate; is = refl; spelled = tbs_certificates.spelled c.tbs_certificate der };
   formed = certificates_formed;
 }
+
+pub certificates_by_octets : (a b : Certificate) → certificate_octets a ≡ certificate_octets b → a ≡ b
+certificates_by_octets a b e =
+    let parts = kinds_and_octets a.tbs_certificate.extensions b.tbs_certificate.extensions _ _ e in
+    certificates_told a b parts.0 (formed_encoding_once (certificate a) (certificate b) (certificates_formed a) (certificates_formed b) parts.1)

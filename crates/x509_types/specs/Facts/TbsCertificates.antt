@@ -6,7 +6,8 @@ use Rattle.der_core.specs.Encoding.{IsWellFormed}
 use Rattle.der_core.specs.Placed.{AreDer}
 use Rattle.der_core.specs.Each.{IsListOf, list_element}
 use Rattle.der_core.specs.Structure.{IsGrammar}
-use Rattle.der_core.specs.Facts.Grammars.{AreDer-append, AreDer-front, AreDer-back, sequences, list_once}
+use Rattle.der_core.specs.Facts.Fronts.{formed_encoding_once}
+use Rattle.der_core.specs.Facts.Grammars.{AreDer-append, AreDer-front, AreDer-back, sequences}
 use Rattle.asn1_types.specs.Values.{integer_contents}
 use Rattle.asn1_types.specs.Elements.{integer}
 use Rattle.asn1_types.specs.Facts.Elements.{integers}
@@ -22,11 +23,12 @@ use Rattle.key_types.specs.declared.algorithm.AlgorithmIdentifier.{AlgorithmIden
 use Rattle.x509_types.specs.Version.{version}
 use Rattle.x509_values.specs.Validity.{validity}
 use Rattle.x509_types.specs.ExtensionView.{inner_value}
-use Rattle.x509_types.specs.Extension.{extension, IsExtension}
+use Rattle.x509_types.specs.Extension.{extension, value_kinds, IsExtension}
 use Rattle.x509_types.specs.Optional.{IsOptional, inner_option}
 use Rattle.x509_types.specs.TbsElements.{TbsElements, tbs_of}
-use Rattle.x509_types.specs.TbsCertificate.{IsVersion, IsExtensions, extensions, inner_extensions, AreTbsFields, IsTbsCertificate, tbs_elements, tbs_certificate, inner_tbs}
-use Rattle.x509_types.specs.Facts.Extensions.{all_extensions, extensions_printed}
+use Rattle.x509_types.specs.TbsCertificate.{IsVersion, IsExtensions, extensions, inner_extensions, AreTbsFields, IsTbsCertificate, tbs_elements, tbs_certificate, tbs_octets, inner_tbs}
+use Rattle.x509_types.specs.Facts.Extensions.{all_extensions}
+use Rattle.x509_types.specs.Facts.ToldExtensions.{options_told, kinds_and_octets}
 use Rattle.x509_types.specs.Facts.Optional.{optional_once, optional_bounded, optional_spelled, optional_printed, optional_formed}
 use Rattle.x509_types.specs.Facts.TbsElements.{same_elements, AreFormed, elements_formed}
 use Rattle.x509_values.specs.Facts.Times.{validities, validities_once}
@@ -37,9 +39,6 @@ use Rattle.x509_types.specs.declared.version.Version.{Version}
 
 pub extension_lists : IsGrammar IsExtensions extensions inner_extensions
 extension_lists = sequences IsExtension extension (λ (e : Extension). inner_value e.extn_value) all_extensions
-
-pub extension_lists_once : (a b : List Extension) → extensions a ≡ extensions b → a ≡ b
-extension_lists_once = list_once 0x30 extension extensions_printed
 
 same_integer : (a b : IntegerAsn1) → integer_contents a ≡ integer_contents b → a ≡ b
 same_integer a b e = integers.once (integer a) a b refl (ap (Primitive 0x02) e)
@@ -122,9 +121,9 @@ tbs_spelled tbs der =
       extensions = optional_spelled IsExtensions extensions inner_extensions extension_lists.spelled tbs.extensions (AreDer-back key others der);
     }
 
--- unlike values have unlike elements
-pub tbs_printed : (a b : TbsCertificate) → tbs_certificate a ≡ tbs_certificate b → a ≡ b
-tbs_printed a b e =
+-- values whose extensions have values of the same kinds are told by their elements
+pub tbs_told : (a b : TbsCertificate) → value_kinds a.extensions ≡ value_kinds b.extensions → tbs_certificate a ≡ tbs_certificate b → a ≡ b
+tbs_told a b kinds e =
     let same = same_elements (tbs_elements a) (tbs_elements b) e in
     same_tbs a b (record {
       version = optional_printed version versions_once a.version b.version (ap (λ (f : TbsElements). f.version) same);
@@ -136,7 +135,7 @@ tbs_printed a b e =
       key = infos_once a.subject_public_key_info b.subject_public_key_info (ap (λ (f : TbsElements). f.subject_public_key_info) same);
       issuer_unique_id = ap (λ (f : TbsElements). f.issuer_unique_id) same;
       subject_unique_id = ap (λ (f : TbsElements). f.subject_unique_id) same;
-      extensions = optional_printed extensions extension_lists_once a.extensions b.extensions (ap (λ (f : TbsElements). f.extensions) same);
+      extensions = options_told a.extensions b.extensions kinds (ap (λ (f : TbsElements). f.extensions) same);
     })
 
 pub tbs_formed : (tbs : TbsCertificate) → IsWellFormed (tbs_certificate tbs)
@@ -158,3 +157,8 @@ tbs_certificates = record {
   spelled = λ tbs der. record { elements = tbs_elements tbs; is = refl; spelled = tbs_spelled tbs der };
   formed = tbs_formed;
 }
+
+pub tbs_by_octets : (a b : TbsCertificate) → tbs_octets a ≡ tbs_octets b → a ≡ b
+tbs_by_octets a b e =
+    let parts = kinds_and_octets a.extensions b.extensions _ _ e in
+    tbs_told a b parts.0 (formed_encoding_once (tbs_certificate a) (tbs_certificate b) (tbs_formed a) (tbs_formed b) parts.1)

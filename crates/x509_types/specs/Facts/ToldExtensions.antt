@@ -1,0 +1,86 @@
+-- Extensions are told by the kinds of their values and by what is written for them.
+use Rattle.std.proofs.Common.{◌≡◌, ⊤, ℕ, ◌<◌, List, [], ◌∷◌, ◌++◌, map, Option, Some, None, refl, ap, ◌∙◌, arith}
+use Rattle.std.specs.Prelude.{◌↔◌, IsTrue, Bool, bytes_eq}
+use Rattle.std.specs.Option.{option_map}
+use Rattle.std.proofs.lemmas.Slice.Eq.{bytes_eq-Decides}
+use Rattle.der_core.specs.DerElement.{DerElements, Constructed}
+use Rattle.der_core.specs.Encoding.{encoding}
+use Rattle.der_core.specs.Each.{list_element}
+use Rattle.der_core.specs.Facts.Equality.{same_tests}
+use Rattle.der_core.specs.Facts.Grammars.{same_fields}
+use Rattle.x509_types.specs.ExtensionKind.{kind_number}
+use Rattle.x509_types.specs.ExtensionView.{kind_of}
+use Rattle.x509_types.specs.Extension.{extension, value_kinds}
+use Rattle.x509_types.specs.Facts.ExtensionKinds.{kinds_by_number}
+use Rattle.x509_types.specs.Facts.Extensions.{extensions_told}
+use Rattle.x509_types.specs.declared.extension.Extension.{Extension}
+use Rattle.x509_types.specs.declared.extension_kind.ExtensionKind.{ExtensionKind}
+use Rattle.x509_types.specs.declared.extension_kind.ExtensionKind.TheVariants as kinds
+
+-- ---- extensions by their kinds and elements
+
+abbrev number_of : Extension → ℕ
+number_of e = kind_number (kind_of e.extn_value)
+
+lists_told : (a b : List Extension) → map number_of a ≡ map number_of b → map extension a ≡ map extension b → a ≡ b
+lists_told [] [] k e = refl
+lists_told [] (y ∷ b) k e = absurd cc
+lists_told (x ∷ a) [] k e = absurd cc
+lists_told (x ∷ a) (y ∷ b) k e =
+    let kind : number_of x ≡ number_of y = cc in
+    let kinds : map number_of a ≡ map number_of b = cc in
+    let first : extension x ≡ extension y = cc in
+    let others : map extension a ≡ map extension b = cc in
+    ap (λ v. v ∷ a) (extensions_told x y (kinds_by_number (kind_of x.extn_value) (kind_of y.extn_value) kind) first) ∙ ap (λ vs. y ∷ vs) (lists_told a b kinds others)
+
+pub options_told : (a b : Option (List Extension)) → value_kinds a ≡ value_kinds b → option_map (list_element 0x30 extension) a ≡ option_map (list_element 0x30 extension) b → a ≡ b
+options_told None None k e = refl
+options_told None (Some y) k e = absurd cc
+options_told (Some x) None k e = absurd cc
+options_told (Some x) (Some y) k e =
+    let same : list_element 0x30 extension x ≡ list_element 0x30 extension y = cc in
+    ap Some (lists_told x y k (same_fields (map extension x) (map extension y) same))
+
+-- ---- the kinds end where an element begins
+
+abbrev AreSmall : List ℕ → Type 0
+AreSmall [] = ⊤
+AreSmall (k ∷ ks) = (k < 48) × AreSmall ks
+
+small_kind : (kind : ExtensionKind) → kind_number kind < 48
+small_kind kinds.SubjectKeyIdentifier = omega arith
+small_kind kinds.KeyUsage = omega arith
+small_kind kinds.SubjectAltName = omega arith
+small_kind kinds.IssuerAltName = omega arith
+small_kind kinds.BasicConstraints = omega arith
+small_kind kinds.AuthorityKeyIdentifier = omega arith
+small_kind kinds.ExtendedKeyUsage = omega arith
+small_kind kinds.Other = omega arith
+
+small_list : (es : List Extension) → AreSmall (map number_of es)
+small_list [] = tt
+small_list (e ∷ es) = (small_kind (kind_of e.extn_value), small_list es)
+
+small_kinds : (es : Option (List Extension)) → AreSmall (value_kinds es)
+small_kinds None = tt
+small_kinds (Some es) = small_list es
+
+split_small : (ks ls r s : List ℕ) → AreSmall ks → AreSmall ls → ks ++ 48 ∷ r ≡ ls ++ 48 ∷ s → (ks ≡ ls) × (48 ∷ r ≡ 48 ∷ s)
+split_small [] [] r s f g e = (refl, e)
+split_small [] (l ∷ ls) r s f g e = let first : 48 ≡ l = cc in absurd (omega (arith, first, g.0))
+split_small (k ∷ ks) [] r s f g e = let first : k ≡ 48 = cc in absurd (omega (arith, first, f.0))
+split_small (k ∷ ks) (l ∷ ls) r s f g e =
+    let first : k ≡ l = cc in
+    let others : ks ++ 48 ∷ r ≡ ls ++ 48 ∷ s = cc in
+    let parts = split_small ks ls r s f.1 g.1 others in
+    (ap (λ n. n ∷ ks) first ∙ ap (λ ns. l ∷ ns) parts.0, parts.1)
+
+pub kinds_and_octets : (x y : Option (List Extension)) (ks ls : DerElements) → value_kinds x ++ encoding (Constructed 0x30 ks) ≡ value_kinds y ++ encoding (Constructed 0x30 ls)
+    → (value_kinds x ≡ value_kinds y) × (encoding (Constructed 0x30 ks) ≡ encoding (Constructed 0x30 ls))
+kinds_and_octets x y ks ls e = split_small (value_kinds x) (value_kinds y) _ _ (small_kinds x) (small_kinds y) e
+
+-- A test that holds exactly where two values are the same is that of octets by which they are told.
+pub told_decide : {X : Type 0} (octets : X → List ℕ) → ((a b : X) → octets a ≡ octets b → a ≡ b) → (a b : X) (test : Bool) → (IsTrue test ↔ (a ≡ b)) → test ≡ bytes_eq (octets a) (octets b)
+told_decide {X} octets one a b test same =
+    let decides = bytes_eq-Decides (octets a) (octets b) in
+    same_tests test (bytes_eq (octets a) (octets b)) same (λ w. one a b (decides.0 w), λ e. decides.1 (ap (λ (v : X). octets v) e))
