@@ -62,7 +62,7 @@ impl ExtensionView {
             ExtensionKind::SubjectKeyIdentifier => has_within::<Octets>(octets),
             ExtensionKind::KeyUsage => has_within::<KeyUsage>(octets),
             ExtensionKind::SubjectAltName | ExtensionKind::IssuerAltName => {
-                // Which of both they hold is told to the contract alone.
+                // Any octets do. Whether they hold names is asked for the contract alone.
                 let _names = has_within::<RawGeneralNames>(octets);
                 true
             }
