@@ -27,7 +27,7 @@ from certificate_parts import STORED, rows_of
 from der_reader import Constructed, Primitive, read_exact, write
 from oid_table import BAD_CONTENTS, BAD_TEXTS, KNOWN, READ, contents
 from stored_run import write_stored_run
-from value_reader import KINDS, Shape, bits, general_name, ia5, integer, name, structure_line, word
+from value_reader import KINDS, Shape, bits, general_name, ia5, integer, name, structure_line, view_line, word
 
 
 EMAIL = "1.2.840.113549.1.9.1"
@@ -450,6 +450,9 @@ def whole_certificate_rows():
         yield structure_row("certificate", octets.hex(), True)
     for octets, _ in whole_certificates.REFUSED:
         yield structure_row("certificate", octets.hex(), False)
+    read = [octets for _, octets in whole_certificates.stored()]
+    for octets in (*read, *(octets for octets, _ in whole_certificates.WRITTEN + whole_certificates.REFUSED)):
+        yield f"view certificate {octets.hex()}", view_line(octets)
     for one, other, _ in whole_certificates.UNLIKE:
         yield f"unlike certificate {one.hex()} {other.hex()}", "unlike"
         yield f"unlike certificate {one.hex()} {one.hex()}", "equal"

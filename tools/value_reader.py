@@ -498,6 +498,26 @@ def certificate(element):
     ))
 
 
+def view_line(octets):
+    """What is printed of a certificate where it lies: the octets of each field, as they stand."""
+    element = read_exact(octets)
+    try:
+        certificate(element)
+    except Shape:
+        return "Shape"
+    to_be_signed, outer, signature = element.kids
+    fields = list(to_be_signed.kids)
+    version = given(fields, 0xA0)
+    serial, inner_algorithm, issuer, dates, subject, subject_key, *rest = fields
+    ids = [given(rest, tag) for tag in (0x81, 0x82)]
+    listed = given(rest, 0xA3)
+    return " ".join((
+        whole(version and version.kids[0]), word(serial.contents), *map(whole, (inner_algorithm, issuer, dates, subject, subject_key)),
+        *("none" if one is None else word(one.contents) for one in ids), whole(listed and listed.kids[0]),
+        whole(outer), word(signature.contents[1:]), whole(to_be_signed),
+    ))
+
+
 # Of these what is written may be another element than the one that was read; it is printed last.
 WRITTEN_ANEW = ("extension", "certificate")
 

@@ -4,13 +4,14 @@
 //! certificate_answers FILE
 //! ```
 //!
-//! A row is a call and its arguments, a space between: `structure certificate OCTETS`, or `unlike
-//! certificate OCTETS OCTETS`. Octets stand in hexadecimal digits. A line is printed for each row.
+//! A row is a call and its arguments, a space between: `structure certificate OCTETS`, `view
+//! certificate OCTETS`, or `unlike certificate OCTETS OCTETS`. Octets stand in hexadecimal digits. A line is printed for each row.
 //! `tools/value_answers.py` makes rows and lines.
 #![tactic(auto)]
 
 mod details;
 mod row;
+mod view;
 
 use anyhow::{Result, bail};
 use std::io::{BufWriter, Write};

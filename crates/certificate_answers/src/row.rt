@@ -1,6 +1,7 @@
 //! Rows, and what is answered to them.
 
 use crate::details::details;
+use crate::view;
 use anyhow::{Result, bail};
 use der_core::DerError;
 use row_answers::{are_equal, comes_back, octets_of, shown_shape, value_of};
@@ -14,6 +15,10 @@ pub fn answer(alloc: Global, text: &str) -> Result<String> {
         ["structure", "certificate", element] => {
             let element = octets_of(alloc, element)?;
             Ok(read_of(alloc, &element)?)
+        }
+        ["view", "certificate", element] => {
+            let element = octets_of(alloc, element)?;
+            Ok(view::answer(alloc, &element)?)
         }
         ["unlike", "certificate", one, other] => {
             let one = octets_of(alloc, one)?;

@@ -1,3 +1,4 @@
+pub mod Found
 pub mod ExtensionValues
 pub mod Extensions
 pub mod Spellings
@@ -6,3 +7,4 @@ pub mod Spelled
 pub mod Given
 pub mod Same
 pub mod Signed
+pub mod Viewed

@@ -1,14 +1,14 @@
 -- What is left of the fields of a TBSCertificate as they are taken off the front.
-use Rattle.std.proofs.Common.{◌≡◌, ℕ, List, [], ◌∷◌, ◌++◌, Option, Some, None, MatchOption, refl, sym, ap, subst, ◌∙◌, arith}
+use Rattle.std.proofs.Common.{◌≡◌, ℕ, List, [], ◌∷◌, ◌++◌, Option, Some, None, MatchOption, refl, sym, subst, ◌∙◌, arith}
 use Rattle.std.proofs.Common.{append-nil}
-use Rattle.der_core.specs.DerElement.{DerElement, Primitive, tag_of}
+use Rattle.der_core.specs.DerElement.{DerElement, Primitive}
 use Rattle.der_core.specs.Elements.{sequence, explicit, optional_leaf, optional_explicit}
 use Rattle.der_core.specs.Optional.{TakesExplicit, HasBadTagging}
 use Rattle.der_core.specs.Structure.{BeginsOtherwise, HasMore}
 use Rattle.der_core.specs.Facts.Fields.{split}
 use Rattle.der_core.specs.Facts.Grammars.{same_fields}
 use Rattle.x509_types.specs.TbsElements.{TbsElements, tbs_tail, tbs_of}
-use Rattle.x509_types.specs.Facts.TbsElements.{explicit_field, leaf_field, no_issuer, no_subject, behind}
+use Rattle.x509_types.specs.Facts.TbsElements.{explicit_field, no_issuer, no_subject, behind}
 
 none_given : (tag : ℕ) (kid : Option DerElement) → optional_explicit tag kid ≡ [] → kid ≡ None
 none_given tag None e = refl

@@ -9,4 +9,6 @@ pub mod TbsElements
 pub mod LentTbs
 pub mod TbsCertificate
 pub mod Certificate
+pub mod CertificateElements
+pub mod CertificateView
 pub mod Facts

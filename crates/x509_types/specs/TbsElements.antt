@@ -1,5 +1,5 @@
 -- The fields of a TBSCertificate as the elements that stand for them (RFC 5280 4.1).
-use Rattle.std.specs.Prelude.{ℕ, List, [], ◌∷◌, ◌++◌, Option}
+use Rattle.std.specs.Prelude.{ℕ, List, ◌∷◌, ◌++◌, Option}
 use Rattle.der_core.specs.DerElement.{DerElement, Primitive}
 use Rattle.der_core.specs.Elements.{sequence, optional_explicit, optional_leaf}
 

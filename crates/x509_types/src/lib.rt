@@ -2,6 +2,7 @@
 //! keys, and what extensions hold stand in crates of their own, and are handed on here.
 #![tactic(auto)]
 
+mod cert_view;
 mod certificate;
 mod extension;
 mod extension_fields;
@@ -13,6 +14,7 @@ mod tbs_certificate;
 mod tbs_fields;
 mod version;
 
+pub use cert_view::{CertView, views_lend_what_certificates_have};
 pub use certificate::Certificate;
 pub use extension::{Extension, Extensions};
 pub use extension_kind::ExtensionKind;

@@ -1,6 +1,6 @@
 -- Certificates: an element spells at most one, and what is written for one spells it.
-use Rattle.std.proofs.Common.{◌≡◌, List, [], ◌∷◌, refl, sym, subst, ◌∙◌, arith}
-use Rattle.der_core.specs.DerElement.{DerElement}
+use Rattle.std.proofs.Common.{◌≡◌, [], ◌∷◌, refl, sym, subst, ◌∙◌, arith}
+use Rattle.der_core.specs.DerElement.{DerElement, DerElements, row}
 use Rattle.der_core.specs.Encoding.{IsWellFormed}
 use Rattle.der_core.specs.Elements.{sequence}
 use Rattle.der_core.specs.Structure.{IsGrammar}
@@ -17,7 +17,6 @@ use Rattle.x509_types.specs.Certificate.{IsCertificate, certificate, certificate
 use Rattle.x509_types.specs.Facts.ToldExtensions.{kinds_and_octets}
 use Rattle.x509_types.specs.Facts.TbsCertificates.{tbs_certificates, tbs_told}
 use Rattle.x509_types.specs.declared.certificate.Certificate.{Certificate}
-use Rattle.x509_types.specs.declared.tbs_certificate.TbsCertificate.{TbsCertificate}
 
 same_algorithm : (a b : AlgorithmIdentifier) → algorithm_identifier a ≡ algorithm_identifier b → a ≡ b
 same_algorithm a b e = algorithms.once (algorithm_identifier a) a b refl e
@@ -54,7 +53,10 @@ certificates = record {
   formed = certificates_formed;
 }
 
+abbrev fields_of : Certificate → DerElements
+fields_of c = row (tbs_certificate c.tbs_certificate ∷ algorithm_identifier c.signature_algorithm ∷ bit_string c.signature_value ∷ [])
+
 pub certificates_by_octets : (a b : Certificate) → certificate_octets a ≡ certificate_octets b → a ≡ b
 certificates_by_octets a b e =
-    let parts = kinds_and_octets a.tbs_certificate.extensions b.tbs_certificate.extensions _ _ e in
+    let parts = kinds_and_octets a.tbs_certificate.extensions b.tbs_certificate.extensions (fields_of a) (fields_of b) e in
     certificates_told a b parts.0 (formed_encoding_once (certificate a) (certificate b) (certificates_formed a) (certificates_formed b) parts.1)

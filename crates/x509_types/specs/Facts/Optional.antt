@@ -1,5 +1,5 @@
 -- Fields that may be left out: what holds of a value holds of one that may be left out.
-use Rattle.std.proofs.Common.{◌≡◌, List, [], Option, Some, None, refl, ap}
+use Rattle.std.proofs.Common.{◌≡◌, List, Option, Some, None, refl, ap}
 use Rattle.std.specs.Prelude.{⊤}
 use Rattle.std.specs.Option.{option_map}
 use Rattle.der_core.specs.DerElement.{DerElement}

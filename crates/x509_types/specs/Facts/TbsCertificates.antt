@@ -1,10 +1,9 @@
 -- TBSCertificates: an element spells at most one, and what is written for one spells it.
-use Rattle.std.proofs.Common.{◌≡◌, ℕ, List, ◌++◌, Option, Some, None, refl, ap, sym, subst, ◌∙◌}
+use Rattle.std.proofs.Common.{◌≡◌, Option, Some, None, refl, ap, sym, subst, ◌∙◌}
 use Rattle.std.specs.Option.{option_map}
 use Rattle.der_core.specs.DerElement.{DerElement, Primitive}
 use Rattle.der_core.specs.Encoding.{IsWellFormed}
 use Rattle.der_core.specs.Placed.{AreDer}
-use Rattle.der_core.specs.Each.{IsListOf, list_element}
 use Rattle.der_core.specs.Structure.{IsGrammar}
 use Rattle.der_core.specs.Facts.Fronts.{formed_encoding_once}
 use Rattle.der_core.specs.Facts.Grammars.{AreDer-append, AreDer-front, AreDer-back, sequences}
@@ -12,25 +11,22 @@ use Rattle.asn1_types.specs.Values.{integer_contents}
 use Rattle.asn1_types.specs.Elements.{integer}
 use Rattle.asn1_types.specs.Facts.Elements.{integers}
 use Rattle.asn1_types.specs.declared.integer.IntegerAsn1.{IntegerAsn1}
-use Rattle.x501_types.specs.Name.{name, IsName}
+use Rattle.x501_types.specs.Name.{name}
 use Rattle.x501_types.specs.Facts.Names.{names}
-use Rattle.x501_types.specs.declared.attribute.AttributeTypeAndValue.{AttributeTypeAndValue}
 use Rattle.key_types.specs.AlgorithmIdentifier.{algorithm_identifier}
 use Rattle.key_types.specs.PublicKeyInfo.{inner_key}
 use Rattle.key_types.specs.Facts.Algorithms.{algorithms}
 use Rattle.key_types.specs.Facts.Keys.{public_key_infos, infos_once}
-use Rattle.key_types.specs.declared.algorithm.AlgorithmIdentifier.{AlgorithmIdentifier}
 use Rattle.x509_types.specs.Version.{version}
-use Rattle.x509_values.specs.Validity.{validity}
 use Rattle.x509_types.specs.ExtensionView.{inner_value}
 use Rattle.x509_types.specs.Extension.{extension, value_kinds, IsExtension}
 use Rattle.x509_types.specs.Optional.{IsOptional, inner_option}
-use Rattle.x509_types.specs.TbsElements.{TbsElements, tbs_of}
+use Rattle.x509_types.specs.TbsElements.{TbsElements}
 use Rattle.x509_types.specs.TbsCertificate.{IsVersion, IsExtensions, extensions, inner_extensions, AreTbsFields, IsTbsCertificate, tbs_elements, tbs_certificate, tbs_octets, inner_tbs}
 use Rattle.x509_types.specs.Facts.Extensions.{all_extensions}
 use Rattle.x509_types.specs.Facts.ToldExtensions.{options_told, kinds_and_octets}
 use Rattle.x509_types.specs.Facts.Optional.{optional_once, optional_bounded, optional_spelled, optional_printed, optional_formed}
-use Rattle.x509_types.specs.Facts.TbsElements.{same_elements, AreFormed, elements_formed}
+use Rattle.x509_types.specs.Facts.TbsElements.{same_elements, elements_formed}
 use Rattle.x509_values.specs.Facts.Times.{validities, validities_once}
 use Rattle.x509_types.specs.Facts.Versions.{versions, versions_once}
 use Rattle.x509_types.specs.declared.extension.Extension.{Extension}

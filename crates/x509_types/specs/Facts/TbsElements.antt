@@ -1,10 +1,10 @@
 -- The fields of a TBSCertificate: unlike ones have unlike elements, and the element around well-formed ones is well formed.
-use Rattle.std.proofs.Common.{◌≡◌, ℕ, List, [], ◌∷◌, ◌++◌, Option, Some, None, refl, ap, sym, ◌∙◌, arith}
+use Rattle.std.proofs.Common.{◌≡◌, ℕ, List, ◌∷◌, ◌++◌, Option, Some, None, refl, ap, arith}
 use Rattle.der_core.specs.DerElement.{DerElement, Primitive, row}
 use Rattle.der_core.specs.Encoding.{IsTag, IsWellFormed, AreWellFormed, form_bit}
 use Rattle.der_core.specs.Structure.{BeginsOtherwise}
 use Rattle.der_core.specs.Facts.Grammars.{same_fields}
-use Rattle.der_core.specs.Elements.{explicit, optional_explicit, optional_leaf}
+use Rattle.der_core.specs.Elements.{optional_explicit, optional_leaf}
 use Rattle.x509_types.specs.TbsElements.{TbsElements, tbs_tail, tbs_of}
 use Rattle.der_core.specs.Facts.Fields.{IsField, split}
 use Rattle.x509_types.specs.Facts.Optional.{IsFormedOption}

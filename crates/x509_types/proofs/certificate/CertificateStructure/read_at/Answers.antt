@@ -1,6 +1,5 @@
 use Rattle.std.proofs.lemmas.Result.{err_from_is_err_and}
 use Rattle.std.proofs.Common.{◌≡◌}
-use Rattle.der_core.specs.DerElement.{DerElement}
 use Rattle.der_core.specs.Facts.Lists.{list_refused}
 use Rattle.asn1_types.specs.Elements.{bit_string}
 use Rattle.asn1_types.specs.declared.bit_string.BitString.{BitString}

@@ -1,0 +1,56 @@
+//! What is printed of a certificate where it lies.
+
+use der_core::{Cursor, DerError, Elem};
+use row_answers::word_of;
+use std::alloc::{AllocError, Global};
+use x509_types::CertView;
+
+/// The fields in order, each in its octets, what is signed last; or that there is no certificate.
+pub fn answer(alloc: Global, element: &[u8]) -> Result<String, DerError> {
+    let Some(elem) = Cursor::new(element).next()? else {
+        return Err(DerError::Shape);
+    };
+    let Some(view) = CertView::read(elem) else {
+        return Ok(String::from_str(alloc, "Shape")?);
+    };
+    let head = head(alloc, view)?;
+    let tail = tail(alloc, view)?;
+    Ok(format!(in alloc; "{head} {tail}")?)
+}
+
+/// The fields up to the subject.
+fn head(alloc: Global, view: CertView<'_>) -> Result<String, AllocError> {
+    let version = given(alloc, octets(view.version()))?;
+    let serial = word_of(alloc, view.serial())?;
+    let algorithm = word_of(alloc, view.inner_algorithm())?;
+    let issuer = word_of(alloc, view.issuer())?;
+    let validity = word_of(alloc, view.validity().whole)?;
+    let subject = word_of(alloc, view.subject())?;
+    format!(in alloc; "{version} {serial} {algorithm} {issuer} {validity} {subject}")
+}
+
+/// The key and the fields behind it, the algorithm, the signature, and what is signed.
+fn tail(alloc: Global, view: CertView<'_>) -> Result<String, AllocError> {
+    let key = word_of(alloc, view.subject_public_key_info().whole)?;
+    let issuer_id = given(alloc, view.issuer_unique_id())?;
+    let subject_id = given(alloc, view.subject_unique_id())?;
+    let extensions = given(alloc, octets(view.extensions()))?;
+    let algorithm = word_of(alloc, view.algorithm())?;
+    let signature = word_of(alloc, view.signature())?;
+    let tbs = word_of(alloc, view.tbs())?;
+    format!(in alloc; "{key} {issuer_id} {subject_id} {extensions} {algorithm} {signature} {tbs}")
+}
+
+fn octets(elem: Option<Elem<'_>>) -> Option<&[u8]> {
+    match elem {
+        Some(elem) => Some(elem.whole),
+        None => None,
+    }
+}
+
+fn given(alloc: Global, octets: Option<&[u8]>) -> Result<String, AllocError> {
+    match octets {
+        Some(octets) => word_of(alloc, octets),
+        None => String::from_str(alloc, "none"),
+    }
+}

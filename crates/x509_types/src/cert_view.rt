@@ -1,0 +1,151 @@
+//! Certificates, where their octets lie.
+
+ghost use Rattle.std.specs.Prelude.{◌≡◌, MatchOption};
+ghost use Rattle.std.specs.Option.{option_copied};
+ghost use Rattle.der_core.specs.DerElement.{DerElement};
+ghost use Rattle.der_core.specs.Encoding.{encoding};
+ghost use Rattle.der_core.specs.Lent.{at_option};
+ghost use Rattle.x509_types.specs.Certificate.{IsCertificate};
+ghost use Rattle.x509_types.specs.CertificateElements.{AreCertificateFields};
+ghost use Rattle.x509_types.specs.CertificateView.{IsCertView, view_elements};
+ghost use Rattle.x509_types.specs.declared.cert_view.CertView.{CertView};
+ghost use Rattle.x509_types.specs.declared.certificate.Certificate.{Certificate};
+
+use crate::AlgorithmIdentifier;
+use crate::optional::expect;
+use crate::tbs_fields::TbsFields;
+use asn1_types::BitString;
+use der_core::tag::{BIT_STRING, SEQUENCE};
+use der_core::{Elem, leaf_at, three_kids};
+
+/// A certificate where its octets lie (RFC 5280 4.1). It takes no memory.
+#[derive(Clone, Copy)]
+pub struct CertView<'a> {
+    tbs: Elem<'a>,
+    fields: TbsFields<'a>,
+    algorithm: Elem<'a>,
+    unused: u8,
+    signature: &'a [u8],
+}
+
+impl<'a> CertView<'a> {
+    /// The certificate that an element spells.
+    pub fn read(elem: Elem<'a>) -> Option<CertView<'a>>
+        ensures { MatchOption result
+            ((c : Certificate) → IsCertificate elem.entry.is.0 c → ⊥)
+            (IsCertView elem.entry.is.0) }
+    {
+        let Some((tbs, algorithm, value)) = three_kids(elem, SEQUENCE) else {
+            return None;
+        };
+        let fields = TbsFields::of(tbs)?;
+        fields.expect_shapes()?;
+        expect::<AlgorithmIdentifier>(algorithm)?;
+        expect::<BitString>(value)?;
+        let contents = leaf_at(value, BIT_STRING)?;
+        let (unused, signature) = contents.split_first()?;
+        Some(CertView {
+            tbs,
+            fields,
+            algorithm,
+            unused: *unused,
+            signature,
+        })
+    }
+
+    /// The octets of what is signed.
+    pub fn tbs(&self) -> &'a [u8]
+        ensures { result.now ≡ encoding self.now.tbs.is.0 }
+    {
+        self.tbs.whole
+    }
+
+    /// The octets of the name of the issuer.
+    pub fn issuer(&self) -> &'a [u8]
+        ensures { result.now ≡ encoding (view_elements self.now).tbs.issuer }
+    {
+        self.fields.issuer.whole
+    }
+
+    /// The octets of the name of the subject.
+    pub fn subject(&self) -> &'a [u8]
+        ensures { result.now ≡ encoding (view_elements self.now).tbs.subject }
+    {
+        self.fields.subject.whole
+    }
+
+    /// The contents octets of the serial number.
+    pub fn serial(&self) -> &'a [u8]
+        ensures { result.now ≡ (view_elements self.now).tbs.serial_number }
+    {
+        self.fields.serial_number
+    }
+
+    /// The version, where it is given.
+    pub fn version(&self) -> Option<Elem<'a>>
+        ensures { at_option result ≡ (view_elements self.now).tbs.version }
+    {
+        self.fields.version
+    }
+
+    /// The octets of the algorithm of the signature, of that in what is signed.
+    pub fn inner_algorithm(&self) -> &'a [u8]
+        ensures { result.now ≡ encoding (view_elements self.now).tbs.signature }
+    {
+        self.fields.signature.whole
+    }
+
+    /// The times between which the certificate is valid.
+    pub fn validity(&self) -> Elem<'a>
+        ensures { result.is.0 ≡ (view_elements self.now).tbs.validity }
+    {
+        self.fields.validity
+    }
+
+    /// The key of the subject with its algorithm.
+    pub fn subject_public_key_info(&self) -> Elem<'a>
+        ensures { result.is.0 ≡ (view_elements self.now).tbs.subject_public_key_info }
+    {
+        self.fields.subject_public_key_info
+    }
+
+    /// The contents octets of the unique identifier of the issuer, where it is given.
+    pub fn issuer_unique_id(&self) -> Option<&'a [u8]>
+        ensures { option_copied result ≡ (view_elements self.now).tbs.issuer_unique_id }
+    {
+        self.fields.issuer_unique_id
+    }
+
+    /// The contents octets of the unique identifier of the subject, where it is given.
+    pub fn subject_unique_id(&self) -> Option<&'a [u8]>
+        ensures { option_copied result ≡ (view_elements self.now).tbs.subject_unique_id }
+    {
+        self.fields.subject_unique_id
+    }
+
+    /// The list of extensions, where it is given.
+    pub fn extensions(&self) -> Option<Elem<'a>>
+        ensures { at_option result ≡ (view_elements self.now).tbs.extensions }
+    {
+        self.fields.extensions
+    }
+
+    /// The octets of the algorithm of the signature, of that beside what is signed.
+    pub fn algorithm(&self) -> &'a [u8]
+        ensures { result.now ≡ encoding (view_elements self.now).algorithm }
+    {
+        self.algorithm.whole
+    }
+
+    /// The octets that hold the bits of the signature.
+    pub fn signature(&self) -> &'a [u8]
+        ensures { result.now ≡ (view_elements self.now).signature }
+    {
+        self.signature
+    }
+}
+
+/// What lies in a certificate are the fields of the value that is read of it.
+pub fn views_lend_what_certificates_have()
+    ensures { (element : DerElement) (view : CertView) (c : Certificate) → IsCertView element view → IsCertificate element c → AreCertificateFields (view_elements view) c }
+{}
