@@ -19,9 +19,7 @@ pub use certificate::Certificate;
 pub use extension::{Extension, Extensions};
 pub use extension_kind::ExtensionKind;
 pub use extension_view::ExtensionView;
-pub use key_types::{
-    AlgorithmIdentifier, KeyKind, RsaPublicKey, SubjectKey, SubjectPublicKeyInfo,
-};
+pub use key_types::{AlgorithmIdentifier, KeyKind, RsaPublicKey, SubjectKey, SubjectPublicKeyInfo};
 pub use laws::extensions_are_written_as_read;
 pub use tbs_certificate::TbsCertificate;
 pub use version::Version;
