@@ -233,6 +233,64 @@ UNLIKE_PRIVATE_KEY_INFOS = [
     ("3011020100300506032b657004030401aaa000", "3013020100300506032b657004030401aaa0020500", "two sets of attributes"),
 ]
 
+# Numbers of a key of RSA, most significant octet first.
+RSA_COMPONENTS = [
+    ("11", "03"),
+    ("00ff", "010001"),
+    ("000080", "7f"),
+    ("", "00"),
+    ("b481414dff77143803ebb6ed90c70f49da964d1518d4d463c8e1187199120457f6c972842b6c56d3948160ed6782d0ea8b866e24d1739d569e9ec9e78bdab02d", "010001"),
+]
+
+# Identifiers of curves by their contents octets, and points.
+EC_COMPONENTS = [
+    ("2a8648ce3d030107", "046b17d1f2e12c4247f8bce6e563a440f277037d812deb33a0f4a13945d898c2964fe342e2fe1a7f9b8ee7eb4a7c0f9e162bce33576b315ececbb6406837bf51f5"),
+    ("2b81040022", "0400"),
+    ("2a03", ""),
+]
+
+# Identifiers by their contents octets, and keys; the last three name no curve 25519 or 448.
+ED_COMPONENTS = [
+    ("2b6570", "19bf44096984cdfe8541bac167dc3b96c85086aa30b6b6cb0c5c38ad703166e1"),
+    ("2b656e", "8520f0098930a754748b7ddcb43ef75a0dbf3a0d26381af4eba4a98eaa9b4e6a"),
+    ("2b6571", ""),
+    ("2b656f", "aa"),
+    ("2b656d", "aa"),
+    ("2a864886f70d010101", "aa"),
+    ("608648016503040311", "aa"),
+]
+
+# Octets that are to be a public key.
+PUBLIC_KEYS = [
+    ("301a300d06092a864886f70d01010105000309003006020111020103", "a small key of RSA"),
+    ("302a300506032b657003210019bf44096984cdfe8541bac167dc3b96c85086aa30b6b6cb0c5c38ad703166e1", "Ed25519, the example of RFC 8410 10.1"),
+    ("3000", "another structure"),
+    ("301a300d06092a864886f70d01010105000309013006020111020103", "a key of RSA with an unused bit"),
+    ("", "no octets"),
+    ("3003", "octets that end within the element"),
+    ("300080", "an octet after the element"),
+    ("301a300d06092a864886f70d0101010500030900300602011102810103", "a length that is not the shortest, in the key: another structure"),
+    ("308006", "an indefinite length"),
+]
+
+# Private keys: a kind and octets.
+PRIVATE_PARTS = [
+    ("Rsa", "301b02010002010b02010302010502010702010b020101020102020104"),
+    ("Ec", "300702010104020102"),
+    ("Ed", "aabb"),
+]
+
+# What may be put beside a private key: attributes and a public key.
+BESIDE_PRIVATE_KEYS = [
+    ("none", "none"),
+    ("a0020500", "none"),
+    ("none", "cc"),
+    ("a000", "cc"),
+    ("a1020500", "none"),
+    ("3000", "cc"),
+    ("0500", "none"),
+]
+
 # Public keys of subjects for RSA.
 RSA_KEYS = [
     ("301a300d06092a864886f70d01010105000309003006020111020103", "NULL as parameters"),

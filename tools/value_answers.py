@@ -24,7 +24,7 @@ import structure_rows as structures
 import value_rows as values
 import whole_certificates
 from certificate_parts import STORED, rows_of
-from der_reader import Constructed, Primitive, read_exact, write
+from der_reader import Constructed, Malformed, Primitive, read_exact, read_first, write
 from oid_table import BAD_CONTENTS, BAD_TEXTS, KNOWN, READ, contents
 from stored_run import write_stored_run
 from value_reader import KINDS, Shape, bits, general_name, ia5, integer, name, structure_line, view_line, word
@@ -468,6 +468,92 @@ def value_rows():
     yield from time_rows()
 
 
+UNREAD = "(ASN1) couldn't deserialize subject public key info: "
+
+NO_CURVE = "ED error: the algorithm is none of Ed25519, X25519, Ed448 and X448"
+
+FAULTS = {
+    "Truncated": "the octets end within the element",
+    "Indefinite": "an indefinite length",
+    "Trailing": "octets after the element",
+}
+
+
+def public_key_line(element):
+    octets = write(element)
+    line = structure_line("key", octets)
+    if line == "Shape":
+        return f"{UNREAD}the element has another structure than the one that is read"
+    shown = line.removeprefix("same ")
+    return f"{word(octets)} {shown.split()[0]} {shown} true"
+
+
+def read_key_line(octets):
+    try:
+        return public_key_line(read_exact(octets))
+    except Malformed as refusal:
+        return f"{UNREAD}malformed DER: {FAULTS[refusal.fault]} at octet {refusal.at}"
+
+
+def key_element(oid, parameters, octets):
+    algorithm = Constructed(0x30, (Primitive(6, oid), *parameters))
+    return Constructed(0x30, (algorithm, Primitive(3, b"\0" + octets)))
+
+
+def public_key_rows():
+    """Public keys that are put together of their parts, or read."""
+    rsa, ec = contents("1.2.840.113549.1.1.1"), contents("1.2.840.10045.2.1")
+    for row in structures.RSA_COMPONENTS:
+        numbers = tuple(map(bytes.fromhex, row))
+        key = Constructed(0x30, tuple(Primitive(2, shortest(number)) for number in numbers))
+        element = key_element(rsa, (Primitive(5, b""),), write(key))
+        yield f"key rsa_components {' '.join(map(word, numbers))}", public_key_line(element)
+    for curve, point in (map(bytes.fromhex, row) for row in structures.EC_COMPONENTS):
+        line = public_key_line(key_element(ec, (Primitive(6, curve),), point))
+        yield f"key ec_components {word(curve)} {word(point)}", line
+    for oid, octets in (map(bytes.fromhex, row) for row in structures.ED_COMPONENTS):
+        line = public_key_line(key_element(oid, (), octets))
+        line = line if line.split()[1] == "Ed" else NO_CURVE
+        yield f"key ed_components {word(oid)} {word(octets)}", line
+    for octets in (bytes.fromhex(octets) for octets, _ in structures.PUBLIC_KEYS):
+        yield f"key from_der {word(octets)}", read_key_line(octets)
+
+
+def made_private_key(algorithm, kind, octets, beside):
+    """A private key with an algorithm: None where a reader of the whole finds another, or none."""
+    attributes, public = beside
+    inner = write(Primitive(4, octets)) if kind == "Ed" else octets
+    more = [bytes.fromhex(attributes)] if attributes != "none" else []
+    if public != "none":
+        more.append(write(Primitive(0x81, b"\0" + bytes.fromhex(public))))
+    version = "V2" if public != "none" else "V1"
+    number = Primitive(2, b"\1" if public != "none" else b"\0")
+    fields = write(number) + algorithm + write(Primitive(4, inner)) + b"".join(more)
+    whole = write(Constructed(0x30, tuple(read_all(fields))))
+    line = structure_line("private_key_info", whole)
+    call = f"key private_key {version} {word(algorithm)} {kind} {word(octets)} {' '.join(beside)}"
+    if line == "Shape" or line.split()[4] != kind:
+        return call, "None"
+    return call, f"{word(whole)} {line.removeprefix('same ')}"
+
+
+def read_all(octets):
+    """The elements one after another."""
+    while octets:
+        element, taken = read_first(octets)
+        yield element
+        octets = octets[taken:]
+
+
+def made_private_key_rows():
+    for algorithm, _ in structures.KEY_ALGORITHMS:
+        for kind, octets in structures.PRIVATE_PARTS:
+            for beside in structures.BESIDE_PRIVATE_KEYS[:2]:
+                yield made_private_key(bytes.fromhex(algorithm), kind, bytes.fromhex(octets), beside)
+    for beside in structures.BESIDE_PRIVATE_KEYS:
+        yield made_private_key(bytes.fromhex("300506032b6570"), "Ed", b"", beside)
+
+
 def private_key_rows():
     """Private keys that openssl made."""
     for kind, _, element in private_keys.rows_of(private_keys.STORED.read_text(encoding="ascii")):
@@ -484,6 +570,8 @@ def structure_rows():
     yield from found_general_name_rows()
     yield from certificate_rows()
     yield from private_key_rows()
+    yield from public_key_rows()
+    yield from made_private_key_rows()
 
 
 def stored_run(program, rows_and_lines):

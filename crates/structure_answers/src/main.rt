@@ -11,6 +11,7 @@
 #![tactic(auto)]
 
 mod details;
+mod keys;
 mod making;
 mod row;
 mod structures;

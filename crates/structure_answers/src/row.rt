@@ -1,6 +1,6 @@
 //! Rows, and who answers them.
 
-use crate::{making, structures};
+use crate::{keys, making, structures};
 use anyhow::{Result, bail};
 use std::alloc::Global;
 
@@ -11,6 +11,7 @@ pub fn answer(alloc: Global, text: &str) -> Result<String> {
         ["structure", kind, element] => structures::answer(alloc, kind, element)?,
         ["unlike", kind, one, other] => structures::answer_unlike(alloc, kind, one, other)?,
         ["make", call, args @ ..] => making::answer(alloc, call, args)?,
+        ["key", call, args @ ..] => keys::answer(alloc, call, args)?,
         _ => None,
     };
     match answer {

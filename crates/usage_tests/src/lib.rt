@@ -10,3 +10,5 @@ mod keys;
 mod names;
 #[cfg(test)]
 mod schemes;
+#[cfg(test)]
+mod servers;
