@@ -30,6 +30,7 @@ from certificate_parts import (
     TEXT_OPTIONS, complaints, made_rows, parts, printed, rows_of, said_subject, source,
     unescaped, unsigned, written_rows,
 )
+from cms_reader import cms_line
 from compare_readers import Comparison, block_line, case_file, cases_of, inputs, spelled
 from der_cases import mutations
 from der_reader import (
@@ -345,6 +346,24 @@ class ValueAnswersTest(unittest.TestCase):
 
     def test_demonstration_signatures_of_the_crate(self):
         self.assertTrue(demo_signatures.stands())
+
+
+class CmsAnswersTest(unittest.TestCase):
+
+    def test_shapes(self):
+        for kind, octets, line in (
+            ("digest_info", "300b300406022a030403aabbcc", "same 1.2.3 none aabbcc"),
+            ("digest_info", "3006300406022a03", "Shape"),
+            ("attribute", "300606022a030500", "same 1.2.3 0500"),
+            ("attribute", "300406022a03", "same 1.2.3 none"),
+            ("indirect_data", "3010300406022a033008300406022a040400", "same 1.2.3 none 1.2.4 none -"),
+            ("string", "80020041", "same 0041"),
+            ("string", "800141", "Shape"),
+            ("opus_info", "3000", "same none none"),
+            ("opus_info", "3004a1028000", "same none -"),
+            ("opus_info", "3008a1028000a0028000", "Shape"),
+        ):
+            self.assertEqual(cms_line(kind, bytes.fromhex(octets)), line)
 
 
 @unittest.skipUnless(which("openssl"), "openssl isn't there")

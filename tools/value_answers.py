@@ -1,29 +1,32 @@
 #!/usr/bin/env python3
 """Make the files of the stored runs of `value_answers`, `structure_answers`,
-`extension_answers` and `certificate_answers`.
+`extension_answers`, `certificate_answers` and `cms_answers`.
 
 Usage:
 
     python3 tools/value_answers.py FOLDER
 
-writes for each PROGRAM of the four FOLDER/PROGRAM/data/rows, the rows that it
+writes for each PROGRAM of the five FOLDER/PROGRAM/data/rows, the rows that it
 is asked for, and FOLDER/PROGRAM/stdout, a line for each.  The lines come from
-`value_reader`, from Python's arithmetic and `datetime`, from the list in
-`oid_table`, and for the names and keys of certificates from what openssl said
-of them (`certificate_rows.txt`, which `certificate_parts.py` makes), and not
-from what the programs printed.  Private keys are among the rows that openssl
-made (`private_key_rows.txt`, from `private_keys.py`).
+`value_reader` and `cms_reader`, from Python's arithmetic, `datetime` and
+codecs, from the list in `oid_table`, and for the names and keys of certificates
+from what openssl said of them (`certificate_rows.txt`, which
+`certificate_parts.py` makes), and not from what the programs printed.  Private
+keys are among the rows that openssl made (`private_key_rows.txt`, from
+`private_keys.py`).
 """
 
 import sys
 from datetime import datetime
 from itertools import filterfalse
 
+import cms_rows
 import private_keys
 import structure_rows as structures
 import value_rows as values
 import whole_certificates
 from certificate_parts import STORED, rows_of
+from cms_reader import cms_line
 from der_reader import Constructed, Malformed, Primitive, read_exact, read_first, write
 from oid_table import BAD_CONTENTS, BAD_TEXTS, KNOWN, READ, contents
 from stored_run import write_stored_run
@@ -460,6 +463,29 @@ def whole_certificate_rows():
         yield f"unlike certificate {one.hex()} {other.hex()}", "equal"
 
 
+def cms_row(kind, element, is_read):
+    line = cms_line(kind, bytes.fromhex(element))
+    assert (line != "Shape") == is_read, (kind, element, line)
+    return f"structure {kind} {element}", line
+
+
+def signed_content_rows():
+    """The rows of `cms_answers`: what Authenticode signs, texts of Authenticode, digest algorithms."""
+    for rows, is_read in (cms_rows.READ, True), (cms_rows.REFUSED, False):
+        for kind, elements in rows:
+            for element, _ in elements:
+                yield cms_row(kind, element, is_read)
+    for kind, one, other, _ in cms_rows.UNLIKE:
+        yield f"unlike {kind} {one} {other}", "unlike"
+        yield f"unlike {kind} {one} {one}", "equal"
+    for text, _ in cms_rows.TEXTS:
+        has_units = all(ord(character) < 0x10000 for character in text)
+        string = Primitive(0x80, text.encode("utf-16-be"))
+        yield f"make string {text_word(text)}", word(write(string)) if has_units else "CharSet"
+    for name, text in cms_rows.DIGESTS:
+        yield f"make sha {name}", word(write(made_algorithm(text, Primitive(5, b""))))
+
+
 def value_rows():
     """The rows of `value_answers`."""
     yield from identifier_rows()
@@ -598,6 +624,7 @@ def stored_files():
         *stored_run("structure_answers", filterfalse(is_extension, structure_rows())),
         *stored_run("extension_answers", filter(is_extension, structure_rows())),
         *stored_run("certificate_answers", whole_certificate_rows()),
+        *stored_run("cms_answers", signed_content_rows()),
     ])
 
 

@@ -1,0 +1,35 @@
+//! What is answered to rows of a file on structures of PKCS #7 and Authenticode, for a comparison
+//! with other answers.
+//!
+//! ```text
+//! cms_answers FILE
+//! ```
+//!
+//! A row is a call and its arguments, a space between: `structure KIND OCTETS`, `unlike KIND OCTETS
+//! OCTETS`, `make string TEXT` or `make sha NAME`. Octets and texts stand in hexadecimal digits, `-`
+//! for none. A line is printed for each row. `tools/value_answers.py` makes rows and lines.
+#![tactic(auto)]
+
+mod details;
+mod making;
+mod row;
+mod structures;
+
+use anyhow::{Result, bail};
+use std::io::{BufWriter, Write};
+use std::{env, fs, io};
+
+fn main(rt: HostRuntime) -> Result<()> {
+    let words: Vec<String> = env::args(&rt)?.skip(1).collect(rt.alloc())?;
+    let [path] = words.as_slice() else {
+        bail!("usage: cms_answers FILE");
+    };
+    let rows = fs::read_to_string(&rt, path.as_str())?;
+    let mut out = BufWriter::new(rt.alloc(), io::writer(&rt))?;
+    for text in rows.lines() {
+        let answer = row::answer(rt.alloc(), text)?;
+        writeln!(out, "{answer}")?;
+    }
+    out.flush()?;
+    Ok(())
+}

@@ -1,0 +1,62 @@
+//! Structures that are read of elements, copied and written again.
+
+use crate::details::Details;
+use anyhow::Result;
+use cms_types::{
+    DigestInfo, SpcAttributeTypeAndOptionalValue, SpcIndirectDataContent, SpcLink, SpcSpOpusInfo,
+    SpcString,
+};
+use der_core::{DerError, Structure};
+use row_answers::{are_equal, comes_back, octets_of, shown_shape, value_of};
+use std::alloc::Global;
+
+/// What is read of an element, by the kind of structure; None where there is no such kind.
+pub fn answer(alloc: Global, kind: &str, element: &str) -> Result<Option<String>> {
+    let element = octets_of(alloc, element)?;
+    let answer = match kind {
+        "digest_info" => read_of::<DigestInfo>(alloc, &element),
+        "attribute" => read_of::<SpcAttributeTypeAndOptionalValue>(alloc, &element),
+        "indirect_data" => read_of::<SpcIndirectDataContent>(alloc, &element),
+        "string" => read_of::<SpcString>(alloc, &element),
+        "link" => read_of::<SpcLink>(alloc, &element),
+        "opus_info" => read_of::<SpcSpOpusInfo>(alloc, &element),
+        _ => return Ok(None),
+    };
+    Ok(Some(answer?))
+}
+
+/// Whether two elements spell equal values, by the kind of structure; None where there is no such
+/// kind.
+pub fn answer_unlike(alloc: Global, kind: &str, one: &str, other: &str) -> Result<Option<String>> {
+    let one = octets_of(alloc, one)?;
+    let other = octets_of(alloc, other)?;
+    let equal = match kind {
+        "digest_info" => are_equal::<DigestInfo>(alloc, &one, &other),
+        "attribute" => are_equal::<SpcAttributeTypeAndOptionalValue>(alloc, &one, &other),
+        "indirect_data" => are_equal::<SpcIndirectDataContent>(alloc, &one, &other),
+        "string" => are_equal::<SpcString>(alloc, &one, &other),
+        "link" => are_equal::<SpcLink>(alloc, &one, &other),
+        "opus_info" => are_equal::<SpcSpOpusInfo>(alloc, &one, &other),
+        _ => return Ok(None),
+    };
+    let answer = if equal? { "equal" } else { "unlike" };
+    Ok(Some(String::from_str(alloc, answer)?))
+}
+
+/// Whether the value comes back as it was read, and its details; or that there is none.
+fn read_of<T: Structure + PartialEq + Details>(
+    alloc: Global,
+    element: &[u8],
+) -> Result<String, DerError> {
+    let value = match value_of::<T>(alloc, element) {
+        Ok(value) => value,
+        Err(error) => return shown_shape(alloc, error),
+    };
+    let word = if comes_back(alloc, element, &value)? {
+        "same"
+    } else {
+        "changed"
+    };
+    let details = value.details(alloc)?;
+    Ok(format!(in alloc; "{word} {details}")?)
+}

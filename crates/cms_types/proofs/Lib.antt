@@ -1,0 +1,2 @@
+pub mod OpusFields
+pub mod Characters

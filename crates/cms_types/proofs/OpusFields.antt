@@ -1,0 +1,85 @@
+-- What a signature says of its program, by its fields.
+use Rattle.std.proofs.Common.{◌≡◌, ◌↔◌, IsTrue, Bool, false, Option, Some, None, refl, sym, ap, subst, ◌∙◌}
+use Rattle.std.specs.Prelude.{bytes_eq}
+use Rattle.std.specs.Option.{option_map, option_eq}
+use Rattle.der_core.specs.DerElement.{DerElement}
+use Rattle.der_core.specs.Encoding.{encoding}
+use Rattle.der_core.specs.Facts.Equality.{options_same, octets_same}
+use Rattle.cms_types.specs.SpcString.{spc_string}
+use Rattle.cms_types.specs.SpcLink.{spc_link}
+use Rattle.cms_types.specs.Optional.{SpellsOption}
+use Rattle.cms_types.specs.OpusInfo.{opus_info_of, opus_info}
+use Rattle.cms_types.specs.Facts.SpcStrings.{spc_strings}
+use Rattle.cms_types.specs.Facts.SpcLinks.{spc_links}
+use Rattle.cms_types.specs.Facts.OpusInfos.{fields_once}
+use Rattle.cms_types.specs.declared.spc_string.SpcString.{SpcString}
+use Rattle.cms_types.specs.declared.spc_link.SpcLink.{SpcLink}
+use Rattle.cms_types.specs.declared.opus_info.SpcSpOpusInfo.{SpcSpOpusInfo}
+
+abbrev prints : {X : Type 0} → (X → DerElement) → DerElement → X → Type 0
+prints written element value = element ≡ written value
+
+printed_option : {X : Type 0} (written : X → DerElement) (e : Option DerElement) (v : Option X) → SpellsOption (prints written) e v → e ≡ option_map written v
+printed_option written None None s = refl
+printed_option written None (Some v) s = absurd s
+printed_option written (Some e) None s = absurd s
+printed_option written (Some e) (Some v) s = ap Some s
+
+option_printed : {X : Type 0} (written : X → DerElement) (e : Option DerElement) (v : Option X) → e ≡ option_map written v → SpellsOption (prints written) e v
+option_printed written None None e = tt
+option_printed written None (Some v) e = absurd cc
+option_printed written (Some x) None e = absurd cc
+option_printed written (Some x) (Some v) e = cc
+
+-- a value that is there
+pub some_spells : {X : Type 0} (spells : DerElement → X → Type 0) (e : Option DerElement) (element : DerElement) (value : X) → e ≡ Some element → spells element value → SpellsOption spells e (Some value)
+some_spells spells e element value is s = subst (λ (o : Option DerElement). SpellsOption spells o (Some value)) (sym is) s
+
+-- an element of these fields is one of a value exactly where they are those of its fields
+pub of_parts : (t : DerElement) (n i : Option DerElement) → t ≡ opus_info_of n i
+    → (name : Option SpcString) → SpellsOption (prints spc_string) n name
+    → (link : Option SpcLink) → SpellsOption (prints spc_link) i link
+    → (info : SpcSpOpusInfo) × (t ≡ opus_info info)
+of_parts t n i is name program_name link more_info = (
+  record { program_name = name; more_info = link },
+  is
+      ∙ ap (λ (e : Option DerElement). opus_info_of e i) (printed_option spc_string n name program_name)
+      ∙ ap (opus_info_of (option_map spc_string name)) (printed_option spc_link i link more_info),
+)
+
+pub parts_of : (t : DerElement) (n i : Option DerElement) → t ≡ opus_info_of n i → (info : SpcSpOpusInfo) → t ≡ opus_info info
+    → SpellsOption (prints spc_string) n info.program_name × SpellsOption (prints spc_link) i info.more_info
+parts_of t n i is info spells =
+    let parts = fields_once n (option_map spc_string info.program_name) i (option_map spc_link info.more_info) (sym is ∙ spells) in
+    (option_printed spc_string n info.program_name parts.0, option_printed spc_link i info.more_info parts.1)
+
+-- ---- equality
+
+abbrev string_eq : SpcString → SpcString → Bool
+string_eq a b = bytes_eq (encoding (spc_string a)) (encoding (spc_string b))
+
+abbrev link_eq : SpcLink → SpcLink → Bool
+link_eq a b = bytes_eq (encoding (spc_link a)) (encoding (spc_link b))
+
+names_same : (a b : Option SpcString) → IsTrue (option_eq string_eq a b) ↔ (a ≡ b)
+names_same = options_same string_eq (octets_same spc_string (λ x y e. spc_strings.once (spc_string x) x y refl e) spc_strings.formed)
+
+links_same : (a b : Option SpcLink) → IsTrue (option_eq link_eq a b) ↔ (a ≡ b)
+links_same = options_same link_eq (octets_same spc_link (λ x y e. spc_links.once (spc_link x) x y refl e) spc_links.formed)
+
+-- the names are the same, so the values are where the links are
+pub by_link : (a b : SpcSpOpusInfo) (first last : Bool) → first ≡ option_eq string_eq a.program_name b.program_name → IsTrue first → last ≡ option_eq link_eq a.more_info b.more_info → IsTrue last ↔ (a ≡ b)
+by_link a b first last names w links =
+    let program_name = (names_same a.program_name b.program_name).0 (sym names ∙ w) in
+    let same = links_same a.more_info b.more_info in (
+      λ t.
+          let more_info = same.0 (sym links ∙ t) in
+          λ i. record { program_name = program_name i; more_info = more_info i },
+      λ e. links ∙ same.1 (ap (λ (v : SpcSpOpusInfo). v.more_info) e),
+    )
+
+-- the names aren't the same, so the values aren't
+pub other_name : (a b : SpcSpOpusInfo) (test : Bool) → test ≡ option_eq string_eq a.program_name b.program_name → test ≡ false → IsTrue test ↔ (a ≡ b)
+other_name a b test names not =
+    let same = names_same a.program_name b.program_name in
+    (λ t. absurd cc (not, t), λ e. names ∙ same.1 (ap (λ (v : SpcSpOpusInfo). v.program_name) e))

@@ -1,0 +1,10 @@
+-- Digest algorithms as AlgorithmIdentifiers, whose parameters are NULL (RFC 2315 6.3, RFC 3370 2.1).
+use Rattle.std.specs.Prelude.{Some}
+use Rattle.der_core.specs.DerElement.{DerElement, Primitive}
+use Rattle.der_core.specs.Elements.{null}
+use Rattle.key_types.specs.AlgorithmIdentifier.{algorithm_of}
+use Rattle.sig_core.specs.ShaVariant.{digest_identifier}
+use Rattle.sig_core.specs.declared.sha_variant.ShaVariant.{ShaVariant}
+
+abbrev pub digest_algorithm : ShaVariant → DerElement
+digest_algorithm hash = algorithm_of (Primitive 0x06 (digest_identifier hash)) (Some null)

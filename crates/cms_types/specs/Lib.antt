@@ -1,0 +1,10 @@
+pub mod DigestAlgorithm
+pub mod DigestInfo
+pub mod SpcAttribute
+pub mod IndirectData
+pub mod Units
+pub mod SpcString
+pub mod SpcLink
+pub mod Optional
+pub mod OpusInfo
+pub mod Facts

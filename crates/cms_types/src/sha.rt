@@ -1,0 +1,19 @@
+//! The identifiers of digest algorithms.
+
+ghost use Rattle.std.specs.Prelude.{◌≡◌, IfOk};
+ghost use Rattle.key_types.specs.AlgorithmIdentifier.{algorithm_identifier};
+ghost use Rattle.cms_types.specs.DigestAlgorithm.{digest_algorithm};
+
+use key_types::AlgorithmIdentifier;
+use sig_core::ShaVariant;
+use std::alloc::{AllocError, Global};
+
+/// The identifier of a digest algorithm, with NULL parameters, as PKCS #7 has it (RFC 2315 6.3,
+/// RFC 3370 2.1).
+pub fn new_sha(alloc: Global, hash: ShaVariant) -> Result<AlgorithmIdentifier, AllocError>
+    ensures { IfOk result (λ algorithm. algorithm_identifier algorithm ≡ digest_algorithm hash) }
+{
+    let oid = hash.to_oid(alloc)?;
+    let algorithm = AlgorithmIdentifier::with_null(alloc, oid)?;
+    Ok(algorithm)
+}
