@@ -1,5 +1,5 @@
 -- Attributes: an element spells at most one, and what is written for one spells it.
-use Rattle.std.proofs.Common.{◌≡◌, List, [], ◌∷◌, refl, ap, sym, subst, ◌∙◌, arith}
+use Rattle.std.proofs.Common.{◌≡◌, [], ◌∷◌, refl, ap, sym, subst, ◌∙◌, arith}
 use Rattle.der_core.specs.DerElement.{DerElement}
 use Rattle.der_core.specs.Elements.{sequence}
 use Rattle.der_core.specs.Encoding.{encoding, IsWellFormed}
