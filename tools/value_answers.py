@@ -30,7 +30,7 @@ from cms_reader import cms_line
 from der_reader import Constructed, Malformed, Primitive, read_exact, read_first, write
 from oid_table import BAD_CONTENTS, BAD_TEXTS, KNOWN, READ, contents
 from stored_run import write_stored_run
-from value_reader import KINDS, Shape, bits, general_name, ia5, integer, name, structure_line, view_line, word
+from value_reader import ATTRIBUTE_VALUES, KINDS, Shape, bits, general_name, ia5, integer, name, structure_line, valued_attribute, view_line, word
 
 
 EMAIL = "1.2.840.113549.1.9.1"
@@ -227,6 +227,7 @@ READ_AS = [
     ("extension", structures.EXTENSIONS, structures.NO_EXTENSIONS),
     ("validity", structures.VALIDITIES, structures.NO_VALIDITIES),
     ("general_names", structures.GENERAL_NAMES, structures.NO_GENERAL_NAMES),
+    ("valued_attribute", structures.ATTRIBUTES, structures.NO_ATTRIBUTES),
 ]
 
 UNLIKE = [
@@ -243,6 +244,7 @@ UNLIKE = [
     ("identifier", structures.UNLIKE_IDENTIFIERS),
     ("ia5", structures.UNLIKE_IA5),
     ("extension", structures.UNLIKE_EXTENSIONS),
+    ("valued_attribute", structures.UNLIKE_ATTRIBUTES),
 ]
 
 
@@ -294,6 +296,8 @@ def unlike_rows():
             yield f"unlike {kind} {one} {one}", "equal"
     for one, other, _ in structures.LIKE_EXTENSIONS:
         yield f"unlike extension {one} {other}", "equal"
+    for one, other, _ in structures.LIKE_ATTRIBUTES:
+        yield f"unlike valued_attribute {one} {other}", "equal"
 
 
 def made_row(call, kind, element):
@@ -387,6 +391,24 @@ def made_extension_rows():
     usage = made_extension(15, write(made_usage(1)))
     critical = Constructed(0x30, (usage.kids[0], Primitive(1, b"\xff"), usage.kids[1]))
     yield made_row("extension critical_key_usage 1", "extension", critical)
+
+
+def made_attribute_rows():
+    """Attributes that ask for extensions, and such as have the values of another: none where these are of another kind."""
+    requests = Primitive(6, contents("1.2.840.113549.1.9.14"))
+    for element, _ in structures.ATTRIBUTES:
+        octets = bytes.fromhex(element)
+        whole, read = read_exact(octets), structure_line("valued_attribute", octets)
+        kind, written = read.split()[2], read_exact(bytes.fromhex(read.split()[-1])).kids[1]
+        if kind == "Extensions":
+            for given, kept in zip(whole.kids[1].kids, written.kids):
+                line = valued_attribute(Constructed(0x30, (requests, Constructed(0x31, (kept,)))))
+                yield f"make valued_attribute extension_request {word(write(given))}", line
+        for text in structures.MADE_ATTRIBUTE_TYPES:
+            oid = Primitive(6, contents(text))
+            named, _ = ATTRIBUTE_VALUES.get(text, ("Raw", None))
+            line = valued_attribute(Constructed(0x30, (oid, written))) if named == kind else "None"
+            yield f"make valued_attribute new {word(oid.contents)} {element}", line
 
 
 def made_general_name(call, element):
@@ -592,6 +614,7 @@ def structure_rows():
     yield from unlike_rows()
     yield from made_rows()
     yield from made_extension_rows()
+    yield from made_attribute_rows()
     yield from made_general_name_rows()
     yield from found_general_name_rows()
     yield from certificate_rows()
@@ -614,7 +637,7 @@ def stored_run(program, rows_and_lines):
 def is_extension(row_and_line):
     """Whether a row is one of `extension_answers`: its second word says so."""
     row, _ = row_and_line
-    return row.split()[1] in ("extension", "general_name", "general_names", "validity")
+    return row.split()[1] in ("extension", "general_name", "general_names", "validity", "valued_attribute")
 
 
 def stored_files():

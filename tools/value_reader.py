@@ -518,8 +518,40 @@ def view_line(octets):
     ))
 
 
+# Attributes of requests and of signed data, with the element that is written for each.
+
+def requested(element):
+    """How many extensions there are, and each."""
+    listed = kids(element, 0x30)
+    return " ".join((str(len(listed)), *map(extension, listed)))
+
+
+def written_request(element):
+    """Extensions as they are written."""
+    return Constructed(0x30, tuple(read_exact(bytes.fromhex(extension(one).split()[-1])) for one in element.kids))
+
+
+ATTRIBUTE_VALUES = {
+    "1.2.840.113549.1.9.3": ("ContentType", lambda value: dotted(contents(value, 6))),
+    "1.2.840.113549.1.9.4": ("MessageDigest", lambda value: word(contents(value, 4))),
+    "1.2.840.113549.1.9.14": ("Extensions", requested),
+}
+
+
+def valued_attribute(element):
+    """An Attribute (RFC 2986 4.1, RFC 5652 5.3): how many values there are, and each; and what is written for it."""
+    fields = kids(element, 0x30)
+    need(len(fields) == 2)
+    oid = dotted(contents(fields[0], 6))
+    kind, shown = ATTRIBUTE_VALUES.get(oid, ("Raw", lambda one: word(write(one))))
+    values = kids(fields[1], 0x31)
+    line = " ".join((oid, kind, str(len(values)), *map(shown, values)))
+    written = tuple(map(written_request, values)) if kind == "Extensions" else values
+    return f"{line} {word(write(Constructed(0x30, (fields[0], Constructed(0x31, written)))))}"
+
+
 # Of these what is written may be another element than the one that was read; it is printed last.
-WRITTEN_ANEW = ("extension", "certificate")
+WRITTEN_ANEW = ("extension", "certificate", "valued_attribute")
 
 KINDS = {
     "integer": lambda element: integer(contents(element, 2)).split()[0],
@@ -541,6 +573,7 @@ KINDS = {
     "validity": validity,
     "general_names": general_names,
     "certificate": certificate,
+    "valued_attribute": valued_attribute,
 }
 
 

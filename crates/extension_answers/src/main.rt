@@ -1,5 +1,5 @@
-//! What is answered to rows of a file on extensions, general names and validities, for a comparison with other
-//! answers.
+//! What is answered to rows of a file on extensions, attributes, general names and validities, for a
+//! comparison with other answers.
 //!
 //! ```text
 //! extension_answers FILE
@@ -10,6 +10,8 @@
 //! row. `tools/value_answers.py` makes rows and lines.
 #![tactic(auto)]
 
+mod attribute_details;
+mod attribute_making;
 mod details;
 mod general_details;
 mod general_finding;

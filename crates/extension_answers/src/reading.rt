@@ -5,7 +5,7 @@ use anyhow::{Result, bail};
 use der_core::{DerError, Structure};
 use row_answers::{are_equal, comes_back, octets_of, shown_shape, value_of};
 use std::alloc::Global;
-use x509_types::{Extension, RawGeneralNames, Validity};
+use x509_types::{Attribute, Extension, RawGeneralNames, Validity};
 
 /// What is read of an element, by the kind of structure.
 pub fn answer(alloc: Global, kind: &str, element: &str) -> Result<String> {
@@ -14,6 +14,7 @@ pub fn answer(alloc: Global, kind: &str, element: &str) -> Result<String> {
         "extension" => read_of::<Extension>(alloc, &element),
         "general_names" => read_of::<RawGeneralNames>(alloc, &element),
         "validity" => read_of::<Validity>(alloc, &element),
+        "valued_attribute" => read_of::<Attribute>(alloc, &element),
         _ => bail!("no structure has the kind {kind}"),
     };
     Ok(answer?)
@@ -45,6 +46,7 @@ pub fn answer_unlike(alloc: Global, kind: &str, one: &str, other: &str) -> Resul
         "extension" => are_equal::<Extension>(alloc, &one, &other),
         "general_names" => are_equal::<RawGeneralNames>(alloc, &one, &other),
         "validity" => are_equal::<Validity>(alloc, &one, &other),
+        "valued_attribute" => are_equal::<Attribute>(alloc, &one, &other),
         _ => bail!("no structure has the kind {kind}"),
     };
     let answer = if equal? { "equal" } else { "unlike" };

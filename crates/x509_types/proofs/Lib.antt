@@ -8,3 +8,4 @@ pub mod Given
 pub mod Same
 pub mod Signed
 pub mod Viewed
+pub mod Valued

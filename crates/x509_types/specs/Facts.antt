@@ -8,3 +8,7 @@ pub mod Optional
 pub mod TbsElements
 pub mod TbsCertificates
 pub mod Certificates
+pub mod AttributeKinds
+pub mod ToldRequests
+pub mod AttributeLists
+pub mod Attributes

@@ -11,4 +11,7 @@ pub mod TbsCertificate
 pub mod Certificate
 pub mod CertificateElements
 pub mod CertificateView
+pub mod AttributeKind
+pub mod AttributeValues
+pub mod Attribute
 pub mod Facts

@@ -2,6 +2,9 @@
 //! keys, and what extensions hold stand in crates of their own, and are handed on here.
 #![tactic(auto)]
 
+mod attribute;
+mod attribute_kind;
+mod attribute_values;
 mod cert_view;
 mod certificate;
 mod extension;
@@ -14,6 +17,9 @@ mod tbs_certificate;
 mod tbs_fields;
 mod version;
 
+pub use attribute::{Attribute, AttributeList};
+pub use attribute_kind::AttributeKind;
+pub use attribute_values::AttributeValues;
 pub use cert_view::{CertView, views_lend_what_certificates_have};
 pub use certificate::Certificate;
 pub use extension::{Extension, Extensions};

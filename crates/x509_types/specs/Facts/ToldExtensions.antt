@@ -19,10 +19,10 @@ use Rattle.x509_types.specs.declared.extension_kind.ExtensionKind.TheVariants as
 
 -- ---- extensions by their kinds and elements
 
-abbrev number_of : Extension → ℕ
+abbrev pub number_of : Extension → ℕ
 number_of e = kind_number (kind_of e.extn_value)
 
-lists_told : (a b : List Extension) → map number_of a ≡ map number_of b → map extension a ≡ map extension b → a ≡ b
+pub lists_told : (a b : List Extension) → map number_of a ≡ map number_of b → map extension a ≡ map extension b → a ≡ b
 lists_told [] [] k e = refl
 lists_told [] (y ∷ b) k e = absurd cc
 lists_told (x ∷ a) [] k e = absurd cc
@@ -43,7 +43,7 @@ options_told (Some x) (Some y) k e =
 
 -- ---- the kinds end where an element begins
 
-abbrev AreSmall : List ℕ → Type 0
+abbrev pub AreSmall : List ℕ → Type 0
 AreSmall [] = ⊤
 AreSmall (k ∷ ks) = (k < 48) × AreSmall ks
 
@@ -57,7 +57,7 @@ small_kind kinds.AuthorityKeyIdentifier = omega arith
 small_kind kinds.ExtendedKeyUsage = omega arith
 small_kind kinds.Other = omega arith
 
-small_list : (es : List Extension) → AreSmall (map number_of es)
+pub small_list : (es : List Extension) → AreSmall (map number_of es)
 small_list [] = tt
 small_list (e ∷ es) = (small_kind (kind_of e.extn_value), small_list es)
 
@@ -65,19 +65,19 @@ small_kinds : (es : Option (List Extension)) → AreSmall (value_kinds es)
 small_kinds None = tt
 small_kinds (Some es) = small_list es
 
-split_small : (ks ls r s : List ℕ) → AreSmall ks → AreSmall ls → ks ++ 48 ∷ r ≡ ls ++ 48 ∷ s → (ks ≡ ls) × (48 ∷ r ≡ 48 ∷ s)
-split_small [] [] r s f g e = (refl, e)
-split_small [] (l ∷ ls) r s f g e = let first : 48 ≡ l = cc in absurd (omega (arith, first, g.0))
-split_small (k ∷ ks) [] r s f g e = let first : k ≡ 48 = cc in absurd (omega (arith, first, f.0))
-split_small (k ∷ ks) (l ∷ ls) r s f g e =
+pub split_before : (tag : ℕ) → 47 < tag → (ks ls x y r s : List ℕ) → x ≡ tag ∷ r → y ≡ tag ∷ s → AreSmall ks → AreSmall ls → ks ++ x ≡ ls ++ y → (ks ≡ ls) × (x ≡ y)
+split_before tag high [] [] x y r s p q f g e = (refl, e)
+split_before tag high [] (l ∷ ls) x y r s p q f g e = let first : tag ≡ l = cc in absurd (omega (arith, first, g.0, high))
+split_before tag high (k ∷ ks) [] x y r s p q f g e = let first : k ≡ tag = cc in absurd (omega (arith, first, f.0, high))
+split_before tag high (k ∷ ks) (l ∷ ls) x y r s p q f g e =
     let first : k ≡ l = cc in
-    let others : ks ++ 48 ∷ r ≡ ls ++ 48 ∷ s = cc in
-    let parts = split_small ks ls r s f.1 g.1 others in
+    let others : ks ++ x ≡ ls ++ y = cc in
+    let parts = split_before tag high ks ls x y r s p q f.1 g.1 others in
     (ap (λ n. n ∷ ks) first ∙ ap (λ ns. l ∷ ns) parts.0, parts.1)
 
 pub kinds_and_octets : (x y : Option (List Extension)) (ks ls : DerElements) → value_kinds x ++ encoding (Constructed 0x30 ks) ≡ value_kinds y ++ encoding (Constructed 0x30 ls)
     → (value_kinds x ≡ value_kinds y) × (encoding (Constructed 0x30 ks) ≡ encoding (Constructed 0x30 ls))
-kinds_and_octets x y ks ls e = split_small (value_kinds x) (value_kinds y) _ _ (small_kinds x) (small_kinds y) e
+kinds_and_octets x y ks ls e = split_before 0x30 (omega arith) (value_kinds x) (value_kinds y) _ _ _ _ refl refl (small_kinds x) (small_kinds y) e
 
 -- A test that holds exactly where two values are the same is that of octets by which they are told.
 pub told_decide : {X : Type 0} (octets : X → List ℕ) → ((a b : X) → octets a ≡ octets b → a ≡ b) → (a b : X) (test : Bool) → (IsTrue test ↔ (a ≡ b)) → test ≡ bytes_eq (octets a) (octets b)

@@ -1,0 +1,22 @@
+-- Attribute ::= SEQUENCE { type OBJECT IDENTIFIER, values SET OF ANY } (RFC 2986 4.1, RFC 5652 5.3)
+use Rattle.std.specs.Prelude.{◌≡◌, ℕ, List, [], ◌∷◌, ◌++◌}
+use Rattle.der_core.specs.DerElement.{DerElement}
+use Rattle.der_core.specs.Elements.{sequence}
+use Rattle.der_core.specs.Encoding.{encoding}
+use Rattle.asn1_types.specs.Elements.{object_identifier}
+use Rattle.x509_types.specs.AttributeValues.{attribute_values, asked_kinds, AreAttributeValues}
+use Rattle.x509_types.specs.declared.attribute.Attribute.{Attribute}
+
+-- the element that is written
+abbrev pub attribute : Attribute → DerElement
+attribute a = sequence (object_identifier a.ty ∷ attribute_values a.value ∷ [])
+
+-- The element spells the attribute.
+pub record IsAttribute (element : DerElement) (a : Attribute) : Type 0 where
+  pub values : DerElement
+  pub is : element ≡ sequence (object_identifier a.ty ∷ values ∷ [])
+  pub spelled : AreAttributeValues values a.value
+
+-- the kinds of the values of extensions in it, and the octets that are written
+abbrev pub attribute_octets : Attribute → List ℕ
+attribute_octets a = asked_kinds a.value ++ encoding (attribute a)
