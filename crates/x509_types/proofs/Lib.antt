@@ -8,3 +8,10 @@ pub mod Given
 pub mod Same
 pub mod Signed
 pub mod Viewed
+pub mod Moments
+pub mod FirstExtensions
+pub mod FirstKids
+pub mod Somewhere
+pub mod WholeOctets
+pub mod Held
+pub mod FirstOnes

@@ -10,5 +10,12 @@ pub mod LentTbs
 pub mod TbsCertificate
 pub mod Certificate
 pub mod CertificateElements
+pub mod LentCertificate
 pub mod CertificateView
+pub mod CertificateFields
+pub mod InnerFields
+pub mod FirstExtension
+pub mod FirstOfValue
+pub mod ExtensionParts
+pub mod Purposes
 pub mod Facts
