@@ -498,8 +498,31 @@ def certificate(element):
     ))
 
 
+CODE_SIGNING, TIME_STAMPING = "1.3.6.1.5.5.7.3.3", "1.3.6.1.5.5.7.3.8"
+
+
+def said(extensions):
+    """What the first basic constraints and key identifiers say, and which purposes some usage holds."""
+    values = {}
+    for one in extensions:
+        values.setdefault(dotted(one.kids[0].contents), []).append(one.kids[-1].contents)
+
+    def first(oid, printed, none):
+        return printed(inner(values[oid][0])) if oid in values else none
+
+    usages = values.get("2.5.29.37", [])
+    purposes = {dotted(purpose.contents) for usage in usages for purpose in inner(usage).kids}
+    tests = bool(usages), CODE_SIGNING in purposes, TIME_STAMPING in purposes
+    return " ".join((
+        first("2.5.29.19", lambda one: basic_constraints(one)[0], "none none"),
+        first("2.5.29.14", lambda one: subject_key(one)[0], "none"),
+        first("2.5.29.35", lambda one: authority_key(one)[0].split()[0], "none"),
+        *(str(test).lower() for test in tests),
+    ))
+
+
 def view_line(octets):
-    """What is printed of a certificate where it lies: the octets of each field, as they stand."""
+    """What is printed of a certificate where it lies: each field as it stands, and what extensions say."""
     element = read_exact(octets)
     try:
         certificate(element)
@@ -511,10 +534,12 @@ def view_line(octets):
     serial, inner_algorithm, issuer, dates, subject, subject_key, *rest = fields
     ids = [given(rest, tag) for tag in (0x81, 0x82)]
     listed = given(rest, 0xA3)
+    key_algorithm, key_bits = subject_key.kids
     return " ".join((
-        whole(version and version.kids[0]), word(serial.contents), *map(whole, (inner_algorithm, issuer, dates, subject, subject_key)),
+        whole(version and version.kids[0]), word(serial.contents), *map(whole, (inner_algorithm, issuer, dates)), validity(dates),
+        *map(whole, (subject, subject_key, key_algorithm)), word(key_bits.contents[1:]),
         *("none" if one is None else word(one.contents) for one in ids), whole(listed and listed.kids[0]),
-        whole(outer), word(signature.contents[1:]), whole(to_be_signed),
+        whole(outer), word(signature.contents[1:]), whole(to_be_signed), said(listed.kids[0].kids if listed else ()),
     ))
 
 

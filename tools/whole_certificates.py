@@ -100,6 +100,33 @@ def certificate(to_be_signed, algorithm=ED_ALGORITHM, value=bit_string(bytes(4))
     return sequence(to_be_signed, algorithm, value, *behind)
 
 
+def extended(*extensions):
+    """A certificate with these extensions."""
+    return certificate(tbs(extensions=context(3, sequence(*extensions))))
+
+
+def extension(arc, value):
+    return sequence(identifier(f"2.5.29.{arc}"), octet_string(value))
+
+
+def constraints(*parts):
+    return extension(19, sequence(*parts))
+
+
+def subject_key(octets):
+    return extension(14, octet_string(octets))
+
+
+def authority_key(*parts):
+    return extension(35, sequence(*parts))
+
+
+def usage(*purposes):
+    return extension(37, sequence(*map(identifier, purposes)))
+
+
+TRUE = b"\1\1\xff"
+CODE_SIGNING, TIME_STAMPING = "1.3.6.1.5.5.7.3.3", "1.3.6.1.5.5.7.3.8"
 ISSUER_ID, SUBJECT_ID = context_primitive(1, b"\0\xaa"), context_primitive(2, b"\0\xbb\xcc")
 
 WRITTEN = [
@@ -123,6 +150,24 @@ WRITTEN = [
     (certificate(tbs(validity=sequence(utc_time("300101000000Z"), element(0x18, b"20000101000000Z")))), "times the other way around, the last a GeneralizedTime"),
     (certificate(tbs(), value=element(3, b"\7\x80")), "a signature with unused bits"),
     (certificate(tbs(), value=element(3, b"\0")), "a signature of no octets"),
+    (certificate(tbs(key=sequence(ED_ALGORITHM, element(3, b"\5\xaa\x20")))), "a key with unused bits"),
+    (certificate(tbs(key=sequence(ED_ALGORITHM, bit_string(b"")))), "a key of no octets"),
+    (extended(constraints(TRUE, integer(b"\3"))), "an authority with a path length"),
+    (extended(constraints(b"\1\1\1")), "an authority by another octet of TRUE"),
+    (extended(constraints(b"\1\1\0")), "no authority, given as FALSE"),
+    (extended(constraints(integer(b"\0\x80"))), "a path length of two octets without a flag"),
+    (extended(OTHER, constraints(TRUE), constraints(b"\1\1\0", integer(b"\1"))), "basic constraints twice, the first without a path length"),
+    (extended(constraints(), constraints(TRUE)), "basic constraints twice, the first without a flag"),
+    (extended(subject_key(b"\xaa\xbb"), authority_key(context_primitive(0, b"\xcc"))), "both key identifiers"),
+    (extended(authority_key(context_primitive(0, b"\xcc")), subject_key(b"\xaa\xbb")), "both key identifiers the other way around"),
+    (extended(subject_key(b""), subject_key(b"\xaa")), "the key identifier of the subject twice, the first of no octets"),
+    (extended(authority_key(context(1), context_primitive(2, b"\1")), authority_key(context_primitive(0, b"\xcc"))), "the key of the authority twice, the first by issuer and number"),
+    (extended(authority_key(context_primitive(0, b"\xcc"), context(1), context_primitive(2, b"\1"))), "the key of the authority by all three"),
+    (extended(usage(CODE_SIGNING)), "code signing"),
+    (extended(usage("1.2.3", TIME_STAMPING)), "time stamping behind another purpose"),
+    (extended(usage()), "an extended key usage without purposes"),
+    (extended(usage("1.2.3"), OTHER, usage(TIME_STAMPING, CODE_SIGNING)), "both purposes in the second extended key usage"),
+    (extended(usage(CODE_SIGNING), usage()), "a purpose in the first extended key usage of two"),
 ]
 
 REFUSED = [

@@ -57,7 +57,7 @@ fn id(alloc: Global, id: &Option<Octets>) -> Result<String, AllocError> {
 }
 
 /// The form of a time, and its moment.
-fn time(alloc: Global, time: &Time) -> Result<String, AllocError> {
+pub fn time(alloc: Global, time: &Time) -> Result<String, AllocError> {
     match time {
         Time::Utc(moment) => format!(in alloc; "Utc {moment}"),
         Time::Generalized(moment) => format!(in alloc; "Generalized {moment}"),

@@ -9,3 +9,10 @@ pub mod Same
 pub mod Signed
 pub mod Viewed
 pub mod Valued
+pub mod Moments
+pub mod FirstExtensions
+pub mod FirstKids
+pub mod Somewhere
+pub mod WholeOctets
+pub mod Held
+pub mod FirstOnes

@@ -3,13 +3,13 @@ use Rattle.std.specs.Prelude.{◌≡◌}
 use Rattle.der_core.specs.DerElement.{DerElement}
 use Rattle.der_core.specs.Structure.{Fits}
 use Rattle.x509_types.specs.TbsElements.{tbs_of}
-use Rattle.x509_types.specs.LentTbs.{elements_at}
 use Rattle.x509_types.specs.CertificateElements.{CertificateElements, certificate_of, AreCertificateFields}
+use Rattle.x509_types.specs.LentCertificate.{lent_elements}
 use Rattle.x509_types.specs.declared.cert_view.CertView.{CertView}
 
 -- the elements that lie there
 abbrev pub view_elements : CertView → CertificateElements
-view_elements view = record { tbs = elements_at view.fields; algorithm = view.algorithm.is.0; unused = view.unused; signature = view.signature.now }
+view_elements view = lent_elements view.fields view.algorithm.is.0 view.unused view.signature.now
 
 -- The view is one of this element: its elements are those of the fields, and spell those of a certificate.
 pub record IsCertView (element : DerElement) (view : CertView) : Type 0 where

@@ -10,8 +10,15 @@ pub mod LentTbs
 pub mod TbsCertificate
 pub mod Certificate
 pub mod CertificateElements
+pub mod LentCertificate
 pub mod CertificateView
 pub mod AttributeKind
 pub mod AttributeValues
 pub mod Attribute
+pub mod CertificateFields
+pub mod InnerFields
+pub mod FirstExtension
+pub mod FirstOfValue
+pub mod ExtensionParts
+pub mod Purposes
 pub mod Facts

@@ -1,19 +1,13 @@
 //! Certificates, where their octets lie.
 
-ghost use Rattle.std.specs.Prelude.{◌≡◌, MatchOption};
-ghost use Rattle.std.specs.Option.{option_copied};
-ghost use Rattle.der_core.specs.DerElement.{DerElement};
-ghost use Rattle.der_core.specs.Encoding.{encoding};
-ghost use Rattle.der_core.specs.Lent.{at_option};
-ghost use Rattle.x509_types.specs.Certificate.{IsCertificate};
+ghost use Rattle.der_core.specs.Structure.{Fits};
 ghost use Rattle.x509_types.specs.CertificateElements.{AreCertificateFields};
-ghost use Rattle.x509_types.specs.CertificateView.{IsCertView, view_elements};
-ghost use Rattle.x509_types.specs.declared.cert_view.CertView.{CertView};
-ghost use Rattle.x509_types.specs.declared.certificate.Certificate.{Certificate};
+ghost use Rattle.x509_types.specs.LentCertificate.{lent_elements};
 
-use crate::AlgorithmIdentifier;
+use crate::inner_fields::{key_parts, times_at};
 use crate::optional::expect;
 use crate::tbs_fields::TbsFields;
+use crate::{AlgorithmIdentifier, Time};
 use asn1_types::BitString;
 use der_core::tag::{BIT_STRING, SEQUENCE};
 use der_core::{Elem, leaf_at, three_kids};
@@ -26,9 +20,20 @@ pub struct CertView<'a> {
     algorithm: Elem<'a>,
     unused: u8,
     signature: &'a [u8],
+    ghost fits: { ∥ Fits AreCertificateFields (lent_elements fields algorithm.is.0 unused signature.now) ∥₁ },
 }
 
 impl<'a> CertView<'a> {
+    ghost use Rattle.std.specs.Prelude.{◌≡◌, Some, MatchOption};
+    ghost use Rattle.std.specs.Option.{option_copied, option_map};
+    ghost use Rattle.der_core.specs.Encoding.{encoding};
+    ghost use Rattle.der_core.specs.Lent.{at_option};
+    ghost use Rattle.x509_values.specs.Validity.{time};
+    ghost use Rattle.x509_types.specs.Certificate.{IsCertificate};
+    ghost use Rattle.x509_types.specs.CertificateFields.{not_before_of, not_after_of, key_algorithm_of, key_octets_of};
+    ghost use Rattle.x509_types.specs.CertificateView.{IsCertView, view_elements};
+    ghost use Rattle.x509_types.specs.declared.certificate.Certificate.{Certificate};
+
     /// The certificate that an element spells.
     pub fn read(elem: Elem<'a>) -> Option<CertView<'a>>
         ensures { MatchOption result
@@ -102,11 +107,51 @@ impl<'a> CertView<'a> {
         self.fields.validity
     }
 
+    /// The time from which on the certificate is valid.
+    pub fn not_before(&self) -> Time
+        ensures { not_before_of (view_elements self.now) ≡ Some (time result) }
+    {
+        let Some(times) = times_at(self.fields.validity) else {
+            unreachable!();
+        };
+        times.0
+    }
+
+    /// The time up to which the certificate is valid.
+    pub fn not_after(&self) -> Time
+        ensures { not_after_of (view_elements self.now) ≡ Some (time result) }
+    {
+        let Some(times) = times_at(self.fields.validity) else {
+            unreachable!();
+        };
+        times.1
+    }
+
     /// The key of the subject with its algorithm.
     pub fn subject_public_key_info(&self) -> Elem<'a>
         ensures { result.is.0 ≡ (view_elements self.now).tbs.subject_public_key_info }
     {
         self.fields.subject_public_key_info
+    }
+
+    /// The octets of the algorithm of the key.
+    pub fn key_algorithm(&self) -> &'a [u8]
+        ensures { option_map encoding (key_algorithm_of (view_elements self.now)) ≡ Some result.now }
+    {
+        match key_parts(self.fields.subject_public_key_info) {
+            Some((algorithm, _octets)) => algorithm.whole,
+            None => unreachable!(),
+        }
+    }
+
+    /// The octets that hold the bits of the key.
+    pub fn key(&self) -> &'a [u8]
+        ensures { key_octets_of (view_elements self.now) ≡ Some result.now }
+    {
+        match key_parts(self.fields.subject_public_key_info) {
+            Some((_algorithm, octets)) => octets,
+            None => unreachable!(),
+        }
     }
 
     /// The contents octets of the unique identifier of the issuer, where it is given.
@@ -144,8 +189,3 @@ impl<'a> CertView<'a> {
         self.signature
     }
 }
-
-/// What lies in a certificate are the fields of the value that is read of it.
-pub fn views_lend_what_certificates_have()
-    ensures { (element : DerElement) (view : CertView) (c : Certificate) → IsCertView element view → IsCertificate element c → AreCertificateFields (view_elements view) c }
-{}

@@ -10,23 +10,31 @@ mod certificate;
 mod extension;
 mod extension_fields;
 mod extension_kind;
+mod extension_parts;
 mod extension_view;
+mod first_extension;
+mod inner_fields;
 mod laws;
 mod optional;
+mod purposes;
 mod tbs_certificate;
 mod tbs_fields;
 mod version;
+mod view_extensions;
 
 pub use attribute::{Attribute, AttributeList};
 pub use attribute_kind::AttributeKind;
 pub use attribute_values::AttributeValues;
-pub use cert_view::{CertView, views_lend_what_certificates_have};
+pub use cert_view::CertView;
 pub use certificate::Certificate;
 pub use extension::{Extension, Extensions};
 pub use extension_kind::ExtensionKind;
 pub use extension_view::ExtensionView;
 pub use key_types::{AlgorithmIdentifier, KeyKind, RsaPublicKey, SubjectKey, SubjectPublicKeyInfo};
-pub use laws::extensions_are_written_as_read;
+pub use laws::{
+    extensions_are_written_as_read, first_extensions_are_those_of_certificates,
+    times_and_keys_are_those_of_certificates, views_lend_what_certificates_have,
+};
 pub use tbs_certificate::TbsCertificate;
 pub use version::Version;
 pub use x501_types::{

@@ -1,7 +1,7 @@
 use Rattle.std.proofs.Common.{refl, ap, ◌∙◌}
+use Rattle.std.proofs.lemmas.Grind.{merely}
 use Rattle.der_core.specs.DerElement.{Primitive}
-use Rattle.x509_types.specs.CertificateElements.{CertificateElements}
-use Rattle.x509_types.specs.LentTbs.{elements_at}
+use Rattle.x509_types.specs.LentCertificate.{lent_elements}
 use Rattle.x509_types.proofs.Viewed.{around, all_spelled}
 use Rattle.x509_types.proofs.Signed.{by_three}
 use Rattle.x509_types.proofs.Spelled.{by_fields}
@@ -16,10 +16,16 @@ returns-in_err-expect c = rw c.from_residual-in_err-expect.ensures (λ cert p. c
 pub returns-in_err-expect-2 : goal.returns-in_err-expect-2
 returns-in_err-expect-2 c = rw c.from_residual-in_err-expect-2.ensures (λ cert p. c.in_err-expect-2.ensures cert.signature_value (by_three _ _ _ _ cert c.in-Some.ensures p).2)
 
+pub invariant_of-result : goal.invariant_of-result
+invariant_of-result c =
+    let bits = c.in_ok-contents.ensures ∙ ap (Primitive 0x03) c.in_ok-unused.ensures.cases.0 in
+    let f = lent_elements c.in_ok-fields.fields c.in-Some.algorithm.is.0 c.in_ok-unused.unused.now c.in_ok-unused.signature.now in
+    record { fits = merely (all_spelled f c.in-Some.value.is.0 c.in_ok-expect_shapes.ensures c.in_ok-expect.ensures c.in_ok-expect-2.ensures bits) }
+
 pub returns : goal.returns
 returns c =
     let bits = c.in_ok-contents.ensures ∙ ap (Primitive 0x03) c.in_ok-unused.ensures.cases.0 in
-    let f : CertificateElements = record { tbs = elements_at c.in_ok-fields.fields; algorithm = c.in-Some.algorithm.is.0; unused = c.in_ok-unused.unused.now; signature = c.in_ok-unused.signature.now } in
+    let f = lent_elements c.in_ok-fields.fields c.in-Some.algorithm.is.0 c.in_ok-unused.unused.now c.in_ok-unused.signature.now in
     record {
       is = around _ c.in-Some.tbs.is.0 c.in-Some.algorithm.is.0 c.in-Some.value.is.0 f c.in-Some.ensures c.in_ok-fields.ensures refl bits;
       tbs = c.in_ok-fields.ensures;

@@ -1,0 +1,48 @@
+-- What a certificate says of its key by the first extension of an identifier (RFC 5280 4.2.1.1, 4.2.1.2, 4.2.1.9).
+use Rattle.std.specs.Prelude.{◌≡◌, ℕ, Bool, List, [], ◌∷◌, ◌++◌}
+use Rattle.der_core.specs.DerElement.{DerElement, Primitive}
+use Rattle.der_core.specs.Elements.{sequence}
+use Rattle.der_core.specs.Default.{IsBoolean, IsDefaultFalse}
+use Rattle.asn1_types.specs.declared.oids.TheConstants.{CE_SUBJECT_KEY_IDENTIFIER, CE_BASIC_CONSTRAINTS, CE_AUTHORITY_KEY_IDENTIFIER}
+use Rattle.x509_values.specs.BasicConstraints.{small_integer}
+use Rattle.x509_types.specs.ExtensionView.{key_identifier}
+use Rattle.x509_types.specs.CertificateElements.{CertificateElements}
+use Rattle.x509_types.specs.FirstExtension.{Says}
+
+-- A SEQUENCE begins with an element that says the value.
+pub record BeginsWith {X : Type 0} (part : DerElement → X → Type 0) (element : DerElement) (value : X) : Type 0 where
+  pub kid : DerElement
+  pub kids : List DerElement
+  pub is : element ≡ sequence (kid ∷ kids)
+  pub says : part kid value
+
+-- pathLenConstraint INTEGER (0..MAX) OPTIONAL of BasicConstraints, behind the flag where that is given
+pub record EndsWithLength (element : DerElement) (number : ℕ) : Type 0 where
+  pub flag : List DerElement
+  pub ca : Bool
+  pub flagged : IsDefaultFalse flag ca
+  pub is : element ≡ sequence (flag ++ small_integer number ∷ [])
+
+-- keyIdentifier [0] IMPLICIT OCTET STRING OPTIONAL of AuthorityKeyIdentifier
+abbrev pub IsKeyIdentifier : DerElement → List ℕ → Type 0
+IsKeyIdentifier element key = element ≡ Primitive 0x80 key
+
+-- SubjectKeyIdentifier ::= OCTET STRING
+abbrev pub IsSubjectKeyIdentifier : DerElement → List ℕ → Type 0
+IsSubjectKeyIdentifier element key = element ≡ key_identifier key
+
+-- basic constraints have this flag, cA BOOLEAN DEFAULT FALSE, and it is given
+abbrev pub HasCa : CertificateElements → Bool → Type 0
+HasCa = Says CE_BASIC_CONSTRAINTS.now (BeginsWith IsBoolean)
+
+-- basic constraints have this path length
+abbrev pub HasPathLength : CertificateElements → ℕ → Type 0
+HasPathLength = Says CE_BASIC_CONSTRAINTS.now EndsWithLength
+
+-- the key of the subject has this identifier
+abbrev pub HasSubjectKey : CertificateElements → List ℕ → Type 0
+HasSubjectKey = Says CE_SUBJECT_KEY_IDENTIFIER.now IsSubjectKeyIdentifier
+
+-- the key of the authority is named by this identifier
+abbrev pub HasAuthorityKey : CertificateElements → List ℕ → Type 0
+HasAuthorityKey = Says CE_AUTHORITY_KEY_IDENTIFIER.now (BeginsWith IsKeyIdentifier)

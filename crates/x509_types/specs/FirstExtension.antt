@@ -1,0 +1,43 @@
+-- The first extension of an identifier in a certificate (RFC 5280 4.2).
+use Rattle.std.specs.Prelude.{◌≡◌, ⊤, ℕ, Bool, List, [], ◌∷◌, ◌++◌, Option, Some, None}
+use Rattle.der_core.specs.DerElement.{DerElement, Primitive, Constructed, listed}
+use Rattle.der_core.specs.Kept.{IsKept}
+use Rattle.x509_types.specs.ExtensionFields.{IsExtensionOf}
+use Rattle.x509_types.specs.CertificateElements.{CertificateElements}
+
+-- the elements in the list of extensions, none where it is left out
+abbrev pub listed_at : Option DerElement → List DerElement
+listed_at None = []
+listed_at (Some (Primitive tag content)) = []
+listed_at (Some (Constructed tag kids)) = listed kids
+
+abbrev pub extensions_of : CertificateElements → List DerElement
+extensions_of f = listed_at f.tbs.extensions
+
+-- An extension of this identifier, by its contents octets, whose OCTET STRING holds these octets.
+abbrev pub IsNamed : List ℕ → DerElement → List ℕ → Type 0
+IsNamed oid extension octets = (critical : Bool) × IsExtensionOf extension (Primitive 0x06 oid) critical octets
+
+-- none of the elements is an extension of this identifier
+abbrev pub NoneIsNamed : List ℕ → List DerElement → Type 0
+NoneIsNamed oid [] = ⊤
+NoneIsNamed oid (element ∷ elements) = ((octets : List ℕ) → IsNamed oid element octets → ⊥) × NoneIsNamed oid elements
+
+-- The first of the elements that is an extension of this identifier holds these octets.
+pub record IsFirstNamed (oid : List ℕ) (elements : List DerElement) (octets : List ℕ) : Type 0 where
+  pub before : List DerElement
+  pub extension : DerElement
+  pub after : List DerElement
+  pub are : elements ≡ before ++ extension ∷ after
+  pub first : NoneIsNamed oid before
+  pub named : IsNamed oid extension octets
+
+-- The first extension of this identifier in a certificate holds the encoding of the element, and nothing more.
+pub record IsFirstValue (f : CertificateElements) (oid : List ℕ) (element : DerElement) : Type 0 where
+  pub octets : List ℕ
+  pub first : IsFirstNamed oid (extensions_of f) octets
+  pub holds : IsKept octets element
+
+-- the value of the first extension of this identifier says this
+abbrev pub Says : {X : Type 0} → List ℕ → (DerElement → X → Type 0) → CertificateElements → X → Type 0
+Says oid part f value = (element : DerElement) × IsFirstValue f oid element × part element value

@@ -1,0 +1,51 @@
+//! The times and the key of a certificate, where their octets lie.
+
+ghost use Rattle.std.specs.Prelude.{◌≡◌, ◌≢◌, Some, MatchOption};
+ghost use Rattle.key_types.specs.PublicKeyInfo.{IsPublicKeyInfo};
+ghost use Rattle.key_types.specs.declared.key_info.SubjectPublicKeyInfo.{SubjectPublicKeyInfo};
+ghost use Rattle.x509_values.specs.Validity.{time, validity};
+ghost use Rattle.x509_values.specs.declared.time.Time.{Time};
+ghost use Rattle.x509_values.specs.declared.validity.Validity.{Validity};
+ghost use Rattle.x509_types.specs.CertificateFields.{kid, bits_of};
+
+use asn1_types::{GeneralizedTime, UTCTime};
+use der_core::tag::{BIT_STRING, GENERALIZED_TIME, SEQUENCE, UTC_TIME};
+use der_core::{Elem, leaf_at, two_kids};
+use x509_values::Time;
+
+/// Both times of a validity.
+pub(crate) fn times_at(elem: Elem<'_>) -> Option<(Time, Time)>
+    ensures { MatchOption result
+        ((value : Validity) → elem.entry.is.0 ≢ validity value)
+        (λ times. (kid 0 elem.entry.is.0 ≡ Some (time times.0)) × (kid 1 elem.entry.is.0 ≡ Some (time times.1))) }
+{
+    let (first, second) = two_kids(elem, SEQUENCE)?;
+    let not_before = time_at(first)?;
+    let not_after = time_at(second)?;
+    Some((not_before, not_after))
+}
+
+/// The time that an element spells, which takes no memory.
+fn time_at(elem: Elem<'_>) -> Option<Time>
+    ensures { MatchOption result
+        ((value : Time) → elem.entry.is.0 ≢ time value)
+        (λ value. elem.entry.is.0 ≡ time value) }
+{
+    if let Some(contents) = leaf_at(elem, UTC_TIME) {
+        return Some(Time::Utc(UTCTime::from_content(contents)?));
+    }
+    let contents = leaf_at(elem, GENERALIZED_TIME)?;
+    Some(Time::Generalized(GeneralizedTime::from_content(contents)?))
+}
+
+/// The algorithm of a key, and the octets that hold the key's bits.
+pub(crate) fn key_parts<'a>(elem: Elem<'a>) -> Option<(Elem<'a>, &'a [u8])>
+    ensures { MatchOption result
+        ((info : SubjectPublicKeyInfo) → IsPublicKeyInfo elem.entry.is.0 info → ⊥)
+        (λ parts. (kid 0 elem.entry.is.0 ≡ Some parts.0.is.0) × (bits_of (kid 1 elem.entry.is.0) ≡ Some parts.1.now)) }
+{
+    let (algorithm, key) = two_kids(elem, SEQUENCE)?;
+    let contents = leaf_at(key, BIT_STRING)?;
+    let (_unused, octets) = contents.split_first()?;
+    Some((algorithm, octets))
+}
