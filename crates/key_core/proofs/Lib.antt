@@ -1,3 +1,5 @@
 pub mod Algorithms
 pub mod Within
 pub mod InfoFields
+pub mod Curves
+pub mod Pkcs1Keys

@@ -23,11 +23,15 @@ element_text elements.RsaPublicKey = codes "rsa public key"
 
 -- why a key of a kind can't be had
 abbrev pub context_text : KeyContext → List ℕ
+context_text contexts.NotRsa = codes "the key is of another kind than RSA"
+context_text contexts.CoordinateSize = codes "a coordinate hasn't as many octets as the field of the curve"
 context_text contexts.UnsupportedEd = codes "the algorithm is none of Ed25519, X25519, Ed448 and X448"
 
 -- What is told of a key that isn't read, made or written. Of an element that isn't read or written no contract says what is told.
 abbrev pub key_error_text : KeyError → Option (List ℕ)
 key_error_text (errors.Asn1Serialization element source) = None
 key_error_text (errors.Asn1Deserialization element source) = None
+key_error_text (errors.Rsa context) = Some (codes "RSA error: " ++ context_text context)
+key_error_text (errors.EC context) = Some (codes "EC error: " ++ context_text context)
 key_error_text (errors.ED context) = Some (codes "ED error: " ++ context_text context)
 key_error_text errors.Memory = Some (codes "out of memory")

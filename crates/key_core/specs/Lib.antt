@@ -5,6 +5,9 @@ pub mod PrivateKeyFields
 pub mod Agreement
 pub mod PrivateKeyInfo
 pub mod KeyRefusals
+pub mod EcCurve
+pub mod EdAlgorithm
 pub mod MadeKeys
+pub mod Pkcs1
 pub mod ErrorText
 pub mod Facts

@@ -1,5 +1,5 @@
 -- Public keys that are put together of their parts.
-use Rattle.std.specs.Prelude.{◌≡◌, ⊤, ℕ, List, Some, None, IsTrue}
+use Rattle.std.specs.Prelude.{◌≡◌, ⊤, ℕ, List, ◌∷◌, ◌++◌, length, Some, None, IsTrue}
 use Rattle.der_core.specs.Elements.{null}
 use Rattle.der_core.specs.Lent.{kept_option}
 use Rattle.asn1_types.specs.Elements.{object_identifier}
@@ -13,16 +13,22 @@ use Rattle.key_types.specs.declared.key_kind.KeyKind.TheVariants as kinds
 use Rattle.key_types.specs.declared.key_info.SubjectPublicKeyInfo.{SubjectPublicKeyInfo}
 use Rattle.key_types.specs.declared.public_key.RsaPublicKey.{RsaPublicKey}
 use Rattle.key_types.specs.declared.subject_key.SubjectKey.TheVariants as keys
+use Rattle.key_core.specs.EcCurve.{curve_identifier, field_size}
+use Rattle.key_core.specs.declared.ec_curve.EcCurve.{EcCurve}
 use Rattle.key_core.specs.declared.error.KeyContext.TheVariants as contexts
 use Rattle.key_core.specs.declared.error.KeyError.{KeyError}
 use Rattle.key_core.specs.declared.error.KeyError.TheVariants as errors
 
--- A key of RSA by its two numbers (RFC 3279 2.3.1): the parameters are NULL.
-pub record IsRsaKey (modulus exponent : List ℕ) (info : SubjectPublicKeyInfo) : Type 0 where
-  pub key : RsaPublicKey
+-- A key of RSA with its algorithm (RFC 3279 2.3.1): the parameters are NULL.
+pub record IsRsaInfo (key : RsaPublicKey) (info : SubjectPublicKeyInfo) : Type 0 where
   pub is : info.subject_public_key ≡ keys.Rsa key
   pub identifier : identifier_contents info.algorithm.oid ≡ RSA_ENCRYPTION.now
   pub parameters : kept_option info.algorithm.parameters ≡ Some null
+
+-- A key of RSA by its two numbers.
+pub record IsRsaKey (modulus exponent : List ℕ) (info : SubjectPublicKeyInfo) : Type 0 where
+  pub key : RsaPublicKey
+  pub rsa : IsRsaInfo key info
   pub modulus_is : IsUnsignedInteger (number_of modulus) (integer_contents key.modulus)
   pub exponent_is : IsUnsignedInteger (number_of exponent) (integer_contents key.public_exponent)
 
@@ -34,6 +40,26 @@ pub record IsEcKey (curve : ObjectIdentifier) (octets : List ℕ) (info : Subjec
   pub parameters : kept_option info.algorithm.parameters ≡ Some (object_identifier curve)
   pub whole : key.unused ≡ 0
   pub payload : key.payload ≡ octets
+
+-- the coordinates have as many octets as the field
+abbrev pub AreCoordinates : EcCurve → List ℕ → List ℕ → Type 0
+AreCoordinates curve x y = (length x ≡ field_size curve) × (length y ≡ field_size curve)
+
+-- A point of a known curve by its coordinates, without compression (SEC 1 2.3.3): 04, then both of them.
+pub record IsPointKey (curve : EcCurve) (x y : List ℕ) (info : SubjectPublicKeyInfo) : Type 0 where
+  pub oid : ObjectIdentifier
+  pub named : identifier_contents oid ≡ curve_identifier curve
+  pub point : IsEcKey oid (0x04 ∷ x ++ y) info
+  pub sized : AreCoordinates curve x y
+
+-- such a point isn't made of coordinates of another length
+abbrev pub RefusesCoordinates : EcCurve → List ℕ → List ℕ → KeyError → Type 0
+RefusesCoordinates curve x y (errors.Asn1Serialization element source) = ⊥
+RefusesCoordinates curve x y (errors.Asn1Deserialization element source) = ⊥
+RefusesCoordinates curve x y (errors.Rsa context) = ⊥
+RefusesCoordinates curve x y (errors.EC context) = (context ≡ contexts.CoordinateSize) × (AreCoordinates curve x y → ⊥)
+RefusesCoordinates curve x y (errors.ED context) = ⊥
+RefusesCoordinates curve x y errors.Memory = ⊤
 
 -- A key on a curve 25519 or 448 by its octets (RFC 8410 3, 4): there are no parameters, and no bits are unused.
 pub record IsEdKey (algorithm : ObjectIdentifier) (octets : List ℕ) (info : SubjectPublicKeyInfo) : Type 0 where
@@ -52,5 +78,7 @@ NamesEd algorithm = IsTrue (names_kind kinds.Ed (identifier_contents algorithm))
 abbrev pub RefusesEd : ObjectIdentifier → KeyError → Type 0
 RefusesEd algorithm (errors.Asn1Serialization element source) = ⊥
 RefusesEd algorithm (errors.Asn1Deserialization element source) = ⊥
-RefusesEd algorithm (errors.ED contexts.UnsupportedEd) = NamesEd algorithm → ⊥
+RefusesEd algorithm (errors.Rsa context) = ⊥
+RefusesEd algorithm (errors.EC context) = ⊥
+RefusesEd algorithm (errors.ED context) = (context ≡ contexts.UnsupportedEd) × (NamesEd algorithm → ⊥)
 RefusesEd algorithm errors.Memory = ⊤

@@ -19,6 +19,10 @@ pub enum KeyError {
     Asn1Serialization { element: Element, source: DerError },
     /// The octets are no element, or one of another structure. Never with want of memory.
     Asn1Deserialization { element: Element, source: DerError },
+    /// A key of RSA can't be had.
+    Rsa { context: KeyContext },
+    /// A point of a curve can't be had.
+    EC { context: KeyContext },
     /// A key on a curve 25519 or 448 can't be had.
     ED { context: KeyContext },
     /// No memory was left.
@@ -28,6 +32,10 @@ pub enum KeyError {
 /// Why a key of a kind can't be had.
 #[derive(Clone, Copy, Debug, PartialEq, Eq)]
 pub enum KeyContext {
+    /// The key is of another kind than RSA.
+    NotRsa,
+    /// A coordinate hasn't as many octets as the field of the curve.
+    CoordinateSize,
     /// The algorithm is none of Ed25519, X25519, Ed448 and X448.
     UnsupportedEd,
 }
@@ -59,6 +67,11 @@ impl fmt::Display for KeyContext {
 
     fn fmt<W: fmt::Write>(&self, f: &mut fmt::Formatter<W>) -> fmt::Result {
         match self {
+            KeyContext::NotRsa => write!(f, "the key is of another kind than RSA"),
+            KeyContext::CoordinateSize => write!(
+                f,
+                "a coordinate hasn't as many octets as the field of the curve"
+            ),
             KeyContext::UnsupportedEd => write!(
                 f,
                 "the algorithm is none of Ed25519, X25519, Ed448 and X448"
@@ -80,6 +93,8 @@ impl fmt::Display for KeyError {
                 f,
                 "(ASN1) couldn't deserialize {element}: {source}"
             ),
+            KeyError::Rsa { context } => write!(f, "RSA error: {context}"),
+            KeyError::EC { context } => write!(f, "EC error: {context}"),
             KeyError::ED { context } => write!(f, "ED error: {context}"),
             KeyError::Memory => write!(f, "out of memory"),
         }

@@ -3,18 +3,24 @@
 //! crates of their own, and are handed on here.
 #![tactic(auto)]
 
+mod ec_curve;
+mod ed_algorithm;
 mod element;
 mod error;
 mod key_algorithm;
+mod laws;
 mod private_key_fields;
 mod private_key_info;
 mod private_key_value;
 mod private_key_version;
 mod public_key;
 
+pub use ec_curve::EcCurve;
+pub use ed_algorithm::EdAlgorithm;
 pub use element::Element;
 pub use error::{KeyContext, KeyError};
 pub use key_types::{AlgorithmIdentifier, KeyKind, RsaPublicKey, SubjectKey, SubjectPublicKeyInfo};
+pub use laws::{lists_have_each_curve, one_identifier_each, pkcs1_comes_back};
 pub use private_key_info::PrivateKeyInfo;
 pub use private_key_types::{ECPrivateKey, RsaPrivateKey};
 pub use private_key_value::PrivateKeyValue;

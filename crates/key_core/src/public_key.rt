@@ -17,10 +17,13 @@ ghost use Rattle.key_types.specs.PublicKeyInfo.{public_key_info, inner_key, IsPu
 ghost use Rattle.key_types.specs.SubjectKey.{kind_of};
 ghost use Rattle.key_types.specs.declared.key_info.SubjectPublicKeyInfo.{SubjectPublicKeyInfo};
 ghost use Rattle.key_core.specs.KeyRefusals.{IsUnread, IsUnwritten};
-ghost use Rattle.key_core.specs.MadeKeys.{IsRsaKey, IsEcKey, IsEdKey, NamesEd, RefusesEd};
+ghost use Rattle.key_core.specs.MadeKeys.{IsRsaInfo, IsRsaKey, IsEcKey, IsEdKey, NamesEd, RefusesEd};
 ghost use Rattle.key_core.specs.declared.element.Element.TheVariants as elements;
 ghost use Rattle.key_core.specs.declared.error.KeyContext.TheVariants as contexts;
 ghost use Rattle.key_core.specs.declared.error.KeyError.TheVariants as errors;
+
+mod coordinates;
+mod pkcs1;
 
 use crate::element::Element;
 use crate::error::{KeyContext, KeyError};
@@ -79,17 +82,12 @@ impl PublicKey {
     ) -> Result<PublicKey, AllocError>
         ensures { IfOk result (λ key. IsRsaKey modulus.now public_exponent.now key.info) }
     {
-        let oid = ObjectIdentifier::from_known(alloc, RSA_ENCRYPTION)?;
-        let algorithm = AlgorithmIdentifier::with_null(alloc, oid)?;
         let key = RsaPublicKey {
             modulus: IntegerAsn1::from_bytes_be_unsigned(alloc, modulus)?,
             public_exponent: IntegerAsn1::from_bytes_be_unsigned(alloc, public_exponent)?,
         };
         Ok(PublicKey {
-            info: SubjectPublicKeyInfo {
-                algorithm,
-                subject_public_key: SubjectKey::Rsa(key),
-            },
+            info: rsa_info(alloc, key)?,
         })
     }
 
@@ -157,6 +155,17 @@ impl PublicKey {
             info: self.info.try_clone(alloc)?,
         })
     }
+}
+
+/// The key of RSA with its algorithm, whose parameters are NULL.
+fn rsa_info(alloc: Global, key: RsaPublicKey) -> Result<SubjectPublicKeyInfo, AllocError>
+    ensures { IfOk result (λ info. IsRsaInfo key info) }
+{
+    let oid = ObjectIdentifier::from_known(alloc, RSA_ENCRYPTION)?;
+    Ok(SubjectPublicKeyInfo {
+        algorithm: AlgorithmIdentifier::with_null(alloc, oid)?,
+        subject_public_key: SubjectKey::Rsa(key),
+    })
 }
 
 /// The point of these octets on the curve of this identifier.

@@ -18,9 +18,9 @@ pub fn answer(alloc: Global, call: &str, args: &[&str]) -> Result<Option<String>
         ("ec_components", [curve, point]) => ec_components(alloc, curve, point)?,
         ("ed_components", [oid, octets]) => ed_components(alloc, oid, octets)?,
         ("from_der", [octets]) => from_der(alloc, octets)?,
-        ("private_key", [version, algorithm, kind, key, more @ ..]) => {
-            let key = private_key(alloc, kind, &octets_of(alloc, key)?)?;
-            private_key_info(alloc, version, algorithm, key, more)?
+        ("private_key", [version, algorithm, kind, key, attributes, public_key]) => {
+            let (key, beside) = ((*kind, *key), (*attributes, *public_key));
+            private_key_info(alloc, version, algorithm, key, beside)?
         }
         _ => return Ok(None),
     };
@@ -53,28 +53,34 @@ fn from_der(alloc: Global, octets: &str) -> Result<String> {
     shown(alloc, key)
 }
 
-/// The octets of a public key, its details and whether it comes back from what it lends; or the text
-/// of the refusal.
+/// The octets of a public key and its details, or the text of the refusal.
 fn shown(alloc: Global, key: Result<PublicKey, KeyError>) -> Result<String> {
-    let key = match key {
-        Ok(key) => key,
-        Err(error) => return Ok(format!(in alloc; "{error}")?),
-    };
+    match key {
+        Ok(key) => shown_key(alloc, &key),
+        Err(error) => Ok(format!(in alloc; "{error}")?),
+    }
+}
+
+/// The octets of a public key, its details and whether it comes back from what it lends.
+fn shown_key(alloc: Global, key: &PublicKey) -> Result<String> {
     let (octets, kind) = (word_of(alloc, &key.to_der(alloc)?)?, key.kind());
     let details = key.as_spki().details(alloc)?;
-    let info = SubjectPublicKeyInfo::from(key.try_clone(alloc)?);
-    let same = PublicKey::from(info) == key;
+    let same = comes_back(alloc, key)?;
     Ok(format!(in alloc; "{octets} {kind:?} {details} {same}")?)
 }
 
+fn comes_back(alloc: Global, key: &PublicKey) -> Result<bool> {
+    let info = SubjectPublicKeyInfo::from(key.try_clone(alloc)?);
+    Ok(PublicKey::from(info) == *key)
+}
+
 /// A private key by its kind, its element or, of a curve 25519 or 448, its octets.
-fn private_key(alloc: Global, kind: &str, octets: &[u8]) -> Result<PrivateKeyValue> {
+fn private_key(alloc: Global, kind: &str, word: &str) -> Result<PrivateKeyValue> {
+    let octets = octets_of(alloc, word)?;
     match kind {
-        "Rsa" => Ok(PrivateKeyValue::Rsa(RsaPrivateKey::from_der(
-            alloc, octets,
-        )?)),
-        "Ec" => Ok(PrivateKeyValue::Ec(ECPrivateKey::from_der(alloc, octets)?)),
-        "Ed" => Ok(PrivateKeyValue::Ed(Octets::from_slice(alloc, octets)?)),
+        "Rsa" => Ok(PrivateKeyValue::Rsa(RsaPrivateKey::from_der(alloc, &octets)?)),
+        "Ec" => Ok(PrivateKeyValue::Ec(ECPrivateKey::from_der(alloc, &octets)?)),
+        "Ed" => Ok(PrivateKeyValue::Ed(Octets::from(octets))),
         _ => bail!("no private key has the kind {kind}"),
     }
 }
@@ -84,20 +90,22 @@ fn private_key_info(
     alloc: Global,
     version: &str,
     algorithm: &str,
-    key: PrivateKeyValue,
-    more: &[&str],
+    (kind, key): (&str, &str),
+    (attributes, public_key): (&str, &str),
 ) -> Result<String> {
-    let [attributes, public_key] = more else {
-        bail!("a private key has attributes and a public key, or none of these");
-    };
-    let algorithm = AlgorithmIdentifier::from_der(alloc, &octets_of(alloc, algorithm)?)?;
+    let version = version_of(version);
     let attributes = attributes_of(alloc, attributes)?;
     let public_key = bits_of(alloc, public_key)?;
-    let version = version_of(version);
-    shown_private(
-        alloc,
-        PrivateKeyInfo::new(version, algorithm, key, attributes, public_key),
-    )
+    let algorithm = algorithm_of(alloc, algorithm)?;
+    let key = private_key(alloc, kind, key)?;
+    match PrivateKeyInfo::new(version, algorithm, key, attributes, public_key) {
+        Some(info) => shown_private(alloc, &info),
+        None => Ok(String::from_str(alloc, "None")?),
+    }
+}
+
+fn algorithm_of(alloc: Global, word: &str) -> Result<AlgorithmIdentifier> {
+    Ok(AlgorithmIdentifier::from_der(alloc, &octets_of(alloc, word)?)?)
 }
 
 fn version_of(word: &str) -> PrivateKeyVersion {
@@ -107,16 +115,11 @@ fn version_of(word: &str) -> PrivateKeyVersion {
     }
 }
 
-/// The octets of a private key and its details, `None` where its parts don't agree.
-fn shown_private(alloc: Global, info: Option<PrivateKeyInfo>) -> Result<String> {
-    match info {
-        Some(info) => {
-            let octets = write(alloc, &info.write(alloc)?)?;
-            let (octets, details) = (word_of(alloc, &octets)?, info.details(alloc)?);
-            Ok(format!(in alloc; "{octets} {details}")?)
-        }
-        None => Ok(String::from_str(alloc, "None")?),
-    }
+/// The octets of a private key and its details.
+fn shown_private(alloc: Global, info: &PrivateKeyInfo) -> Result<String> {
+    let octets = write(alloc, &info.write(alloc)?)?;
+    let (octets, details) = (word_of(alloc, &octets)?, info.details(alloc)?);
+    Ok(format!(in alloc; "{octets} {details}")?)
 }
 
 fn attributes_of(alloc: Global, word: &str) -> Result<Option<Raw>> {
@@ -131,8 +134,5 @@ fn bits_of(alloc: Global, word: &str) -> Result<Option<BitString>> {
     if word == "none" {
         return Ok(None);
     }
-    Ok(Some(BitString::with_bytes(
-        alloc,
-        &octets_of(alloc, word)?,
-    )?))
+    Ok(Some(BitString::with_bytes(alloc, &octets_of(alloc, word)?)?))
 }

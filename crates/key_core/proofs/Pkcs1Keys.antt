@@ -1,0 +1,10 @@
+-- What is written of a key of RSA that was read.
+use Rattle.std.proofs.Common.{◌≡◌, ℕ, List, sym, ◌∙◌, ap, subst}
+use Rattle.der_core.specs.Encoding.{encoding}
+use Rattle.key_types.specs.declared.key_info.SubjectPublicKeyInfo.{SubjectPublicKeyInfo}
+use Rattle.key_core.specs.Pkcs1.{IsPkcs1Key, IsPkcs1Of}
+
+pub comes_back : (read written : List ℕ) (info : SubjectPublicKeyInfo) → IsPkcs1Key read info → IsPkcs1Of info.subject_public_key written → written ≡ read
+comes_back read written info is of =
+    let same = subst (λ key. IsPkcs1Of key written) is.rsa.is of in
+    same.0 ∙ sym (is.within.encoded ∙ ap encoding is.within.spelled)

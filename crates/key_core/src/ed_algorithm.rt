@@ -1,0 +1,64 @@
+//! The algorithms on the curve 25519 that are known.
+
+ghost use Rattle.std.specs.Prelude.{◌≡◌, Some, IfOk, IfSome};
+ghost use Rattle.asn1_types.specs.Values.{identifier_contents};
+ghost use Rattle.key_core.specs.EdAlgorithm.{ed_identifier, ed_text};
+
+use asn1_types::{ObjectIdentifier, oids};
+use std::alloc::{AllocError, Global};
+use std::fmt;
+
+/// An algorithm on the curve 25519 (RFC 8410 3).
+#[derive(Clone, Copy, Debug, PartialEq, Eq)]
+pub enum EdAlgorithm {
+    /// Signatures (RFC 8032).
+    Ed25519,
+    /// Agreement of keys (RFC 7748), which signs nothing.
+    X25519,
+}
+
+impl EdAlgorithm {
+    /// Every algorithm, in the order of the enum.
+    pub const ALL: [EdAlgorithm; 2] = [EdAlgorithm::Ed25519, EdAlgorithm::X25519];
+
+    /// The algorithm that an identifier names, by its contents octets, if it names one.
+    pub fn named(oid: &[u8]) -> Option<EdAlgorithm>
+        ensures named { (algorithm : EdAlgorithm) → ed_identifier algorithm ≡ oid.now → result ≡ Some algorithm }
+        ensures name { IfSome result (λ algorithm. ed_identifier algorithm ≡ oid.now) }
+    {
+        for algorithm in EdAlgorithm::ALL {
+            if algorithm.oid_contents() == oid {
+                return Some(algorithm);
+            }
+        }
+        None
+    }
+
+    /// The identifier of the algorithm.
+    pub fn to_oid(&self, alloc: Global) -> Result<ObjectIdentifier, AllocError>
+        ensures { IfOk result (λ oid. identifier_contents oid ≡ ed_identifier self.now) }
+    {
+        ObjectIdentifier::from_known(alloc, self.oid_contents())
+    }
+
+    /// The contents octets of the identifier.
+    pub fn oid_contents(self) -> &'static [u8]
+        ensures { result.now ≡ ed_identifier self }
+    {
+        match self {
+            EdAlgorithm::Ed25519 => oids::ED25519,
+            EdAlgorithm::X25519 => oids::X25519,
+        }
+    }
+}
+
+impl fmt::Display for EdAlgorithm {
+    ghost output = { λ algorithm. Some (ed_text algorithm) };
+
+    fn fmt<W: fmt::Write>(&self, f: &mut fmt::Formatter<W>) -> fmt::Result {
+        match self {
+            EdAlgorithm::Ed25519 => write!(f, "Ed25519"),
+            EdAlgorithm::X25519 => write!(f, "X25519"),
+        }
+    }
+}
