@@ -516,7 +516,7 @@ def value_rows():
     yield from time_rows()
 
 
-UNREAD = "(ASN1) couldn't deserialize subject public key info: "
+OTHER = "the element has another structure than the one that is read"
 
 NO_CURVE = "ED error: the algorithm is none of Ed25519, X25519, Ed448 and X448"
 
@@ -527,20 +527,24 @@ FAULTS = {
 }
 
 
+def unread(element, octets, made):
+    """The line of what is made of the octets of an element, or why there is none."""
+    try:
+        return made(read_exact(octets))
+    except Malformed as refusal:
+        why = f"malformed DER: {FAULTS[refusal.fault]} at octet {refusal.at}"
+    except Shape:
+        why = OTHER
+    return f"(ASN1) couldn't deserialize {element}: {why}"
+
+
 def public_key_line(element):
     octets = write(element)
     line = structure_line("key", octets)
     if line == "Shape":
-        return f"{UNREAD}the element has another structure than the one that is read"
+        raise Shape
     shown = line.removeprefix("same ")
     return f"{word(octets)} {shown.split()[0]} {shown} true"
-
-
-def read_key_line(octets):
-    try:
-        return public_key_line(read_exact(octets))
-    except Malformed as refusal:
-        return f"{UNREAD}malformed DER: {FAULTS[refusal.fault]} at octet {refusal.at}"
 
 
 def key_element(oid, parameters, octets):
@@ -548,23 +552,75 @@ def key_element(oid, parameters, octets):
     return Constructed(0x30, (algorithm, Primitive(3, b"\0" + octets)))
 
 
+def rsa_element(key):
+    """A key of RSA with its algorithm, which has NULL parameters (RFC 3279 2.3.1)."""
+    return key_element(contents("1.2.840.113549.1.1.1"), (Primitive(5, b""),), write(key))
+
+
+def ec_element(curve, point):
+    return key_element(contents("1.2.840.10045.2.1"), (Primitive(6, curve),), point)
+
+
+def rsa_key_line(key):
+    KINDS["rsa_key"](key)
+    return public_key_line(rsa_element(key))
+
+
+def pkcs1_line(octets):
+    """The octets in the bits of a key of RSA."""
+    _, key = read_exact(octets).kids
+    is_rsa = structure_line("key", octets).split()[1] == "Rsa"
+    return word(key.contents[1:]) if is_rsa else "RSA error: the key is of another kind than RSA"
+
+
 def public_key_rows():
     """Public keys that are put together of their parts, or read."""
-    rsa, ec = contents("1.2.840.113549.1.1.1"), contents("1.2.840.10045.2.1")
     for row in structures.RSA_COMPONENTS:
         numbers = tuple(map(bytes.fromhex, row))
         key = Constructed(0x30, tuple(Primitive(2, shortest(number)) for number in numbers))
-        element = key_element(rsa, (Primitive(5, b""),), write(key))
-        yield f"key rsa_components {' '.join(map(word, numbers))}", public_key_line(element)
+        yield f"key rsa_components {' '.join(map(word, numbers))}", public_key_line(rsa_element(key))
     for curve, point in (map(bytes.fromhex, row) for row in structures.EC_COMPONENTS):
-        line = public_key_line(key_element(ec, (Primitive(6, curve),), point))
+        line = public_key_line(ec_element(curve, point))
         yield f"key ec_components {word(curve)} {word(point)}", line
     for oid, octets in (map(bytes.fromhex, row) for row in structures.ED_COMPONENTS):
-        line = public_key_line(key_element(oid, (), octets))
-        line = line if line.split()[1] == "Ed" else NO_CURVE
+        element = key_element(oid, (), octets)
+        is_ed = structure_line("key", write(element)).split()[1:2] == ["Ed"]
+        line = public_key_line(element) if is_ed else NO_CURVE
         yield f"key ed_components {word(oid)} {word(octets)}", line
     for octets in (bytes.fromhex(octets) for octets, _ in structures.PUBLIC_KEYS):
-        yield f"key from_der {word(octets)}", read_key_line(octets)
+        line = unread("subject public key info", octets, public_key_line)
+        yield f"key from_der {word(octets)}", line
+
+
+def pkcs1_rows():
+    """Keys of RSA without an algorithm."""
+    read = structures.RSA_PUBLIC_KEYS + structures.NO_RSA_PUBLIC_KEYS + structures.NO_ELEMENTS
+    for octets in (bytes.fromhex(octets) for octets, _ in read):
+        yield f"key from_pkcs1 {word(octets)}", unread("rsa public key", octets, rsa_key_line)
+    keys = structures.RSA_KEYS + structures.EC_KEYS + structures.ED_KEYS + structures.MLDSA_KEYS
+    for octets in (bytes.fromhex(octets) for octets, _ in keys):
+        yield f"key to_pkcs1 {word(octets)}", pkcs1_line(octets)
+
+
+def point_line(curve, size, x, y):
+    if len(x) != size or len(y) != size:
+        return "EC error: a coordinate hasn't as many octets as the field of the curve"
+    return public_key_line(ec_element(curve, b"\4" + x + y))
+
+
+def curve_rows():
+    """Curves and algorithms on the curve 25519 by their identifiers, and points by their coordinates."""
+    named = structures.CURVES + structures.ED_ALGORITHMS
+    identifiers = [text for _, text, *_ in named] + [text for text, _ in structures.NO_CURVES]
+    for subject, table in ("curve", structures.CURVES), ("algorithm", structures.ED_ALGORITHMS):
+        for text in identifiers:
+            found = [name for name, known, *_ in table if known == text]
+            oid = word(contents(text))
+            yield f"point {subject} {oid}", f"{found[0]} {oid}" if found else "none"
+    sizes = {contents(text): (bits + 7) // 8 for _, text, bits in structures.CURVES}
+    for curve, x, y, _ in structures.COORDINATES:
+        oid, x, y = contents(curve), bytes.fromhex(x), bytes.fromhex(y)
+        yield f"point coordinates {word(oid)} {word(x)} {word(y)}", point_line(oid, sizes[oid], x, y)
 
 
 def made_private_key(algorithm, kind, octets, beside):
@@ -620,6 +676,8 @@ def structure_rows():
     yield from certificate_rows()
     yield from private_key_rows()
     yield from public_key_rows()
+    yield from pkcs1_rows()
+    yield from curve_rows()
     yield from made_private_key_rows()
 
 

@@ -18,6 +18,8 @@ pub fn answer(alloc: Global, call: &str, args: &[&str]) -> Result<Option<String>
         ("ec_components", [curve, point]) => ec_components(alloc, curve, point)?,
         ("ed_components", [oid, octets]) => ed_components(alloc, oid, octets)?,
         ("from_der", [octets]) => from_der(alloc, octets)?,
+        ("from_pkcs1", [octets]) => from_pkcs1(alloc, octets)?,
+        ("to_pkcs1", [octets]) => to_pkcs1(alloc, octets)?,
         ("private_key", [version, algorithm, kind, key, attributes, public_key]) => {
             let (key, beside) = ((*kind, *key), (*attributes, *public_key));
             private_key_info(alloc, version, algorithm, key, beside)?
@@ -53,8 +55,23 @@ fn from_der(alloc: Global, octets: &str) -> Result<String> {
     shown(alloc, key)
 }
 
+fn from_pkcs1(alloc: Global, octets: &str) -> Result<String> {
+    let octets = octets_of(alloc, octets)?;
+    let key = PublicKey::from_pkcs1(alloc, &octets);
+    shown(alloc, key)
+}
+
+/// The octets of a key of RSA without its algorithm, or the text of the refusal.
+fn to_pkcs1(alloc: Global, octets: &str) -> Result<String> {
+    let key = PublicKey::from_der(alloc, &octets_of(alloc, octets)?)?;
+    match key.to_pkcs1(alloc) {
+        Ok(octets) => Ok(word_of(alloc, &octets)?),
+        Err(error) => Ok(format!(in alloc; "{error}")?),
+    }
+}
+
 /// The octets of a public key and its details, or the text of the refusal.
-fn shown(alloc: Global, key: Result<PublicKey, KeyError>) -> Result<String> {
+pub fn shown(alloc: Global, key: Result<PublicKey, KeyError>) -> Result<String> {
     match key {
         Ok(key) => shown_key(alloc, &key),
         Err(error) => Ok(format!(in alloc; "{error}")?),

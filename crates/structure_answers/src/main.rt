@@ -13,6 +13,7 @@
 mod details;
 mod keys;
 mod making;
+mod points;
 mod row;
 mod structures;
 

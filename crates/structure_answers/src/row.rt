@@ -1,6 +1,6 @@
 //! Rows, and who answers them.
 
-use crate::{keys, making, structures};
+use crate::{keys, making, points, structures};
 use anyhow::{Result, bail};
 use std::alloc::Global;
 
@@ -12,6 +12,7 @@ pub fn answer(alloc: Global, text: &str) -> Result<String> {
         ["unlike", kind, one, other] => structures::answer_unlike(alloc, kind, one, other)?,
         ["make", call, args @ ..] => making::answer(alloc, call, args)?,
         ["key", call, args @ ..] => keys::answer(alloc, call, args)?,
+        ["point", call, args @ ..] => points::answer(alloc, call, args)?,
         _ => None,
     };
     match answer {
