@@ -1,13 +1,15 @@
 -- What a signature says of its program, by its fields.
-use Rattle.std.proofs.Common.{◌≡◌, ◌↔◌, IsTrue, Bool, false, Option, Some, None, refl, sym, ap, subst, ◌∙◌}
+use Rattle.std.proofs.Common.{◌≡◌, ◌↔◌, IsTrue, Bool, false, Option, refl, sym, ap, ◌∙◌}
 use Rattle.std.specs.Prelude.{bytes_eq}
 use Rattle.std.specs.Option.{option_map, option_eq}
 use Rattle.der_core.specs.DerElement.{DerElement}
 use Rattle.der_core.specs.Encoding.{encoding}
 use Rattle.der_core.specs.Facts.Equality.{options_same, octets_same}
+use Rattle.der_core.specs.Facts.Lists.{prints}
+use Rattle.der_core.specs.Facts.Optional.{printed_option, option_printed}
 use Rattle.cms_types.specs.SpcString.{spc_string}
 use Rattle.cms_types.specs.SpcLink.{spc_link}
-use Rattle.cms_types.specs.Optional.{SpellsOption}
+use Rattle.der_core.specs.Optional.{SpellsOption}
 use Rattle.cms_types.specs.OpusInfo.{opus_info_of, opus_info}
 use Rattle.cms_types.specs.Facts.SpcStrings.{spc_strings}
 use Rattle.cms_types.specs.Facts.SpcLinks.{spc_links}
@@ -15,25 +17,6 @@ use Rattle.cms_types.specs.Facts.OpusInfos.{fields_once}
 use Rattle.cms_types.specs.declared.spc_string.SpcString.{SpcString}
 use Rattle.cms_types.specs.declared.spc_link.SpcLink.{SpcLink}
 use Rattle.cms_types.specs.declared.opus_info.SpcSpOpusInfo.{SpcSpOpusInfo}
-
-abbrev prints : {X : Type 0} → (X → DerElement) → DerElement → X → Type 0
-prints written element value = element ≡ written value
-
-printed_option : {X : Type 0} (written : X → DerElement) (e : Option DerElement) (v : Option X) → SpellsOption (prints written) e v → e ≡ option_map written v
-printed_option written None None s = refl
-printed_option written None (Some v) s = absurd s
-printed_option written (Some e) None s = absurd s
-printed_option written (Some e) (Some v) s = ap Some s
-
-option_printed : {X : Type 0} (written : X → DerElement) (e : Option DerElement) (v : Option X) → e ≡ option_map written v → SpellsOption (prints written) e v
-option_printed written None None e = tt
-option_printed written None (Some v) e = absurd cc
-option_printed written (Some x) None e = absurd cc
-option_printed written (Some x) (Some v) e = cc
-
--- a value that is there
-pub some_spells : {X : Type 0} (spells : DerElement → X → Type 0) (e : Option DerElement) (element : DerElement) (value : X) → e ≡ Some element → spells element value → SpellsOption spells e (Some value)
-some_spells spells e element value is s = subst (λ (o : Option DerElement). SpellsOption spells o (Some value)) (sym is) s
 
 -- an element of these fields is one of a value exactly where they are those of its fields
 pub of_parts : (t : DerElement) (n i : Option DerElement) → t ≡ opus_info_of n i

@@ -5,6 +5,5 @@ pub mod IndirectData
 pub mod Units
 pub mod SpcString
 pub mod SpcLink
-pub mod Optional
 pub mod OpusInfo
 pub mod Facts

@@ -5,7 +5,6 @@
 
 mod digest_info;
 mod indirect_data;
-mod optional;
 mod opus_info;
 mod sha;
 mod spc_attribute;

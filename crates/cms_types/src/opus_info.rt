@@ -5,11 +5,13 @@ ghost use Rattle.der_core.specs.DerElement.{DerElement};
 ghost use Rattle.der_core.specs.Lent.{at_option};
 ghost use Rattle.cms_types.specs.OpusInfo.{opus_info, opus_info_of};
 
-use crate::optional::{copy_option, has_option, read_option};
 use crate::spc_link::SpcLink;
 use crate::spc_string::SpcString;
 use der_core::tag::SEQUENCE;
-use der_core::{DerError, Elem, Kids, NewKids, Structure, Tree, explicit};
+use der_core::{
+    DerError, Elem, Kids, NewKids, Structure, Tree, copy_option, has_option, push_explicit,
+    read_option,
+};
 use std::alloc::{AllocError, Global};
 
 const PROGRAM_NAME: u8 = 0xA0;
@@ -78,12 +80,8 @@ impl Structure for SpcSpOpusInfo {
 
     fn write(&self, alloc: Global) -> Result<Tree, DerError> {
         let mut kids = NewKids::new(alloc);
-        if let Some(program_name) = &self.program_name {
-            kids.push(explicit(alloc, PROGRAM_NAME, program_name.write(alloc)?)?)?;
-        }
-        if let Some(more_info) = &self.more_info {
-            kids.push(explicit(alloc, MORE_INFO, more_info.write(alloc)?)?)?;
-        }
+        push_explicit(alloc, &mut kids, PROGRAM_NAME, &self.program_name)?;
+        push_explicit(alloc, &mut kids, MORE_INFO, &self.more_info)?;
         Ok(kids.into_branch(SEQUENCE))
     }
 

@@ -2,13 +2,13 @@
 use Rattle.std.proofs.Common.{◌≡◌, ℕ, ◌-◌, List, [], ◌∷◌, ◌++◌, length, take, Some, None, Ok, Err, refl, sym, ap, subst, ◌∙◌, arith}
 use Rattle.std.proofs.lemmas.List.{append-nil, length-append, take_at}
 use Rattle.der_core.specs.declared.fault.DerFault.{DerFault}
-use Rattle.der_core.specs.DerElement.{DerElement, Primitive, Constructed, DerElements, Nil, Cons, row, listed, tag_of, kids_of}
+use Rattle.der_core.specs.DerElement.{DerElement, Primitive, Constructed, Nil, Cons, row, listed, tag_of, kids_of}
 use Rattle.der_core.specs.Facts.Rows.{row-listed}
 use Rattle.der_core.specs.Encoding.{encoding, encodings, form_bit, IsDer, IsDerWithin}
 use Rattle.der_core.specs.Facts.Fronts.{ok_is, some_octets}
 use Rattle.der_core.specs.Reading.{HasElements, IsFirst}
 use Rattle.der_core.specs.Head.{head_at}
-use Rattle.der_core.specs.Placed.{contents_octets, AreDer, IsElem, HasElem, AreElems, HasElems}
+use Rattle.der_core.specs.Placed.{contents_octets, IsElem, HasElem, AreElems, HasElems}
 use Rattle.der_core.specs.Facts.Placed.{HasElem-prop, HasElems-prop, same_elements, kids_in_bounds}
 use Rattle.der_core.specs.Kept.{IsKept, Kept}
 use Rattle.der_core.proofs.Heads.{contents_of, head_again}

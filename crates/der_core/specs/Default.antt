@@ -1,11 +1,19 @@
 -- BOOLEAN and BOOLEAN DEFAULT FALSE (X.690 8.2, 11.5).
-use Rattle.std.specs.Prelude.{◌≡◌, ℕ, ◌==◌, Bool, false, not, List, [], ◌∷◌, ◌++◌}
+use Rattle.std.specs.Prelude.{◌≡◌, ℕ, ◌==◌, Bool, false, not, if◌then◌else◌, List, [], ◌∷◌, ◌++◌}
 use Rattle.der_core.specs.DerElement.{DerElement, Primitive, tag_of}
 use Rattle.der_core.specs.Structure.{BeginsOtherwise}
 
 -- BOOLEAN: one octet, not zero for TRUE (X.690 8.2.2). That TRUE is FF (X.690 11.1) is not asked of what is read.
 abbrev pub IsBoolean : DerElement → Bool → Type 0
 IsBoolean element b = (octet : ℕ) × (element ≡ Primitive 0x01 (octet ∷ [])) × (b ≡ not (octet == 0))
+
+-- BOOLEAN as it is written: one octet, 00 for FALSE (X.690 8.2.2) and FF for TRUE (X.690 11.1)
+abbrev pub boolean : Bool → DerElement
+boolean b = Primitive 0x01 ((if b then 0xFF else 0x00) ∷ [])
+
+-- BOOLEAN DEFAULT FALSE as it is written: FALSE is left out (X.690 11.5)
+abbrev pub default_false : Bool → List DerElement
+default_false b = if b then boolean b ∷ [] else []
 
 -- no element for FALSE, or one for either: that FALSE is left out (X.690 11.5) is not asked of what is read
 abbrev pub IsDefaultFalse : List DerElement → Bool → Type 0

@@ -14,3 +14,6 @@ pub mod Lists
 pub mod Lent
 pub mod Fields
 pub mod OctetStrings
+pub mod Optional
+pub mod Within
+pub mod Answers

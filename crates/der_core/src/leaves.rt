@@ -4,7 +4,7 @@ ghost use Rattle.std.specs.Prelude.{◌≡◌, ◌≢◌, IfOk, List, ℕ, Bool,
 ghost use Rattle.der_core.specs.DerElement.{Primitive};
 ghost use Rattle.der_core.specs.Elements.{bit_octets};
 ghost use Rattle.der_core.specs.Encoding.{IsWellFormed, IsTag, form_bit};
-ghost use Rattle.der_core.specs.Default.{IsBoolean};
+ghost use Rattle.der_core.specs.Default.{IsBoolean, boolean};
 
 use crate::elem::Elem;
 use crate::kids::Kids;
@@ -73,4 +73,11 @@ pub fn leaf(alloc: Global, tag: u8, content: &[u8]) -> Result<Tree, AllocError>
     ensures { IfOk result (λ tree. (tree ≡ Primitive tag content.now) × IsWellFormed tree) }
 {
     Ok(Tree::leaf(tag, Octets::from_slice(alloc, content)?))
+}
+
+/// The BOOLEAN of a flag: FF for TRUE (X.690 11.1).
+pub fn write_boolean(alloc: Global, b: bool) -> Result<Tree, AllocError>
+    ensures { IfOk result (λ tree. (tree ≡ boolean b) × IsWellFormed tree) }
+{
+    leaf(alloc, BOOLEAN, &[if b { 0xFF } else { 0x00 }])
 }

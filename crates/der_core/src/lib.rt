@@ -16,6 +16,7 @@ mod list;
 mod new_kids;
 mod octet_string;
 mod octets;
+mod optional;
 mod raw;
 mod reading;
 mod sequence_of;
@@ -36,16 +37,21 @@ pub use laws::{
     no_encoding_begins_another, one_first_fault, read_back, tests_of_a_head,
     values_are_their_octets,
 };
-pub use leaves::{bit_octets_at, boolean_at, expect_leaf, leaf, leaf_at};
+pub use leaves::{bit_octets_at, boolean_at, expect_leaf, leaf, leaf_at, write_boolean};
 pub use list::{
     ListOf, copy_each, has_each, has_list, read_each, read_list, write_each, write_list,
 };
 pub use new_kids::NewKids;
 pub use octets::{Octets, is_same};
+pub use optional::{
+    copy_octets, copy_option, expect, expect_option, has_option, push_explicit, push_leaf,
+    read_option,
+};
 pub use raw::Raw;
 pub use reading::{read_exact, read_first};
 pub use structure::Structure;
 pub use tagging::{explicit, explicit_at};
+pub use testing::{exact_elem, whole_element};
 pub use tree::{MAX_NESTING, Tree, Trees};
 pub use within::{has_within, read_within, write_within};
 pub use writing::write;

@@ -11,7 +11,7 @@ use crate::elem::Elem;
 use crate::error::DerError;
 use crate::kids::Kids;
 use crate::octets::Octets;
-use crate::testing::{exact_of, first_of};
+use crate::testing::{exact_elem, first_of};
 use crate::tree::{Tree, Trees};
 use std::alloc::{AllocError, Global};
 
@@ -36,7 +36,7 @@ pub fn read_exact(alloc: Global, bytes: &[u8]) -> Result<Tree, DerError>
     // Octets with a fault, or with more of them than the element, are refused so, whatever memory there is.
     ensures faulty { (at : ℕ) (fault : DerFault) → IsExactFault bytes.now at fault → result ≡ Err (errors.Malformed (record { at = at; fault = fault })) }
 {
-    let elem = exact_of(bytes)?;
+    let elem = exact_elem(bytes)?;
     Ok(tree_of(alloc, elem)?)
 }
 

@@ -12,7 +12,7 @@ ghost use Rattle.der_core.specs.declared.fault.DerFault.{DerFault};
 
 use crate::elem::Elem;
 use crate::error::DerError;
-use crate::testing::exact_of;
+use crate::testing::exact_elem;
 use crate::tree::Tree;
 use crate::writing::write;
 use std::alloc::{AllocError, Global};
@@ -58,7 +58,7 @@ pub trait Structure: Sized + Drop {
         ensures { MatchResult result (spells tree.now) (RefusesShape (spells tree.now)) }
     {
         let octets = write(alloc, tree)?;
-        let elem = exact_of(&octets)?;
+        let elem = exact_elem(&octets)?;
         Self::read_at(alloc, elem)
     }
 
@@ -73,7 +73,7 @@ pub trait Structure: Sized + Drop {
         // An element that spells no value is refused as such, whatever memory there is.
         ensures shapeless { (element : DerElement) → IsDer element → octets.now ≡ encoding element → ((value : Self) → spells element value → ⊥) → result ≡ Err errors.Shape }
     {
-        let elem = exact_of(octets)?;
+        let elem = exact_elem(octets)?;
         if !Self::has_shape(elem) {
             return Err(DerError::Shape);
         }

@@ -1,9 +1,10 @@
 //! Octets tested for elements where they lie, without memory.
 
-ghost use Rattle.std.specs.Prelude.{◌≡◌, ◌+◌, ◌^◌, ◌<◌, ◌++◌, length, MatchResult};
+ghost use Rattle.std.specs.Prelude.{◌≡◌, ◌+◌, ◌^◌, ◌<◌, ◌++◌, length, MatchOption, MatchResult};
 ghost use Rattle.der_core.specs.DerElement.{DerElement};
 ghost use Rattle.der_core.specs.Encoding.{encoding, IsDer, IsDerWithin};
 ghost use Rattle.der_core.specs.Fault.{IsFirstFault};
+ghost use Rattle.der_core.specs.Kept.{IsKept};
 ghost use Rattle.der_core.specs.Facts.InnerFault.{ElementFault, KidsFault};
 ghost use Rattle.der_core.specs.Reading.{HasElements, IsFirst, IsExactFault, IsFaultFrom};
 
@@ -38,8 +39,9 @@ pub(crate) fn first_from(bytes: &[u8], at: usize) -> Result<Elem<'_>, Malformed>
     }
 }
 
-/// The element that octets are, all of them; else their first fault, or octets after the element.
-pub(crate) fn exact_of(bytes: &[u8]) -> Result<Elem<'_>, Malformed>
+/// The element that octets are, all of them; else their first fault, or octets after the element. It
+/// takes no memory.
+pub fn exact_elem(bytes: &[u8]) -> Result<Elem<'_>, Malformed>
     ensures { MatchResult result
         (λ elem. bytes.now ≡ encoding elem.is.0)
         (λ m. IsExactFault bytes.now m.at m.fault) }
@@ -52,6 +54,18 @@ pub(crate) fn exact_of(bytes: &[u8]) -> Result<Elem<'_>, Malformed>
         });
     }
     Ok(elem)
+}
+
+/// The element that octets are, all of them. Why others are none is what `exact_elem` says.
+pub fn whole_element(octets: &[u8]) -> Option<Elem<'_>>
+    ensures { MatchOption result
+        ((element : DerElement) → IsKept octets.now element → ⊥)
+        (λ elem. IsKept octets.now elem.is.0) }
+{
+    match exact_elem(octets) {
+        Ok(elem) => Some(elem),
+        Err(_) => None,
+    }
 }
 
 /// The octets after the element that octets at a place begin with, of at most `levels` levels.

@@ -8,7 +8,7 @@ ghost use Rattle.der_core.specs.Structure.{IsWithin, FitsWithin};
 
 use crate::error::DerError;
 use crate::structure::Structure;
-use crate::testing::exact_of;
+use crate::testing::exact_elem;
 use std::alloc::Global;
 
 /// Whether octets of a string are the encoding of one element that spells a value.
@@ -16,7 +16,7 @@ pub fn has_within<T: Structure>(octets: &[u8]) -> bool
     ensures fits { IsTrue result → FitsWithin T.spells octets.now }
     ensures unfit { result ≡ false → (value : T) → IsWithin T.spells octets.now value → ⊥ }
 {
-    match exact_of(octets) {
+    match exact_elem(octets) {
         Ok(elem) => T::has_shape(elem),
         Err(_) => false,
     }
@@ -26,7 +26,7 @@ pub fn has_within<T: Structure>(octets: &[u8]) -> bool
 pub fn read_within<T: Structure>(alloc: Global, octets: &[u8]) -> Result<T, DerError>
     ensures { MatchResult result (IsWithin T.spells octets.now) (RefusesShape (IsWithin T.spells octets.now)) }
 {
-    match exact_of(octets) {
+    match exact_elem(octets) {
         Ok(elem) => T::read_at(alloc, elem),
         Err(_) => Err(DerError::Shape),
     }

@@ -19,7 +19,7 @@ use crate::private_key_value::PrivateKeyValue;
 use crate::private_key_version::PrivateKeyVersion;
 use asn1_types::BitString;
 use der_core::tag::{OCTET_STRING, SEQUENCE};
-use der_core::{DerError, Elem, NewKids, Raw, Structure, Tree};
+use der_core::{DerError, Elem, NewKids, Raw, Structure, Tree, copy_option};
 use key_types::{AlgorithmIdentifier, KeyKind};
 use std::alloc::{AllocError, Global};
 
@@ -106,16 +106,6 @@ fn write_key(alloc: Global, key: &PrivateKeyValue) -> Result<Tree, DerError>
         (RefusesInner (private_key key.now ∷ [])) }
 {
     Ok(Tree::leaf(OCTET_STRING, key.write(alloc)?))
-}
-
-/// A copy of a value, where it isn't left out.
-fn copy_option<T: Structure>(alloc: Global, value: &Option<T>) -> Result<Option<T>, AllocError>
-    ensures { IfOk result (λ copy. copy ≡ value.now) }
-{
-    match value {
-        Some(value) => Ok(Some(value.try_clone(alloc)?)),
-        None => Ok(None),
-    }
 }
 
 impl Structure for PrivateKeyInfo {

@@ -18,7 +18,7 @@ use x501_types::{DirectoryString, EdiPartyName, OtherName, RawGeneralName};
 pub enum GeneralName {
     /// A name of a form that its identifier tells.
     OtherName(OtherName),
-    /// A mailbox (RFC 822 6.1).
+    /// A mailbox (RFC 5280 4.2.1.6, RFC 2821 4.1.2).
     RFC822Name(Ia5String),
     DNSName(Ia5String),
     DirectoryName(DirectoryName),

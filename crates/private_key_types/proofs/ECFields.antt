@@ -8,33 +8,16 @@ use Rattle.std.proofs.lemmas.Bool.Decides.{Decides-eqb}
 use Rattle.der_core.specs.DerElement.{DerElement}
 use Rattle.der_core.specs.Elements.{octet_string}
 use Rattle.der_core.specs.Facts.Equality.{options_same}
+use Rattle.der_core.specs.Facts.Lists.{prints}
+use Rattle.der_core.specs.Facts.Optional.{printed_option, option_printed}
 use Rattle.asn1_types.specs.Elements.{object_identifier, bit_string}
 use Rattle.asn1_types.specs.Facts.Elements.{same_oid, same_bits}
 use Rattle.asn1_types.specs.declared.oid.ObjectIdentifier.{ObjectIdentifier}
 use Rattle.asn1_types.specs.declared.bit_string.BitString.{BitString}
-use Rattle.private_key_types.specs.Optional.{SpellsOption}
+use Rattle.der_core.specs.Optional.{SpellsOption}
 use Rattle.private_key_types.specs.ECPrivateKey.{ec_private_key_of, ec_private_key}
 use Rattle.private_key_types.specs.Facts.ECPrivateKeys.{fields_once}
 use Rattle.private_key_types.specs.declared.ec_private_key.ECPrivateKey.{ECPrivateKey}
-
-abbrev prints : {X : Type 0} → (X → DerElement) → DerElement → X → Type 0
-prints written element value = element ≡ written value
-
-printed_option : {X : Type 0} (written : X → DerElement) (e : Option DerElement) (v : Option X) → SpellsOption (prints written) e v → e ≡ option_map written v
-printed_option written None None s = refl
-printed_option written None (Some v) s = absurd s
-printed_option written (Some e) None s = absurd s
-printed_option written (Some e) (Some v) s = ap Some s
-
-option_printed : {X : Type 0} (written : X → DerElement) (e : Option DerElement) (v : Option X) → e ≡ option_map written v → SpellsOption (prints written) e v
-option_printed written None None e = tt
-option_printed written None (Some v) e = absurd cc
-option_printed written (Some x) None e = absurd cc
-option_printed written (Some x) (Some v) e = cc
-
--- a value that is there
-pub some_spells : {X : Type 0} (spells : DerElement → X → Type 0) (e : Option DerElement) (element : DerElement) (value : X) → e ≡ Some element → spells element value → SpellsOption spells e (Some value)
-some_spells spells e element value is s = subst (λ (o : Option DerElement). SpellsOption spells o (Some value)) (sym is) s
 
 -- an element of these fields is one of a key exactly where they are those of its values
 pub of_parts : (t k : DerElement) (p b : Option DerElement) → t ≡ ec_private_key_of k p b

@@ -1,4 +1,3 @@
 pub mod RsaPrivateKey
-pub mod Optional
 pub mod ECPrivateKey
 pub mod Facts

@@ -5,11 +5,11 @@ ghost use Rattle.der_core.specs.DerElement.{DerElement};
 ghost use Rattle.der_core.specs.Lent.{at_option};
 ghost use Rattle.private_key_types.specs.ECPrivateKey.{ec_private_key, ec_private_key_of};
 
-use crate::optional::{copy_option, has_option, read_option};
 use asn1_types::{BitString, ObjectIdentifier};
 use der_core::tag::{INTEGER, SEQUENCE};
 use der_core::{
-    DerError, Elem, Kids, NewKids, Octets, Structure, Tree, expect_leaf, explicit, leaf,
+    DerError, Elem, Kids, NewKids, Octets, Structure, Tree, copy_option, expect_leaf, has_option,
+    leaf, push_explicit, read_option,
 };
 use std::alloc::{AllocError, Global};
 
@@ -92,12 +92,8 @@ impl Structure for ECPrivateKey {
         let mut kids = NewKids::new(alloc);
         kids.push(leaf(alloc, INTEGER, &VERSION)?)?;
         kids.push(self.private_key.write(alloc)?)?;
-        if let Some(parameters) = &self.parameters {
-            kids.push(explicit(alloc, PARAMETERS, parameters.write(alloc)?)?)?;
-        }
-        if let Some(public_key) = &self.public_key {
-            kids.push(explicit(alloc, PUBLIC_KEY, public_key.write(alloc)?)?)?;
-        }
+        push_explicit(alloc, &mut kids, PARAMETERS, &self.parameters)?;
+        push_explicit(alloc, &mut kids, PUBLIC_KEY, &self.public_key)?;
         Ok(kids.into_branch(SEQUENCE))
     }
 

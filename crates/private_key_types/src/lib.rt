@@ -3,7 +3,6 @@
 #![tactic(auto)]
 
 mod ec_private_key;
-mod optional;
 mod rsa_private_key;
 
 pub use ec_private_key::ECPrivateKey;

@@ -1,8 +1,5 @@
--- Octets that are one element, and the elements in an RSA private key, one after another.
-use Rattle.std.proofs.Common.{◌≡◌, ℕ, List, [], ◌∷◌, ◌++◌, length, sym, ap, ◌∙◌, arith}
-use Rattle.std.proofs.lemmas.List.{take_all, length-append}
-use Rattle.der_core.specs.Cursor.{BeginsAt}
-use Rattle.der_core.specs.Encoding.{encoding, IsDer}
+-- The elements in an RSA private key, one after another.
+use Rattle.std.proofs.Common.{◌≡◌, List, [], ◌∷◌, sym, ap, ◌∙◌}
 use Rattle.der_core.specs.DerElement.{DerElement, Constructed, listed}
 use Rattle.der_core.specs.Facts.Rows.{listed-row}
 use Rattle.der_core.specs.Elements.{sequence}
@@ -34,15 +31,3 @@ joined kid kids rest others split same = split ∙ ap (λ (k : List DerElement).
 pub joined_as : (kid other : DerElement) (kids rest others : List DerElement) → kids ≡ kid ∷ rest → kid ≡ other → rest ≡ others → kids ≡ other ∷ others
 joined_as kid other kids rest others split named same =
     split ∙ ap (λ (k : DerElement). k ∷ rest) named ∙ ap (λ (k : List DerElement). other ∷ k) same
-
--- octets that are one element begin with it
-pub begins_whole : (level : ℕ) (rest octets : List ℕ) (element : DerElement) → level ≡ 1 → rest ≡ octets → IsDer element → octets ≡ encoding element → BeginsAt level rest element (length rest)
-begins_whole level rest octets element outer same der encoded = record {
-  first = record { der = der; many = ap length (same ∙ encoded); front = take_all (length rest) rest (omega arith) ∙ same ∙ encoded };
-  nested = omega (arith, der.nested, outer);
-}
-
--- and nothing follows it
-pub nothing_left : (octets whole rest : List ℕ) (element : DerElement) → octets ≡ encoding element → whole ≡ encoding element → octets ≡ whole ++ rest → length rest ≡ 0
-nothing_left octets whole rest element encoded whole_is parts =
-    omega (arith, ap length encoded, ap length whole_is, ap length parts, length-append whole rest)

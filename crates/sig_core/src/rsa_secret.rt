@@ -3,13 +3,13 @@
 ghost use Rattle.std.specs.Prelude.{◌≡◌, ◌≢◌, [], ◌∷◌, ℕ, List, IfOk, IfErr, MatchOption};
 ghost use Rattle.asn1_types.specs.Integer.{IsInteger};
 ghost use Rattle.der_core.specs.DerElement.{DerElement};
-ghost use Rattle.der_core.specs.Encoding.{encoding, IsDer};
+ghost use Rattle.der_core.specs.Encoding.{encoding};
 ghost use Rattle.sig_core.specs.RsaSecret.{RsaNumbers, AreIntegers, integer_of, rsa_private_key, rsa_public_key, IsRsaSecret};
 ghost use Rattle.sig_core.specs.declared.scheme.SchemeError.TheVariants.{Memory};
 
 use crate::scheme::SchemeError;
 use der_core::tag::{INTEGER, SEQUENCE};
-use der_core::{Cursor, Elem, Kids, NewKids, expect_leaf, leaf, leaf_at, write};
+use der_core::{Elem, Kids, NewKids, expect_leaf, leaf, leaf_at, whole_element, write};
 use std::alloc::Global;
 
 /// The contents octets of the modulus and of the public exponent in an RSA private key of two
@@ -74,21 +74,6 @@ impl<'a> RsaSecret<'a> {
             Ok(key) => Ok(key),
             Err(_) => Err(SchemeError::Memory),
         }
-    }
-}
-
-/// The element that octets are, all of them.
-fn whole_element(octets: &[u8]) -> Option<Elem<'_>>
-    ensures { MatchOption result
-        ((element : DerElement) → IsDer element → octets.now ≢ encoding element)
-        (λ elem. octets.now ≡ encoding elem.is.0) }
-{
-    let mut cursor = Cursor::new(octets);
-    let elem = cursor.next().ok()??;
-    if cursor.rest().is_empty() {
-        Some(elem)
-    } else {
-        None
     }
 }
 

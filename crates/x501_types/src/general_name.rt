@@ -32,7 +32,7 @@ const REGISTERED_ID: u8 = 0x88;
 #[derive(Debug, Drop)]
 pub enum RawGeneralName {
     OtherName(OtherName),
-    /// A mailbox (RFC 822 6.1).
+    /// A mailbox (RFC 5280 4.2.1.6, RFC 2821 4.1.2).
     Rfc822Name(Ia5String),
     DnsName(Ia5String),
     DirectoryName(Name),

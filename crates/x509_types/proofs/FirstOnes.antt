@@ -9,7 +9,7 @@ use Rattle.x509_types.specs.ExtensionFields.{IsExtensionOf}
 use Rattle.x509_types.specs.ExtensionView.{IsValueIn}
 use Rattle.x509_types.specs.Extension.{IsExtension}
 use Rattle.x509_types.specs.TbsCertificate.{IsExtensions}
-use Rattle.x509_types.specs.Optional.{IsOptional}
+use Rattle.der_core.specs.Optional.{SpellsOption}
 use Rattle.x509_types.specs.FirstExtension.{listed_at, IsNamed, NoneIsNamed, IsFirstNamed}
 use Rattle.x509_types.specs.FirstOfValue.{extensions_in, NoneHas, IsFirstWith, HoldFirst}
 use Rattle.x509_types.specs.Facts.Extensions.{fields_once}
@@ -77,7 +77,7 @@ lies_in oid (k ∷ elements) (b ∷ before) e after each first named =
     )
 
 -- the elements in the list spell the extensions
-pub listed_each : (given : Option DerElement) (extensions : Option (List Extension)) → IsOptional IsExtensions given extensions → AreEach IsExtension (listed_at given) (extensions_in extensions)
+pub listed_each : (given : Option DerElement) (extensions : Option (List Extension)) → SpellsOption IsExtensions given extensions → AreEach IsExtension (listed_at given) (extensions_in extensions)
 listed_each None None is = tt
 listed_each None (Some extensions) is = absurd is
 listed_each (Some element) None is = absurd is

@@ -1,10 +1,8 @@
-pub mod Found
 pub mod ExtensionValues
 pub mod Extensions
 pub mod Spellings
 pub mod Tails
 pub mod Spelled
-pub mod Given
 pub mod Same
 pub mod Signed
 pub mod Viewed
@@ -13,6 +11,5 @@ pub mod Moments
 pub mod FirstExtensions
 pub mod FirstKids
 pub mod Somewhere
-pub mod WholeOctets
 pub mod Held
 pub mod FirstOnes

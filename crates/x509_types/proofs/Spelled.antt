@@ -13,7 +13,7 @@ use Rattle.key_types.specs.PublicKeyInfo.{IsPublicKeyInfo}
 use Rattle.key_types.specs.declared.algorithm.AlgorithmIdentifier.{AlgorithmIdentifier}
 use Rattle.x509_values.specs.Validity.{validity}
 use Rattle.x509_values.specs.declared.validity.Validity.{Validity}
-use Rattle.x509_types.specs.Optional.{IsOptional}
+use Rattle.der_core.specs.Optional.{SpellsOption}
 use Rattle.x509_types.specs.TbsElements.{TbsElements, tbs_of}
 use Rattle.x509_types.specs.TbsCertificate.{IsVersion, IsExtensions, AreTbsFields, IsTbsCertificate}
 use Rattle.x509_types.specs.Facts.TbsElements.{same_elements}
@@ -34,8 +34,8 @@ read_of_fields element f (Ok tbs) is spelled = of_fields element f tbs is spelle
 read_of_fields element f (Err e) is refused = list_refused (AreTbsFields f) (IsTbsCertificate element) e (λ tbs p. (tbs, by_fields element f tbs is p)) refused
 
 -- what each element spells are the fields of one value
-pub all_fit : (f : TbsElements) → Fits (IsOptional IsVersion) f.version → (value : IntegerAsn1) × (f.serial_number ≡ integer_contents value) → (a : AlgorithmIdentifier) × (f.signature ≡ algorithm_identifier a)
-    → Fits IsName f.issuer → (v : Validity) × (f.validity ≡ validity v) → Fits IsName f.subject → Fits IsPublicKeyInfo f.subject_public_key_info → Fits (IsOptional IsExtensions) f.extensions → Fits AreTbsFields f
+pub all_fit : (f : TbsElements) → Fits (SpellsOption IsVersion) f.version → (value : IntegerAsn1) × (f.serial_number ≡ integer_contents value) → (a : AlgorithmIdentifier) × (f.signature ≡ algorithm_identifier a)
+    → Fits IsName f.issuer → (v : Validity) × (f.validity ≡ validity v) → Fits IsName f.subject → Fits IsPublicKeyInfo f.subject_public_key_info → Fits (SpellsOption IsExtensions) f.extensions → Fits AreTbsFields f
 all_fit f version serial signature issuer valid subject key extensions = (
   record {
     version = version.0;

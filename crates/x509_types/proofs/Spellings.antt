@@ -7,7 +7,7 @@ use Rattle.der_core.specs.Elements.{sequence}
 use Rattle.der_core.specs.Structure.{IsWithin}
 use Rattle.der_core.specs.Default.{IsDefaultFalse}
 use Rattle.asn1_types.specs.Elements.{object_identifier}
-use Rattle.x509_values.specs.Boolean.{default_false}
+use Rattle.der_core.specs.Default.{default_false}
 use Rattle.x509_values.specs.BasicConstraints.{basic_constraints, IsBasicConstraints}
 use Rattle.x509_values.specs.Facts.Constraints.{boolean_stands, constraints_spelled}
 use Rattle.x509_values.specs.declared.basic_constraints.BasicConstraints.{BasicConstraints}

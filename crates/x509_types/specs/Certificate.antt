@@ -6,14 +6,15 @@ use Rattle.der_core.specs.Encoding.{encoding}
 use Rattle.asn1_types.specs.Elements.{bit_string}
 use Rattle.key_types.specs.AlgorithmIdentifier.{algorithm_identifier}
 use Rattle.x509_types.specs.Extension.{value_kinds}
-use Rattle.x509_types.specs.TbsCertificate.{IsTbsCertificate, tbs_certificate, inner_tbs}
+use Rattle.x509_types.specs.CertificateElements.{CertificateElements, certificate_of, AreCertificateFields}
+use Rattle.x509_types.specs.TbsCertificate.{tbs_certificate, inner_tbs}
 use Rattle.x509_types.specs.declared.certificate.Certificate.{Certificate}
 
--- The element spells the certificate.
+-- The element spells the certificate: it has its fields, and each spells the field that it stands for.
 pub record IsCertificate (element : DerElement) (c : Certificate) : Type 0 where
-  pub tbs : DerElement
-  pub is : element ≡ sequence (tbs ∷ algorithm_identifier c.signature_algorithm ∷ bit_string c.signature_value ∷ [])
-  pub spelled : IsTbsCertificate tbs c.tbs_certificate
+  pub elements : CertificateElements
+  pub is : element ≡ certificate_of elements
+  pub spelled : AreCertificateFields elements c
 
 -- the element that is written
 abbrev pub certificate : Certificate → DerElement

@@ -4,7 +4,6 @@ pub mod ExtensionViews
 pub mod Extensions
 pub mod ToldExtensions
 pub mod Versions
-pub mod Optional
 pub mod TbsElements
 pub mod TbsCertificates
 pub mod Certificates

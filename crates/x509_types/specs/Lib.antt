@@ -4,12 +4,11 @@ pub mod ExtensionFields
 pub mod Extension
 pub mod ExtensionSpellings
 pub mod Version
-pub mod Optional
 pub mod TbsElements
 pub mod LentTbs
 pub mod TbsCertificate
-pub mod Certificate
 pub mod CertificateElements
+pub mod Certificate
 pub mod LentCertificate
 pub mod CertificateView
 pub mod AttributeKind

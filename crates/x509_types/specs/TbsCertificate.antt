@@ -12,7 +12,7 @@ use Rattle.x509_types.specs.Version.{version}
 use Rattle.x509_values.specs.Validity.{validity}
 use Rattle.x509_types.specs.ExtensionView.{inner_value}
 use Rattle.x509_types.specs.Extension.{extension, value_kinds, IsExtension}
-use Rattle.x509_types.specs.Optional.{IsOptional, inner_option}
+use Rattle.der_core.specs.Optional.{SpellsOption, inner_option}
 use Rattle.x509_types.specs.TbsElements.{TbsElements, tbs_of}
 use Rattle.x509_types.specs.declared.extension.Extension.{Extension}
 use Rattle.x509_types.specs.declared.tbs_certificate.TbsCertificate.{TbsCertificate}
@@ -34,7 +34,7 @@ inner_extensions = flat_map (λ e. inner_value e.extn_value)
 
 -- Each element spells the field that it stands for.
 pub record AreTbsFields (f : TbsElements) (tbs : TbsCertificate) : Type 0 where
-  pub version : IsOptional IsVersion f.version tbs.version
+  pub version : SpellsOption IsVersion f.version tbs.version
   pub serial_number : f.serial_number ≡ integer_contents tbs.serial_number
   pub signature : f.signature ≡ algorithm_identifier tbs.signature
   pub issuer : IsName f.issuer tbs.issuer
@@ -43,7 +43,7 @@ pub record AreTbsFields (f : TbsElements) (tbs : TbsCertificate) : Type 0 where
   pub subject_public_key_info : IsPublicKeyInfo f.subject_public_key_info tbs.subject_public_key_info
   pub issuer_unique_id : f.issuer_unique_id ≡ tbs.issuer_unique_id
   pub subject_unique_id : f.subject_unique_id ≡ tbs.subject_unique_id
-  pub extensions : IsOptional IsExtensions f.extensions tbs.extensions
+  pub extensions : SpellsOption IsExtensions f.extensions tbs.extensions
 
 -- The fields that may be left out are the same of both.
 pub record HasSameOptions (a b : TbsCertificate) : Type 0 where

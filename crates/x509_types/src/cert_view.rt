@@ -5,12 +5,11 @@ ghost use Rattle.x509_types.specs.CertificateElements.{AreCertificateFields};
 ghost use Rattle.x509_types.specs.LentCertificate.{lent_elements};
 
 use crate::inner_fields::{key_parts, times_at};
-use crate::optional::expect;
 use crate::tbs_fields::TbsFields;
 use crate::{AlgorithmIdentifier, Time};
 use asn1_types::BitString;
 use der_core::tag::{BIT_STRING, SEQUENCE};
-use der_core::{Elem, leaf_at, three_kids};
+use der_core::{Elem, expect, leaf_at, three_kids};
 
 /// A certificate where its octets lie (RFC 5280 4.1). It takes no memory.
 #[derive(Clone, Copy)]

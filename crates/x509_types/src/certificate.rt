@@ -1,10 +1,9 @@
 //! Certificates.
 
-ghost use Rattle.std.specs.Prelude.{◌≡◌, ◌↔◌, IsTrue, MatchOption};
-ghost use Rattle.der_core.specs.Structure.{Fits};
+ghost use Rattle.std.specs.Prelude.{◌≡◌, ◌↔◌, IsTrue};
 
 use crate::AlgorithmIdentifier;
-use crate::optional::expect;
+use crate::cert_view::CertView;
 use crate::tbs_certificate::TbsCertificate;
 use asn1_types::BitString;
 use der_core::tag::SEQUENCE;
@@ -21,26 +20,6 @@ pub struct Certificate {
     pub signature_value: BitString,
 }
 
-impl Certificate {
-    ghost use Rattle.x509_types.specs.Certificate.{IsCertificate};
-    ghost use Rattle.x509_types.specs.declared.certificate.Certificate.{Certificate};
-
-    /// The element spells a certificate.
-    fn expect_shapes(elem: Elem<'_>) -> Option<()>
-        ensures { MatchOption result
-            ((c : Certificate) → IsCertificate elem.entry.is.0 c → ⊥)
-            (λ _. Fits IsCertificate elem.entry.is.0) }
-    {
-        let Some((tbs, algorithm, value)) = three_kids(elem, SEQUENCE) else {
-            return None;
-        };
-        expect::<TbsCertificate>(tbs)?;
-        expect::<AlgorithmIdentifier>(algorithm)?;
-        expect::<BitString>(value)?;
-        Some(())
-    }
-}
-
 impl Structure for Certificate {
     ghost use Rattle.x509_types.specs.Certificate.{certificate, inner_certificate, IsCertificate};
     ghost use Rattle.x509_types.specs.Facts.Certificates.{certificates};
@@ -52,7 +31,7 @@ impl Structure for Certificate {
     ghost inner = { inner_certificate };
 
     fn has_shape(elem: Elem<'_>) -> bool {
-        Certificate::expect_shapes(elem).is_some()
+        CertView::read(elem).is_some()
     }
 
     fn read_at(alloc: Global, elem: Elem<'_>) -> Result<Certificate, DerError> {

@@ -18,12 +18,10 @@ use asn1_types::oids::{
     CE_KEY_USAGE, CE_SUBJECT_ALT_NAME, CE_SUBJECT_KEY_IDENTIFIER,
 };
 use der_core::tag::{OCTET_STRING, SEQUENCE};
-use der_core::{DerError, Elem, ListOf, NewKids, Octets, Structure, Tree};
+use der_core::{DerError, Elem, ListOf, NewKids, Octets, Structure, Tree, write_boolean};
 use std::alloc::{AllocError, Global};
 use x501_types::RawGeneralNames;
-use x509_values::{
-    AuthorityKeyIdentifier, BasicConstraints, ExtendedKeyUsage, KeyUsage, write_boolean,
-};
+use x509_values::{AuthorityKeyIdentifier, BasicConstraints, ExtendedKeyUsage, KeyUsage};
 
 /// Extensions in order (RFC 5280 4.1).
 pub type Extensions = ListOf<Extension>;

@@ -1,13 +1,11 @@
 //! Extensions of an identifier, where their octets lie.
 
 ghost use Rattle.std.specs.Prelude.{List, ℕ, MatchOption};
-ghost use Rattle.der_core.specs.DerElement.{DerElement};
-ghost use Rattle.der_core.specs.Kept.{IsKept};
 ghost use Rattle.x509_types.specs.FirstExtension.{IsNamed, IsFirstNamed};
 
 use crate::extension_fields::ExtensionFields;
 use der_core::tag::OBJECT_IDENTIFIER;
-use der_core::{Cursor, Elem, Kids, expect_leaf};
+use der_core::{Elem, Kids, expect_leaf};
 
 /// The octets that an element holds as an extension of this identifier, by its contents octets.
 pub(crate) fn octets_named<'a>(extension: Elem<'a>, oid: &[u8]) -> Option<&'a [u8]>
@@ -32,19 +30,4 @@ pub(crate) fn first_named<'a>(mut kids: Kids<'a>, oid: &[u8]) -> Option<&'a [u8]
         }
     }
     None
-}
-
-/// The element that octets are, all of them.
-pub(crate) fn whole_element<'a>(octets: &'a [u8]) -> Option<Elem<'a>>
-    ensures { MatchOption result
-        ((element : DerElement) → IsKept octets.now element → ⊥)
-        (λ elem. IsKept octets.now elem.is.0) }
-{
-    let mut cursor = Cursor::new(octets);
-    let elem = cursor.next().ok()??;
-    if cursor.rest().is_empty() {
-        Some(elem)
-    } else {
-        None
-    }
 }

@@ -15,7 +15,6 @@ mod extension_view;
 mod first_extension;
 mod inner_fields;
 mod laws;
-mod optional;
 mod purposes;
 mod tbs_certificate;
 mod tbs_fields;

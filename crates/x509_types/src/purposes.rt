@@ -4,10 +4,10 @@ ghost use Rattle.std.specs.Prelude.{◌↔◌, IsTrue, MatchOption};
 ghost use Rattle.der_core.specs.DerElement.{DerElement};
 ghost use Rattle.x509_types.specs.Purposes.{HasSome, IsPurpose, HoldsPurpose, IsUsage, IsUsageFor};
 
-use crate::first_extension::{octets_named, whole_element};
+use crate::first_extension::octets_named;
 use asn1_types::oids::CE_EXT_KEY_USAGE;
 use der_core::tag::{OBJECT_IDENTIFIER, SEQUENCE};
-use der_core::{Elem, Kids, expect_leaf};
+use der_core::{Elem, Kids, expect_leaf, whole_element};
 
 /// Whether some of the extensions is an extended key usage that holds a purpose, by its contents
 /// octets.

@@ -2,13 +2,14 @@
 
 ghost use Rattle.std.specs.Prelude.{◌≡◌, ◌↔◌, IsTrue};
 
-use crate::optional::{copy_optional, push_explicit, push_leaf};
 use crate::tbs_fields::{EXTENSIONS, ISSUER_UNIQUE_ID, SUBJECT_UNIQUE_ID, TbsFields, VERSION};
 use crate::version::Version;
 use crate::{AlgorithmIdentifier, Extensions, Name, SubjectPublicKeyInfo, Validity};
 use asn1_types::IntegerAsn1;
 use der_core::tag::SEQUENCE;
-use der_core::{DerError, Elem, NewKids, Octets, Structure, Tree};
+use der_core::{
+    DerError, Elem, NewKids, Octets, Structure, Tree, copy_option, push_explicit, push_leaf,
+};
 use std::alloc::{AllocError, Global};
 
 /// What is signed of a certificate (RFC 5280 4.1.2). A version that is left out, which means V1, and
@@ -110,9 +111,9 @@ impl Structure for TbsCertificate {
             validity: self.validity.try_clone(alloc)?,
             subject: self.subject.try_clone(alloc)?,
             subject_public_key_info: self.subject_public_key_info.try_clone(alloc)?,
-            issuer_unique_id: copy_optional(alloc, &self.issuer_unique_id)?,
-            subject_unique_id: copy_optional(alloc, &self.subject_unique_id)?,
-            extensions: copy_optional(alloc, &self.extensions)?,
+            issuer_unique_id: copy_option(alloc, &self.issuer_unique_id)?,
+            subject_unique_id: copy_option(alloc, &self.subject_unique_id)?,
+            extensions: copy_option(alloc, &self.extensions)?,
         })
     }
 

@@ -9,13 +9,14 @@ ghost use Rattle.x509_types.specs.TbsElements.{TbsElements, tbs_of};
 ghost use Rattle.x509_types.specs.LentTbs.{elements_at};
 ghost use Rattle.x509_types.specs.TbsCertificate.{AreTbsFields};
 
-use crate::optional::{copy_octets, expect, expect_optional, read_optional};
 use crate::tbs_certificate::TbsCertificate;
 use crate::version::Version;
 use crate::{AlgorithmIdentifier, Extensions, Name, SubjectPublicKeyInfo, Validity};
 use asn1_types::IntegerAsn1;
 use der_core::tag::{INTEGER, SEQUENCE};
-use der_core::{DerError, Elem, Kids, Structure, leaf_at};
+use der_core::{
+    DerError, Elem, Kids, Structure, copy_octets, expect, expect_option, leaf_at, read_option,
+};
 use std::alloc::Global;
 
 /// The tag around the version.
@@ -87,14 +88,14 @@ impl<'a> TbsFields<'a> {
             ((tbs : TbsCertificate) → AreTbsFields (elements_at self.now) tbs → ⊥)
             (λ _. Fits AreTbsFields (elements_at self.now)) }
     {
-        expect_optional::<Version>(self.version)?;
+        expect_option::<Version>(self.version)?;
         expect_integer(self.serial_number)?;
         expect::<AlgorithmIdentifier>(self.signature)?;
         expect::<Name>(self.issuer)?;
         expect::<Validity>(self.validity)?;
         expect::<Name>(self.subject)?;
         expect::<SubjectPublicKeyInfo>(self.subject_public_key_info)?;
-        expect_optional::<Extensions>(self.extensions)?;
+        expect_option::<Extensions>(self.extensions)?;
         Some(())
     }
 
@@ -106,7 +107,7 @@ impl<'a> TbsFields<'a> {
     {
         let key = self.subject_public_key_info;
         Ok(TbsCertificate {
-            version: read_optional(alloc, self.version)?,
+            version: read_option(alloc, self.version)?,
             serial_number: IntegerAsn1::from_content(alloc, self.serial_number)?,
             signature: AlgorithmIdentifier::read_at(alloc, self.signature)?,
             issuer: Name::read_at(alloc, self.issuer)?,
@@ -115,7 +116,7 @@ impl<'a> TbsFields<'a> {
             subject_public_key_info: SubjectPublicKeyInfo::read_at(alloc, key)?,
             issuer_unique_id: copy_octets(alloc, self.issuer_unique_id)?,
             subject_unique_id: copy_octets(alloc, self.subject_unique_id)?,
-            extensions: read_optional(alloc, self.extensions)?,
+            extensions: read_option(alloc, self.extensions)?,
         })
     }
 }

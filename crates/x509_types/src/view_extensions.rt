@@ -9,13 +9,13 @@ ghost use Rattle.x509_types.specs.Purposes.{NamesPurpose, HasPurposes};
 
 use crate::cert_view::CertView;
 use crate::extension_parts::{flag_at, key_identifier_at, length_at};
-use crate::first_extension::{first_named, whole_element};
+use crate::first_extension::first_named;
 use crate::purposes::has_usage_for;
 use asn1_types::oids::{
     CE_AUTHORITY_KEY_IDENTIFIER, CE_BASIC_CONSTRAINTS, CE_EXT_KEY_USAGE, CE_SUBJECT_KEY_IDENTIFIER,
 };
 use der_core::tag::OCTET_STRING;
-use der_core::{Elem, Kids, leaf_at};
+use der_core::{Elem, Kids, leaf_at, whole_element};
 
 /// Of several extensions of one identifier the first counts.
 impl<'a> CertView<'a> {

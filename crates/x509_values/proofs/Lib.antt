@@ -1,4 +1,3 @@
 pub mod Constraints
-pub mod Found
 pub mod AuthorityKeys
 pub mod KeyUsages

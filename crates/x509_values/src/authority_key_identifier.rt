@@ -8,7 +8,9 @@ ghost use Rattle.x509_values.specs.Facts.Issuers.{HasIssuerTag-prop};
 
 use crate::authority_key_fields::{AuthorityKeyFields, KEY_IDENTIFIER, SERIAL_NUMBER};
 use der_core::tag::SEQUENCE;
-use der_core::{DerError, Elem, NewKids, Octets, Raw, Structure, Tree, leaf};
+use der_core::{
+    DerError, Elem, NewKids, Octets, Raw, Structure, Tree, copy_octets, copy_option, push_leaf,
+};
 use std::alloc::{AllocError, Global};
 
 /// Which key an authority signs with: by an identifier, or by the names of the issuer of its
@@ -61,16 +63,6 @@ impl AuthorityKeyIdentifier {
     }
 }
 
-/// A copy of octets that may be left out.
-fn keep_octets(alloc: Global, octets: Option<&[u8]>) -> Result<Option<Octets>, AllocError>
-    ensures { IfOk result (λ kept. kept ≡ option_copied octets.entry) }
-{
-    Ok(match octets {
-        Some(octets) => Some(Octets::from_slice(alloc, octets)?),
-        None => None,
-    })
-}
-
 /// A copy of an element that may be left out.
 fn keep_elem(alloc: Global, elem: Option<Elem<'_>>) -> Result<Option<Raw>, AllocError>
     ensures { IfOk result (λ kept. kept_option kept ≡ at_option elem.entry) }
@@ -97,9 +89,9 @@ impl Structure for AuthorityKeyIdentifier {
         let Some(fields) = AuthorityKeyFields::of(elem) else {
             return Err(DerError::Shape);
         };
-        let key_identifier = keep_octets(alloc, fields.key_identifier)?;
+        let key_identifier = copy_octets(alloc, fields.key_identifier)?;
         let issuer = keep_elem(alloc, fields.issuer)?;
-        let serial_number = keep_octets(alloc, fields.serial_number)?;
+        let serial_number = copy_octets(alloc, fields.serial_number)?;
         Ok(AuthorityKeyIdentifier {
             key_identifier,
             issuer,
@@ -109,25 +101,18 @@ impl Structure for AuthorityKeyIdentifier {
 
     fn write(&self, alloc: Global) -> Result<Tree, DerError> {
         let mut kids = NewKids::new(alloc);
-        if let Some(octets) = &self.key_identifier {
-            kids.push(leaf(alloc, KEY_IDENTIFIER, octets.as_slice())?)?;
-        }
+        push_leaf(alloc, &mut kids, KEY_IDENTIFIER, &self.key_identifier)?;
         if let Some(issuer) = &self.issuer {
             kids.push(issuer.write(alloc)?)?;
         }
-        if let Some(octets) = &self.serial_number {
-            kids.push(leaf(alloc, SERIAL_NUMBER, octets.as_slice())?)?;
-        }
+        push_leaf(alloc, &mut kids, SERIAL_NUMBER, &self.serial_number)?;
         Ok(kids.into_branch(SEQUENCE))
     }
 
     fn try_clone(&self, alloc: Global) -> Result<AuthorityKeyIdentifier, AllocError> {
-        let key_identifier = keep_octets(alloc, self.key_identifier())?;
-        let issuer = match &self.issuer {
-            Some(issuer) => Some(issuer.try_clone(alloc)?),
-            None => None,
-        };
-        let serial_number = keep_octets(alloc, self.serial_number())?;
+        let key_identifier = copy_octets(alloc, self.key_identifier())?;
+        let issuer = copy_option(alloc, &self.issuer)?;
+        let serial_number = copy_octets(alloc, self.serial_number())?;
         Ok(AuthorityKeyIdentifier {
             key_identifier,
             issuer,

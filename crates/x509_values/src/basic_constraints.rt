@@ -4,9 +4,9 @@ ghost use Rattle.std.specs.Prelude.{◌≡◌, ◌≢◌, ◌↔◌, ℕ, IfOk, 
 ghost use Rattle.der_core.specs.Encoding.{IsWellFormed};
 ghost use Rattle.x509_values.specs.BasicConstraints.{constraints_with, small_integer, IsBasicConstraints, HasBadLength, TakesLength};
 
-use crate::boolean::{next_boolean, write_boolean};
+use crate::boolean::next_boolean;
 use der_core::tag::{INTEGER, SEQUENCE};
-use der_core::{DerError, Elem, Kids, NewKids, Structure, Tree, leaf, leaf_at};
+use der_core::{DerError, Elem, Kids, NewKids, Structure, Tree, leaf, leaf_at, write_boolean};
 use std::alloc::{AllocError, Global};
 
 /// Whether a key is that of an authority, and how many authorities may stand below it (RFC 5280

@@ -1,13 +1,11 @@
 //! Flags that may be left out (X.690 8.2).
 
-ghost use Rattle.std.specs.Prelude.{◌≡◌, IfOk, MatchOption};
+ghost use Rattle.std.specs.Prelude.{MatchOption};
 ghost use Rattle.der_core.specs.Default.{HasBadFlag};
-ghost use Rattle.der_core.specs.Encoding.{IsWellFormed};
-ghost use Rattle.x509_values.specs.Boolean.{boolean, TakesBoolean};
+ghost use Rattle.x509_values.specs.Boolean.{TakesBoolean};
 
 use der_core::tag::BOOLEAN;
-use der_core::{Kids, Tree, boolean_at, leaf};
-use std::alloc::{AllocError, Global};
+use der_core::{Kids, boolean_at};
 
 /// The flag of a BOOLEAN that may be left out. A BOOLEAN of another length is none.
 pub(crate) fn next_boolean(kids: &mut Kids<'_>) -> Option<Option<bool>>
@@ -19,11 +17,4 @@ pub(crate) fn next_boolean(kids: &mut Kids<'_>) -> Option<Option<bool>>
         return Some(None);
     };
     Some(Some(boolean_at(elem)?))
-}
-
-/// The BOOLEAN of a flag: FF for TRUE (X.690 11.1).
-pub fn write_boolean(alloc: Global, b: bool) -> Result<Tree, AllocError>
-    ensures { IfOk result (λ tree. (tree ≡ boolean b) × IsWellFormed tree) }
-{
-    leaf(alloc, BOOLEAN, &[if b { 0xFF } else { 0x00 }])
 }

@@ -12,7 +12,6 @@ mod validity;
 
 pub use authority_key_identifier::AuthorityKeyIdentifier;
 pub use basic_constraints::BasicConstraints;
-pub use boolean::write_boolean;
 pub use extended_key_usage::{ExtendedKeyUsage, OidList};
 pub use key_usage::KeyUsage;
 pub use time::Time;

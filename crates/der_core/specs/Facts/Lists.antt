@@ -10,7 +10,7 @@ use Rattle.der_core.specs.Refusals.{RefusesShape, RefusesInner}
 use Rattle.der_core.specs.declared.error.DerError.{DerError}
 use Rattle.der_core.specs.declared.error.DerError.TheVariants as errors
 
-abbrev prints : {X : Type 0} → (X → DerElement) → DerElement → X → Type 0
+abbrev pub prints : {X : Type 0} → (X → DerElement) → DerElement → X → Type 0
 prints written element value = element ≡ written value
 
 pub each_written : {X : Type 0} (written : X → DerElement) (elements : List DerElement) (values : List X) → AreEach (prints written) elements values → elements ≡ map written values

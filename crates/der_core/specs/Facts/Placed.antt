@@ -1,5 +1,5 @@
 -- Octets are those of one element, or of one list of elements, for one reason.
-use Rattle.std.specs.Prelude.{◌≡◌, ℕ, List, [], ◌∷◌, ◌++◌, length}
+use Rattle.std.specs.Prelude.{◌≡◌, ℕ, List, [], ◌∷◌, ◌++◌}
 use Rattle.std.specs.Coded.{×_prop, Unit-prop}
 use Rattle.std.proofs.Common.{sym, ap, ◌∙◌, arith, length-append}
 use mathlib.Core.HLevel.{Σ_prop_path}

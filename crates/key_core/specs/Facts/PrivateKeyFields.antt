@@ -6,6 +6,7 @@ use Rattle.der_core.specs.Elements.{octet_string, optional_leaf}
 use Rattle.der_core.specs.Structure.{BeginsOtherwise}
 use Rattle.der_core.specs.Facts.Fields.{IsField, split}
 use Rattle.der_core.specs.Facts.Grammars.{same_fields}
+use Rattle.der_core.specs.Facts.Optional.{kept_once, leaf_once}
 use Rattle.key_core.specs.PrivateKeyFields.{HaveTag, private_key_info_of}
 
 attributes_field : (attributes : Option DerElement) → HaveTag attributes → IsField 0xA0 (option_to_list attributes)
@@ -16,18 +17,6 @@ other_tag : (public_key : Option (List ℕ)) → BeginsOtherwise 0xA0 (optional_
 other_tag None = tt
 other_tag (Some content) = λ e. omega (arith, e)
 
-leaves_once : (a b : Option (List ℕ)) → optional_leaf 0x81 a ≡ optional_leaf 0x81 b → a ≡ b
-leaves_once None None e = refl
-leaves_once None (Some y) e = absurd cc
-leaves_once (Some x) None e = absurd cc
-leaves_once (Some x) (Some y) e = let same : x ≡ y = cc in ap Some same
-
-lists_once : (a b : Option DerElement) → option_to_list a ≡ option_to_list b → a ≡ b
-lists_once None None e = refl
-lists_once None (Some y) e = absurd cc
-lists_once (Some x) None e = absurd cc
-lists_once (Some x) (Some y) e = let same : x ≡ y = cc in ap Some same
-
 pub fields_once : (v w a b : DerElement) (k l : List ℕ) (p q : Option DerElement) (m n : Option (List ℕ)) → HaveTag p → HaveTag q
     → private_key_info_of v a k p m ≡ private_key_info_of w b l q n → (v ≡ w) × (a ≡ b) × (k ≡ l) × (p ≡ q) × (m ≡ n)
 fields_once v w a b k l p q m n f g e =
@@ -37,4 +26,4 @@ fields_once v w a b k l p q m n f g e =
     let key : k ≡ l = cc in
     let others : option_to_list p ++ optional_leaf 0x81 m ≡ option_to_list q ++ optional_leaf 0x81 n = cc in
     let parts = split 0xA0 (option_to_list p) (option_to_list q) (optional_leaf 0x81 m) (optional_leaf 0x81 n) (attributes_field p f) (attributes_field q g) (λ none. other_tag m) (λ none. other_tag n) others in
-    (version, algorithm, key, lists_once p q parts.0, leaves_once m n parts.1)
+    (version, algorithm, key, kept_once p q parts.0, leaf_once 0x81 m n parts.1)

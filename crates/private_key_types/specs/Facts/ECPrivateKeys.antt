@@ -5,7 +5,7 @@ use Rattle.der_core.specs.DerElement.{DerElement, row}
 use Rattle.der_core.specs.Elements.{octet_string, optional_explicit}
 use Rattle.der_core.specs.Encoding.{AreWellFormed}
 use Rattle.der_core.specs.Structure.{IsGrammar, BeginsOtherwise}
-use Rattle.der_core.specs.Facts.Fields.{IsField, split}
+use Rattle.der_core.specs.Facts.Optional.{options_once, explicit_once, explicit_split, explicit_formed, option_formed, last_formed}
 use Rattle.der_core.specs.Facts.Grammars.{printed, same_fields}
 use Rattle.der_core.specs.Facts.OctetStrings.{octet_strings}
 use Rattle.asn1_types.specs.Elements.{object_identifier, bit_string}
@@ -14,35 +14,6 @@ use Rattle.asn1_types.specs.declared.oid.ObjectIdentifier.{ObjectIdentifier}
 use Rattle.asn1_types.specs.declared.bit_string.BitString.{BitString}
 use Rattle.private_key_types.specs.ECPrivateKey.{ec_version, ec_private_key_of, ec_private_key}
 use Rattle.private_key_types.specs.declared.ec_private_key.ECPrivateKey.{ECPrivateKey}
-
--- ---- fields under explicit tags
-
-explicit_field : (tag : ℕ) (kid : Option DerElement) → IsField tag (optional_explicit tag kid)
-explicit_field tag None = tt
-explicit_field tag (Some kid) = refl
-
-explicit_once : (tag : ℕ) (a b : Option DerElement) → optional_explicit tag a ≡ optional_explicit tag b → a ≡ b
-explicit_once tag None None e = refl
-explicit_once tag None (Some y) e = absurd cc
-explicit_once tag (Some x) None e = absurd cc
-explicit_once tag (Some x) (Some y) e = let same : x ≡ y = cc in ap Some same
-
-explicit_none : (tag : ℕ) (kid : Option DerElement) → optional_explicit tag kid ≡ [] → kid ≡ None
-explicit_none tag None e = refl
-explicit_none tag (Some kid) e = absurd cc
-
--- elements begin with such a field in one way
-pub explicit_split : (tag : ℕ) (a b : Option DerElement) (xs ys : List DerElement) → (a ≡ None → BeginsOtherwise tag xs) → (b ≡ None → BeginsOtherwise tag ys)
-    → optional_explicit tag a ++ xs ≡ optional_explicit tag b ++ ys → (a ≡ b) × (xs ≡ ys)
-explicit_split tag a b xs ys f g e =
-    let parts = split tag (optional_explicit tag a) (optional_explicit tag b) xs ys (explicit_field tag a) (explicit_field tag b) (λ none. f (explicit_none tag a none)) (λ none. g (explicit_none tag b none)) e in
-    (explicit_once tag a b parts.0, parts.1)
-
-pub options_once : {X : Type 0} (written : X → DerElement) → ((a b : X) → written a ≡ written b → a ≡ b) → (a b : Option X) → option_map written a ≡ option_map written b → a ≡ b
-options_once written one None None e = refl
-options_once written one None (Some y) e = absurd cc
-options_once written one (Some x) None e = absurd cc
-options_once written one (Some x) (Some y) e = let same : written x ≡ written y = cc in ap Some (one x y same)
 
 -- ---- keys
 
@@ -66,13 +37,9 @@ once a b e =
     let public_key : a.public_key ≡ b.public_key = options_once bit_string (λ x y e. bit_strings.once (bit_string x) x y refl e) a.public_key b.public_key parts.2 in
     λ i. record { private_key = private_key i; parameters = parameters i; public_key = public_key i }
 
-public_formed : (bits : Option BitString) → AreWellFormed (row (optional_explicit 0xA1 (option_map bit_string bits)))
-public_formed None = tt
-public_formed (Some bits) = (((omega arith, omega arith, omega arith), refl, (bit_strings.formed bits, tt)), tt)
-
 optional_formed : (curve : Option ObjectIdentifier) (bits : Option BitString) → AreWellFormed (row (optional_explicit 0xA0 (option_map object_identifier curve) ++ optional_explicit 0xA1 (option_map bit_string bits)))
-optional_formed None bits = public_formed bits
-optional_formed (Some curve) bits = (((omega arith, omega arith, omega arith), refl, (identifiers.formed curve, tt)), public_formed bits)
+optional_formed curve bits =
+    explicit_formed 0xA0 (option_map object_identifier curve) (optional_explicit 0xA1 (option_map bit_string bits)) (omega arith, omega arith, omega arith) refl (option_formed object_identifier identifiers.formed curve) (last_formed 0xA1 (option_map bit_string bits) (omega arith, omega arith, omega arith) refl (option_formed bit_string bit_strings.formed bits))
 
 pub ec_private_keys : IsGrammar (λ element key. element ≡ ec_private_key key) ec_private_key (λ key. [])
 ec_private_keys =

@@ -1,8 +1,9 @@
 -- Certificates: an element spells at most one, and what is written for one spells it.
-use Rattle.std.proofs.Common.{◌≡◌, [], ◌∷◌, refl, sym, subst, ◌∙◌, arith}
-use Rattle.der_core.specs.DerElement.{DerElement, DerElements, row}
+use Rattle.std.proofs.Common.{◌≡◌, ℕ, List, [], ◌∷◌, refl, sym, ap, subst, ◌∙◌, arith}
+use Rattle.der_core.specs.DerElement.{DerElement, DerElements, Primitive, row}
 use Rattle.der_core.specs.Encoding.{IsWellFormed}
 use Rattle.der_core.specs.Elements.{sequence}
+use Rattle.der_core.specs.Placed.{AreDer}
 use Rattle.der_core.specs.Structure.{IsGrammar}
 use Rattle.der_core.specs.Facts.Fronts.{formed_encoding_once}
 use Rattle.asn1_types.specs.Elements.{bit_string}
@@ -11,7 +12,9 @@ use Rattle.asn1_types.specs.declared.bit_string.BitString.{BitString}
 use Rattle.key_types.specs.AlgorithmIdentifier.{algorithm_identifier}
 use Rattle.key_types.specs.Facts.Algorithms.{algorithms}
 use Rattle.key_types.specs.declared.algorithm.AlgorithmIdentifier.{AlgorithmIdentifier}
+use Rattle.x509_types.specs.TbsElements.{tbs_of}
 use Rattle.x509_types.specs.TbsCertificate.{IsTbsCertificate, tbs_certificate}
+use Rattle.x509_types.specs.CertificateElements.{CertificateElements}
 use Rattle.x509_types.specs.Extension.{value_kinds}
 use Rattle.x509_types.specs.Certificate.{IsCertificate, certificate, certificate_octets, inner_certificate}
 use Rattle.x509_types.specs.Facts.ToldExtensions.{kinds_and_octets}
@@ -31,11 +34,33 @@ same_certificate a b tbs algorithm value i = record { tbs_certificate = tbs i; s
 pub same_three : (s t u x y z : DerElement) → sequence (s ∷ t ∷ u ∷ []) ≡ sequence (x ∷ y ∷ z ∷ []) → (s ≡ x) × (t ≡ y) × (u ≡ z)
 same_three s t u x y z e = (cc, cc, cc)
 
+-- the three elements in one that spells a certificate
+pub three_of : (element : DerElement) (c : Certificate) (p : IsCertificate element c) → element ≡ sequence (tbs_of p.elements.tbs ∷ algorithm_identifier c.signature_algorithm ∷ bit_string c.signature_value ∷ [])
+three_of element c p =
+    let f = p.elements in
+    p.is
+    ∙ ap (λ (x : DerElement). sequence (tbs_of f.tbs ∷ x ∷ Primitive 0x03 (f.unused ∷ f.signature) ∷ [])) p.spelled.algorithm
+    ∙ ap (λ (octets : List ℕ). sequence (tbs_of f.tbs ∷ algorithm_identifier c.signature_algorithm ∷ Primitive 0x03 octets ∷ [])) p.spelled.signature
+
+-- the first of them spells what is signed
+pub signed_in : (element : DerElement) (c : Certificate) (p : IsCertificate element c) → IsTbsCertificate (tbs_of p.elements.tbs) c.tbs_certificate
+signed_in element c p = record { elements = p.elements.tbs; is = refl; spelled = p.spelled.tbs }
+
 certificates_once : (element : DerElement) (a b : Certificate) → IsCertificate element a → IsCertificate element b → a ≡ b
 certificates_once element a b p q =
-    let same = same_three p.tbs (algorithm_identifier a.signature_algorithm) (bit_string a.signature_value) q.tbs (algorithm_identifier b.signature_algorithm) (bit_string b.signature_value) (sym p.is ∙ q.is) in
-    same_certificate a b (tbs_certificates.once q.tbs a.tbs_certificate b.tbs_certificate (subst (λ (e : DerElement). IsTbsCertificate e a.tbs_certificate) same.0 p.spelled) q.spelled)
+    let same = same_three (tbs_of p.elements.tbs) (algorithm_identifier a.signature_algorithm) (bit_string a.signature_value) (tbs_of q.elements.tbs) (algorithm_identifier b.signature_algorithm) (bit_string b.signature_value) (sym (three_of element a p) ∙ three_of element b q) in
+    same_certificate a b (tbs_certificates.once (tbs_of q.elements.tbs) a.tbs_certificate b.tbs_certificate (subst (λ (e : DerElement). IsTbsCertificate e a.tbs_certificate) same.0 (signed_in element a p)) (signed_in element b q))
     (same_algorithm a.signature_algorithm b.signature_algorithm same.1) (same_bits a.signature_value b.signature_value same.2)
+
+certificates_spelled : (c : Certificate) → AreDer (inner_certificate c) → IsCertificate (certificate c) c
+certificates_spelled c der =
+    let tbs = tbs_certificates.spelled c.tbs_certificate der in
+    let f : CertificateElements = record { tbs = tbs.elements; algorithm = algorithm_identifier c.signature_algorithm; unused = c.signature_value.unused; signature = c.signature_value.payload } in
+    record {
+      elements = f;
+      is = ap (λ (x : DerElement). sequence (x ∷ algorithm_identifier c.signature_algorithm ∷ bit_string c.signature_value ∷ [])) tbs.is;
+      spelled = record { tbs = tbs.spelled; algorithm = refl; signature = refl };
+    }
 
 certificates_told : (a b : Certificate) → value_kinds a.tbs_certificate.extensions ≡ value_kinds b.tbs_certificate.extensions → certificate a ≡ certificate b → a ≡ b
 certificates_told a b kinds e =
@@ -48,8 +73,8 @@ certificates_formed c = ((omega arith, omega arith, omega arith), refl, (tbs_cer
 pub certificates : IsGrammar IsCertificate certificate inner_certificate
 certificates = record {
   once = certificates_once;
-  bounded = λ element c p. tbs_certificates.bounded p.tbs c.tbs_certificate p.spelled;
-  spelled = λ c der. record { tbs = tbs_certificate c.tbs_certificate; is = refl; spelled = tbs_certificates.spelled c.tbs_certificate der };
+  bounded = λ element c p. tbs_certificates.bounded (tbs_of p.elements.tbs) c.tbs_certificate (signed_in element c p);
+  spelled = certificates_spelled;
   formed = certificates_formed;
 }
 

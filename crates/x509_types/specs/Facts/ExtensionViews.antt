@@ -5,7 +5,7 @@ use Rattle.der_core.specs.DerElement.{DerElement}
 use Rattle.der_core.specs.Encoding.{encoding, IsDer, IsWellFormed}
 use Rattle.der_core.specs.Placed.{AreDer}
 use Rattle.der_core.specs.Structure.{IsWithin, IsGrammar}
-use Rattle.der_core.specs.Facts.Fronts.{formed_encoding_once}
+use Rattle.der_core.specs.Facts.Within.{within_once, within_written, within_bounds, encoded_once}
 use Rattle.der_core.specs.Facts.OctetStrings.{octet_strings}
 use Rattle.x501_types.specs.GeneralName.{general_names, AreGeneralNames}
 use Rattle.x501_types.specs.Facts.GeneralNames.{general_name_lists}
@@ -29,24 +29,6 @@ use Rattle.x509_types.specs.declared.extension_view.ExtensionView.{ExtensionView
 use Rattle.x509_types.specs.declared.extension_view.ExtensionView.TheVariants as views
 
 -- ---- values within octets
-
--- octets hold at most one value
-within_once : {X : Type 0} (spells : DerElement → X → Type 0) (written : X → DerElement) → IsGrammar spells written (λ x. []) → (octets : List ℕ) (a b : X) → IsWithin spells octets a → IsWithin spells octets b → a ≡ b
-within_once spells written grammar octets a b p q =
-    let same = formed_encoding_once p.element q.element p.der.formed q.der.formed (sym p.encoded ∙ q.encoded) in
-    grammar.once q.element a b (subst (λ (e : DerElement). spells e a) same p.spelled) q.spelled
-
--- the encoding of what is written for a value holds it
-within_written : {X : Type 0} (spells : DerElement → X → Type 0) (written : X → DerElement) → IsGrammar spells written (λ x. []) → (value : X) → AreDer (written value ∷ []) → IsWithin spells (encoding (written value)) value
-within_written spells written grammar value der = record { element = written value; der = der.0; encoded = refl; spelled = grammar.spelled value tt }
-
--- a value that is written in one way is in bounds where it was read
-within_bounds : {X : Type 0} (written : X → DerElement) (octets : List ℕ) (value : X) → IsWithin (λ (element : DerElement) (x : X). element ≡ written x) octets value → AreDer (written value ∷ [])
-within_bounds written octets value p = (subst IsDer p.spelled p.der, tt)
-
--- values with one encoding are the same
-encoded_once : {X : Type 0} (written : X → DerElement) → ((a b : X) → written a ≡ written b → a ≡ b) → ((value : X) → IsWellFormed (written value)) → (a b : X) → encoding (written a) ≡ encoding (written b) → a ≡ b
-encoded_once written one formed a b e = one a b (formed_encoding_once (written a) (written b) (formed a) (formed b) e)
 
 printed_once : {X : Type 0} (written : X → DerElement) → IsGrammar (λ (element : DerElement) (x : X). element ≡ written x) written (λ x. []) → (a b : X) → encoding (written a) ≡ encoding (written b) → a ≡ b
 printed_once written grammar = encoded_once written (λ a b e. grammar.once (written a) a b refl e) grammar.formed
@@ -115,19 +97,19 @@ holds_of kind octets (views.ExtendedKeyUsage x) of = subst (λ (k : ExtensionKin
 holds_of kind octets (views.Raw x) of = kept_of kind octets x of.0 of.1
 
 names_once : (named : List RawGeneralName → ExtensionView) (octets : List ℕ) (a b : ExtensionView) → AreNames named octets a → AreNames named octets b → a ≡ b
-names_once named octets a b (inl p) (inl q) = p.1 ∙ ap named (within_once AreGeneralNames general_names general_name_lists octets p.0 q.0 p.2 q.2) ∙ sym q.1
+names_once named octets a b (inl p) (inl q) = p.1 ∙ ap named (within_once AreGeneralNames general_name_lists.once octets p.0 q.0 p.2 q.2) ∙ sym q.1
 names_once named octets a b (inl p) (inr q) = absurd (q.1 p.0 p.2)
 names_once named octets a b (inr p) (inl q) = absurd (p.1 q.0 q.2)
 names_once named octets a b (inr p) (inr q) = p.0 ∙ sym q.0
 
 holds_once : (kind : ExtensionKind) (octets : List ℕ) (a b : ExtensionView) → HoldsOf kind octets a → HoldsOf kind octets b → a ≡ b
-holds_once kinds.SubjectKeyIdentifier octets a b p q = p.1 ∙ ap views.SubjectKeyIdentifier (within_once (λ (element : DerElement) (k : List ℕ). element ≡ key_identifier k) key_identifier octet_strings octets p.0 q.0 p.2 q.2) ∙ sym q.1
-holds_once kinds.KeyUsage octets a b p q = p.1 ∙ ap views.KeyUsage (within_once (λ (element : DerElement) (u : KeyUsage). element ≡ key_usage u) key_usage key_usages octets p.0 q.0 p.2 q.2) ∙ sym q.1
+holds_once kinds.SubjectKeyIdentifier octets a b p q = p.1 ∙ ap views.SubjectKeyIdentifier (within_once (λ (element : DerElement) (k : List ℕ). element ≡ key_identifier k) octet_strings.once octets p.0 q.0 p.2 q.2) ∙ sym q.1
+holds_once kinds.KeyUsage octets a b p q = p.1 ∙ ap views.KeyUsage (within_once (λ (element : DerElement) (u : KeyUsage). element ≡ key_usage u) key_usages.once octets p.0 q.0 p.2 q.2) ∙ sym q.1
 holds_once kinds.SubjectAltName octets a b p q = names_once views.SubjectAltName octets a b p q
 holds_once kinds.IssuerAltName octets a b p q = names_once views.IssuerAltName octets a b p q
-holds_once kinds.BasicConstraints octets a b p q = p.1 ∙ ap views.BasicConstraints (within_once IsBasicConstraints basic_constraints all_basic_constraints octets p.0 q.0 p.2 q.2) ∙ sym q.1
-holds_once kinds.AuthorityKeyIdentifier octets a b p q = p.1 ∙ ap views.AuthorityKeyIdentifier (within_once (λ (element : DerElement) (a : AuthorityKeyIdentifier). element ≡ authority_key_identifier a) authority_key_identifier authority_key_identifiers octets p.0 q.0 p.2 q.2) ∙ sym q.1
-holds_once kinds.ExtendedKeyUsage octets a b p q = p.1 ∙ ap views.ExtendedKeyUsage (within_once (λ (element : DerElement) (u : ExtendedKeyUsage). element ≡ extended_key_usage u) extended_key_usage extended_key_usages octets p.0 q.0 p.2 q.2) ∙ sym q.1
+holds_once kinds.BasicConstraints octets a b p q = p.1 ∙ ap views.BasicConstraints (within_once IsBasicConstraints all_basic_constraints.once octets p.0 q.0 p.2 q.2) ∙ sym q.1
+holds_once kinds.AuthorityKeyIdentifier octets a b p q = p.1 ∙ ap views.AuthorityKeyIdentifier (within_once (λ (element : DerElement) (a : AuthorityKeyIdentifier). element ≡ authority_key_identifier a) authority_key_identifiers.once octets p.0 q.0 p.2 q.2) ∙ sym q.1
+holds_once kinds.ExtendedKeyUsage octets a b p q = p.1 ∙ ap views.ExtendedKeyUsage (within_once (λ (element : DerElement) (u : ExtendedKeyUsage). element ≡ extended_key_usage u) extended_key_usages.once octets p.0 q.0 p.2 q.2) ∙ sym q.1
 holds_once kinds.Other octets a b p q = p ∙ sym q
 
 pub values_once : (kind : ExtensionKind) (octets : List ℕ) (a b : ExtensionView) → IsValueOf kind octets a → IsValueOf kind octets b → a ≡ b

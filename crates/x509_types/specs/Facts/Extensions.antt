@@ -13,7 +13,7 @@ use Rattle.asn1_types.specs.Values.{identifier_contents}
 use Rattle.asn1_types.specs.Elements.{object_identifier}
 use Rattle.asn1_types.specs.Facts.Elements.{identifiers}
 use Rattle.asn1_types.specs.declared.oid.ObjectIdentifier.{ObjectIdentifier}
-use Rattle.x509_values.specs.Boolean.{default_false}
+use Rattle.der_core.specs.Default.{default_false}
 use Rattle.x509_types.specs.ExtensionFields.{IsExtensionOf}
 use Rattle.x509_types.specs.ExtensionKind.{kind_number, named_kind}
 use Rattle.x509_types.specs.ExtensionView.{kind_of, value_octets, inner_value, IsOfKind, IsValueIn}

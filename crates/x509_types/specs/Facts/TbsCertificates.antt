@@ -20,12 +20,12 @@ use Rattle.key_types.specs.Facts.Keys.{public_key_infos, infos_once}
 use Rattle.x509_types.specs.Version.{version}
 use Rattle.x509_types.specs.ExtensionView.{inner_value}
 use Rattle.x509_types.specs.Extension.{extension, value_kinds, IsExtension}
-use Rattle.x509_types.specs.Optional.{IsOptional, inner_option}
+use Rattle.der_core.specs.Optional.{SpellsOption, inner_option}
 use Rattle.x509_types.specs.TbsElements.{TbsElements}
 use Rattle.x509_types.specs.TbsCertificate.{IsVersion, IsExtensions, extensions, inner_extensions, AreTbsFields, IsTbsCertificate, tbs_elements, tbs_certificate, tbs_octets, inner_tbs}
 use Rattle.x509_types.specs.Facts.Extensions.{all_extensions}
 use Rattle.x509_types.specs.Facts.ToldExtensions.{options_told, kinds_and_octets}
-use Rattle.x509_types.specs.Facts.Optional.{optional_once, optional_bounded, optional_spelled, optional_printed, optional_formed}
+use Rattle.der_core.specs.Facts.Optional.{option_once, option_bounded, option_spelled, options_once, option_formed}
 use Rattle.x509_types.specs.Facts.TbsElements.{same_elements, elements_formed}
 use Rattle.x509_values.specs.Facts.Times.{validities, validities_once}
 use Rattle.x509_types.specs.Facts.Versions.{versions, versions_once}
@@ -70,7 +70,7 @@ same_tbs a b same i = record {
 fields_once : (f : TbsElements) (a b : TbsCertificate) → AreTbsFields f a → AreTbsFields f b → a ≡ b
 fields_once f a b p q =
     same_tbs a b (record {
-      version = optional_once IsVersion versions.once f.version a.version b.version p.version q.version;
+      version = option_once IsVersion versions.once f.version a.version b.version p.version q.version;
       serial_number = same_integer a.serial_number b.serial_number (sym p.serial_number ∙ q.serial_number);
       signature = algorithms.once f.signature a.signature b.signature p.signature q.signature;
       issuer = names.once f.issuer a.issuer b.issuer p.issuer q.issuer;
@@ -79,7 +79,7 @@ fields_once f a b p q =
       key = public_key_infos.once f.subject_public_key_info a.subject_public_key_info b.subject_public_key_info p.subject_public_key_info q.subject_public_key_info;
       issuer_unique_id = sym p.issuer_unique_id ∙ q.issuer_unique_id;
       subject_unique_id = sym p.subject_unique_id ∙ q.subject_unique_id;
-      extensions = optional_once IsExtensions extension_lists.once f.extensions a.extensions b.extensions p.extensions q.extensions;
+      extensions = option_once IsExtensions extension_lists.once f.extensions a.extensions b.extensions p.extensions q.extensions;
     })
 
 -- an element spells at most one
@@ -93,9 +93,9 @@ pub tbs_bounded : (f : TbsElements) (tbs : TbsCertificate) → AreTbsFields f tb
 tbs_bounded f tbs p =
     AreDer-append (inner_key tbs.subject_public_key_info.subject_public_key) (inner_option inner_extensions tbs.extensions)
     (public_key_infos.bounded f.subject_public_key_info tbs.subject_public_key_info p.subject_public_key_info)
-    (optional_bounded IsExtensions inner_extensions extension_lists.bounded f.extensions tbs.extensions p.extensions)
+    (option_bounded IsExtensions inner_extensions extension_lists.bounded f.extensions tbs.extensions p.extensions)
 
-version_spelled : (value : Option Version) → IsOptional IsVersion (option_map version value) value
+version_spelled : (value : Option Version) → SpellsOption IsVersion (option_map version value) value
 version_spelled None = tt
 version_spelled (Some value) = refl
 
@@ -114,7 +114,7 @@ tbs_spelled tbs der =
       subject_public_key_info = public_key_infos.spelled tbs.subject_public_key_info (AreDer-front key others der);
       issuer_unique_id = refl;
       subject_unique_id = refl;
-      extensions = optional_spelled IsExtensions extensions inner_extensions extension_lists.spelled tbs.extensions (AreDer-back key others der);
+      extensions = option_spelled IsExtensions extensions inner_extensions extension_lists.spelled tbs.extensions (AreDer-back key others der);
     }
 
 -- values whose extensions have values of the same kinds are told by their elements
@@ -122,7 +122,7 @@ pub tbs_told : (a b : TbsCertificate) → value_kinds a.extensions ≡ value_kin
 tbs_told a b kinds e =
     let same = same_elements (tbs_elements a) (tbs_elements b) e in
     same_tbs a b (record {
-      version = optional_printed version versions_once a.version b.version (ap (λ (f : TbsElements). f.version) same);
+      version = options_once version versions_once a.version b.version (ap (λ (f : TbsElements). f.version) same);
       serial_number = same_integer a.serial_number b.serial_number (ap (λ (f : TbsElements). f.serial_number) same);
       signature = algorithms.once (algorithm_identifier a.signature) a.signature b.signature refl (ap (λ (f : TbsElements). f.signature) same);
       issuer = names.once (name a.issuer) a.issuer b.issuer refl (ap (λ (f : TbsElements). f.issuer) same);
@@ -137,13 +137,13 @@ tbs_told a b kinds e =
 pub tbs_formed : (tbs : TbsCertificate) → IsWellFormed (tbs_certificate tbs)
 tbs_formed tbs =
     elements_formed (tbs_elements tbs) (record {
-      version = optional_formed version versions.formed tbs.version;
+      version = option_formed version versions.formed tbs.version;
       signature = algorithms.formed tbs.signature;
       issuer = names.formed tbs.issuer;
       validity = validities.formed tbs.validity;
       subject = names.formed tbs.subject;
       key = public_key_infos.formed tbs.subject_public_key_info;
-      extensions = optional_formed extensions extension_lists.formed tbs.extensions;
+      extensions = option_formed extensions extension_lists.formed tbs.extensions;
     })
 
 pub tbs_certificates : IsGrammar IsTbsCertificate tbs_certificate inner_tbs

@@ -7,27 +7,7 @@ use Rattle.der_core.specs.Facts.Grammars.{same_fields}
 use Rattle.der_core.specs.Elements.{optional_explicit, optional_leaf}
 use Rattle.x509_types.specs.TbsElements.{TbsElements, tbs_tail, tbs_of}
 use Rattle.der_core.specs.Facts.Fields.{IsField, split}
-use Rattle.x509_types.specs.Facts.Optional.{IsFormedOption}
-
-pub leaf_field : (tag : ℕ) (content : Option (List ℕ)) → IsField tag (optional_leaf tag content)
-leaf_field tag None = tt
-leaf_field tag (Some content) = refl
-
-pub explicit_field : (tag : ℕ) (kid : Option DerElement) → IsField tag (optional_explicit tag kid)
-explicit_field tag None = tt
-explicit_field tag (Some kid) = refl
-
-leaves_once : (tag : ℕ) (a b : Option (List ℕ)) → optional_leaf tag a ≡ optional_leaf tag b → a ≡ b
-leaves_once tag None None e = refl
-leaves_once tag None (Some y) e = absurd cc
-leaves_once tag (Some x) None e = absurd cc
-leaves_once tag (Some x) (Some y) e = let same : x ≡ y = cc in ap Some same
-
-explicits_once : (tag : ℕ) (a b : Option DerElement) → optional_explicit tag a ≡ optional_explicit tag b → a ≡ b
-explicits_once tag None None e = refl
-explicits_once tag None (Some y) e = absurd cc
-explicits_once tag (Some x) None e = absurd cc
-explicits_once tag (Some x) (Some y) e = let same : x ≡ y = cc in ap Some same
+use Rattle.der_core.specs.Facts.Optional.{IsFormedOption, leaf_field, leaf_once, leaf_formed, explicit_field, explicit_once, explicit_formed, last_formed}
 
 -- extensions aren't the identifier of the subject
 pub no_subject : (extensions : Option DerElement) → BeginsOtherwise 0x82 (optional_explicit 0xA3 extensions)
@@ -54,9 +34,9 @@ same_tail f g e =
     let issuers = split 0x81 (optional_leaf 0x81 f.issuer_unique_id) (optional_leaf 0x81 g.issuer_unique_id) (s ++ x) (t ++ y) (leaf_field 0x81 f.issuer_unique_id) (leaf_field 0x81 g.issuer_unique_id) (λ none. no_issuer f.subject_unique_id f.extensions) (λ none. no_issuer g.subject_unique_id g.extensions) e in
     let subjects = split 0x82 s t x y (leaf_field 0x82 f.subject_unique_id) (leaf_field 0x82 g.subject_unique_id) (λ none. no_subject f.extensions) (λ none. no_subject g.extensions) issuers.1 in
     record {
-      issuer = leaves_once 0x81 f.issuer_unique_id g.issuer_unique_id issuers.0;
-      subject = leaves_once 0x82 f.subject_unique_id g.subject_unique_id subjects.0;
-      extensions = explicits_once 0xA3 f.extensions g.extensions subjects.1;
+      issuer = leaf_once 0x81 f.issuer_unique_id g.issuer_unique_id issuers.0;
+      subject = leaf_once 0x82 f.subject_unique_id g.subject_unique_id subjects.0;
+      extensions = explicit_once 0xA3 f.extensions g.extensions subjects.1;
     }
 
 -- the fields behind the version
@@ -69,7 +49,7 @@ same_elements f g e =
     let versions = split 0xA0 (optional_explicit 0xA0 f.version) (optional_explicit 0xA0 g.version) (behind f) (behind g) (explicit_field 0xA0 f.version) (explicit_field 0xA0 g.version) (λ none t. omega (arith, t)) (λ none t. omega (arith, t))
     (same_fields (optional_explicit 0xA0 f.version ++ behind f) (optional_explicit 0xA0 g.version ++ behind g) e) in
     let kids : behind f ≡ behind g = versions.1 in
-    let version : f.version ≡ g.version = explicits_once 0xA0 f.version g.version versions.0 in
+    let version : f.version ≡ g.version = explicit_once 0xA0 f.version g.version versions.0 in
     let serial_number : f.serial_number ≡ g.serial_number = cc in
     let signature : f.signature ≡ g.signature = cc in
     let issuer : f.issuer ≡ g.issuer = cc in
@@ -91,18 +71,6 @@ same_elements f g e =
       extensions = tail.extensions i;
     }
 
-leaf_formed : (tag : ℕ) (content : Option (List ℕ)) (rest : List DerElement) → IsTag tag → form_bit tag ≡ 0 → AreWellFormed (row rest) → AreWellFormed (row (optional_leaf tag content ++ rest))
-leaf_formed tag None rest is_tag form formed = formed
-leaf_formed tag (Some content) rest is_tag form formed = ((is_tag, form), formed)
-
-explicit_formed : (tag : ℕ) (kid : Option DerElement) (rest : List DerElement) → IsTag tag → form_bit tag ≡ 1 → IsFormedOption kid → AreWellFormed (row rest) → AreWellFormed (row (optional_explicit tag kid ++ rest))
-explicit_formed tag None rest is_tag form inside formed = formed
-explicit_formed tag (Some kid) rest is_tag form inside formed = ((is_tag, form, (inside, tt)), formed)
-
-last_formed : (kid : Option DerElement) → IsFormedOption kid → AreWellFormed (row (optional_explicit 0xA3 kid))
-last_formed None inside = tt
-last_formed (Some kid) inside = (((omega arith, omega arith, omega arith), refl, (inside, tt)), tt)
-
 -- Each field is well formed.
 pub record AreFormed (f : TbsElements) : Type 0 where
   pub version : IsFormedOption f.version
@@ -115,7 +83,7 @@ pub record AreFormed (f : TbsElements) : Type 0 where
 
 pub elements_formed : (f : TbsElements) → AreFormed f → IsWellFormed (tbs_of f)
 elements_formed f formed =
-    let subject = leaf_formed 0x82 f.subject_unique_id (optional_explicit 0xA3 f.extensions) (omega arith, omega arith, omega arith) refl (last_formed f.extensions formed.extensions) in
+    let subject = leaf_formed 0x82 f.subject_unique_id (optional_explicit 0xA3 f.extensions) (omega arith, omega arith, omega arith) refl (last_formed 0xA3 f.extensions (omega arith, omega arith, omega arith) refl formed.extensions) in
     let tail = leaf_formed 0x81 f.issuer_unique_id (optional_leaf 0x82 f.subject_unique_id ++ optional_explicit 0xA3 f.extensions) (omega arith, omega arith, omega arith) refl subject in
     let serial : IsWellFormed (Primitive 0x02 f.serial_number) = ((omega arith, omega arith, omega arith), refl) in (
       (omega arith, omega arith, omega arith),

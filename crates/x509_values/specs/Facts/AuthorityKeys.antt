@@ -13,12 +13,9 @@ use Rattle.x509_values.specs.AuthorityIssuer.{HasIssuerTag}
 use Rattle.der_core.specs.Elements.{optional_leaf}
 use Rattle.x509_values.specs.AuthorityKeyIdentifier.{authority_key_identifier}
 use Rattle.der_core.specs.Facts.Fields.{IsField, split}
+use Rattle.der_core.specs.Facts.Optional.{leaf_once, leaf_split, leaf_formed}
 use Rattle.x509_values.specs.Facts.Issuers.{HasIssuerTag-prop}
 use Rattle.x509_values.specs.declared.authority_key_identifier.AuthorityKeyIdentifier.{AuthorityKeyIdentifier}
-
-pub leaf_field : (tag : ℕ) (content : Option (List ℕ)) → IsField tag (optional_leaf tag content)
-leaf_field tag None = tt
-leaf_field tag (Some content) = refl
 
 pub issuer_field : (issuer : Option DerElement) → HasIssuerTag issuer → IsField 0xA1 (option_to_list issuer)
 issuer_field None tagged = tt
@@ -32,12 +29,6 @@ pub no_key : (issuer : Option DerElement) (serial : Option (List ℕ)) → HasIs
 no_key None None tagged = tt
 no_key None (Some content) tagged = λ e. omega (arith, e)
 no_key (Some issuer) serial tagged = λ e. omega (arith, e, tagged)
-
-leaves_once : (tag : ℕ) (a b : Option (List ℕ)) → optional_leaf tag a ≡ optional_leaf tag b → a ≡ b
-leaves_once tag None None e = refl
-leaves_once tag None (Some y) e = absurd cc
-leaves_once tag (Some x) None e = absurd cc
-leaves_once tag (Some x) (Some y) e = let same : x ≡ y = cc in ap Some same
 
 issuers_once : (a b : Option KeptElement) → option_to_list (kept_option a) ≡ option_to_list (kept_option b) → a ≡ b
 issuers_once None None e = refl
@@ -62,9 +53,9 @@ authorities_once a b e =
     let s = optional_leaf 0x82 a.serial_number in
     let t = optional_leaf 0x82 b.serial_number in
     let kids = same_fields (optional_leaf 0x80 a.key_identifier ++ (i ++ s)) (optional_leaf 0x80 b.key_identifier ++ (j ++ t)) e in
-    let keys = split 0x80 (optional_leaf 0x80 a.key_identifier) (optional_leaf 0x80 b.key_identifier) (i ++ s) (j ++ t) (leaf_field 0x80 a.key_identifier) (leaf_field 0x80 b.key_identifier) (λ none. no_key (kept_option a.issuer) a.serial_number a.tagged) (λ none. no_key (kept_option b.issuer) b.serial_number b.tagged) kids in
+    let keys = leaf_split 0x80 a.key_identifier b.key_identifier (i ++ s) (j ++ t) (λ none. no_key (kept_option a.issuer) a.serial_number a.tagged) (λ none. no_key (kept_option b.issuer) b.serial_number b.tagged) kids in
     let issuers = split 0xA1 i j s t (issuer_field (kept_option a.issuer) a.tagged) (issuer_field (kept_option b.issuer) b.tagged) (λ none. no_issuer a.serial_number) (λ none. no_issuer b.serial_number) keys.1 in
-    same_authority a b (leaves_once 0x80 a.key_identifier b.key_identifier keys.0) (issuers_once a.issuer b.issuer issuers.0) (leaves_once 0x82 a.serial_number b.serial_number issuers.1)
+    same_authority a b keys.0 (issuers_once a.issuer b.issuer issuers.0) (leaf_once 0x82 a.serial_number b.serial_number issuers.1)
 
 serial_formed : (serial : Option (List ℕ)) → AreWellFormed (row (optional_leaf 0x82 serial))
 serial_formed None = tt
@@ -74,9 +65,5 @@ issuer_formed : (issuer : Option KeptElement) (serial : Option (List ℕ)) → A
 issuer_formed None serial = serial_formed serial
 issuer_formed (Some issuer) serial = (issuer.der.formed, serial_formed serial)
 
-key_formed : (key : Option (List ℕ)) (issuer : Option KeptElement) (serial : Option (List ℕ)) → AreWellFormed (row (optional_leaf 0x80 key ++ (option_to_list (kept_option issuer) ++ optional_leaf 0x82 serial)))
-key_formed None issuer serial = issuer_formed issuer serial
-key_formed (Some key) issuer serial = (((omega arith, omega arith, omega arith), refl), issuer_formed issuer serial)
-
 pub authority_key_identifiers : IsGrammar (λ element a. element ≡ authority_key_identifier a) authority_key_identifier (λ a. [])
-authority_key_identifiers = printed authority_key_identifier authorities_once (λ a. ((omega arith, omega arith, omega arith), refl, key_formed a.key_identifier a.issuer a.serial_number))
+authority_key_identifiers = printed authority_key_identifier authorities_once (λ a. ((omega arith, omega arith, omega arith), refl, leaf_formed 0x80 a.key_identifier (option_to_list (kept_option a.issuer) ++ optional_leaf 0x82 a.serial_number) (omega arith, omega arith, omega arith) refl (issuer_formed a.issuer a.serial_number)))

@@ -6,9 +6,9 @@ use Rattle.der_core.specs.DerElement.{DerElement, Primitive, tag_of}
 use Rattle.der_core.specs.Encoding.{IsDer, IsShort, IsWellFormed, length_octets}
 use Rattle.der_core.specs.Elements.{sequence}
 use Rattle.der_core.specs.Placed.{contents_octets}
-use Rattle.der_core.specs.Default.{IsBoolean, IsDefaultFalse}
+use Rattle.der_core.specs.Default.{IsBoolean, IsDefaultFalse, boolean, default_false}
 use Rattle.der_core.specs.Structure.{IsGrammar, BeginsOtherwise}
-use Rattle.x509_values.specs.Boolean.{boolean, default_false, optional_boolean, IsOptionalBoolean}
+use Rattle.x509_values.specs.Boolean.{optional_boolean, IsOptionalBoolean}
 use Rattle.x509_values.specs.BasicConstraints.{small_integer, optional_integer, basic_constraints, IsBasicConstraints, HasOtherTrue}
 use Rattle.der_core.specs.Facts.Grammars.{same_fields}
 use Rattle.der_core.specs.Facts.Fields.{IsField, split}

@@ -1,5 +1,5 @@
 use Rattle.std.proofs.Common.{sym, ◌∙◌}
-use Rattle.x509_types.proofs.Found.{found, missing}
+use Rattle.der_core.specs.Facts.Answers.{found, missing}
 use Rattle.x509_types.proofs.Spelled.{by_fields, of_fields}
 use Rattle.x509_types.proofs.tbs_certificate.TbsCertificateStructure.has_shape.Goals as goal
 

@@ -1,7 +1,7 @@
 use Rattle.std.proofs.lemmas.Result.{err_from_is_err_and}
 use Rattle.der_core.proofs.Inner.{refuses_before, refuses_last}
 use Rattle.key_types.specs.PublicKeyInfo.{inner_key}
-use Rattle.x509_types.specs.Optional.{inner_option}
+use Rattle.der_core.specs.Optional.{inner_option}
 use Rattle.x509_types.specs.TbsCertificate.{inner_extensions}
 use Rattle.x509_types.proofs.tbs_certificate.TbsCertificateStructure.write.Goals as goal
 

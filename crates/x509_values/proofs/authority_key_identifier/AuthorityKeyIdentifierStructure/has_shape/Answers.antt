@@ -1,6 +1,6 @@
 use Rattle.std.proofs.Common.{sym, ◌∙◌}
 use Rattle.x509_values.proofs.AuthorityKeys.{of_fields}
-use Rattle.x509_values.proofs.Found.{found}
+use Rattle.der_core.specs.Facts.Answers.{found}
 use Rattle.x509_values.proofs.authority_key_identifier.AuthorityKeyIdentifierStructure.has_shape.Goals as goal
 
 pub returns-clause-fits : goal.returns-clause-fits

@@ -1,5 +1,5 @@
 use Rattle.std.proofs.Common.{sym, ◌∙◌}
-use Rattle.x509_values.proofs.Found.{missing}
+use Rattle.der_core.specs.Facts.Answers.{missing}
 use Rattle.x509_values.proofs.basic_constraints.BasicConstraintsStructure.has_shape.Goals as goal
 
 pub returns-clause-unfit : goal.returns-clause-unfit

@@ -1,20 +1,37 @@
 //! Fields that may be left out.
 
-ghost use Rattle.std.specs.Prelude.{◌≡◌, ◌++◌, IfOk, OnOk, MatchOption, MatchResult, Option};
+ghost use Rattle.std.specs.Prelude.{◌≡◌, ◌++◌, false, IsTrue, IfOk, OnOk, MatchOption, MatchResult, Option};
 ghost use Rattle.std.specs.Option.{option_map, option_copied};
+ghost use Rattle.der_core.specs.Elements.{optional_explicit, optional_leaf};
 ghost use Rattle.der_core.specs.Encoding.{IsTag, form_bit};
 ghost use Rattle.der_core.specs.Lent.{at_option};
+ghost use Rattle.der_core.specs.Optional.{SpellsOption, inner_option};
 ghost use Rattle.der_core.specs.Placed.{AreDer};
 ghost use Rattle.der_core.specs.Refusals.{RefusesShape, RefusesInner};
 ghost use Rattle.der_core.specs.Structure.{Fits};
-ghost use Rattle.der_core.specs.Elements.{optional_explicit, optional_leaf};
-ghost use Rattle.x509_types.specs.Optional.{IsOptional, inner_option};
 
-use der_core::{DerError, Elem, NewKids, Octets, Structure, explicit, leaf};
+use crate::elem::Elem;
+use crate::error::DerError;
+use crate::leaves::leaf;
+use crate::new_kids::NewKids;
+use crate::octets::Octets;
+use crate::structure::Structure;
+use crate::tagging::explicit;
 use std::alloc::{AllocError, Global};
 
+/// Whether the element, where there is one, spells a value.
+pub fn has_option<T: Structure>(elem: Option<Elem<'_>>) -> bool
+    ensures fits { IsTrue result → Fits (SpellsOption T.spells) (at_option elem.entry) }
+    ensures unfit { result ≡ false → (value : Option T) → SpellsOption T.spells (at_option elem.entry) value → ⊥ }
+{
+    match elem {
+        Some(elem) => T::has_shape(elem),
+        None => true,
+    }
+}
+
 /// The element spells a value.
-pub(crate) fn expect<T: Structure>(elem: Elem<'_>) -> Option<()>
+pub fn expect<T: Structure>(elem: Elem<'_>) -> Option<()>
     ensures { MatchOption result
         ((value : T) → T.spells elem.entry.is.0 value → ⊥)
         (λ _. Fits T.spells elem.entry.is.0) }
@@ -23,23 +40,26 @@ pub(crate) fn expect<T: Structure>(elem: Elem<'_>) -> Option<()>
 }
 
 /// The element, where there is one, spells a value.
-pub(crate) fn expect_optional<T: Structure>(elem: Option<Elem<'_>>) -> Option<()>
+pub fn expect_option<T: Structure>(elem: Option<Elem<'_>>) -> Option<()>
     ensures { MatchOption result
-        ((value : Option T) → IsOptional T.spells (at_option elem.entry) value → ⊥)
-        (λ _. Fits (IsOptional T.spells) (at_option elem.entry)) }
+        ((value : Option T) → SpellsOption T.spells (at_option elem.entry) value → ⊥)
+        (λ _. Fits (SpellsOption T.spells) (at_option elem.entry)) }
 {
-    match elem {
-        Some(elem) => expect::<T>(elem),
-        None => Some(()),
+    if has_option::<T>(elem) {
+        Some(())
+    } else {
+        None
     }
 }
 
 /// The value that the element spells, where there is one.
-pub(crate) fn read_optional<T: Structure>(
+pub fn read_option<T: Structure>(
     alloc: Global,
     elem: Option<Elem<'_>>,
 ) -> Result<Option<T>, DerError>
-    ensures { MatchResult result (IsOptional T.spells (at_option elem.entry)) (RefusesShape (IsOptional T.spells (at_option elem.entry))) }
+    ensures { MatchResult result
+        (SpellsOption T.spells (at_option elem.entry))
+        (RefusesShape (SpellsOption T.spells (at_option elem.entry))) }
 {
     match elem {
         Some(elem) => Ok(Some(T::read_at(alloc, elem)?)),
@@ -48,10 +68,7 @@ pub(crate) fn read_optional<T: Structure>(
 }
 
 /// A copy of the value, where there is one.
-pub(crate) fn copy_optional<T: Structure>(
-    alloc: Global,
-    value: &Option<T>,
-) -> Result<Option<T>, AllocError>
+pub fn copy_option<T: Structure>(alloc: Global, value: &Option<T>) -> Result<Option<T>, AllocError>
     ensures { IfOk result (λ copy. copy ≡ value.now) }
 {
     match value {
@@ -61,10 +78,7 @@ pub(crate) fn copy_optional<T: Structure>(
 }
 
 /// A copy of the octets, where there are any.
-pub(crate) fn copy_octets(
-    alloc: Global,
-    octets: Option<&[u8]>,
-) -> Result<Option<Octets>, AllocError>
+pub fn copy_octets(alloc: Global, octets: Option<&[u8]>) -> Result<Option<Octets>, AllocError>
     ensures { IfOk result (λ copy. copy ≡ option_copied octets.entry) }
 {
     match octets {
@@ -74,7 +88,7 @@ pub(crate) fn copy_octets(
 }
 
 /// Appends the element of the value under an explicit tag, where there is one.
-pub(crate) fn push_explicit<T: Structure>(
+pub fn push_explicit<T: Structure>(
     alloc: Global,
     kids: &mut NewKids,
     tag: u8,
@@ -92,7 +106,7 @@ pub(crate) fn push_explicit<T: Structure>(
 }
 
 /// Appends a primitive element of the octets, where there are any.
-pub(crate) fn push_leaf(
+pub fn push_leaf(
     alloc: Global,
     kids: &mut NewKids,
     tag: u8,

@@ -1,5 +1,5 @@
 -- What is known of an answer by whether there is one.
-use Rattle.std.proofs.Common.{◌≡◌, Option, Some, None, MatchOption, true, false}
+use Rattle.std.specs.Prelude.{◌≡◌, Option, Some, None, MatchOption, true, false}
 use Rattle.std.specs.Option.{is_some}
 
 pub found : {X : Type 0} (o : Option X) (N : Type 0) (P : X → Type 0) → MatchOption o N P → is_some o ≡ true → (x : X) × P x
