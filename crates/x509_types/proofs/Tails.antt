@@ -5,20 +5,14 @@ use Rattle.der_core.specs.DerElement.{DerElement, Primitive}
 use Rattle.der_core.specs.Elements.{sequence, explicit, optional_leaf, optional_explicit}
 use Rattle.der_core.specs.Optional.{TakesExplicit, HasBadTagging}
 use Rattle.der_core.specs.Structure.{BeginsOtherwise, HasMore}
-use Rattle.der_core.specs.Facts.Fields.{split}
+use Rattle.der_core.specs.Facts.Optional.{explicit_split}
 use Rattle.der_core.specs.Facts.Grammars.{same_fields}
 use Rattle.x509_types.specs.TbsElements.{TbsElements, tbs_tail, tbs_of}
-use Rattle.x509_types.specs.Facts.TbsElements.{explicit_field, no_issuer, no_subject, behind}
-
-none_given : (tag : ℕ) (kid : Option DerElement) → optional_explicit tag kid ≡ [] → kid ≡ None
-none_given tag None e = refl
-none_given tag (Some kid) e = absurd cc
+use Rattle.x509_types.specs.Facts.TbsElements.{no_issuer, no_subject, behind}
 
 -- what is behind an element that may be left out
 pub explicit_gone : (tag : ℕ) (all rest after : List DerElement) (kid given : Option DerElement) → TakesExplicit tag all kid rest → all ≡ optional_explicit tag given ++ after → (given ≡ None → BeginsOtherwise tag after) → rest ≡ after
-explicit_gone tag all rest after kid given takes is other =
-    (split tag (optional_explicit tag kid) (optional_explicit tag given) rest after (explicit_field tag kid) (explicit_field tag given)
-    (λ e. takes.once (none_given tag kid e)) (λ e. other (none_given tag given e)) (sym takes.are ∙ is)).1
+explicit_gone tag all rest after kid given takes is other = (explicit_split tag kid given rest after takes.once other (sym takes.are ∙ is)).1
 
 pub leaf_gone : {R : Type 0} (now : R → List ℕ) (tag : ℕ) (found : Option R) (all rest after : List DerElement) (given : Option (List ℕ))
     → MatchOption found ((rest ≡ all) × BeginsOtherwise tag all) (λ x. all ≡ Primitive tag (now x) ∷ rest) → all ≡ optional_leaf tag given ++ after → BeginsOtherwise tag after → rest ≡ after

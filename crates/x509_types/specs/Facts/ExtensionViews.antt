@@ -1,8 +1,8 @@
 -- Values of extensions: octets hold at most one of a kind, and what is written for it holds it.
-use Rattle.std.proofs.Common.{◌≡◌, ◌⊎◌, inl, inr, ℕ, List, [], ◌∷◌, refl, ap, sym, subst, ◌∙◌}
+use Rattle.std.proofs.Common.{◌≡◌, ◌⊎◌, inl, inr, ℕ, List, [], refl, ap, sym, subst, ◌∙◌}
 use Rattle.std.proofs.Props.{props}
 use Rattle.der_core.specs.DerElement.{DerElement}
-use Rattle.der_core.specs.Encoding.{encoding, IsDer, IsWellFormed}
+use Rattle.der_core.specs.Encoding.{encoding}
 use Rattle.der_core.specs.Placed.{AreDer}
 use Rattle.der_core.specs.Structure.{IsWithin, IsGrammar}
 use Rattle.der_core.specs.Facts.Within.{within_once, within_written, within_bounds, encoded_once}

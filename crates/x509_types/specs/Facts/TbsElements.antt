@@ -1,12 +1,12 @@
 -- The fields of a TBSCertificate: unlike ones have unlike elements, and the element around well-formed ones is well formed.
-use Rattle.std.proofs.Common.{◌≡◌, ℕ, List, ◌∷◌, ◌++◌, Option, Some, None, refl, ap, arith}
-use Rattle.der_core.specs.DerElement.{DerElement, Primitive, row}
-use Rattle.der_core.specs.Encoding.{IsTag, IsWellFormed, AreWellFormed, form_bit}
+use Rattle.std.proofs.Common.{◌≡◌, ℕ, List, ◌∷◌, ◌++◌, Option, Some, None, refl, arith}
+use Rattle.der_core.specs.DerElement.{DerElement, Primitive}
+use Rattle.der_core.specs.Encoding.{IsWellFormed}
 use Rattle.der_core.specs.Structure.{BeginsOtherwise}
 use Rattle.der_core.specs.Facts.Grammars.{same_fields}
 use Rattle.der_core.specs.Elements.{optional_explicit, optional_leaf}
 use Rattle.x509_types.specs.TbsElements.{TbsElements, tbs_tail, tbs_of}
-use Rattle.der_core.specs.Facts.Fields.{IsField, split}
+use Rattle.der_core.specs.Facts.Fields.{split}
 use Rattle.der_core.specs.Facts.Optional.{IsFormedOption, leaf_field, leaf_once, leaf_formed, explicit_field, explicit_once, explicit_formed, last_formed}
 
 -- extensions aren't the identifier of the subject
