@@ -19,6 +19,7 @@ import demo_signatures
 import oid_table
 import reader_stand_in
 import run_program
+import world_certificates
 from certificate_cases import (
     AGREED, AGREEMENT_KEYS, GENERATED, KEY_LABELS, LABELS, REQUESTED, SIGNING_KEYS, WRITTEN,
     Key, Requested,
@@ -46,6 +47,7 @@ from hostile_inputs import ROWS
 from stored_answers import stored_files
 from value_answers import stored_files as stored_values
 from value_reader import WORDS, dotted, name_text, structure_line
+from world_check import Differs, Fields, openssl_check
 
 CRATES = Path(__file__).resolve().parent.parent / "crates"
 
@@ -346,6 +348,23 @@ class ValueAnswersTest(unittest.TestCase):
 
     def test_demonstration_signatures_of_the_crate(self):
         self.assertTrue(demo_signatures.stands())
+
+
+@unittest.skipUnless(which("openssl"), "openssl isn't there")
+class WorldCertificatesTest(unittest.TestCase):
+
+    def test_openssl_says_the_same(self):
+        for label, octets in world_certificates.stored():
+            with self.subTest(label):
+                openssl_check(Fields(octets), octets)
+
+    def test_another_field(self):
+        octets = dict(world_certificates.stored())["path length 0"]
+        for field, value in ("serial", 78), ("path_length", "1"), ("version", 2), ("subject_id", "-"):
+            fields = Fields(octets)
+            setattr(fields, field, value)
+            with self.assertRaises(Differs, msg=field):
+                openssl_check(fields, octets)
 
 
 class CmsAnswersTest(unittest.TestCase):

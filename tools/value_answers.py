@@ -18,13 +18,16 @@ keys are among the rows that openssl made (`private_key_rows.txt`, from
 
 import sys
 from datetime import datetime
-from itertools import filterfalse
+from hashlib import sha256
+from itertools import chain, filterfalse
 
 import cms_rows
+import hostile_certificates as hostile
 import private_keys
 import structure_rows as structures
 import value_rows as values
 import whole_certificates
+import world_certificates
 from certificate_parts import STORED, rows_of
 from cms_reader import cms_line
 from der_reader import Constructed, Malformed, Primitive, read_exact, read_first, write
@@ -485,6 +488,58 @@ def whole_certificate_rows():
         yield f"unlike certificate {one.hex()} {other.hex()}", "equal"
 
 
+def shown_fault(refusal):
+    return f"{FAULTS[refusal.fault]} at octet {refusal.at}"
+
+
+def digest(line):
+    """The first half of the SHA-256 of a line."""
+    return sha256(line.encode("ascii")).digest()[:16].hex()
+
+
+def kept_line(octets):
+    """Whether a certificate comes back as it was read, and the digest of its fields; or the refusal."""
+    try:
+        answer, *fields = structure_line("certificate", octets).split(" ", 1)
+    except Malformed as refusal:
+        return shown_fault(refusal)
+    return " ".join((answer, *map(digest, fields)))
+
+
+def lent_line(octets):
+    """The digest of the fields of a certificate where it lies; or the refusal."""
+    if not octets:
+        return "none"
+    try:
+        _, taken = read_first(octets)
+    except Malformed as refusal:
+        return shown_fault(refusal)
+    if taken < len(octets):
+        return f"{len(octets) - taken} behind"
+    line = view_line(octets)
+    return line if line == "Shape" else digest(line)
+
+
+def both_line(octets, answer):
+    """What the value that is kept answers, and the one that is lent; the row says how it begins."""
+    line = f"{kept_line(octets)} | {lent_line(octets)}"
+    fault, *place = answer.split()
+    begins = f"{FAULTS[fault]} at octet {place[0]} |" if place else f"{answer} "
+    assert line.startswith(begins), (answer, line)
+    return line
+
+
+def world_rows():
+    """Certificates of the world, hostile ones, and long ones that the program puts together."""
+    for label, octets in world_certificates.stored():
+        yield f"both certificate {octets.hex()}", both_line(octets, "same")
+    for answer, octets, _ in hostile.ROWS:
+        yield f"both certificate {word(octets)}", both_line(octets, answer)
+    for answer, (begin, part, times, end), _ in hostile.LONG:
+        call = f"both certificate {word(begin)} {word(part)} {times} {word(end)}"
+        yield call, both_line(begin + part * times + end, answer)
+
+
 def cms_row(kind, element, is_read):
     line = cms_line(kind, bytes.fromhex(element))
     assert (line != "Shape") == is_read, (kind, element, line)
@@ -522,7 +577,13 @@ NO_CURVE = "ED error: the algorithm is none of Ed25519, X25519, Ed448 and X448"
 
 FAULTS = {
     "Truncated": "the octets end within the element",
+    "ReservedTag": "the reserved tag 0",
+    "HighTag": "a tag number above 30",
     "Indefinite": "an indefinite length",
+    "NotShortest": "a length that is not in its shortest form",
+    "WideLength": "a length of more than four octets",
+    "TooDeep": "an element nested deeper than 64 levels",
+    "Overrun": "an element that runs past the end of the one around it",
     "Trailing": "octets after the element",
 }
 
@@ -532,7 +593,7 @@ def unread(element, octets, made):
     try:
         return made(read_exact(octets))
     except Malformed as refusal:
-        why = f"malformed DER: {FAULTS[refusal.fault]} at octet {refusal.at}"
+        why = f"malformed DER: {shown_fault(refusal)}"
     except Shape:
         why = OTHER
     return f"(ASN1) couldn't deserialize {element}: {why}"
@@ -704,7 +765,7 @@ def stored_files():
         *stored_run("value_answers", value_rows()),
         *stored_run("structure_answers", filterfalse(is_extension, structure_rows())),
         *stored_run("extension_answers", filter(is_extension, structure_rows())),
-        *stored_run("certificate_answers", whole_certificate_rows()),
+        *stored_run("certificate_answers", chain(whole_certificate_rows(), world_rows())),
         *stored_run("cms_answers", signed_content_rows()),
     ])
 

@@ -1,7 +1,7 @@
 //! Rows, and what is answered to them.
 
 use crate::details::details;
-use crate::view;
+use crate::{both, view};
 use anyhow::{Result, bail};
 use der_core::DerError;
 use row_answers::{are_equal, comes_back, octets_of, shown_shape, value_of};
@@ -19,6 +19,17 @@ pub fn answer(alloc: Global, text: &str) -> Result<String> {
         ["view", "certificate", element] => {
             let element = octets_of(alloc, element)?;
             Ok(view::answer(alloc, &element)?)
+        }
+        ["both", "certificate", octets] => {
+            let octets = octets_of(alloc, octets)?;
+            both::answer(alloc, &octets)
+        }
+        ["both", "certificate", begin, part, times, end] => {
+            let begin = octets_of(alloc, begin)?;
+            let part = octets_of(alloc, part)?;
+            let end = octets_of(alloc, end)?;
+            let octets = both::repeated(alloc, &begin, &part, times.parse()?, &end)?;
+            both::answer(alloc, &octets)
         }
         ["unlike", "certificate", one, other] => {
             let one = octets_of(alloc, one)?;

@@ -76,7 +76,8 @@ fn said(alloc: Global, view: CertView<'_>) -> Result<String, AllocError> {
     format!(in alloc; "{ca} {length} {subject_key} {authority_key} {purposes} {code} {stamps}")
 }
 
-fn octets(elem: Option<Elem<'_>>) -> Option<&[u8]> {
+/// The octets of an element, where it is given.
+pub fn octets(elem: Option<Elem<'_>>) -> Option<&[u8]> {
     match elem {
         Some(elem) => Some(elem.whole),
         None => None,

@@ -1,0 +1,155 @@
+//! How long certificates take to be read, for `bench/certificates.py`.
+
+use crate::view::octets;
+use anyhow::Result;
+use asn1_types::oids::{KP_CODE_SIGNING, KP_TIME_STAMPING};
+use der_core::{Cursor, Structure};
+use std::alloc::Global;
+use std::io::Write;
+use std::time::CpuClock;
+use x509_types::{CertView, Certificate, Time};
+
+/// Reads each certificate of a file so many times, in each way. For each way a line is printed: its
+/// name, for each certificate 1 where it is read and 0 where it isn't, the nanoseconds that all took
+/// together, and a sum over what was read.
+pub fn print_times(
+    alloc: Global,
+    clock: &impl CpuClock,
+    file: &[u8],
+    times: u32,
+    out: &mut impl Write,
+) -> Result<()> {
+    let certificates = certificates_of(alloc, file)?;
+    print_way(alloc, clock, &certificates, times, out, Way::Lent)?;
+    print_way(alloc, clock, &certificates, times, out, Way::Kept)?;
+    Ok(())
+}
+
+/// A way in which a certificate is read.
+#[derive(Clone, Copy)]
+enum Way {
+    /// Where its octets lie, with each field.
+    Lent,
+    /// As a value of its own.
+    Kept,
+}
+
+impl Way {
+    fn name(self) -> &'static str {
+        match self {
+            Way::Lent => "view",
+            Way::Kept => "owned",
+        }
+    }
+
+    /// A number of what is read, so that the reading is needed; or that there is no certificate.
+    fn read(self, alloc: Global, octets: &[u8]) -> Option<usize> {
+        match self {
+            Way::Lent => lent(octets),
+            Way::Kept => kept(alloc, octets),
+        }
+    }
+}
+
+fn print_way(
+    alloc: Global,
+    clock: &impl CpuClock,
+    certificates: &[&[u8]],
+    times: u32,
+    out: &mut impl Write,
+    way: Way,
+) -> Result<()> {
+    let mut which = String::new(alloc);
+    for octets in certificates {
+        let is_read = way.read(alloc, octets).is_some();
+        which.push(if is_read { '1' } else { '0' })?;
+    }
+    let start = clock.thread_cpu_time()?;
+    let mut sum = 0usize;
+    for _ in 0..times {
+        for octets in certificates {
+            sum = sum.wrapping_add(way.read(alloc, octets).unwrap_or(0));
+        }
+    }
+    let nanos = clock.thread_cpu_time()?.saturating_sub(start).as_nanos();
+    let name = way.name();
+    writeln!(out, "{name} {which} {nanos} {sum}")?;
+    Ok(())
+}
+
+/// The elements of the file, one after another.
+fn certificates_of<'a>(alloc: Global, file: &'a [u8]) -> Result<Vec<&'a [u8]>> {
+    let mut certificates = Vec::new(alloc);
+    let mut cursor = Cursor::new(file);
+    for _ in 0..file.len() {
+        let Some(elem) = cursor.next()? else {
+            break;
+        };
+        certificates.push(elem.whole)?;
+    }
+    Ok(certificates)
+}
+
+fn kept(alloc: Global, octets: &[u8]) -> Option<usize> {
+    let certificate = Certificate::from_der(alloc, octets).ok()?;
+    Some(certificate.signature_value.payload_view().len())
+}
+
+fn lent(octets: &[u8]) -> Option<usize> {
+    let mut cursor = Cursor::new(octets);
+    let view = CertView::read(cursor.next().ok()??)?;
+    Some(fields(view).wrapping_add(said(view)))
+}
+
+/// How many octets the fields have.
+fn fields(view: CertView<'_>) -> usize {
+    let fields = [
+        view.tbs(),
+        octets(view.version()).unwrap_or(&[]),
+        view.serial(),
+        view.inner_algorithm(),
+        view.issuer(),
+        view.validity().whole,
+        view.subject(),
+        view.subject_public_key_info().whole,
+        view.key_algorithm(),
+        view.key(),
+        view.issuer_unique_id().unwrap_or(&[]),
+        view.subject_unique_id().unwrap_or(&[]),
+        octets(view.extensions()).unwrap_or(&[]),
+        view.algorithm(),
+        view.signature(),
+    ];
+    let mut sum = 0usize;
+    for field in fields {
+        sum = sum.wrapping_add(field.len());
+    }
+    sum
+}
+
+/// A sum over the years and what extensions say.
+fn said(view: CertView<'_>) -> usize {
+    let numbers = [
+        year(&view.not_before()),
+        year(&view.not_after()),
+        usize::from(view.ca() == Some(true)),
+        usize::from(view.path_length().unwrap_or(0)),
+        view.subject_key_identifier().unwrap_or(&[]).len(),
+        view.authority_key_identifier().unwrap_or(&[]).len(),
+        usize::from(view.has_purposes()),
+        usize::from(view.names(KP_CODE_SIGNING)),
+        usize::from(view.names(KP_TIME_STAMPING)),
+    ];
+    let mut sum = 0usize;
+    for number in numbers {
+        sum = sum.wrapping_add(number);
+    }
+    sum
+}
+
+fn year(time: &Time) -> usize {
+    match time {
+        Time::Utc(moment) => usize::from(moment.year()),
+        Time::Generalized(moment) => usize::from(moment.year()),
+    }
+}
