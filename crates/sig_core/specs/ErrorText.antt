@@ -19,7 +19,7 @@ abbrev pub scheme_error_text : SchemeError → List ℕ
 scheme_error_text scheme.Refused = codes "the signature scheme refused"
 scheme_error_text scheme.Memory = codes "out of memory"
 
--- what is told of a digest algorithm that signatures are not made with
+-- what is told of a digest algorithm that isn't converted
 abbrev pub unsupported_hash_text : UnsupportedHashAlgorithmError → List ℕ
 unsupported_hash_text error =
     codes "digests by " ++ digest_name error.algorithm ++ codes " are not supported"

@@ -1,8 +1,9 @@
 //! A signature scheme for demonstrations and tests.
 
-ghost use Rattle.std.specs.Prelude.{◌≡◌, ◌∷◌, ◌++◌, IfOk, IsErrOf, IsOk, Some, None};
+ghost use Rattle.std.specs.Prelude.{◌≡◌, ◌∷◌, ◌++◌, ℕ, List, false, IfOk, IsErrOf, IsOk, IsTrue, OnOk, Some, None, Err};
 ghost use Rattle.sha2.specs.Sha256.{sha256};
-ghost use Rattle.sig_core.specs.DemoScheme.{demo_key, demo_signature, demo_verdict, key_of_length};
+ghost use Rattle.sig_core.specs.Algorithm.{kind_of};
+ghost use Rattle.sig_core.specs.DemoScheme.{demo_key, demo_signature, demo_signs, demo_verdict, key_of_length};
 ghost use Rattle.sig_core.specs.declared.algorithm.SchemeKind.TheVariants.{Rsa};
 
 use crate::algorithm::{SchemeKind, SigAlg};
@@ -32,8 +33,6 @@ impl DemoScheme {
 }
 
 impl Scheme for DemoScheme {
-    ghost use Rattle.sig_core.specs.DemoScheme.{demo_signs};
-
     ghost judge = { λ _ alg key msg sig. demo_verdict alg key msg sig };
 
     ghost signs = { λ _ alg secret _. demo_signs alg secret };
@@ -72,7 +71,15 @@ impl Scheme for DemoScheme {
         alg: SigAlg,
         secret: &[u8],
         msg: &[u8],
-    ) -> Result<Vec<u8>, SchemeError> {
+    ) -> Result<Vec<u8>, SchemeError>
+        ensures signed { OnOk result (IsTrue (demo_signs alg secret.now)) }
+        // Accepted under the key of the secret.
+        ensures accepted { IfOk result (λ sig. (key : List ℕ) → demo_key (kind_of alg) secret.now ≡ Some key
+            → demo_verdict alg key msg.now sig.items ≡ Verdict.Accept) }
+        ensures refused { IsErrOf result SchemeError.Refused → demo_signs alg secret.now ≡ false }
+        // A secret without a key is refused, whatever memory there is.
+        ensures always { demo_signs alg secret.now ≡ false → result ≡ Err SchemeError.Refused }
+    {
         let key = self.public_of(alloc, alg.kind(), secret)?;
         Ok(Vec::from_slice(alloc, &signature(alg, &key, msg))?)
     }
@@ -82,7 +89,12 @@ impl Scheme for DemoScheme {
         alloc: Global,
         kind: SchemeKind,
         secret: &[u8],
-    ) -> Result<Vec<u8>, SchemeError> {
+    ) -> Result<Vec<u8>, SchemeError>
+        ensures derived { IfOk result (λ key. demo_key kind secret.now ≡ Some key.items) }
+        ensures refused { IsErrOf result SchemeError.Refused → demo_key kind secret.now ≡ None }
+        // A secret without a key is refused, whatever memory there is.
+        ensures always { demo_key kind secret.now ≡ None → result ≡ Err SchemeError.Refused }
+    {
         match kind {
             SchemeKind::Rsa => rsa_key(alloc, secret),
             SchemeKind::P256 => point(alloc, secret, 32),
@@ -109,6 +121,7 @@ fn signature(alg: SigAlg, key: &[u8], msg: &[u8]) -> [u8; SIGNATURE_LEN]
 fn rsa_key(alloc: Global, secret: &[u8]) -> Result<Vec<u8>, SchemeError>
     ensures derived { IfOk result (λ key. demo_key Rsa secret.now ≡ Some key.items) }
     ensures refused { IsErrOf result SchemeError.Refused → demo_key Rsa secret.now ≡ None }
+    ensures always { demo_key Rsa secret.now ≡ None → result ≡ Err SchemeError.Refused }
 {
     match RsaSecret::of(secret) {
         Some(secret) => Ok(secret.public_key(alloc)?),
@@ -121,6 +134,8 @@ fn point(alloc: Global, secret: &[u8], field: usize) -> Result<Vec<u8>, SchemeEr
     ensures derived { IfOk result (λ key. key_of_length field secret.now (0x04 ∷ secret.now ++ secret.now) ≡ Some key.items) }
     ensures refused { IsErrOf result SchemeError.Refused
         → key_of_length field secret.now (0x04 ∷ secret.now ++ secret.now) ≡ None }
+    ensures always { key_of_length field secret.now (0x04 ∷ secret.now ++ secret.now) ≡ None
+        → result ≡ Err SchemeError.Refused }
 {
     if secret.len() != field {
         return Err(SchemeError::Refused);
@@ -136,6 +151,7 @@ fn point(alloc: Global, secret: &[u8], field: usize) -> Result<Vec<u8>, SchemeEr
 fn digest(alloc: Global, secret: &[u8]) -> Result<Vec<u8>, SchemeError>
     ensures derived { IfOk result (λ key. key_of_length 32 secret.now (sha256 secret.now) ≡ Some key.items) }
     ensures refused { IsErrOf result SchemeError.Refused → key_of_length 32 secret.now (sha256 secret.now) ≡ None }
+    ensures always { key_of_length 32 secret.now (sha256 secret.now) ≡ None → result ≡ Err SchemeError.Refused }
 {
     if secret.len() != 32 {
         return Err(SchemeError::Refused);

@@ -7,7 +7,8 @@ use crate::hash::HashAlgorithm;
 use std::fmt;
 use thiserror::Error;
 
-/// A digest algorithm that signatures are not made with: SHA-224.
+/// A digest algorithm that isn't converted between `HashAlgorithm` and `ShaVariant`: SHA-224. Both
+/// types have it, it has an identifier, and signatures of RSA may be made with it.
 #[derive(Clone, Copy, PartialEq, Eq, Debug, Error)]
 pub struct UnsupportedHashAlgorithmError {
     /// The algorithm.

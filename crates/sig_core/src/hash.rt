@@ -60,7 +60,7 @@ impl HashAlgorithm {
     }
 
     /// What the algorithm is called.
-    pub(crate) fn name(self) -> &'static str
+    pub fn name(self) -> &'static str
         ensures { result.now ≡ digest_name self }
     {
         match self {

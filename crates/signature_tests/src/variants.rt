@@ -1,4 +1,4 @@
-//! Digest algorithms by their identifiers, and which signatures are made with.
+//! Digest algorithms by their identifiers, and which of them are converted.
 
 use asn1_types::ObjectIdentifier;
 use sig_core::{
