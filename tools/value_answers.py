@@ -573,7 +573,7 @@ def value_rows():
 
 OTHER = "the element has another structure than the one that is read"
 
-NO_CURVE = "ED error: the algorithm is none of Ed25519, X25519, Ed448 and X448"
+NO_CURVE = "ED error: the algorithm on a curve 25519 or 448 isn't supported"
 
 FAULTS = {
     "Truncated": "the octets end within the element",

@@ -3,3 +3,8 @@ pub mod Within
 pub mod InfoFields
 pub mod Curves
 pub mod Pkcs1Keys
+pub mod SignatureIdentifiers
+pub mod FirstBroken
+pub mod Unwritten
+pub mod Verifications
+pub mod KeyIdentifiers

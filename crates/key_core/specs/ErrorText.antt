@@ -1,5 +1,7 @@
 -- The texts of errors.
 use Rattle.std.specs.Prelude.{ℕ, List, ◌++◌, codes, Option, Some, None}
+use Rattle.key_types.specs.declared.key_kind.KeyKind.{KeyKind}
+use Rattle.key_types.specs.declared.key_kind.KeyKind.TheVariants as kinds
 use Rattle.key_core.specs.declared.element.Element.{Element}
 use Rattle.key_core.specs.declared.element.Element.TheVariants as elements
 use Rattle.key_core.specs.declared.error.KeyContext.{KeyContext}
@@ -24,8 +26,18 @@ element_text elements.RsaPublicKey = codes "rsa public key"
 -- why a key of a kind can't be had
 abbrev pub context_text : KeyContext → List ℕ
 context_text contexts.NotRsa = codes "the key is of another kind than RSA"
+context_text contexts.NotEc = codes "the key is no point of a named curve"
+context_text contexts.NotEd = codes "the key is none on a curve 25519 or 448"
 context_text contexts.CoordinateSize = codes "a coordinate hasn't as many octets as the field of the curve"
-context_text contexts.UnsupportedEd = codes "the algorithm is none of Ed25519, X25519, Ed448 and X448"
+context_text contexts.UnsupportedCurve = codes "the curve isn't supported"
+context_text contexts.UnsupportedEd = codes "the algorithm on a curve 25519 or 448 isn't supported"
+
+-- what a kind of keys is called
+abbrev pub kind_text : KeyKind → List ℕ
+kind_text kinds.Rsa = codes "RSA"
+kind_text kinds.Ec = codes "EC"
+kind_text kinds.Ed = codes "ED"
+kind_text kinds.Mldsa = codes "ML-DSA"
 
 -- What is told of a key that isn't read, made or written. Of an element that isn't read or written no contract says what is told.
 abbrev pub key_error_text : KeyError → Option (List ℕ)
@@ -34,4 +46,5 @@ key_error_text (errors.Asn1Deserialization element source) = None
 key_error_text (errors.Rsa context) = Some (codes "RSA error: " ++ context_text context)
 key_error_text (errors.EC context) = Some (codes "EC error: " ++ context_text context)
 key_error_text (errors.ED context) = Some (codes "ED error: " ++ context_text context)
+key_error_text (errors.UnsupportedAlgorithm algorithm) = Some (codes "unsupported algorithm: " ++ kind_text algorithm)
 key_error_text errors.Memory = Some (codes "out of memory")

@@ -1,5 +1,7 @@
 -- Why a key isn't read or written, by why its element isn't.
-use Rattle.std.specs.Prelude.{◌≡◌}
+use Rattle.std.specs.Prelude.{◌≡◌, ◌≢◌}
+use Rattle.der_core.specs.DerElement.{DerElement}
+use Rattle.der_core.specs.Writing.{RefusesToWrite}
 use Rattle.der_core.specs.declared.error.DerError.{DerError}
 use Rattle.der_core.specs.declared.error.DerError.TheVariants as der
 use Rattle.key_core.specs.declared.element.Element.{Element}
@@ -27,3 +29,8 @@ IsUnread element Refuses e = (source : DerError) × (e ≡ unread element source
 
 abbrev pub IsUnwritten : Element → (DerError → Type 0) → KeyError → Type 0
 IsUnwritten element Refuses e = (source : DerError) × (e ≡ unwritten element source) × Refuses source
+
+-- The element can't be written, for a cause other than want of memory.
+pub record CantBeWritten (element : DerElement) (source : DerError) : Type 0 where
+  pub cause : RefusesToWrite element source
+  pub not_memory : source ≢ der.Memory

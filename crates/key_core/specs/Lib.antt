@@ -10,4 +10,10 @@ pub mod EdAlgorithm
 pub mod MadeKeys
 pub mod Pkcs1
 pub mod ErrorText
+pub mod SignatureAlgorithm
+pub mod SchemeNames
+pub mod SignatureRules
+pub mod Verifying
+pub mod SignatureErrorText
+pub mod KeyIdentifier
 pub mod Facts

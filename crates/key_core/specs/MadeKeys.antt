@@ -59,6 +59,7 @@ RefusesCoordinates curve x y (errors.Asn1Deserialization element source) = ⊥
 RefusesCoordinates curve x y (errors.Rsa context) = ⊥
 RefusesCoordinates curve x y (errors.EC context) = (context ≡ contexts.CoordinateSize) × (AreCoordinates curve x y → ⊥)
 RefusesCoordinates curve x y (errors.ED context) = ⊥
+RefusesCoordinates curve x y (errors.UnsupportedAlgorithm kind) = ⊥
 RefusesCoordinates curve x y errors.Memory = ⊤
 
 -- A key on a curve 25519 or 448 by its octets (RFC 8410 3, 4): there are no parameters, and no bits are unused.
@@ -81,4 +82,5 @@ RefusesEd algorithm (errors.Asn1Deserialization element source) = ⊥
 RefusesEd algorithm (errors.Rsa context) = ⊥
 RefusesEd algorithm (errors.EC context) = ⊥
 RefusesEd algorithm (errors.ED context) = (context ≡ contexts.UnsupportedEd) × (NamesEd algorithm → ⊥)
+RefusesEd algorithm (errors.UnsupportedAlgorithm kind) = ⊥
 RefusesEd algorithm errors.Memory = ⊤

@@ -1,12 +1,13 @@
 //! Why a key isn't read, made or written.
 
 ghost use Rattle.std.specs.Prelude.{◌≡◌, Some};
-ghost use Rattle.key_core.specs.ErrorText.{context_text, key_error_text};
+ghost use Rattle.key_core.specs.ErrorText.{context_text, kind_text, key_error_text};
 ghost use Rattle.key_core.specs.KeyRefusals.{unread, unwritten};
 ghost use Rattle.key_core.specs.declared.error.KeyError.TheVariants.{Memory};
 
 use crate::element::Element;
 use der_core::DerError;
+use key_types::KeyKind;
 use std::alloc::{AllocError, AllocFailed};
 use std::fmt;
 use thiserror::Error;
@@ -25,6 +26,8 @@ pub enum KeyError {
     EC { context: KeyContext },
     /// A key on a curve 25519 or 448 can't be had.
     ED { context: KeyContext },
+    /// Keys of this kind aren't used so.
+    UnsupportedAlgorithm { algorithm: KeyKind },
     /// No memory was left.
     Memory,
 }
@@ -34,9 +37,15 @@ pub enum KeyError {
 pub enum KeyContext {
     /// The key is of another kind than RSA.
     NotRsa,
+    /// The key is no point of a named curve.
+    NotEc,
+    /// The key is none on a curve 25519 or 448.
+    NotEd,
     /// A coordinate hasn't as many octets as the field of the curve.
     CoordinateSize,
-    /// The algorithm is none of Ed25519, X25519, Ed448 and X448.
+    /// The curve is none of P-256, P-384 and P-521.
+    UnsupportedCurve,
+    /// The algorithm on a curve 25519 or 448 isn't known, or not used so.
     UnsupportedEd,
 }
 
@@ -62,19 +71,34 @@ impl KeyError {
     }
 }
 
+/// What a kind of keys is called.
+fn kind_name(kind: KeyKind) -> &'static str
+    ensures { result.now ≡ kind_text kind }
+{
+    match kind {
+        KeyKind::Rsa => "RSA",
+        KeyKind::Ec => "EC",
+        KeyKind::Ed => "ED",
+        KeyKind::Mldsa => "ML-DSA",
+    }
+}
+
 impl fmt::Display for KeyContext {
     ghost output = { λ context. Some (context_text context) };
 
     fn fmt<W: fmt::Write>(&self, f: &mut fmt::Formatter<W>) -> fmt::Result {
         match self {
             KeyContext::NotRsa => write!(f, "the key is of another kind than RSA"),
+            KeyContext::NotEc => write!(f, "the key is no point of a named curve"),
+            KeyContext::NotEd => write!(f, "the key is none on a curve 25519 or 448"),
             KeyContext::CoordinateSize => write!(
                 f,
                 "a coordinate hasn't as many octets as the field of the curve"
             ),
+            KeyContext::UnsupportedCurve => write!(f, "the curve isn't supported"),
             KeyContext::UnsupportedEd => write!(
                 f,
-                "the algorithm is none of Ed25519, X25519, Ed448 and X448"
+                "the algorithm on a curve 25519 or 448 isn't supported"
             ),
         }
     }
@@ -96,6 +120,9 @@ impl fmt::Display for KeyError {
             KeyError::Rsa { context } => write!(f, "RSA error: {context}"),
             KeyError::EC { context } => write!(f, "EC error: {context}"),
             KeyError::ED { context } => write!(f, "ED error: {context}"),
+            KeyError::UnsupportedAlgorithm { algorithm } => {
+                write!(f, "unsupported algorithm: {}", kind_name(*algorithm))
+            }
             KeyError::Memory => write!(f, "out of memory"),
         }
     }

@@ -1,6 +1,7 @@
 //! Keys: public keys, and private keys with their algorithms (RFC 5208 5, RFC 5958 2), as values,
 //! read from octets or trees and written as trees. The structures that they are made of stand in
-//! crates of their own, and are handed on here.
+//! crates of their own, and are handed on here. With keys stand the algorithms of signatures and
+//! the identifiers of keys.
 #![tactic(auto)]
 
 mod ec_curve;
@@ -8,17 +9,23 @@ mod ed_algorithm;
 mod element;
 mod error;
 mod key_algorithm;
+mod key_id;
 mod laws;
 mod private_key_fields;
 mod private_key_info;
 mod private_key_value;
 mod private_key_version;
 mod public_key;
+mod scheme_names;
+mod signature_algorithm;
+mod signature_error;
+mod signature_laws;
 
 pub use ec_curve::EcCurve;
 pub use ed_algorithm::EdAlgorithm;
 pub use element::Element;
 pub use error::{KeyContext, KeyError};
+pub use key_id::{KeyIdGenError, KeyIdGenMethod};
 pub use key_types::{AlgorithmIdentifier, KeyKind, RsaPublicKey, SubjectKey, SubjectPublicKeyInfo};
 pub use laws::{lists_have_each_curve, one_identifier_each, pkcs1_comes_back};
 pub use private_key_info::PrivateKeyInfo;
@@ -26,3 +33,9 @@ pub use private_key_types::{ECPrivateKey, RsaPrivateKey};
 pub use private_key_value::PrivateKeyValue;
 pub use private_key_version::PrivateKeyVersion;
 pub use public_key::PublicKey;
+pub use signature_algorithm::SignatureAlgorithm;
+pub use signature_error::{SigContext, SignatureError, Unsupported};
+pub use signature_laws::{
+    key_identifiers_are_of_keys, signature_algorithms_are_read_as_written,
+    signatures_have_one_answer,
+};

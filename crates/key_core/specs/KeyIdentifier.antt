@@ -1,0 +1,75 @@
+-- Identifiers of keys: digests of octets of a key.
+use Rattle.std.specs.Prelude.{◌≡◌, ◌≢◌, ◌⊎◌, ⊤, ℕ, List, [], ◌∷◌, ◌++◌, take}
+use Rattle.der_core.specs.Encoding.{encoding, IsDer}
+use Rattle.der_core.specs.Placed.{AreDer}
+use Rattle.der_core.specs.Refusals.{RefusesInner}
+use Rattle.der_core.specs.declared.error.DerError.{DerError}
+use Rattle.der_core.specs.declared.error.DerError.TheVariants as der
+use Rattle.key_types.specs.PublicKeyInfo.{public_key_info, inner_key}
+use Rattle.key_types.specs.RsaPublicKey.{rsa_public_key}
+use Rattle.key_types.specs.SubjectKey.{kind_of}
+use Rattle.key_types.specs.declared.key_info.SubjectPublicKeyInfo.{SubjectPublicKeyInfo}
+use Rattle.key_types.specs.declared.public_key.RsaPublicKey.{RsaPublicKey}
+use Rattle.key_types.specs.declared.subject_key.SubjectKey.{SubjectKey}
+use Rattle.key_types.specs.declared.subject_key.SubjectKey.TheVariants as keys
+use Rattle.sig_core.specs.Digest.{digest_of}
+use Rattle.sig_core.specs.declared.hash.HashAlgorithm.TheVariants.{MD5}
+use Rattle.key_core.specs.Pkcs1.{IsPkcs1Of}
+use Rattle.key_core.specs.KeyRefusals.{IsUnwritten, CantBeWritten}
+use Rattle.key_core.specs.declared.element.Element.TheVariants as elements
+use Rattle.key_core.specs.declared.error.KeyError.{KeyError}
+use Rattle.key_core.specs.declared.error.KeyError.TheVariants as key_errors
+use Rattle.key_core.specs.declared.key_id.KeyIdGenError.{KeyIdGenError}
+use Rattle.key_core.specs.declared.key_id.KeyIdGenError.TheVariants as errors
+use Rattle.key_core.specs.declared.key_id.KeyIdGenMethod.{KeyIdGenMethod}
+use Rattle.key_core.specs.declared.key_id.KeyIdGenMethod.TheVariants.{SPKFullDER, SPKValueHashedLeftmost160}
+
+-- The octets in the bits of a key (RFC 5280 4.1.2.7), without their tag, length and count of unused bits: of RSA the encoding of its
+-- RSAPublicKey.
+abbrev pub IsPayloadOf : SubjectKey → List ℕ → Type 0
+IsPayloadOf (keys.Rsa key) octets = IsPkcs1Of (keys.Rsa key) octets
+IsPayloadOf (keys.Ec bits) octets = octets ≡ bits.payload
+IsPayloadOf (keys.Ed bits) octets = octets ≡ bits.payload
+IsPayloadOf (keys.Mldsa bits) octets = octets ≡ bits.payload
+
+-- the whole SubjectPublicKeyInfo of a key can be written
+abbrev pub IsWholeOf : SubjectPublicKeyInfo → List ℕ → Type 0
+IsWholeOf info octets = (octets ≡ encoding (public_key_info info)) × IsDer (public_key_info info) × AreDer (inner_key info.subject_public_key)
+
+-- The digest of the whole SubjectPublicKeyInfo, or the first 160 bits of that of the bits (RFC 5280 4.2.1.2, RFC 7093 2).
+abbrev pub IsKeyIdentifier : KeyIdGenMethod → SubjectPublicKeyInfo → List ℕ → Type 0
+IsKeyIdentifier (SPKFullDER hash) info id = (octets : List ℕ) × IsWholeOf info octets × (id ≡ digest_of hash octets)
+IsKeyIdentifier (SPKValueHashedLeftmost160 hash) info id =
+    (octets : List ℕ) × IsPayloadOf info.subject_public_key octets × (hash ≢ MD5) × (id ≡ take 20 (digest_of hash octets))
+
+-- why there is no digest of the whole: it can't be written
+abbrev pub RefusesWhole : SubjectPublicKeyInfo → KeyIdGenError → Type 0
+RefusesWhole info (errors.InvalidKey source) =
+    IsUnwritten elements.SubjectPublicKeyInfo (RefusesInner (inner_key info.subject_public_key ++ public_key_info info ∷ [])) source
+    × (source ≢ key_errors.Memory)
+RefusesWhole info (errors.Asn1Serialization element source) = ⊥
+RefusesWhole info errors.Memory = ⊤
+
+-- why there is no digest of the bits: the RSAPublicKey in them can't be written
+abbrev pub RefusesPayload : SubjectKey → KeyIdGenError → Type 0
+RefusesPayload key (errors.InvalidKey source) = ⊥
+RefusesPayload key (errors.Asn1Serialization element source) =
+    (rsa : RsaPublicKey) × (key ≡ keys.Rsa rsa) × (element ≡ elements.RsaPublicKey) × CantBeWritten (rsa_public_key rsa) source
+RefusesPayload key errors.Memory = ⊤
+
+-- want of memory is told as such, any other cause by the RSAPublicKey and the cause
+abbrev pub payload_refusal : DerError → KeyIdGenError
+payload_refusal der.Memory = errors.Memory
+payload_refusal source = errors.Asn1Serialization elements.RsaPublicKey source
+
+-- Why a key has no identifier by a method. A digest by MD5 hasn't 160 bits.
+abbrev pub RefusesKeyIdentifier : KeyIdGenMethod → SubjectPublicKeyInfo → KeyIdGenError → Type 0
+RefusesKeyIdentifier (SPKFullDER hash) info e = RefusesWhole info e
+RefusesKeyIdentifier (SPKValueHashedLeftmost160 hash) info e =
+    ((hash ≡ MD5) × (e ≡ errors.InvalidKey (key_errors.UnsupportedAlgorithm (kind_of info.subject_public_key))))
+    ⊎ ((hash ≢ MD5) × RefusesPayload info.subject_public_key e)
+
+-- an error of a key as one of its identifier: want of memory is told as such
+abbrev pub key_id_refusal : KeyError → KeyIdGenError
+key_id_refusal key_errors.Memory = errors.Memory
+key_id_refusal source = errors.InvalidKey source

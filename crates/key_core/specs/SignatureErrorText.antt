@@ -1,0 +1,45 @@
+-- The texts of errors of signatures and of identifiers of keys.
+use Rattle.std.specs.Prelude.{ℕ, List, ◌++◌, codes, Option, Some, None}
+use Rattle.std.specs.Option.{option_map}
+use Rattle.asn1_types.specs.ObjectIdentifier.{dotted}
+use Rattle.sig_core.specs.Digest.{digest_name}
+use Rattle.key_core.specs.EcCurve.{curve_text}
+use Rattle.key_core.specs.ErrorText.{key_error_text}
+use Rattle.key_core.specs.declared.key_id.KeyIdGenError.{KeyIdGenError}
+use Rattle.key_core.specs.declared.key_id.KeyIdGenError.TheVariants as id_errors
+use Rattle.key_core.specs.declared.signature_error.SigContext.{SigContext}
+use Rattle.key_core.specs.declared.signature_error.SigContext.TheVariants as contexts
+use Rattle.key_core.specs.declared.signature_error.SignatureError.{SignatureError}
+use Rattle.key_core.specs.declared.signature_error.SignatureError.TheVariants as errors
+use Rattle.key_core.specs.declared.signature_error.Unsupported.{Unsupported}
+use Rattle.key_core.specs.declared.signature_error.Unsupported.TheVariants as unsupported
+
+-- what keeps a signature from being made or judged
+abbrev pub sig_context_text : SigContext → List ℕ
+sig_context_text contexts.SchemeRefused = codes "the signature scheme refused"
+sig_context_text contexts.Malformed = codes "the signature is malformed"
+sig_context_text contexts.HashNotSupported = codes "the digest algorithm isn't supported"
+sig_context_text contexts.KeySize = codes "the key hasn't 32 octets"
+sig_context_text contexts.NotForSigning = codes "the key isn't one for signatures"
+
+-- what an algorithm is called that isn't used
+abbrev pub unsupported_text : Unsupported → List ℕ
+unsupported_text (unsupported.Oid oid) = dotted oid.formed.arcs
+unsupported_text (unsupported.Hash hash) = digest_name hash
+unsupported_text (unsupported.Pairing curve hash) = curve_text curve ++ codes " with " ++ digest_name hash
+
+-- What is told of a signature that isn't made or accepted. Of a key that can't be written no contract says what is told.
+abbrev pub signature_error_text : SignatureError → Option (List ℕ)
+signature_error_text (errors.Key source) = option_map (λ text. codes "Key error: " ++ text) (key_error_text source)
+signature_error_text (errors.Rsa context) = Some (codes "RSA error: " ++ sig_context_text context)
+signature_error_text (errors.Ec context) = Some (codes "EC error: " ++ sig_context_text context)
+signature_error_text (errors.Ed context) = Some (codes "ED error: " ++ sig_context_text context)
+signature_error_text errors.BadSignature = Some (codes "invalid signature")
+signature_error_text (errors.UnsupportedAlgorithm algorithm) = Some (codes "unsupported algorithm: " ++ unsupported_text algorithm)
+signature_error_text errors.Memory = Some (codes "out of memory")
+
+-- what is told of a key that has no identifier, but for an element that can't be written
+abbrev pub key_id_error_text : KeyIdGenError → Option (List ℕ)
+key_id_error_text (id_errors.InvalidKey source) = option_map (λ text. codes "invalid key: " ++ text) (key_error_text source)
+key_id_error_text (id_errors.Asn1Serialization element source) = None
+key_id_error_text id_errors.Memory = Some (codes "out of memory")

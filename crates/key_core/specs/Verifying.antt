@@ -1,0 +1,145 @@
+-- When a scheme accepts a signature by a key, and why it doesn't.
+use Rattle.std.specs.Prelude.{◌≡◌, ◌≢◌, ℕ, List, [], ◌∷◌, ◌++◌, length, Some, None}
+use Rattle.der_core.specs.DerElement.{Primitive}
+use Rattle.der_core.specs.Lent.{kept_option}
+use Rattle.der_core.specs.declared.error.DerError.{DerError}
+use Rattle.asn1_types.specs.Values.{identifier_contents}
+use Rattle.asn1_types.specs.declared.bit_string.BitString.{BitString}
+use Rattle.key_types.specs.RsaPublicKey.{rsa_public_key}
+use Rattle.key_types.specs.SubjectKey.{kind_of}
+use Rattle.key_types.specs.declared.key_info.SubjectPublicKeyInfo.{SubjectPublicKeyInfo}
+use Rattle.key_types.specs.declared.key_kind.KeyKind.TheVariants as kinds
+use Rattle.key_types.specs.declared.public_key.RsaPublicKey.{RsaPublicKey}
+use Rattle.key_types.specs.declared.subject_key.SubjectKey.TheVariants as keys
+use Rattle.sig_core.specs.declared.algorithm.SigAlg.{SigAlg}
+use Rattle.sig_core.specs.declared.algorithm.SigAlg.TheVariants as algs
+use Rattle.sig_core.specs.declared.hash.HashAlgorithm.{HashAlgorithm}
+use Rattle.sig_core.specs.declared.scheme.Verdict.{Verdict}
+use Rattle.sig_core.specs.declared.scheme.Verdict.TheVariants as verdicts
+use Rattle.key_core.specs.EcCurve.{curve_identifier}
+use Rattle.key_core.specs.EdAlgorithm.{ed_identifier}
+use Rattle.key_core.specs.KeyRefusals.{CantBeWritten}
+use Rattle.key_core.specs.Pkcs1.{IsPkcs1Of}
+use Rattle.key_core.specs.SchemeNames.{rsa_alg, curve_for, ecdsa_alg}
+use Rattle.key_core.specs.SignatureRules.{Rule}
+use Rattle.key_core.specs.declared.ec_curve.EcCurve.{EcCurve}
+use Rattle.key_core.specs.declared.ed_algorithm.EdAlgorithm.{EdAlgorithm}
+use Rattle.key_core.specs.declared.ed_algorithm.EdAlgorithm.TheVariants as ed
+use Rattle.key_core.specs.declared.element.Element.TheVariants as elements
+use Rattle.key_core.specs.declared.error.KeyContext.TheVariants as key_contexts
+use Rattle.key_core.specs.declared.error.KeyError.TheVariants as key_errors
+use Rattle.key_core.specs.declared.signature_algorithm.SignatureAlgorithm.{SignatureAlgorithm}
+use Rattle.key_core.specs.declared.signature_algorithm.SignatureAlgorithm.TheVariants.{RsaPkcs1v15, Ecdsa, Ed25519}
+use Rattle.key_core.specs.declared.signature_error.SigContext.TheVariants as contexts
+use Rattle.key_core.specs.declared.signature_error.SignatureError.{SignatureError}
+use Rattle.key_core.specs.declared.signature_error.SignatureError.TheVariants as errors
+use Rattle.key_core.specs.declared.signature_error.Unsupported.TheVariants as unsupported
+
+-- A scheme's verdict on an algorithm, key bytes, a message and a signature.
+abbrev pub Judge : Type 0
+Judge = SigAlg → List ℕ → List ℕ → List ℕ → Verdict
+
+-- the algorithm of the key has the identifier of this curve as its parameters (RFC 5480 2.1.1)
+abbrev pub IsOnCurve : SubjectPublicKeyInfo → EcCurve → Type 0
+IsOnCurve info curve = kept_option info.algorithm.parameters ≡ Some (Primitive 0x06 (curve_identifier curve))
+
+-- the algorithm of the key has the identifier of this one on the curve 25519 (RFC 8410 3)
+abbrev pub IsOfEd : SubjectPublicKeyInfo → EdAlgorithm → Type 0
+IsOfEd info algorithm = identifier_contents info.algorithm.oid ≡ ed_identifier algorithm
+
+-- The octets are those of a point on this curve, which the key is (RFC 5480 2.2).
+pub record IsPointOn (curve : EcCurve) (info : SubjectPublicKeyInfo) (octets : List ℕ) : Type 0 where
+  pub bits : BitString
+  pub is : info.subject_public_key ≡ keys.Ec bits
+  pub on : IsOnCurve info curve
+  pub payload : octets ≡ bits.payload
+
+-- The octets are those of a key of Ed25519, which the key is: there are 32 (RFC 8032 5.1.5).
+pub record IsEd25519Key (info : SubjectPublicKeyInfo) (octets : List ℕ) : Type 0 where
+  pub bits : BitString
+  pub is : info.subject_public_key ≡ keys.Ed bits
+  pub of : IsOfEd info ed.Ed25519
+  pub payload : octets ≡ bits.payload
+  pub size : length octets ≡ 32
+
+-- The key is one for the algorithm, which a scheme knows by this name, with these key bytes.
+abbrev pub Fits : SignatureAlgorithm → SubjectPublicKeyInfo → SigAlg → List ℕ → Type 0
+Fits (RsaPkcs1v15 hash) info alg bytes = (alg ≡ rsa_alg hash) × IsPkcs1Of info.subject_public_key bytes
+Fits (Ecdsa hash) info alg bytes = (curve : EcCurve) × (curve_for hash ≡ Some curve) × (alg ≡ ecdsa_alg curve) × IsPointOn curve info bytes
+Fits Ed25519 info alg bytes = (alg ≡ algs.Ed25519) × IsEd25519Key info bytes
+
+-- The key is one for the algorithm, and the verdict on the signature of the message is this.
+pub record IsJudged (judge : Judge) (algorithm : SignatureAlgorithm) (info : SubjectPublicKeyInfo) (msg sig : List ℕ) (verdict : Verdict) : Type 0 where
+  pub alg : SigAlg
+  pub bytes : List ℕ
+  pub fits : Fits algorithm info alg bytes
+  pub judged : judge alg bytes msg sig ≡ verdict
+
+-- The scheme accepts the signature of the message by the key.
+abbrev pub Accepts : Judge → SignatureAlgorithm → SubjectPublicKeyInfo → List ℕ → List ℕ → Type 0
+Accepts judge algorithm info msg sig = IsJudged judge algorithm info msg sig verdicts.Accept
+
+-- ---- rules of verification, by what breaks them
+
+abbrev pub NotRsa : SubjectPublicKeyInfo → Rule
+NotRsa info e =
+    (kind_of info.subject_public_key ≢ kinds.Rsa) × (e ≡ errors.Key (key_errors.UnsupportedAlgorithm (kind_of info.subject_public_key)))
+
+-- the RSAPublicKey of the key has no encoding
+pub record Unwritable (info : SubjectPublicKeyInfo) (e : SignatureError) : Type 0 where
+  pub key : RsaPublicKey
+  pub is : info.subject_public_key ≡ keys.Rsa key
+  pub source : DerError
+  pub cause : CantBeWritten (rsa_public_key key) source
+  pub error : e ≡ errors.Key (key_errors.Asn1Serialization elements.RsaPublicKey source)
+
+abbrev pub NotEc : SubjectPublicKeyInfo → Rule
+NotEc info e = (kind_of info.subject_public_key ≢ kinds.Ec) × (e ≡ errors.Key (key_errors.EC key_contexts.NotEc))
+
+abbrev pub UnknownCurve : SubjectPublicKeyInfo → Rule
+UnknownCurve info e = ((curve : EcCurve) → IsOnCurve info curve → ⊥) × (e ≡ errors.Key (key_errors.EC key_contexts.UnsupportedCurve))
+
+-- keys on no curve sign the digest
+abbrev pub UnknownHash : HashAlgorithm → Rule
+UnknownHash hash e = (curve_for hash ≡ None) × (e ≡ errors.UnsupportedAlgorithm (unsupported.Hash hash))
+
+-- keys on the curve don't sign the digest
+abbrev pub Unpaired : SubjectPublicKeyInfo → HashAlgorithm → Rule
+Unpaired info hash e =
+    (curve : EcCurve) × IsOnCurve info curve × (curve_for hash ≢ Some curve) × (e ≡ errors.UnsupportedAlgorithm (unsupported.Pairing curve hash))
+
+abbrev pub NotEd : SubjectPublicKeyInfo → Rule
+NotEd info e = (kind_of info.subject_public_key ≢ kinds.Ed) × (e ≡ errors.Key (key_errors.ED key_contexts.NotEd))
+
+abbrev pub ForAgreement : SubjectPublicKeyInfo → Rule
+ForAgreement info e = IsOfEd info ed.X25519 × (e ≡ errors.Ed contexts.NotForSigning)
+
+abbrev pub NotEd25519 : SubjectPublicKeyInfo → Rule
+NotEd25519 info e = (IsOfEd info ed.Ed25519 → ⊥) × (e ≡ errors.Key (key_errors.ED key_contexts.UnsupportedEd))
+
+abbrev pub WrongSize : SubjectPublicKeyInfo → Rule
+WrongSize info e =
+    (bits : BitString) × (info.subject_public_key ≡ keys.Ed bits) × (length bits.payload ≢ 32) × (e ≡ errors.Ed contexts.KeySize)
+
+-- what is told of a signature that has no form
+abbrev pub malformed : SignatureAlgorithm → SignatureError
+malformed (RsaPkcs1v15 hash) = errors.Rsa contexts.Malformed
+malformed (Ecdsa hash) = errors.Ec contexts.Malformed
+malformed Ed25519 = errors.Ed contexts.Malformed
+
+abbrev pub Malformed : Judge → SignatureAlgorithm → SubjectPublicKeyInfo → List ℕ → List ℕ → Rule
+Malformed judge algorithm info msg sig e = IsJudged judge algorithm info msg sig verdicts.Malformed × (e ≡ malformed algorithm)
+
+abbrev pub Rejected : Judge → SignatureAlgorithm → SubjectPublicKeyInfo → List ℕ → List ℕ → Rule
+Rejected judge algorithm info msg sig e = IsJudged judge algorithm info msg sig verdicts.Reject × (e ≡ errors.BadSignature)
+
+-- The rules on the key, in their order.
+abbrev pub key_rules : SignatureAlgorithm → SubjectPublicKeyInfo → List Rule
+key_rules (RsaPkcs1v15 hash) info = NotRsa info ∷ []
+key_rules (Ecdsa hash) info = NotEc info ∷ UnknownCurve info ∷ UnknownHash hash ∷ Unpaired info hash ∷ []
+key_rules Ed25519 info = NotEd info ∷ ForAgreement info ∷ NotEd25519 info ∷ WrongSize info ∷ []
+
+-- The rules of a verification, in their order: on the key, on its writing, on the signature.
+abbrev pub verify_rules : Judge → SignatureAlgorithm → SubjectPublicKeyInfo → List ℕ → List ℕ → List Rule
+verify_rules judge algorithm info msg sig =
+    key_rules algorithm info ++ Unwritable info ∷ Malformed judge algorithm info msg sig ∷ Rejected judge algorithm info msg sig ∷ []

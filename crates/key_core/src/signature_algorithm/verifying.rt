@@ -1,0 +1,214 @@
+//! Verification of signatures.
+
+ghost use Rattle.std.specs.Prelude.{◌≡◌, ◌≢◌, [], ◌∷◌, ◌++◌, length, Some, Err, MatchOption, MatchResult};
+ghost use Rattle.key_core.specs.Pkcs1.{IsPkcs1Of};
+ghost use Rattle.key_core.specs.SchemeNames.{curve_for, ecdsa_alg};
+ghost use Rattle.key_core.specs.SignatureRules.{IsFirstBroken, RefusesBy};
+ghost use Rattle.key_core.specs.Verifying.{Accepts, Fits, IsJudged, IsOnCurve, IsEd25519Key, NotRsa, Unwritable, UnknownCurve, UnknownHash, Unpaired, key_rules, verify_rules, malformed};
+ghost use Rattle.key_core.specs.declared.ec_curve.EcCurve.{EcCurve};
+ghost use Rattle.key_core.specs.declared.signature_algorithm.SignatureAlgorithm.TheVariants as algorithms;
+ghost use Rattle.key_core.specs.declared.signature_error.SigContext.TheVariants as contexts;
+ghost use Rattle.key_core.specs.declared.signature_error.SignatureError.{SignatureError};
+ghost use Rattle.key_core.specs.declared.signature_error.SignatureError.TheVariants as errors;
+
+use super::SignatureAlgorithm;
+use crate::ec_curve::EcCurve;
+use crate::ed_algorithm::EdAlgorithm;
+use crate::error::{KeyContext, KeyError};
+use crate::public_key::PublicKey;
+use crate::scheme_names::{curve_for, ecdsa_alg, rsa_alg};
+use crate::signature_error::{SigContext, SignatureError, Unsupported};
+use asn1_types::BitString;
+use der_core::leaf_at;
+use der_core::tag::OBJECT_IDENTIFIER;
+use key_types::{KeyKind, SubjectKey, SubjectPublicKeyInfo};
+use sig_core::{HashAlgorithm, Scheme, SigAlg, Verdict};
+use std::alloc::Global;
+
+/// The octets of a public key of Ed25519 (RFC 8032 5.1.5).
+const ED25519_LEN: usize = 32;
+
+impl SignatureAlgorithm {
+    /// Whether the signature of the message is one by the key. The key has to be one for the
+    /// algorithm: of its kind, and for ECDSA on P-256 with SHA-256, on P-384 with SHA-384, or on
+    /// P-521 with SHA-512. The rest is the verdict of the scheme.
+    pub fn verify<S: Scheme>(
+        self,
+        alloc: Global,
+        public_key: &PublicKey,
+        msg: &[u8],
+        signature: &[u8],
+        scheme: &S,
+    ) -> Result<(), SignatureError>
+        ensures answer { MatchResult result
+            (λ _. Accepts (S.judge scheme.now) self public_key.now.info msg.now signature.now)
+            (RefusesBy (verify_rules (S.judge scheme.now) self public_key.now.info msg.now signature.now)) }
+        // A key that isn't one for the algorithm is refused, whatever memory there is.
+        ensures refused { (e : SignatureError) → IsFirstBroken (key_rules self public_key.now.info) e → result ≡ Err e }
+    {
+        let verdict = self.verdict(alloc, public_key, msg, signature, scheme)?;
+        match verdict {
+            Verdict::Accept => Ok(()),
+            Verdict::Reject => Err(SignatureError::BadSignature),
+            Verdict::Malformed => Err(self.malformed()),
+        }
+    }
+
+    /// The verdict of the scheme, where the key is one for the algorithm.
+    fn verdict<S: Scheme>(
+        self,
+        alloc: Global,
+        public_key: &PublicKey,
+        msg: &[u8],
+        signature: &[u8],
+        scheme: &S,
+    ) -> Result<Verdict, SignatureError>
+        ensures answer { MatchResult result
+            (IsJudged (S.judge scheme.now) self public_key.now.info msg.now signature.now)
+            (RefusesBy (key_rules self public_key.now.info ++ Unwritable public_key.now.info ∷ [])) }
+        ensures refused { (e : SignatureError) → IsFirstBroken (key_rules self public_key.now.info) e → result ≡ Err e }
+    {
+        match self {
+            SignatureAlgorithm::RsaPkcs1v15(hash) => {
+                let key = rsa_bytes(alloc, public_key)?;
+                Ok(scheme.verify(alloc, rsa_alg(hash), &key, msg, signature)?)
+            }
+            SignatureAlgorithm::Ecdsa(hash) => {
+                let (alg, point) = point_of(public_key, hash)?;
+                Ok(scheme.verify(alloc, alg, point, msg, signature)?)
+            }
+            SignatureAlgorithm::Ed25519 => {
+                let key = ed25519_bytes(public_key)?;
+                Ok(scheme.verify(alloc, SigAlg::Ed25519, key, msg, signature)?)
+            }
+        }
+    }
+
+    /// What is told of a signature that has no form.
+    fn malformed(self) -> SignatureError
+        ensures { result ≡ malformed self }
+    {
+        let context = SigContext::Malformed;
+        match self {
+            SignatureAlgorithm::RsaPkcs1v15(_) => SignatureError::Rsa { context },
+            SignatureAlgorithm::Ecdsa(_) => SignatureError::Ec { context },
+            SignatureAlgorithm::Ed25519 => SignatureError::Ed { context },
+        }
+    }
+}
+
+/// The key bytes of a key of RSA.
+fn rsa_bytes(alloc: Global, public_key: &PublicKey) -> Result<Vec<u8>, SignatureError>
+    ensures answer { MatchResult result
+        (λ bytes. IsPkcs1Of public_key.now.info.subject_public_key bytes.items)
+        (RefusesBy (NotRsa public_key.now.info ∷ Unwritable public_key.now.info ∷ [])) }
+    ensures refused { (e : SignatureError) → NotRsa public_key.now.info e → result ≡ Err e }
+{
+    let kind = public_key.kind();
+    if kind != KeyKind::Rsa {
+        return Err(SignatureError::Key {
+            source: KeyError::UnsupportedAlgorithm { algorithm: kind },
+        });
+    }
+    Ok(public_key.to_pkcs1(alloc)?)
+}
+
+/// A point on the curve whose keys sign the digest, with what a scheme calls the algorithm.
+fn point_of(public_key: &PublicKey, hash: HashAlgorithm) -> Result<(SigAlg, &[u8]), SignatureError>
+    ensures { MatchResult result
+        (λ point. Fits (algorithms.Ecdsa hash) public_key.now.info point.0 point.1.now)
+        (IsFirstBroken (key_rules (algorithms.Ecdsa hash) public_key.now.info)) }
+{
+    let info = public_key.as_spki();
+    let SubjectKey::Ec(bits) = &info.subject_public_key else {
+        return Err(SignatureError::Key {
+            source: KeyError::EC {
+                context: KeyContext::NotEc,
+            },
+        });
+    };
+    let alg = paired(info, hash)?;
+    Ok((alg, bits.payload_view()))
+}
+
+/// What a scheme calls ECDSA with the digest by keys on the curve of the key.
+fn paired(info: &SubjectPublicKeyInfo, hash: HashAlgorithm) -> Result<SigAlg, SignatureError>
+    ensures { MatchResult result
+        (λ alg. (curve : EcCurve) × (curve_for hash ≡ Some curve) × (alg ≡ ecdsa_alg curve) × IsOnCurve info.now curve)
+        (IsFirstBroken (UnknownCurve info.now ∷ UnknownHash hash ∷ Unpaired info.now hash ∷ [])) }
+{
+    let Some(curve) = curve_of(info) else {
+        return Err(SignatureError::Key {
+            source: KeyError::EC {
+                context: KeyContext::UnsupportedCurve,
+            },
+        });
+    };
+    let Some(signing) = curve_for(hash) else {
+        return Err(SignatureError::UnsupportedAlgorithm {
+            algorithm: Unsupported::Hash(hash),
+        });
+    };
+    if signing != curve {
+        return Err(SignatureError::UnsupportedAlgorithm {
+            algorithm: Unsupported::Pairing(curve, hash),
+        });
+    }
+    Ok(ecdsa_alg(curve))
+}
+
+/// The curve that the parameters of a point name.
+fn curve_of(info: &SubjectPublicKeyInfo) -> Option<EcCurve>
+    ensures { MatchOption result
+        ((curve : EcCurve) → IsOnCurve info.now curve → ⊥)
+        (λ curve. IsOnCurve info.now curve) }
+{
+    let parameters = info.algorithm.parameters()?;
+    let oid = leaf_at(parameters.elem(), OBJECT_IDENTIFIER)?;
+    match EcCurve::named(oid) {
+        Some(curve) => Some(curve),
+        None => None,
+    }
+}
+
+/// The octets of a key of Ed25519.
+fn ed25519_bytes(public_key: &PublicKey) -> Result<&[u8], SignatureError>
+    ensures { MatchResult result
+        (λ bytes. IsEd25519Key public_key.now.info bytes.now)
+        (IsFirstBroken (key_rules algorithms.Ed25519 public_key.now.info)) }
+{
+    let info = public_key.as_spki();
+    let SubjectKey::Ed(bits) = &info.subject_public_key else {
+        return Err(SignatureError::Key {
+            source: KeyError::ED {
+                context: KeyContext::NotEd,
+            },
+        });
+    };
+    match EdAlgorithm::named(info.algorithm.oid().as_bytes()) {
+        Some(EdAlgorithm::Ed25519) => sized(bits),
+        Some(EdAlgorithm::X25519) => Err(SignatureError::Ed {
+            context: SigContext::NotForSigning,
+        }),
+        None => Err(SignatureError::Key {
+            source: KeyError::ED {
+                context: KeyContext::UnsupportedEd,
+            },
+        }),
+    }
+}
+
+/// The octets, which are as many as a key of Ed25519 has.
+fn sized(bits: &BitString) -> Result<&[u8], SignatureError>
+    ensures { MatchResult result
+        (λ bytes. (bytes.now ≡ bits.now.payload) × (length bytes.now ≡ 32))
+        (λ e. (length bits.now.payload ≢ 32) × (e ≡ errors.Ed contexts.KeySize)) }
+{
+    let octets = bits.payload_view();
+    if octets.len() != ED25519_LEN {
+        return Err(SignatureError::Ed {
+            context: SigContext::KeySize,
+        });
+    }
+    Ok(octets)
+}

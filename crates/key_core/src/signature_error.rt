@@ -1,0 +1,131 @@
+//! Why a signature isn't made or accepted.
+
+ghost use Rattle.std.specs.Prelude.{◌≡◌, Some};
+ghost use Rattle.key_core.specs.SignatureErrorText.{sig_context_text, unsupported_text, signature_error_text};
+ghost use Rattle.key_core.specs.SignatureRules.{key_refusal};
+ghost use Rattle.key_core.specs.declared.signature_error.SignatureError.TheVariants.{Memory};
+
+use crate::ec_curve::EcCurve;
+use crate::error::KeyError;
+use asn1_types::ObjectIdentifier;
+use sig_core::HashAlgorithm;
+use std::alloc::{AllocError, AllocFailed};
+use std::fmt;
+use thiserror::Error;
+
+/// Why a signature isn't made or accepted, or an algorithm of signatures isn't read or written.
+#[derive(Debug, PartialEq, Eq, Drop, Error)]
+pub enum SignatureError {
+    /// The key is not one for the algorithm, or can't be written. Never with want of memory.
+    Key { source: KeyError },
+    /// A signature of RSA can't be made or judged.
+    Rsa { context: SigContext },
+    /// A signature of ECDSA can't be made or judged, or its algorithm has no identifier.
+    Ec { context: SigContext },
+    /// A signature of Ed25519 can't be made or judged.
+    Ed { context: SigContext },
+    /// The signature doesn't belong to the key and the message.
+    BadSignature,
+    /// The algorithm isn't known, or not used with the key.
+    UnsupportedAlgorithm { algorithm: Unsupported },
+    /// No memory was left.
+    Memory,
+}
+
+/// What keeps a signature from being made or judged.
+#[derive(Clone, Copy, Debug, PartialEq, Eq)]
+pub enum SigContext {
+    /// The scheme doesn't sign with the key.
+    SchemeRefused,
+    /// The signature has no form that one of the algorithm could have.
+    Malformed,
+    /// ECDSA has no identifier for the digest algorithm.
+    HashNotSupported,
+    /// The key hasn't 32 octets.
+    KeySize,
+    /// The key is for the agreement of keys.
+    NotForSigning,
+}
+
+/// An algorithm that isn't known, or not used with a key.
+#[derive(Debug, PartialEq, Eq, Drop)]
+pub enum Unsupported {
+    /// The identifier names no algorithm of signatures.
+    Oid(ObjectIdentifier),
+    /// ECDSA isn't used with the digest algorithm.
+    Hash(HashAlgorithm),
+    /// Keys on the curve don't sign digests by the algorithm.
+    Pairing(EcCurve, HashAlgorithm),
+}
+
+impl fmt::Display for SigContext {
+    ghost output = { λ context. Some (sig_context_text context) };
+
+    fn fmt<W: fmt::Write>(&self, f: &mut fmt::Formatter<W>) -> fmt::Result {
+        match self {
+            SigContext::SchemeRefused => write!(f, "the signature scheme refused"),
+            SigContext::Malformed => write!(f, "the signature is malformed"),
+            SigContext::HashNotSupported => write!(f, "the digest algorithm isn't supported"),
+            SigContext::KeySize => write!(f, "the key hasn't 32 octets"),
+            SigContext::NotForSigning => write!(f, "the key isn't one for signatures"),
+        }
+    }
+}
+
+impl fmt::Display for Unsupported {
+    ghost output = { λ algorithm. Some (unsupported_text algorithm) };
+
+    fn fmt<W: fmt::Write>(&self, f: &mut fmt::Formatter<W>) -> fmt::Result {
+        match self {
+            Unsupported::Oid(oid) => write!(f, "{oid}"),
+            Unsupported::Hash(hash) => write!(f, "{}", hash.name()),
+            Unsupported::Pairing(curve, hash) => write!(f, "{curve} with {}", hash.name()),
+        }
+    }
+}
+
+impl fmt::Display for SignatureError {
+    ghost output = { signature_error_text };
+
+    fn fmt<W: fmt::Write>(&self, f: &mut fmt::Formatter<W>) -> fmt::Result {
+        match self {
+            SignatureError::Key { source } => write!(f, "Key error: {source}"),
+            SignatureError::Rsa { context } => write!(f, "RSA error: {context}"),
+            SignatureError::Ec { context } => write!(f, "EC error: {context}"),
+            SignatureError::Ed { context } => write!(f, "ED error: {context}"),
+            SignatureError::BadSignature => write!(f, "invalid signature"),
+            SignatureError::UnsupportedAlgorithm { algorithm } => {
+                write!(f, "unsupported algorithm: {algorithm}")
+            }
+            SignatureError::Memory => write!(f, "out of memory"),
+        }
+    }
+}
+
+/// The variant that holds the error, and `Memory` for `Memory`.
+impl From<KeyError> for SignatureError {
+    ghost from_gives = { λ source e. e ≡ key_refusal source };
+
+    fn from(source: KeyError) -> SignatureError {
+        match source {
+            KeyError::Memory => SignatureError::Memory,
+            source => SignatureError::Key { source },
+        }
+    }
+}
+
+impl From<AllocError> for SignatureError {
+    ghost from_gives = { λ _ e. e ≡ Memory };
+
+    fn from(_refused: AllocError) -> SignatureError {
+        SignatureError::Memory
+    }
+}
+
+impl<T: Drop> From<AllocFailed<T>> for SignatureError {
+    ghost from_gives = { λ _ e. e ≡ Memory };
+
+    fn from(_refused: AllocFailed<T>) -> SignatureError {
+        SignatureError::Memory
+    }
+}

@@ -1,0 +1,45 @@
+//! Laws on the algorithms of signatures, on what is refused, and on the identifiers of keys.
+
+ghost use Rattle.std.specs.Prelude.{◌≡◌, ◌≢◌, ℕ, List, length, Contains, None};
+ghost use Rattle.asn1_types.specs.Values.{identifier_contents};
+ghost use Rattle.key_types.specs.declared.algorithm.AlgorithmIdentifier.{AlgorithmIdentifier};
+ghost use Rattle.key_types.specs.declared.key_info.SubjectPublicKeyInfo.{SubjectPublicKeyInfo};
+ghost use Rattle.key_core.specs.KeyIdentifier.{IsKeyIdentifier};
+ghost use Rattle.key_core.specs.SignatureAlgorithm.{signature_identifier, NamesSignature, IsWrittenAlgorithm};
+ghost use Rattle.key_core.specs.SignatureRules.{IsFirstBroken};
+ghost use Rattle.key_core.specs.Verifying.{Judge, Accepts, verify_rules};
+ghost use Rattle.key_core.specs.declared.key_id.KeyIdGenMethod.{KeyIdGenMethod};
+ghost use Rattle.key_core.specs.declared.public_key.PublicKey.{PublicKey};
+ghost use Rattle.key_core.specs.declared.signature_algorithm.SignatureAlgorithm.{SignatureAlgorithm};
+ghost use Rattle.key_core.specs.declared.signature_algorithm.TheConstants.SignatureAlgorithm as constants;
+ghost use Rattle.key_core.specs.declared.signature_error.SignatureError.{SignatureError};
+
+/// An algorithm that was written is read as itself, and one that was read is written with the
+/// identifier that was read; it has one, so it isn't refused. `SignatureAlgorithm::IDENTIFIED` has
+/// each algorithm with an identifier, and no other.
+pub fn signature_algorithms_are_read_as_written()
+    ensures written { (algorithm read : SignatureAlgorithm) (id : AlgorithmIdentifier)
+        → IsWrittenAlgorithm algorithm id → NamesSignature id read → read ≡ algorithm }
+    ensures read { (algorithm : SignatureAlgorithm) (id written : AlgorithmIdentifier)
+        → NamesSignature id algorithm → IsWrittenAlgorithm algorithm written
+        → identifier_contents written.oid ≡ identifier_contents id.oid }
+    ensures refused { (algorithm : SignatureAlgorithm) (id : AlgorithmIdentifier)
+        → NamesSignature id algorithm → signature_identifier algorithm ≢ None }
+    ensures each { (algorithm : SignatureAlgorithm) → signature_identifier algorithm ≢ None → Contains constants.IDENTIFIED algorithm }
+    ensures once { length constants.IDENTIFIED ≡ 10 }
+{}
+
+/// At most one error tells of the first broken rule of a verification, and none does where the
+/// signature is accepted. So `SignatureAlgorithm::verify` has one answer, want of memory aside.
+pub fn signatures_have_one_answer()
+    ensures one_refusal { (judge : Judge) (algorithm : SignatureAlgorithm) (info : SubjectPublicKeyInfo) (msg sig : List ℕ) (a b : SignatureError)
+        → IsFirstBroken (verify_rules judge algorithm info msg sig) a → IsFirstBroken (verify_rules judge algorithm info msg sig) b → a ≡ b }
+    ensures not_both { (judge : Judge) (algorithm : SignatureAlgorithm) (info : SubjectPublicKeyInfo) (msg sig : List ℕ) (e : SignatureError)
+        → Accepts judge algorithm info msg sig → IsFirstBroken (verify_rules judge algorithm info msg sig) e → ⊥ }
+{}
+
+/// A key has at most one identifier by a method, so equal keys have equal identifiers.
+pub fn key_identifiers_are_of_keys()
+    ensures { (method : KeyIdGenMethod) (key other : PublicKey) (a b : List ℕ)
+        → key ≡ other → IsKeyIdentifier method key.info a → IsKeyIdentifier method other.info b → a ≡ b }
+{}
