@@ -24,8 +24,15 @@ element_text elements.RsaPublicKey = codes "rsa public key"
 -- why a key of a kind can't be had
 abbrev pub context_text : KeyContext → List ℕ
 context_text contexts.NotRsa = codes "the key is of another kind than RSA"
+context_text contexts.NotEc = codes "the key is of another kind than one of an elliptic curve"
+context_text contexts.NotEd = codes "the key is of another kind than one of a curve 25519 or 448"
+context_text contexts.CurveParameters = codes "the parameters name no curve"
+context_text contexts.CurveMissing = codes "no curve stands in the key"
 context_text contexts.CoordinateSize = codes "a coordinate hasn't as many octets as the field of the curve"
+context_text contexts.SecretSize = codes "the secret hasn't as many octets as its curve or algorithm asks for"
 context_text contexts.UnsupportedEd = codes "the algorithm is none of Ed25519, X25519, Ed448 and X448"
+context_text contexts.PublicKeyMissing = codes "the private key has no public key"
+context_text contexts.SchemeRefused = codes "the signature scheme derives no public key"
 
 -- What is told of a key that isn't read, made or written. Of an element that isn't read or written no contract says what is told.
 abbrev pub key_error_text : KeyError → Option (List ℕ)

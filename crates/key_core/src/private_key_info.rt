@@ -109,7 +109,10 @@ fn write_key(alloc: Global, key: &PrivateKeyValue) -> Result<Tree, DerError>
 }
 
 /// A copy of a value, where it isn't left out.
-fn copy_option<T: Structure>(alloc: Global, value: &Option<T>) -> Result<Option<T>, AllocError>
+pub(crate) fn copy_option<T: Structure>(
+    alloc: Global,
+    value: &Option<T>,
+) -> Result<Option<T>, AllocError>
     ensures { IfOk result (λ copy. copy ≡ value.now) }
 {
     match value {
@@ -231,7 +234,7 @@ fn are_same(a: &Option<Raw>, b: &Option<Raw>) -> bool
 }
 
 /// Whether public keys are the same.
-fn are_same_bits(a: &Option<BitString>, b: &Option<BitString>) -> bool
+pub(crate) fn are_same_bits(a: &Option<BitString>, b: &Option<BitString>) -> bool
     ensures { IsTrue result ↔ (a.now ≡ b.now) }
 {
     match (a, b) {
