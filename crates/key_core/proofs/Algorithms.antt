@@ -1,12 +1,15 @@
 -- Algorithms by the octets of their identifiers.
-use Rattle.std.proofs.Common.{◌≡◌, IsTrue, ℕ, List, ◌∷◌, sym, ◌∙◌, subst}
-use Rattle.std.specs.Prelude.{option_to_list}
+use Rattle.std.proofs.Common.{◌≡◌, ◌≢◌, IsTrue, ℕ, List, ◌∷◌, Option, Some, None, sym, ap, ◌∙◌, subst}
+use Rattle.std.specs.Prelude.{option_to_list, MatchOption}
 use Rattle.der_core.specs.DerElement.{DerElement, Primitive}
 use Rattle.der_core.specs.Elements.{sequence}
+use Rattle.der_core.specs.Kept.{KeptElement}
 use Rattle.der_core.specs.Lent.{kept_option}
 use Rattle.der_core.specs.Facts.Grammars.{same_fields}
+use Rattle.der_core.specs.Structure.{Fits}
 use Rattle.asn1_types.specs.Elements.{object_identifier}
 use Rattle.asn1_types.specs.Values.{identifier_contents}
+use Rattle.asn1_types.specs.declared.oid.ObjectIdentifier.{ObjectIdentifier}
 use Rattle.key_types.specs.AlgorithmIdentifier.{algorithm_identifier}
 use Rattle.key_types.specs.KeyKind.{names_kind}
 use Rattle.key_types.specs.declared.algorithm.AlgorithmIdentifier.{AlgorithmIdentifier}
@@ -24,3 +27,18 @@ names_at t kids rest first oid kind a is begins leaf spells named =
     let one : first ≡ object_identifier a.oid = cc in
     let contents : oid ≡ identifier_contents a.oid = leaf_once oid (identifier_contents a.oid) (sym leaf ∙ one) in
     subst (λ (o : List ℕ). IsTrue (names_kind kind o)) contents named
+
+-- an element that is an identifier holds its contents octets
+pub identifier_lies : (t : DerElement) (octets : List ℕ) → t ≡ Primitive 0x06 octets → Fits (λ (element : DerElement) (o : ObjectIdentifier). element ≡ object_identifier o) t
+    → (o : ObjectIdentifier) × (t ≡ object_identifier o) × (identifier_contents o ≡ octets)
+identifier_lies t octets is fit = (fit.0, fit.1, leaf_once (identifier_contents fit.0) octets (sym fit.1 ∙ is))
+
+-- the identifier that an element is, where it is the parameters of an algorithm
+pub curve_of_parameters : {X : Type 0} (contents : X → List ℕ) (parameters : Option KeptElement) (raw : KeptElement) (t : DerElement) → Some raw ≡ parameters → t ≡ raw.element
+    → (r : Option X) → MatchOption r ((o : ObjectIdentifier) → t ≢ object_identifier o) (λ x. (o : ObjectIdentifier) × (t ≡ object_identifier o) × (identifier_contents o ≡ contents x))
+    → MatchOption r ((o : ObjectIdentifier) → kept_option parameters ≢ Some (object_identifier o)) (λ x. (o : ObjectIdentifier) × (kept_option parameters ≡ Some (object_identifier o)) × (identifier_contents o ≡ contents x))
+curve_of_parameters contents parameters raw t stands is None none = λ o e.
+    let both : Some t ≡ Some (object_identifier o) = ap Some is ∙ ap kept_option stands ∙ e in
+    let one : t ≡ object_identifier o = cc in
+    none o one
+curve_of_parameters contents parameters raw t stands is (Some x) found = (found.0, sym (ap kept_option stands) ∙ ap Some (sym is) ∙ ap Some found.1, found.2)

@@ -3,6 +3,9 @@ pub mod Within
 pub mod InfoFields
 pub mod Curves
 pub mod Pkcs1Keys
+pub mod KeptKeys
+pub mod Pkcs8Keys
+pub mod Refusing
 pub mod SignatureIdentifiers
 pub mod FirstBroken
 pub mod Unwritten

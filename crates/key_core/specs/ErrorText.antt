@@ -26,11 +26,16 @@ element_text elements.RsaPublicKey = codes "rsa public key"
 -- why a key of a kind can't be had
 abbrev pub context_text : KeyContext → List ℕ
 context_text contexts.NotRsa = codes "the key is of another kind than RSA"
-context_text contexts.NotEc = codes "the key is no point of a named curve"
-context_text contexts.NotEd = codes "the key is none on a curve 25519 or 448"
+context_text contexts.NotEc = codes "the key is of another kind than one of an elliptic curve"
+context_text contexts.NotEd = codes "the key is of another kind than one of a curve 25519 or 448"
+context_text contexts.CurveParameters = codes "the parameters name no curve"
+context_text contexts.CurveMissing = codes "no curve stands in the key"
 context_text contexts.CoordinateSize = codes "a coordinate hasn't as many octets as the field of the curve"
+context_text contexts.SecretSize = codes "the secret hasn't as many octets as its curve or algorithm asks for"
 context_text contexts.UnsupportedCurve = codes "the curve isn't supported"
 context_text contexts.UnsupportedEd = codes "the algorithm on a curve 25519 or 448 isn't supported"
+context_text contexts.PublicKeyMissing = codes "the private key has no public key"
+context_text contexts.SchemeRefused = codes "the signature scheme derives no public key"
 
 -- what a kind of keys is called
 abbrev pub kind_text : KeyKind → List ℕ

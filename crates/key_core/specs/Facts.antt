@@ -3,3 +3,5 @@ pub mod Agreements
 pub mod PrivateKeyValues
 pub mod PrivateKeyFields
 pub mod PrivateKeyInfos
+pub mod CurveParameters
+pub mod PrivateKeys

@@ -3,8 +3,10 @@
 ghost use Rattle.std.specs.Prelude.{◌≡◌, Some, IfOk, IfSome};
 ghost use Rattle.asn1_types.specs.Values.{identifier_contents};
 ghost use Rattle.key_core.specs.EcCurve.{curve_identifier, curve_text, field_size};
+ghost use Rattle.key_core.specs.DerivedKeys.{curve_kind};
 
 use asn1_types::{ObjectIdentifier, oids};
+use sig_core::SchemeKind;
 use std::alloc::{AllocError, Global};
 use std::fmt;
 
@@ -62,6 +64,17 @@ impl EcCurve {
             EcCurve::NistP256 => 32,
             EcCurve::NistP384 => 48,
             EcCurve::NistP521 => 66,
+        }
+    }
+
+    /// The kind of the secrets of the curve, for a scheme.
+    pub fn scheme_kind(self) -> SchemeKind
+        ensures { result ≡ curve_kind self }
+    {
+        match self {
+            EcCurve::NistP256 => SchemeKind::P256,
+            EcCurve::NistP384 => SchemeKind::P384,
+            EcCurve::NistP521 => SchemeKind::P521,
         }
     }
 }

@@ -3,8 +3,10 @@
 ghost use Rattle.std.specs.Prelude.{◌≡◌, Some, IfOk, IfSome};
 ghost use Rattle.asn1_types.specs.Values.{identifier_contents};
 ghost use Rattle.key_core.specs.EdAlgorithm.{ed_identifier, ed_text};
+ghost use Rattle.key_core.specs.DerivedKeys.{ed_kind};
 
 use asn1_types::{ObjectIdentifier, oids};
+use sig_core::SchemeKind;
 use std::alloc::{AllocError, Global};
 use std::fmt;
 
@@ -48,6 +50,16 @@ impl EdAlgorithm {
         match self {
             EdAlgorithm::Ed25519 => oids::ED25519,
             EdAlgorithm::X25519 => oids::X25519,
+        }
+    }
+
+    /// The kind of the secrets of the algorithm, for a scheme.
+    pub fn scheme_kind(self) -> SchemeKind
+        ensures { result ≡ ed_kind self }
+    {
+        match self {
+            EdAlgorithm::Ed25519 => SchemeKind::Ed25519,
+            EdAlgorithm::X25519 => SchemeKind::X25519,
         }
     }
 }

@@ -37,16 +37,26 @@ pub enum KeyError {
 pub enum KeyContext {
     /// The key is of another kind than RSA.
     NotRsa,
-    /// The key is no point of a named curve.
+    /// The key is of another kind than one of an elliptic curve.
     NotEc,
-    /// The key is none on a curve 25519 or 448.
+    /// The key is of another kind than one of a curve 25519 or 448.
     NotEd,
+    /// The parameters of a key of an elliptic curve name no curve.
+    CurveParameters,
+    /// No curve stands in a key of an elliptic curve.
+    CurveMissing,
     /// A coordinate hasn't as many octets as the field of the curve.
     CoordinateSize,
+    /// A secret hasn't as many octets as the field of its curve, or as its algorithm has.
+    SecretSize,
     /// The curve is none of P-256, P-384 and P-521.
     UnsupportedCurve,
     /// The algorithm on a curve 25519 or 448 isn't known, or not used so.
     UnsupportedEd,
+    /// A private key has no public key.
+    PublicKeyMissing,
+    /// The scheme derives no public key.
+    SchemeRefused,
 }
 
 impl KeyError {
@@ -89,17 +99,31 @@ impl fmt::Display for KeyContext {
     fn fmt<W: fmt::Write>(&self, f: &mut fmt::Formatter<W>) -> fmt::Result {
         match self {
             KeyContext::NotRsa => write!(f, "the key is of another kind than RSA"),
-            KeyContext::NotEc => write!(f, "the key is no point of a named curve"),
-            KeyContext::NotEd => write!(f, "the key is none on a curve 25519 or 448"),
+            KeyContext::NotEc => write!(
+                f,
+                "the key is of another kind than one of an elliptic curve"
+            ),
+            KeyContext::NotEd => write!(
+                f,
+                "the key is of another kind than one of a curve 25519 or 448"
+            ),
+            KeyContext::CurveParameters => write!(f, "the parameters name no curve"),
+            KeyContext::CurveMissing => write!(f, "no curve stands in the key"),
             KeyContext::CoordinateSize => write!(
                 f,
                 "a coordinate hasn't as many octets as the field of the curve"
+            ),
+            KeyContext::SecretSize => write!(
+                f,
+                "the secret hasn't as many octets as its curve or algorithm asks for"
             ),
             KeyContext::UnsupportedCurve => write!(f, "the curve isn't supported"),
             KeyContext::UnsupportedEd => write!(
                 f,
                 "the algorithm on a curve 25519 or 448 isn't supported"
             ),
+            KeyContext::PublicKeyMissing => write!(f, "the private key has no public key"),
+            KeyContext::SchemeRefused => write!(f, "the signature scheme derives no public key"),
         }
     }
 }

@@ -221,7 +221,7 @@ fn are_same(a: &Option<Raw>, b: &Option<Raw>) -> bool
 }
 
 /// Whether public keys are the same.
-fn are_same_bits(a: &Option<BitString>, b: &Option<BitString>) -> bool
+pub(crate) fn are_same_bits(a: &Option<BitString>, b: &Option<BitString>) -> bool
     ensures { IsTrue result ↔ (a.now ≡ b.now) }
 {
     match (a, b) {

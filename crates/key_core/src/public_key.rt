@@ -22,7 +22,7 @@ ghost use Rattle.key_core.specs.declared.element.Element.TheVariants as elements
 ghost use Rattle.key_core.specs.declared.error.KeyContext.TheVariants as contexts;
 ghost use Rattle.key_core.specs.declared.error.KeyError.TheVariants as errors;
 
-mod coordinates;
+pub(crate) mod coordinates;
 mod pkcs1;
 
 use crate::element::Element;
@@ -158,7 +158,7 @@ impl PublicKey {
 }
 
 /// The key of RSA with its algorithm, whose parameters are NULL.
-fn rsa_info(alloc: Global, key: RsaPublicKey) -> Result<SubjectPublicKeyInfo, AllocError>
+pub(crate) fn rsa_info(alloc: Global, key: RsaPublicKey) -> Result<SubjectPublicKeyInfo, AllocError>
     ensures { IfOk result (λ info. IsRsaInfo key info) }
 {
     let oid = ObjectIdentifier::from_known(alloc, RSA_ENCRYPTION)?;
@@ -186,7 +186,7 @@ fn ec_key(
 }
 
 /// The identifier of a curve as parameters (RFC 5480 2.1.1).
-fn named_curve(alloc: Global, curve: &ObjectIdentifier) -> Result<Raw, DerError>
+pub(crate) fn named_curve(alloc: Global, curve: &ObjectIdentifier) -> Result<Raw, DerError>
     ensures { MatchResult result
         (λ raw. raw.element ≡ object_identifier curve.now)
         (RefusesToWrite (object_identifier curve.now)) }

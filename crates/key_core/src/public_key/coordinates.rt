@@ -45,14 +45,14 @@ impl PublicKey {
 }
 
 /// Whether the coordinates have as many octets as the field of the curve.
-fn are_coordinates(curve: EcCurve, x: &[u8], y: &[u8]) -> bool
+pub(crate) fn are_coordinates(curve: EcCurve, x: &[u8], y: &[u8]) -> bool
     ensures { IsTrue result ↔ AreCoordinates curve x.now y.now }
 {
     x.len() == curve.field_size() && y.len() == curve.field_size()
 }
 
 /// The point of these coordinates, without compression.
-fn uncompressed(alloc: Global, x: &[u8], y: &[u8]) -> Result<Vec<u8>, AllocError>
+pub(crate) fn uncompressed(alloc: Global, x: &[u8], y: &[u8]) -> Result<Vec<u8>, AllocError>
     ensures { IfOk result (λ point. point.items ≡ 0x04 ∷ x.now ++ y.now) }
 {
     let mut point = Vec::new(alloc);

@@ -1,0 +1,21 @@
+use Rattle.std.proofs.Common.{◌≡◌, Result, Ok, Err, ap, ◌∙◌}
+use Rattle.der_core.specs.declared.error.DerError.{DerError}
+use Rattle.private_key_types.specs.declared.rsa_private_key.RsaPrivateKey.{RsaPrivateKey}
+use Rattle.key_core.specs.KeyRefusals.{unread}
+use Rattle.key_core.specs.declared.element.Element.TheVariants as elements
+use Rattle.key_core.proofs.private_key.PrivateKey.from_pkcs1.Goals as goal
+
+source_is : (x y : DerError) → ◌≡◌ {A = Result RsaPrivateKey DerError} (Err x) (Err y) → x ≡ y
+source_is x y e = cc
+
+read_is_not_refused : (key : RsaPrivateKey) (e : DerError) → ◌≡◌ {A = Result RsaPrivateKey DerError} (Ok key) (Err e) → ⊥
+read_is_not_refused key e same = cc
+
+pub returns-in_err-rsa_container-in-Ok-clause-faulty : goal.returns-in_err-rsa_container-in-Ok-clause-faulty
+returns-in_err-rsa_container-in-Ok-clause-faulty c = λ at fault is. absurd (read_is_not_refused _ _ (c.in-Ok.ensures.faulty at fault is))
+
+pub returns-in_ok-rsa_container-in-Ok-clause-faulty : goal.returns-in_ok-rsa_container-in-Ok-clause-faulty
+returns-in_ok-rsa_container-in-Ok-clause-faulty c = λ at fault is. absurd (read_is_not_refused _ _ (c.in-Ok.ensures.faulty at fault is))
+
+pub returns-in-Err-clause-faulty : goal.returns-in-Err-clause-faulty
+returns-in-Err-clause-faulty c = λ at fault is. ap Err (c.unread.ensures ∙ ap (unread elements.RsaPrivateKey) (source_is _ _ (c.in-Err.ensures.faulty at fault is)))

@@ -1,0 +1,164 @@
+//! Private keys with their algorithms as PKCS #8 has them.
+
+ghost use Rattle.std.specs.Prelude.{◌≡◌, ◌≢◌, ℕ, Option, Some, Err, MatchOption, MatchResult};
+ghost use Rattle.asn1_types.specs.Elements.{object_identifier};
+ghost use Rattle.asn1_types.specs.Values.{identifier_contents};
+ghost use Rattle.asn1_types.specs.declared.oid.ObjectIdentifier.{ObjectIdentifier};
+ghost use Rattle.der_core.specs.DerElement.{DerElement};
+ghost use Rattle.der_core.specs.Encoding.{encoding, IsDer};
+ghost use Rattle.der_core.specs.Lent.{kept_option};
+ghost use Rattle.der_core.specs.Reading.{IsExactFault};
+ghost use Rattle.der_core.specs.Refusals.{RefusesOctets};
+ghost use Rattle.der_core.specs.Structure.{IsWithin};
+ghost use Rattle.der_core.specs.declared.error.DerError.TheVariants as der_errors;
+ghost use Rattle.der_core.specs.declared.fault.DerFault.{DerFault};
+ghost use Rattle.key_core.specs.CurveKeys.{IsCurveKey};
+ghost use Rattle.key_core.specs.DerivedKeys.{IsEdOf, IsEdKeyOf, IsEcRefusal, IsEdRefusal};
+ghost use Rattle.key_core.specs.Pkcs8.{IsKept, IsKeptEc, RefusesEcInfo, RefusesEdInfo, RefusesKept, IsPkcs8Key, RefusesPkcs8};
+ghost use Rattle.key_core.specs.PrivateKeyInfo.{IsPrivateKeyInfo};
+ghost use Rattle.key_core.specs.declared.ed_algorithm.EdAlgorithm.{EdAlgorithm};
+ghost use Rattle.key_core.specs.declared.element.Element.TheVariants as elements;
+ghost use Rattle.key_core.specs.declared.error.KeyError.TheVariants as errors;
+ghost use Rattle.key_core.specs.declared.private_key_info.PrivateKeyInfo.{PrivateKeyInfo};
+
+use super::PrivateKey;
+use super::curve_key::curve_key;
+use super::derived::ed_key_of;
+use crate::ed_algorithm::EdAlgorithm;
+use crate::element::Element;
+use crate::error::{KeyContext, KeyError};
+use crate::private_key_info::PrivateKeyInfo;
+use crate::private_key_value::PrivateKeyValue;
+use asn1_types::{BitString, ObjectIdentifier};
+use der_core::tag::OBJECT_IDENTIFIER;
+use der_core::{Elem, Structure, leaf_at};
+use key_types::AlgorithmIdentifier;
+use private_key_types::ECPrivateKey;
+use sig_core::Scheme;
+use std::alloc::Global;
+
+impl PrivateKey {
+    /// The key in octets, which are the encoding of a PrivateKeyInfo (RFC 5208 5, RFC 5958 2). One of
+    /// RSA or of a curve 25519 or 448 is kept as it was read; the public key of Ed25519 and X25519
+    /// is what the scheme derives, whatever stands beside the private one, and is `ED` where it
+    /// derives none; that of Ed448 and X448 is missing. A key of an elliptic curve is written anew
+    /// on the curve that the parameters name, and is `EC` where they name none; its point is had as
+    /// by `from_ec_der_with_curve_oid`. Octets that are no element, or one of another structure, are
+    /// refused as `Asn1Deserialization` without memory.
+    pub fn from_pkcs8<S: Scheme>(
+        alloc: Global,
+        der: &[u8],
+        scheme: &S,
+    ) -> Result<PrivateKey, KeyError>
+        ensures answer { MatchResult result (IsPkcs8Key (S.derives scheme.now) der.now) (RefusesPkcs8 (S.derives scheme.now) der.now) }
+        // Octets with a fault are refused with it, whatever memory there is.
+        ensures faulty { (at : ℕ) (fault : DerFault) → IsExactFault der.now at fault
+            → result ≡ Err (errors.Asn1Deserialization elements.PrivateKeyInfo (der_errors.Malformed (record { at = at; fault = fault }))) }
+        // An element that is that of no key is refused as such, whatever memory there is.
+        ensures shapeless { (element : DerElement) → IsDer element → der.now ≡ encoding element → ((info : PrivateKeyInfo) → IsPrivateKeyInfo element info → ⊥)
+            → result ≡ Err (errors.Asn1Deserialization elements.PrivateKeyInfo der_errors.Shape) }
+    {
+        match PrivateKeyInfo::from_der(alloc, der) {
+            Ok(info) => kept(alloc, info, scheme),
+            Err(source) => Err(KeyError::unread(Element::PrivateKeyInfo, source)),
+        }
+    }
+}
+
+/// The key that is kept of a container.
+fn kept<S: Scheme>(alloc: Global, info: PrivateKeyInfo, scheme: &S) -> Result<PrivateKey, KeyError>
+    ensures { MatchResult result
+        (IsKept (S.derives scheme.now) info.private_key info)
+        (RefusesKept (S.derives scheme.now) info.private_key info) }
+{
+    let public_key = match &info.private_key {
+        PrivateKeyValue::Rsa(_) => None,
+        PrivateKeyValue::Ec(key) => {
+            return kept_ec(alloc, &info.private_key_algorithm, key, scheme);
+        }
+        PrivateKeyValue::Ed(secret) => {
+            ed_key(
+                alloc,
+                info.private_key_algorithm.oid(),
+                secret.as_slice(),
+                scheme,
+            )?
+        }
+    };
+    Ok(PrivateKey { info, public_key })
+}
+
+/// The key on the curve that the parameters of its algorithm name.
+fn kept_ec<S: Scheme>(
+    alloc: Global,
+    algorithm: &AlgorithmIdentifier,
+    key: &ECPrivateKey,
+    scheme: &S,
+) -> Result<PrivateKey, KeyError>
+    ensures { MatchResult result
+        (λ made. (curve : ObjectIdentifier) × (kept_option algorithm.now.parameters ≡ Some (object_identifier curve)) × IsCurveKey (S.derives scheme.now) curve key.now made)
+        (IsEcRefusal (RefusesEcInfo (S.derives scheme.now) key.now (kept_option algorithm.now.parameters))) }
+{
+    match curve_octets(algorithm) {
+        Some(octets) => {
+            let Ok(curve) = ObjectIdentifier::from_content(alloc, octets) else {
+                return Err(KeyError::Memory);
+            };
+            curve_key(alloc, &curve, key, scheme)
+        }
+        None => Err(KeyError::EC {
+            context: KeyContext::CurveParameters,
+        }),
+    }
+}
+
+/// The contents octets of the identifier that the parameters of an algorithm are.
+pub(crate) fn curve_octets(algorithm: &AlgorithmIdentifier) -> Option<&[u8]>
+    ensures { MatchOption result
+        ((curve : ObjectIdentifier) → kept_option algorithm.now.parameters ≢ Some (object_identifier curve))
+        (λ octets. (curve : ObjectIdentifier) × (kept_option algorithm.now.parameters ≡ Some (object_identifier curve)) × (identifier_contents curve ≡ octets.now)) }
+{
+    match algorithm.parameters() {
+        Some(parameters) => identifier_at(parameters.elem()),
+        None => None,
+    }
+}
+
+/// The contents octets of an OBJECT IDENTIFIER.
+fn identifier_at<'a>(elem: Elem<'a>) -> Option<&'a [u8]>
+    ensures { MatchOption result
+        ((identifier : ObjectIdentifier) → elem.entry.is.0 ≢ object_identifier identifier)
+        (λ octets. (identifier : ObjectIdentifier) × (elem.entry.is.0 ≡ object_identifier identifier) × (identifier_contents identifier ≡ octets.now)) }
+{
+    if !ObjectIdentifier::has_shape(elem) {
+        return None;
+    }
+    match leaf_at(elem, OBJECT_IDENTIFIER) {
+        Some(octets) => Some(octets),
+        None => None,
+    }
+}
+
+/// The public key of a curve 25519 or 448.
+fn ed_key<S: Scheme>(
+    alloc: Global,
+    algorithm: &ObjectIdentifier,
+    secret: &[u8],
+    scheme: &S,
+) -> Result<Option<BitString>, KeyError>
+    ensures { MatchResult result
+        (λ public_key. (known : Option EdAlgorithm) × IsEdOf (identifier_contents algorithm.now) known × IsEdKeyOf (S.derives scheme.now) known secret.now public_key)
+        (IsEdRefusal (RefusesEdInfo (S.derives scheme.now) secret.now (identifier_contents algorithm.now))) }
+{
+    match ed_key_of(alloc, known_algorithm(algorithm), secret, scheme) {
+        Ok(public_key) => Ok(public_key),
+        Err(error) => Err(error),
+    }
+}
+
+/// The known algorithm of the identifier.
+fn known_algorithm(algorithm: &ObjectIdentifier) -> Option<EdAlgorithm>
+    ensures { IsEdOf (identifier_contents algorithm.now) result }
+{
+    EdAlgorithm::named(algorithm.as_bytes())
+}

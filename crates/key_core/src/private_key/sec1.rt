@@ -1,0 +1,155 @@
+//! Private keys of elliptic curves as SEC 1 has them, without an algorithm.
+
+ghost use Rattle.std.specs.Prelude.{◌≡◌, ℕ, Some, Err, MatchResult};
+ghost use Rattle.asn1_types.specs.Values.{identifier_contents};
+ghost use Rattle.asn1_types.specs.declared.oid.ObjectIdentifier.{ObjectIdentifier};
+ghost use Rattle.key_core.specs.EcCurve.{curve_identifier};
+ghost use Rattle.der_core.specs.DerElement.{DerElement};
+ghost use Rattle.der_core.specs.Encoding.{encoding, IsDer};
+ghost use Rattle.der_core.specs.Reading.{IsExactFault};
+ghost use Rattle.der_core.specs.Refusals.{RefusesOctets};
+ghost use Rattle.der_core.specs.Structure.{IsWithin};
+ghost use Rattle.der_core.specs.declared.error.DerError.TheVariants as der_errors;
+ghost use Rattle.der_core.specs.declared.fault.DerFault.{DerFault};
+ghost use Rattle.private_key_types.specs.declared.ec_private_key.ECPrivateKey.{ECPrivateKey};
+ghost use Rattle.key_core.specs.CurveKeys.{IsECPrivateKey, IsCurveKey, RefusesCurveKey, IsSec1Key, IsSec1KeyOn, IsSec1KeyOnKnown, RefusesSec1, RefusesOwnCurve, RefusesKnownCurve};
+ghost use Rattle.key_core.specs.DerivedKeys.{IsEcRefusal};
+ghost use Rattle.key_core.specs.KeyRefusals.{IsUnread};
+ghost use Rattle.key_core.specs.declared.element.Element.TheVariants as elements;
+ghost use Rattle.key_core.specs.declared.error.KeyContext.TheVariants as contexts;
+ghost use Rattle.key_core.specs.declared.error.KeyError.TheVariants as errors;
+
+use super::PrivateKey;
+use super::curve_key::curve_key;
+use crate::ec_curve::EcCurve;
+use crate::element::Element;
+use crate::error::{KeyContext, KeyError};
+use asn1_types::ObjectIdentifier;
+use der_core::Structure;
+use private_key_types::ECPrivateKey;
+use sig_core::Scheme;
+use std::alloc::Global;
+
+impl PrivateKey {
+    /// The key of an elliptic curve in octets, which are the encoding of an ECPrivateKey (RFC 5915
+    /// 3), on the curve that stands in it. Where no point stands in it and the curve is known, the
+    /// scheme derives one, from a secret of as many octets as the field has. It is `EC` where no
+    /// curve stands in it and where no point is derived. Octets that are no element, or one of another
+    /// structure, are refused as `Asn1Deserialization` without memory.
+    pub fn from_ec_der<S: Scheme>(
+        alloc: Global,
+        der: &[u8],
+        scheme: &S,
+    ) -> Result<PrivateKey, KeyError>
+        ensures answer { MatchResult result
+            (IsSec1Key (S.derives scheme.now) der.now)
+            (RefusesSec1 (λ read. RefusesOwnCurve (S.derives scheme.now) read.parameters read) der.now) }
+        // Octets with a fault are refused with it, whatever memory there is.
+        ensures faulty { (at : ℕ) (fault : DerFault) → IsExactFault der.now at fault
+            → result ≡ Err (errors.Asn1Deserialization elements.EcPrivateKey (der_errors.Malformed (record { at = at; fault = fault }))) }
+        // An element that is that of no key is refused as such, whatever memory there is.
+        ensures shapeless { (element : DerElement) → IsDer element → der.now ≡ encoding element → ((key : ECPrivateKey) → IsECPrivateKey element key → ⊥)
+            → result ≡ Err (errors.Asn1Deserialization elements.EcPrivateKey der_errors.Shape) }
+    {
+        match read(alloc, der) {
+            Ok(key) => own_curve_key(alloc, &key, scheme),
+            Err(error) => Err(error),
+        }
+    }
+
+    /// The same on this curve, whatever curve stands in the octets.
+    pub fn from_ec_der_with_curve<S: Scheme>(
+        alloc: Global,
+        der: &[u8],
+        curve: EcCurve,
+        scheme: &S,
+    ) -> Result<PrivateKey, KeyError>
+        ensures answer { MatchResult result
+            (IsSec1KeyOnKnown (S.derives scheme.now) curve der.now)
+            (RefusesSec1 (RefusesKnownCurve (S.derives scheme.now) curve) der.now) }
+        // Octets with a fault are refused with it, whatever memory there is.
+        ensures faulty { (at : ℕ) (fault : DerFault) → IsExactFault der.now at fault
+            → result ≡ Err (errors.Asn1Deserialization elements.EcPrivateKey (der_errors.Malformed (record { at = at; fault = fault }))) }
+        // An element that is that of no key is refused as such, whatever memory there is.
+        ensures shapeless { (element : DerElement) → IsDer element → der.now ≡ encoding element → ((key : ECPrivateKey) → IsECPrivateKey element key → ⊥)
+            → result ≡ Err (errors.Asn1Deserialization elements.EcPrivateKey der_errors.Shape) }
+    {
+        match read(alloc, der) {
+            Ok(key) => known_curve_key(alloc, curve, &key, scheme),
+            Err(error) => Err(error),
+        }
+    }
+
+    /// The same on the curve of this identifier. Where it isn't known and no point stands in the
+    /// octets, the key has no public key.
+    pub fn from_ec_der_with_curve_oid<S: Scheme>(
+        alloc: Global,
+        der: &[u8],
+        curve_oid: ObjectIdentifier,
+        scheme: &S,
+    ) -> Result<PrivateKey, KeyError>
+        ensures answer { MatchResult result
+            (IsSec1KeyOn (S.derives scheme.now) curve_oid der.now)
+            (RefusesSec1 (RefusesCurveKey (S.derives scheme.now) curve_oid) der.now) }
+        // Octets with a fault are refused with it, whatever memory there is.
+        ensures faulty { (at : ℕ) (fault : DerFault) → IsExactFault der.now at fault
+            → result ≡ Err (errors.Asn1Deserialization elements.EcPrivateKey (der_errors.Malformed (record { at = at; fault = fault }))) }
+        // An element that is that of no key is refused as such, whatever memory there is.
+        ensures shapeless { (element : DerElement) → IsDer element → der.now ≡ encoding element → ((key : ECPrivateKey) → IsECPrivateKey element key → ⊥)
+            → result ≡ Err (errors.Asn1Deserialization elements.EcPrivateKey der_errors.Shape) }
+    {
+        match read(alloc, der) {
+            Ok(key) => curve_key(alloc, &curve_oid, &key, scheme),
+            Err(error) => Err(error),
+        }
+    }
+}
+
+/// The ECPrivateKey in octets.
+fn read(alloc: Global, der: &[u8]) -> Result<ECPrivateKey, KeyError>
+    ensures answer { MatchResult result
+        (IsWithin IsECPrivateKey der.now)
+        (IsUnread elements.EcPrivateKey (RefusesOctets IsECPrivateKey der.now)) }
+    ensures faulty { (at : ℕ) (fault : DerFault) → IsExactFault der.now at fault
+        → result ≡ Err (errors.Asn1Deserialization elements.EcPrivateKey (der_errors.Malformed (record { at = at; fault = fault }))) }
+    ensures shapeless { (element : DerElement) → IsDer element → der.now ≡ encoding element → ((key : ECPrivateKey) → IsECPrivateKey element key → ⊥)
+        → result ≡ Err (errors.Asn1Deserialization elements.EcPrivateKey der_errors.Shape) }
+{
+    match ECPrivateKey::from_der(alloc, der) {
+        Ok(key) => Ok(key),
+        Err(source) => Err(KeyError::unread(Element::EcPrivateKey, source)),
+    }
+}
+
+/// The key on the curve that stands in what was read.
+fn own_curve_key<S: Scheme>(
+    alloc: Global,
+    read: &ECPrivateKey,
+    scheme: &S,
+) -> Result<PrivateKey, KeyError>
+    ensures { MatchResult result
+        (λ key. (curve : ObjectIdentifier) × (read.now.parameters ≡ Some curve) × IsCurveKey (S.derives scheme.now) curve read.now key)
+        (IsEcRefusal (RefusesOwnCurve (S.derives scheme.now) read.now.parameters read.now)) }
+{
+    match &read.parameters {
+        Some(curve) => curve_key(alloc, curve, read, scheme),
+        None => Err(KeyError::EC {
+            context: KeyContext::CurveMissing,
+        }),
+    }
+}
+
+/// The key on a known curve of what was read.
+fn known_curve_key<S: Scheme>(
+    alloc: Global,
+    curve: EcCurve,
+    read: &ECPrivateKey,
+    scheme: &S,
+) -> Result<PrivateKey, KeyError>
+    ensures { MatchResult result
+        (λ key. (oid : ObjectIdentifier) × (identifier_contents oid ≡ curve_identifier curve) × IsCurveKey (S.derives scheme.now) oid read.now key)
+        (IsEcRefusal (RefusesKnownCurve (S.derives scheme.now) curve read.now)) }
+{
+    let oid = curve.to_oid(alloc)?;
+    curve_key(alloc, &oid, read, scheme)
+}
