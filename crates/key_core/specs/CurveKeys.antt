@@ -104,6 +104,7 @@ RefusesSec1 Refuses octets (errors.Asn1Deserialization element source) = IsUnrea
 RefusesSec1 Refuses octets (errors.Rsa context) = ⊥
 RefusesSec1 Refuses octets (errors.EC context) = (read : ECPrivateKey) × IsWithin IsECPrivateKey octets read × Refuses read context
 RefusesSec1 Refuses octets (errors.ED context) = ⊥
+RefusesSec1 Refuses octets (errors.UnsupportedAlgorithm kind) = ⊥
 RefusesSec1 Refuses octets errors.Memory = ⊤
 
 -- no curve stands in it, or there is no key on the one that does

@@ -61,6 +61,7 @@ RefusesDerived derives kind size secret contexts.CurveParameters = ⊥
 RefusesDerived derives kind size secret contexts.CurveMissing = ⊥
 RefusesDerived derives kind size secret contexts.CoordinateSize = ⊥
 RefusesDerived derives kind size secret contexts.SecretSize = length secret ≢ size
+RefusesDerived derives kind size secret contexts.UnsupportedCurve = ⊥
 RefusesDerived derives kind size secret contexts.UnsupportedEd = ⊥
 RefusesDerived derives kind size secret contexts.PublicKeyMissing = ⊥
 RefusesDerived derives kind size secret contexts.SchemeRefused = (length secret ≡ size) × (derives kind secret ≡ None)
@@ -93,6 +94,7 @@ IsEcRefusal Refuses (errors.Asn1Deserialization element source) = ⊥
 IsEcRefusal Refuses (errors.Rsa context) = ⊥
 IsEcRefusal Refuses (errors.EC context) = Refuses context
 IsEcRefusal Refuses (errors.ED context) = ⊥
+IsEcRefusal Refuses (errors.UnsupportedAlgorithm kind) = ⊥
 IsEcRefusal Refuses errors.Memory = ⊤
 
 -- the same of a curve 25519 or 448
@@ -102,4 +104,5 @@ IsEdRefusal Refuses (errors.Asn1Deserialization element source) = ⊥
 IsEdRefusal Refuses (errors.Rsa context) = ⊥
 IsEdRefusal Refuses (errors.EC context) = ⊥
 IsEdRefusal Refuses (errors.ED context) = Refuses context
+IsEdRefusal Refuses (errors.UnsupportedAlgorithm kind) = ⊥
 IsEdRefusal Refuses errors.Memory = ⊤
