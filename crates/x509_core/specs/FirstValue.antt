@@ -1,0 +1,18 @@
+-- The value of the first extension of an identifier (RFC 5280 4.2).
+use Rattle.std.specs.Prelude.{◌≡◌, ℕ, List}
+use Rattle.x509_types.specs.FirstOfValue.{NoneHas, IsFirstWith}
+use Rattle.x509_types.specs.declared.extension.Extension.{Extension}
+use Rattle.x509_types.specs.declared.extension_view.ExtensionView.{ExtensionView}
+use Rattle.x509_core.specs.declared.error.CertError.{CertError}
+use Rattle.x509_core.specs.declared.error.CertError.TheVariants as errors
+use Rattle.x509_core.specs.declared.error.ExtName.{ExtName}
+
+-- The first extension of this identifier, by its contents octets, has this value.
+pub record HasFirst (oid : List ℕ) (extensions : List Extension) (value : ExtensionView) : Type 0 where
+  pub extension : Extension
+  pub first : IsFirstWith oid extensions extension
+  pub valued : extension.extn_value ≡ value
+
+-- The error tells that no extension has this identifier, and none has.
+abbrev pub IsMissing : List ℕ → ExtName → List Extension → CertError → Type 0
+IsMissing oid name extensions e = (e ≡ errors.ExtensionNotFound name) × NoneHas oid extensions

@@ -1,0 +1,23 @@
+-- The two parts in which a certificate is kept: the key of its subject, and the rest.
+use Rattle.key_core.specs.declared.public_key.PublicKey.{PublicKey}
+use Rattle.x509_types.specs.declared.certificate.Certificate.{Certificate}
+use Rattle.x509_core.specs.declared.keyless.Keyless.{Keyless}
+
+-- the certificate of both parts
+abbrev pub joined : Keyless → PublicKey → Certificate
+joined rest key = record {
+  tbs_certificate = record {
+    version = rest.version;
+    serial_number = rest.serial_number;
+    signature = rest.signature;
+    issuer = rest.issuer;
+    validity = rest.validity;
+    subject = rest.subject;
+    subject_public_key_info = key.info;
+    issuer_unique_id = rest.issuer_unique_id;
+    subject_unique_id = rest.subject_unique_id;
+    extensions = rest.extensions;
+  };
+  signature_algorithm = rest.signature_algorithm;
+  signature_value = rest.signature_value;
+}

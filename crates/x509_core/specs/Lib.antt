@@ -1,0 +1,9 @@
+pub mod Keyless
+pub mod KeptCertificate
+pub mod FirstValue
+pub mod CertType
+pub mod Parent
+pub mod CertRefusals
+pub mod Spellings
+pub mod ErrorText
+pub mod Facts

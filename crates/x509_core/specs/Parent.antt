@@ -1,0 +1,90 @@
+-- Which certificate may be the parent of another, by what both say of names and keys (RFC 5280 4.2.1.1, 6.1.3).
+use Rattle.std.specs.Prelude.{◌≡◌, ◌≢◌, ⊤, ℕ, List}
+use Rattle.names_core.specs.declared.name.DirectoryName.{DirectoryName}
+use Rattle.x509_types.specs.CertificateElements.{CertificateElements}
+use Rattle.x509_types.specs.ExtensionParts.{HasSubjectKey, HasAuthorityKey}
+use Rattle.x509_core.specs.KeptCertificate.{KeptCertificate}
+use Rattle.x509_core.specs.declared.error.CaChainError.{CaChainError}
+use Rattle.x509_core.specs.declared.error.CaChainError.TheVariants as chain
+use Rattle.x509_core.specs.declared.error.CertCause.{CertCause}
+use Rattle.x509_core.specs.declared.error.CertCause.TheVariants as causes
+use Rattle.x509_core.specs.declared.error.CertError.{CertError}
+use Rattle.x509_core.specs.declared.error.CertError.TheVariants as errors
+use Rattle.x509_core.specs.declared.error.ExtName.TheVariants as names
+use Rattle.x509_core.specs.declared.key_link.KeyLink.{KeyLink}
+use Rattle.x509_core.specs.declared.key_link.KeyLink.TheVariants as links
+
+-- where the child names the key of its authority by an identifier, the key of the parent has that identifier (RFC 5280 4.2.1.1)
+abbrev pub AgreeByKey : (parent child : CertificateElements) → Type 0
+AgreeByKey parent child = (key : List ℕ) → HasAuthorityKey child key → HasSubjectKey parent key
+
+-- the issuer of the child is the subject of the parent (RFC 5280 6.1.3 (a) (4))
+abbrev pub AgreeByName : (parent child : CertificateElements) → Type 0
+AgreeByName parent child = child.tbs.issuer ≡ parent.tbs.subject
+
+-- Names and key identifiers are those of a link of a chain.
+pub record AreLinked (parent child : CertificateElements) : Type 0 where
+  pub key : AgreeByKey parent child
+  pub name : AgreeByName parent child
+
+-- The child names a key by an identifier, and the parent's has none.
+pub record LacksKey (parent child : CertificateElements) : Type 0 where
+  pub key : List ℕ
+  pub named : HasAuthorityKey child key
+  pub none : (key : List ℕ) → HasSubjectKey parent key → ⊥
+
+-- The child names a key by one identifier, and the parent's has another.
+pub record DifferByKey (parent child : CertificateElements) (expected actual : List ℕ) : Type 0 where
+  pub named : HasAuthorityKey child expected
+  pub had : HasSubjectKey parent actual
+  pub other : expected ≢ actual
+
+-- how the two identifiers stand to one another
+abbrev pub IsKeyLink : (parent child : CertificateElements) → KeyLink → Type 0
+IsKeyLink parent child links.Agree = AgreeByKey parent child
+IsKeyLink parent child links.Missing = LacksKey parent child
+IsKeyLink parent child (links.Differ expected actual) = DifferByKey parent child expected.now actual.now
+
+-- a certificate is told by the name of its subject
+abbrev pub IsNameOf : KeptCertificate → DirectoryName → Type 0
+IsNameOf kept id = id.name ≡ kept.certificate.tbs_certificate.subject
+
+-- The error tells of this certificate, for this cause, or of want of memory.
+abbrev pub IsInvalid : KeptCertificate → CertCause → CertError → Type 0
+IsInvalid kept cause (errors.InvalidCertificate id source) = IsNameOf kept id × (source ≡ cause)
+IsInvalid kept cause (errors.Asn1Serialization element source) = ⊥
+IsInvalid kept cause (errors.Asn1Deserialization element source) = ⊥
+IsInvalid kept cause (errors.InvalidChain source) = ⊥
+IsInvalid kept cause (errors.ExtensionNotFound name) = ⊥
+IsInvalid kept cause errors.Memory = ⊤
+
+-- The error tells of this certificate that it names one key and its parent has another, or of want of memory.
+abbrev pub IsOtherKey : KeptCertificate → (expected actual : List ℕ) → CertError → Type 0
+IsOtherKey kept expected actual = IsInvalid kept (causes.InvalidChain (chain.AuthorityKeyIdMismatch expected actual))
+
+-- The names don't agree, and the key identifiers do.
+pub record DifferByName (parent child : KeptCertificate) (expected actual : DirectoryName) : Type 0 where
+  pub key : AgreeByKey parent.elements child.elements
+  pub name : AgreeByName parent.elements child.elements → ⊥
+  pub expected_is : expected.name ≡ child.certificate.tbs_certificate.issuer
+  pub actual_is : actual.name ≡ parent.certificate.tbs_certificate.subject
+
+-- expected is what the child names, actual what the parent has
+abbrev pub RefusesChain : (parent child : KeptCertificate) → CaChainError → Type 0
+RefusesChain parent child (chain.AuthorityKeyIdMismatch expected actual) = DifferByKey parent.elements child.elements expected actual
+RefusesChain parent child (chain.IssuerNameMismatch expected actual) = DifferByName parent child expected actual
+
+-- of the parent it is told that it has no key identifier, of the child that one or the other doesn't agree
+abbrev pub RefusesLink : (parent child : KeptCertificate) → DirectoryName → CertCause → Type 0
+RefusesLink parent child id (causes.ExtensionNotFound name) =
+    IsNameOf parent id × (name ≡ names.SubjectKeyIdentifier) × LacksKey parent.elements child.elements
+RefusesLink parent child id (causes.InvalidChain source) = IsNameOf child id × RefusesChain parent child source
+
+-- why one certificate isn't the parent of another
+abbrev pub RefusesParent : (parent child : KeptCertificate) → CertError → Type 0
+RefusesParent parent child (errors.InvalidCertificate id source) = RefusesLink parent child id source
+RefusesParent parent child (errors.Asn1Serialization element source) = ⊥
+RefusesParent parent child (errors.Asn1Deserialization element source) = ⊥
+RefusesParent parent child (errors.InvalidChain source) = ⊥
+RefusesParent parent child (errors.ExtensionNotFound name) = ⊥
+RefusesParent parent child errors.Memory = ⊤

@@ -1,0 +1,289 @@
+//! Certificates that are kept with their octets.
+
+ghost use Rattle.std.specs.Prelude.{◌≡◌, ◌↔◌, ℕ, false, IsTrue, IfOk, Err, MatchResult};
+ghost use Rattle.der_core.specs.DerElement.{DerElement};
+ghost use Rattle.der_core.specs.Encoding.{encoding, IsDer};
+ghost use Rattle.der_core.specs.Equality.{same_octets, same_octets_per};
+ghost use Rattle.der_core.specs.Reading.{IsExactFault};
+ghost use Rattle.der_core.specs.Refusals.{RefusesInner, RefusesOctets, RefusesShape};
+ghost use Rattle.der_core.specs.Structure.{Fits, IsWithin};
+ghost use Rattle.der_core.specs.declared.error.DerError.TheVariants as der_errors;
+ghost use Rattle.der_core.specs.declared.fault.DerFault.{DerFault};
+ghost use Rattle.asn1_types.specs.Time.{generalized_fields};
+ghost use Rattle.key_core.specs.declared.element.Element.TheVariants as elements;
+ghost use Rattle.names_core.specs.UtcDate.{fields_of};
+ghost use Rattle.x509_types.specs.Certificate.{IsCertificate};
+ghost use Rattle.x509_types.specs.CertificateElements.{certificate_of};
+ghost use Rattle.x509_types.specs.CertificateView.{IsCertView, view_elements};
+ghost use Rattle.x509_types.specs.FirstOfValue.{extensions_in};
+ghost use Rattle.x509_types.specs.declared.certificate.Certificate.{Certificate};
+ghost use Rattle.x509_core.specs.KeptCertificate.{HasFields, kept_octets, written_elements, written_octets};
+ghost use Rattle.x509_core.specs.Keyless.{joined};
+ghost use Rattle.x509_core.specs.CertRefusals.{IsUnread, IsUnwritten};
+ghost use Rattle.x509_core.specs.declared.error.CertError.TheVariants as errors;
+ghost use Rattle.x509_core.specs.Facts.Certs.{HasFields-prop};
+
+use crate::error::CertError;
+use crate::keyless::Keyless;
+use asn1_types::IntegerAsn1;
+use der_core::{DerError, Elem, Raw, Structure, exact_elem};
+use key_core::{Element, PublicKey};
+use names_core::{DirectoryName, UtcDate};
+use std::alloc::{AllocError, Global};
+use std::marker::Model;
+use x509_types::{AlgorithmIdentifier, CertView, Certificate, Extension, Time};
+
+/// A certificate (RFC 5280 4.1), kept with its octets. Contracts see it as the elements that stand
+/// for its fields, and the value that they spell. Whether it is to be believed isn't asked of one.
+#[derive(Debug, Drop)]
+pub struct Cert {
+    kept: Raw,
+    rest: Keyless,
+    public_key: PublicKey,
+    ghost fields: { HasFields kept.element (joined rest public_key) } by { HasFields-prop kept.element (joined rest public_key) },
+}
+
+impl Model for Cert {
+    ghost use Rattle.x509_core.specs.KeptCertificate.{KeptCertificate};
+    ghost use Rattle.x509_core.specs.Keyless.{joined};
+    ghost use Rattle.x509_core.specs.Facts.Certs.{coded_certificates};
+
+    ghost Value = { KeptCertificate };
+
+    ghost coded = { coded_certificates };
+
+    ghost view = { λ cert. record { elements = cert.fields.0; certificate = joined cert.rest cert.public_key; der = cert.fields.1.1; spelled = cert.fields.1.2 } };
+}
+
+impl Cert {
+    /// The certificate that octets are, all of them, and nothing else. Octets that are no element,
+    /// or one of another structure, are refused as `Asn1Deserialization` without memory.
+    pub fn from_der(alloc: Global, der: &[u8]) -> Result<Cert, CertError>
+        ensures kept { IfOk result (λ cert. kept_octets cert ≡ der.now) }
+        ensures answer { MatchResult result
+            (λ cert. IsWithin IsCertificate der.now cert.certificate)
+            (IsUnread elements.Certificate (RefusesOctets IsCertificate der.now)) }
+        // Octets with a fault are refused with it, whatever memory there is.
+        ensures faulty { (at : ℕ) (fault : DerFault) → IsExactFault der.now at fault
+            → result ≡ Err (errors.Asn1Deserialization elements.Certificate (der_errors.Malformed (record { at = at; fault = fault }))) }
+        // An element that is that of no certificate is refused as such, whatever memory there is.
+        ensures shapeless { (element : DerElement) → IsDer element → der.now ≡ encoding element → ((c : Certificate) → IsCertificate element c → ⊥)
+            → result ≡ Err (errors.Asn1Deserialization elements.Certificate der_errors.Shape) }
+    {
+        match Cert::read(alloc, der) {
+            Ok(cert) => Ok(cert),
+            Err(source) => Err(CertError::unread(Element::Certificate, source)),
+        }
+    }
+
+    /// The certificate that octets are, tested before memory is asked for.
+    fn read(alloc: Global, der: &[u8]) -> Result<Cert, DerError>
+        ensures kept { IfOk result (λ cert. kept_octets cert ≡ der.now) }
+        ensures answer { MatchResult result
+            (λ cert. IsWithin IsCertificate der.now cert.certificate)
+            (RefusesOctets IsCertificate der.now) }
+        ensures faulty { (at : ℕ) (fault : DerFault) → IsExactFault der.now at fault → result ≡ Err (der_errors.Malformed (record { at = at; fault = fault })) }
+        ensures shapeless { (element : DerElement) → IsDer element → der.now ≡ encoding element → ((c : Certificate) → IsCertificate element c → ⊥) → result ≡ Err der_errors.Shape }
+    {
+        let elem = exact_elem(der)?;
+        if !is_certificate(elem) {
+            return Err(DerError::Shape);
+        }
+        Cert::read_at(alloc, elem)
+    }
+
+    /// The certificate that an element spells, with a copy of its octets.
+    fn read_at(alloc: Global, elem: Elem<'_>) -> Result<Cert, DerError>
+        ensures kept { IfOk result (λ cert. certificate_of cert.elements ≡ elem.entry.is.0) }
+        ensures answer { MatchResult result
+            (λ cert. IsCertificate elem.entry.is.0 cert.certificate)
+            (RefusesShape (IsCertificate elem.entry.is.0)) }
+    {
+        let certificate = Certificate::read_at(alloc, elem)?;
+        let kept = Raw::from_elem(alloc, elem)?;
+        Ok(Cert::keep(kept, certificate))
+    }
+
+    /// The certificate that a kept element spells.
+    fn keep(kept: Raw, certificate: Certificate) -> Cert
+        requires { IsCertificate kept.element certificate }
+        ensures { (certificate_of result.elements ≡ kept.element) × (result.certificate ≡ certificate) }
+    {
+        let (rest, public_key) = Keyless::split(certificate);
+        Cert::of_parts(kept, rest, public_key)
+    }
+
+    /// The certificate that is kept in these parts.
+    fn of_parts(kept: Raw, rest: Keyless, public_key: PublicKey) -> Cert
+        requires { HasFields kept.element (joined rest public_key) }
+        ensures { (certificate_of result.elements ≡ kept.element) × (result.certificate ≡ joined rest public_key) }
+    {
+        Cert {
+            kept,
+            rest,
+            public_key,
+        }
+    }
+
+    /// The octets that are kept: those that were read, or written at first.
+    pub fn to_der(&self, alloc: Global) -> Result<Vec<u8>, CertError>
+        ensures { MatchResult result (λ octets. octets.items ≡ kept_octets self.now) (λ e. e ≡ errors.Memory) }
+    {
+        Ok(Vec::from_slice(alloc, self.kept.as_bytes())?)
+    }
+
+    /// The certificate of a value, with the octets that are written for it. A value that has none is
+    /// refused as `Asn1Serialization`.
+    pub fn from_certificate(alloc: Global, certificate: Certificate) -> Result<Cert, CertError>
+        ensures { MatchResult result
+            (λ cert. (kept_octets cert ≡ written_octets certificate) × (cert.certificate ≡ certificate))
+            (IsUnwritten elements.Certificate (RefusesInner (written_elements certificate))) }
+    {
+        match written(alloc, &certificate) {
+            Ok(kept) => Ok(Cert::keep(kept, certificate)),
+            Err(source) => Err(CertError::unwritten(Element::Certificate, source)),
+        }
+    }
+
+    /// The value of the certificate. It takes no memory.
+    pub fn into_certificate(self) -> Certificate
+        ensures { result ≡ self.certificate }
+    {
+        let Cert {
+            rest,
+            public_key,
+            ..
+        } = self;
+        rest.join(public_key)
+    }
+
+    /// The certificate where its octets lie. It takes no memory.
+    pub fn view(&self) -> CertView<'_>
+        ensures is { IsCertView (certificate_of self.now.elements) result }
+        ensures elements { view_elements result ≡ self.now.elements }
+    {
+        match CertView::read(self.kept.elem()) {
+            Some(view) => view,
+            None => unreachable!(),
+        }
+    }
+
+    /// The number that the issuer gave it (RFC 5280 4.1.2.2).
+    pub fn serial_number(&self) -> &IntegerAsn1
+        ensures { result.now ≡ self.now.certificate.tbs_certificate.serial_number }
+    {
+        &self.rest.serial_number
+    }
+
+    /// The algorithm of the signature, by what is signed (RFC 5280 4.1.2.3).
+    pub fn signature_algorithm(&self) -> &AlgorithmIdentifier
+        ensures { result.now ≡ self.now.certificate.tbs_certificate.signature }
+    {
+        &self.rest.signature
+    }
+
+    /// The moment from which on the certificate is valid (RFC 5280 4.1.2.5).
+    pub fn valid_not_before(&self) -> UtcDate
+        ensures { generalized_fields result ≡ fields_of self.now.certificate.tbs_certificate.validity.not_before }
+    {
+        date_of(&self.rest.validity.not_before)
+    }
+
+    /// The moment up to which the certificate is valid (RFC 5280 4.1.2.5).
+    pub fn valid_not_after(&self) -> UtcDate
+        ensures { generalized_fields result ≡ fields_of self.now.certificate.tbs_certificate.validity.not_after }
+    {
+        date_of(&self.rest.validity.not_after)
+    }
+
+    /// The extensions in order, none where the field is left out (RFC 5280 4.1.2.9).
+    pub fn extensions(&self) -> &[Extension]
+        ensures { result.now ≡ extensions_in self.now.certificate.tbs_certificate.extensions }
+    {
+        match &self.rest.extensions {
+            Some(extensions) => extensions.as_slice(),
+            None => &[],
+        }
+    }
+
+    /// The key of the subject with its algorithm (RFC 5280 4.1.2.7).
+    pub fn public_key(&self) -> &PublicKey
+        ensures { result.now.info ≡ self.now.certificate.tbs_certificate.subject_public_key_info }
+    {
+        &self.public_key
+    }
+
+    /// The key of the subject with its algorithm. It takes no memory.
+    pub fn into_public_key(self) -> PublicKey
+        ensures { result.info ≡ self.certificate.tbs_certificate.subject_public_key_info }
+    {
+        let Cert { public_key, .. } = self;
+        public_key
+    }
+
+    /// The name of the subject (RFC 5280 4.1.2.6).
+    pub fn subject_name(&self, alloc: Global) -> Result<DirectoryName, AllocError>
+        ensures { IfOk result (λ copy. copy.name ≡ self.now.certificate.tbs_certificate.subject) }
+    {
+        Ok(DirectoryName::from(self.rest.subject.try_clone(alloc)?))
+    }
+
+    /// The name of the issuer (RFC 5280 4.1.2.4).
+    pub fn issuer_name(&self, alloc: Global) -> Result<DirectoryName, AllocError>
+        ensures { IfOk result (λ copy. copy.name ≡ self.now.certificate.tbs_certificate.issuer) }
+    {
+        Ok(DirectoryName::from(self.rest.issuer.try_clone(alloc)?))
+    }
+
+    /// A copy of the value.
+    pub fn try_clone(&self, alloc: Global) -> Result<Cert, AllocError>
+        ensures { IfOk result (λ copy. copy ≡ self.now) }
+    {
+        let kept = self.kept.try_clone(alloc)?;
+        let rest = self.rest.try_clone(alloc)?;
+        let public_key = self.public_key.try_clone(alloc)?;
+        Ok(Cert::of_parts(kept, rest, public_key))
+    }
+}
+
+/// Whether the element spells a certificate.
+fn is_certificate(elem: Elem<'_>) -> bool
+    ensures fits { IsTrue result → Fits IsCertificate elem.entry.is.0 }
+    ensures unfit { result ≡ false → (c : Certificate) → IsCertificate elem.entry.is.0 c → ⊥ }
+{
+    CertView::read(elem).is_some()
+}
+
+/// The element that is written for a certificate, kept with its octets.
+fn written(alloc: Global, certificate: &Certificate) -> Result<Raw, DerError>
+    ensures { MatchResult result
+        (λ raw. (encoding raw.element ≡ written_octets certificate.now) × IsCertificate raw.element certificate.now)
+        (RefusesInner (written_elements certificate.now)) }
+{
+    let tree = certificate.write(alloc)?;
+    Raw::from_tree(alloc, &tree)
+}
+
+/// The moment of a time in either form.
+fn date_of(time: &Time) -> UtcDate
+    ensures { generalized_fields result ≡ fields_of time.now }
+{
+    match time {
+        Time::Utc(time) => UtcDate::from(*time),
+        Time::Generalized(time) => UtcDate::from(*time),
+    }
+}
+
+/// Certificates are equal exactly where their octets are.
+impl PartialEq for Cert {
+    ghost eq = { same_octets (λ kept. certificate_of kept.elements) };
+
+    ghost laws = { same_octets_per (λ kept. certificate_of kept.elements) };
+
+    fn eq(&self, other: &Cert) -> bool
+        ensures octets { result ≡ same_octets (λ kept. certificate_of kept.elements) self.now other.now }
+        ensures same { IsTrue result ↔ (self.now ≡ other.now) }
+    {
+        self.kept == other.kept
+    }
+}

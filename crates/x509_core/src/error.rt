@@ -1,0 +1,201 @@
+//! Why a certificate isn't read or written, lacks an extension, or isn't the parent of another.
+
+ghost use Rattle.std.specs.Prelude.{◌≡◌, Some};
+ghost use Rattle.std.specs.Fmt.{WritesOnOk};
+ghost use Rattle.x501_types.specs.NameText.{hexadecimal};
+ghost use Rattle.x509_core.specs.ErrorText.{extension_text, chain_error_text, cause_text, cert_error_text, key_mismatch_text};
+ghost use Rattle.x509_core.specs.CertRefusals.{unread, unwritten};
+ghost use Rattle.x509_core.specs.declared.error.CertError.TheVariants.{Memory};
+
+use der_core::{DerError, Octets};
+use key_core::Element;
+use names_core::DirectoryName;
+use std::alloc::{AllocError, AllocFailed};
+use std::fmt;
+use thiserror::Error;
+
+/// Why a certificate isn't read or written, lacks an extension, or isn't the parent of another.
+#[derive(Debug, Drop, Error)]
+pub enum CertError {
+    /// A certificate, told by the name of its subject, isn't what it has to be.
+    InvalidCertificate {
+        id: DirectoryName,
+        source: CertCause,
+    },
+    /// The value has no encoding: it is nested too deep, or some contents are too long. Never with
+    /// want of memory.
+    Asn1Serialization {
+        element: Element,
+        source: DerError,
+    },
+    /// The octets are no element, or one of another structure. Never with want of memory.
+    Asn1Deserialization {
+        element: Element,
+        source: DerError,
+    },
+    /// Certificates are no chain.
+    InvalidChain {
+        source: CaChainError,
+    },
+    /// The certificate has no extension of this name.
+    ExtensionNotFound {
+        name: ExtName,
+    },
+    /// No memory was left.
+    Memory,
+}
+
+/// What a certificate is refused for, each as the `CertError` of its name.
+#[derive(Debug, Drop, Error)]
+pub enum CertCause {
+    /// Certificates are no chain.
+    InvalidChain { source: CaChainError },
+    /// The certificate has no extension of this name.
+    ExtensionNotFound { name: ExtName },
+}
+
+/// Why certificates are no chain.
+#[derive(Debug, Drop, Error)]
+pub enum CaChainError {
+    /// The certificate names another key as its authority's than the parent's.
+    AuthorityKeyIdMismatch {
+        expected: Octets,
+        actual: Octets,
+    },
+    /// The issuer of the certificate isn't the subject of the parent.
+    IssuerNameMismatch {
+        expected: DirectoryName,
+        actual: DirectoryName,
+    },
+}
+
+/// An extension that is asked for by name.
+#[derive(Clone, Copy, Debug, PartialEq, Eq)]
+pub enum ExtName {
+    SubjectKeyIdentifier,
+    AuthorityKeyIdentifier,
+    BasicConstraints,
+}
+
+impl CertError {
+    /// Why octets of the structure aren't read.
+    pub(crate) fn unread(element: Element, source: DerError) -> CertError
+        ensures { result ≡ unread element source }
+    {
+        match source {
+            DerError::Memory => CertError::Memory,
+            source => CertError::Asn1Deserialization { element, source },
+        }
+    }
+
+    /// Why a value of the structure isn't written.
+    pub(crate) fn unwritten(element: Element, source: DerError) -> CertError
+        ensures { result ≡ unwritten element source }
+    {
+        match source {
+            DerError::Memory => CertError::Memory,
+            source => CertError::Asn1Serialization { element, source },
+        }
+    }
+}
+
+impl fmt::Display for ExtName {
+    ghost output = { λ name. Some (extension_text name) };
+
+    fn fmt<W: fmt::Write>(&self, f: &mut fmt::Formatter<W>) -> fmt::Result {
+        match self {
+            ExtName::SubjectKeyIdentifier => write!(f, "subject key identifier"),
+            ExtName::AuthorityKeyIdentifier => write!(f, "authority key identifier"),
+            ExtName::BasicConstraints => write!(f, "basic constraints"),
+        }
+    }
+}
+
+impl fmt::Display for CaChainError {
+    ghost output = { λ error. Some (chain_error_text error) };
+
+    fn fmt<W: fmt::Write>(&self, f: &mut fmt::Formatter<W>) -> fmt::Result {
+        match self {
+            CaChainError::AuthorityKeyIdMismatch { expected, actual } => {
+                write_key_mismatch(expected.as_slice(), actual.as_slice(), f)
+            }
+            CaChainError::IssuerNameMismatch { expected, actual } => write!(
+                f,
+                "issuer name doesn't match (expected: {expected}, got: {actual})"
+            ),
+        }
+    }
+}
+
+fn write_key_mismatch<W: fmt::Write>(
+    expected: &[u8],
+    actual: &[u8],
+    f: &mut fmt::Formatter<W>,
+) -> fmt::Result
+    ensures { WritesOnOk W.write_str_gives f.old result (key_mismatch_text expected.now actual.now) f.new }
+{
+    f.write_str("authority key id doesn't match (expected: ")?;
+    write_hexadecimal(expected, f)?;
+    f.write_str(", got: ")?;
+    write_hexadecimal(actual, f)?;
+    f.write_str(")")
+}
+
+fn write_hexadecimal<W: fmt::Write>(octets: &[u8], f: &mut fmt::Formatter<W>) -> fmt::Result
+    ensures { WritesOnOk W.write_str_gives f.old result (hexadecimal octets.now) f.new }
+{
+    for octet in octets {
+        write!(f, "{octet:02x}")?;
+    }
+    Ok(())
+}
+
+impl fmt::Display for CertCause {
+    ghost output = { λ cause. Some (cause_text cause) };
+
+    fn fmt<W: fmt::Write>(&self, f: &mut fmt::Formatter<W>) -> fmt::Result {
+        match self {
+            CertCause::InvalidChain { source } => write!(f, "CA chain error: {source}"),
+            CertCause::ExtensionNotFound { name } => write!(f, "extension not found: {name}"),
+        }
+    }
+}
+
+impl fmt::Display for CertError {
+    ghost output = { cert_error_text };
+
+    fn fmt<W: fmt::Write>(&self, f: &mut fmt::Formatter<W>) -> fmt::Result {
+        match self {
+            CertError::InvalidCertificate { id, source } => {
+                write!(f, "invalid certificate '{id}': {source}")
+            }
+            CertError::Asn1Serialization { element, source } => write!(
+                f,
+                "(ASN1) couldn't serialize {element}: {source}"
+            ),
+            CertError::Asn1Deserialization { element, source } => write!(
+                f,
+                "(ASN1) couldn't deserialize {element}: {source}"
+            ),
+            CertError::InvalidChain { source } => write!(f, "CA chain error: {source}"),
+            CertError::ExtensionNotFound { name } => write!(f, "extension not found: {name}"),
+            CertError::Memory => write!(f, "out of memory"),
+        }
+    }
+}
+
+impl From<AllocError> for CertError {
+    ghost from_gives = { λ _ e. e ≡ Memory };
+
+    fn from(_refused: AllocError) -> CertError {
+        CertError::Memory
+    }
+}
+
+impl<T: Drop> From<AllocFailed<T>> for CertError {
+    ghost from_gives = { λ _ e. e ≡ Memory };
+
+    fn from(_refused: AllocFailed<T>) -> CertError {
+        CertError::Memory
+    }
+}

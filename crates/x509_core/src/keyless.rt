@@ -1,0 +1,133 @@
+//! The parts in which a certificate is kept.
+
+ghost use Rattle.std.specs.Prelude.{◌≡◌, IfOk};
+ghost use Rattle.x509_core.specs.Keyless.{joined};
+
+use asn1_types::{BitString, IntegerAsn1};
+use der_core::{Octets, Structure};
+use key_core::PublicKey;
+use std::alloc::{AllocError, Global};
+use x509_types::{
+    AlgorithmIdentifier, Certificate, Extensions, Name, SubjectPublicKeyInfo, TbsCertificate,
+    Validity, Version,
+};
+
+/// A certificate but for the key of its subject, which is lent as a type of its own.
+#[derive(Debug, Drop)]
+pub(crate) struct Keyless {
+    pub version: Option<Version>,
+    pub serial_number: IntegerAsn1,
+    pub signature: AlgorithmIdentifier,
+    pub issuer: Name,
+    pub validity: Validity,
+    pub subject: Name,
+    pub issuer_unique_id: Option<Octets>,
+    pub subject_unique_id: Option<Octets>,
+    pub extensions: Option<Extensions>,
+    pub signature_algorithm: AlgorithmIdentifier,
+    pub signature_value: BitString,
+}
+
+impl Keyless {
+    /// Both parts of a certificate.
+    pub fn split(certificate: Certificate) -> (Keyless, PublicKey)
+        ensures { joined result.0 result.1 ≡ certificate }
+    {
+        let Certificate {
+            tbs_certificate,
+            signature_algorithm,
+            signature_value,
+        } = certificate;
+        let TbsCertificate {
+            version,
+            serial_number,
+            signature,
+            issuer,
+            validity,
+            subject,
+            subject_public_key_info,
+            issuer_unique_id,
+            subject_unique_id,
+            extensions,
+        } = tbs_certificate;
+        let rest = Keyless {
+            version,
+            serial_number,
+            signature,
+            issuer,
+            validity,
+            subject,
+            issuer_unique_id,
+            subject_unique_id,
+            extensions,
+            signature_algorithm,
+            signature_value,
+        };
+        (rest, PublicKey::from(subject_public_key_info))
+    }
+
+    /// The certificate of both parts.
+    pub fn join(self, public_key: PublicKey) -> Certificate
+        ensures { result ≡ joined self public_key }
+    {
+        let Keyless {
+            version,
+            serial_number,
+            signature,
+            issuer,
+            validity,
+            subject,
+            issuer_unique_id,
+            subject_unique_id,
+            extensions,
+            signature_algorithm,
+            signature_value,
+        } = self;
+        let tbs_certificate = TbsCertificate {
+            version,
+            serial_number,
+            signature,
+            issuer,
+            validity,
+            subject,
+            subject_public_key_info: SubjectPublicKeyInfo::from(public_key),
+            issuer_unique_id,
+            subject_unique_id,
+            extensions,
+        };
+        Certificate {
+            tbs_certificate,
+            signature_algorithm,
+            signature_value,
+        }
+    }
+
+    /// A copy of the value.
+    pub fn try_clone(&self, alloc: Global) -> Result<Keyless, AllocError>
+        ensures { IfOk result (λ copy. copy ≡ self.now) }
+    {
+        Ok(Keyless {
+            version: self.version,
+            serial_number: self.serial_number.try_clone(alloc)?,
+            signature: self.signature.try_clone(alloc)?,
+            issuer: self.issuer.try_clone(alloc)?,
+            validity: self.validity.try_clone(alloc)?,
+            subject: self.subject.try_clone(alloc)?,
+            issuer_unique_id: copy_optional(alloc, &self.issuer_unique_id)?,
+            subject_unique_id: copy_optional(alloc, &self.subject_unique_id)?,
+            extensions: copy_optional(alloc, &self.extensions)?,
+            signature_algorithm: self.signature_algorithm.try_clone(alloc)?,
+            signature_value: self.signature_value.try_clone(alloc)?,
+        })
+    }
+}
+
+/// A copy of the value, where there is one.
+fn copy_optional<T: Structure>(alloc: Global, value: &Option<T>) -> Result<Option<T>, AllocError>
+    ensures { IfOk result (λ copy. copy ≡ value.now) }
+{
+    match value {
+        Some(value) => Ok(Some(value.try_clone(alloc)?)),
+        None => Ok(None),
+    }
+}

@@ -1,0 +1,19 @@
+//! Certificates: read from octets, kept with them, and asked for what a caller wants of one; and
+//! whether one may be the parent of another.
+#![tactic(auto)]
+
+mod cert;
+mod cert_extensions;
+mod cert_type;
+mod error;
+mod key_link;
+mod keyless;
+mod laws;
+mod parent;
+
+pub use cert::Cert;
+pub use cert_type::CertType;
+pub use error::{CaChainError, CertCause, CertError, ExtName};
+pub use key_core::Element;
+pub use laws::certificates_are_written_as_read;
+pub use parent::names_agree;

@@ -1,0 +1,88 @@
+//! Which certificate may be the parent of another.
+
+ghost use Rattle.std.specs.Prelude.{◌≡◌, ◌↔◌, IsTrue, Ok, MatchResult};
+ghost use Rattle.x509_types.specs.CertificateView.{view_elements};
+ghost use Rattle.x509_core.specs.Parent.{AgreeByKey, AgreeByName, AreLinked, IsInvalid, IsOtherKey, RefusesParent};
+
+use crate::cert::Cert;
+use crate::error::{CaChainError, CertCause, CertError, ExtName};
+use crate::key_link::{KeyLink, key_link};
+use der_core::{Octets, is_same};
+use std::alloc::Global;
+use x509_types::CertView;
+
+/// Whether the issuer of the child is the subject of the parent, where their octets lie.
+pub fn names_agree(parent: CertView<'_>, child: CertView<'_>) -> bool
+    ensures { IsTrue result ↔ AgreeByName (view_elements parent.entry) (view_elements child.entry) }
+{
+    is_same(child.issuer(), parent.subject())
+}
+
+impl Cert {
+    /// Whether the names and key identifiers of this certificate and `other` are those of a parent
+    /// and its child (RFC 5280 4.2.1.1, 6.1.3). Where `other` names the identifier of a key, it is
+    /// refused as `ExtensionNotFound` where this certificate has none, told of this one, and as
+    /// `AuthorityKeyIdMismatch` where it has another; then as `IssuerNameMismatch` where the issuer
+    /// of `other` isn't the subject of this one. Both mismatches are told of `other`. Signatures,
+    /// dates and flags aren't asked for.
+    pub fn is_parent_of(&self, alloc: Global, other: &Cert) -> Result<(), CertError>
+        ensures answer { MatchResult result
+            (λ _. AreLinked self.now.elements other.now.elements)
+            (RefusesParent self.now other.now) }
+        // Whatever memory there is.
+        ensures accepted { AreLinked self.now.elements other.now.elements → result ≡ Ok tt }
+    {
+        match key_link(self.view(), other.view()) {
+            KeyLink::Agree => self.expect_issuer_of(alloc, other),
+            KeyLink::Missing => {
+                let name = ExtName::SubjectKeyIdentifier;
+                Err(self.invalid(alloc, CertCause::ExtensionNotFound { name }))
+            }
+            KeyLink::Differ { expected, actual } => {
+                Err(other.other_key(alloc, expected, actual))
+            }
+        }
+    }
+
+    /// The issuer of the other certificate is the subject of this one.
+    fn expect_issuer_of(&self, alloc: Global, other: &Cert) -> Result<(), CertError>
+        requires { AgreeByKey self.now.elements other.now.elements }
+        ensures answer { MatchResult result
+            (λ _. AreLinked self.now.elements other.now.elements)
+            (RefusesParent self.now other.now) }
+        ensures accepted { AgreeByName self.now.elements other.now.elements → result ≡ Ok tt }
+    {
+        if names_agree(self.view(), other.view()) {
+            return Ok(());
+        }
+        let source = CaChainError::IssuerNameMismatch {
+            expected: other.issuer_name(alloc)?,
+            actual: self.subject_name(alloc)?,
+        };
+        Err(other.invalid(alloc, CertCause::InvalidChain { source }))
+    }
+
+    /// The certificate names another identifier than that of its parent's key.
+    fn other_key(&self, alloc: Global, expected: &[u8], actual: &[u8]) -> CertError
+        ensures { IsOtherKey self.now expected.now actual.now result }
+    {
+        let Ok(expected) = Octets::from_slice(alloc, expected) else {
+            return CertError::Memory;
+        };
+        let Ok(actual) = Octets::from_slice(alloc, actual) else {
+            return CertError::Memory;
+        };
+        let source = CaChainError::AuthorityKeyIdMismatch { expected, actual };
+        self.invalid(alloc, CertCause::InvalidChain { source })
+    }
+
+    /// The refusal of this certificate for a cause.
+    fn invalid(&self, alloc: Global, source: CertCause) -> CertError
+        ensures { IsInvalid self.now source result }
+    {
+        match self.subject_name(alloc) {
+            Ok(id) => CertError::InvalidCertificate { id, source },
+            Err(_) => CertError::Memory,
+        }
+    }
+}
