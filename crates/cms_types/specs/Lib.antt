@@ -1,7 +1,4 @@
 pub mod DigestAlgorithm
-pub mod DigestInfo
-pub mod SpcAttribute
-pub mod IndirectData
 pub mod Units
 pub mod SpcString
 pub mod SpcLink
