@@ -19,13 +19,13 @@ use Rattle.cms_types.specs.declared.opus_info.SpcSpOpusInfo.{SpcSpOpusInfo}
 abbrev prints : {X : Type 0} → (X → DerElement) → DerElement → X → Type 0
 prints written element value = element ≡ written value
 
-printed_option : {X : Type 0} (written : X → DerElement) (e : Option DerElement) (v : Option X) → SpellsOption (prints written) e v → e ≡ option_map written v
+pub printed_option : {X : Type 0} (written : X → DerElement) (e : Option DerElement) (v : Option X) → SpellsOption (prints written) e v → e ≡ option_map written v
 printed_option written None None s = refl
 printed_option written None (Some v) s = absurd s
 printed_option written (Some e) None s = absurd s
 printed_option written (Some e) (Some v) s = ap Some s
 
-option_printed : {X : Type 0} (written : X → DerElement) (e : Option DerElement) (v : Option X) → e ≡ option_map written v → SpellsOption (prints written) e v
+pub option_printed : {X : Type 0} (written : X → DerElement) (e : Option DerElement) (v : Option X) → e ≡ option_map written v → SpellsOption (prints written) e v
 option_printed written None None e = tt
 option_printed written None (Some v) e = absurd cc
 option_printed written (Some x) None e = absurd cc
