@@ -1,2 +1,9 @@
 pub mod OpusFields
 pub mod Characters
+pub mod Signers
+pub mod SignerKids
+pub mod SignerLaws
+pub mod Several
+pub mod ListFields
+pub mod Fields
+pub mod Unsigned

@@ -1,20 +1,54 @@
-//! Structures of PKCS #7 (RFC 2315) and of Authenticode (Windows Authenticode Portable Executable
-//! Signature Format), as values, read from octets or trees and written as trees: the content that is
-//! signed, and what a signature says of its program.
+//! Structures of PKCS #7 (RFC 2315), of the Cryptographic Message Syntax (RFC 5652) and of
+//! Authenticode (Windows Authenticode Portable Executable Signature Format), as values, read from
+//! octets or trees and written as trees: signed data, its signers, and what a signature says of its
+//! program. The contents that are signed stand in a crate of their own, and are handed on here.
 #![tactic(auto)]
 
-mod digest_info;
-mod indirect_data;
+mod certificate_choices;
+mod issuer_and_serial;
+mod laws;
+mod levels;
+mod list_fields;
 mod opus_info;
+mod pkcs7;
+mod raw_certificate;
+mod raw_unsigned;
 mod sha;
-mod spc_attribute;
+mod shapes;
+mod signed_attributes;
+mod signed_data;
+mod signed_data_fields;
+mod signer_fields;
+mod signer_identifier;
+mod signer_info;
+mod signer_values;
 mod spc_link;
 mod spc_string;
+mod token_values;
+mod unsigned_attribute;
+mod unsigned_kind;
+mod version;
 
-pub use digest_info::DigestInfo;
-pub use indirect_data::SpcIndirectDataContent;
+pub use certificate_choices::CertificateChoices;
+pub use content_types::{
+    ContentKind, ContentValue, ContentView, DigestInfo, EncapsulatedContentInfo,
+    SpcAttributeTypeAndOptionalValue, SpcIndirectDataContent, TimestampRequest,
+};
+pub use issuer_and_serial::IssuerAndSerialNumber;
+pub use laws::shapes_are_those_of_values;
 pub use opus_info::SpcSpOpusInfo;
+pub use pkcs7::Pkcs7Certificate;
+pub use raw_certificate::{OtherCertificate, RawCertificate};
+pub use raw_unsigned::{RawList, RawUnsignedAttribute};
 pub use sha::new_sha;
-pub use spc_attribute::SpcAttributeTypeAndOptionalValue;
+pub use signed_attributes::SignedAttributes;
+pub use signed_data::{CertificateSet, DigestAlgorithms, SignedData, SignersInfos};
+pub use signer_identifier::SignerIdentifier;
+pub use signer_info::SignerInfo;
+pub use signer_values::SignerValues;
 pub use spc_link::SpcLink;
 pub use spc_string::SpcString;
+pub use token_values::TokenValues;
+pub use unsigned_attribute::{UnsignedAttribute, UnsignedAttributeList};
+pub use unsigned_kind::UnsignedKind;
+pub use version::CmsVersion;

@@ -1,0 +1,88 @@
+-- Values that are written and kept, one after another.
+use Rattle.std.proofs.Common.{◌≡◌, List, [], ◌∷◌, ◌++◌, map, flat_map, Option, Some, None, refl, sym, ap, subst, ◌∙◌, append_assoc, append-nil}
+use Rattle.std.proofs.lemmas.List.{map-append}
+use Rattle.std.proofs.lemmas.Grind.{flat_map-append}
+use Rattle.der_core.specs.DerElement.{DerElement}
+use Rattle.der_core.specs.Encoding.{IsDer}
+use Rattle.der_core.specs.Kept.{KeptElement}
+use Rattle.der_core.specs.Placed.{AreDer}
+use Rattle.der_core.specs.Refusals.{RefusesInner}
+use Rattle.der_core.specs.Writing.{RefusesToWrite}
+use Rattle.der_core.specs.Facts.Grammars.{AreDer-append}
+use Rattle.der_core.specs.Facts.Lists.{none_inner}
+use Rattle.cms_types.specs.Optional.{inner_list}
+use Rattle.der_core.specs.declared.error.DerError.{DerError}
+use Rattle.der_core.proofs.Inner.{refuses_among, refuses_alone, refuses_before, refuses_last}
+use Rattle.cms_types.specs.Members.{element_of_kept, elements_of_kept, all_inner}
+
+-- The first values are kept, and their elements are in bounds.
+pub record AreKept {X : Type 0} (inner : X → List DerElement) (written : X → DerElement) (all rest : List X) (kept : List KeptElement) : Type 0 where
+  pub first : List X
+  pub are : all ≡ first ++ rest
+  pub kept_are : elements_of_kept kept ≡ map written first
+  pub bounded : AreDer (all_inner inner written first)
+
+all_parts : {X : Type 0} (inner : X → List DerElement) (written : X → DerElement) (all first rest : List X) (value : X) → all ≡ first ++ value ∷ rest
+    → all_inner inner written all ≡ all_inner inner written first ++ ((inner value ++ written value ∷ []) ++ all_inner inner written rest)
+all_parts inner written all first rest value are =
+    ap (all_inner inner written) are ∙ flat_map-append (λ v. inner v ++ written v ∷ []) first (value ∷ rest)
+
+refused_among : {X : Type 0} (inner : X → List DerElement) (written : X → DerElement) (all rest rest' : List X) (kept : List KeptElement) (value : X) (e : DerError) → AreKept inner written all rest kept → rest ≡ value ∷ rest'
+    → RefusesInner (inner value ++ written value ∷ []) e → RefusesInner (all_inner inner written all) e
+refused_among inner written all rest rest' kept value e so_far next refused =
+    let first = so_far.first in
+    let parts = all_parts inner written all first rest' value (so_far.are ∙ ap (λ r. first ++ r) next) in
+    subst (λ i. RefusesInner i e) (sym parts) (refuses_among (all_inner inner written first) (inner value ++ written value ∷ []) (all_inner inner written rest') e so_far.bounded refused)
+
+-- what is written into a string of the value can't be written
+pub not_inside : {X : Type 0} (inner : X → List DerElement) (written : X → DerElement) (all rest rest' : List X) (kept : List KeptElement) (value : X) (e : DerError) → AreKept inner written all rest kept → rest ≡ value ∷ rest'
+    → RefusesInner (inner value) e → RefusesInner (all_inner inner written all) e
+not_inside inner written all rest rest' kept value e so_far next refused =
+    refused_among inner written all rest rest' kept value e so_far next (refuses_before (inner value) (written value ∷ []) e refused)
+
+-- its own element can't be written
+pub not_kept : {X : Type 0} (inner : X → List DerElement) (written : X → DerElement) (all rest rest' : List X) (kept : List KeptElement) (value : X) (tree : DerElement) (e : DerError) → AreKept inner written all rest kept → rest ≡ value ∷ rest'
+    → tree ≡ written value → AreDer (inner value) → RefusesToWrite tree e → RefusesInner (all_inner inner written all) e
+not_kept inner written all rest rest' kept value tree e so_far next is der refused =
+    refused_among inner written all rest rest' kept value e so_far next
+    (refuses_last (inner value) (written value ∷ []) e der (refuses_alone (written value) e (subst (λ t. RefusesToWrite t e) is refused)))
+
+-- one more is kept
+pub kept_more : {X : Type 0} (inner : X → List DerElement) (written : X → DerElement) (all rest rest' : List X) (kept kept' : List KeptElement) (value : X) (tree : DerElement) (raw : KeptElement) → AreKept inner written all rest kept → rest ≡ value ∷ rest'
+    → tree ≡ written value → AreDer (inner value) → IsDer tree → raw.element ≡ tree → kept' ≡ kept ++ raw ∷ [] → AreKept inner written all rest' kept'
+kept_more inner written all rest rest' kept kept' value tree raw so_far next is der here raw_is pushed =
+    let first = so_far.first in
+    let one : AreDer (inner value ++ written value ∷ []) = AreDer-append (inner value) (written value ∷ []) der (subst IsDer is here, tt) in
+    record {
+      first = first ++ value ∷ [];
+      are = so_far.are ∙ ap (λ r. first ++ r) next ∙ sym (append_assoc first (value ∷ []) rest');
+      kept_are = ap elements_of_kept pushed ∙ map-append element_of_kept kept (raw ∷ []) ∙ ap (λ es. es ++ raw.element ∷ []) so_far.kept_are ∙ ap (λ e. map written first ++ e ∷ []) (raw_is ∙ is) ∙ sym (map-append written first (value ∷ []));
+      bounded =
+          subst AreDer (sym (flat_map-append (λ v. inner v ++ written v ∷ []) first (value ∷ []) ∙ ap (λ i. all_inner inner written first ++ i) (append-nil (inner value ++ written value ∷ []))))
+          (AreDer-append (all_inner inner written first) (inner value ++ written value ∷ []) so_far.bounded one);
+    }
+
+-- where nothing is left, all are kept
+pub kept_all : {X : Type 0} (inner : X → List DerElement) (written : X → DerElement) (all rest : List X) (kept : List KeptElement) → AreKept inner written all rest kept → rest ≡ [] → elements_of_kept kept ≡ map written all
+kept_all inner written all rest kept so_far none =
+    so_far.kept_are ∙ ap (map written) (sym (so_far.are ∙ ap (λ r. so_far.first ++ r) none ∙ append-nil so_far.first))
+
+-- values without such elements are refused as they are written
+pub alone_inner : {X : Type 0} (written : X → DerElement) (values : List X) → all_inner (λ value. []) written values ≡ map written values
+alone_inner written [] = refl
+alone_inner written (v ∷ values) = ap (λ es. written v ∷ es) (alone_inner written values)
+
+-- ---- values without elements in strings of them
+
+abbrev no_inner : List DerElement
+no_inner = []
+
+pub none_refused : {X : Type 0} (values : List X) (e : DerError) → RefusesInner (flat_map (λ (value : X). no_inner) values) e → RefusesInner [] e
+none_refused values e refused = subst (λ inner. RefusesInner inner e) (none_inner values) refused
+
+none_list : {X : Type 0} (values : Option (List X)) → inner_list (λ (value : X). no_inner) values ≡ []
+none_list None = refl
+none_list (Some values) = none_inner values
+
+pub none_list_refused : {X : Type 0} (values : Option (List X)) (e : DerError) → RefusesInner (inner_list (λ (value : X). no_inner) values) e → RefusesInner [] e
+none_list_refused values e refused = subst (λ inner. RefusesInner inner e) (none_list values) refused

@@ -1,0 +1,61 @@
+//! Fields that hold several values, and may be left out.
+
+ghost use Rattle.std.specs.Prelude.{◌≡◌, ◌++◌, IfOk, MatchResult, flat_map, option_to_list};
+ghost use Rattle.std.specs.Option.{option_map};
+ghost use Rattle.der_core.specs.Each.{IsListOf, list_element};
+ghost use Rattle.der_core.specs.Encoding.{IsTag, form_bit};
+ghost use Rattle.der_core.specs.Lent.{at_option};
+ghost use Rattle.der_core.specs.Placed.{AreDer};
+ghost use Rattle.der_core.specs.Refusals.{RefusesShape, RefusesInner};
+ghost use Rattle.der_core.specs.Optional.{SpellsOption};
+ghost use Rattle.cms_types.specs.Optional.{inner_list};
+
+use der_core::{DerError, Elem, ListOf, NewKids, Structure, copy_each, read_list, write_list};
+use std::alloc::{AllocError, Global};
+
+/// The values in the element, none where it is left out.
+pub(crate) fn read_list_option<T: Structure>(
+    alloc: Global,
+    elem: Option<Elem<'_>>,
+    tag: u8,
+) -> Result<Option<ListOf<T>>, DerError>
+    ensures { MatchResult result
+        (SpellsOption (IsListOf tag T.spells) (at_option elem.entry))
+        (RefusesShape (SpellsOption (IsListOf tag T.spells) (at_option elem.entry))) }
+{
+    match elem {
+        Some(elem) => Ok(Some(read_list(alloc, elem, tag)?)),
+        None => Ok(None),
+    }
+}
+
+/// Appends the element of the values, where they aren't left out.
+pub(crate) fn push_list<T: Structure>(
+    alloc: Global,
+    kids: &mut NewKids,
+    tag: u8,
+    values: &Option<ListOf<T>>,
+) -> Result<(), DerError>
+    requires { IsTag tag × (form_bit tag ≡ 1) }
+    ensures { MatchResult result
+        (λ _. (kids.new.kids ≡ kids.old.kids ++ option_to_list (option_map (list_element tag T.written) values.now)) × AreDer (inner_list T.inner values.now))
+        (RefusesInner (inner_list T.inner values.now)) }
+{
+    if let Some(values) = values {
+        kids.push(write_list(alloc, values, tag)?)?;
+    }
+    Ok(())
+}
+
+/// A copy of the values, where they aren't left out.
+pub(crate) fn copy_list<T: Structure>(
+    alloc: Global,
+    values: &Option<ListOf<T>>,
+) -> Result<Option<ListOf<T>>, AllocError>
+    ensures { IfOk result (λ copy. copy ≡ values.now) }
+{
+    match values {
+        Some(values) => Ok(Some(copy_each(alloc, values)?)),
+        None => Ok(None),
+    }
+}

@@ -1,0 +1,52 @@
+//! Signed data with its type.
+
+use crate::levels::{SIGNED, signed_data_in};
+use crate::shapes::is_pkcs7;
+use crate::signed_data::SignedData;
+use asn1_types::oids::SIGNED_DATA;
+use der_core::tag::{OBJECT_IDENTIFIER, SEQUENCE};
+use der_core::{DerError, Elem, NewKids, Structure, Tree, explicit, leaf};
+use std::alloc::{AllocError, Global};
+
+/// Signed data with its type, as it stands by itself (RFC 5652 3, RFC 2315 7).
+#[derive(Debug, Drop)]
+pub struct Pkcs7Certificate {
+    pub signed_data: SignedData,
+}
+
+impl Structure for Pkcs7Certificate {
+    ghost use Rattle.std.specs.Prelude.{◌≡◌};
+    ghost use Rattle.cms_types.specs.Pkcs7.{pkcs7};
+    ghost use Rattle.cms_types.specs.Facts.SignedDatas.{pkcs7s};
+
+    ghost written = { pkcs7 };
+
+    ghost spells = { λ element value. element ≡ pkcs7 value };
+
+    fn has_shape(elem: Elem<'_>) -> bool {
+        is_pkcs7(elem)
+    }
+
+    fn read_at(alloc: Global, elem: Elem<'_>) -> Result<Pkcs7Certificate, DerError> {
+        let Some(inner) = signed_data_in(elem) else {
+            return Err(DerError::Shape);
+        };
+        let signed_data = SignedData::read_at(alloc, inner)?;
+        Ok(Pkcs7Certificate { signed_data })
+    }
+
+    fn write(&self, alloc: Global) -> Result<Tree, DerError> {
+        let mut kids = NewKids::new(alloc);
+        kids.push(leaf(alloc, OBJECT_IDENTIFIER, SIGNED_DATA)?)?;
+        kids.push(explicit(alloc, SIGNED, self.signed_data.write(alloc)?)?)?;
+        Ok(kids.into_branch(SEQUENCE))
+    }
+
+    fn try_clone(&self, alloc: Global) -> Result<Pkcs7Certificate, AllocError> {
+        Ok(Pkcs7Certificate {
+            signed_data: self.signed_data.try_clone(alloc)?,
+        })
+    }
+
+    ghost grammar = { pkcs7s };
+}

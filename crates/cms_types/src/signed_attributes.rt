@@ -1,0 +1,67 @@
+//! The signed attributes of a signer, kept as they are.
+
+ghost use Rattle.std.specs.Prelude.{◌≡◌};
+ghost use Rattle.cms_types.specs.SignedAttributes.{AreSignedAttributes};
+
+use der_core::{DerError, Elem, Raw, Structure, Tree, has_list, read_list};
+use std::alloc::{AllocError, Global};
+use x509_types::{Attribute, AttributeList};
+
+pub(crate) const SIGNED_ATTRIBUTES: u8 = 0xA0;
+
+/// The attributes that a signer signs, with the element that they were read from (RFC 5652 5.3): what
+/// is signed of them are its octets.
+#[derive(Debug, Drop)]
+pub struct SignedAttributes {
+    element: Raw,
+    list: AttributeList,
+    pub ghost are: { ∥ AreSignedAttributes element.element list ∥₁ },
+}
+
+impl SignedAttributes {
+    /// The element, under the tag that it has in a signer.
+    pub fn element(&self) -> &Raw
+        ensures { result.now ≡ self.now.element }
+    {
+        &self.element
+    }
+
+    /// The attributes in order.
+    pub fn list(&self) -> &AttributeList
+        ensures { result.now ≡ self.now.list }
+    {
+        &self.list
+    }
+}
+
+impl Structure for SignedAttributes {
+    ghost use Rattle.cms_types.specs.SignedAttributesElement.{signed_attributes};
+    ghost use Rattle.cms_types.specs.Facts.Signed.{all_signed_attributes};
+
+    ghost written = { signed_attributes };
+
+    ghost spells = { λ element value. element ≡ signed_attributes value };
+
+    fn has_shape(elem: Elem<'_>) -> bool {
+        has_list::<Attribute>(elem, SIGNED_ATTRIBUTES)
+    }
+
+    fn read_at(alloc: Global, elem: Elem<'_>) -> Result<SignedAttributes, DerError> {
+        let list = read_list(alloc, elem, SIGNED_ATTRIBUTES)?;
+        let element = Raw::from_elem(alloc, elem)?;
+        Ok(SignedAttributes { element, list })
+    }
+
+    fn write(&self, alloc: Global) -> Result<Tree, DerError> {
+        Ok(self.element.tree(alloc)?)
+    }
+
+    fn try_clone(&self, alloc: Global) -> Result<SignedAttributes, AllocError> {
+        Ok(SignedAttributes {
+            element: self.element.try_clone(alloc)?,
+            list: self.list.try_clone(alloc)?,
+        })
+    }
+
+    ghost grammar = { all_signed_attributes };
+}

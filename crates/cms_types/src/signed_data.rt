@@ -1,0 +1,105 @@
+//! Signed data.
+
+use crate::certificate_choices::CertificateChoices;
+use crate::list_fields::{copy_list, push_list, read_list_option};
+use crate::raw_unsigned::RawList;
+use crate::shapes::is_signed_data;
+use crate::signed_data_fields::{CERTIFICATES, REVOCATION_LISTS, SignedDataFields};
+use crate::signer_info::SignerInfo;
+use crate::version::CmsVersion;
+use content_types::EncapsulatedContentInfo;
+use der_core::tag::{SEQUENCE, SET};
+use der_core::{
+    DerError, Elem, ListOf, NewKids, Structure, Tree, copy_each, read_list, write_list,
+};
+use key_types::AlgorithmIdentifier;
+use std::alloc::{AllocError, Global};
+
+/// Digest algorithms in order.
+pub type DigestAlgorithms = ListOf<AlgorithmIdentifier>;
+
+/// Certificates of signed data in order.
+pub type CertificateSet = ListOf<CertificateChoices>;
+
+/// Signers in order.
+pub type SignersInfos = ListOf<SignerInfo>;
+
+/// Signed data: a content, who signs it, and certificates that help to check the signatures (RFC 5652
+/// 5.1, RFC 2315 9.1). The certificates and the revocation lists are kept as they are.
+#[derive(Debug, Drop)]
+pub struct SignedData {
+    pub version: CmsVersion,
+    pub digest_algorithms: DigestAlgorithms,
+    pub content_info: EncapsulatedContentInfo,
+    pub certificates: Option<CertificateSet>,
+    pub crls: Option<RawList>,
+    pub signers_infos: SignersInfos,
+}
+
+impl SignedDataFields<'_> {
+    ghost use Rattle.std.specs.Prelude.{MatchResult};
+    ghost use Rattle.der_core.specs.Refusals.{RefusesShape};
+    ghost use Rattle.cms_types.specs.Lent.{signed_data_at};
+    ghost use Rattle.cms_types.specs.SignedData.{AreDataFields};
+
+    /// The value of the fields.
+    fn read(&self, alloc: Global) -> Result<SignedData, DerError>
+        ensures { MatchResult result
+            (AreDataFields (signed_data_at self.now))
+            (RefusesShape (AreDataFields (signed_data_at self.now))) }
+    {
+        Ok(SignedData {
+            version: CmsVersion::read_at(alloc, self.version)?,
+            digest_algorithms: read_list(alloc, self.digest_algorithms, SET)?,
+            content_info: EncapsulatedContentInfo::read_at(alloc, self.content_info)?,
+            certificates: read_list_option(alloc, self.certificates, CERTIFICATES)?,
+            crls: read_list_option(alloc, self.crls, REVOCATION_LISTS)?,
+            signers_infos: read_list(alloc, self.signers_infos, SET)?,
+        })
+    }
+}
+
+impl Structure for SignedData {
+    ghost use Rattle.std.specs.Prelude.{◌≡◌};
+    ghost use Rattle.cms_types.specs.SignedData.{signed_data};
+    ghost use Rattle.cms_types.specs.Facts.SignedDatas.{all_signed_data};
+
+    ghost written = { signed_data };
+
+    ghost spells = { λ element value. element ≡ signed_data value };
+
+    fn has_shape(elem: Elem<'_>) -> bool {
+        is_signed_data(elem)
+    }
+
+    fn read_at(alloc: Global, elem: Elem<'_>) -> Result<SignedData, DerError> {
+        match SignedDataFields::of(elem) {
+            Some(fields) => fields.read(alloc),
+            None => Err(DerError::Shape),
+        }
+    }
+
+    fn write(&self, alloc: Global) -> Result<Tree, DerError> {
+        let mut kids = NewKids::new(alloc);
+        kids.push(self.version.write(alloc)?)?;
+        kids.push(write_list(alloc, &self.digest_algorithms, SET)?)?;
+        kids.push(self.content_info.write(alloc)?)?;
+        push_list(alloc, &mut kids, CERTIFICATES, &self.certificates)?;
+        push_list(alloc, &mut kids, REVOCATION_LISTS, &self.crls)?;
+        kids.push(write_list(alloc, &self.signers_infos, SET)?)?;
+        Ok(kids.into_branch(SEQUENCE))
+    }
+
+    fn try_clone(&self, alloc: Global) -> Result<SignedData, AllocError> {
+        Ok(SignedData {
+            version: self.version,
+            digest_algorithms: copy_each(alloc, &self.digest_algorithms)?,
+            content_info: self.content_info.try_clone(alloc)?,
+            certificates: copy_list(alloc, &self.certificates)?,
+            crls: copy_list(alloc, &self.crls)?,
+            signers_infos: copy_each(alloc, &self.signers_infos)?,
+        })
+    }
+
+    ghost grammar = { all_signed_data };
+}

@@ -1,0 +1,35 @@
+//! Signers that are kept as they are.
+
+ghost use Rattle.std.specs.Prelude.{◌≡◌, IfOk};
+ghost use Rattle.cms_types.specs.Members.{elements_of_kept};
+ghost use Rattle.cms_types.specs.Signers.{AreSignerInfos};
+
+use crate::raw_unsigned::RawList;
+use der_core::Raw;
+use std::alloc::{AllocError, Global};
+
+/// Signers, as the values of a counter-signature: each is kept as it is, and is that of a signer
+/// (RFC 5652 11.4).
+#[derive(Debug, Drop)]
+pub struct SignerValues {
+    pub(crate) items: RawList,
+    pub ghost all: { ∥ AreSignerInfos (elements_of_kept items) ∥₁ },
+}
+
+impl SignerValues {
+    /// The members in order.
+    pub fn as_slice(&self) -> &[Raw]
+        ensures { result.now ≡ self.now.items }
+    {
+        self.items.as_slice()
+    }
+
+    /// A copy of the value.
+    pub fn try_clone(&self, alloc: Global) -> Result<SignerValues, AllocError>
+        ensures { IfOk result (λ copy. copy ≡ self.now) }
+    {
+        Ok(SignerValues {
+            items: self.items.try_clone(alloc)?,
+        })
+    }
+}

@@ -1,0 +1,35 @@
+//! Signed data that is kept as it is.
+
+ghost use Rattle.std.specs.Prelude.{◌≡◌, IfOk};
+ghost use Rattle.cms_types.specs.Members.{elements_of_kept};
+ghost use Rattle.cms_types.specs.Signers.{ArePkcs7s};
+
+use crate::raw_unsigned::RawList;
+use der_core::Raw;
+use std::alloc::{AllocError, Global};
+
+/// Tokens, as the values of a counter-signature of Microsoft's: each is kept as it is, and is signed
+/// data with its type.
+#[derive(Debug, Drop)]
+pub struct TokenValues {
+    pub(crate) items: RawList,
+    pub ghost all: { ∥ ArePkcs7s (elements_of_kept items) ∥₁ },
+}
+
+impl TokenValues {
+    /// The members in order.
+    pub fn as_slice(&self) -> &[Raw]
+        ensures { result.now ≡ self.now.items }
+    {
+        self.items.as_slice()
+    }
+
+    /// A copy of the value.
+    pub fn try_clone(&self, alloc: Global) -> Result<TokenValues, AllocError>
+        ensures { IfOk result (λ copy. copy ≡ self.now) }
+    {
+        Ok(TokenValues {
+            items: self.items.try_clone(alloc)?,
+        })
+    }
+}

@@ -1,0 +1,98 @@
+//! Unsigned attributes of signers.
+
+use crate::levels::UnsignedFields;
+use crate::raw_unsigned::{RawUnsignedAttribute, write_attribute};
+use crate::shapes::{are_pkcs7s, are_signer_infos, is_unsigned_attribute};
+use crate::signer_values::SignerValues;
+use crate::token_values::TokenValues;
+use crate::unsigned_kind::UnsignedKind;
+use asn1_types::ObjectIdentifier;
+use asn1_types::oids::{COUNTERSIGNATURE, RFC3161_COUNTER_SIGN};
+use der_core::{DerError, Elem, ListOf, Structure, Tree, read_each};
+use std::alloc::{AllocError, Global};
+
+/// Unsigned attributes in order.
+pub type UnsignedAttributeList = ListOf<UnsignedAttribute>;
+
+/// An attribute of a signer that isn't signed (RFC 5652 5.3): its values are of the kind that its
+/// identifier names, and kept as they are. An attribute of a known kind whose values aren't all of the
+/// kind is none: it is `Shape`.
+#[derive(Debug, Drop)]
+pub enum UnsignedAttribute {
+    /// Signatures of the signature (RFC 5652 11.4).
+    CounterSign(SignerValues),
+    /// Signed data on the signature, as Microsoft's programs write it.
+    MsCounterSign(TokenValues),
+    /// Any other attribute.
+    Raw(RawUnsignedAttribute),
+}
+
+impl Structure for UnsignedAttribute {
+    ghost use Rattle.std.specs.Prelude.{◌≡◌};
+    ghost use Rattle.cms_types.specs.UnsignedAttribute.{unsigned_attribute};
+    ghost use Rattle.cms_types.specs.Facts.UnsignedAttributes.{unsigned_attributes};
+
+    ghost written = { unsigned_attribute };
+
+    ghost spells = { λ element value. element ≡ unsigned_attribute value };
+
+    fn has_shape(elem: Elem<'_>) -> bool {
+        is_unsigned_attribute(elem)
+    }
+
+    fn read_at(alloc: Global, elem: Elem<'_>) -> Result<UnsignedAttribute, DerError> {
+        let Some(fields) = UnsignedFields::of(elem) else {
+            return Err(DerError::Shape);
+        };
+        let items = read_each(alloc, fields.values)?;
+        match fields.kind {
+            UnsignedKind::CounterSign => {
+                if !are_signer_infos(fields.values) {
+                    return Err(DerError::Shape);
+                }
+                Ok(UnsignedAttribute::CounterSign(SignerValues { items }))
+            }
+            UnsignedKind::MsCounterSign => {
+                if !are_pkcs7s(fields.values) {
+                    return Err(DerError::Shape);
+                }
+                Ok(UnsignedAttribute::MsCounterSign(TokenValues { items }))
+            }
+            UnsignedKind::Other => {
+                let ty = ObjectIdentifier::read_at(alloc, fields.ty)?;
+                let values = items;
+                Ok(UnsignedAttribute::Raw(RawUnsignedAttribute { ty, values }))
+            }
+        }
+    }
+
+    fn write(&self, alloc: Global) -> Result<Tree, DerError> {
+        match self {
+            UnsignedAttribute::CounterSign(values) => {
+                write_attribute(alloc, COUNTERSIGNATURE, &values.items)
+            }
+            UnsignedAttribute::MsCounterSign(values) => {
+                write_attribute(alloc, RFC3161_COUNTER_SIGN, &values.items)
+            }
+            UnsignedAttribute::Raw(attribute) => {
+                write_attribute(alloc, attribute.ty.as_bytes(), &attribute.values)
+            }
+        }
+    }
+
+    fn try_clone(&self, alloc: Global) -> Result<UnsignedAttribute, AllocError> {
+        Ok(match self {
+            UnsignedAttribute::CounterSign(values) => {
+                UnsignedAttribute::CounterSign(values.try_clone(alloc)?)
+            }
+            UnsignedAttribute::MsCounterSign(values) => {
+                UnsignedAttribute::MsCounterSign(values.try_clone(alloc)?)
+            }
+            UnsignedAttribute::Raw(attribute) => {
+                UnsignedAttribute::Raw(attribute.try_clone(alloc)?)
+            }
+        })
+    }
+
+    ghost grammar = { unsigned_attributes };
+}

@@ -1,0 +1,32 @@
+//! The kinds of unsigned attributes, by their identifiers.
+
+ghost use Rattle.std.specs.Prelude.{◌≡◌};
+ghost use Rattle.cms_types.specs.UnsignedKind.{named_unsigned};
+
+use asn1_types::oids::{COUNTERSIGNATURE, RFC3161_COUNTER_SIGN};
+
+/// A kind of unsigned attributes.
+#[derive(Clone, Copy, Debug, PartialEq, Eq)]
+pub enum UnsignedKind {
+    /// Signatures of the signature (RFC 5652 11.4).
+    CounterSign,
+    /// Signed data on the signature, as Microsoft's programs write it.
+    MsCounterSign,
+    /// Any other.
+    Other,
+}
+
+impl UnsignedKind {
+    /// The kind of attributes that an identifier names, by its contents octets.
+    pub fn named(oid: &[u8]) -> UnsignedKind
+        ensures { result ≡ named_unsigned oid.now }
+    {
+        if oid == COUNTERSIGNATURE {
+            return UnsignedKind::CounterSign;
+        }
+        if oid == RFC3161_COUNTER_SIGN {
+            return UnsignedKind::MsCounterSign;
+        }
+        UnsignedKind::Other
+    }
+}

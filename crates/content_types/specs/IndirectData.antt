@@ -1,0 +1,11 @@
+-- SpcIndirectDataContent ::= SEQUENCE { data SpcAttributeTypeAndOptionalValue, messageDigest DigestInfo }
+-- (Windows Authenticode Portable Executable Signature Format)
+use Rattle.std.specs.Prelude.{[], ◌∷◌}
+use Rattle.der_core.specs.DerElement.{DerElement}
+use Rattle.der_core.specs.Elements.{sequence}
+use Rattle.content_types.specs.DigestInfo.{digest_info}
+use Rattle.content_types.specs.SpcAttribute.{spc_attribute}
+use Rattle.content_types.specs.declared.indirect_data.SpcIndirectDataContent.{SpcIndirectDataContent}
+
+abbrev pub indirect_data_content : SpcIndirectDataContent → DerElement
+indirect_data_content content = sequence (spc_attribute content.image ∷ digest_info content.message_digest ∷ [])

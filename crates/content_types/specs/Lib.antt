@@ -1,0 +1,10 @@
+pub mod DigestInfo
+pub mod SpcAttribute
+pub mod IndirectData
+pub mod ContentKind
+pub mod ContentValue
+pub mod ContentInfoElements
+pub mod ContentInfo
+pub mod ContentView
+pub mod TimestampRequest
+pub mod Facts

@@ -1,0 +1,22 @@
+//! Contents that are signed (RFC 2315, RFC 5652, Windows Authenticode Portable Executable Signature
+//! Format), as values, read from octets or trees and written as trees: a digest with its algorithm,
+//! what Authenticode signs in the place of a file, and any content with its type.
+#![tactic(auto)]
+
+mod content_info;
+mod content_kind;
+mod content_value;
+mod content_view;
+mod digest_info;
+mod indirect_data;
+mod spc_attribute;
+mod timestamp_request;
+
+pub use content_info::EncapsulatedContentInfo;
+pub use content_kind::ContentKind;
+pub use content_value::ContentValue;
+pub use content_view::ContentView;
+pub use digest_info::DigestInfo;
+pub use indirect_data::SpcIndirectDataContent;
+pub use spc_attribute::SpcAttributeTypeAndOptionalValue;
+pub use timestamp_request::TimestampRequest;
