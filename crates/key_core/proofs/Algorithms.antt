@@ -1,7 +1,7 @@
 -- Algorithms by the octets of their identifiers.
 use Rattle.std.proofs.Common.{◌≡◌, ◌≢◌, IsTrue, ℕ, List, ◌∷◌, Option, Some, None, sym, ap, ◌∙◌, subst}
 use Rattle.std.specs.Prelude.{option_to_list, MatchOption}
-use Rattle.der_core.specs.DerElement.{DerElement, Primitive}
+use Rattle.der_core.specs.DerElement.{DerElement, Primitive, Constructed}
 use Rattle.der_core.specs.Elements.{sequence}
 use Rattle.der_core.specs.Kept.{KeptElement}
 use Rattle.der_core.specs.Lent.{kept_option}
@@ -9,12 +9,21 @@ use Rattle.der_core.specs.Facts.Grammars.{same_fields}
 use Rattle.der_core.specs.Structure.{Fits}
 use Rattle.asn1_types.specs.Elements.{object_identifier}
 use Rattle.asn1_types.specs.Values.{identifier_contents}
+use Rattle.asn1_types.specs.declared.bit_string.BitString.{BitString}
 use Rattle.asn1_types.specs.declared.oid.ObjectIdentifier.{ObjectIdentifier}
 use Rattle.key_types.specs.AlgorithmIdentifier.{algorithm_identifier}
-use Rattle.key_types.specs.KeyKind.{names_kind}
+use Rattle.key_types.specs.KeyKind.{names_kind, MayHave}
+use Rattle.key_types.specs.SubjectKey.{kind_of}
+use Rattle.key_types.specs.declared.key_kind.KeyKind.TheVariants as kinds
+use Rattle.key_types.specs.declared.subject_key.SubjectKey.{SubjectKey}
+use Rattle.key_types.specs.declared.subject_key.SubjectKey.TheVariants as keys
+use Rattle.private_key_types.specs.declared.ec_private_key.ECPrivateKey.{ECPrivateKey}
 use Rattle.key_types.specs.declared.algorithm.AlgorithmIdentifier.{AlgorithmIdentifier}
 use Rattle.key_types.specs.declared.key_kind.KeyKind.{KeyKind}
+use Rattle.key_core.specs.CurveParameters.{HasCurve}
 use Rattle.key_core.specs.KeyAlgorithm.{Names}
+use Rattle.key_core.specs.declared.private_key_value.PrivateKeyValue.{PrivateKeyValue}
+use Rattle.key_core.specs.declared.private_key_value.PrivateKeyValue.TheVariants as values
 
 leaf_once : (x y : List ℕ) → Primitive 0x06 x ≡ Primitive 0x06 y → x ≡ y
 leaf_once x y e = cc
@@ -42,3 +51,20 @@ curve_of_parameters contents parameters raw t stands is None none = λ o e.
     let one : t ≡ object_identifier o = cc in
     none o one
 curve_of_parameters contents parameters raw t stands is (Some x) found = (found.0, sym (ap kept_option stands) ∙ ap Some (sym is) ∙ ap Some found.1, found.2)
+
+-- ---- parameters of keys of elliptic curves
+
+pub no_curve_lacks : (parameters : Option DerElement) → MayHave kinds.Ec parameters → ((o : ObjectIdentifier) → parameters ≢ Some (object_identifier o)) → ⊥
+no_curve_lacks None may none = absurd may
+no_curve_lacks (Some (Primitive tag contents)) may none = none (record { contents = contents; formed = may.1 }) (ap (λ (n : ℕ). Some (Primitive n contents)) may.0)
+no_curve_lacks (Some (Constructed tag kids)) may none = absurd may
+
+ec_may_have : (read : ECPrivateKey) (parameters : Option DerElement) → HasCurve (values.Ec read) parameters → MayHave kinds.Ec parameters
+ec_may_have read None has = absurd has
+ec_may_have read (Some parameters) has = has
+
+pub may_have : (value : PrivateKeyValue) (read : ECPrivateKey) (parameters : Option DerElement) → value ≡ values.Ec read → HasCurve value parameters → MayHave kinds.Ec parameters
+may_have value read parameters is has = ec_may_have read parameters (subst (λ (v : PrivateKeyValue). HasCurve v parameters) is has)
+
+pub public_may_have : (key : SubjectKey) (bits : BitString) (parameters : Option DerElement) → key ≡ keys.Ec bits → MayHave (kind_of key) parameters → MayHave kinds.Ec parameters
+public_may_have key bits parameters is may = subst (λ (k : SubjectKey). MayHave (kind_of k) parameters) is may

@@ -10,6 +10,8 @@ pub mod PrivatePkcs1
 pub mod KeyRefusals
 pub mod EcCurve
 pub mod EdAlgorithm
+pub mod NamedEcCurve
+pub mod NamedEdAlgorithm
 pub mod MadeKeys
 pub mod Pkcs1
 pub mod DerivedKeys
@@ -17,6 +19,8 @@ pub mod CurveKeys
 pub mod EdKeys
 pub mod Pkcs8
 pub mod PublicHalf
+pub mod EcViews
+pub mod EdViews
 pub mod ErrorText
 pub mod SignatureAlgorithm
 pub mod SchemeNames

@@ -5,12 +5,16 @@
 #![tactic(auto)]
 
 mod ec_curve;
+mod ec_views;
 mod ed_algorithm;
+mod ed_views;
 mod element;
 mod error;
 mod key_algorithm;
 mod key_id;
 mod laws;
+mod named_ec_curve;
+mod named_ed_algorithm;
 mod private_key;
 mod private_key_fields;
 mod private_key_info;
@@ -23,12 +27,16 @@ mod signature_error;
 mod signature_laws;
 
 pub use ec_curve::EcCurve;
+pub use ec_views::{EcdsaKeypair, EcdsaPublicKey};
 pub use ed_algorithm::EdAlgorithm;
+pub use ed_views::{EdKeypair, EdPublicKey};
 pub use element::Element;
 pub use error::{KeyContext, KeyError};
 pub use key_id::{KeyIdGenError, KeyIdGenMethod};
 pub use key_types::{AlgorithmIdentifier, KeyKind, RsaPublicKey, SubjectKey, SubjectPublicKeyInfo};
 pub use laws::{lists_have_each_curve, one_identifier_each, pkcs1_comes_back, pkcs8_comes_back};
+pub use named_ec_curve::NamedEcCurve;
+pub use named_ed_algorithm::NamedEdAlgorithm;
 pub use private_key::PrivateKey;
 pub use private_key_info::PrivateKeyInfo;
 pub use private_key_types::{ECPrivateKey, RsaPrivateKey};

@@ -16,7 +16,7 @@ mod components;
 mod curve_key;
 mod derived;
 mod pkcs1;
-mod pkcs8;
+pub(crate) mod pkcs8;
 mod public_half;
 mod sec1;
 

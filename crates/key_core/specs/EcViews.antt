@@ -1,0 +1,51 @@
+-- Views of keys of elliptic curves.
+use Rattle.std.specs.Prelude.{◌≡◌, ◌≢◌, Option, Some, None, Result, MatchResult}
+use Rattle.std.specs.Option.{option_copied}
+use Rattle.der_core.specs.DerElement.{Primitive}
+use Rattle.der_core.specs.Lent.{kept_option}
+use Rattle.asn1_types.specs.declared.bit_string.BitString.{BitString}
+use Rattle.key_types.specs.SubjectKey.{kind_of}
+use Rattle.key_types.specs.declared.key_info.SubjectPublicKeyInfo.{SubjectPublicKeyInfo}
+use Rattle.key_types.specs.declared.key_kind.KeyKind.TheVariants as kinds
+use Rattle.key_types.specs.declared.subject_key.SubjectKey.TheVariants as keys
+use Rattle.private_key_types.specs.declared.ec_private_key.ECPrivateKey.{ECPrivateKey}
+use Rattle.key_core.specs.PrivateKeyValue.{private_kind}
+use Rattle.key_core.specs.declared.ec_views.EcdsaKeypair.{EcdsaKeypair}
+use Rattle.key_core.specs.declared.ec_views.EcdsaPublicKey.{EcdsaPublicKey}
+use Rattle.key_core.specs.declared.error.KeyContext.TheVariants as contexts
+use Rattle.key_core.specs.declared.error.KeyError.{KeyError}
+use Rattle.key_core.specs.declared.error.KeyError.TheVariants as errors
+use Rattle.key_core.specs.declared.private_key.PrivateKey.{PrivateKey}
+use Rattle.key_core.specs.declared.private_key_value.PrivateKeyValue.TheVariants as values
+
+-- The pair lends the parts of a private key. The parameters of its algorithm are the identifier of the curve.
+pub record IsEcPairOf (key : PrivateKey) (pair : EcdsaKeypair) : Type 0 where
+  pub read : ECPrivateKey
+  pub is : key.info.private_key ≡ values.Ec read
+  pub secret_is : pair.secret.now ≡ read.private_key
+  pub curve_is : kept_option key.info.private_key_algorithm.parameters ≡ Some (Primitive 0x06 pair.curve.now)
+  pub public_is : option_copied pair.point ≡ key.public_key
+
+abbrev pub GivesEcPair : PrivateKey → Result EcdsaKeypair KeyError → Type 0
+GivesEcPair key result = MatchResult result (IsEcPairOf key) (λ e. (e ≡ errors.EC contexts.NotEc) × (private_kind key.info.private_key ≢ kinds.Ec))
+
+-- The view lends the parts of a public key.
+pub record IsEcPublicOf (info : SubjectPublicKeyInfo) (view : EcdsaPublicKey) : Type 0 where
+  pub bits : BitString
+  pub is : info.subject_public_key ≡ keys.Ec bits
+  pub point_is : view.point.now ≡ bits.payload
+  pub curve_is : kept_option info.algorithm.parameters ≡ Some (Primitive 0x06 view.curve.now)
+
+abbrev pub GivesEcPublic : SubjectPublicKeyInfo → Result EcdsaPublicKey KeyError → Type 0
+GivesEcPublic info result = MatchResult result (IsEcPublicOf info) (λ e. (e ≡ errors.EC contexts.NotEc) × (kind_of info.subject_public_key ≢ kinds.Ec))
+
+-- The view lends the public key of a pair.
+pub record IsEcPublicOfPair (pair : EcdsaKeypair) (view : EcdsaPublicKey) : Type 0 where
+  pub bits : BitString
+  pub is : option_copied pair.point ≡ Some bits
+  pub point_is : view.point.now ≡ bits.payload
+  pub curve_is : view.curve.now ≡ pair.curve.now
+
+abbrev pub GivesEcPublicOfPair : EcdsaKeypair → Result EcdsaPublicKey KeyError → Type 0
+GivesEcPublicOfPair pair result =
+    MatchResult result (IsEcPublicOfPair pair) (λ e. (e ≡ errors.EC contexts.PublicKeyMissing) × (option_copied pair.point ≡ None))

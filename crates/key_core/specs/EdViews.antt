@@ -1,0 +1,46 @@
+-- Views of keys of a curve 25519 or 448.
+use Rattle.std.specs.Prelude.{◌≡◌, ◌≢◌, Option, Some, None, Result, MatchResult}
+use Rattle.std.specs.Option.{option_copied}
+use Rattle.asn1_types.specs.declared.bit_string.BitString.{BitString}
+use Rattle.key_types.specs.SubjectKey.{kind_of}
+use Rattle.key_types.specs.declared.key_info.SubjectPublicKeyInfo.{SubjectPublicKeyInfo}
+use Rattle.key_types.specs.declared.key_kind.KeyKind.TheVariants as kinds
+use Rattle.key_types.specs.declared.subject_key.SubjectKey.TheVariants as keys
+use Rattle.key_core.specs.PrivateKeyValue.{private_kind}
+use Rattle.key_core.specs.declared.ed_views.EdKeypair.{EdKeypair}
+use Rattle.key_core.specs.declared.ed_views.EdPublicKey.{EdPublicKey}
+use Rattle.key_core.specs.declared.error.KeyContext.TheVariants as contexts
+use Rattle.key_core.specs.declared.error.KeyError.{KeyError}
+use Rattle.key_core.specs.declared.error.KeyError.TheVariants as errors
+use Rattle.key_core.specs.declared.private_key.PrivateKey.{PrivateKey}
+use Rattle.key_core.specs.declared.private_key_value.PrivateKeyValue.TheVariants as values
+
+-- The pair lends the parts of a private key.
+pub record IsEdPairOf (key : PrivateKey) (pair : EdKeypair) : Type 0 where
+  pub secret_is : key.info.private_key ≡ values.Ed pair.secret.now
+  pub algorithm_is : pair.algorithm.now ≡ key.info.private_key_algorithm.oid
+  pub public_is : option_copied pair.public_key ≡ key.public_key
+
+abbrev pub GivesEdPair : PrivateKey → Result EdKeypair KeyError → Type 0
+GivesEdPair key result = MatchResult result (IsEdPairOf key) (λ e. (e ≡ errors.ED contexts.NotEd) × (private_kind key.info.private_key ≢ kinds.Ed))
+
+-- The view lends the parts of a public key.
+pub record IsEdPublicOf (info : SubjectPublicKeyInfo) (view : EdPublicKey) : Type 0 where
+  pub bits : BitString
+  pub is : info.subject_public_key ≡ keys.Ed bits
+  pub key_is : view.key.now ≡ bits.payload
+  pub algorithm_is : view.algorithm.now ≡ info.algorithm.oid
+
+abbrev pub GivesEdPublic : SubjectPublicKeyInfo → Result EdPublicKey KeyError → Type 0
+GivesEdPublic info result = MatchResult result (IsEdPublicOf info) (λ e. (e ≡ errors.ED contexts.NotEd) × (kind_of info.subject_public_key ≢ kinds.Ed))
+
+-- The view lends the public key of a pair.
+pub record IsEdPublicOfPair (pair : EdKeypair) (view : EdPublicKey) : Type 0 where
+  pub bits : BitString
+  pub is : option_copied pair.public_key ≡ Some bits
+  pub key_is : view.key.now ≡ bits.payload
+  pub algorithm_is : view.algorithm.now ≡ pair.algorithm.now
+
+abbrev pub GivesEdPublicOfPair : EdKeypair → Result EdPublicKey KeyError → Type 0
+GivesEdPublicOfPair pair result =
+    MatchResult result (IsEdPublicOfPair pair) (λ e. (e ≡ errors.ED contexts.PublicKeyMissing) × (option_copied pair.public_key ≡ None))

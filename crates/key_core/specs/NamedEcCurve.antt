@@ -1,0 +1,16 @@
+-- Curves by the contents octets of their identifiers, known or not (RFC 5480 2.1.1.1).
+use Rattle.std.specs.Prelude.{◌≡◌, ◌≢◌, ℕ, List}
+use Rattle.key_core.specs.EcCurve.{curve_identifier}
+use Rattle.key_core.specs.declared.ec_curve.EcCurve.{EcCurve}
+use Rattle.key_core.specs.declared.named_ec_curve.NamedEcCurve.{NamedEcCurve}
+use Rattle.key_core.specs.declared.named_ec_curve.NamedEcCurve.TheVariants as named
+
+-- the contents octets of the identifier
+abbrev pub named_curve_identifier : NamedEcCurve → List ℕ
+named_curve_identifier (named.Known curve) = curve_identifier curve
+named_curve_identifier (named.Unsupported contents) = contents.now
+
+-- the curve that contents octets name, where it is known, else these octets
+abbrev pub IsNamedCurve : List ℕ → NamedEcCurve → Type 0
+IsNamedCurve contents (named.Known curve) = curve_identifier curve ≡ contents
+IsNamedCurve contents (named.Unsupported lent) = (lent.now ≡ contents) × ((curve : EcCurve) → curve_identifier curve ≢ contents)

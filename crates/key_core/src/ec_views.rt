@@ -1,0 +1,135 @@
+//! Views of keys of elliptic curves, which lend from a key and take no memory.
+
+ghost use Rattle.std.specs.Prelude.{◌≡◌, Some};
+ghost use Rattle.der_core.specs.DerElement.{Primitive};
+ghost use Rattle.der_core.specs.Lent.{kept_option};
+ghost use Rattle.key_types.specs.KeyKind.{MayHave};
+ghost use Rattle.key_types.specs.declared.key_kind.KeyKind.TheVariants as kinds;
+ghost use Rattle.key_core.specs.EcViews.{GivesEcPair, GivesEcPublic, GivesEcPublicOfPair};
+ghost use Rattle.key_core.specs.NamedEcCurve.{IsNamedCurve};
+
+use crate::error::{KeyContext, KeyError};
+use crate::named_ec_curve::NamedEcCurve;
+use crate::private_key::PrivateKey;
+use crate::private_key::pkcs8::curve_octets;
+use crate::private_key_value::PrivateKeyValue;
+use crate::public_key::PublicKey;
+use asn1_types::BitString;
+use key_types::{AlgorithmIdentifier, SubjectKey};
+
+/// A private key of an elliptic curve.
+#[derive(Clone, Copy)]
+pub struct EcdsaKeypair<'a> {
+    curve: &'a [u8],
+    secret: &'a [u8],
+    point: Option<&'a BitString>,
+}
+
+impl<'a> EcdsaKeypair<'a> {
+    /// The curve of the key.
+    pub fn curve(&self) -> NamedEcCurve<'a>
+        ensures { IsNamedCurve self.now.curve.now result }
+    {
+        NamedEcCurve::of(self.curve)
+    }
+
+    /// The octets of the secret.
+    pub fn secret(&self) -> &'a [u8]
+        ensures { result.now ≡ self.now.secret.now }
+    {
+        self.secret
+    }
+}
+
+/// A public key of an elliptic curve.
+#[derive(Clone, Copy)]
+pub struct EcdsaPublicKey<'a> {
+    curve: &'a [u8],
+    point: &'a [u8],
+}
+
+impl<'a> EcdsaPublicKey<'a> {
+    /// The curve of the key.
+    pub fn curve(&self) -> NamedEcCurve<'a>
+        ensures { IsNamedCurve self.now.curve.now result }
+    {
+        NamedEcCurve::of(self.curve)
+    }
+
+    /// The octets of the point (SEC 1 2.3.3).
+    pub fn encoded_point(&self) -> &'a [u8]
+        ensures { result.now ≡ self.now.point.now }
+    {
+        self.point
+    }
+}
+
+/// The contents octets of the identifier that parameters of a key of an elliptic curve are.
+fn curve_of<'a>(algorithm: &'a AlgorithmIdentifier) -> &'a [u8]
+    requires { MayHave kinds.Ec (kept_option algorithm.now.parameters) }
+    ensures { kept_option algorithm.now.parameters ≡ Some (Primitive 0x06 result.now) }
+{
+    match curve_octets(algorithm) {
+        Some(octets) => octets,
+        None => unreachable!(),
+    }
+}
+
+/// The parts of a private key. One of another kind is refused.
+impl<'a> TryFrom<&'a PrivateKey> for EcdsaKeypair<'a> {
+    type Error = KeyError;
+
+    ghost try_from_gives = { λ key result. GivesEcPair key.now result };
+
+    fn try_from(key: &'a PrivateKey) -> Result<EcdsaKeypair<'a>, KeyError> {
+        match &key.info.private_key {
+            PrivateKeyValue::Ec(read) => Ok(EcdsaKeypair {
+                curve: curve_of(&key.info.private_key_algorithm),
+                secret: read.private_key.as_slice(),
+                point: key.public_key.as_ref(),
+            }),
+            PrivateKeyValue::Rsa(_) | PrivateKeyValue::Ed(_) => Err(KeyError::EC {
+                context: KeyContext::NotEc,
+            }),
+        }
+    }
+}
+
+/// The parts of a public key. One of another kind is refused.
+impl<'a> TryFrom<&'a PublicKey> for EcdsaPublicKey<'a> {
+    type Error = KeyError;
+
+    ghost try_from_gives = { λ key result. GivesEcPublic key.now.info result };
+
+    fn try_from(key: &'a PublicKey) -> Result<EcdsaPublicKey<'a>, KeyError> {
+        let info = key.as_spki();
+        match &info.subject_public_key {
+            SubjectKey::Ec(bits) => Ok(EcdsaPublicKey {
+                curve: curve_of(&info.algorithm),
+                point: bits.payload_view(),
+            }),
+            SubjectKey::Rsa(_) | SubjectKey::Ed(_) | SubjectKey::Mldsa(_) => Err(KeyError::EC {
+                context: KeyContext::NotEc,
+            }),
+        }
+    }
+}
+
+/// The public key of a pair. It is refused where the pair has none.
+impl<'a> TryFrom<&EcdsaKeypair<'a>> for EcdsaPublicKey<'a> {
+    type Error = KeyError;
+
+    ghost try_from_gives = { λ pair result. GivesEcPublicOfPair pair.now result };
+
+    fn try_from(pair: &EcdsaKeypair<'a>) -> Result<EcdsaPublicKey<'a>, KeyError> {
+        match pair.point {
+            Some(bits) => Ok(EcdsaPublicKey {
+                curve: pair.curve,
+                point: bits.payload_view(),
+            }),
+            None => Err(KeyError::EC {
+                context: KeyContext::PublicKeyMissing,
+            }),
+        }
+    }
+}
