@@ -173,6 +173,13 @@ PRIVATE_KEY_INFOS = [
     ("3012020101300506032b657004030401aa810100", "a public key of no bits"),
 ]
 
+# Secrets of curves 25519 and 448 of other lengths than are asked for.
+ED_SECRETS = [
+    ("302d020100300506032b65700421041f000102030405060708090a0b0c0d0e0f101112131415161718191a1b1c1d1e", "31 octets for Ed25519"),
+    ("302f020100300506032b656e042304210102030405060708090a0b0c0d0e0f101112131415161718191a1b1c1d1e1f2021", "33 octets for X25519"),
+    ("302e020100300506032b656f042204201a32edd9bd165f8624dab3c28162a4189f8dd6d71f23fb379f8716edb943a0ce", "32 octets for X448, which are kept"),
+]
+
 # Elements that are no private key with its algorithm.
 NO_PRIVATE_KEY_INFOS = [
     ("300f020102300506032b657004030401aa", "version 3"),

@@ -23,6 +23,7 @@ from itertools import chain, filterfalse
 
 import cms_rows
 import hostile_certificates as hostile
+import kept_private_keys
 import private_keys
 import structure_rows as structures
 import value_rows as values
@@ -33,7 +34,7 @@ from cms_reader import cms_line
 from der_reader import Constructed, Malformed, Primitive, read_exact, read_first, write
 from oid_table import BAD_CONTENTS, BAD_TEXTS, KNOWN, READ, contents
 from stored_run import write_stored_run
-from value_reader import ATTRIBUTE_VALUES, KINDS, Shape, bits, general_name, ia5, integer, name, structure_line, valued_attribute, view_line, word
+from value_reader import ATTRIBUTE_VALUES, FAULTS, KINDS, Shape, bits, general_name, ia5, integer, name, shown_fault, structure_line, unread, valued_attribute, view_line, word
 
 
 EMAIL = "1.2.840.113549.1.9.1"
@@ -488,10 +489,6 @@ def whole_certificate_rows():
         yield f"unlike certificate {one.hex()} {other.hex()}", "equal"
 
 
-def shown_fault(refusal):
-    return f"{FAULTS[refusal.fault]} at octet {refusal.at}"
-
-
 def digest(line):
     """The first half of the SHA-256 of a line."""
     return sha256(line.encode("ascii")).digest()[:16].hex()
@@ -571,32 +568,7 @@ def value_rows():
     yield from time_rows()
 
 
-OTHER = "the element has another structure than the one that is read"
-
 NO_CURVE = "ED error: the algorithm on a curve 25519 or 448 isn't supported"
-
-FAULTS = {
-    "Truncated": "the octets end within the element",
-    "ReservedTag": "the reserved tag 0",
-    "HighTag": "a tag number above 30",
-    "Indefinite": "an indefinite length",
-    "NotShortest": "a length that is not in its shortest form",
-    "WideLength": "a length of more than four octets",
-    "TooDeep": "an element nested deeper than 64 levels",
-    "Overrun": "an element that runs past the end of the one around it",
-    "Trailing": "octets after the element",
-}
-
-
-def unread(element, octets, made):
-    """The line of what is made of the octets of an element, or why there is none."""
-    try:
-        return made(read_exact(octets))
-    except Malformed as refusal:
-        why = f"malformed DER: {shown_fault(refusal)}"
-    except Shape:
-        why = OTHER
-    return f"(ASN1) couldn't deserialize {element}: {why}"
 
 
 def public_key_line(element):
@@ -740,6 +712,7 @@ def structure_rows():
     yield from pkcs1_rows()
     yield from curve_rows()
     yield from made_private_key_rows()
+    yield from kept_private_keys.kept_rows()
 
 
 def stored_run(program, rows_and_lines):

@@ -18,7 +18,7 @@ octets; of anything else `#` and the element in hexadecimal.
 
 from datetime import datetime
 
-from der_reader import Constructed, Primitive, read_exact, write
+from der_reader import Constructed, Malformed, Primitive, read_exact, write
 
 LIMIT = 1 << 128
 
@@ -613,3 +613,34 @@ def structure_line(kind, octets):
         return "Shape"
     same = kind not in WRITTEN_ANEW or line.endswith(f" {octets.hex()}")
     return f"{'same' if same else 'changed'} {line}"
+
+
+OTHER = "the element has another structure than the one that is read"
+
+FAULTS = {
+    "Truncated": "the octets end within the element",
+    "ReservedTag": "the reserved tag 0",
+    "HighTag": "a tag number above 30",
+    "Indefinite": "an indefinite length",
+    "NotShortest": "a length that is not in its shortest form",
+    "WideLength": "a length of more than four octets",
+    "TooDeep": "an element nested deeper than 64 levels",
+    "Overrun": "an element that runs past the end of the one around it",
+    "Trailing": "octets after the element",
+}
+
+
+def shown_fault(refusal):
+    """How a fault and its place are printed."""
+    return f"{FAULTS[refusal.fault]} at octet {refusal.at}"
+
+
+def unread(element, octets, made):
+    """The line of what is made of the octets of an element, or why there is none."""
+    try:
+        return made(read_exact(octets))
+    except Malformed as refusal:
+        why = f"malformed DER: {shown_fault(refusal)}"
+    except Shape:
+        why = OTHER
+    return f"(ASN1) couldn't deserialize {element}: {why}"

@@ -14,6 +14,7 @@ mod details;
 mod keys;
 mod making;
 mod points;
+mod private_keys;
 mod row;
 mod structures;
 

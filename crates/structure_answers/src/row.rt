@@ -1,6 +1,6 @@
 //! Rows, and who answers them.
 
-use crate::{keys, making, points, structures};
+use crate::{keys, making, points, private_keys, structures};
 use anyhow::{Result, bail};
 use std::alloc::Global;
 
@@ -13,6 +13,7 @@ pub fn answer(alloc: Global, text: &str) -> Result<String> {
         ["make", call, args @ ..] => making::answer(alloc, call, args)?,
         ["key", call, args @ ..] => keys::answer(alloc, call, args)?,
         ["point", call, args @ ..] => points::answer(alloc, call, args)?,
+        ["private", call, args @ ..] => private_keys::answer(alloc, call, args)?,
         _ => None,
     };
     match answer {
