@@ -6,4 +6,5 @@ pub mod SignerLaws
 pub mod Several
 pub mod ListFields
 pub mod Fields
+pub mod Viewed
 pub mod Unsigned

@@ -22,4 +22,7 @@ pub mod UnsignedAttribute
 pub mod SignerInfo
 pub mod SignedData
 pub mod Pkcs7
+pub mod Lending
+pub mod SignedView
+pub mod SignerView
 pub mod Facts

@@ -1,0 +1,93 @@
+-- What the views of signed data and of signers lend.
+use Rattle.std.proofs.Common.{◌≡◌, ◌≢◌, ℕ, List, Option, Some, refl, sym, ap, subst, ◌∙◌}
+use mathlib.Core.Logic.{∥∥₁_elim}
+use Rattle.std.proofs.Props.{props}
+use Rattle.der_core.specs.DerElement.{DerElement, tag_of}
+use Rattle.der_core.specs.Elements.{octet_string}
+use Rattle.der_core.specs.Encoding.{form_bit, IsDer}
+use Rattle.content_types.specs.ContentInfo.{content_info}
+use Rattle.content_types.specs.declared.content_info.EncapsulatedContentInfo.{EncapsulatedContentInfo}
+use Rattle.cms_types.specs.CmsVersion.{cms_version}
+use Rattle.cms_types.specs.SignerElements.{SignerElements, signer_of}
+use Rattle.cms_types.specs.SignedDataElements.{SignedDataElements, signed_data_of}
+use Rattle.cms_types.specs.Levels.{OfOption, IsConstructed, AreSignerFields, IsSignerOf, AreSignedDataFields, IsSignedDataOf}
+use Rattle.cms_types.specs.Signers.{IsSignerInfo, IsSignedData}
+use Rattle.cms_types.specs.declared.version.CmsVersion.{CmsVersion}
+use Rattle.cms_types.specs.Pkcs7Elements.{pkcs7_of}
+use Rattle.cms_types.specs.Pkcs7.{pkcs7}
+use Rattle.cms_types.specs.SignedData.{signed_data_elements, signed_data}
+use Rattle.cms_types.specs.SignerInfo.{signer_elements, signer_info}
+use Rattle.cms_types.specs.declared.pkcs7.Pkcs7Certificate.{Pkcs7Certificate}
+use Rattle.cms_types.specs.declared.signer_info.SignerInfo.{SignerInfo}
+use Rattle.cms_types.proofs.SignerLaws.{level_of_data, data_of_value, value_of_data, level_of_signer, signer_of_value, no_value}
+
+-- ---- signed data
+
+abbrev Viewed : SignedDataElements → Type 0
+Viewed f = ∥ AreSignedDataFields f × IsSignedData (signed_data_of f) ∥₁
+
+pub data_has_version : (f : SignedDataElements) → Viewed f → ((v : CmsVersion) → f.version ≢ cms_version v) → ⊥
+data_has_version f fits none = ∥∥₁_elim fits (λ x y. absurd x) (λ h. none h.0.version.0 h.0.version.1)
+
+pub data_has_content : (f : SignedDataElements) → Viewed f → ((info : EncapsulatedContentInfo) → f.content_info ≢ content_info info) → ⊥
+data_has_content f fits none = ∥∥₁_elim fits (λ x y. absurd x) (λ h. none h.0.content_info.0 h.0.content_info.1)
+
+bit_prop : (e : DerElement) → IsProp (form_bit (tag_of e) ≡ 1)
+bit_prop e = hlevel props
+
+bit_of : (tag : ℕ) (e : DerElement) → form_bit tag ≡ 1 → IsConstructed tag e → form_bit (tag_of e) ≡ 1
+bit_of tag e bit is = ap (λ (x : DerElement). form_bit (tag_of x)) is.1 ∙ bit
+
+pub algorithms_bit : (f : SignedDataElements) → Viewed f → form_bit (tag_of f.digest_algorithms) ≡ 1
+algorithms_bit f fits = ∥∥₁_elim fits (bit_prop f.digest_algorithms) (λ h. bit_of 0x31 f.digest_algorithms refl (h.0.digest_algorithms.1.kids, h.0.digest_algorithms.1.holds))
+
+pub signers_bit : (f : SignedDataElements) → Viewed f → form_bit (tag_of f.signers_infos) ≡ 1
+signers_bit f fits = ∥∥₁_elim fits (bit_prop f.signers_infos) (λ h. bit_of 0x31 f.signers_infos refl h.0.signers_infos)
+
+held_option : (tag : ℕ) (a : Option DerElement) (e : DerElement) → OfOption (IsConstructed tag) a → a ≡ Some e → IsConstructed tag e
+held_option tag a e is same = subst (OfOption (IsConstructed tag)) same is
+
+pub certificates_bit : (f : SignedDataElements) (e : DerElement) → Viewed f → f.certificates ≡ Some e → form_bit (tag_of e) ≡ 1
+certificates_bit f e fits same = ∥∥₁_elim fits (bit_prop e) (λ h. bit_of 0xA0 e refl (held_option 0xA0 f.certificates e h.0.certificates same))
+
+-- ---- signers
+
+abbrev ViewedSigner : SignerElements → Type 0
+ViewedSigner f = ∥ AreSignerFields f × IsSignerInfo (signer_of f) ∥₁
+
+pub signer_has_version : (f : SignerElements) → ViewedSigner f → ((v : CmsVersion) → f.version ≢ cms_version v) → ⊥
+signer_has_version f fits none = ∥∥₁_elim fits (λ x y. absurd x) (λ h. none h.0.version.0 h.0.version.1)
+
+pub signer_has_signature : (f : SignerElements) → ViewedSigner f → ((octets : List ℕ) → f.signature ≢ octet_string octets) → ⊥
+signer_has_signature f fits none = ∥∥₁_elim fits (λ x y. absurd x) (λ h. none h.0.signature.0 h.0.signature.1)
+
+-- ---- reading
+
+pkcs7_once : (a b : DerElement) → pkcs7_of a ≡ pkcs7_of b → a ≡ b
+pkcs7_once a b e = cc
+
+inside_of : (e inner : DerElement) (p : Pkcs7Certificate) → e ≡ pkcs7_of inner → e ≡ pkcs7 p → inner ≡ signed_data p.signed_data
+inside_of e inner p is spelled = pkcs7_once inner (signed_data p.signed_data) (sym is ∙ spelled)
+
+pub no_data_fields : (e inner : DerElement) (p : Pkcs7Certificate) → e ≡ pkcs7_of inner → e ≡ pkcs7 p → ((f : SignedDataElements) → IsSignedDataOf inner f → ⊥) → ⊥
+no_data_fields e inner p is spelled none = none (signed_data_elements p.signed_data) (level_of_data inner p.signed_data (inside_of e inner p is spelled))
+
+pub not_data : (e inner : DerElement) (p : Pkcs7Certificate) → e ≡ pkcs7_of inner → e ≡ pkcs7 p → (IsSignedData inner → ⊥) → ⊥
+not_data e inner p is spelled none = no_value (data_of_value inner p.signed_data (inside_of e inner p is spelled)) none
+
+pub viewed_value : (inner : DerElement) (f : SignedDataElements) → IsSignedDataOf inner f → IsSignedData inner → AreSignedDataFields f × IsSignedData (signed_data_of f)
+viewed_value inner f of held = (of.fields, subst IsSignedData of.is held)
+
+pub read_value : (e inner : DerElement) (f : SignedDataElements) → IsDer inner → e ≡ pkcs7_of inner → IsSignedDataOf inner f → IsSignedData inner → (e ≡ pkcs7_of (signed_data_of f)) × ((p : Pkcs7Certificate) × (e ≡ pkcs7 p))
+read_value e inner f der is of held =
+    let d = value_of_data inner der held in
+    (is ∙ ap pkcs7_of of.is, (record { signed_data = d.0 }, is ∙ ap pkcs7_of d.1))
+
+pub no_signer_fields : (e : DerElement) (s : SignerInfo) → e ≡ signer_info s → ((f : SignerElements) → IsSignerOf e f → ⊥) → ⊥
+no_signer_fields e s is none = no_value (level_of_signer e s is) (none (signer_elements s))
+
+pub not_signer : (e : DerElement) (s : SignerInfo) → e ≡ signer_info s → (IsSignerInfo e → ⊥) → ⊥
+not_signer e s is none = no_value (signer_of_value e s is) none
+
+pub viewed_signer : (e : DerElement) (f : SignerElements) → IsSignerOf e f → IsSignerInfo e → AreSignerFields f × IsSignerInfo (signer_of f)
+viewed_signer e f of held = (of.fields, subst IsSignerInfo of.is held)

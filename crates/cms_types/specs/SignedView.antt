@@ -1,0 +1,19 @@
+-- Signed data where its octets lie.
+use Rattle.std.specs.Prelude.{◌≡◌}
+use Rattle.der_core.specs.DerElement.{DerElement}
+use Rattle.cms_types.specs.Lent.{signed_data_at}
+use Rattle.cms_types.specs.SignedDataElements.{SignedDataElements, signed_data_of}
+use Rattle.cms_types.specs.Pkcs7Elements.{pkcs7_of}
+use Rattle.cms_types.specs.Pkcs7.{pkcs7}
+use Rattle.cms_types.specs.declared.pkcs7.Pkcs7Certificate.{Pkcs7Certificate}
+use Rattle.cms_types.specs.declared.signed_view.SignedView.{SignedView}
+
+-- the elements that lie there
+abbrev pub view_elements : SignedView → SignedDataElements
+view_elements view = signed_data_at view.fields
+
+-- The view is one of this element: its elements are those of the fields, and it is that of a value.
+pub record IsSignedView (element : DerElement) (view : SignedView) : Type 0 where
+  pub is : element ≡ pkcs7_of (signed_data_of (view_elements view))
+  pub value : Pkcs7Certificate
+  pub spelled : element ≡ pkcs7 value

@@ -1,0 +1,26 @@
+-- A signer where its octets lie.
+use Rattle.std.specs.Prelude.{◌≡◌, ℕ, List, [], ◌∷◌}
+use Rattle.der_core.specs.DerElement.{DerElement, Primitive}
+use Rattle.der_core.specs.Elements.{sequence}
+use Rattle.der_core.specs.Encoding.{encoding}
+use Rattle.cms_types.specs.Lent.{signer_at}
+use Rattle.cms_types.specs.SignerElements.{SignerElements, signer_of}
+use Rattle.cms_types.specs.SignerInfo.{signer_info}
+use Rattle.cms_types.specs.declared.signer_info.SignerInfo.{SignerInfo}
+use Rattle.cms_types.specs.declared.signer_view.SignerView.{SignerView}
+
+-- the elements that lie there
+abbrev pub signer_elements_at : SignerView → SignerElements
+signer_elements_at view = signer_at view.fields
+
+-- The view is one of this element: its elements are those of the fields, and it is that of a signer.
+pub record IsSignerView (element : DerElement) (view : SignerView) : Type 0 where
+  pub is : element ≡ signer_of (signer_elements_at view)
+  pub value : SignerInfo
+  pub spelled : element ≡ signer_info value
+
+-- The octets are those of the issuer, and the contents octets of the serial number, in the element (RFC 5652 10.2.4).
+pub record LendsNamed (sid : DerElement) (issuer serial_number : List ℕ) : Type 0 where
+  pub name : DerElement
+  pub is : sid ≡ sequence (name ∷ Primitive 0x02 serial_number ∷ [])
+  pub octets : issuer ≡ encoding name
