@@ -23,6 +23,7 @@ from itertools import chain, filterfalse
 
 import cms_rows
 import hostile_certificates as hostile
+import kept_certificates
 import kept_private_keys
 import private_keys
 import structure_rows as structures
@@ -472,7 +473,7 @@ def certificate_rows():
 
 
 def whole_certificate_rows():
-    """The rows of `certificate_answers`: whole certificates, and pairs of them that are unlike."""
+    """The rows of `certificate_answers`: whole certificates, where they lie and kept, and pairs of them."""
     for label, octets in whole_certificates.stored():
         yield structure_row("certificate", octets.hex(), whole_certificates.READS[label])
     for octets, _ in whole_certificates.WRITTEN:
@@ -487,6 +488,7 @@ def whole_certificate_rows():
         yield f"unlike certificate {one.hex()} {one.hex()}", "equal"
     for one, other, _ in whole_certificates.LIKE:
         yield f"unlike certificate {one.hex()} {other.hex()}", "equal"
+    yield from kept_certificates.rows()
 
 
 def digest(line):

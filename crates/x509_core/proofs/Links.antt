@@ -1,7 +1,7 @@
 -- How key identifiers of elements stand, where the elements are the same.
 use Rattle.std.proofs.Common.{◌≡◌, subst}
 use Rattle.x509_types.specs.CertificateElements.{CertificateElements}
-use Rattle.x509_core.specs.Parent.{AreLinked, LacksKey, DifferByKey, IsKeyLink}
+use Rattle.x509_core.specs.Parent.{AgreeByKeyAndName, LacksKey, DifferByKey, IsKeyLink}
 use Rattle.x509_core.specs.declared.key_link.KeyLink.{KeyLink}
 use Rattle.std.specs.Prelude.{ℕ, List}
 use Rattle.x509_core.proofs.KeyIds.{had_once}
@@ -10,9 +10,9 @@ pub same_link : (a b c d : CertificateElements) (l : KeyLink) → a ≡ c → b 
 same_link a b c d l p q link = subst (λ (x : CertificateElements). IsKeyLink x d l) p (subst (λ (y : CertificateElements). IsKeyLink a y l) q link)
 
 -- a parent that lacks the key isn't linked
-pub lacking : (parent child : CertificateElements) → LacksKey parent child → AreLinked parent child → ⊥
+pub lacking : (parent child : CertificateElements) → LacksKey parent child → AgreeByKeyAndName parent child → ⊥
 lacking parent child lacks linked = lacks.none lacks.key (linked.key lacks.key lacks.named)
 
 -- and neither is one that has another
-pub differing : (parent child : CertificateElements) (expected actual : List ℕ) → DifferByKey parent child expected actual → AreLinked parent child → ⊥
+pub differing : (parent child : CertificateElements) (expected actual : List ℕ) → DifferByKey parent child expected actual → AgreeByKeyAndName parent child → ⊥
 differing parent child expected actual differ linked = differ.other (had_once parent expected actual (linked.key expected differ.named) differ.had)

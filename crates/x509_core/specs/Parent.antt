@@ -23,7 +23,7 @@ abbrev pub AgreeByName : (parent child : CertificateElements) → Type 0
 AgreeByName parent child = child.tbs.issuer ≡ parent.tbs.subject
 
 -- Names and key identifiers are those of a link of a chain.
-pub record AreLinked (parent child : CertificateElements) : Type 0 where
+pub record AgreeByKeyAndName (parent child : CertificateElements) : Type 0 where
   pub key : AgreeByKey parent child
   pub name : AgreeByName parent child
 

@@ -14,7 +14,7 @@ use Rattle.x509_types.specs.TbsElements.{TbsElements}
 use Rattle.x509_types.specs.declared.certificate.Certificate.{Certificate}
 use Rattle.x509_types.specs.declared.extension.Extension.{Extension}
 
--- The element spells the extension, as it is written or by one of the two octets of TRUE and FALSE that DER doesn't have.
+-- The element spells the extension, as it is written, or with a flag, its own or that of basic constraints, that DER doesn't have (X.690 11.1, 11.5).
 pub record IsSpelling (element : DerElement) (e : Extension) : Type 0 where
   pub is : IsExtension element e
   pub way : ((element ≡ extension e) ⊎ HasOtherFlag element (object_identifier e.extn_id) e.critical is.octets) ⊎ HasOtherConstraints is.octets e.extn_value

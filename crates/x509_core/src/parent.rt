@@ -2,7 +2,7 @@
 
 ghost use Rattle.std.specs.Prelude.{◌≡◌, ◌↔◌, IsTrue, Ok, MatchResult};
 ghost use Rattle.x509_types.specs.CertificateView.{view_elements};
-ghost use Rattle.x509_core.specs.Parent.{AgreeByKey, AgreeByName, AreLinked, IsInvalid, IsOtherKey, RefusesParent};
+ghost use Rattle.x509_core.specs.Parent.{AgreeByKey, AgreeByName, AgreeByKeyAndName, IsInvalid, IsOtherKey, RefusesParent};
 
 use crate::cert::Cert;
 use crate::error::{CaChainError, CertCause, CertError, ExtName};
@@ -27,10 +27,10 @@ impl Cert {
     /// dates and flags aren't asked for.
     pub fn is_parent_of(&self, alloc: Global, other: &Cert) -> Result<(), CertError>
         ensures answer { MatchResult result
-            (λ _. AreLinked self.now.elements other.now.elements)
+            (λ _. AgreeByKeyAndName self.now.elements other.now.elements)
             (RefusesParent self.now other.now) }
         // Whatever memory there is.
-        ensures accepted { AreLinked self.now.elements other.now.elements → result ≡ Ok tt }
+        ensures accepted { AgreeByKeyAndName self.now.elements other.now.elements → result ≡ Ok tt }
     {
         match key_link(self.view(), other.view()) {
             KeyLink::Agree => self.expect_issuer_of(alloc, other),
@@ -48,7 +48,7 @@ impl Cert {
     fn expect_issuer_of(&self, alloc: Global, other: &Cert) -> Result<(), CertError>
         requires { AgreeByKey self.now.elements other.now.elements }
         ensures answer { MatchResult result
-            (λ _. AreLinked self.now.elements other.now.elements)
+            (λ _. AgreeByKeyAndName self.now.elements other.now.elements)
             (RefusesParent self.now other.now) }
         ensures accepted { AgreeByName self.now.elements other.now.elements → result ≡ Ok tt }
     {
