@@ -1,13 +1,15 @@
 """Structures of PKCS #7 and Authenticode read from elements, and what `cms_answers` prints of them.
 
 This reader exists to be compared with the project's own, as `value_reader`,
-whose functions on the values within it takes: it is written from RFC 2315, the
-Windows Authenticode Portable Executable Signature Format and X.690, over the
-elements of `der_reader`.
+whose functions on the values within it takes: it is written from RFC 2315, RFC
+5652, the Windows Authenticode Portable Executable Signature Format and X.690,
+over the elements of `der_reader`.
 """
 
-from der_reader import read_exact, write
-from value_reader import Shape, algorithm, contents, dotted, explicit, kids, need, optional, word
+from der_reader import Constructed, Malformed, Primitive, read_exact, write
+from value_reader import (
+    Shape, algorithm, contents, dotted, explicit, integer, kids, name, name_text, need, optional, valued_attribute, word,
+)
 
 
 def digest_info(element):
@@ -53,7 +55,115 @@ def opus_info(element):
     return f"{name} {more}"
 
 
+CONTENTS = {
+    "1.3.6.1.4.1.311.2.1.4": indirect_data,
+    "1.2.840.113549.1.7.1": lambda element: f"data {word(contents(element, 4))}",
+}
+
+
+def content_info(element):
+    """A type, and a content by the type, or none (RFC 5652 5.2, RFC 2315 7)."""
+    rest = list(kids(element, 0x30))
+    need(rest)
+    ty = dotted(contents(rest.pop(0), 6))
+    shown = CONTENTS.get(ty, lambda one: word(write(one)))
+    content = optional(rest, 0xA0, lambda one: shown(explicit(one, 0xA0)))
+    need(not rest)
+    return f"{ty} {content}"
+
+
+# Signers hold unsigned attributes, these hold signers or signed data, and signed data holds signers.
+
+def version(element):
+    """The number of a version from 0 to 5 (RFC 5652 10.2.5)."""
+    octets = contents(element, 2)
+    need(len(octets) == 1 and octets[0] <= 5)
+    return octets[0]
+
+
+def identifier(element):
+    """An issuer and a serial number, or the identifier of a key (RFC 5652 5.3)."""
+    if isinstance(element, Primitive):
+        return f"key {word(contents(element, 0x80))}"
+    fields = kids(element, 0x30)
+    need(len(fields) == 2)
+    name(fields[0])
+    return f"{name_text(fields[0])} {integer(contents(fields[1], 2)).split()[0]}"
+
+
+def oid_of(element):
+    return algorithm(element).split()[0]
+
+
+UNSIGNED = {
+    "1.2.840.113549.1.9.6": ("signers", lambda one: signer_info(one)),
+    "1.3.6.1.4.1.311.3.3.1": ("tokens", lambda one: pkcs7(one)),
+}
+
+
+def unsigned_attribute(element):
+    """An attribute whose values are signers, signed data, or anything, by its identifier."""
+    fields = kids(element, 0x30)
+    need(len(fields) == 2)
+    oid = dotted(contents(fields[0], 6))
+    values = kids(fields[1], 0x31)
+    word_of, shape = UNSIGNED.get(oid, (oid, lambda one: None))
+    for one in values:
+        shape(one)
+    return f"{word_of} {len(values)}"
+
+
+def listed(elements, shown):
+    return " ".join(("[", *map(shown, elements), "]"))
+
+
+def signer_info(element):
+    """A signer (RFC 5652 5.3)."""
+    rest = list(kids(element, 0x30))
+    need(len(rest) >= 5)
+    head = f"{version(rest.pop(0))} {identifier(rest.pop(0))} {oid_of(rest.pop(0))}"
+    signed = "none"
+    if rest[0].tag == 0xA0:
+        attributes = kids(rest.pop(0), 0xA0)
+        for one in attributes:
+            valued_attribute(one)
+        signed = str(len(attributes))
+    need(len(rest) >= 2)
+    tail = f"{oid_of(rest.pop(0))} {word(contents(rest.pop(0), 4))}"
+    unsigned = optional(rest, 0xA1, lambda one: listed(kids(one, 0xA1), unsigned_attribute))
+    need(not rest)
+    return f"{head} {signed} {tail} {unsigned}"
+
+
+def signed_data(element):
+    """Signed data (RFC 5652 5.1)."""
+    rest = list(kids(element, 0x30))
+    need(len(rest) >= 4)
+    number = version(rest.pop(0))
+    algorithms = kids(rest.pop(0), 0x31)
+    for one in algorithms:
+        algorithm(one)
+    content = content_info(rest.pop(0))
+    certificates = optional(rest, 0xA0, lambda one: str(len(kids(one, 0xA0))))
+    lists = optional(rest, 0xA1, lambda one: str(len(kids(one, 0xA1))))
+    need(len(rest) == 1)
+    signers = listed(kids(rest[0], 0x31), signer_info)
+    return f"{number} {len(algorithms)} {content} {certificates} {lists} {signers}"
+
+
+def pkcs7(element):
+    """Signed data with its type (RFC 5652 3)."""
+    fields = kids(element, 0x30)
+    need(len(fields) == 2 and dotted(contents(fields[0], 6)) == "1.2.840.113549.1.7.2")
+    return signed_data(explicit(fields[1], 0xA0))
+
+
 KINDS = {
+    "content_info": content_info,
+    "unsigned_attribute": unsigned_attribute,
+    "signer_info": signer_info,
+    "signed_data": signed_data,
+    "pkcs7": pkcs7,
     "digest_info": digest_info,
     "attribute": attribute,
     "indirect_data": indirect_data,
@@ -69,3 +179,6 @@ def cms_line(kind, octets):
         return f"same {KINDS[kind](read_exact(octets))}"
     except Shape:
         return "Shape"
+    except Malformed as malformed:
+        need(malformed.fault == "TooDeep")
+        return "TooDeep"

@@ -14,8 +14,132 @@ PE = "060a2b06010401823702010f"
 NO_NAME = "3009030100a004a2028000"
 IMAGE = f"3017{PE}{NO_NAME}"
 
+# ---- signed data, put together of hexadecimal elements
+
+
+def der(tag, *parts):
+    """The element of a tag and contents below 2^16 octets."""
+    octets = "".join(parts)
+    size = len(octets) // 2
+    length = f"{size:02x}" if size < 0x80 else f"81{size:02x}" if size < 0x100 else f"82{size:04x}"
+    return f"{tag}{length}{octets}"
+
+
+DATA = "06092a864886f70d010701"
+SIGNED_DATA = "06092a864886f70d010702"
+INDIRECT_DATA = "060a2b060104018237020104"
+UNKNOWN = "06022a03"
+COUNTER = "06092a864886f70d010906"
+TOKEN = "060a2b060104018237030301"
+EMPTY = f"300b{DATA}"
+RSA = "300d06092a864886f70d0101010500"
+ISSUER = "300c310a300806035504030c0141"
+SERIAL = "020105"
+NAMED = der("30", ISSUER, SERIAL)
+CONTENT_TYPE = der("30", "06092a864886f70d010903", der("31", DATA))
+MESSAGE_DIGEST = der("30", "06092a864886f70d010904", der("31", "0402aabb"))
+SIGNATURE = "0403010203"
+
+
+def signer(version="020101", sid=NAMED, digest=SHA256, signed="", algorithm=RSA, signature=SIGNATURE, unsigned=""):
+    return der("30", version, sid, digest, signed, algorithm, signature, unsigned)
+
+
+def unsigned(*attributes):
+    return der("a1", *attributes)
+
+
+def counter(*values):
+    return der("30", COUNTER, der("31", *values))
+
+
+def token(*values):
+    return der("30", TOKEN, der("31", *values))
+
+
+def signed_data(version="020101", algorithms="3100", content=EMPTY, certificates="", lists="", signers="3100"):
+    return der("30", version, algorithms, content, certificates, lists, signers)
+
+
+def pkcs7(inner=signed_data(), oid=SIGNED_DATA, tag="a0"):
+    return der("30", oid, der(tag, inner))
+
+
+SIGNER = signer()
+SIGNED_ATTRIBUTES = der("a0", CONTENT_TYPE, MESSAGE_DIGEST)
+
+# Signed data without certificates and signers, 41 octets.
+BARE = "302706092a864886f70d010702a01a30180201013100300b06092a864886f70d010701a000a1003100"
+assert BARE == pkcs7(signed_data(certificates="a000", lists="a100"))
+
+
+def inside_one_another(count):
+    """A signer with so many counter-signatures inside one another."""
+    one = SIGNER
+    for _ in range(count):
+        one = signer(unsigned=unsigned(counter(one)))
+    return one
+
+
 # Values of each kind.
 READ = [
+    ("content_info", [
+        (EMPTY, "a type without a content"),
+        (der("30", DATA, "a0040402aabb"), "octets"),
+        (der("30", DATA, "a0020400"), "no octets"),
+        (der("30", INDIRECT_DATA, der("a0", der("30", IMAGE, DIGEST))), "what Authenticode signs"),
+        (f"300c{INDIRECT_DATA}", "its type alone"),
+        (der("30", UNKNOWN, "a0020500"), "a content of an unknown type"),
+        (der("30", UNKNOWN, "a0053003010102"), "another octet of TRUE is kept"),
+        (f"3004{UNKNOWN}", "an unknown type alone"),
+    ]),
+    ("unsigned_attribute", [
+        (counter(SIGNER), "a counter-signature"),
+        (counter(), "no signers"),
+        (counter(SIGNER, SIGNER), "two signers"),
+        (token(BARE), "signed data"),
+        (token(), "no signed data"),
+        (der("30", UNKNOWN, "3100"), "no values of an unknown type"),
+        (der("30", UNKNOWN, "31053003010102"), "a value of an unknown type"),
+        (der("30", "06092a864886f70d010904", "31020500"), "a digest is no attribute of a known kind here"),
+    ]),
+    ("signer_info", [
+        (SIGNER, "no attributes"),
+        (signer(version="020100"), "version 0"),
+        (signer(version="020105"), "version 5"),
+        (signer(sid="8002aabb"), "the identifier of a key"),
+        (signer(sid="8000"), "the identifier of a key, of no octets"),
+        (signer(signed="a000"), "an empty list of signed attributes is not absent"),
+        (signer(signed=SIGNED_ATTRIBUTES), "signed attributes"),
+        (signer(signed=der("a0", der("30", UNKNOWN, "31053003010102"))), "another octet of TRUE in a signed attribute is kept"),
+        (signer(unsigned="a100"), "an empty list of unsigned attributes is not absent"),
+        (signer(unsigned=unsigned(counter(SIGNER))), "a counter-signature"),
+        (signer(unsigned=unsigned(token(BARE), der("30", UNKNOWN, "3100"))), "signed data and another attribute"),
+        (signer(signed=SIGNED_ATTRIBUTES, unsigned=unsigned(counter(signer(signed=SIGNED_ATTRIBUTES)))), "attributes of both kinds"),
+        (signer(signature="0400"), "a signature of no octets"),
+        (inside_one_another(2), "a counter-signature of a counter-signature"),
+    ]),
+    ("signed_data", [
+        (signed_data(), "neither certificates nor signers"),
+        (signed_data(version="020103"), "version 3"),
+        (signed_data(certificates="a000"), "an empty list of certificates is not absent"),
+        (signed_data(lists="a100"), "an empty list of revocation lists is not absent"),
+        (signed_data(certificates=der("a0", "3000", "a1020500", "0500")), "what is no certificate is kept"),
+        (signed_data(lists=der("a1", "3000", "0500")), "what is no revocation list is kept"),
+        (signed_data(algorithms=der("31", SHA256)), "a digest algorithm"),
+        (signed_data(algorithms=der("31", SHA256, SHA256)), "two digest algorithms"),
+        (signed_data(signers=der("31", SIGNER)), "a signer"),
+        (signed_data(signers=der("31", SIGNER, signer(sid="8000"))), "two signers"),
+        (signed_data(content=der("30", UNKNOWN, "a0020500")), "a content of an unknown type"),
+    ]),
+    ("pkcs7", [
+        (BARE, "neither certificates nor signers"),
+        (pkcs7(), "both lists absent"),
+        (pkcs7(signed_data(algorithms=der("31", SHA256), content=der("30", INDIRECT_DATA, der("a0", der("30", IMAGE, DIGEST))),
+                           certificates=der("a0", "3000"), signers=der("31", signer(signed=SIGNED_ATTRIBUTES)))), "the form of a signature file"),
+        (pkcs7(signed_data(signers=der("31", signer(unsigned=unsigned(token(BARE)))))), "signed data within signed data"),
+        (pkcs7(signed_data(signers=der("31", inside_one_another(13)))), "thirteen counter-signatures inside one another"),
+    ]),
     ("digest_info", [
         (DIGEST, "SHA-256"),
         ("3021300906052b0e03021a05000414a9993e364706816aba3e25717850c26c9cd0d89d", "SHA-1"),
@@ -64,8 +188,94 @@ READ = [
     ]),
 ]
 
-# Elements that are no value of the kind.
+# Elements that are no value of the kind, or are nested too deep.
 REFUSED = [
+    ("content_info", [
+        (f"310b{DATA}", "a SET"),
+        ("3000", "no type"),
+        ("30020600", "an identifier of no octets"),
+        (der("30", DATA, "a0020500"), "data that is no octets"),
+        (der("30", DATA, "a000"), "no content under the tag"),
+        (der("30", DATA, "a00404000400"), "two contents"),
+        (der("30", DATA, "0400"), "a content without its tag"),
+        (der("30", DATA, "a1020400"), "another tag"),
+        (der("30", DATA, "8000"), "a leaf as the tag"),
+        (der("30", DATA, "a0020400", "0500"), "an element after the content"),
+        (der("30", INDIRECT_DATA, "a0020400"), "what Authenticode signs isn't octets"),
+        (der("30", INDIRECT_DATA, der("a0", der("30", IMAGE))), "no digest"),
+    ]),
+    ("unsigned_attribute", [
+        (der("31", COUNTER, "3100"), "a SET"),
+        (f"300b{COUNTER}", "no values"),
+        (der("30", COUNTER, "3000"), "values in a SEQUENCE"),
+        (der("30", COUNTER, "3100", "0500"), "an element after the values"),
+        (der("30", "0600", "3100"), "an identifier of no octets"),
+        (counter("0500"), "a value that is no signer"),
+        (counter(SIGNER, "0500"), "the second value is no signer"),
+        (counter(BARE), "signed data is no signer"),
+        (token(SIGNER), "a signer is no signed data"),
+        (token(signed_data()), "signed data without its type"),
+        (counter(signer(unsigned=unsigned(counter("0500")))), "a value of a value that is no signer"),
+    ]),
+    ("signer_info", [
+        (der("31", "020101", NAMED, SHA256, RSA, SIGNATURE), "a SET"),
+        (signer(version="020106"), "version 6"),
+        (signer(version="02020001"), "a version of two octets"),
+        (signer(version=""), "no version"),
+        (signer(sid=""), "no identifier"),
+        (signer(sid=der("30", SERIAL, ISSUER)), "the serial number in front"),
+        (signer(sid=der("30", ISSUER)), "no serial number"),
+        (signer(sid="a0020500"), "an identifier under a constructed tag"),
+        (signer(sid="8100"), "an identifier under another tag"),
+        (signer(digest=""), "one algorithm"),
+        (signer(digest="3000"), "a digest algorithm of no identifier"),
+        (signer(signed=der("a0", "0500")), "a signed attribute that is none"),
+        (signer(signed=der("a0", der("30", "06092a864886f70d010904", "31020500"))), "a digest that is no octets"),
+        (signer(signed="8000"), "signed attributes as a leaf"),
+        (signer(signed="3100"), "signed attributes without their tag"),
+        (signer(signed="a000a000"), "signed attributes twice"),
+        (signer(algorithm=""), "no algorithm of the signature"),
+        (signer(algorithm="a0020500"), "another tag in place of the algorithm of the signature"),
+        (signer(signature=""), "no signature"),
+        (signer(signature="030100"), "a BIT STRING as the signature"),
+        (signer(unsigned="8100"), "unsigned attributes as a leaf"),
+        (signer(unsigned="a200"), "another tag after the signature"),
+        (signer(unsigned="a100a100"), "unsigned attributes twice"),
+        (signer(unsigned="a1000500"), "an element after the unsigned attributes"),
+        (signer(unsigned=unsigned("0500")), "an unsigned attribute that is none"),
+        (signer(unsigned=unsigned(counter("0500"))), "a counter-signature whose value is no signer"),
+    ]),
+    ("signed_data", [
+        (der("31", "020101", "3100", EMPTY, "3100"), "a SET"),
+        (signed_data(version="020106"), "version 6"),
+        (signed_data(version="0200"), "a version of no octets"),
+        (signed_data(algorithms="3000"), "digest algorithms in a SEQUENCE"),
+        (signed_data(algorithms="31020500"), "a digest algorithm that is none"),
+        (signed_data(content="3000"), "no type of the content"),
+        (signed_data(content=der("30", DATA, "a0020500")), "data that is no octets"),
+        (signed_data(certificates="8000"), "certificates as a leaf"),
+        (signed_data(certificates="a100a000"), "certificates after revocation lists"),
+        (signed_data(certificates="a000a000"), "certificates twice"),
+        (signed_data(lists="8100"), "revocation lists as a leaf"),
+        (signed_data(lists="a200"), "another tag"),
+        (signed_data(signers=""), "no list of signers"),
+        (signed_data(signers="3000"), "signers in a SEQUENCE"),
+        (signed_data(signers="31020500"), "a signer that is none"),
+        (signed_data(signers=der("31", SIGNER, signer(version="020106"))), "the second signer has version 6"),
+        (signed_data(signers="31000500"), "an element after the signers"),
+    ]),
+    ("pkcs7", [
+        (pkcs7(oid=DATA), "another type"),
+        (pkcs7(tag="a1"), "another tag"),
+        (f"300b{SIGNED_DATA}", "no content"),
+        (der("30", SIGNED_DATA, "a000"), "no content under the tag"),
+        (der("30", SIGNED_DATA, der("a0", signed_data(), "0500")), "two contents"),
+        (der("30", SIGNED_DATA, der("a0", signed_data()), "0500"), "an element after the content"),
+        (der("31", SIGNED_DATA, der("a0", signed_data())), "a SET"),
+        (signed_data(), "signed data without its type"),
+        (pkcs7(signed_data(signers=der("31", signer(unsigned=unsigned(token(pkcs7(signed_data(signers="31020500")))))))), "signed data within signed data whose signer is none"),
+        (pkcs7(signed_data(signers=der("31", inside_one_another(14)))), "fourteen counter-signatures inside one another"),
+    ]),
     ("digest_info", [
         (f"3131{SHA256}{ABC}", "a SET"),
         (f"300f{SHA256}", "no digest"),

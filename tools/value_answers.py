@@ -541,7 +541,7 @@ def world_rows():
 
 def cms_row(kind, element, is_read):
     line = cms_line(kind, bytes.fromhex(element))
-    assert (line != "Shape") == is_read, (kind, element, line)
+    assert (line not in ("Shape", "TooDeep")) == is_read, (kind, element, line)
     return f"structure {kind} {element}", line
 
 

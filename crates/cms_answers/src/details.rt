@@ -1,8 +1,9 @@
 //! What is printed of a value beside whether it comes back as it was read.
 
 use cms_types::{
-    DigestInfo, SpcAttributeTypeAndOptionalValue, SpcIndirectDataContent, SpcLink, SpcSpOpusInfo,
-    SpcString,
+    ContentValue, DigestInfo, EncapsulatedContentInfo, Pkcs7Certificate, SignedData,
+    SignerIdentifier, SignerInfo, SpcAttributeTypeAndOptionalValue, SpcIndirectDataContent,
+    SpcLink, SpcSpOpusInfo, SpcString, UnsignedAttribute,
 };
 use der_core::Raw;
 use row_answers::word_of;
@@ -54,6 +55,125 @@ impl Details for SpcSpOpusInfo {
         let name = option_details(alloc, &self.program_name)?;
         let link = option_details(alloc, &self.more_info)?;
         format!(in alloc; "{name} {link}")
+    }
+}
+
+impl Details for EncapsulatedContentInfo {
+    fn details(&self, alloc: Global) -> Result<String, AllocError> {
+        let (ty, content) = (&self.content_type, option_details(alloc, &self.content)?);
+        format!(in alloc; "{ty} {content}")
+    }
+}
+
+impl Details for ContentValue {
+    fn details(&self, alloc: Global) -> Result<String, AllocError> {
+        match self {
+            ContentValue::SpcIndirectDataContent(content) => content.details(alloc),
+            ContentValue::Data(octets) => {
+                let octets = word_of(alloc, octets.as_slice())?;
+                format!(in alloc; "data {octets}")
+            }
+            ContentValue::Other(element) => kept(alloc, Some(element)),
+        }
+    }
+}
+
+impl Details for SignerIdentifier {
+    fn details(&self, alloc: Global) -> Result<String, AllocError> {
+        match self {
+            SignerIdentifier::IssuerAndSerialNumber(named) => {
+                let issuer = &named.issuer;
+                let serial = word_of(alloc, named.serial_number.as_signed_bytes_be())?;
+                format!(in alloc; "{issuer} {serial}")
+            }
+            SignerIdentifier::SubjectKeyIdentifier(octets) => {
+                let octets = word_of(alloc, octets.as_slice())?;
+                format!(in alloc; "key {octets}")
+            }
+        }
+    }
+}
+
+impl Details for UnsignedAttribute {
+    fn details(&self, alloc: Global) -> Result<String, AllocError> {
+        match self {
+            UnsignedAttribute::CounterSign(values) => {
+                let count = values.as_slice().len();
+                format!(in alloc; "signers {count}")
+            }
+            UnsignedAttribute::MsCounterSign(values) => {
+                let count = values.as_slice().len();
+                format!(in alloc; "tokens {count}")
+            }
+            UnsignedAttribute::Raw(attribute) => {
+                let (ty, count) = (&attribute.ty, attribute.values.len());
+                format!(in alloc; "{ty} {count}")
+            }
+        }
+    }
+}
+
+impl Details for SignerInfo {
+    fn details(&self, alloc: Global) -> Result<String, AllocError> {
+        let version = self.version.number();
+        let sid = self.sid.details(alloc)?;
+        let digest = self.digest_algorithm.oid();
+        let signed = match &self.signed_attrs {
+            Some(attributes) => {
+                let count = attributes.list().len();
+                format!(in alloc; "{count}")?
+            }
+            None => String::from_str(alloc, "none")?,
+        };
+        let algorithm = self.signature_algorithm.oid();
+        let signature = word_of(alloc, self.signature.as_slice())?;
+        let unsigned = match &self.unsigned_attrs {
+            Some(attributes) => all_details(alloc, attributes.as_slice())?,
+            None => String::from_str(alloc, "none")?,
+        };
+        format!(in alloc; "{version} {sid} {digest} {signed} {algorithm} {signature} {unsigned}")
+    }
+}
+
+impl Details for SignedData {
+    fn details(&self, alloc: Global) -> Result<String, AllocError> {
+        let version = self.version.number();
+        let algorithms = self.digest_algorithms.len();
+        let content = self.content_info.details(alloc)?;
+        let certificates = match &self.certificates {
+            Some(list) => count_of(alloc, Some(list.len()))?,
+            None => count_of(alloc, None)?,
+        };
+        let lists = match &self.crls {
+            Some(list) => count_of(alloc, Some(list.len()))?,
+            None => count_of(alloc, None)?,
+        };
+        let signers = all_details(alloc, self.signers_infos.as_slice())?;
+        format!(in alloc; "{version} {algorithms} {content} {certificates} {lists} {signers}")
+    }
+}
+
+impl Details for Pkcs7Certificate {
+    fn details(&self, alloc: Global) -> Result<String, AllocError> {
+        self.signed_data.details(alloc)
+    }
+}
+
+/// The details of values in order, in brackets.
+fn all_details<T: Details>(alloc: Global, values: &[T]) -> Result<String, AllocError> {
+    let mut text = String::from_str(alloc, "[")?;
+    for value in values {
+        let one = value.details(alloc)?;
+        text = format!(in alloc; "{text} {one}")?;
+    }
+    format!(in alloc; "{text} ]")
+}
+
+/// A count that may be left out.
+fn count_of(alloc: Global, count: Option<usize>) -> Result<String, AllocError> {
+    match count {
+        Some(count) => format!(in alloc; "{count}"),
+        None => String::from_str(alloc, "none"),
     }
 }
 

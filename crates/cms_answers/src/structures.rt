@@ -3,10 +3,11 @@
 use crate::details::Details;
 use anyhow::Result;
 use cms_types::{
-    DigestInfo, SpcAttributeTypeAndOptionalValue, SpcIndirectDataContent, SpcLink, SpcSpOpusInfo,
-    SpcString,
+    DigestInfo, EncapsulatedContentInfo, Pkcs7Certificate, SignedData, SignerInfo,
+    SpcAttributeTypeAndOptionalValue, SpcIndirectDataContent, SpcLink, SpcSpOpusInfo, SpcString,
+    UnsignedAttribute,
 };
-use der_core::{DerError, Structure};
+use der_core::{DerError, DerFault, Malformed, Structure};
 use row_answers::{are_equal, comes_back, octets_of, shown_shape, value_of};
 use std::alloc::Global;
 
@@ -20,6 +21,11 @@ pub fn answer(alloc: Global, kind: &str, element: &str) -> Result<Option<String>
         "string" => read_of::<SpcString>(alloc, &element),
         "link" => read_of::<SpcLink>(alloc, &element),
         "opus_info" => read_of::<SpcSpOpusInfo>(alloc, &element),
+        "content_info" => read_of::<EncapsulatedContentInfo>(alloc, &element),
+        "unsigned_attribute" => back_of::<UnsignedAttribute>(alloc, &element),
+        "signer_info" => back_of::<SignerInfo>(alloc, &element),
+        "signed_data" => back_of::<SignedData>(alloc, &element),
+        "pkcs7" => back_of::<Pkcs7Certificate>(alloc, &element),
         _ => return Ok(None),
     };
     Ok(Some(answer?))
@@ -37,6 +43,7 @@ pub fn answer_unlike(alloc: Global, kind: &str, one: &str, other: &str) -> Resul
         "string" => are_equal::<SpcString>(alloc, &one, &other),
         "link" => are_equal::<SpcLink>(alloc, &one, &other),
         "opus_info" => are_equal::<SpcSpOpusInfo>(alloc, &one, &other),
+        "content_info" => are_equal::<EncapsulatedContentInfo>(alloc, &one, &other),
         _ => return Ok(None),
     };
     let answer = if equal? { "equal" } else { "unlike" };
@@ -53,6 +60,32 @@ fn read_of<T: Structure + PartialEq + Details>(
         Err(error) => return shown_shape(alloc, error),
     };
     let word = if comes_back(alloc, element, &value)? {
+        "same"
+    } else {
+        "changed"
+    };
+    let details = value.details(alloc)?;
+    Ok(format!(in alloc; "{word} {details}")?)
+}
+
+/// Whether the value and its copy are written as the octets that were read, and its details; or that
+/// there is none.
+fn back_of<T: Structure + Details>(alloc: Global, octets: &[u8]) -> Result<String, DerError> {
+    let value = match T::from_der(alloc, octets) {
+        Ok(value) => value,
+        Err(
+            DerError::Malformed(
+                Malformed {
+                    fault: DerFault::TooDeep,
+                    ..
+                },
+            ),
+        ) => return Ok(String::from_str(alloc, "TooDeep")?),
+        Err(error) => return shown_shape(alloc, error),
+    };
+    let written = value.to_der(alloc)?;
+    let copied = value.try_clone(alloc)?.to_der(alloc)?;
+    let word = if written.as_slice() == octets && copied.as_slice() == octets {
         "same"
     } else {
         "changed"
