@@ -30,6 +30,7 @@ ec_refusal P Q f (errors.Asn1Deserialization x s) r = r
 ec_refusal P Q f (errors.Rsa context) r = r
 ec_refusal P Q f (errors.EC context) r = f context r
 ec_refusal P Q f (errors.ED context) r = r
+ec_refusal P Q f (errors.UnsupportedAlgorithm kind) r = r
 ec_refusal P Q f errors.Memory r = r
 
 known_refused : (derives : Derivation) (curve : EcCurve) (oid : ObjectIdentifier) (read : ECPrivateKey) → identifier_contents oid ≡ curve_identifier curve
@@ -91,6 +92,7 @@ refused_sec1 Refuses octets read within (errors.Asn1Deserialization x s) r = abs
 refused_sec1 Refuses octets read within (errors.Rsa context) r = absurd r
 refused_sec1 Refuses octets read within (errors.EC context) r = (read, within, r)
 refused_sec1 Refuses octets read within (errors.ED context) r = absurd r
+refused_sec1 Refuses octets read within (errors.UnsupportedAlgorithm kind) r = absurd r
 refused_sec1 Refuses octets read within errors.Memory r = tt
 
 pub sec1_own : (derives : Derivation) (octets : List ℕ) (read : ECPrivateKey) → IsWithin IsECPrivateKey octets read
