@@ -1,6 +1,6 @@
 use Rattle.std.proofs.Common.{sym, subst, ◌∙◌}
 use Rattle.x509_types.specs.Certificate.{IsCertificate}
-use Rattle.x509_types.proofs.Found.{found, missing}
+use Rattle.der_core.specs.Facts.Answers.{found, missing}
 use Rattle.x509_core.specs.Facts.CertificateParts.{spelled_by}
 use Rattle.x509_core.proofs.cert.is_certificate.Goals as goal
 
