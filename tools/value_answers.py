@@ -23,7 +23,6 @@ from itertools import chain, filterfalse
 
 import cms_rows
 import hostile_certificates as hostile
-import kept_certificates
 import kept_private_keys
 import private_keys
 import structure_rows as structures
@@ -488,7 +487,6 @@ def whole_certificate_rows():
         yield f"unlike certificate {one.hex()} {one.hex()}", "equal"
     for one, other, _ in whole_certificates.LIKE:
         yield f"unlike certificate {one.hex()} {other.hex()}", "equal"
-    yield from kept_certificates.rows()
 
 
 def digest(line):

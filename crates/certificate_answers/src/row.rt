@@ -1,7 +1,7 @@
 //! Rows, and what is answered to them.
 
 use crate::details::details;
-use crate::{both, kept, view};
+use crate::{both, view};
 use anyhow::{Result, bail};
 use der_core::DerError;
 use row_answers::{are_equal, comes_back, octets_of, shown_shape, value_of};
@@ -30,15 +30,6 @@ pub fn answer(alloc: Global, text: &str) -> Result<String> {
             let end = octets_of(alloc, end)?;
             let octets = both::repeated(alloc, &begin, &part, times.parse()?, &end)?;
             both::answer(alloc, &octets)
-        }
-        ["kept", "certificate", octets] => {
-            let octets = octets_of(alloc, octets)?;
-            Ok(kept::answer(alloc, &octets)?)
-        }
-        ["parent", "certificate", parent, child] => {
-            let parent = octets_of(alloc, parent)?;
-            let child = octets_of(alloc, child)?;
-            Ok(kept::parent(alloc, &parent, &child)?)
         }
         ["unlike", "certificate", one, other] => {
             let one = octets_of(alloc, one)?;
