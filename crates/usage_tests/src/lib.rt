@@ -5,8 +5,6 @@
 #[cfg(test)]
 mod algorithms;
 #[cfg(test)]
-mod certificates;
-#[cfg(test)]
 mod keys;
 #[cfg(test)]
 mod names;
