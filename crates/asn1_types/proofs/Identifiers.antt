@@ -90,3 +90,7 @@ pub same_identifier : (a b : ObjectIdentifier) → a.contents ≡ b.contents →
 same_identifier a b e =
     subst (λ (contents : List ℕ). (h : IsIdentifier contents) → a ≡ identifier_of contents h) e
     (λ h. ap (identifier_of a.contents) (IsIdentifier-prop a.contents a.formed h)) b.formed
+
+-- The same contents octets are those of the same arcs.
+pub one_list_of_arcs : (a b : List ℕ) (x : IsIdentifier a) (y : IsIdentifier b) → a ≡ b → x.arcs ≡ y.arcs
+one_list_of_arcs a b x y e = contents_once x.arcs y.arcs x.are_arcs y.are_arcs (sym x.spelled ∙ e ∙ y.spelled)

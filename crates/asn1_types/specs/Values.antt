@@ -1,6 +1,7 @@
 -- What contracts see of a value: the contents octets of each type, and the arcs of an identifier.
 use Rattle.std.specs.Prelude.{ℕ, List, ◌∷◌}
 use Rattle.asn1_types.specs.declared.oid.ObjectIdentifier.{ObjectIdentifier}
+use Rattle.asn1_types.specs.declared.oid.lent.LentIdentifier.{LentIdentifier}
 use Rattle.asn1_types.specs.declared.integer.IntegerAsn1.{IntegerAsn1}
 use Rattle.asn1_types.specs.declared.bit_string.BitString.{BitString}
 use Rattle.asn1_types.specs.declared.ia5_string.Ia5String.{Ia5String}
@@ -12,6 +13,10 @@ arcs_of identifier = identifier.formed.arcs
 -- The contents octets of an identifier (X.690 8.19).
 abbrev pub identifier_contents : ObjectIdentifier → List ℕ
 identifier_contents identifier = identifier.contents
+
+-- The contents octets of an identifier that is lent.
+abbrev pub lent_contents : LentIdentifier → List ℕ
+lent_contents identifier = identifier.contents.now
 
 -- The contents octets of an integer (X.690 8.3).
 abbrev pub integer_contents : IntegerAsn1 → List ℕ

@@ -86,6 +86,12 @@ impl IntegerAsn1 {
             contents: self.contents.try_clone(alloc)?,
         })
     }
+
+    /// Writes zeros over the octets, as over those of a secret, before they are given back.
+    pub fn overwrite(self) {
+        let IntegerAsn1 { contents } = self;
+        contents.overwrite();
+    }
 }
 
 impl PartialEq for IntegerAsn1 {

@@ -20,6 +20,6 @@ pub use error::{CharSetError, TextError};
 pub use generalized_time::GeneralizedTime;
 pub use ia5_string::Ia5String;
 pub use integer::{IntegerAsn1, one_shortest_integer};
-pub use oid::{ObjectIdentifier, text_and_contents_agree};
+pub use oid::{LentIdentifier, ObjectIdentifier, text_and_contents_agree};
 pub use time_laws::times_are_their_fields;
 pub use utc_time::UTCTime;

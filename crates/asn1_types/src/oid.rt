@@ -7,12 +7,14 @@ ghost use Rattle.asn1_types.specs.KnownIdentifiers.{is_known};
 ghost use Rattle.asn1_types.specs.Facts.OneIdentifier.{IsIdentifier-prop};
 
 mod arcs;
+mod lent;
 mod subidentifier;
 mod traits;
 
 use crate::TextError;
 use arcs::{arcs_of, root_of};
 use der_core::{DerError, Octets};
+pub use lent::LentIdentifier;
 use std::alloc::{AllocError, Global};
 use subidentifier::{split_subidentifier, subidentifiers};
 
@@ -102,6 +104,15 @@ impl ObjectIdentifier {
         ensures { result.now ≡ self.now.contents }
     {
         self.contents.as_slice()
+    }
+
+    /// The identifier, its contents octets lent.
+    pub fn lent(&self) -> LentIdentifier<'_>
+        ensures { result.contents.now ≡ self.now.contents }
+    {
+        LentIdentifier {
+            contents: self.as_bytes(),
+        }
     }
 
     /// A copy of the value.

@@ -1,6 +1,6 @@
 //! Identifier and length, before any contents are copied.
 
-ghost use Rattle.std.specs.Prelude.{◌≡◌, ◌≤◌, ◌↔◌, length, IsTrue, MatchResult};
+ghost use Rattle.std.specs.Prelude.{◌≡◌, ◌≤◌, ◌↔◌, length, IsTrue, IfSome, MatchResult};
 ghost use Rattle.der_core.specs.Encoding.{form_bit};
 ghost use Rattle.der_core.specs.Head.{past_bound, number_from, long_length_at, length_at, contents_at, head_at, HasHead};
 
@@ -39,10 +39,33 @@ pub fn head_of(octets: &[u8], at: usize, levels: u8) -> Result<Head<'_>, Malform
         × HasHead levels octets.now head.tag head.contents.now head.rest.now)
         (λ m. (m.at ≡ at) × (head_at levels octets.now ≡ Err m.fault)) }
 {
+    if let Some(head) = short_head(octets, levels) {
+        return Ok(head);
+    }
     match tested_head(octets, levels) {
         Ok(head) => Ok(head),
         Err(fault) => Err(Malformed { at, fault }),
     }
+}
+
+/// The head, where no test of it fails and its length is one octet, as that of most elements is.
+#[tactic(auto, unfolding(crate::specs::Head::head_at, crate::specs::Head::contents_at, crate::specs::Head::length_at))]
+fn short_head(octets: &[u8], levels: u8) -> Option<Head<'_>>
+    ensures { IfSome result (λ head. head_at levels octets.now ≡ Ok (head.tag, head.contents.now, head.rest.now)) }
+{
+    let [tag, length @ 0..=0x7F, after @ ..] = octets else {
+        return None;
+    };
+    let length = usize::from(*length);
+    if *tag == 0 || *tag & 0x1F == 0x1F || levels == 0 || after.len() < length {
+        return None;
+    }
+    let (contents, rest) = after.split_at(length);
+    Some(Head {
+        tag: *tag,
+        contents,
+        rest,
+    })
 }
 
 #[tactic(auto, unfolding(crate::specs::Head::head_at))]

@@ -43,6 +43,12 @@ impl Octets {
     {
         Octets::from_slice(alloc, self.as_slice())
     }
+
+    /// Writes zeros over the octets, as over those of a secret, before they are given back.
+    pub fn overwrite(self) {
+        let Octets { mut bytes } = self;
+        bytes.fill(0);
+    }
 }
 
 /// The octets of a vector, which are not copied.

@@ -9,8 +9,6 @@ ghost use Rattle.std.specs.Cmp.Rules.{hashing};
 ghost use Rattle.asn1_types.specs.ObjectIdentifier.{dotted};
 
 use super::ObjectIdentifier;
-use super::arcs::first_arcs;
-use super::subidentifier::split_subidentifier;
 use std::fmt;
 use std::hash::{Hash, Hasher};
 
@@ -18,16 +16,7 @@ impl fmt::Display for ObjectIdentifier {
     ghost output = { λ identifier. Some (dotted identifier.formed.arcs) };
 
     fn fmt<W: fmt::Write>(&self, f: &mut fmt::Formatter<W>) -> fmt::Result {
-        let Some((root, mut rest)) = split_subidentifier(self.as_bytes()) else {
-            unreachable!();
-        };
-        let (first, second) = first_arcs(root);
-        write!(f, "{first}.{second}")?;
-        while let Some((arc, after)) = split_subidentifier(rest) {
-            write!(f, ".{arc}")?;
-            rest = after;
-        }
-        Ok(())
+        write!(f, "{}", self.lent())
     }
 }
 
