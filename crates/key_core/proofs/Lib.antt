@@ -10,4 +10,7 @@ pub mod SignatureIdentifiers
 pub mod FirstBroken
 pub mod Unwritten
 pub mod Verifications
+pub mod Signings
 pub mod KeyIdentifiers
+pub mod ComesBack
+pub mod RsaSecrets

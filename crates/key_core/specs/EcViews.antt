@@ -3,6 +3,7 @@ use Rattle.std.specs.Prelude.{◌≡◌, ◌≢◌, Option, Some, None, Result, 
 use Rattle.std.specs.Option.{option_copied}
 use Rattle.der_core.specs.DerElement.{Primitive}
 use Rattle.der_core.specs.Lent.{kept_option}
+use Rattle.asn1_types.specs.Values.{lent_contents}
 use Rattle.asn1_types.specs.declared.bit_string.BitString.{BitString}
 use Rattle.key_types.specs.SubjectKey.{kind_of}
 use Rattle.key_types.specs.declared.key_info.SubjectPublicKeyInfo.{SubjectPublicKeyInfo}
@@ -23,7 +24,7 @@ pub record IsEcPairOf (key : PrivateKey) (pair : EcdsaKeypair) : Type 0 where
   pub read : ECPrivateKey
   pub is : key.info.private_key ≡ values.Ec read
   pub secret_is : pair.secret.now ≡ read.private_key
-  pub curve_is : kept_option key.info.private_key_algorithm.parameters ≡ Some (Primitive 0x06 pair.curve.now)
+  pub curve_is : kept_option key.info.private_key_algorithm.parameters ≡ Some (Primitive 0x06 (lent_contents pair.curve))
   pub public_is : option_copied pair.point ≡ key.public_key
 
 abbrev pub GivesEcPair : PrivateKey → Result EcdsaKeypair KeyError → Type 0
@@ -34,7 +35,7 @@ pub record IsEcPublicOf (info : SubjectPublicKeyInfo) (view : EcdsaPublicKey) : 
   pub bits : BitString
   pub is : info.subject_public_key ≡ keys.Ec bits
   pub point_is : view.point.now ≡ bits.payload
-  pub curve_is : kept_option info.algorithm.parameters ≡ Some (Primitive 0x06 view.curve.now)
+  pub curve_is : kept_option info.algorithm.parameters ≡ Some (Primitive 0x06 (lent_contents view.curve))
 
 abbrev pub GivesEcPublic : SubjectPublicKeyInfo → Result EcdsaPublicKey KeyError → Type 0
 GivesEcPublic info result = MatchResult result (IsEcPublicOf info) (λ e. (e ≡ errors.EC contexts.NotEc) × (kind_of info.subject_public_key ≢ kinds.Ec))
@@ -44,7 +45,7 @@ pub record IsEcPublicOfPair (pair : EcdsaKeypair) (view : EcdsaPublicKey) : Type
   pub bits : BitString
   pub is : option_copied pair.point ≡ Some bits
   pub point_is : view.point.now ≡ bits.payload
-  pub curve_is : view.curve.now ≡ pair.curve.now
+  pub curve_is : lent_contents view.curve ≡ lent_contents pair.curve
 
 abbrev pub GivesEcPublicOfPair : EcdsaKeypair → Result EcdsaPublicKey KeyError → Type 0
 GivesEcPublicOfPair pair result =

@@ -26,6 +26,7 @@ pub mod SignatureAlgorithm
 pub mod SchemeNames
 pub mod SignatureRules
 pub mod Verifying
+pub mod Signing
 pub mod SignatureErrorText
 pub mod KeyIdentifier
 pub mod Facts

@@ -1,6 +1,8 @@
 -- Curves by the contents octets of their identifiers, known or not (RFC 5480 2.1.1.1).
-use Rattle.std.specs.Prelude.{◌≡◌, ◌≢◌, ℕ, List}
-use Rattle.key_core.specs.EcCurve.{curve_identifier}
+use Rattle.std.specs.Prelude.{◌≡◌, ◌≢◌, ℕ, List, ◌++◌, codes}
+use Rattle.asn1_types.specs.ObjectIdentifier.{dotted}
+use Rattle.asn1_types.specs.Values.{lent_contents}
+use Rattle.key_core.specs.EcCurve.{curve_identifier, curve_text}
 use Rattle.key_core.specs.declared.ec_curve.EcCurve.{EcCurve}
 use Rattle.key_core.specs.declared.named_ec_curve.NamedEcCurve.{NamedEcCurve}
 use Rattle.key_core.specs.declared.named_ec_curve.NamedEcCurve.TheVariants as named
@@ -8,9 +10,14 @@ use Rattle.key_core.specs.declared.named_ec_curve.NamedEcCurve.TheVariants as na
 -- the contents octets of the identifier
 abbrev pub named_curve_identifier : NamedEcCurve → List ℕ
 named_curve_identifier (named.Known curve) = curve_identifier curve
-named_curve_identifier (named.Unsupported contents) = contents.now
+named_curve_identifier (named.Unsupported identifier) = lent_contents identifier
 
 -- the curve that contents octets name, where it is known, else these octets
 abbrev pub IsNamedCurve : List ℕ → NamedEcCurve → Type 0
 IsNamedCurve contents (named.Known curve) = curve_identifier curve ≡ contents
-IsNamedCurve contents (named.Unsupported lent) = (lent.now ≡ contents) × ((curve : EcCurve) → curve_identifier curve ≢ contents)
+IsNamedCurve contents (named.Unsupported identifier) = (lent_contents identifier ≡ contents) × ((curve : EcCurve) → curve_identifier curve ≢ contents)
+
+-- how a curve prints
+abbrev pub named_curve_text : NamedEcCurve → List ℕ
+named_curve_text (named.Known curve) = curve_text curve
+named_curve_text (named.Unsupported identifier) = codes "Unsupported(OID: " ++ dotted identifier.formed.arcs ++ codes ")"

@@ -7,6 +7,7 @@ use Rattle.asn1_types.specs.Values.{identifier_contents}
 use Rattle.asn1_types.specs.declared.bit_string.BitString.{BitString}
 use Rattle.key_types.specs.RsaPublicKey.{rsa_public_key}
 use Rattle.key_types.specs.SubjectKey.{kind_of}
+use Rattle.key_types.specs.declared.algorithm.AlgorithmIdentifier.{AlgorithmIdentifier}
 use Rattle.key_types.specs.declared.key_info.SubjectPublicKeyInfo.{SubjectPublicKeyInfo}
 use Rattle.key_types.specs.declared.key_kind.KeyKind.TheVariants as kinds
 use Rattle.key_types.specs.declared.public_key.RsaPublicKey.{RsaPublicKey}
@@ -39,9 +40,13 @@ use Rattle.key_core.specs.declared.signature_error.Unsupported.TheVariants as un
 abbrev pub Judge : Type 0
 Judge = SigAlg → List ℕ → List ℕ → List ℕ → Verdict
 
--- the algorithm of the key has the identifier of this curve as its parameters (RFC 5480 2.1.1)
+-- the algorithm has the identifier of this curve as its parameters (RFC 5480 2.1.1)
+abbrev pub NamesCurve : AlgorithmIdentifier → EcCurve → Type 0
+NamesCurve algorithm curve = kept_option algorithm.parameters ≡ Some (Primitive 0x06 (curve_identifier curve))
+
+-- the algorithm of the key names this curve
 abbrev pub IsOnCurve : SubjectPublicKeyInfo → EcCurve → Type 0
-IsOnCurve info curve = kept_option info.algorithm.parameters ≡ Some (Primitive 0x06 (curve_identifier curve))
+IsOnCurve info curve = NamesCurve info.algorithm curve
 
 -- the algorithm of the key has the identifier of this one on the curve 25519 (RFC 8410 3)
 abbrev pub IsOfEd : SubjectPublicKeyInfo → EdAlgorithm → Type 0

@@ -3,6 +3,8 @@
 ghost use Rattle.std.specs.Prelude.{◌≡◌, Some};
 ghost use Rattle.der_core.specs.DerElement.{Primitive};
 ghost use Rattle.der_core.specs.Lent.{kept_option};
+ghost use Rattle.asn1_types.specs.ObjectIdentifier.{IsIdentifier};
+ghost use Rattle.asn1_types.specs.Values.{lent_contents};
 ghost use Rattle.key_types.specs.KeyKind.{MayHave};
 ghost use Rattle.key_types.specs.declared.key_kind.KeyKind.TheVariants as kinds;
 ghost use Rattle.key_core.specs.EcViews.{GivesEcPair, GivesEcPublic, GivesEcPublicOfPair};
@@ -14,13 +16,13 @@ use crate::private_key::PrivateKey;
 use crate::private_key::pkcs8::curve_octets;
 use crate::private_key_value::PrivateKeyValue;
 use crate::public_key::PublicKey;
-use asn1_types::BitString;
+use asn1_types::{BitString, LentIdentifier};
 use key_types::{AlgorithmIdentifier, SubjectKey};
 
 /// A private key of an elliptic curve.
 #[derive(Clone, Copy)]
 pub struct EcdsaKeypair<'a> {
-    curve: &'a [u8],
+    curve: LentIdentifier<'a>,
     secret: &'a [u8],
     point: Option<&'a BitString>,
 }
@@ -28,7 +30,7 @@ pub struct EcdsaKeypair<'a> {
 impl<'a> EcdsaKeypair<'a> {
     /// The curve of the key.
     pub fn curve(&self) -> NamedEcCurve<'a>
-        ensures { IsNamedCurve self.now.curve.now result }
+        ensures { IsNamedCurve (lent_contents self.now.curve) result }
     {
         NamedEcCurve::of(self.curve)
     }
@@ -44,14 +46,14 @@ impl<'a> EcdsaKeypair<'a> {
 /// A public key of an elliptic curve.
 #[derive(Clone, Copy)]
 pub struct EcdsaPublicKey<'a> {
-    curve: &'a [u8],
+    curve: LentIdentifier<'a>,
     point: &'a [u8],
 }
 
 impl<'a> EcdsaPublicKey<'a> {
     /// The curve of the key.
     pub fn curve(&self) -> NamedEcCurve<'a>
-        ensures { IsNamedCurve self.now.curve.now result }
+        ensures { IsNamedCurve (lent_contents self.now.curve) result }
     {
         NamedEcCurve::of(self.curve)
     }
@@ -64,13 +66,24 @@ impl<'a> EcdsaPublicKey<'a> {
     }
 }
 
-/// The contents octets of the identifier that parameters of a key of an elliptic curve are.
-fn curve_of<'a>(algorithm: &'a AlgorithmIdentifier) -> &'a [u8]
+/// The identifier that parameters of a key of an elliptic curve are.
+fn curve_of<'a>(algorithm: &'a AlgorithmIdentifier) -> LentIdentifier<'a>
     requires { MayHave kinds.Ec (kept_option algorithm.now.parameters) }
-    ensures { kept_option algorithm.now.parameters ≡ Some (Primitive 0x06 result.now) }
+    ensures { kept_option algorithm.now.parameters ≡ Some (Primitive 0x06 (lent_contents result)) }
 {
     match curve_octets(algorithm) {
-        Some(octets) => octets,
+        Some(octets) => identifier_of(octets),
+        None => unreachable!(),
+    }
+}
+
+/// The identifier of these contents octets.
+fn identifier_of<'a>(octets: &'a [u8]) -> LentIdentifier<'a>
+    requires { IsIdentifier octets.now }
+    ensures { lent_contents result ≡ octets.now }
+{
+    match LentIdentifier::of(octets) {
+        Some(identifier) => identifier,
         None => unreachable!(),
     }
 }

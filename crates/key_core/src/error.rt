@@ -22,7 +22,7 @@ pub enum KeyError {
     Asn1Deserialization { element: Element, source: DerError },
     /// A key of RSA can't be had.
     Rsa { context: KeyContext },
-    /// A point of a curve can't be had.
+    /// A key of an elliptic curve can't be had.
     EC { context: KeyContext },
     /// A key on a curve 25519 or 448 can't be had.
     ED { context: KeyContext },

@@ -1,18 +1,33 @@
 //! Laws on keys that are written and read again, and on the lists of curves and of algorithms.
 
-ghost use Rattle.std.specs.Prelude.{◌≡◌, ℕ, List, length, Contains};
+ghost use Rattle.std.specs.Prelude.{◌≡◌, ℕ, List, Some, length, Contains};
 ghost use Rattle.key_core.specs.EcCurve.{curve_identifier};
 ghost use Rattle.key_core.specs.EdAlgorithm.{ed_identifier};
 ghost use Rattle.asn1_types.specs.declared.oid.ObjectIdentifier.{ObjectIdentifier};
-ghost use Rattle.der_core.specs.Encoding.{encoding};
+ghost use Rattle.der_core.specs.Encoding.{encoding, IsDer};
+ghost use Rattle.der_core.specs.Placed.{AreDer};
+ghost use Rattle.der_core.specs.Refusals.{RefusesOctets};
+ghost use Rattle.der_core.specs.Structure.{IsWithin};
 ghost use Rattle.key_core.specs.CurveKeys.{IsSec1Key, IsSec1KeyOn, IsSec1KeyOnKnown};
 ghost use Rattle.key_core.specs.DerivedKeys.{Derivation};
+ghost use Rattle.key_core.specs.KeyIdentifier.{IsWholeOf};
+ghost use Rattle.key_core.specs.KeyRefusals.{IsUnread};
 ghost use Rattle.key_core.specs.Pkcs1.{IsPkcs1Key, IsPkcs1Of};
-ghost use Rattle.key_core.specs.Pkcs8.{KeepsItself, IsPkcs8Key};
-ghost use Rattle.key_core.specs.PrivateKeyInfo.{private_key_info};
+ghost use Rattle.key_core.specs.Pkcs8.{KeepsItself, IsPkcs8Key, RefusesPkcs8};
+ghost use Rattle.key_core.specs.PrivateKeyInfo.{private_key_info, inner_private_key};
 ghost use Rattle.key_core.specs.PrivatePkcs1.{IsPrivatePkcs1, IsPkcs1OfPrivate};
+ghost use Rattle.key_core.specs.PublicHalf.{IsPublicHalf};
+ghost use Rattle.key_core.specs.declared.element.Element.TheVariants as elements;
+ghost use Rattle.key_core.specs.declared.error.KeyError.{KeyError};
+ghost use Rattle.key_core.specs.declared.error.KeyError.TheVariants as errors;
 ghost use Rattle.key_core.specs.declared.private_key.PrivateKey.{PrivateKey};
+ghost use Rattle.key_types.specs.PublicKeyInfo.{IsPublicKeyInfo};
 ghost use Rattle.key_types.specs.declared.key_info.SubjectPublicKeyInfo.{SubjectPublicKeyInfo};
+ghost use Rattle.private_key_types.specs.RsaPrivateKey.{rsa_private_key};
+ghost use Rattle.private_key_types.specs.declared.rsa_private_key.RsaPrivateKey.{RsaPrivateKey};
+ghost use Rattle.sig_core.specs.DemoScheme.{demo_key};
+ghost use Rattle.sig_core.specs.RsaSecret.{IsRsaSecret};
+ghost use Rattle.sig_core.specs.declared.algorithm.SchemeKind.TheVariants.{Rsa};
 ghost use Rattle.key_core.specs.declared.ec_curve.EcCurve.{EcCurve};
 ghost use Rattle.key_core.specs.declared.ec_curve.TheConstants.EcCurve as curves;
 ghost use Rattle.key_core.specs.declared.ed_algorithm.EdAlgorithm.{EdAlgorithm};
@@ -26,11 +41,23 @@ pub fn pkcs1_comes_back()
         → IsPrivatePkcs1 read key → IsPkcs1OfPrivate key.info.private_key written → written ≡ read }
 {}
 
+/// What `PublicKey::to_der` writes of a key is read by `from_der` as that key again, and refused for
+/// want of memory alone.
+pub fn public_keys_come_back()
+    ensures again { (octets : List ℕ) (info again : SubjectPublicKeyInfo) → IsWholeOf info octets → IsWithin IsPublicKeyInfo octets again → again ≡ info }
+    ensures memory { (octets : List ℕ) (info : SubjectPublicKeyInfo) (e : KeyError)
+        → IsWholeOf info octets → IsUnread elements.SubjectPublicKeyInfo (RefusesOctets IsPublicKeyInfo octets) e → e ≡ errors.Memory }
+{}
+
 /// What `PrivateKey::to_pkcs8` writes of a key that was read is read by `from_pkcs8` as that key
-/// again, under a scheme that derives the same keys from secrets.
+/// again, and refused for want of memory alone, under a scheme that derives the same keys from
+/// secrets.
 pub fn pkcs8_comes_back()
     ensures again { (derives : Derivation) (octets : List ℕ) (key again : PrivateKey)
         → KeepsItself derives key → octets ≡ encoding (private_key_info key.info) → IsPkcs8Key derives octets again → again ≡ key }
+    ensures memory { (derives : Derivation) (octets : List ℕ) (key : PrivateKey) (e : KeyError)
+        → KeepsItself derives key → octets ≡ encoding (private_key_info key.info) → IsDer (private_key_info key.info) → AreDer (inner_private_key key.info)
+        → RefusesPkcs8 derives octets e → e ≡ errors.Memory }
     ensures of_pkcs8 { (derives : Derivation) (octets : List ℕ) (key : PrivateKey) → IsPkcs8Key derives octets key → KeepsItself derives key }
     ensures of_pkcs1 { (derives : Derivation) (octets : List ℕ) (key : PrivateKey) → IsPrivatePkcs1 octets key → KeepsItself derives key }
     ensures of_sec1 { (derives : Derivation) (octets : List ℕ) (key : PrivateKey) → IsSec1Key derives octets key → KeepsItself derives key }
@@ -51,4 +78,15 @@ pub fn lists_have_each_curve()
     ensures curves_once { length curves.ALL ≡ 3 }
     ensures each_algorithm { (algorithm : EdAlgorithm) → Contains algorithms.ALL algorithm }
     ensures algorithms_once { length algorithms.ALL ≡ 2 }
+{}
+
+/// What `PrivateKey::to_pkcs1` writes of a key of RSA is what the demonstration scheme takes for a
+/// secret of RSA, and each such secret is that of a key. The public key that the scheme derives from
+/// it is that of `to_public_key`.
+pub fn keys_of_rsa_are_secrets()
+    ensures secret { (key : RsaPrivateKey) (octets : List ℕ) → octets ≡ encoding (rsa_private_key key) → IsDer (rsa_private_key key) → IsRsaSecret octets }
+    ensures key { (octets : List ℕ) → IsRsaSecret octets → (key : RsaPrivateKey) × (octets ≡ encoding (rsa_private_key key)) × IsDer (rsa_private_key key) }
+    ensures derived { (key : PrivateKey) (info : SubjectPublicKeyInfo) (secret bytes : List ℕ)
+        → IsPkcs1OfPrivate key.info.private_key secret → IsPublicHalf key.info.private_key key.info.private_key_algorithm key.public_key info
+        → IsPkcs1Of info.subject_public_key bytes → demo_key Rsa secret ≡ Some bytes }
 {}

@@ -34,7 +34,10 @@ pub use element::Element;
 pub use error::{KeyContext, KeyError};
 pub use key_id::{KeyIdGenError, KeyIdGenMethod};
 pub use key_types::{AlgorithmIdentifier, KeyKind, RsaPublicKey, SubjectKey, SubjectPublicKeyInfo};
-pub use laws::{lists_have_each_curve, one_identifier_each, pkcs1_comes_back, pkcs8_comes_back};
+pub use laws::{
+    keys_of_rsa_are_secrets, lists_have_each_curve, one_identifier_each, pkcs1_comes_back,
+    pkcs8_comes_back, public_keys_come_back,
+};
 pub use named_ec_curve::NamedEcCurve;
 pub use named_ed_algorithm::NamedEdAlgorithm;
 pub use private_key::PrivateKey;
@@ -47,5 +50,5 @@ pub use signature_algorithm::SignatureAlgorithm;
 pub use signature_error::{SigContext, SignatureError, Unsupported};
 pub use signature_laws::{
     key_identifiers_are_of_keys, signature_algorithms_are_read_as_written,
-    signatures_have_one_answer,
+    signatures_have_one_answer, signing_has_one_answer,
 };

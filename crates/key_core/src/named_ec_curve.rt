@@ -1,45 +1,40 @@
 //! Curves by their identifiers, known or not.
 
-ghost use Rattle.std.specs.Prelude.{◌≡◌, IfOk};
-ghost use Rattle.asn1_types.specs.Values.{identifier_contents};
-ghost use Rattle.key_core.specs.NamedEcCurve.{IsNamedCurve, named_curve_identifier};
+ghost use Rattle.std.specs.Prelude.{◌≡◌, Some, IfOk};
+ghost use Rattle.asn1_types.specs.Values.{identifier_contents, lent_contents};
+ghost use Rattle.key_core.specs.NamedEcCurve.{IsNamedCurve, named_curve_identifier, named_curve_text};
 
 use crate::ec_curve::EcCurve;
-use asn1_types::ObjectIdentifier;
+use asn1_types::{LentIdentifier, ObjectIdentifier};
 use std::alloc::{AllocError, Global};
+use std::fmt;
 
-/// A curve by its identifier, whose contents octets are lent where the curve isn't known.
+/// A curve by its identifier, which is lent where the curve isn't known.
 #[derive(Clone, Copy, Debug)]
 pub enum NamedEcCurve<'a> {
     Known(EcCurve),
-    /// Another one, by the contents octets of its identifier.
-    Unsupported(&'a [u8]),
+    /// Another one.
+    Unsupported(LentIdentifier<'a>),
 }
 
 impl<'a> NamedEcCurve<'a> {
-    /// The curve of these contents octets.
-    pub(crate) fn of(contents: &'a [u8]) -> NamedEcCurve<'a>
-        ensures { IsNamedCurve contents.now result }
+    /// The curve of the identifier.
+    pub(crate) fn of(identifier: LentIdentifier<'a>) -> NamedEcCurve<'a>
+        ensures { IsNamedCurve (lent_contents identifier.entry) result }
     {
-        match EcCurve::named(contents) {
+        match EcCurve::named(identifier.as_bytes()) {
             Some(curve) => NamedEcCurve::Known(curve),
-            None => NamedEcCurve::Unsupported(contents),
+            None => NamedEcCurve::Unsupported(identifier),
         }
     }
 
-    /// The identifier of the curve. Octets that are those of no identifier, which no key lends, are
-    /// told as want of memory.
+    /// The identifier of the curve.
     pub fn to_oid(&self, alloc: Global) -> Result<ObjectIdentifier, AllocError>
         ensures { IfOk result (λ oid. identifier_contents oid ≡ named_curve_identifier self.now) }
     {
         match self {
             NamedEcCurve::Known(curve) => curve.to_oid(alloc),
-            NamedEcCurve::Unsupported(contents) => {
-                match ObjectIdentifier::from_content(alloc, contents) {
-                    Ok(oid) => Ok(oid),
-                    Err(_) => Err(AllocError),
-                }
-            }
+            NamedEcCurve::Unsupported(identifier) => identifier.to_identifier(alloc),
         }
     }
 }
@@ -49,6 +44,17 @@ impl<'a> From<&'a ObjectIdentifier> for NamedEcCurve<'a> {
     ghost from_gives = { λ oid named. IsNamedCurve (identifier_contents oid.now) named };
 
     fn from(oid: &'a ObjectIdentifier) -> NamedEcCurve<'a> {
-        NamedEcCurve::of(oid.as_bytes())
+        NamedEcCurve::of(oid.lent())
+    }
+}
+
+impl<'a> fmt::Display for NamedEcCurve<'a> {
+    ghost output = { λ named. Some (named_curve_text named) };
+
+    fn fmt<W: fmt::Write>(&self, f: &mut fmt::Formatter<W>) -> fmt::Result {
+        match self {
+            NamedEcCurve::Known(curve) => write!(f, "{curve}"),
+            NamedEcCurve::Unsupported(identifier) => write!(f, "Unsupported(OID: {identifier})"),
+        }
     }
 }

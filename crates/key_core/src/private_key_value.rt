@@ -12,7 +12,6 @@ use private_key_types::{ECPrivateKey, RsaPrivateKey};
 use std::alloc::{AllocError, Global};
 
 /// A private key, as its algorithm has it. It has no `Debug`, so no secret is printed by mistake.
-#[derive(Drop)]
 pub enum PrivateKeyValue {
     /// A key of RSA (RFC 8017 A.1.2).
     Rsa(RsaPrivateKey),
@@ -20,6 +19,17 @@ pub enum PrivateKeyValue {
     Ec(ECPrivateKey),
     /// A key of a curve 25519 or 448 (RFC 8410 7).
     Ed(Octets),
+}
+
+/// What is secret is overwritten, in keys of RSA and of elliptic curves by their own drop.
+impl Drop for PrivateKeyValue {
+    fn drop(self) {
+        match self {
+            PrivateKeyValue::Rsa(_key) => {}
+            PrivateKeyValue::Ec(_key) => {}
+            PrivateKeyValue::Ed(octets) => octets.overwrite(),
+        }
+    }
 }
 
 impl PrivateKeyValue {

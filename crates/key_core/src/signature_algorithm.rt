@@ -7,6 +7,7 @@ ghost use Rattle.key_core.specs.declared.signature_algorithm.SignatureAlgorithm.
 ghost use Rattle.key_core.specs.declared.signature_error.SigContext.TheVariants as contexts;
 ghost use Rattle.key_core.specs.declared.signature_error.SignatureError.TheVariants as errors;
 
+mod signing;
 mod verifying;
 
 use crate::signature_error::{SigContext, SignatureError, Unsupported};

@@ -1,14 +1,16 @@
 //! Laws on the algorithms of signatures, on what is refused, and on the identifiers of keys.
 
-ghost use Rattle.std.specs.Prelude.{◌≡◌, ◌≢◌, ℕ, List, length, Contains, None};
+ghost use Rattle.std.specs.Prelude.{◌≡◌, ◌≢◌, ℕ, List, length, Contains, true, None};
 ghost use Rattle.asn1_types.specs.Values.{identifier_contents};
 ghost use Rattle.key_types.specs.declared.algorithm.AlgorithmIdentifier.{AlgorithmIdentifier};
 ghost use Rattle.key_types.specs.declared.key_info.SubjectPublicKeyInfo.{SubjectPublicKeyInfo};
 ghost use Rattle.key_core.specs.KeyIdentifier.{IsKeyIdentifier};
 ghost use Rattle.key_core.specs.SignatureAlgorithm.{signature_identifier, NamesSignature, IsWrittenAlgorithm};
 ghost use Rattle.key_core.specs.SignatureRules.{IsFirstBroken};
+ghost use Rattle.key_core.specs.Signing.{Signs, IsAsked, sign_rules};
 ghost use Rattle.key_core.specs.Verifying.{Judge, Accepts, verify_rules};
 ghost use Rattle.key_core.specs.declared.key_id.KeyIdGenMethod.{KeyIdGenMethod};
+ghost use Rattle.key_core.specs.declared.private_key.PrivateKey.{PrivateKey};
 ghost use Rattle.key_core.specs.declared.public_key.PublicKey.{PublicKey};
 ghost use Rattle.key_core.specs.declared.signature_algorithm.SignatureAlgorithm.{SignatureAlgorithm};
 ghost use Rattle.key_core.specs.declared.signature_algorithm.TheConstants.SignatureAlgorithm as constants;
@@ -36,6 +38,16 @@ pub fn signatures_have_one_answer()
         → IsFirstBroken (verify_rules judge algorithm info msg sig) a → IsFirstBroken (verify_rules judge algorithm info msg sig) b → a ≡ b }
     ensures not_both { (judge : Judge) (algorithm : SignatureAlgorithm) (info : SubjectPublicKeyInfo) (msg sig : List ℕ) (e : SignatureError)
         → Accepts judge algorithm info msg sig → IsFirstBroken (verify_rules judge algorithm info msg sig) e → ⊥ }
+{}
+
+/// At most one error tells of the first broken rule of signing, and none does where the key is one
+/// for the algorithm and the scheme signs. So `SignatureAlgorithm::sign` has one answer, want of
+/// memory aside.
+pub fn signing_has_one_answer()
+    ensures one_refusal { (signs : Signs) (algorithm : SignatureAlgorithm) (key : PrivateKey) (msg : List ℕ) (a b : SignatureError)
+        → IsFirstBroken (sign_rules signs algorithm key msg) a → IsFirstBroken (sign_rules signs algorithm key msg) b → a ≡ b }
+    ensures not_both { (signs : Signs) (algorithm : SignatureAlgorithm) (key : PrivateKey) (msg : List ℕ) (e : SignatureError)
+        → IsAsked signs algorithm key msg true → IsFirstBroken (sign_rules signs algorithm key msg) e → ⊥ }
 {}
 
 /// A key has at most one identifier by a method, so equal keys have equal identifiers.

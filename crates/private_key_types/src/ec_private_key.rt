@@ -20,14 +20,26 @@ const PARAMETERS: u8 = 0xA0;
 
 const PUBLIC_KEY: u8 = 0xA1;
 
-/// A private key of an elliptic curve (RFC 5915 3): the octets of a number, the identifier of its
-/// curve, and its public key, a point. How many octets there are, which curve it is, and that the
-/// point is that of the number isn't asked. It has no `Debug`, so no secret is printed by mistake.
-#[derive(Drop)]
+/// A private key of an elliptic curve (RFC 5915 3): the octets of a number, and the identifier of its
+/// curve and its public key, a point, which may each be left out. How many octets there are, which
+/// curve it is, and that the point is that of the number isn't asked. It has no `Debug`, so no secret
+/// is printed by mistake.
 pub struct ECPrivateKey {
     pub private_key: Octets,
     pub parameters: Option<ObjectIdentifier>,
     pub public_key: Option<BitString>,
+}
+
+/// The number is overwritten.
+impl Drop for ECPrivateKey {
+    fn drop(self) {
+        let ECPrivateKey {
+            private_key,
+            parameters: _parameters,
+            public_key: _public_key,
+        } = self;
+        private_key.overwrite();
+    }
 }
 
 /// The fields of a private key where they lie, each any element.

@@ -11,7 +11,6 @@ use std::alloc::{AllocError, Global};
 
 /// An RSA private key of two primes (RFC 8017 A.1.2). It has no `Debug`, so no secret is printed by
 /// mistake.
-#[derive(Drop)]
 pub struct RsaPrivateKey {
     pub modulus: IntegerAsn1,
     pub public_exponent: IntegerAsn1,
@@ -21,6 +20,28 @@ pub struct RsaPrivateKey {
     pub exponent1: IntegerAsn1,
     pub exponent2: IntegerAsn1,
     pub coefficient: IntegerAsn1,
+}
+
+/// The numbers that are secret are overwritten.
+impl Drop for RsaPrivateKey {
+    fn drop(self) {
+        let RsaPrivateKey {
+            modulus: _modulus,
+            public_exponent: _public_exponent,
+            private_exponent,
+            prime1,
+            prime2,
+            exponent1,
+            exponent2,
+            coefficient,
+        } = self;
+        private_exponent.overwrite();
+        prime1.overwrite();
+        prime2.overwrite();
+        exponent1.overwrite();
+        exponent2.overwrite();
+        coefficient.overwrite();
+    }
 }
 
 /// The fields of an RSA private key where they lie.

@@ -39,12 +39,13 @@ use std::alloc::Global;
 
 impl PrivateKey {
     /// The key in octets, which are the encoding of a PrivateKeyInfo (RFC 5208 5, RFC 5958 2). One of
-    /// RSA or of a curve 25519 or 448 is kept as it was read; the public key of Ed25519 and X25519
-    /// is what the scheme derives, whatever stands beside the private one, and is `ED` where it
-    /// derives none; that of Ed448 and X448 is missing. A key of an elliptic curve is written anew
-    /// on the curve that the parameters name, and is `EC` where they name none; its point is had as
-    /// by `from_ec_der_with_curve_oid`. Octets that are no element, or one of another structure, are
-    /// refused as `Asn1Deserialization` without memory.
+    /// RSA or of a curve 25519 or 448 is kept as it was read. The public key of Ed25519 and X25519
+    /// is what the scheme derives, whatever stands beside the private one; the key is refused as
+    /// `ED` where the secret hasn't 32 octets or the scheme derives none. That of Ed448 and X448 is
+    /// missing. A key of an elliptic curve is written anew on the curve that the parameters name, and
+    /// refused as `EC` where they name none; its point is had as by `from_ec_der_with_curve_oid`.
+    /// Octets that are no element, or one of another structure, are refused as `Asn1Deserialization`,
+    /// whatever memory there is.
     pub fn from_pkcs8<S: Scheme>(
         alloc: Global,
         der: &[u8],

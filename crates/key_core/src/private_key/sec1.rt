@@ -32,10 +32,11 @@ use std::alloc::Global;
 
 impl PrivateKey {
     /// The key of an elliptic curve in octets, which are the encoding of an ECPrivateKey (RFC 5915
-    /// 3), on the curve that stands in it. Where no point stands in it and the curve is known, the
-    /// scheme derives one, from a secret of as many octets as the field has. It is `EC` where no
-    /// curve stands in it and where no point is derived. Octets that are no element, or one of another
-    /// structure, are refused as `Asn1Deserialization` without memory.
+    /// 3), on the curve that stands in it; it is refused as `EC` where none does. Where no point
+    /// stands in it and the curve is known, the scheme derives one; the key is refused as `EC` where
+    /// the secret hasn't as many octets as the field then, or the scheme derives none. Where the curve
+    /// isn't known the point stays missing. Octets that are no element, or one of another structure,
+    /// are refused as `Asn1Deserialization`, whatever memory there is.
     pub fn from_ec_der<S: Scheme>(
         alloc: Global,
         der: &[u8],
@@ -80,8 +81,8 @@ impl PrivateKey {
         }
     }
 
-    /// The same on the curve of this identifier. Where it isn't known and no point stands in the
-    /// octets, the key has no public key.
+    /// The same on the curve of this identifier, whatever curve stands in the octets. An identifier
+    /// of more than 4,294,967,295 octets is told as want of memory.
     pub fn from_ec_der_with_curve_oid<S: Scheme>(
         alloc: Global,
         der: &[u8],

@@ -4,7 +4,7 @@ ghost use Rattle.std.specs.Prelude.{◌≡◌, ◌≢◌, [], ◌∷◌, ◌++�
 ghost use Rattle.key_core.specs.Pkcs1.{IsPkcs1Of};
 ghost use Rattle.key_core.specs.SchemeNames.{curve_for, ecdsa_alg};
 ghost use Rattle.key_core.specs.SignatureRules.{IsFirstBroken, RefusesBy};
-ghost use Rattle.key_core.specs.Verifying.{Accepts, Fits, IsJudged, IsOnCurve, IsEd25519Key, NotRsa, Unwritable, UnknownCurve, UnknownHash, Unpaired, key_rules, verify_rules, malformed};
+ghost use Rattle.key_core.specs.Verifying.{Accepts, Fits, IsJudged, NamesCurve, IsOnCurve, IsEd25519Key, NotRsa, Unwritable, UnknownCurve, UnknownHash, Unpaired, key_rules, verify_rules, malformed};
 ghost use Rattle.key_core.specs.declared.ec_curve.EcCurve.{EcCurve};
 ghost use Rattle.key_core.specs.declared.signature_algorithm.SignatureAlgorithm.TheVariants as algorithms;
 ghost use Rattle.key_core.specs.declared.signature_error.SigContext.TheVariants as contexts;
@@ -21,12 +21,12 @@ use crate::signature_error::{SigContext, SignatureError, Unsupported};
 use asn1_types::BitString;
 use der_core::leaf_at;
 use der_core::tag::OBJECT_IDENTIFIER;
-use key_types::{KeyKind, SubjectKey, SubjectPublicKeyInfo};
+use key_types::{AlgorithmIdentifier, KeyKind, SubjectKey, SubjectPublicKeyInfo};
 use sig_core::{HashAlgorithm, Scheme, SigAlg, Verdict};
 use std::alloc::Global;
 
-/// The octets of a public key of Ed25519 (RFC 8032 5.1.5).
-const ED25519_LEN: usize = 32;
+/// The octets of a public key, and of a secret, of Ed25519 (RFC 8032 5.1.5).
+pub(super) const ED25519_LEN: usize = 32;
 
 impl SignatureAlgorithm {
     /// Whether the signature of the message is one by the key. The key has to be one for the
@@ -137,7 +137,7 @@ fn paired(info: &SubjectPublicKeyInfo, hash: HashAlgorithm) -> Result<SigAlg, Si
         (λ alg. (curve : EcCurve) × (curve_for hash ≡ Some curve) × (alg ≡ ecdsa_alg curve) × IsOnCurve info.now curve)
         (IsFirstBroken (UnknownCurve info.now ∷ UnknownHash hash ∷ Unpaired info.now hash ∷ [])) }
 {
-    let Some(curve) = curve_of(info) else {
+    let Some(curve) = curve_of(&info.algorithm) else {
         return Err(SignatureError::Key {
             source: KeyError::EC {
                 context: KeyContext::UnsupportedCurve,
@@ -157,13 +157,13 @@ fn paired(info: &SubjectPublicKeyInfo, hash: HashAlgorithm) -> Result<SigAlg, Si
     Ok(ecdsa_alg(curve))
 }
 
-/// The curve that the parameters of a point name.
-fn curve_of(info: &SubjectPublicKeyInfo) -> Option<EcCurve>
+/// The curve that the parameters of an algorithm name.
+pub(super) fn curve_of(algorithm: &AlgorithmIdentifier) -> Option<EcCurve>
     ensures { MatchOption result
-        ((curve : EcCurve) → IsOnCurve info.now curve → ⊥)
-        (λ curve. IsOnCurve info.now curve) }
+        ((curve : EcCurve) → NamesCurve algorithm.now curve → ⊥)
+        (λ curve. NamesCurve algorithm.now curve) }
 {
-    let parameters = info.algorithm.parameters()?;
+    let parameters = algorithm.parameters()?;
     let oid = leaf_at(parameters.elem(), OBJECT_IDENTIFIER)?;
     match EcCurve::named(oid) {
         Some(curve) => Some(curve),

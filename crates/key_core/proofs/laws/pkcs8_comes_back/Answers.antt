@@ -1,9 +1,13 @@
 use Rattle.key_core.proofs.Pkcs8Keys.{comes_again, of_pkcs8, of_pkcs1}
+use Rattle.key_core.proofs.ComesBack.{private_for_memory}
 use Rattle.key_core.proofs.KeptKeys.{curve_key_again}
 use Rattle.key_core.proofs.laws.pkcs8_comes_back.Goals as goal
 
 pub returns-clause-again : goal.returns-clause-again
 returns-clause-again c = comes_again
+
+pub returns-clause-memory : goal.returns-clause-memory
+returns-clause-memory c = private_for_memory
 
 pub returns-clause-of_pkcs8 : goal.returns-clause-of_pkcs8
 returns-clause-of_pkcs8 c = of_pkcs8

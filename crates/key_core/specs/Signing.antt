@@ -1,0 +1,190 @@
+-- What a private key signs, and why it doesn't; which public keys belong to it.
+use Rattle.std.specs.Prelude.{◌≡◌, ◌≢◌, ℕ, List, [], ◌∷◌, ◌++◌, length, Bool, false, Some, None, ◌⊎◌}
+use Rattle.der_core.specs.Encoding.{encoding, IsDer}
+use Rattle.der_core.specs.declared.error.DerError.{DerError}
+use Rattle.asn1_types.specs.Values.{identifier_contents}
+use Rattle.asn1_types.specs.declared.bit_string.BitString.{BitString}
+use Rattle.key_types.specs.declared.key_info.SubjectPublicKeyInfo.{SubjectPublicKeyInfo}
+use Rattle.key_types.specs.declared.key_kind.KeyKind.TheVariants as kinds
+use Rattle.key_types.specs.declared.subject_key.SubjectKey.TheVariants as keys
+use Rattle.private_key_types.specs.RsaPrivateKey.{rsa_private_key}
+use Rattle.private_key_types.specs.declared.rsa_private_key.RsaPrivateKey.{RsaPrivateKey}
+use Rattle.private_key_types.specs.declared.ec_private_key.ECPrivateKey.{ECPrivateKey}
+use Rattle.sig_core.specs.declared.algorithm.SchemeKind.{SchemeKind}
+use Rattle.sig_core.specs.declared.algorithm.SchemeKind.TheVariants as schemes
+use Rattle.sig_core.specs.declared.algorithm.SigAlg.{SigAlg}
+use Rattle.sig_core.specs.declared.algorithm.SigAlg.TheVariants as algs
+use Rattle.sig_core.specs.declared.hash.HashAlgorithm.{HashAlgorithm}
+use Rattle.key_core.specs.DerivedKeys.{curve_kind, ed_kind}
+use Rattle.key_core.specs.EcCurve.{field_size}
+use Rattle.key_core.specs.EdAlgorithm.{ed_identifier}
+use Rattle.key_core.specs.KeyRefusals.{CantBeWritten}
+use Rattle.key_core.specs.Pkcs1.{IsPkcs1Of}
+use Rattle.key_core.specs.PrivateKeyValue.{private_kind}
+use Rattle.key_core.specs.PrivatePkcs1.{IsPkcs1OfPrivate}
+use Rattle.key_core.specs.SchemeNames.{rsa_alg, curve_for, ecdsa_alg}
+use Rattle.key_core.specs.SignatureRules.{Rule}
+use Rattle.key_core.specs.Verifying.{NamesCurve, IsPointOn, IsOfEd}
+use Rattle.key_core.specs.declared.ec_curve.EcCurve.{EcCurve}
+use Rattle.key_core.specs.declared.ed_algorithm.EdAlgorithm.{EdAlgorithm}
+use Rattle.key_core.specs.declared.ed_algorithm.EdAlgorithm.TheVariants as ed
+use Rattle.key_core.specs.declared.element.Element.TheVariants as elements
+use Rattle.key_core.specs.declared.error.KeyContext.TheVariants as key_contexts
+use Rattle.key_core.specs.declared.error.KeyError.TheVariants as key_errors
+use Rattle.key_core.specs.declared.private_key.PrivateKey.{PrivateKey}
+use Rattle.key_core.specs.declared.private_key_value.PrivateKeyValue.TheVariants as values
+use Rattle.key_core.specs.declared.signature_algorithm.SignatureAlgorithm.{SignatureAlgorithm}
+use Rattle.key_core.specs.declared.signature_algorithm.SignatureAlgorithm.TheVariants.{RsaPkcs1v15, Ecdsa, Ed25519}
+use Rattle.key_core.specs.declared.signature_error.SigContext.TheVariants as contexts
+use Rattle.key_core.specs.declared.signature_error.SignatureError.{SignatureError}
+use Rattle.key_core.specs.declared.signature_error.SignatureError.TheVariants as errors
+use Rattle.key_core.specs.declared.signature_error.Unsupported.TheVariants as unsupported
+
+-- the algorithm of the private key names this curve
+abbrev pub HasCurveOf : PrivateKey → EcCurve → Type 0
+HasCurveOf key curve = NamesCurve key.info.private_key_algorithm curve
+
+-- the algorithm of the private key has the identifier of this one on the curve 25519 (RFC 8410 3)
+abbrev pub HasEdOf : PrivateKey → EdAlgorithm → Type 0
+HasEdOf key algorithm = identifier_contents key.info.private_key_algorithm.oid ≡ ed_identifier algorithm
+
+-- The octets are the number of a key on this curve, as many as an element of its field has (SEC 1 3.2.1).
+pub record IsSecretOn (curve : EcCurve) (key : PrivateKey) (secret : List ℕ) : Type 0 where
+  pub ec : ECPrivateKey
+  pub is : key.info.private_key ≡ values.Ec ec
+  pub on : HasCurveOf key curve
+  pub octets : secret ≡ ec.private_key
+  pub size : length secret ≡ field_size curve
+
+-- The octets are the secret of a key of Ed25519: it has 32, and so has the public key (RFC 8032 5.1.5).
+pub record IsEd25519Secret (key : PrivateKey) (secret : List ℕ) : Type 0 where
+  pub is : key.info.private_key ≡ values.Ed secret
+  pub of : HasEdOf key ed.Ed25519
+  pub size : length secret ≡ 32
+  pub bits : BitString
+  pub public_key : key.public_key ≡ Some bits
+  pub public_size : length bits.payload ≡ 32
+
+-- The private key is one for the algorithm, which a scheme knows by this name, with this secret.
+abbrev pub FitsSecret : SignatureAlgorithm → PrivateKey → SigAlg → List ℕ → Type 0
+FitsSecret (RsaPkcs1v15 hash) key alg secret = (alg ≡ rsa_alg hash) × IsPkcs1OfPrivate key.info.private_key secret
+FitsSecret (Ecdsa hash) key alg secret = (curve : EcCurve) × (curve_for hash ≡ Some curve) × (alg ≡ ecdsa_alg curve) × IsSecretOn curve key secret
+FitsSecret Ed25519 key alg secret = (alg ≡ algs.Ed25519) × IsEd25519Secret key secret
+
+-- Whether a scheme signs, of an algorithm, a secret and a message.
+abbrev pub Signs : Type 0
+Signs = SigAlg → List ℕ → List ℕ → Bool
+
+-- Whether key bytes and a secret belong together for a scheme, of a kind, the key bytes and the secret.
+abbrev pub Pair : Type 1
+Pair = SchemeKind → List ℕ → List ℕ → Type 0
+
+-- The private key is one for the algorithm, and this is whether the scheme signs the message with it.
+pub record IsAsked (signs : Signs) (algorithm : SignatureAlgorithm) (key : PrivateKey) (msg : List ℕ) (holds : Bool) : Type 0 where
+  pub alg : SigAlg
+  pub secret : List ℕ
+  pub fits : FitsSecret algorithm key alg secret
+  pub signed : signs alg secret msg ≡ holds
+
+-- ---- the public keys of a private key
+
+-- Both keys are of RSA, the public one can be written, and the scheme pairs them.
+pub record IsRsaPair (pair : Pair) (key : PrivateKey) (info : SubjectPublicKeyInfo) : Type 0 where
+  pub bytes : List ℕ
+  pub secret : List ℕ
+  pub public : IsPkcs1Of info.subject_public_key bytes
+  pub private : IsPkcs1OfPrivate key.info.private_key secret
+  pub paired : pair schemes.Rsa bytes secret
+
+-- Both keys are on this curve, and the scheme pairs them.
+pub record IsEcPair (pair : Pair) (curve : EcCurve) (key : PrivateKey) (info : SubjectPublicKeyInfo) : Type 0 where
+  pub ec : ECPrivateKey
+  pub private : key.info.private_key ≡ values.Ec ec
+  pub on : HasCurveOf key curve
+  pub bytes : List ℕ
+  pub public : IsPointOn curve info bytes
+  pub paired : pair (curve_kind curve) bytes ec.private_key
+
+-- Both keys are of this algorithm on the curve 25519, a public key of Ed25519 has 32 octets, and the scheme pairs them.
+pub record IsEdPair (pair : Pair) (algorithm : EdAlgorithm) (key : PrivateKey) (info : SubjectPublicKeyInfo) : Type 0 where
+  pub secret : List ℕ
+  pub private : key.info.private_key ≡ values.Ed secret
+  pub of : HasEdOf key algorithm
+  pub bits : BitString
+  pub public : info.subject_public_key ≡ keys.Ed bits
+  pub also : IsOfEd info algorithm
+  pub size : algorithm ≡ ed.Ed25519 → length bits.payload ≡ 32
+  pub paired : pair (ed_kind algorithm) bits.payload secret
+
+-- The public key belongs to the private one.
+abbrev pub IsKeyPair : Pair → PrivateKey → SubjectPublicKeyInfo → Type 0
+IsKeyPair pair key info =
+    IsRsaPair pair key info
+    ⊎ (((curve : EcCurve) × IsEcPair pair curve key info)
+    ⊎ ((algorithm : EdAlgorithm) × IsEdPair pair algorithm key info))
+
+-- ---- rules of signing, by what breaks them
+
+abbrev pub NotRsaSecret : PrivateKey → Rule
+NotRsaSecret key e = (private_kind key.info.private_key ≢ kinds.Rsa) × (e ≡ errors.Key (key_errors.Rsa key_contexts.NotRsa))
+
+-- the RSAPrivateKey of the key has no encoding
+pub record UnwritableSecret (key : PrivateKey) (e : SignatureError) : Type 0 where
+  pub rsa : RsaPrivateKey
+  pub is : key.info.private_key ≡ values.Rsa rsa
+  pub source : DerError
+  pub cause : CantBeWritten (rsa_private_key rsa) source
+  pub error : e ≡ errors.Key (key_errors.Asn1Serialization elements.RsaPrivateKey source)
+
+abbrev pub NotEcSecret : PrivateKey → Rule
+NotEcSecret key e = (private_kind key.info.private_key ≢ kinds.Ec) × (e ≡ errors.Key (key_errors.EC key_contexts.NotEc))
+
+abbrev pub UnknownCurveOf : PrivateKey → Rule
+UnknownCurveOf key e = ((curve : EcCurve) → HasCurveOf key curve → ⊥) × (e ≡ errors.Key (key_errors.EC key_contexts.UnsupportedCurve))
+
+-- keys on the curve don't sign the digest
+abbrev pub UnpairedSecret : PrivateKey → HashAlgorithm → Rule
+UnpairedSecret key hash e =
+    (curve : EcCurve) × HasCurveOf key curve × (curve_for hash ≢ Some curve) × (e ≡ errors.UnsupportedAlgorithm (unsupported.Pairing curve hash))
+
+abbrev pub WrongSecretSize : PrivateKey → Rule
+WrongSecretSize key e =
+    (curve : EcCurve) × (ec : ECPrivateKey) × HasCurveOf key curve × (key.info.private_key ≡ values.Ec ec) × (length ec.private_key ≢ field_size curve)
+    × (e ≡ errors.Key (key_errors.EC key_contexts.SecretSize))
+
+abbrev pub NotEdSecret : PrivateKey → Rule
+NotEdSecret key e = (private_kind key.info.private_key ≢ kinds.Ed) × (e ≡ errors.Key (key_errors.ED key_contexts.NotEd))
+
+abbrev pub NoPublicKey : PrivateKey → Rule
+NoPublicKey key e = (key.public_key ≡ None) × (e ≡ errors.Key (key_errors.ED key_contexts.PublicKeyMissing))
+
+abbrev pub ForAgreementOnly : PrivateKey → Rule
+ForAgreementOnly key e = HasEdOf key ed.X25519 × (e ≡ errors.Ed contexts.NotForSigning)
+
+abbrev pub NotEd25519Secret : PrivateKey → Rule
+NotEd25519Secret key e = (HasEdOf key ed.Ed25519 → ⊥) × (e ≡ errors.Key (key_errors.ED key_contexts.UnsupportedEd))
+
+-- the public key or the secret hasn't 32 octets
+abbrev pub WrongEdSize : PrivateKey → Rule
+WrongEdSize key e =
+    (bits : BitString) × (secret : List ℕ) × (key.public_key ≡ Some bits) × (key.info.private_key ≡ values.Ed secret)
+    × ((length bits.payload ≡ 32) × (length secret ≡ 32) → ⊥) × (e ≡ errors.Ed contexts.KeySize)
+
+-- what is told where the scheme doesn't sign
+abbrev pub scheme_refused : SignatureAlgorithm → SignatureError
+scheme_refused (RsaPkcs1v15 hash) = errors.Rsa contexts.SchemeRefused
+scheme_refused (Ecdsa hash) = errors.Ec contexts.SchemeRefused
+scheme_refused Ed25519 = errors.Ed contexts.SchemeRefused
+
+abbrev pub Unsigned : Signs → SignatureAlgorithm → PrivateKey → List ℕ → Rule
+Unsigned signs algorithm key msg e = IsAsked signs algorithm key msg false × (e ≡ scheme_refused algorithm)
+
+-- The rules on the key, in their order.
+abbrev pub secret_rules : SignatureAlgorithm → PrivateKey → List Rule
+secret_rules (RsaPkcs1v15 hash) key = NotRsaSecret key ∷ []
+secret_rules (Ecdsa hash) key = NotEcSecret key ∷ UnknownCurveOf key ∷ UnpairedSecret key hash ∷ WrongSecretSize key ∷ []
+secret_rules Ed25519 key = NotEdSecret key ∷ NoPublicKey key ∷ ForAgreementOnly key ∷ NotEd25519Secret key ∷ WrongEdSize key ∷ []
+
+-- The rules of signing, in their order: on the key, on its writing, on what the scheme signs.
+abbrev pub sign_rules : Signs → SignatureAlgorithm → PrivateKey → List ℕ → List Rule
+sign_rules signs algorithm key msg = secret_rules algorithm key ++ UnwritableSecret key ∷ Unsigned signs algorithm key msg ∷ []
