@@ -6,9 +6,11 @@ whose functions on the values within it takes: it is written from RFC 2315, RFC
 over the elements of `der_reader`.
 """
 
-from der_reader import Constructed, Malformed, Primitive, read_exact, write
+from hashlib import sha256
+
+from der_reader import Malformed, Primitive, read_exact, write
 from value_reader import (
-    Shape, algorithm, contents, dotted, explicit, integer, kids, name, name_text, need, optional, valued_attribute, word,
+    Shape, algorithm, contents, dotted, explicit, integer, kids, name, name_text, need, optional, shown_fault, valued_attribute, word,
 )
 
 
@@ -55,8 +57,83 @@ def opus_info(element):
     return f"{name} {more}"
 
 
+# Trust lists (Microsoft, wincrypt.h: CTL_INFO, CTL_ENTRY).
+
+def tagged(rest, tag):
+    """The next element, where it has the tag."""
+    return rest.pop(0) if rest and rest[0].tag == tag else None
+
+
+def listed(elements, shown):
+    return " ".join(("[", *map(shown, elements), "]"))
+
+
+def held_purposes(element):
+    """Identifiers in a string."""
+    try:
+        inner = read_exact(contents(element, 4))
+    except Malformed:
+        raise Shape from None
+    return listed(kids(inner, 0x30), lambda one: dotted(contents(one, 6)))
+
+
+def string_word(element):
+    return word(contents(element, 4))
+
+
+ENTRY_ATTRIBUTES = {
+    "1.3.6.1.4.1.311.10.11.29": ("hashes", string_word),
+    "1.3.6.1.4.1.311.10.11.104": ("disallowed", string_word),
+    "1.3.6.1.4.1.311.10.11.126": ("starts", string_word),
+    "1.3.6.1.4.1.311.10.11.127": ("purposes", held_purposes),
+}
+
+
+def entry_attribute(element):
+    """An attribute of an entry: its values by its identifier."""
+    fields = kids(element, 0x30)
+    need(len(fields) == 2)
+    oid = dotted(contents(fields[0], 6))
+    shown, shape = ENTRY_ATTRIBUTES.get(oid, (oid, lambda one: word(write(one))))
+    return f"{shown} {listed(kids(fields[1], 0x31), shape)}"
+
+
+def entry(element):
+    """A subject, and what is said of it."""
+    fields = kids(element, 0x30)
+    need(len(fields) == 2)
+    return f"{string_word(fields[0])} {listed(kids(fields[1], 0x31), entry_attribute)}"
+
+
+def time_in(rest):
+    """A time of any contents is next."""
+    need(rest and rest.pop(0).tag in (0x17, 0x18))
+
+
+def trust_list(element):
+    """The entries of a list; the other fields have their forms."""
+    rest = list(kids(element, 0x30))
+    for tag in 2, 0x30, 4, 2:
+        one = tagged(rest, tag)
+        if tag == 0x30:
+            need(one is not None)
+            listed(one.kids, lambda kid: dotted(contents(kid, 6)))
+        elif tag == 2 and one is not None:
+            integer(contents(one, 2))
+    time_in(rest)
+    if rest and rest[0].tag in (0x17, 0x18):
+        time_in(rest)
+    need(len(rest) >= 2)
+    algorithm(rest.pop(0))
+    entries = listed(kids(rest.pop(0), 0x30), entry)
+    tagged(rest, 0xA0)
+    need(not rest)
+    return f"list {entries}"
+
+
 CONTENTS = {
     "1.3.6.1.4.1.311.2.1.4": indirect_data,
+    "1.3.6.1.4.1.311.10.1": trust_list,
     "1.2.840.113549.1.7.1": lambda element: f"data {word(contents(element, 4))}",
 }
 
@@ -113,10 +190,6 @@ def unsigned_attribute(element):
     return f"{word_of} {len(values)}"
 
 
-def listed(elements, shown):
-    return " ".join(("[", *map(shown, elements), "]"))
-
-
 def signer_info(element):
     """A signer (RFC 5652 5.3)."""
     rest = list(kids(element, 0x30))
@@ -158,7 +231,54 @@ def pkcs7(element):
     return signed_data(explicit(fields[1], 0xA0))
 
 
+def timestamp_request(element):
+    """What kind of stamp is asked for, and the content that is to be signed."""
+    fields = kids(element, 0x30)
+    need(len(fields) == 2)
+    return f"{dotted(contents(fields[0], 6))} {content_info(fields[1])}"
+
+
+# The same fields where they lie: each in its octets.
+
+def given(element):
+    return "none" if element is None else word(write(element))
+
+
+def named_by(element):
+    """The octets of the issuer and the contents of the serial number, unless a key is named."""
+    if isinstance(element, Primitive):
+        return "none"
+    issuer, serial = element.kids
+    return f"{word(write(issuer))} {word(serial.contents)}"
+
+
+def signer_view(element):
+    rest = list(element.kids)
+    number, sid, digest = (rest.pop(0) for _ in range(3))
+    signed = tagged(rest, 0xA0)
+    algorithm_element, signature = rest.pop(0), rest.pop(0)
+    return (f"{version(number)} {named_by(sid)} {given(digest)} {given(signed)} {given(algorithm_element)} "
+            f"{word(signature.contents)} {given(tagged(rest, 0xA1))}")
+
+
+def signed_view(element):
+    """The fields of signed data with its type that is one."""
+    rest = list(explicit(element.kids[1], 0xA0).kids)
+    number, algorithms, content = (rest.pop(0) for _ in range(3))
+    oid, *held = content.kids
+    certificates = tagged(rest, 0xA0)
+    tagged(rest, 0xA1)
+    whole = given(held[0].kids[0]) if held else "none"
+    members = certificates.kids if certificates is not None else ()
+    return (f"{version(number)} {listed(algorithms.kids, given)} {word(oid.contents)} {whole} "
+            f"{listed(members, given)} {listed(rest[0].kids, signer_view)}")
+
+
 KINDS = {
+    "trust_list": trust_list,
+    "entry": entry,
+    "entry_attribute": entry_attribute,
+    "timestamp_request": timestamp_request,
     "content_info": content_info,
     "unsigned_attribute": unsigned_attribute,
     "signer_info": signer_info,
@@ -182,3 +302,21 @@ def cms_line(kind, octets):
     except Malformed as malformed:
         need(malformed.fault == "TooDeep")
         return "TooDeep"
+
+
+def digest(line):
+    """The first half of the SHA-256 of a line."""
+    return sha256(line.encode("ascii")).digest()[:16].hex()
+
+
+def both_line(octets):
+    """Whether signed data comes back as it was read, and the digest of its fields, a bar, and that of the
+    fields where they lie; or the refusals."""
+    try:
+        element = read_exact(octets)
+        return f"same {digest(pkcs7(element))} | {digest(signed_view(element))}"
+    except Shape:
+        return "Shape | Shape"
+    except Malformed as malformed:
+        need(malformed.fault != "Trailing")
+        return f"{shown_fault(malformed)} | {shown_fault(malformed)}"

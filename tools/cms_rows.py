@@ -31,6 +31,7 @@ INDIRECT_DATA = "060a2b060104018237020104"
 UNKNOWN = "06022a03"
 COUNTER = "06092a864886f70d010906"
 TOKEN = "060a2b060104018237030301"
+STAMP = "060a2b060104018237030201"
 EMPTY = f"300b{DATA}"
 RSA = "300d06092a864886f70d0101010500"
 ISSUER = "300c310a300806035504030c0141"
@@ -65,6 +66,34 @@ def pkcs7(inner=signed_data(), oid=SIGNED_DATA, tag="a0"):
     return der("30", oid, der(tag, inner))
 
 
+# ---- trust lists
+
+CTL = "06092b0601040182370a01"
+PURPOSES = der("30", "06082b06010505070303", "06082b06010505070308")
+
+
+def property_of(number, *values):
+    """An attribute of an entry by the last arc of its identifier."""
+    arc = f"{number:02x}" if number < 0x80 else f"81{number & 0x7f:02x}"
+    return der("30", der("06", f"2b0601040182370a0b{arc}"), der("31", *values))
+
+
+def entry(*attributes, subject="0402aabb"):
+    return der("30", subject, der("31", *attributes))
+
+
+TIME = "170d3236303130313030303030305a"
+USAGE = der("30", "060a2b0601040182370a0309")
+HASH = property_of(29, "0410" + 16 * "11")
+DISALLOWED = property_of(104, "0408" + 8 * "22")
+STARTS = property_of(126, "0408" + 8 * "33")
+FOR_PURPOSES = property_of(127, der("04", PURPOSES))
+
+
+def trust_list(*entries, version="", usage=USAGE, identifier="", number="", this=TIME, following="", algorithm=SHA256, behind=""):
+    return der("30", version, usage, identifier, number, this, following, algorithm, der("30", *entries), behind)
+
+
 SIGNER = signer()
 SIGNED_ATTRIBUTES = der("a0", CONTENT_TYPE, MESSAGE_DIGEST)
 
@@ -83,15 +112,58 @@ def inside_one_another(count):
 
 # Values of each kind.
 READ = [
+    ("entry_attribute", [
+        (HASH, "the MD5 of a name"),
+        (DISALLOWED, "from when on it isn't trusted"),
+        (STARTS, "from which time on"),
+        (FOR_PURPOSES, "for which purposes"),
+        (property_of(29), "no digests"),
+        (property_of(127), "no purposes"),
+        (property_of(29, "0400", "0401aa"), "two strings, one of no octets"),
+        (property_of(127, "04023000"), "an empty list of purposes"),
+        (property_of(127, der("04", PURPOSES), "04023000"), "two lists of purposes"),
+        (property_of(11, "0500", "3003010102"), "any other attribute, another octet of TRUE"),
+        (property_of(98), "another one without values"),
+        (der("30", UNKNOWN, "3100"), "an unknown identifier"),
+    ]),
+    ("entry", [
+        (entry(), "no attributes"),
+        (entry(HASH), "one attribute"),
+        (entry(HASH, DISALLOWED, STARTS, FOR_PURPOSES, property_of(11, "0500")), "attributes of each kind"),
+        (entry(HASH, HASH), "one kind twice"),
+        (entry(subject="0400"), "a subject of no octets"),
+    ]),
+    ("trust_list", [
+        (trust_list(), "no entries, every field left out that can be"),
+        (trust_list(entry(HASH)), "an entry"),
+        (trust_list(entry(HASH), entry(DISALLOWED, subject="0400")), "two entries"),
+        (trust_list(version="020101"), "a version"),
+        (trust_list(identifier="0400"), "an identifier of no octets"),
+        (trust_list(number="02020080"), "a number"),
+        (trust_list(version="020100", identifier="0401aa", number="020105"), "a version, an identifier and a number"),
+        (trust_list(following=TIME), "a second time"),
+        (trust_list(this="1800", following="1700"), "times of no octets"),
+        (trust_list(usage="3000"), "no purposes"),
+        (trust_list(behind="a000"), "extensions of no octets"),
+        (trust_list(behind="a0030101ff"), "extensions of any form"),
+        (trust_list(entry(FOR_PURPOSES), version="020101", identifier="0401aa", number="020105", following=TIME, behind="a0023000"), "every field"),
+    ]),
     ("content_info", [
         (EMPTY, "a type without a content"),
         (der("30", DATA, "a0040402aabb"), "octets"),
         (der("30", DATA, "a0020400"), "no octets"),
         (der("30", INDIRECT_DATA, der("a0", der("30", IMAGE, DIGEST))), "what Authenticode signs"),
         (f"300c{INDIRECT_DATA}", "its type alone"),
+        (der("30", CTL, der("a0", trust_list(entry(HASH)))), "a trust list"),
+        (der("30", CTL), "the type of trust lists alone"),
         (der("30", UNKNOWN, "a0020500"), "a content of an unknown type"),
         (der("30", UNKNOWN, "a0053003010102"), "another octet of TRUE is kept"),
         (f"3004{UNKNOWN}", "an unknown type alone"),
+    ]),
+    ("timestamp_request", [
+        (der("30", STAMP, der("30", DATA, "a0040402aabb")), "octets to be stamped"),
+        (der("30", STAMP, EMPTY), "no content"),
+        (der("30", UNKNOWN, der("30", UNKNOWN, "a0020500")), "another type, and a content of an unknown one"),
     ]),
     ("unsigned_attribute", [
         (counter(SIGNER), "a counter-signature"),
@@ -190,7 +262,77 @@ READ = [
 
 # Elements that are no value of the kind, or are nested too deep.
 REFUSED = [
+    ("entry_attribute", [
+        (property_of(29, "0500"), "a digest that is no string"),
+        (property_of(29, "0400", "0500"), "the second one isn't"),
+        (property_of(104, "170100"), "a time that is no string"),
+        (property_of(126, "2400"), "a constructed string"),
+        (property_of(127, PURPOSES), "purposes outside a string"),
+        (property_of(127, "0400"), "no octets as purposes"),
+        (property_of(127, "040100"), "purposes that aren't DER"),
+        (property_of(127, "0403300000"), "an octet behind the purposes"),
+        (property_of(127, "040430020500"), "a purpose that is no identifier"),
+        (property_of(127, "04023100"), "a SET of purposes"),
+        (property_of(127, der("04", PURPOSES), "0400"), "the second list isn't one"),
+        (der("30", UNKNOWN, "3000"), "a SEQUENCE of values"),
+        (der("30", UNKNOWN), "no values"),
+        (der("30", UNKNOWN, "3100", "0500"), "an element behind the values"),
+        (der("31", UNKNOWN, "3100"), "a SET"),
+        (der("30", "06022a80", "3100"), "no identifier"),
+        ("0400", "a leaf"),
+    ]),
+    ("entry", [
+        (entry(property_of(29, "0500")), "an attribute that is none"),
+        (entry(HASH, property_of(127, "0400")), "the second one isn't one"),
+        (entry(subject="0500"), "a subject that is no string"),
+        (der("30", "0400"), "no attributes"),
+        (der("30", "3100"), "no subject"),
+        (der("30", "3100", "0400"), "the subject last"),
+        (der("30", "0400", "3100", "0500"), "an element behind"),
+        (der("30", "0400", "3000"), "a SEQUENCE of attributes"),
+        (der("31", "0400", "3100"), "a SET"),
+        ("0400", "a leaf"),
+    ]),
+    ("trust_list", [
+        ("3000", "no fields"),
+        (der("31", USAGE, TIME, SHA256, "3000"), "a SET"),
+        (trust_list(version="0200"), "a version of no octets"),
+        (trust_list(version="020101020101"), "two versions"),
+        (trust_list(usage=""), "no usage"),
+        (trust_list(usage="3100"), "a SET of purposes"),
+        (trust_list(usage="30020500"), "a purpose that is no identifier"),
+        (trust_list(identifier="2400"), "a constructed identifier"),
+        (trust_list(identifier="0400", number="0200"), "a number of no octets"),
+        (trust_list(identifier="020101", number="0400"), "the number in front of the identifier"),
+        (trust_list(this=""), "no time"),
+        (trust_list(this="160d3236303130313030303030305a"), "a time of another tag"),
+        (trust_list(following=TIME + TIME), "three times"),
+        (trust_list(algorithm=""), "no algorithm"),
+        (trust_list(algorithm="3000"), "an algorithm without an identifier"),
+        (der("30", USAGE, TIME, SHA256), "no entries"),
+        (trust_list("0500"), "an entry that is none"),
+        (trust_list(entry(), "3000"), "the second one isn't one"),
+        (trust_list(entry(property_of(127, "0400"))), "an entry with purposes that don't read"),
+        (der("30", USAGE, TIME, SHA256, "3100"), "a SET of entries"),
+        (trust_list(behind="8000"), "extensions in a leaf"),
+        (trust_list(behind="a100"), "another tag behind"),
+        (trust_list(behind="a000a000"), "extensions twice"),
+        (trust_list(behind="a0000500"), "an element behind the extensions"),
+        ("0400", "a leaf"),
+    ]),
+    ("timestamp_request", [
+        (der("31", STAMP, EMPTY), "a SET"),
+        (der("30", STAMP), "no content"),
+        (der("30", EMPTY), "no type"),
+        (der("30", EMPTY, STAMP), "the content in front"),
+        (der("30", STAMP, EMPTY, "0500"), "an element behind"),
+        (der("30", STAMP, der("30", DATA, "a0020500")), "octets that are none"),
+        (der("30", STAMP, der("a0", EMPTY)), "attributes and no content"),
+        (der("30", "06022a80", EMPTY), "a type that is no identifier"),
+        ("0400", "a leaf"),
+    ]),
     ("content_info", [
+        (der("30", CTL, "a0023000"), "a trust list that is none"),
         (f"310b{DATA}", "a SET"),
         ("3000", "no type"),
         ("30020600", "an identifier of no octets"),
@@ -348,6 +490,16 @@ REFUSED = [
 
 # Two values that are unlike one another, and in what.
 UNLIKE = [
+    ("trust_list", trust_list(), trust_list(entry()), "the entries"),
+    ("trust_list", trust_list(), trust_list(behind="a000"), "the extensions"),
+    ("trust_list", trust_list(this="1700"), trust_list(this="1800"), "the form of the time"),
+    ("content_info", der("30", CTL, der("a0", trust_list())), der("30", CTL, der("a0", trust_list(entry()))), "a trust list"),
+    ("content_info", EMPTY, f"3004{UNKNOWN}", "the type"),
+    ("content_info", EMPTY, der("30", DATA, "a0020400"), "no octets and absent"),
+    ("content_info", der("30", DATA, "a0020400"), der("30", DATA, "a003040100"), "the octets"),
+    ("content_info", der("30", UNKNOWN, "a0020500"), der("30", UNKNOWN, "a0020400"), "the content of an unknown type"),
+    ("timestamp_request", der("30", STAMP, EMPTY), der("30", UNKNOWN, EMPTY), "the type"),
+    ("timestamp_request", der("30", STAMP, EMPTY), der("30", STAMP, f"3004{UNKNOWN}"), "the content"),
     ("digest_info", "3008300406022a030400", "3008300406022a040400", "the algorithm"),
     ("digest_info", "3008300406022a030400", "300a300606022a0305000400", "the parameters"),
     ("digest_info", "3008300406022a030400", "3009300406022a03040100", "the digest"),

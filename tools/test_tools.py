@@ -20,6 +20,7 @@ import oid_table
 import reader_stand_in
 import run_program
 import world_certificates
+import world_signatures
 from certificate_cases import (
     AGREED, AGREEMENT_KEYS, GENERATED, KEY_LABELS, LABELS, REQUESTED, SIGNING_KEYS, WRITTEN,
     Key, Requested,
@@ -31,7 +32,7 @@ from certificate_parts import (
     TEXT_OPTIONS, complaints, made_rows, parts, printed, rows_of, said_subject, source,
     unescaped, unsigned, written_rows,
 )
-from cms_reader import cms_line
+from cms_reader import both_line, cms_line
 from compare_readers import Comparison, block_line, case_file, cases_of, inputs, spelled
 from der_cases import mutations
 from der_reader import (
@@ -383,6 +384,21 @@ class CmsAnswersTest(unittest.TestCase):
             ("opus_info", "3008a1028000a0028000", "Shape"),
         ):
             self.assertEqual(cms_line(kind, bytes.fromhex(octets)), line)
+
+
+    def test_world_signatures(self):
+        rows = list(world_signatures.stored())
+        self.assertEqual(len({label for label, _, _ in rows}), len(rows))
+        lines = [both_line(octets) for _, kind, octets in rows if kind == "pkcs7"]
+        self.assertEqual(len(lines), 65)
+        self.assertEqual([line for line in lines if not line.startswith("same ")], 3 * ["an indefinite length at octet 0 | an indefinite length at octet 0"])
+
+    def test_trust_lists(self):
+        for octets, line in (
+            ("301030001700300406022a033000a0020500", "same list [ ]"),
+            ("301030001700300406022a03300081020500", "Shape"),
+        ):
+            self.assertEqual(cms_line("trust_list", bytes.fromhex(octets)), line)
 
 
 @unittest.skipUnless(which("openssl"), "openssl isn't there")

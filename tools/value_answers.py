@@ -21,6 +21,7 @@ from datetime import datetime
 from hashlib import sha256
 from itertools import chain, filterfalse
 
+import cms_reader
 import cms_rows
 import hostile_certificates as hostile
 import kept_private_keys
@@ -29,6 +30,7 @@ import structure_rows as structures
 import value_rows as values
 import whole_certificates
 import world_certificates
+import world_signatures
 from certificate_parts import STORED, rows_of
 from cms_reader import cms_line
 from der_reader import Constructed, Malformed, Primitive, read_exact, read_first, write
@@ -543,6 +545,15 @@ def cms_row(kind, element, is_read):
     return f"structure {kind} {element}", line
 
 
+def world_signature_rows():
+    """Signatures of the world, kept and where they lie, and a request for one."""
+    for _, kind, octets in world_signatures.stored():
+        if kind == "pkcs7":
+            yield f"both pkcs7 {octets.hex()}", cms_reader.both_line(octets)
+        else:
+            yield cms_row(kind, octets.hex(), True)
+
+
 def signed_content_rows():
     """The rows of `cms_answers`: what Authenticode signs, texts of Authenticode, digest algorithms."""
     for rows, is_read in (cms_rows.READ, True), (cms_rows.REFUSED, False):
@@ -739,7 +750,7 @@ def stored_files():
         *stored_run("structure_answers", filterfalse(is_extension, structure_rows())),
         *stored_run("extension_answers", filter(is_extension, structure_rows())),
         *stored_run("certificate_answers", chain(whole_certificate_rows(), world_rows())),
-        *stored_run("cms_answers", signed_content_rows()),
+        *stored_run("cms_answers", chain(signed_content_rows(), world_signature_rows())),
     ])
 
 

@@ -1,11 +1,13 @@
 //! What is printed of a value beside whether it comes back as it was read.
 
+use asn1_types::ObjectIdentifier;
 use cms_types::{
-    ContentValue, DigestInfo, EncapsulatedContentInfo, Pkcs7Certificate, SignedData,
-    SignerIdentifier, SignerInfo, SpcAttributeTypeAndOptionalValue, SpcIndirectDataContent,
-    SpcLink, SpcSpOpusInfo, SpcString, UnsignedAttribute,
+    CTLEntry, CTLEntryAttribute, CTLEntryAttributeValues, ContentValue, Ctl, DigestInfo,
+    EncapsulatedContentInfo, HeldPurposes, Pkcs7Certificate, SignedData, SignerIdentifier,
+    SignerInfo, SpcAttributeTypeAndOptionalValue, SpcIndirectDataContent, SpcLink, SpcSpOpusInfo,
+    SpcString, TimestampRequest, UnsignedAttribute,
 };
-use der_core::Raw;
+use der_core::{Octets, Raw};
 use row_answers::word_of;
 use std::alloc::{AllocError, Global};
 
@@ -69,12 +71,86 @@ impl Details for ContentValue {
     fn details(&self, alloc: Global) -> Result<String, AllocError> {
         match self {
             ContentValue::SpcIndirectDataContent(content) => content.details(alloc),
+            ContentValue::CertificateTrustList(list) => list.details(alloc),
             ContentValue::Data(octets) => {
                 let octets = word_of(alloc, octets.as_slice())?;
                 format!(in alloc; "data {octets}")
             }
             ContentValue::Other(element) => kept(alloc, Some(element)),
         }
+    }
+}
+
+impl Details for TimestampRequest {
+    fn details(&self, alloc: Global) -> Result<String, AllocError> {
+        let (ty, content) = (&self.countersignature_type, self.content.details(alloc)?);
+        format!(in alloc; "{ty} {content}")
+    }
+}
+
+impl Details for Ctl {
+    fn details(&self, alloc: Global) -> Result<String, AllocError> {
+        let entries = all_details(alloc, self.entries())?;
+        format!(in alloc; "list {entries}")
+    }
+}
+
+impl Details for CTLEntry {
+    fn details(&self, alloc: Global) -> Result<String, AllocError> {
+        let subject = word_of(alloc, self.subject_identifier.as_slice())?;
+        let attributes = all_details(alloc, self.attributes.as_slice())?;
+        format!(in alloc; "{subject} {attributes}")
+    }
+}
+
+impl Details for CTLEntryAttribute {
+    fn details(&self, alloc: Global) -> Result<String, AllocError> {
+        match &self.value {
+            CTLEntryAttributeValues::CertSubjectNameMd5HashPropId(hashes) => {
+                let hashes = all_details(alloc, hashes.as_slice())?;
+                format!(in alloc; "hashes {hashes}")
+            }
+            CTLEntryAttributeValues::CertDisallowedFileTimePropId(times) => {
+                let times = all_details(alloc, times.as_slice())?;
+                format!(in alloc; "disallowed {times}")
+            }
+            CTLEntryAttributeValues::UnknownReservedPropId126(times) => {
+                let times = all_details(alloc, times.as_slice())?;
+                format!(in alloc; "starts {times}")
+            }
+            CTLEntryAttributeValues::UnknownReservedPropId127(purposes) => {
+                let purposes = all_details(alloc, purposes.as_slice())?;
+                format!(in alloc; "purposes {purposes}")
+            }
+            CTLEntryAttributeValues::Other(values) => {
+                let (oid, values) = (&self.oid, all_details(alloc, values.as_slice())?);
+                format!(in alloc; "{oid} {values}")
+            }
+        }
+    }
+}
+
+impl Details for HeldPurposes {
+    fn details(&self, alloc: Global) -> Result<String, AllocError> {
+        all_details(alloc, self.purposes())
+    }
+}
+
+impl Details for ObjectIdentifier {
+    fn details(&self, alloc: Global) -> Result<String, AllocError> {
+        format!(in alloc; "{self}")
+    }
+}
+
+impl Details for Octets {
+    fn details(&self, alloc: Global) -> Result<String, AllocError> {
+        word_of(alloc, self.as_slice())
+    }
+}
+
+impl Details for Raw {
+    fn details(&self, alloc: Global) -> Result<String, AllocError> {
+        word_of(alloc, self.as_bytes())
     }
 }
 

@@ -5,15 +5,18 @@
 //! cms_answers FILE
 //! ```
 //!
-//! A row is a call and its arguments, a space between: `structure KIND OCTETS`, `unlike KIND OCTETS
-//! OCTETS`, `make string TEXT` or `make sha NAME`. Octets and texts stand in hexadecimal digits, `-`
-//! for none. A line is printed for each row. `tools/value_answers.py` makes rows and lines.
+//! A row is a call and its arguments, a space between: `structure KIND OCTETS`, `both pkcs7 OCTETS`,
+//! `unlike KIND OCTETS OCTETS`, `make string TEXT` or `make sha NAME`. Octets and texts stand in
+//! hexadecimal digits, `-` for none. A line is printed for each row. `tools/value_answers.py` makes
+//! rows and lines.
 #![tactic(auto)]
 
+mod both;
 mod details;
 mod making;
 mod row;
 mod structures;
+mod view;
 
 use anyhow::{Result, bail};
 use std::io::{BufWriter, Write};

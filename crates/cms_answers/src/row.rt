@@ -1,7 +1,8 @@
 //! Rows, and who answers them.
 
-use crate::{making, structures};
+use crate::{both, making, structures};
 use anyhow::{Result, bail};
+use row_answers::octets_of;
 use std::alloc::Global;
 
 /// The answer to a row.
@@ -10,6 +11,7 @@ pub fn answer(alloc: Global, text: &str) -> Result<String> {
     let answer = match words.as_slice() {
         ["structure", kind, element] => structures::answer(alloc, kind, element)?,
         ["unlike", kind, one, other] => structures::answer_unlike(alloc, kind, one, other)?,
+        ["both", "pkcs7", octets] => Some(both::answer(alloc, &octets_of(alloc, octets)?)?),
         ["make", "string", text] => Some(making::string(alloc, text)?),
         ["make", "sha", name] => Some(making::sha(alloc, name)?),
         _ => None,

@@ -3,9 +3,9 @@
 use crate::details::Details;
 use anyhow::Result;
 use cms_types::{
-    DigestInfo, EncapsulatedContentInfo, Pkcs7Certificate, SignedData, SignerInfo,
-    SpcAttributeTypeAndOptionalValue, SpcIndirectDataContent, SpcLink, SpcSpOpusInfo, SpcString,
-    UnsignedAttribute,
+    CTLEntry, CTLEntryAttribute, Ctl, DigestInfo, EncapsulatedContentInfo, Pkcs7Certificate,
+    SignedData, SignerInfo, SpcAttributeTypeAndOptionalValue, SpcIndirectDataContent, SpcLink,
+    SpcSpOpusInfo, SpcString, TimestampRequest, UnsignedAttribute,
 };
 use der_core::{DerError, DerFault, Malformed, Structure};
 use row_answers::{are_equal, comes_back, octets_of, shown_shape, value_of};
@@ -22,6 +22,10 @@ pub fn answer(alloc: Global, kind: &str, element: &str) -> Result<Option<String>
         "link" => read_of::<SpcLink>(alloc, &element),
         "opus_info" => read_of::<SpcSpOpusInfo>(alloc, &element),
         "content_info" => read_of::<EncapsulatedContentInfo>(alloc, &element),
+        "trust_list" => read_of::<Ctl>(alloc, &element),
+        "entry" => back_of::<CTLEntry>(alloc, &element),
+        "entry_attribute" => back_of::<CTLEntryAttribute>(alloc, &element),
+        "timestamp_request" => read_of::<TimestampRequest>(alloc, &element),
         "unsigned_attribute" => back_of::<UnsignedAttribute>(alloc, &element),
         "signer_info" => back_of::<SignerInfo>(alloc, &element),
         "signed_data" => back_of::<SignedData>(alloc, &element),
@@ -44,6 +48,8 @@ pub fn answer_unlike(alloc: Global, kind: &str, one: &str, other: &str) -> Resul
         "link" => are_equal::<SpcLink>(alloc, &one, &other),
         "opus_info" => are_equal::<SpcSpOpusInfo>(alloc, &one, &other),
         "content_info" => are_equal::<EncapsulatedContentInfo>(alloc, &one, &other),
+        "trust_list" => are_equal::<Ctl>(alloc, &one, &other),
+        "timestamp_request" => are_equal::<TimestampRequest>(alloc, &one, &other),
         _ => return Ok(None),
     };
     let answer = if equal? { "equal" } else { "unlike" };

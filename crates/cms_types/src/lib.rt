@@ -33,7 +33,8 @@ mod version;
 
 pub use certificate_choices::CertificateChoices;
 pub use content_types::{
-    ContentKind, ContentValue, ContentView, DigestInfo, EncapsulatedContentInfo,
+    CTLEntry, CTLEntryAttribute, CTLEntryAttributeValues, ContentKind, ContentValue, ContentView,
+    Ctl, CtlKind, DigestInfo, EncapsulatedContentInfo, HeldPurposes,
     SpcAttributeTypeAndOptionalValue, SpcIndirectDataContent, TimestampRequest,
 };
 pub use issuer_and_serial::IssuerAndSerialNumber;

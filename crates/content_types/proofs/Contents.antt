@@ -12,6 +12,7 @@ use Rattle.der_core.specs.declared.elem.Elem.{Elem}
 use Rattle.asn1_types.specs.Values.{identifier_contents}
 use Rattle.asn1_types.specs.Elements.{object_identifier}
 use Rattle.asn1_types.specs.declared.oid.ObjectIdentifier.{ObjectIdentifier}
+use Rattle.content_types.specs.CtlElement.{ctl}
 use Rattle.content_types.specs.IndirectData.{indirect_data_content}
 use Rattle.content_types.specs.ContentKind.{named_content}
 use Rattle.content_types.specs.ContentValue.{kind_of_content, content_value, IsContentOf, HasKind, SpellsContent, content_octets}
@@ -19,6 +20,7 @@ use Rattle.content_types.specs.ContentInfoElements.{content_info_of}
 use Rattle.content_types.specs.ContentInfo.{content_info}
 use Rattle.content_types.specs.Facts.ContentInfos.{fields_once, same_info, values_by_octets}
 use Rattle.content_types.specs.declared.content_kind.ContentKind.{ContentKind}
+use Rattle.content_types.specs.declared.ctl.Ctl.{Ctl}
 use Rattle.content_types.specs.declared.content_kind.ContentKind.TheVariants as kinds
 use Rattle.content_types.specs.declared.content_value.ContentValue.{ContentValue}
 use Rattle.content_types.specs.declared.content_value.ContentValue.TheVariants as contents
@@ -29,11 +31,13 @@ use Rattle.content_types.specs.declared.indirect_data.SpcIndirectDataContent.{Sp
 
 abbrev Held : ContentKind → DerElement → Type 0
 Held kinds.IndirectData element = (content : SpcIndirectDataContent) × (element ≡ indirect_data_content content)
+Held kinds.CertificateTrustList element = (list : Ctl) × (element ≡ ctl list)
 Held kinds.Data element = (octets : List ℕ) × (element ≡ octet_string octets)
 Held kinds.Other element = (kept : KeptElement) × (element ≡ kept.element)
 
 held : (element : DerElement) (content : ContentValue) → element ≡ content_value content → Held (kind_of_content content) element
 held element (contents.SpcIndirectDataContent x) is = (x, is)
+held element (contents.CertificateTrustList x) is = (x, is)
 held element (contents.Data x) is = (x, is)
 held element (contents.Other x) is = (x, is)
 
@@ -42,6 +46,9 @@ held_of kind named element content is of = subst (λ (k : ContentKind). Held k e
 
 pub other_of : (kind : ContentKind) (element : DerElement) (content : ContentValue) → kind ≡ kinds.Other → IsContentOf kind element content → (kept : KeptElement) × (element ≡ kept.element)
 other_of kind element content is of = held_of kind kinds.Other element content is of
+
+pub list_of : (kind : ContentKind) (element : DerElement) (content : ContentValue) → kind ≡ kinds.CertificateTrustList → IsContentOf kind element content → (list : Ctl) × (element ≡ ctl list)
+list_of kind element content is of = held_of kind kinds.CertificateTrustList element content is of
 
 -- ---- a content that may be left out
 

@@ -5,6 +5,7 @@ use Rattle.der_core.specs.DerElement.{DerElement}
 use Rattle.der_core.specs.Elements.{octet_string}
 use Rattle.der_core.specs.Encoding.{encoding}
 use Rattle.content_types.specs.ContentKind.{content_number}
+use Rattle.content_types.specs.CtlElement.{ctl}
 use Rattle.content_types.specs.IndirectData.{indirect_data_content}
 use Rattle.content_types.specs.declared.content_kind.ContentKind.{ContentKind}
 use Rattle.content_types.specs.declared.content_kind.ContentKind.TheVariants as kinds
@@ -14,12 +15,14 @@ use Rattle.content_types.specs.declared.content_value.ContentValue.TheVariants a
 -- the kind of types that have such a content
 abbrev pub kind_of_content : ContentValue → ContentKind
 kind_of_content (contents.SpcIndirectDataContent content) = kinds.IndirectData
+kind_of_content (contents.CertificateTrustList list) = kinds.CertificateTrustList
 kind_of_content (contents.Data octets) = kinds.Data
 kind_of_content (contents.Other kept) = kinds.Other
 
 -- the element of a content; Data ::= OCTET STRING (RFC 2315 8)
 abbrev pub content_value : ContentValue → DerElement
 content_value (contents.SpcIndirectDataContent content) = indirect_data_content content
+content_value (contents.CertificateTrustList list) = ctl list
 content_value (contents.Data octets) = octet_string octets
 content_value (contents.Other kept) = kept.element
 

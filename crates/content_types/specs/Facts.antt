@@ -5,3 +5,9 @@ pub mod IndirectDatas
 pub mod ContentKinds
 pub mod ContentInfos
 pub mod TimestampRequests
+pub mod CtlKinds
+pub mod HeldPurposes
+pub mod CtlValues
+pub mod CtlAttributes
+pub mod CtlEntries
+pub mod Ctls

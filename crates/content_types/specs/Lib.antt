@@ -1,3 +1,11 @@
+pub mod CtlKind
+pub mod HeldPurposes
+pub mod HeldPurposesElement
+pub mod CtlValues
+pub mod CtlAttribute
+pub mod CtlEntry
+pub mod Ctl
+pub mod CtlElement
 pub mod DigestInfo
 pub mod SpcAttribute
 pub mod IndirectData

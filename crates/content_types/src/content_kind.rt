@@ -7,7 +7,7 @@ ghost use Rattle.asn1_types.specs.declared.oid.ObjectIdentifier.{ObjectIdentifie
 ghost use Rattle.content_types.specs.ContentKind.{named_content};
 
 use asn1_types::ObjectIdentifier;
-use asn1_types::oids::{DATA, SPC_INDIRECT_DATA};
+use asn1_types::oids::{CTL, DATA, SPC_INDIRECT_DATA};
 use der_core::tag::OBJECT_IDENTIFIER;
 use der_core::{Elem, leaf_at};
 
@@ -16,6 +16,8 @@ use der_core::{Elem, leaf_at};
 pub enum ContentKind {
     /// What Authenticode signs in the place of a file.
     IndirectData,
+    /// A trust list (Microsoft, wincrypt.h).
+    CertificateTrustList,
     /// Octets (RFC 5652 4).
     Data,
     /// Any other.
@@ -29,6 +31,9 @@ impl ContentKind {
     {
         if oid == SPC_INDIRECT_DATA {
             return ContentKind::IndirectData;
+        }
+        if oid == CTL {
+            return ContentKind::CertificateTrustList;
         }
         if oid == DATA {
             return ContentKind::Data;

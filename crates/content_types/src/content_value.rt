@@ -9,6 +9,7 @@ ghost use Rattle.content_types.specs.ContentValue.{kind_of_content, content_valu
 ghost use Rattle.content_types.specs.declared.content_value.ContentValue.{ContentValue};
 
 use crate::content_kind::ContentKind;
+use crate::ctl::Ctl;
 use crate::indirect_data::SpcIndirectDataContent;
 use der_core::{DerError, Elem, Octets, Raw, Structure, Tree};
 use std::alloc::{AllocError, Global};
@@ -19,6 +20,8 @@ pub enum ContentValue {
     /// What Authenticode signs in the place of a file (Windows Authenticode Portable Executable
     /// Signature Format).
     SpcIndirectDataContent(SpcIndirectDataContent),
+    /// A trust list (Microsoft, wincrypt.h).
+    CertificateTrustList(Ctl),
     /// Octets (RFC 5652 4).
     Data(Octets),
     /// A content of any other type as it is.
@@ -32,6 +35,7 @@ impl ContentValue {
     {
         match self {
             ContentValue::SpcIndirectDataContent(_) => ContentKind::IndirectData,
+            ContentValue::CertificateTrustList(_) => ContentKind::CertificateTrustList,
             ContentValue::Data(_) => ContentKind::Data,
             ContentValue::Other(_) => ContentKind::Other,
         }
@@ -44,6 +48,7 @@ impl ContentValue {
     {
         match kind {
             ContentKind::IndirectData => SpcIndirectDataContent::has_shape(elem),
+            ContentKind::CertificateTrustList => Ctl::has_shape(elem),
             ContentKind::Data => Octets::has_shape(elem),
             ContentKind::Other => Raw::has_shape(elem),
         }
@@ -57,6 +62,10 @@ impl ContentValue {
             ContentKind::IndirectData => {
                 let content = SpcIndirectDataContent::read_at(alloc, elem)?;
                 Ok(ContentValue::SpcIndirectDataContent(content))
+            }
+            ContentKind::CertificateTrustList => {
+                let list = Ctl::read_at(alloc, elem)?;
+                Ok(ContentValue::CertificateTrustList(list))
             }
             ContentKind::Data => Ok(ContentValue::Data(Octets::read_at(alloc, elem)?)),
             ContentKind::Other => Ok(ContentValue::Other(Raw::read_at(alloc, elem)?)),
@@ -98,6 +107,7 @@ impl ContentValue {
     {
         match self {
             ContentValue::SpcIndirectDataContent(content) => content.write(alloc),
+            ContentValue::CertificateTrustList(list) => list.write(alloc),
             ContentValue::Data(octets) => octets.write(alloc),
             ContentValue::Other(element) => element.write(alloc),
         }
@@ -110,6 +120,9 @@ impl ContentValue {
         Ok(match self {
             ContentValue::SpcIndirectDataContent(content) => {
                 ContentValue::SpcIndirectDataContent(content.try_clone(alloc)?)
+            }
+            ContentValue::CertificateTrustList(list) => {
+                ContentValue::CertificateTrustList(list.try_clone(alloc)?)
             }
             ContentValue::Data(octets) => ContentValue::Data(octets.try_clone(alloc)?),
             ContentValue::Other(element) => ContentValue::Other(element.try_clone(alloc)?),
@@ -135,6 +148,8 @@ impl PartialEq for ContentValue {
     {
         match (self, other) {
             (ContentValue::SpcIndirectDataContent(a), ContentValue::SpcIndirectDataContent(b)) => *a
+                == *b,
+            (ContentValue::CertificateTrustList(a), ContentValue::CertificateTrustList(b)) => *a
                 == *b,
             (ContentValue::Data(a), ContentValue::Data(b)) => *a == *b,
             (ContentValue::Other(a), ContentValue::Other(b)) => *a == *b,

@@ -20,6 +20,7 @@ use Rattle.content_types.specs.ContentInfoElements.{content_info_of}
 use Rattle.content_types.specs.ContentInfo.{content_info}
 use Rattle.content_types.specs.Facts.IndirectDatas.{indirect_data_contents}
 use Rattle.content_types.specs.Facts.ContentKinds.{kinds_by_number, HasKind-prop}
+use Rattle.content_types.specs.Facts.Ctls.{ctls, ctls_once}
 use Rattle.content_types.specs.declared.content_kind.ContentKind.{ContentKind}
 use Rattle.content_types.specs.declared.content_info.EncapsulatedContentInfo.{EncapsulatedContentInfo}
 use Rattle.content_types.specs.declared.content_value.ContentValue.{ContentValue}
@@ -29,17 +30,25 @@ use Rattle.content_types.specs.declared.content_value.ContentValue.TheVariants a
 
 pub values_once : (a b : ContentValue) → kind_of_content a ≡ kind_of_content b → content_value a ≡ content_value b → a ≡ b
 values_once (contents.SpcIndirectDataContent x) (contents.SpcIndirectDataContent y) kind e = ap contents.SpcIndirectDataContent (indirect_data_contents.once (indirect_data_content x) x y refl e)
+values_once (contents.CertificateTrustList x) (contents.CertificateTrustList y) kind e = ap contents.CertificateTrustList (ctls_once x y e)
 values_once (contents.Data x) (contents.Data y) kind e = ap contents.Data (octet_strings.once (octet_string x) x y refl e)
 values_once (contents.Other x) (contents.Other y) kind e = ap contents.Other (same_kept x y e)
+values_once (contents.SpcIndirectDataContent x) (contents.CertificateTrustList y) kind e = absurd cc
 values_once (contents.SpcIndirectDataContent x) (contents.Data y) kind e = absurd cc
 values_once (contents.SpcIndirectDataContent x) (contents.Other y) kind e = absurd cc
+values_once (contents.CertificateTrustList x) (contents.SpcIndirectDataContent y) kind e = absurd cc
+values_once (contents.CertificateTrustList x) (contents.Data y) kind e = absurd cc
+values_once (contents.CertificateTrustList x) (contents.Other y) kind e = absurd cc
 values_once (contents.Data x) (contents.SpcIndirectDataContent y) kind e = absurd cc
+values_once (contents.Data x) (contents.CertificateTrustList y) kind e = absurd cc
 values_once (contents.Data x) (contents.Other y) kind e = absurd cc
 values_once (contents.Other x) (contents.SpcIndirectDataContent y) kind e = absurd cc
+values_once (contents.Other x) (contents.CertificateTrustList y) kind e = absurd cc
 values_once (contents.Other x) (contents.Data y) kind e = absurd cc
 
 value_formed : (value : ContentValue) → IsWellFormed (content_value value)
 value_formed (contents.SpcIndirectDataContent x) = indirect_data_contents.formed x
+value_formed (contents.CertificateTrustList x) = ctls.formed x
 value_formed (contents.Data x) = octet_strings.formed x
 value_formed (contents.Other x) = x.der.formed
 

@@ -12,11 +12,13 @@ use Rattle.content_types.specs.declared.content_value.ContentValue.{ContentValue
 abbrev kind_at : ℕ → ContentKind
 kind_at number =
     if number == 0 then kinds.IndirectData
-    else (if number == 1 then kinds.Data
-    else kinds.Other)
+    else (if number == 1 then kinds.CertificateTrustList
+    else (if number == 2 then kinds.Data
+    else kinds.Other))
 
 kind_of_number : (kind : ContentKind) → kind_at (content_number kind) ≡ kind
 kind_of_number kinds.IndirectData = refl
+kind_of_number kinds.CertificateTrustList = refl
 kind_of_number kinds.Data = refl
 kind_of_number kinds.Other = refl
 
