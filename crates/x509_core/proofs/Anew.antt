@@ -1,10 +1,9 @@
 -- What is read of a certificate is written as it was read, but for the spelling of its extensions.
-use Rattle.std.proofs.Common.{◌≡◌, List, [], ◌∷◌, Option, Some, None, refl, ap}
+use Rattle.std.proofs.Common.{◌≡◌, List, Option, Some, None, refl, ap}
 use Rattle.std.specs.Option.{option_map}
 use Rattle.der_core.specs.DerElement.{DerElement}
-use Rattle.der_core.specs.Each.{AreEach, IsListOf}
+use Rattle.der_core.specs.Each.{IsListOf}
 use Rattle.x509_types.specs.Certificate.{IsCertificate}
-use Rattle.x509_types.specs.Extension.{IsExtension}
 use Rattle.der_core.specs.Optional.{SpellsOption}
 use Rattle.x509_types.specs.TbsCertificate.{IsVersion, IsExtensions, AreTbsFields, tbs_elements}
 use Rattle.x509_types.specs.TbsElements.{TbsElements}
@@ -13,8 +12,9 @@ use Rattle.x509_types.specs.declared.certificate.Certificate.{Certificate}
 use Rattle.x509_types.specs.declared.extension.Extension.{Extension}
 use Rattle.x509_types.specs.declared.tbs_certificate.TbsCertificate.{TbsCertificate}
 use Rattle.x509_types.specs.declared.version.Version.{Version}
-use Rattle.x509_types.proofs.Spellings.{extension_stands}
-use Rattle.x509_core.specs.Spellings.{IsSpelling, without_extensions, IsWrittenAlike}
+use Rattle.x509_types.proofs.Spellings.{list_spelling}
+use Rattle.x509_types.specs.ExtensionSpellings.{IsSpelling}
+use Rattle.x509_core.specs.Spellings.{without_extensions, IsWrittenAlike}
 
 version_is : (element : Option DerElement) (value : Option Version) → SpellsOption IsVersion element value → element ≡ option_map version value
 version_is None None is = refl
@@ -22,17 +22,11 @@ version_is None (Some value) is = absurd is
 version_is (Some element) None is = absurd is
 version_is (Some element) (Some value) is = ap Some is
 
-spelled_each : (elements : List DerElement) (es : List Extension) → AreEach IsExtension elements es → AreEach IsSpelling elements es
-spelled_each [] [] each = tt
-spelled_each [] (e ∷ es) each = absurd each
-spelled_each (element ∷ elements) [] each = absurd each
-spelled_each (element ∷ elements) (e ∷ es) each = (record { is = each.0; way = extension_stands element e each.0 }, spelled_each elements es each.1)
-
 spelled_list : (element : Option DerElement) (es : Option (List Extension)) → SpellsOption IsExtensions element es → SpellsOption (IsListOf 0x30 IsSpelling) element es
 spelled_list None None is = tt
 spelled_list None (Some es) is = absurd is
 spelled_list (Some element) None is = absurd is
-spelled_list (Some element) (Some es) is = record { kids = is.kids; holds = is.holds; each = spelled_each is.kids es is.each }
+spelled_list (Some element) (Some es) is = list_spelling element es is
 
 same_others : (f : TbsElements) (tbs : TbsCertificate) → AreTbsFields f tbs → without_extensions f ≡ without_extensions (tbs_elements tbs)
 same_others f tbs p i = record {

@@ -1,23 +1,15 @@
 -- In what a certificate that is written anew may be another than the one that was read.
-use Rattle.std.specs.Prelude.{◌≡◌, ◌⊎◌, ◌∷◌, None}
+use Rattle.std.specs.Prelude.{◌≡◌, ◌∷◌, None}
 use Rattle.der_core.specs.DerElement.{DerElement}
 use Rattle.der_core.specs.Each.{IsListOf}
-use Rattle.asn1_types.specs.Elements.{object_identifier}
 use Rattle.asn1_types.specs.Values.{bit_string_contents}
 use Rattle.key_types.specs.AlgorithmIdentifier.{algorithm_identifier}
 use Rattle.x509_types.specs.CertificateElements.{CertificateElements, certificate_of}
-use Rattle.x509_types.specs.Extension.{extension, IsExtension}
-use Rattle.x509_types.specs.ExtensionSpellings.{HasOtherFlag, HasOtherConstraints}
+use Rattle.x509_types.specs.ExtensionSpellings.{IsSpelling}
 use Rattle.der_core.specs.Optional.{SpellsOption}
 use Rattle.x509_types.specs.TbsCertificate.{tbs_elements}
 use Rattle.x509_types.specs.TbsElements.{TbsElements}
 use Rattle.x509_types.specs.declared.certificate.Certificate.{Certificate}
-use Rattle.x509_types.specs.declared.extension.Extension.{Extension}
-
--- The element spells the extension, as it is written, or with a flag, its own or that of basic constraints, that DER doesn't have (X.690 11.1, 11.5).
-pub record IsSpelling (element : DerElement) (e : Extension) : Type 0 where
-  pub is : IsExtension element e
-  pub way : ((element ≡ extension e) ⊎ HasOtherFlag element (object_identifier e.extn_id) e.critical is.octets) ⊎ HasOtherConstraints is.octets e.extn_value
 
 -- all fields but the extensions
 abbrev pub without_extensions : TbsElements → TbsElements

@@ -1,9 +1,12 @@
--- How the element of an extension and the octets of its value may stand.
+-- How the elements of extensions and attributes may stand.
 use Rattle.std.proofs.Common.{◌≡◌, ◌⊎◌, inl, inr, ℕ, List, [], ◌∷◌, ◌++◌, refl, sym, ap, subst, ◌∙◌}
 use Rattle.std.specs.Prelude.{Bool}
 use Rattle.der_core.specs.DerElement.{DerElement, Primitive}
 use Rattle.der_core.specs.Encoding.{encoding}
-use Rattle.der_core.specs.Elements.{sequence}
+use Rattle.der_core.specs.Each.{AreEach, IsListOf}
+use Rattle.der_core.specs.Elements.{sequence, octet_string}
+use Rattle.der_core.specs.Facts.Lists.{printed_list}
+use Rattle.der_core.specs.Kept.{KeptElement}
 use Rattle.der_core.specs.Structure.{IsWithin}
 use Rattle.der_core.specs.Default.{IsDefaultFalse}
 use Rattle.asn1_types.specs.Elements.{object_identifier}
@@ -13,7 +16,14 @@ use Rattle.x509_values.specs.Facts.Constraints.{boolean_stands, constraints_spel
 use Rattle.x509_values.specs.declared.basic_constraints.BasicConstraints.{BasicConstraints}
 use Rattle.x509_types.specs.ExtensionView.{value_octets, IsValueIn}
 use Rattle.x509_types.specs.Extension.{extension, IsExtension}
-use Rattle.x509_types.specs.ExtensionSpellings.{HasOtherFlag, HasOtherConstraints}
+use Rattle.x509_types.specs.ExtensionSpellings.{HasOtherFlag, HasOtherConstraints, IsSpelling}
+use Rattle.x509_types.specs.TbsCertificate.{IsExtensions}
+use Rattle.x509_types.specs.AttributeValues.{AreAttributeValues}
+use Rattle.x509_types.specs.Attribute.{IsAttribute}
+use Rattle.x509_types.specs.AttributeSpellings.{AreSpelling, IsAttributeSpelling}
+use Rattle.x509_types.specs.declared.attribute.Attribute.{Attribute}
+use Rattle.x509_types.specs.declared.attribute_values.AttributeValues.{AttributeValues}
+use Rattle.x509_types.specs.declared.attribute_values.AttributeValues.TheVariants as variants
 use Rattle.x509_types.specs.declared.extension.Extension.{Extension}
 use Rattle.x509_types.specs.declared.extension_view.ExtensionView.{ExtensionView}
 use Rattle.x509_types.specs.declared.extension_view.ExtensionView.TheVariants as views
@@ -53,15 +63,36 @@ value_stands octets (views.AuthorityKeyIdentifier x) within = inl (written_octet
 value_stands octets (views.ExtendedKeyUsage x) within = inl (written_octets _ octets x within)
 value_stands octets (views.Raw x) same = inl same
 
-pub extension_stands : (element : DerElement) (e : Extension) (is : IsExtension element e)
-    → ((element ≡ extension e) ⊎ HasOtherFlag element (object_identifier e.extn_id) e.critical is.octets) ⊎ HasOtherConstraints is.octets e.extn_value
-extension_stands element e is =
-    elim (value_stands is.octets e.extn_value is.value) [
-      | inr other ↦ inr other
-      | inl value ↦ elim (flag_stands element (object_identifier e.extn_id) e.critical is.octets is.fields.flag is.fields.is is.fields.flagged) [
-        | inr other ↦ inl (inr other)
-        | inl flag ↦ inl (inl (is.fields.is
-            ∙ ap (λ (f : List DerElement). sequence (object_identifier e.extn_id ∷ (f ++ Primitive 0x04 is.octets ∷ []))) flag
-            ∙ ap (λ (o : List ℕ). sequence (object_identifier e.extn_id ∷ (default_false e.critical ++ Primitive 0x04 o ∷ []))) value))
-      ]
-    ]
+pub extension_spelling : (element : DerElement) (e : Extension) → IsExtension element e → IsSpelling element e
+extension_spelling element e is = record {
+  is = is;
+  flag = flag_stands element (object_identifier e.extn_id) e.critical is.octets is.fields.flag is.fields.is is.fields.flagged;
+  value = value_stands is.octets e.extn_value is.value;
+  same = λ flag value. is.fields.is
+      ∙ ap (λ (f : List DerElement). sequence (object_identifier e.extn_id ∷ (f ++ Primitive 0x04 is.octets ∷ []))) flag
+      ∙ ap (λ (o : List ℕ). sequence (object_identifier e.extn_id ∷ (default_false e.critical ++ Primitive 0x04 o ∷ []))) value;
+}
+
+each_spelling : (elements : List DerElement) (es : List Extension) → AreEach IsExtension elements es → AreEach IsSpelling elements es
+each_spelling [] [] each = tt
+each_spelling [] (e ∷ es) each = absurd each
+each_spelling (element ∷ elements) [] each = absurd each
+each_spelling (element ∷ elements) (e ∷ es) each = (extension_spelling element e each.0, each_spelling elements es each.1)
+
+pub list_spelling : (element : DerElement) (es : List Extension) → IsExtensions element es → IsListOf 0x30 IsSpelling element es
+list_spelling element es is = record { kids = is.kids; holds = is.holds; each = each_spelling is.kids es is.each }
+
+each_list : (elements : List DerElement) (lists : List (List Extension)) → AreEach IsExtensions elements lists → AreEach (IsListOf 0x30 IsSpelling) elements lists
+each_list [] [] each = tt
+each_list [] (es ∷ lists) each = absurd each
+each_list (element ∷ elements) [] each = absurd each
+each_list (element ∷ elements) (es ∷ lists) each = (list_spelling element es each.0, each_list elements lists each.1)
+
+values_spelling : (element : DerElement) (vs : AttributeValues) → AreAttributeValues element vs → AreSpelling element vs
+values_spelling element (variants.ContentType types) are = printed_list object_identifier 0x31 element types are
+values_spelling element (variants.MessageDigest digests) are = printed_list octet_string 0x31 element digests are
+values_spelling element (variants.Extensions requests) are = record { kids = are.kids; holds = are.holds; each = each_list are.kids requests are.each }
+values_spelling element (variants.Raw kept) are = printed_list (λ (k : KeptElement). k.element) 0x31 element kept are
+
+pub attribute_spelling : (element : DerElement) (a : Attribute) → IsAttribute element a → IsAttributeSpelling element a
+attribute_spelling element a is = record { values = is.values; is = is.is; alike = values_spelling is.values a.value is.spelled }

@@ -2,7 +2,6 @@
 use Rattle.std.specs.Prelude.{◌≡◌}
 use Rattle.der_core.specs.DerElement.{DerElement}
 use Rattle.der_core.specs.Structure.{Fits}
-use Rattle.x509_types.specs.TbsElements.{tbs_of}
 use Rattle.x509_types.specs.CertificateElements.{CertificateElements, certificate_of, AreCertificateFields}
 use Rattle.x509_types.specs.LentCertificate.{lent_elements}
 use Rattle.x509_types.specs.declared.cert_view.CertView.{CertView}
@@ -14,5 +13,4 @@ view_elements view = lent_elements view.fields view.algorithm.is.0 view.unused v
 -- The view is one of this element: its elements are those of the fields, and spell those of a certificate.
 pub record IsCertView (element : DerElement) (view : CertView) : Type 0 where
   pub is : element ≡ certificate_of (view_elements view)
-  pub tbs : view.tbs.is.0 ≡ tbs_of (view_elements view).tbs
   pub fits : Fits AreCertificateFields (view_elements view)

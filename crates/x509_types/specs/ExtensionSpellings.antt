@@ -1,10 +1,15 @@
 -- The two ways in which an element that spells an extension is another than the one that is written for it.
-use Rattle.std.specs.Prelude.{◌≡◌, ◌≢◌, ℕ, ◌==◌, Bool, not, List, [], ◌∷◌}
+use Rattle.std.specs.Prelude.{◌≡◌, ◌≢◌, ◌⊎◌, ℕ, ◌==◌, Bool, not, List, [], ◌∷◌}
 use Rattle.der_core.specs.DerElement.{DerElement, Primitive}
 use Rattle.der_core.specs.Encoding.{encoding}
 use Rattle.der_core.specs.Elements.{sequence}
+use Rattle.der_core.specs.Default.{default_false}
+use Rattle.asn1_types.specs.Elements.{object_identifier}
 use Rattle.x509_values.specs.BasicConstraints.{HasOtherTrue}
 use Rattle.x509_values.specs.declared.basic_constraints.BasicConstraints.{BasicConstraints}
+use Rattle.x509_types.specs.Extension.{extension, IsExtension}
+use Rattle.x509_types.specs.ExtensionView.{value_octets}
+use Rattle.x509_types.specs.declared.extension.Extension.{Extension}
 use Rattle.x509_types.specs.declared.extension_view.ExtensionView.{ExtensionView}
 use Rattle.x509_types.specs.declared.extension_view.ExtensionView.TheVariants as views
 
@@ -22,3 +27,11 @@ pub record HasOtherConstraints (octets : List ℕ) (view : ExtensionView) : Type
   pub other : HasOtherTrue element constraints
   pub valued : view ≡ views.BasicConstraints constraints
   pub are : octets ≡ encoding element
+
+-- The element spells the extension. Its flag stands as it is written, or in another octet; and, whichever it is, the octets of its value
+-- are the written ones, or have another TRUE. Where both are as they are written, so is the element.
+pub record IsSpelling (element : DerElement) (e : Extension) : Type 0 where
+  pub is : IsExtension element e
+  pub flag : (is.fields.flag ≡ default_false e.critical) ⊎ HasOtherFlag element (object_identifier e.extn_id) e.critical is.octets
+  pub value : (is.octets ≡ value_octets e.extn_value) ⊎ HasOtherConstraints is.octets e.extn_value
+  pub same : is.fields.flag ≡ default_false e.critical → is.octets ≡ value_octets e.extn_value → element ≡ extension e

@@ -14,6 +14,7 @@ pub mod CertificateView
 pub mod AttributeKind
 pub mod AttributeValues
 pub mod Attribute
+pub mod AttributeSpellings
 pub mod CertificateFields
 pub mod InnerFields
 pub mod FirstExtension

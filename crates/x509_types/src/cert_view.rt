@@ -2,7 +2,12 @@
 
 ghost use Rattle.der_core.specs.Structure.{Fits};
 ghost use Rattle.x509_types.specs.CertificateElements.{AreCertificateFields};
+ghost use Rattle.std.specs.Prelude.{◌≡◌};
+ghost use Rattle.std.specs.Coded.{Coded-set};
+ghost use Rattle.der_core.specs.Facts.Codes.{coded_element};
 ghost use Rattle.x509_types.specs.LentCertificate.{lent_elements};
+ghost use Rattle.x509_types.specs.LentTbs.{elements_at};
+ghost use Rattle.x509_types.specs.TbsElements.{tbs_of};
 
 use crate::inner_fields::{key_parts, times_at};
 use crate::tbs_fields::TbsFields;
@@ -19,6 +24,7 @@ pub struct CertView<'a> {
     algorithm: Elem<'a>,
     unused: u8,
     signature: &'a [u8],
+    ghost signed: { tbs.is.0 ≡ tbs_of (elements_at fields) } by { Coded-set coded_element tbs.is.0 (tbs_of (elements_at fields)) },
     ghost fits: { ∥ Fits AreCertificateFields (lent_elements fields algorithm.is.0 unused signature.now) ∥₁ },
 }
 
@@ -59,7 +65,7 @@ impl<'a> CertView<'a> {
 
     /// The octets of what is signed.
     pub fn tbs(&self) -> &'a [u8]
-        ensures { result.now ≡ encoding self.now.tbs.is.0 }
+        ensures { result.now ≡ encoding (tbs_of (view_elements self.now).tbs) }
     {
         self.tbs.whole
     }

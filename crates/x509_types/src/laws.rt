@@ -1,26 +1,31 @@
 //! Laws on extensions and certificates.
 
-ghost use Rattle.std.specs.Prelude.{◌≡◌, ◌⊎◌, ℕ, List};
+ghost use Rattle.std.specs.Prelude.{ℕ, List};
 ghost use Rattle.der_core.specs.DerElement.{DerElement};
-ghost use Rattle.asn1_types.specs.Elements.{object_identifier};
 ghost use Rattle.x509_types.specs.Certificate.{IsCertificate};
 ghost use Rattle.x509_types.specs.CertificateElements.{CertificateElements, AreCertificateFields};
 ghost use Rattle.x509_types.specs.CertificateView.{IsCertView, view_elements};
-ghost use Rattle.x509_types.specs.Extension.{extension, IsExtension};
-ghost use Rattle.x509_types.specs.ExtensionSpellings.{HasOtherFlag, HasOtherConstraints};
+ghost use Rattle.x509_types.specs.Attribute.{IsAttribute};
+ghost use Rattle.x509_types.specs.AttributeSpellings.{IsAttributeSpelling};
+ghost use Rattle.x509_types.specs.Extension.{IsExtension};
+ghost use Rattle.x509_types.specs.ExtensionSpellings.{IsSpelling};
 ghost use Rattle.x509_types.specs.FirstOfValue.{AreFirstOf};
 ghost use Rattle.x509_types.specs.InnerFields.{AreInnerFields};
+ghost use Rattle.x509_types.specs.declared.attribute.Attribute.{Attribute};
 ghost use Rattle.x509_types.specs.declared.cert_view.CertView.{CertView};
 ghost use Rattle.x509_types.specs.declared.certificate.Certificate.{Certificate};
 ghost use Rattle.x509_types.specs.declared.extension.Extension.{Extension};
 
 /// What is read of an element as an extension is written as that element, unless its flag or that of
-/// basic constraints in it stands otherwise than DER has it (X.690 11.1, 11.5).
+/// basic constraints in it stands otherwise than DER has it (X.690 11.1, 11.5), each on its own.
 pub fn extensions_are_written_as_read()
-    ensures { (element : DerElement) (e : Extension) (is : IsExtension element e)
-        → ((element ≡ extension e)
-        ⊎ HasOtherFlag element (object_identifier e.extn_id) e.critical is.octets)
-        ⊎ HasOtherConstraints is.octets e.extn_value }
+    ensures { (element : DerElement) (e : Extension) → IsExtension element e → IsSpelling element e }
+{}
+
+/// What is read of an element as an attribute is written as that element, but for the extensions that
+/// it asks for, of which the same holds.
+pub fn attributes_are_written_as_read()
+    ensures { (element : DerElement) (a : Attribute) → IsAttribute element a → IsAttributeSpelling element a }
 {}
 
 /// What lies in a certificate are the fields of the value that is read of it.

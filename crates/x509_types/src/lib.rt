@@ -31,8 +31,9 @@ pub use extension_kind::ExtensionKind;
 pub use extension_view::ExtensionView;
 pub use key_types::{AlgorithmIdentifier, KeyKind, RsaPublicKey, SubjectKey, SubjectPublicKeyInfo};
 pub use laws::{
-    extensions_are_written_as_read, first_extensions_are_those_of_certificates,
-    times_and_keys_are_those_of_certificates, views_lend_what_certificates_have,
+    attributes_are_written_as_read, extensions_are_written_as_read,
+    first_extensions_are_those_of_certificates, times_and_keys_are_those_of_certificates,
+    views_lend_what_certificates_have,
 };
 pub use tbs_certificate::TbsCertificate;
 pub use version::Version;

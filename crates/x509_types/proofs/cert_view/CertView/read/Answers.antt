@@ -20,7 +20,7 @@ pub invariant_of-result : goal.invariant_of-result
 invariant_of-result c =
     let bits = c.in_ok-contents.ensures ∙ ap (Primitive 0x03) c.in_ok-unused.ensures.cases.0 in
     let f = lent_elements c.in_ok-fields.fields c.in-Some.algorithm.is.0 c.in_ok-unused.unused.now c.in_ok-unused.signature.now in
-    record { fits = merely (all_spelled f c.in-Some.value.is.0 c.in_ok-expect_shapes.ensures c.in_ok-expect.ensures c.in_ok-expect-2.ensures bits) }
+    record { signed = c.in_ok-fields.ensures; fits = merely (all_spelled f c.in-Some.value.is.0 c.in_ok-expect_shapes.ensures c.in_ok-expect.ensures c.in_ok-expect-2.ensures bits) }
 
 pub returns : goal.returns
 returns c =
@@ -28,6 +28,5 @@ returns c =
     let f = lent_elements c.in_ok-fields.fields c.in-Some.algorithm.is.0 c.in_ok-unused.unused.now c.in_ok-unused.signature.now in
     record {
       is = around _ c.in-Some.tbs.is.0 c.in-Some.algorithm.is.0 c.in-Some.value.is.0 f c.in-Some.ensures c.in_ok-fields.ensures refl bits;
-      tbs = c.in_ok-fields.ensures;
       fits = all_spelled f c.in-Some.value.is.0 c.in_ok-expect_shapes.ensures c.in_ok-expect.ensures c.in_ok-expect-2.ensures bits;
     }
