@@ -2,6 +2,7 @@
 use Rattle.std.specs.Prelude.{◌≡◌}
 use Rattle.der_core.specs.DerElement.{DerElement}
 use Rattle.cms_types.specs.Lent.{signed_data_at}
+use Rattle.cms_types.specs.Levels.{AreSignedDataFields}
 use Rattle.cms_types.specs.SignedDataElements.{SignedDataElements, signed_data_of}
 use Rattle.cms_types.specs.Pkcs7Elements.{pkcs7_of}
 use Rattle.cms_types.specs.Pkcs7.{pkcs7}
@@ -12,8 +13,9 @@ use Rattle.cms_types.specs.declared.signed_view.SignedView.{SignedView}
 abbrev pub view_elements : SignedView → SignedDataElements
 view_elements view = signed_data_at view.fields
 
--- The view is one of this element: its elements are those of the fields, and it is that of a value.
+-- The view is one of this element: its elements are those of the fields, each of its shape, and it is that of a value.
 pub record IsSignedView (element : DerElement) (view : SignedView) : Type 0 where
   pub is : element ≡ pkcs7_of (signed_data_of (view_elements view))
+  pub fields : AreSignedDataFields (view_elements view)
   pub value : Pkcs7Certificate
   pub spelled : element ≡ pkcs7 value

@@ -4,6 +4,7 @@ use Rattle.der_core.specs.DerElement.{DerElement, Primitive}
 use Rattle.der_core.specs.Elements.{sequence}
 use Rattle.der_core.specs.Encoding.{encoding}
 use Rattle.cms_types.specs.Lent.{signer_at}
+use Rattle.cms_types.specs.Levels.{AreSignerFields}
 use Rattle.cms_types.specs.SignerElements.{SignerElements, signer_of}
 use Rattle.cms_types.specs.SignerInfo.{signer_info}
 use Rattle.cms_types.specs.declared.signer_info.SignerInfo.{SignerInfo}
@@ -13,9 +14,10 @@ use Rattle.cms_types.specs.declared.signer_view.SignerView.{SignerView}
 abbrev pub signer_elements_at : SignerView → SignerElements
 signer_elements_at view = signer_at view.fields
 
--- The view is one of this element: its elements are those of the fields, and it is that of a signer.
+-- The view is one of this element: its elements are those of the fields, each of its shape, and it is that of a signer.
 pub record IsSignerView (element : DerElement) (view : SignerView) : Type 0 where
   pub is : element ≡ signer_of (signer_elements_at view)
+  pub fields : AreSignerFields (signer_elements_at view)
   pub value : SignerInfo
   pub spelled : element ≡ signer_info value
 

@@ -4,13 +4,17 @@ ghost use Rattle.std.specs.Prelude.{◌≡◌};
 ghost use Rattle.der_core.specs.DerElement.{DerElement};
 ghost use Rattle.der_core.specs.Encoding.{IsDer};
 ghost use Rattle.cms_types.specs.Pkcs7.{pkcs7};
-ghost use Rattle.cms_types.specs.SignedData.{signed_data};
-ghost use Rattle.cms_types.specs.SignerInfo.{signer_info};
+ghost use Rattle.cms_types.specs.SignedData.{signed_data, signed_data_elements};
+ghost use Rattle.cms_types.specs.SignedView.{view_elements, IsSignedView};
+ghost use Rattle.cms_types.specs.SignerInfo.{signer_info, signer_elements};
+ghost use Rattle.cms_types.specs.SignerView.{signer_elements_at, IsSignerView};
 ghost use Rattle.cms_types.specs.Signers.{IsSignerInfo, IsUnsignedAttribute, IsSignedData, IsPkcs7};
 ghost use Rattle.cms_types.specs.UnsignedAttribute.{unsigned_attribute};
 ghost use Rattle.cms_types.specs.declared.pkcs7.Pkcs7Certificate.{Pkcs7Certificate};
 ghost use Rattle.cms_types.specs.declared.signed_data.SignedData.{SignedData};
+ghost use Rattle.cms_types.specs.declared.signed_view.SignedView.{SignedView};
 ghost use Rattle.cms_types.specs.declared.signer_info.SignerInfo.{SignerInfo};
+ghost use Rattle.cms_types.specs.declared.signer_view.SignerView.{SignerView};
 ghost use Rattle.cms_types.specs.declared.unsigned_attribute.UnsignedAttribute.{UnsignedAttribute};
 
 /// What signers, unsigned attributes and signed data are is said on elements alone, since they hold
@@ -24,4 +28,10 @@ pub fn shapes_are_those_of_values()
     ensures of_signed { (value : SignedData) → ∥ IsSignedData (signed_data value) ∥₁ }
     ensures tokens { (element : DerElement) → IsDer element → IsPkcs7 element → (value : Pkcs7Certificate) × (element ≡ pkcs7 value) }
     ensures of_tokens { (value : Pkcs7Certificate) → ∥ IsPkcs7 (pkcs7 value) ∥₁ }
+{}
+
+/// What lies in signed data, and in a signer, are the fields of the value that is read of it.
+pub fn views_lend_what_signed_data_has()
+    ensures signed { (element : DerElement) (view : SignedView) (value : Pkcs7Certificate) → IsSignedView element view → element ≡ pkcs7 value → view_elements view ≡ signed_data_elements value.signed_data }
+    ensures signers { (element : DerElement) (view : SignerView) (value : SignerInfo) → IsSignerView element view → element ≡ signer_info value → signer_elements_at view ≡ signer_elements value }
 {}

@@ -38,7 +38,7 @@ pub use content_types::{
     SpcAttributeTypeAndOptionalValue, SpcIndirectDataContent, TimestampRequest,
 };
 pub use issuer_and_serial::IssuerAndSerialNumber;
-pub use laws::shapes_are_those_of_values;
+pub use laws::{shapes_are_those_of_values, views_lend_what_signed_data_has};
 pub use opus_info::SpcSpOpusInfo;
 pub use pkcs7::Pkcs7Certificate;
 pub use raw_certificate::{OtherCertificate, RawCertificate};

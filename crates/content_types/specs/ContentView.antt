@@ -1,14 +1,14 @@
--- A content with its type where its octets lie.
-use Rattle.std.specs.Prelude.{◌≡◌, ℕ, List, Option}
-use Rattle.der_core.specs.DerElement.{DerElement, Primitive}
-use Rattle.content_types.specs.ContentInfoElements.{content_info_of}
+-- The view of a content with its type.
+use Rattle.std.specs.Prelude.{◌≡◌}
+use Rattle.der_core.specs.DerElement.{DerElement}
+use Rattle.der_core.specs.Lent.{at_option}
 use Rattle.content_types.specs.ContentInfo.{content_info}
+use Rattle.content_types.specs.LentContent.{lent_content}
 use Rattle.content_types.specs.declared.content_info.EncapsulatedContentInfo.{EncapsulatedContentInfo}
+use Rattle.content_types.specs.declared.content_view.ContentView.{ContentView}
 
--- the element of the contents octets of an identifier, and of a content
-abbrev pub lent_content : List ℕ → Option DerElement → DerElement
-lent_content content_type content = content_info_of (Primitive 0x06 content_type) content
-
--- they are those of a content with its type
-abbrev pub HasContent : List ℕ → Option DerElement → Type 0
-HasContent content_type content = (info : EncapsulatedContentInfo) × (lent_content content_type content ≡ content_info info)
+-- The view is one of this element: its type and its content lie there, and it is that of a value.
+pub record IsContentView (element : DerElement) (view : ContentView) : Type 0 where
+  pub is : element ≡ lent_content view.content_type.now (at_option view.content)
+  pub value : EncapsulatedContentInfo
+  pub spelled : element ≡ content_info value

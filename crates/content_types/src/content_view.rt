@@ -1,7 +1,7 @@
 //! Contents with their types, where their octets lie.
 
 ghost use Rattle.der_core.specs.Lent.{at_option};
-ghost use Rattle.content_types.specs.ContentView.{HasContent};
+ghost use Rattle.content_types.specs.LentContent.{HasContent};
 
 use crate::content_info::{EncapsulatedContentInfo, Fields};
 use der_core::tag::OBJECT_IDENTIFIER;
@@ -18,14 +18,14 @@ pub struct ContentView<'a> {
 impl<'a> ContentView<'a> {
     ghost use Rattle.std.specs.Prelude.{◌≡◌, ◌≢◌, MatchOption};
     ghost use Rattle.content_types.specs.ContentInfo.{content_info};
-    ghost use Rattle.content_types.specs.ContentView.{lent_content};
+    ghost use Rattle.content_types.specs.ContentView.{IsContentView};
     ghost use Rattle.content_types.specs.declared.content_info.EncapsulatedContentInfo.{EncapsulatedContentInfo};
 
     /// The content that an element spells.
     pub fn read(elem: Elem<'a>) -> Option<ContentView<'a>>
         ensures { MatchOption result
             ((info : EncapsulatedContentInfo) → elem.entry.is.0 ≢ content_info info)
-            (λ view. elem.entry.is.0 ≡ lent_content view.content_type.now (at_option view.content)) }
+            (IsContentView elem.entry.is.0) }
     {
         let fields = Fields::of(elem)?;
         let content_type = leaf_at(fields.content_type, OBJECT_IDENTIFIER)?;

@@ -10,4 +10,4 @@ unreachable-requires c = data_has_content _ c.args.self.now.fits c.in-None.ensur
 pub returns : goal.returns
 returns c =
     let content_type = Primitive 0x06 c.in-Some.view.content_type.now in
-    (content_type, c.in-Some.ensures ∙ ap (content_info_of content_type) (sym c.content.ensures))
+    (content_type, c.in-Some.ensures.is ∙ ap (content_info_of content_type) (sym c.content.ensures))

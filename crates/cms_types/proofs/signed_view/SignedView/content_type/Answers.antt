@@ -11,4 +11,4 @@ unreachable-requires c = data_has_content _ c.args.self.now.fits c.in-None.ensur
 pub returns : goal.returns
 returns c =
     let content = at_option c.in-Some.view.content in
-    (content, c.in-Some.ensures ∙ ap (λ (octets : List ℕ). content_info_of (Primitive 0x06 octets) content) (sym c.content_type.ensures))
+    (content, c.in-Some.ensures.is ∙ ap (λ (octets : List ℕ). content_info_of (Primitive 0x06 octets) content) (sym c.content_type.ensures))

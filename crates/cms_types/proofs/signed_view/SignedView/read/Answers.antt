@@ -15,4 +15,4 @@ invariant_of-result c = record { fits = merely (viewed_value _ _ c.in_ok-fields.
 pub returns : goal.returns
 returns c =
     let v = read_value _ _ _ c.in_ok-signed_data.signed_data.is.1.0 c.in_ok-signed_data.ensures c.in_ok-fields.ensures (c.is_signed_data.ensures.fits (search rules)) in
-    record { is = v.0; value = v.1.0; spelled = v.1.1 }
+    record { is = v.0; fields = c.in_ok-fields.ensures.fields; value = v.1.0; spelled = v.1.1 }

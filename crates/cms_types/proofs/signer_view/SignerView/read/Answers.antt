@@ -16,4 +16,4 @@ invariant_of-result c = record { fits = merely (viewed_signer _ _ c.in_ok-fields
 pub returns : goal.returns
 returns c =
     let s = value_of_signer _ c.args.elem.is.1.0 (c.is_signer_info.ensures.fits (search rules)) in
-    record { is = c.in_ok-fields.ensures.is; value = s.0; spelled = s.1 }
+    record { is = c.in_ok-fields.ensures.is; fields = c.in_ok-fields.ensures.fields; value = s.0; spelled = s.1 }

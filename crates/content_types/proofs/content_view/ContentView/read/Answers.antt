@@ -16,4 +16,6 @@ invariant_of-result c =
     record { fits = merely (fit.0, sym is ∙ fit.1) }
 
 pub returns : goal.returns
-returns c = c.in_ok-fields.ensures ∙ ap (λ (t : DerElement). content_info_of t (at_option c.in_ok-fields.fields.content)) c.in_ok-content_type.ensures
+returns c =
+    let fit = c.has_shape.ensures.fits (search rules) in
+    record { is = c.in_ok-fields.ensures ∙ ap (λ (t : DerElement). content_info_of t (at_option c.in_ok-fields.fields.content)) c.in_ok-content_type.ensures; value = fit.0; spelled = fit.1 }
