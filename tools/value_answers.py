@@ -26,6 +26,7 @@ import cms_rows
 import hostile_certificates as hostile
 import kept_private_keys
 import private_keys
+import signature_rows
 import structure_rows as structures
 import value_rows as values
 import whole_certificates
@@ -724,6 +725,7 @@ def structure_rows():
     yield from curve_rows()
     yield from made_private_key_rows()
     yield from kept_private_keys.kept_rows()
+    yield from signature_rows.signature_rows()
 
 
 def stored_run(program, rows_and_lines):

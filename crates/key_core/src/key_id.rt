@@ -38,7 +38,8 @@ pub enum KeyIdGenMethod {
 /// Why a key has no identifier.
 #[derive(Clone, Copy, Debug, PartialEq, Eq, Error)]
 pub enum KeyIdGenError {
-    /// The key can't be written, or the method isn't one for keys. Never with want of memory.
+    /// The key can't be written, or the digest has fewer octets than the identifier. Never with want of
+    /// memory.
     InvalidKey { source: KeyError },
     /// What the bits of the key hold can't be written. Never with want of memory.
     Asn1Serialization { element: Element, source: DerError },

@@ -1,5 +1,5 @@
 //! Keys: public keys, and private keys with their algorithms (RFC 5208 5, RFC 5958 2), as values,
-//! read from octets or trees and written as trees. The structures that they are made of stand in
+//! read from octets or trees and written as either. The structures that they are made of stand in
 //! crates of their own, and are handed on here. With keys stand the algorithms of signatures and
 //! the identifiers of keys.
 #![tactic(auto)]

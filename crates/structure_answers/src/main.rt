@@ -16,7 +16,9 @@ mod making;
 mod points;
 mod private_keys;
 mod row;
+mod signatures;
 mod structures;
+mod views;
 
 use anyhow::{Result, bail};
 use std::io::{BufWriter, Write};

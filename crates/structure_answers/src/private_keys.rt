@@ -10,6 +10,18 @@ use std::alloc::Global;
 
 /// What is read or made, None where there is no such call.
 pub fn answer(alloc: Global, call: &str, args: &[&str]) -> Result<Option<String>> {
+    match key_of(alloc, call, args)? {
+        Some(key) => Ok(Some(shown(alloc, key)?)),
+        None => Ok(None),
+    }
+}
+
+/// The key that is read or made, or why there is none; None where there is no such call.
+pub fn key_of(
+    alloc: Global,
+    call: &str,
+    args: &[&str],
+) -> Result<Option<Result<PrivateKey, KeyError>>> {
     let scheme = DemoScheme::new();
     let key = match (call, args) {
         ("pkcs8", [octets]) => PrivateKey::from_pkcs8(alloc, &octets_of(alloc, octets)?, &scheme),
@@ -29,7 +41,7 @@ pub fn answer(alloc: Global, call: &str, args: &[&str]) -> Result<Option<String>
         ("ed_encoded", [oid, secret, public_key]) => ed_encoded(alloc, oid, secret, public_key)?,
         _ => return Ok(None),
     };
-    Ok(Some(shown(alloc, key)?))
+    Ok(Some(key))
 }
 
 /// The key on a known curve under a scheme that derives nothing.

@@ -1,6 +1,6 @@
 //! Rows, and who answers them.
 
-use crate::{keys, making, points, private_keys, structures};
+use crate::{keys, making, points, private_keys, signatures, structures, views};
 use anyhow::{Result, bail};
 use std::alloc::Global;
 
@@ -14,6 +14,8 @@ pub fn answer(alloc: Global, text: &str) -> Result<String> {
         ["key", call, args @ ..] => keys::answer(alloc, call, args)?,
         ["point", call, args @ ..] => points::answer(alloc, call, args)?,
         ["private", call, args @ ..] => private_keys::answer(alloc, call, args)?,
+        ["signature", call, args @ ..] => signatures::answer(alloc, call, args)?,
+        ["view", call, args @ ..] => views::answer(alloc, call, args)?,
         _ => None,
     };
     match answer {

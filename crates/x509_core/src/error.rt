@@ -57,12 +57,14 @@ pub enum CertCause {
 /// Why certificates are no chain.
 #[derive(Debug, Drop, Error)]
 pub enum CaChainError {
-    /// The certificate names another key as its authority's than the parent's.
+    /// The certificate names another key as its authority's than the parent's (RFC 5280 4.2.1.1):
+    /// `expected` is the identifier that the certificate names, `actual` the parent's own.
     AuthorityKeyIdMismatch {
         expected: Octets,
         actual: Octets,
     },
-    /// The issuer of the certificate isn't the subject of the parent.
+    /// The issuer of the certificate, `expected`, isn't the subject of the parent, `actual` (RFC 5280
+    /// 6.1.3).
     IssuerNameMismatch {
         expected: DirectoryName,
         actual: DirectoryName,

@@ -63,56 +63,57 @@ impl<'a> CertView<'a> {
         })
     }
 
-    /// The octets of what is signed.
+    /// The encoding of the TBSCertificate, which is what is signed (RFC 5280 4.1.1.1).
     pub fn tbs(&self) -> &'a [u8]
         ensures { result.now ≡ encoding (tbs_of (view_elements self.now).tbs) }
     {
         self.tbs.whole
     }
 
-    /// The octets of the name of the issuer.
+    /// The encoding of the Name of the issuer (RFC 5280 4.1.2.4).
     pub fn issuer(&self) -> &'a [u8]
         ensures { result.now ≡ encoding (view_elements self.now).tbs.issuer }
     {
         self.fields.issuer.whole
     }
 
-    /// The octets of the name of the subject.
+    /// The encoding of the Name of the subject (RFC 5280 4.1.2.6).
     pub fn subject(&self) -> &'a [u8]
         ensures { result.now ≡ encoding (view_elements self.now).tbs.subject }
     {
         self.fields.subject.whole
     }
 
-    /// The contents octets of the serial number.
+    /// The contents octets of the serial number, an INTEGER (RFC 5280 4.1.2.2).
     pub fn serial(&self) -> &'a [u8]
         ensures { result.now ≡ (view_elements self.now).tbs.serial_number }
     {
         self.fields.serial_number
     }
 
-    /// The version, where it is given.
+    /// The INTEGER of the version, where it is given (RFC 5280 4.1.2.1).
     pub fn version(&self) -> Option<Elem<'a>>
         ensures { at_option result ≡ (view_elements self.now).tbs.version }
     {
         self.fields.version
     }
 
-    /// The octets of the algorithm of the signature, of that in what is signed.
+    /// The encoding of the AlgorithmIdentifier of the signature that stands in what is signed (RFC 5280
+    /// 4.1.2.3).
     pub fn inner_algorithm(&self) -> &'a [u8]
         ensures { result.now ≡ encoding (view_elements self.now).tbs.signature }
     {
         self.fields.signature.whole
     }
 
-    /// The times between which the certificate is valid.
+    /// The element of the Validity, the times between which the certificate is valid (RFC 5280 4.1.2.5).
     pub fn validity(&self) -> Elem<'a>
         ensures { result.is.0 ≡ (view_elements self.now).tbs.validity }
     {
         self.fields.validity
     }
 
-    /// The time from which on the certificate is valid.
+    /// The time from which on the certificate is valid (RFC 5280 4.1.2.5).
     pub fn not_before(&self) -> Time
         ensures { not_before_of (view_elements self.now) ≡ Some (time result) }
     {
@@ -122,7 +123,7 @@ impl<'a> CertView<'a> {
         times.0
     }
 
-    /// The time up to which the certificate is valid.
+    /// The time up to which the certificate is valid (RFC 5280 4.1.2.5).
     pub fn not_after(&self) -> Time
         ensures { not_after_of (view_elements self.now) ≡ Some (time result) }
     {
@@ -132,14 +133,14 @@ impl<'a> CertView<'a> {
         times.1
     }
 
-    /// The key of the subject with its algorithm.
+    /// The element of the SubjectPublicKeyInfo (RFC 5280 4.1.2.7).
     pub fn subject_public_key_info(&self) -> Elem<'a>
         ensures { result.is.0 ≡ (view_elements self.now).tbs.subject_public_key_info }
     {
         self.fields.subject_public_key_info
     }
 
-    /// The octets of the algorithm of the key.
+    /// The encoding of the AlgorithmIdentifier of the key (RFC 5280 4.1.2.7).
     pub fn key_algorithm(&self) -> &'a [u8]
         ensures { option_map encoding (key_algorithm_of (view_elements self.now)) ≡ Some result.now }
     {
@@ -149,7 +150,7 @@ impl<'a> CertView<'a> {
         }
     }
 
-    /// The octets that hold the bits of the key.
+    /// The octets that hold the bits of the key, without the octet that counts unused bits.
     pub fn key(&self) -> &'a [u8]
         ensures { key_octets_of (view_elements self.now) ≡ Some result.now }
     {
@@ -159,35 +160,40 @@ impl<'a> CertView<'a> {
         }
     }
 
-    /// The contents octets of the unique identifier of the issuer, where it is given.
+    /// The contents octets of the unique identifier of the issuer, a BIT STRING, where it is given (RFC
+    /// 5280 4.1.2.8).
     pub fn issuer_unique_id(&self) -> Option<&'a [u8]>
         ensures { option_copied result ≡ (view_elements self.now).tbs.issuer_unique_id }
     {
         self.fields.issuer_unique_id
     }
 
-    /// The contents octets of the unique identifier of the subject, where it is given.
+    /// The contents octets of the unique identifier of the subject, a BIT STRING, where it is given (RFC
+    /// 5280 4.1.2.8).
     pub fn subject_unique_id(&self) -> Option<&'a [u8]>
         ensures { option_copied result ≡ (view_elements self.now).tbs.subject_unique_id }
     {
         self.fields.subject_unique_id
     }
 
-    /// The list of extensions, where it is given.
+    /// The element of the Extensions, without the explicit tag around it, where they are given (RFC 5280
+    /// 4.1.2.9).
     pub fn extensions(&self) -> Option<Elem<'a>>
         ensures { at_option result ≡ (view_elements self.now).tbs.extensions }
     {
         self.fields.extensions
     }
 
-    /// The octets of the algorithm of the signature, of that beside what is signed.
+    /// The encoding of the AlgorithmIdentifier of the signature that stands beside what is signed (RFC
+    /// 5280 4.1.1.2).
     pub fn algorithm(&self) -> &'a [u8]
         ensures { result.now ≡ encoding (view_elements self.now).algorithm }
     {
         self.algorithm.whole
     }
 
-    /// The octets that hold the bits of the signature.
+    /// The octets that hold the bits of the signature (RFC 5280 4.1.1.3), without the octet that counts
+    /// unused bits.
     pub fn signature(&self) -> &'a [u8]
         ensures { result.now ≡ (view_elements self.now).signature }
     {

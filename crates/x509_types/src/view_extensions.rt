@@ -31,7 +31,7 @@ impl<'a> CertView<'a> {
     }
 
     /// How many authorities may stand between this one and the end of a path (RFC 5280 4.2.1.9),
-    /// None for any number.
+    /// None where there are no basic constraints, or they set no limit.
     pub fn path_length(&self) -> Option<u8>
         ensures { MatchOption result
             ((number : ℕ) → HasPathLength (view_elements self.now) number → ⊥)

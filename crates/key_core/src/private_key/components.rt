@@ -27,7 +27,7 @@ use std::alloc::{AllocError, Global};
 
 impl PrivateKey {
     /// The key of this secret and of the point of these coordinates on the curve, each the most
-    /// significant octet first. It is `EC` exactly where a coordinate hasn't as many octets as the
+    /// significant octet first. It is `EC` with `CoordinateSize` exactly where a coordinate hasn't as many octets as the
     /// field of the curve. Neither the length of the secret is asked, nor whether the two belong
     /// together.
     pub fn from_ec_components(
@@ -73,8 +73,8 @@ impl PrivateKey {
     }
 
     /// The key of this secret and of the public key of these octets, where one is given, on the
-    /// curve 25519 or 448 that the identifier names. How many octets there are isn't asked, nor
-    /// whether the two belong together.
+    /// curve 25519 or 448 that the identifier names, which has to be that of Ed25519, X25519, Ed448 or
+    /// X448 (RFC 8410 3). How many octets there are isn't asked, nor whether the two belong together.
     pub fn from_ed_encoded_components(
         alloc: Global,
         algorithm_oid: ObjectIdentifier,

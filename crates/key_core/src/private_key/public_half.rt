@@ -16,7 +16,7 @@ use std::alloc::{AllocError, Global};
 
 impl PrivateKey {
     /// The public key: of RSA the modulus and the public exponent, of a curve what was given, read
-    /// or derived. It is `EC` or `ED` exactly where there is none.
+    /// or derived. It is `EC` or `ED` with `PublicKeyMissing` exactly where there is none.
     pub fn to_public_key(&self, alloc: Global) -> Result<PublicKey, KeyError>
         ensures answer { MatchResult result
             (λ key. IsPublicHalf self.now.info.private_key self.now.info.private_key_algorithm self.now.public_key key.info)
