@@ -10,14 +10,14 @@ use std::alloc::{AllocError, Global};
 
 /// The answer of the value that is kept, a bar, and that of the one that is lent.
 pub fn answer(alloc: Global, octets: &[u8]) -> Result<String> {
-    let kept = kept(alloc, octets)?;
+    let kept = kept::<Pkcs7Certificate>(alloc, octets)?;
     let lent = lent(alloc, octets)?;
     Ok(format!(in alloc; "{kept} | {lent}")?)
 }
 
-/// Whether the signed data comes back as it was read, and the digest of its fields; or the refusal.
-fn kept(alloc: Global, octets: &[u8]) -> Result<String, DerError> {
-    let value = match Pkcs7Certificate::from_der(alloc, octets) {
+/// Whether the value comes back as it was read, and the digest of its fields; or the refusal.
+fn kept<T: Structure + Details>(alloc: Global, octets: &[u8]) -> Result<String, DerError> {
+    let value = match T::from_der(alloc, octets) {
         Ok(value) => value,
         Err(error) => return refusal(alloc, error),
     };
@@ -26,11 +26,11 @@ fn kept(alloc: Global, octets: &[u8]) -> Result<String, DerError> {
     Ok(format!(in alloc; "{word} {digest}")?)
 }
 
-/// Whether the signed data and its copy are written as the octets.
-fn word_of_copies(
+/// Whether the value and its copy are written as the octets.
+fn word_of_copies<T: Structure>(
     alloc: Global,
     octets: &[u8],
-    value: &Pkcs7Certificate,
+    value: &T,
 ) -> Result<&'static str, DerError> {
     let written = value.to_der(alloc)?;
     let copied = value.try_clone(alloc)?.to_der(alloc)?;
