@@ -1,1 +1,2 @@
 pub mod ECFields
+mod RsaFields

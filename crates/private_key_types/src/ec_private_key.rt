@@ -93,10 +93,14 @@ impl Structure for ECPrivateKey {
         let Some(fields) = Fields::of(elem) else {
             return Err(DerError::Shape);
         };
+        let parameters = read_option(alloc, fields.parameters)?;
+        let public_key = read_option(alloc, fields.public_key)?;
+        // The number is last: nothing is refused after it, so it is dropped in a key alone.
+        let private_key = Octets::read_at(alloc, fields.private_key)?;
         Ok(ECPrivateKey {
-            private_key: Octets::read_at(alloc, fields.private_key)?,
-            parameters: read_option(alloc, fields.parameters)?,
-            public_key: read_option(alloc, fields.public_key)?,
+            private_key,
+            parameters,
+            public_key,
         })
     }
 
@@ -110,10 +114,12 @@ impl Structure for ECPrivateKey {
     }
 
     fn try_clone(&self, alloc: Global) -> Result<ECPrivateKey, AllocError> {
+        let parameters = copy_option(alloc, &self.parameters)?;
+        let public_key = copy_option(alloc, &self.public_key)?;
         Ok(ECPrivateKey {
             private_key: self.private_key.try_clone(alloc)?,
-            parameters: copy_option(alloc, &self.parameters)?,
-            public_key: copy_option(alloc, &self.public_key)?,
+            parameters,
+            public_key,
         })
     }
 

@@ -1,6 +1,8 @@
 //! Private keys of RSA.
 
-ghost use Rattle.std.specs.Prelude.{◌≡◌, ◌≢◌, ◌↔◌, IsTrue, MatchOption};
+ghost use Rattle.std.specs.Prelude.{◌≡◌, ◌≢◌, ◌↔◌, IsTrue, IfOk, MatchOption, MatchResult};
+ghost use Rattle.asn1_types.specs.Elements.{integer};
+ghost use Rattle.der_core.specs.Refusals.{RefusesShape};
 ghost use Rattle.private_key_types.specs.RsaPrivateKey.{two_prime, rsa_private_key, rsa_private_key_of};
 ghost use Rattle.der_core.specs.Structure.{Fits};
 
@@ -104,6 +106,93 @@ fn two_prime(elem: Elem<'_>) -> Option<()>
     }
 }
 
+/// Two numbers of a key that isn't whole yet, which are overwritten where they are dropped.
+struct TwoNumbers {
+    one: IntegerAsn1,
+    other: IntegerAsn1,
+}
+
+impl Drop for TwoNumbers {
+    fn drop(self) {
+        let TwoNumbers { one, other } = self;
+        one.overwrite();
+        other.overwrite();
+    }
+}
+
+impl TwoNumbers {
+    /// The numbers of two elements.
+    fn read(alloc: Global, one: Elem<'_>, other: Elem<'_>) -> Result<TwoNumbers, DerError>
+        ensures { MatchResult result
+            (λ two. (one.entry.is.0 ≡ integer two.one) × (other.entry.is.0 ≡ integer two.other))
+            (RefusesShape (λ (two : TwoNumbers). (one.entry.is.0 ≡ integer two.one) × (other.entry.is.0 ≡ integer two.other))) }
+    {
+        let one = IntegerAsn1::read_at(alloc, one)?;
+        match IntegerAsn1::read_at(alloc, other) {
+            Ok(other) => Ok(TwoNumbers { one, other }),
+            Err(refusal) => {
+                one.overwrite();
+                Err(refusal)
+            }
+        }
+    }
+
+    /// Copies of two numbers.
+    fn copy(alloc: Global, one: &IntegerAsn1, other: &IntegerAsn1) -> Result<TwoNumbers, AllocError>
+        ensures { IfOk result (λ two. (two.one ≡ one.now) × (two.other ≡ other.now)) }
+    {
+        let one = one.try_clone(alloc)?;
+        match other.try_clone(alloc) {
+            Ok(other) => Ok(TwoNumbers { one, other }),
+            Err(refusal) => {
+                one.overwrite();
+                Err(refusal)
+            }
+        }
+    }
+
+    fn into_numbers(self) -> (IntegerAsn1, IntegerAsn1)
+        ensures { result ≡ (self.one, self.other) }
+    {
+        let TwoNumbers { one, other } = self;
+        (one, other)
+    }
+}
+
+/// The key of its numbers, two by two.
+fn of_numbers(
+    public: TwoNumbers,
+    first: TwoNumbers,
+    second: TwoNumbers,
+    third: TwoNumbers,
+) -> RsaPrivateKey
+    ensures { result ≡ record {
+      modulus = public.one;
+      public_exponent = public.other;
+      private_exponent = first.one;
+      prime1 = first.other;
+      prime2 = second.one;
+      exponent1 = second.other;
+      exponent2 = third.one;
+      coefficient = third.other;
+    } }
+{
+    let (modulus, public_exponent) = public.into_numbers();
+    let (private_exponent, prime1) = first.into_numbers();
+    let (prime2, exponent1) = second.into_numbers();
+    let (exponent2, coefficient) = third.into_numbers();
+    RsaPrivateKey {
+        modulus,
+        public_exponent,
+        private_exponent,
+        prime1,
+        prime2,
+        exponent1,
+        exponent2,
+        coefficient,
+    }
+}
+
 impl Structure for RsaPrivateKey {
     ghost use Rattle.private_key_types.specs.Facts.RsaPrivateKeys.{rsa_private_keys};
 
@@ -119,16 +208,11 @@ impl Structure for RsaPrivateKey {
         let Some(fields) = Fields::of(elem) else {
             return Err(DerError::Shape);
         };
-        Ok(RsaPrivateKey {
-            modulus: IntegerAsn1::read_at(alloc, fields.modulus)?,
-            public_exponent: IntegerAsn1::read_at(alloc, fields.public_exponent)?,
-            private_exponent: IntegerAsn1::read_at(alloc, fields.private_exponent)?,
-            prime1: IntegerAsn1::read_at(alloc, fields.prime1)?,
-            prime2: IntegerAsn1::read_at(alloc, fields.prime2)?,
-            exponent1: IntegerAsn1::read_at(alloc, fields.exponent1)?,
-            exponent2: IntegerAsn1::read_at(alloc, fields.exponent2)?,
-            coefficient: IntegerAsn1::read_at(alloc, fields.coefficient)?,
-        })
+        let public = TwoNumbers::read(alloc, fields.modulus, fields.public_exponent)?;
+        let first = TwoNumbers::read(alloc, fields.private_exponent, fields.prime1)?;
+        let second = TwoNumbers::read(alloc, fields.prime2, fields.exponent1)?;
+        let third = TwoNumbers::read(alloc, fields.exponent2, fields.coefficient)?;
+        Ok(of_numbers(public, first, second, third))
     }
 
     fn write(&self, alloc: Global) -> Result<Tree, DerError> {
@@ -146,16 +230,11 @@ impl Structure for RsaPrivateKey {
     }
 
     fn try_clone(&self, alloc: Global) -> Result<RsaPrivateKey, AllocError> {
-        Ok(RsaPrivateKey {
-            modulus: self.modulus.try_clone(alloc)?,
-            public_exponent: self.public_exponent.try_clone(alloc)?,
-            private_exponent: self.private_exponent.try_clone(alloc)?,
-            prime1: self.prime1.try_clone(alloc)?,
-            prime2: self.prime2.try_clone(alloc)?,
-            exponent1: self.exponent1.try_clone(alloc)?,
-            exponent2: self.exponent2.try_clone(alloc)?,
-            coefficient: self.coefficient.try_clone(alloc)?,
-        })
+        let public = TwoNumbers::copy(alloc, &self.modulus, &self.public_exponent)?;
+        let first = TwoNumbers::copy(alloc, &self.private_exponent, &self.prime1)?;
+        let second = TwoNumbers::copy(alloc, &self.prime2, &self.exponent1)?;
+        let third = TwoNumbers::copy(alloc, &self.exponent2, &self.coefficient)?;
+        Ok(of_numbers(public, first, second, third))
     }
 
     ghost grammar = { rsa_private_keys };
