@@ -85,14 +85,16 @@ impl PrivateKey {
         ensures { IfOk result (IsGivenEdKey algorithm_oid secret.now (option_copied public_key.entry)) }
     {
         let version = version_beside(public_key);
-        let secret = Octets::from_slice(alloc, secret)?;
         let public_key = bits_of(alloc, public_key)?;
+        let beside = copy_option(alloc, &public_key)?;
+        // The secret is last: nothing is refused after it, so it is dropped in a key alone.
+        let secret = Octets::from_slice(alloc, secret)?;
         let info = PrivateKeyInfo {
             version,
             private_key_algorithm: AlgorithmIdentifier::new(algorithm_oid, None),
             private_key: PrivateKeyValue::Ed(secret),
             attributes: None,
-            public_key: copy_option(alloc, &public_key)?,
+            public_key: beside,
         };
         Ok(PrivateKey { info, public_key })
     }
@@ -107,10 +109,12 @@ fn given_key(
 ) -> Result<ECPrivateKey, AllocError>
     ensures { IfOk result (λ key. key ≡ given curve.now secret.now point.now) }
 {
+    let parameters = Some(curve.try_clone(alloc)?);
+    let public_key = copy_option(alloc, point)?;
     Ok(ECPrivateKey {
         private_key: Octets::from_slice(alloc, secret)?,
-        parameters: Some(curve.try_clone(alloc)?),
-        public_key: copy_option(alloc, point)?,
+        parameters,
+        public_key,
     })
 }
 

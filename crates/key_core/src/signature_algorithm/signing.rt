@@ -51,8 +51,11 @@ impl SignatureAlgorithm {
     {
         match self {
             SignatureAlgorithm::RsaPkcs1v15(hash) => {
-                let secret = rsa_secret(alloc, private_key)?;
-                self.made(alloc, rsa_alg(hash), &secret, msg, scheme)
+                let mut secret = rsa_secret(alloc, private_key)?;
+                let signature = self.made(alloc, rsa_alg(hash), &secret, msg, scheme);
+                // It is a copy of the secret.
+                secret.fill(0);
+                signature
             }
             SignatureAlgorithm::Ecdsa(hash) => {
                 let (alg, secret) = secret_on(private_key, hash)?;

@@ -24,7 +24,7 @@ returns-in_err-secret-in-Ed25519-clause-signed g c =
 
 pub returns-in_ok-alg-in-Ecdsa-clause-accepted : goal.returns-in_ok-alg-in-Ecdsa-clause-accepted
 returns-in_ok-alg-in-Ecdsa-clause-accepted g c =
-    made_accepts vec_items (g.S.Scheme.judge c.args.scheme.now) (g.S.Scheme.pair c.args.scheme.now) c.args.self (Ecdsa c.in-Ecdsa.hash) c.in-Ecdsa.is c.args.private_key.now c.in_ok-alg-in-Ecdsa.alg c.in_ok-alg-in-Ecdsa.secret.now c.args.msg.now c.in_ok-alg-in-Ecdsa.ensures c.made-in-Ecdsa.result c.made-in-Ecdsa.ensures.accepted
+    made_accepts vec_items (g.S.Scheme.judge c.args.scheme.now) (g.S.Scheme.pair c.args.scheme.now) c.args.self (Ecdsa c.in-Ecdsa.hash) c.in-Ecdsa.is c.args.private_key.now c.in_ok-alg-in-Ecdsa.alg c.in_ok-alg-in-Ecdsa.secret.now c.args.msg.now c.in_ok-alg-in-Ecdsa.ensures c.made.result c.made.ensures.accepted
 
 pub returns-in_ok-secret-in-Ed25519-clause-accepted : goal.returns-in_ok-secret-in-Ed25519-clause-accepted
 returns-in_ok-secret-in-Ed25519-clause-accepted g c =
@@ -33,4 +33,4 @@ returns-in_ok-secret-in-Ed25519-clause-accepted g c =
 pub returns-in_ok-secret-in-RsaPkcs1v15-clause-accepted : goal.returns-in_ok-secret-in-RsaPkcs1v15-clause-accepted
 returns-in_ok-secret-in-RsaPkcs1v15-clause-accepted g c =
     let secret = subst (λ (s : List ℕ). IsPkcs1OfPrivate c.args.private_key.now.info.private_key s) (sym c.deref.ensures.value) c.in_ok-secret-in-RsaPkcs1v15.ensures.answer in
-    made_accepts vec_items (g.S.Scheme.judge c.args.scheme.now) (g.S.Scheme.pair c.args.scheme.now) c.args.self (RsaPkcs1v15 c.in-RsaPkcs1v15.hash) c.in-RsaPkcs1v15.is c.args.private_key.now c.rsa_alg.result c.deref.result.now c.args.msg.now (c.rsa_alg.ensures, secret) c.made.result c.made.ensures.accepted
+    made_accepts vec_items (g.S.Scheme.judge c.args.scheme.now) (g.S.Scheme.pair c.args.scheme.now) c.args.self (RsaPkcs1v15 c.in-RsaPkcs1v15.hash) c.in-RsaPkcs1v15.is c.args.private_key.now c.rsa_alg.result c.deref.result.now c.args.msg.now (c.rsa_alg.ensures, secret) c.made-signature.result c.made-signature.ensures.accepted
