@@ -29,7 +29,7 @@ use Rattle.key_core.specs.PrivatePkcs1.{IsPkcs1OfPrivate, RefusesPrivatePkcs1}
 use Rattle.key_core.specs.SchemeNames.{rsa_alg, curve_for, ecdsa_alg}
 use Rattle.key_core.specs.SignatureRules.{Rule, IsMet, IsFirstBroken, RefusesBy, key_refusal}
 use Rattle.key_core.specs.Signing.{HasCurveOf, HasEdOf, IsSecretOn, IsEd25519Secret, FitsSecret, Signs, Pair, IsAsked, IsRsaPair, IsEcPair, IsEdPair, IsKeyPair, NotRsaSecret, UnwritableSecret, NotEcSecret, UnknownCurveOf, UnpairedSecret, WrongSecretSize, NotEdSecret, NoPublicKey, ForAgreementOnly, NotEd25519Secret, WrongEdSize, Unsigned, scheme_refused, secret_rules, sign_rules}
-use Rattle.key_core.specs.Verifying.{Judge, Fits, IsJudged, Accepts, IsPointOn}
+use Rattle.key_core.specs.Verifying.{Judge, FitsKey, IsJudged, Accepts, IsPointOn}
 use Rattle.key_core.specs.declared.ec_curve.EcCurve.{EcCurve}
 use Rattle.key_core.specs.declared.ec_curve.EcCurve.TheVariants as curves
 use Rattle.key_core.specs.declared.ed_algorithm.EdAlgorithm.{EdAlgorithm}
@@ -242,7 +242,7 @@ ecdsa_scheme curves.NistP521 = refl
 -- the public key of a pair is one for the algorithm, by the same name, and the scheme pairs its key bytes with the secret
 pub pair_fits : (pair : Pair) (algorithm : SignatureAlgorithm) (key : PrivateKey) (info : SubjectPublicKeyInfo) (alg : SigAlg) (secret : List ℕ)
     → FitsSecret algorithm key alg secret → IsKeyPair pair key info
-    → (bytes : List ℕ) × Fits algorithm info alg bytes × pair (kind_of alg) bytes secret
+    → (bytes : List ℕ) × FitsKey algorithm info alg bytes × pair (kind_of alg) bytes secret
 pair_fits pair (RsaPkcs1v15 hash) key info alg secret fits (inl p) = (
   p.bytes,
   (fits.0, p.public),

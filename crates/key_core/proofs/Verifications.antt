@@ -23,7 +23,7 @@ use Rattle.key_core.specs.KeyRefusals.{CantBeWritten, unwritten}
 use Rattle.key_core.specs.Pkcs1.{IsPkcs1Of, RefusesPkcs1}
 use Rattle.key_core.specs.SchemeNames.{ecdsa_alg}
 use Rattle.key_core.specs.SignatureRules.{IsMet, IsFirstBroken, RefusesBy, key_refusal}
-use Rattle.key_core.specs.Verifying.{Judge, IsOnCurve, IsOfEd, IsEd25519Key, Fits, IsJudged, Accepts, NotRsa, Unwritable, UnknownHash, Unpaired, ForAgreement, NotEd25519, WrongSize, Malformed, Rejected, malformed, key_rules, verify_rules}
+use Rattle.key_core.specs.Verifying.{Judge, IsOnCurve, IsOfEd, IsEd25519Key, FitsKey, IsJudged, Accepts, NotRsa, Unwritable, UnknownHash, Unpaired, ForAgreement, NotEd25519, WrongSize, Malformed, Rejected, malformed, key_rules, verify_rules}
 use Rattle.key_core.specs.declared.ec_curve.EcCurve.{EcCurve}
 use Rattle.key_core.specs.declared.ed_algorithm.EdAlgorithm.{EdAlgorithm}
 use Rattle.key_core.specs.declared.ed_algorithm.EdAlgorithm.TheVariants as ed
@@ -87,7 +87,7 @@ ec_is_not_rsa bits k e = cc
 ed_is_not_rsa : (bits : BitString) (k : RsaPublicKey) → keys.Ed bits ≡ keys.Rsa k → ⊥
 ed_is_not_rsa bits k e = cc
 
-pub key_met : (algorithm : SignatureAlgorithm) (info : SubjectPublicKeyInfo) (alg : SigAlg) (bytes : List ℕ) → Fits algorithm info alg bytes → AreMet (key_rules algorithm info)
+pub key_met : (algorithm : SignatureAlgorithm) (info : SubjectPublicKeyInfo) (alg : SigAlg) (bytes : List ℕ) → FitsKey algorithm info alg bytes → AreMet (key_rules algorithm info)
 key_met (RsaPkcs1v15 hash) info alg bytes fits = (λ e broken. broken.0 (rsa_kind info.subject_public_key bytes fits.1), tt)
 key_met (Ecdsa hash) info alg bytes fits =
     let curve = fits.0 in
@@ -106,7 +106,7 @@ key_met Ed25519 info alg bytes fits =
     (λ e broken. not_x25519 (one_ed info ed.Ed25519 ed.X25519 key.of broken.0), (λ e broken. broken.0 key.of, sized)) in
     (λ e broken. broken.0 (ap kind_of key.is), known)
 
-pub writable : (algorithm : SignatureAlgorithm) (info : SubjectPublicKeyInfo) (alg : SigAlg) (bytes : List ℕ) → Fits algorithm info alg bytes → IsMet (Unwritable info)
+pub writable : (algorithm : SignatureAlgorithm) (info : SubjectPublicKeyInfo) (alg : SigAlg) (bytes : List ℕ) → FitsKey algorithm info alg bytes → IsMet (Unwritable info)
 writable (RsaPkcs1v15 hash) info alg bytes fits = λ e broken. written (rsa_public_key broken.key) broken.source (rsa_der info.subject_public_key bytes fits.1 broken.key broken.is) broken.cause
 writable (Ecdsa hash) info alg bytes fits = λ e broken. ec_is_not_rsa fits.3.bits broken.key (sym fits.3.is ∙ broken.is)
 writable Ed25519 info alg bytes fits = λ e broken. ed_is_not_rsa fits.1.bits broken.key (sym fits.1.is ∙ broken.is)
@@ -120,7 +120,7 @@ rsa_bytes_once (keys.Ed bits) x y p q = absurd p
 rsa_bytes_once (keys.Mldsa bits) x y p q = absurd p
 
 pub one_fit : (algorithm : SignatureAlgorithm) (info : SubjectPublicKeyInfo) (a b : SigAlg) (x y : List ℕ)
-    → Fits algorithm info a x → Fits algorithm info b y → (a ≡ b) × (x ≡ y)
+    → FitsKey algorithm info a x → FitsKey algorithm info b y → (a ≡ b) × (x ≡ y)
 one_fit (RsaPkcs1v15 hash) info a b x y p q = (p.0 ∙ sym q.0, rsa_bytes_once info.subject_public_key x y p.1 q.1)
 one_fit (Ecdsa hash) info a b x y p q = (
   p.2 ∙ ap ecdsa_alg (one_curve info p.0 q.0 p.3.on q.3.on) ∙ sym q.2,

@@ -19,16 +19,16 @@ use Rattle.key_core.specs.declared.error.KeyError.TheVariants as errors
 use Rattle.key_core.specs.declared.private_key.PrivateKey.{PrivateKey}
 use Rattle.key_core.specs.declared.private_key_value.PrivateKeyValue.TheVariants as values
 
--- The pair lends the parts of a private key. The parameters of its algorithm are the identifier of the curve.
-pub record IsEcPairOf (key : PrivateKey) (pair : EcdsaKeypair) : Type 0 where
+-- The keypair lends the parts of a private key. The parameters of its algorithm are the identifier of the curve.
+pub record IsEcKeypairOf (key : PrivateKey) (keypair : EcdsaKeypair) : Type 0 where
   pub read : ECPrivateKey
   pub is : key.info.private_key ≡ values.Ec read
-  pub secret_is : pair.secret.now ≡ read.private_key
-  pub curve_is : kept_option key.info.private_key_algorithm.parameters ≡ Some (Primitive 0x06 (lent_contents pair.curve))
-  pub public_is : option_copied pair.point ≡ key.public_key
+  pub secret_is : keypair.secret.now ≡ read.private_key
+  pub curve_is : kept_option key.info.private_key_algorithm.parameters ≡ Some (Primitive 0x06 (lent_contents keypair.curve))
+  pub public_is : option_copied keypair.point ≡ key.public_key
 
-abbrev pub GivesEcPair : PrivateKey → Result EcdsaKeypair KeyError → Type 0
-GivesEcPair key result = MatchResult result (IsEcPairOf key) (λ e. (e ≡ errors.EC contexts.NotEc) × (private_kind key.info.private_key ≢ kinds.Ec))
+abbrev pub GivesEcKeypair : PrivateKey → Result EcdsaKeypair KeyError → Type 0
+GivesEcKeypair key result = MatchResult result (IsEcKeypairOf key) (λ e. (e ≡ errors.EC contexts.NotEc) × (private_kind key.info.private_key ≢ kinds.Ec))
 
 -- The view lends the parts of a public key.
 pub record IsEcPublicOf (info : SubjectPublicKeyInfo) (view : EcdsaPublicKey) : Type 0 where
@@ -40,13 +40,13 @@ pub record IsEcPublicOf (info : SubjectPublicKeyInfo) (view : EcdsaPublicKey) : 
 abbrev pub GivesEcPublic : SubjectPublicKeyInfo → Result EcdsaPublicKey KeyError → Type 0
 GivesEcPublic info result = MatchResult result (IsEcPublicOf info) (λ e. (e ≡ errors.EC contexts.NotEc) × (kind_of info.subject_public_key ≢ kinds.Ec))
 
--- The view lends the public key of a pair.
-pub record IsEcPublicOfPair (pair : EcdsaKeypair) (view : EcdsaPublicKey) : Type 0 where
+-- The view lends the public key of a keypair.
+pub record IsEcPublicOfKeypair (keypair : EcdsaKeypair) (view : EcdsaPublicKey) : Type 0 where
   pub bits : BitString
-  pub is : option_copied pair.point ≡ Some bits
+  pub is : option_copied keypair.point ≡ Some bits
   pub point_is : view.point.now ≡ bits.payload
-  pub curve_is : lent_contents view.curve ≡ lent_contents pair.curve
+  pub curve_is : lent_contents view.curve ≡ lent_contents keypair.curve
 
-abbrev pub GivesEcPublicOfPair : EcdsaKeypair → Result EcdsaPublicKey KeyError → Type 0
-GivesEcPublicOfPair pair result =
-    MatchResult result (IsEcPublicOfPair pair) (λ e. (e ≡ errors.EC contexts.PublicKeyMissing) × (option_copied pair.point ≡ None))
+abbrev pub GivesEcPublicOfKeypair : EcdsaKeypair → Result EcdsaPublicKey KeyError → Type 0
+GivesEcPublicOfKeypair keypair result =
+    MatchResult result (IsEcPublicOfKeypair keypair) (λ e. (e ≡ errors.EC contexts.PublicKeyMissing) × (option_copied keypair.point ≡ None))

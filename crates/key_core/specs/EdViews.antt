@@ -15,14 +15,14 @@ use Rattle.key_core.specs.declared.error.KeyError.TheVariants as errors
 use Rattle.key_core.specs.declared.private_key.PrivateKey.{PrivateKey}
 use Rattle.key_core.specs.declared.private_key_value.PrivateKeyValue.TheVariants as values
 
--- The pair lends the parts of a private key.
-pub record IsEdPairOf (key : PrivateKey) (pair : EdKeypair) : Type 0 where
-  pub secret_is : key.info.private_key ≡ values.Ed pair.secret.now
-  pub algorithm_is : pair.algorithm.now ≡ key.info.private_key_algorithm.oid
-  pub public_is : option_copied pair.public_key ≡ key.public_key
+-- The keypair lends the parts of a private key.
+pub record IsEdKeypairOf (key : PrivateKey) (keypair : EdKeypair) : Type 0 where
+  pub secret_is : key.info.private_key ≡ values.Ed keypair.secret.now
+  pub algorithm_is : keypair.algorithm.now ≡ key.info.private_key_algorithm.oid
+  pub public_is : option_copied keypair.public_key ≡ key.public_key
 
-abbrev pub GivesEdPair : PrivateKey → Result EdKeypair KeyError → Type 0
-GivesEdPair key result = MatchResult result (IsEdPairOf key) (λ e. (e ≡ errors.ED contexts.NotEd) × (private_kind key.info.private_key ≢ kinds.Ed))
+abbrev pub GivesEdKeypair : PrivateKey → Result EdKeypair KeyError → Type 0
+GivesEdKeypair key result = MatchResult result (IsEdKeypairOf key) (λ e. (e ≡ errors.ED contexts.NotEd) × (private_kind key.info.private_key ≢ kinds.Ed))
 
 -- The view lends the parts of a public key.
 pub record IsEdPublicOf (info : SubjectPublicKeyInfo) (view : EdPublicKey) : Type 0 where
@@ -34,13 +34,13 @@ pub record IsEdPublicOf (info : SubjectPublicKeyInfo) (view : EdPublicKey) : Typ
 abbrev pub GivesEdPublic : SubjectPublicKeyInfo → Result EdPublicKey KeyError → Type 0
 GivesEdPublic info result = MatchResult result (IsEdPublicOf info) (λ e. (e ≡ errors.ED contexts.NotEd) × (kind_of info.subject_public_key ≢ kinds.Ed))
 
--- The view lends the public key of a pair.
-pub record IsEdPublicOfPair (pair : EdKeypair) (view : EdPublicKey) : Type 0 where
+-- The view lends the public key of a keypair.
+pub record IsEdPublicOfKeypair (keypair : EdKeypair) (view : EdPublicKey) : Type 0 where
   pub bits : BitString
-  pub is : option_copied pair.public_key ≡ Some bits
+  pub is : option_copied keypair.public_key ≡ Some bits
   pub key_is : view.key.now ≡ bits.payload
-  pub algorithm_is : view.algorithm.now ≡ pair.algorithm.now
+  pub algorithm_is : view.algorithm.now ≡ keypair.algorithm.now
 
-abbrev pub GivesEdPublicOfPair : EdKeypair → Result EdPublicKey KeyError → Type 0
-GivesEdPublicOfPair pair result =
-    MatchResult result (IsEdPublicOfPair pair) (λ e. (e ≡ errors.ED contexts.PublicKeyMissing) × (option_copied pair.public_key ≡ None))
+abbrev pub GivesEdPublicOfKeypair : EdKeypair → Result EdPublicKey KeyError → Type 0
+GivesEdPublicOfKeypair keypair result =
+    MatchResult result (IsEdPublicOfKeypair keypair) (λ e. (e ≡ errors.ED contexts.PublicKeyMissing) × (option_copied keypair.public_key ≡ None))

@@ -68,16 +68,16 @@ pub record IsEd25519Key (info : SubjectPublicKeyInfo) (octets : List ℕ) : Type
   pub size : length octets ≡ 32
 
 -- The key is one for the algorithm, which a scheme knows by this name, with these key bytes.
-abbrev pub Fits : SignatureAlgorithm → SubjectPublicKeyInfo → SigAlg → List ℕ → Type 0
-Fits (RsaPkcs1v15 hash) info alg bytes = (alg ≡ rsa_alg hash) × IsPkcs1Of info.subject_public_key bytes
-Fits (Ecdsa hash) info alg bytes = (curve : EcCurve) × (curve_for hash ≡ Some curve) × (alg ≡ ecdsa_alg curve) × IsPointOn curve info bytes
-Fits Ed25519 info alg bytes = (alg ≡ algs.Ed25519) × IsEd25519Key info bytes
+abbrev pub FitsKey : SignatureAlgorithm → SubjectPublicKeyInfo → SigAlg → List ℕ → Type 0
+FitsKey (RsaPkcs1v15 hash) info alg bytes = (alg ≡ rsa_alg hash) × IsPkcs1Of info.subject_public_key bytes
+FitsKey (Ecdsa hash) info alg bytes = (curve : EcCurve) × (curve_for hash ≡ Some curve) × (alg ≡ ecdsa_alg curve) × IsPointOn curve info bytes
+FitsKey Ed25519 info alg bytes = (alg ≡ algs.Ed25519) × IsEd25519Key info bytes
 
 -- The key is one for the algorithm, and the verdict on the signature of the message is this.
 pub record IsJudged (judge : Judge) (algorithm : SignatureAlgorithm) (info : SubjectPublicKeyInfo) (msg sig : List ℕ) (verdict : Verdict) : Type 0 where
   pub alg : SigAlg
   pub bytes : List ℕ
-  pub fits : Fits algorithm info alg bytes
+  pub fits : FitsKey algorithm info alg bytes
   pub judged : judge alg bytes msg sig ≡ verdict
 
 -- The scheme accepts the signature of the message by the key.

@@ -7,7 +7,7 @@ ghost use Rattle.asn1_types.specs.ObjectIdentifier.{IsIdentifier};
 ghost use Rattle.asn1_types.specs.Values.{lent_contents};
 ghost use Rattle.key_types.specs.KeyKind.{MayHave};
 ghost use Rattle.key_types.specs.declared.key_kind.KeyKind.TheVariants as kinds;
-ghost use Rattle.key_core.specs.EcViews.{GivesEcPair, GivesEcPublic, GivesEcPublicOfPair};
+ghost use Rattle.key_core.specs.EcViews.{GivesEcKeypair, GivesEcPublic, GivesEcPublicOfKeypair};
 ghost use Rattle.key_core.specs.NamedEcCurve.{IsNamedCurve};
 
 use crate::error::{KeyContext, KeyError};
@@ -92,7 +92,7 @@ fn identifier_of<'a>(octets: &'a [u8]) -> LentIdentifier<'a>
 impl<'a> TryFrom<&'a PrivateKey> for EcdsaKeypair<'a> {
     type Error = KeyError;
 
-    ghost try_from_gives = { λ key result. GivesEcPair key.now result };
+    ghost try_from_gives = { λ key result. GivesEcKeypair key.now result };
 
     fn try_from(key: &'a PrivateKey) -> Result<EcdsaKeypair<'a>, KeyError> {
         match &key.info.private_key {
@@ -128,16 +128,16 @@ impl<'a> TryFrom<&'a PublicKey> for EcdsaPublicKey<'a> {
     }
 }
 
-/// The public key of a pair. It is refused where the pair has none.
+/// The public key of a keypair. It is refused where the keypair has none.
 impl<'a> TryFrom<&EcdsaKeypair<'a>> for EcdsaPublicKey<'a> {
     type Error = KeyError;
 
-    ghost try_from_gives = { λ pair result. GivesEcPublicOfPair pair.now result };
+    ghost try_from_gives = { λ keypair result. GivesEcPublicOfKeypair keypair.now result };
 
-    fn try_from(pair: &EcdsaKeypair<'a>) -> Result<EcdsaPublicKey<'a>, KeyError> {
-        match pair.point {
+    fn try_from(keypair: &EcdsaKeypair<'a>) -> Result<EcdsaPublicKey<'a>, KeyError> {
+        match keypair.point {
             Some(bits) => Ok(EcdsaPublicKey {
-                curve: pair.curve,
+                curve: keypair.curve,
                 point: bits.payload_view(),
             }),
             None => Err(KeyError::EC {

@@ -1,7 +1,7 @@
 //! Views of keys of a curve 25519 or 448, which lend from a key and take no memory.
 
 ghost use Rattle.std.specs.Prelude.{◌≡◌};
-ghost use Rattle.key_core.specs.EdViews.{GivesEdPair, GivesEdPublic, GivesEdPublicOfPair};
+ghost use Rattle.key_core.specs.EdViews.{GivesEdKeypair, GivesEdPublic, GivesEdPublicOfKeypair};
 ghost use Rattle.key_core.specs.NamedEdAlgorithm.{IsNamedEd};
 
 use crate::error::{KeyContext, KeyError};
@@ -63,7 +63,7 @@ impl<'a> EdPublicKey<'a> {
 impl<'a> TryFrom<&'a PrivateKey> for EdKeypair<'a> {
     type Error = KeyError;
 
-    ghost try_from_gives = { λ key result. GivesEdPair key.now result };
+    ghost try_from_gives = { λ key result. GivesEdKeypair key.now result };
 
     fn try_from(key: &'a PrivateKey) -> Result<EdKeypair<'a>, KeyError> {
         match &key.info.private_key {
@@ -99,16 +99,16 @@ impl<'a> TryFrom<&'a PublicKey> for EdPublicKey<'a> {
     }
 }
 
-/// The public key of a pair. It is refused where the pair has none.
+/// The public key of a keypair. It is refused where the keypair has none.
 impl<'a> TryFrom<&EdKeypair<'a>> for EdPublicKey<'a> {
     type Error = KeyError;
 
-    ghost try_from_gives = { λ pair result. GivesEdPublicOfPair pair.now result };
+    ghost try_from_gives = { λ keypair result. GivesEdPublicOfKeypair keypair.now result };
 
-    fn try_from(pair: &EdKeypair<'a>) -> Result<EdPublicKey<'a>, KeyError> {
-        match pair.public_key {
+    fn try_from(keypair: &EdKeypair<'a>) -> Result<EdPublicKey<'a>, KeyError> {
+        match keypair.public_key {
             Some(bits) => Ok(EdPublicKey {
-                algorithm: pair.algorithm,
+                algorithm: keypair.algorithm,
                 key: bits.payload_view(),
             }),
             None => Err(KeyError::ED {

@@ -4,7 +4,7 @@ ghost use Rattle.std.specs.Prelude.{◌≡◌, ◌≢◌, [], ◌∷◌, ◌++�
 ghost use Rattle.key_core.specs.Pkcs1.{IsPkcs1Of};
 ghost use Rattle.key_core.specs.SchemeNames.{curve_for, ecdsa_alg};
 ghost use Rattle.key_core.specs.SignatureRules.{IsFirstBroken, RefusesBy};
-ghost use Rattle.key_core.specs.Verifying.{Accepts, Fits, IsJudged, NamesCurve, IsOnCurve, IsEd25519Key, NotRsa, Unwritable, UnknownCurve, UnknownHash, Unpaired, key_rules, verify_rules, malformed};
+ghost use Rattle.key_core.specs.Verifying.{Accepts, FitsKey, IsJudged, NamesCurve, IsOnCurve, IsEd25519Key, NotRsa, Unwritable, UnknownCurve, UnknownHash, Unpaired, key_rules, verify_rules, malformed};
 ghost use Rattle.key_core.specs.declared.ec_curve.EcCurve.{EcCurve};
 ghost use Rattle.key_core.specs.declared.signature_algorithm.SignatureAlgorithm.TheVariants as algorithms;
 ghost use Rattle.key_core.specs.declared.signature_error.SigContext.TheVariants as contexts;
@@ -116,7 +116,7 @@ fn rsa_bytes(alloc: Global, public_key: &PublicKey) -> Result<Vec<u8>, Signature
 /// A point on the curve whose keys sign the digest, with what a scheme calls the algorithm.
 fn point_of(public_key: &PublicKey, hash: HashAlgorithm) -> Result<(SigAlg, &[u8]), SignatureError>
     ensures { MatchResult result
-        (λ point. Fits (algorithms.Ecdsa hash) public_key.now.info point.0 point.1.now)
+        (λ point. FitsKey (algorithms.Ecdsa hash) public_key.now.info point.0 point.1.now)
         (IsFirstBroken (key_rules (algorithms.Ecdsa hash) public_key.now.info)) }
 {
     let info = public_key.as_spki();
