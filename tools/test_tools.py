@@ -8,6 +8,7 @@ from hashlib import sha256
 from itertools import product
 from pathlib import Path
 from shutil import which
+from struct import pack
 from tempfile import TemporaryDirectory
 from unittest.mock import patch
 
@@ -19,6 +20,7 @@ import demo_signatures
 import oid_table
 import reader_stand_in
 import run_program
+import verdict_table
 import world_certificates
 import world_signatures
 from certificate_cases import (
@@ -448,6 +450,52 @@ class CertificatesByOpensslTest(unittest.TestCase):
             make_key(Key("", "ED25519"), key)
             with self.assertRaisesRegex(OpensslError, "Skipping"):
                 requested_certificate(Requested("", "/nothing=a"), key, Path(folder))
+
+
+@unittest.skipUnless(which("openssl"), "openssl isn't there")
+class VerdictTableTest(unittest.TestCase):
+    @staticmethod
+    def signed(label):
+        """A stored signature file of this label."""
+        octets = next(octets for known, _, octets in world_signatures.stored() if known == label)
+        return pack("<IHH", 8 + len(octets), 0x0200, 2) + octets
+
+    def names(self, label):
+        lines, _ = verdict_table.table(self.signed(label))
+        return [line.split()[0] for line in lines]
+
+    def test_names(self):
+        for label, names in {
+            "program, RSA, sha384": ["rsa-sha384", "rsa-sha256"],
+            "program, P-256, sha256": ["p256-sha256"],
+            "cms, the signer by its key's identifier": ["rsa-sha256"],
+            "program, a counter-signature": ["rsa-sha256"] * 3,
+            "a revocation list alone": [],
+        }.items():
+            self.assertEqual(self.names(label), names, label)
+
+    def test_a_line(self):
+        octets = self.signed("program, RSA, sha256")
+        certificates, signers = verdict_table.signed_data_in(octets)
+        attributes = write(signers[0].kids[3])
+        parts = certificates[0].key_octets(), b"\x31" + attributes[1:], signers[0].kids[5].contents
+        lines, lacking = verdict_table.table(octets)
+        self.assertEqual(lines[0], " ".join(["rsa-sha256", *(sha256(part).hexdigest() for part in parts)]))
+        self.assertEqual(lacking, [])
+
+    def test_a_changed_signature(self):
+        octets = self.signed("program, RSA, sha256")
+        _, signers = verdict_table.signed_data_in(octets)
+        signature = signers[0].kids[5].contents
+        changed = octets.replace(signature, signature[:-1] + bytes([signature[-1] ^ 1]))
+        lines, lacking = verdict_table.table(changed)
+        self.assertEqual([line.split()[0] for line in lines], ["rsa-sha256"])
+        self.assertEqual(lacking, ["the signer: not accepted as rsa-sha256"])
+
+    def test_no_signature_file(self):
+        for octets in b"", b"\x09\0\0\0\0\2\2\0", b"\x0a\0\0\0\0\2\2\0\5\0", self.signed("cms, written in pieces"):
+            with self.assertRaises(verdict_table.NotASignatureFile):
+                verdict_table.table(octets)
 
 
 class RunsTest(unittest.TestCase):

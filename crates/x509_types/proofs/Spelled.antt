@@ -16,8 +16,12 @@ use Rattle.x509_values.specs.declared.validity.Validity.{Validity}
 use Rattle.der_core.specs.Optional.{SpellsOption}
 use Rattle.x509_types.specs.TbsElements.{TbsElements, tbs_of}
 use Rattle.x509_types.specs.TbsCertificate.{IsVersion, IsExtensions, AreTbsFields, IsTbsCertificate}
+use Rattle.x509_types.specs.TbsParts.{IsIssuedBy, IsIssuedTo, AreAdded, issued_by, issued_to, added_fields, tbs_of_parts}
 use Rattle.x509_types.specs.Facts.TbsElements.{same_elements}
 use Rattle.x509_types.specs.declared.tbs_certificate.TbsCertificate.{TbsCertificate}
+use Rattle.x509_types.specs.declared.tbs_parts.IssuedBy.{IssuedBy}
+use Rattle.x509_types.specs.declared.tbs_parts.IssuedTo.{IssuedTo}
+use Rattle.x509_types.specs.declared.tbs_parts.AddedFields.{AddedFields}
 
 -- the elements of the fields spell the value that the element around them spells
 pub by_fields : (element : DerElement) (f : TbsElements) (tbs : TbsCertificate) → element ≡ tbs_of f → IsTbsCertificate element tbs → AreTbsFields f tbs
@@ -62,3 +66,28 @@ all_fit f version serial signature issuer valid subject key extensions = (
     extensions = extensions.1;
   },
 )
+
+-- what three parts of the fields spell is spelled by all
+pub parts_join : (f : TbsElements) (by : IssuedBy) (to : IssuedTo) (added : AddedFields) → IsIssuedBy f by → IsIssuedTo f to → AreAdded f added → AreTbsFields f (tbs_of_parts by to added)
+parts_join f by to added b t a = record {
+  version = b.version;
+  serial_number = b.serial_number;
+  signature = b.signature;
+  issuer = b.issuer;
+  validity = t.validity;
+  subject = t.subject;
+  subject_public_key_info = t.subject_public_key_info;
+  issuer_unique_id = a.issuer_unique_id;
+  subject_unique_id = a.subject_unique_id;
+  extensions = a.extensions;
+}
+
+-- where a part spells nothing, nothing is spelled by all
+pub no_issued_by : (f : TbsElements) (e : DerError) → RefusesShape (IsIssuedBy f) e → RefusesShape (AreTbsFields f) e
+no_issued_by f e = list_refused (IsIssuedBy f) (AreTbsFields f) e (λ tbs p. (issued_by tbs, record { version = p.version; serial_number = p.serial_number; signature = p.signature; issuer = p.issuer }))
+
+pub no_issued_to : (f : TbsElements) (e : DerError) → RefusesShape (IsIssuedTo f) e → RefusesShape (AreTbsFields f) e
+no_issued_to f e = list_refused (IsIssuedTo f) (AreTbsFields f) e (λ tbs p. (issued_to tbs, record { validity = p.validity; subject = p.subject; subject_public_key_info = p.subject_public_key_info }))
+
+pub none_added : (f : TbsElements) (e : DerError) → RefusesShape (AreAdded f) e → RefusesShape (AreTbsFields f) e
+none_added f e = list_refused (AreAdded f) (AreTbsFields f) e (λ tbs p. (added_fields tbs, record { issuer_unique_id = p.issuer_unique_id; subject_unique_id = p.subject_unique_id; extensions = p.extensions }))

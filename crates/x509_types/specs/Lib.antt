@@ -7,6 +7,7 @@ pub mod Version
 pub mod TbsElements
 pub mod LentTbs
 pub mod TbsCertificate
+pub mod TbsParts
 pub mod CertificateElements
 pub mod Certificate
 pub mod LentCertificate

@@ -18,6 +18,7 @@ mod laws;
 mod purposes;
 mod tbs_certificate;
 mod tbs_fields;
+mod tbs_parts;
 mod version;
 mod view_extensions;
 

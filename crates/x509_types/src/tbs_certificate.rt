@@ -3,13 +3,12 @@
 ghost use Rattle.std.specs.Prelude.{◌≡◌, ◌↔◌, IsTrue};
 
 use crate::tbs_fields::{EXTENSIONS, ISSUER_UNIQUE_ID, SUBJECT_UNIQUE_ID, TbsFields, VERSION};
+use crate::tbs_parts::{AddedFields, IssuedBy, IssuedTo, join};
 use crate::version::Version;
 use crate::{AlgorithmIdentifier, Extensions, Name, SubjectPublicKeyInfo, Validity};
 use asn1_types::IntegerAsn1;
 use der_core::tag::SEQUENCE;
-use der_core::{
-    DerError, Elem, NewKids, Octets, Structure, Tree, copy_option, push_explicit, push_leaf,
-};
+use der_core::{DerError, Elem, NewKids, Octets, Structure, Tree, push_explicit, push_leaf};
 use std::alloc::{AllocError, Global};
 
 /// What is signed of a certificate (RFC 5280 4.1.2). A version that is left out, which means V1, and
@@ -103,18 +102,10 @@ impl Structure for TbsCertificate {
     }
 
     fn try_clone(&self, alloc: Global) -> Result<TbsCertificate, AllocError> {
-        Ok(TbsCertificate {
-            version: self.version,
-            serial_number: self.serial_number.try_clone(alloc)?,
-            signature: self.signature.try_clone(alloc)?,
-            issuer: self.issuer.try_clone(alloc)?,
-            validity: self.validity.try_clone(alloc)?,
-            subject: self.subject.try_clone(alloc)?,
-            subject_public_key_info: self.subject_public_key_info.try_clone(alloc)?,
-            issuer_unique_id: copy_option(alloc, &self.issuer_unique_id)?,
-            subject_unique_id: copy_option(alloc, &self.subject_unique_id)?,
-            extensions: copy_option(alloc, &self.extensions)?,
-        })
+        let by = IssuedBy::copy(alloc, self)?;
+        let to = IssuedTo::copy(alloc, self)?;
+        let added = AddedFields::copy(alloc, self)?;
+        Ok(join(by, to, added))
     }
 
     ghost grammar = { tbs_certificates };

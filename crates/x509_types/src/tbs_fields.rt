@@ -10,13 +10,12 @@ ghost use Rattle.x509_types.specs.LentTbs.{elements_at};
 ghost use Rattle.x509_types.specs.TbsCertificate.{AreTbsFields};
 
 use crate::tbs_certificate::TbsCertificate;
+use crate::tbs_parts::{AddedFields, IssuedBy, IssuedTo, join};
 use crate::version::Version;
 use crate::{AlgorithmIdentifier, Extensions, Name, SubjectPublicKeyInfo, Validity};
 use asn1_types::IntegerAsn1;
 use der_core::tag::{INTEGER, SEQUENCE};
-use der_core::{
-    DerError, Elem, Kids, Structure, copy_octets, expect, expect_option, leaf_at, read_option,
-};
+use der_core::{DerError, Elem, Kids, expect, expect_option, leaf_at};
 use std::alloc::Global;
 
 /// The tag around the version.
@@ -105,19 +104,10 @@ impl<'a> TbsFields<'a> {
             (AreTbsFields (elements_at self.now))
             (RefusesShape (AreTbsFields (elements_at self.now))) }
     {
-        let key = self.subject_public_key_info;
-        Ok(TbsCertificate {
-            version: read_option(alloc, self.version)?,
-            serial_number: IntegerAsn1::from_content(alloc, self.serial_number)?,
-            signature: AlgorithmIdentifier::read_at(alloc, self.signature)?,
-            issuer: Name::read_at(alloc, self.issuer)?,
-            validity: Validity::read_at(alloc, self.validity)?,
-            subject: Name::read_at(alloc, self.subject)?,
-            subject_public_key_info: SubjectPublicKeyInfo::read_at(alloc, key)?,
-            issuer_unique_id: copy_octets(alloc, self.issuer_unique_id)?,
-            subject_unique_id: copy_octets(alloc, self.subject_unique_id)?,
-            extensions: read_option(alloc, self.extensions)?,
-        })
+        let by = IssuedBy::read(alloc, self)?;
+        let to = IssuedTo::read(alloc, self)?;
+        let added = AddedFields::read(alloc, self)?;
+        Ok(join(by, to, added))
     }
 }
 

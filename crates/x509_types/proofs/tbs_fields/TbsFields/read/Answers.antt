@@ -1,16 +1,19 @@
 use Rattle.std.proofs.lemmas.Result.{err_from_is_err_and}
-use Rattle.der_core.specs.Facts.Lists.{list_refused}
 use Rattle.x509_types.specs.LentTbs.{elements_at}
-use Rattle.der_core.specs.Optional.{SpellsOption}
-use Rattle.x509_types.specs.TbsCertificate.{IsExtensions, AreTbsFields}
+use Rattle.x509_types.proofs.Spelled.{parts_join, no_issued_by, no_issued_to, none_added}
 use Rattle.x509_types.proofs.tbs_fields.TbsFields.read.Goals as goal
 
-pub returns-in_err-copy_octets-2 : goal.returns-in_err-copy_octets-2
-returns-in_err-copy_octets-2 c =
-    let p = err_from_is_err_and c.from_residual-in_err-copy_octets-2.result c.from_residual-in_err-copy_octets-2.ensures.1 in
-    rw (p.1, p.2) tt
+pub returns-in_err-by : goal.returns-in_err-by
+returns-in_err-by c =
+    let p = err_from_is_err_and c.from_residual.result c.from_residual.ensures.1 in
+    rw (p.1, p.2) (no_issued_by (elements_at c.args.self.now) _ c.in_err-by.ensures)
 
-pub returns-in_err-read_option-2 : goal.returns-in_err-read_option-2
-returns-in_err-read_option-2 c =
-    let p = err_from_is_err_and c.from_residual-in_err-read_option-2.result c.from_residual-in_err-read_option-2.ensures.1 in
-    rw (p.1, p.2) (list_refused (SpellsOption IsExtensions (elements_at c.args.self.now).extensions) (AreTbsFields (elements_at c.args.self.now)) _ (λ tbs q. (tbs.extensions, q.extensions)) c.in_err-read_option-2.ensures)
+pub returns-in_err-to : goal.returns-in_err-to
+returns-in_err-to c =
+    let p = err_from_is_err_and c.from_residual-in_err-to.result c.from_residual-in_err-to.ensures.1 in
+    rw (p.1, p.2) (no_issued_to (elements_at c.args.self.now) _ c.in_err-to.ensures)
+
+pub returns-in_err-added : goal.returns-in_err-added
+returns-in_err-added c =
+    let p = err_from_is_err_and c.from_residual-in_err-added.result c.from_residual-in_err-added.ensures.1 in
+    rw (p.1, p.2) (none_added (elements_at c.args.self.now) _ c.in_err-added.ensures)

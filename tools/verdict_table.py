@@ -1,0 +1,239 @@
+#!/usr/bin/env python3
+"""Print the verdict table that real arithmetic gives for a signature file.
+
+    python3 tools/verdict_table.py SIG > TABLE
+
+SIG is a file with a WIN_CERTIFICATE.  Each line names one signature that openssl
+accepts, in the form that docs/FORMATS.md gives for verdict tables:
+
+  - that of the first signer over its attributes, by the key of its certificate;
+  - of each certificate that stands in the signed data, that of whoever's subject is
+    its issuer, over its TBSCertificate;
+  - of the certificates in the token of a timestamp, the same.
+
+A signature that is asked for and that openssl doesn't accept, or whose algorithm
+has no name in a table, has a line on standard error.  Nothing is said of whether
+a certificate may be believed: that is for who reads the table.
+"""
+
+import sys
+from hashlib import sha256
+from pathlib import Path
+from struct import unpack_from
+from tempfile import TemporaryDirectory
+from typing import NamedTuple
+
+from certificate_making import OpensslError, openssl
+from der_reader import Constructed, Malformed, read_first, write
+from value_reader import Shape, certificate, dotted
+
+RSA = "1.2.840.113549.1.1.1"
+EC = "1.2.840.10045.2.1"
+ED25519 = "1.3.101.112"
+CURVES = {"1.2.840.10045.3.1.7": "p256", "1.3.132.0.34": "p384", "1.3.132.0.35": "p521"}
+DIGESTS = {
+    "1.2.840.113549.2.5": "md5", "1.3.14.3.2.26": "sha1",
+    "2.16.840.1.101.3.4.2.4": "sha224", "2.16.840.1.101.3.4.2.1": "sha256",
+    "2.16.840.1.101.3.4.2.2": "sha384", "2.16.840.1.101.3.4.2.3": "sha512",
+}
+# The algorithm of a key and the digest that the identifier of a signature names (RFC 8017, RFC 5758, RFC 8410).
+SIGNATURES = {
+    "1.2.840.113549.1.1.4": (RSA, "md5"), "1.2.840.113549.1.1.5": (RSA, "sha1"),
+    "1.2.840.113549.1.1.14": (RSA, "sha224"), "1.2.840.113549.1.1.11": (RSA, "sha256"),
+    "1.2.840.113549.1.1.12": (RSA, "sha384"), "1.2.840.113549.1.1.13": (RSA, "sha512"),
+    "1.2.840.10045.4.3.2": (EC, "sha256"), "1.2.840.10045.4.3.3": (EC, "sha384"), "1.2.840.10045.4.3.4": (EC, "sha512"),
+    ED25519: (ED25519, None),
+}
+NAMES = {f"rsa-{digest}" for digest in DIGESTS.values()} | {"p256-sha256", "p384-sha384", "p521-sha512", "ed25519"}
+MICROSOFT_COUNTERSIGNATURE = "1.3.6.1.4.1.311.3.3.1"
+
+
+class NotASignatureFile(Exception):
+    """The file isn't a WIN_CERTIFICATE with signed data."""
+
+
+class Certificate(NamedTuple):
+    """The parts of a certificate that a signature rests on."""
+
+    tbs: bytes
+    serial: bytes
+    issuer: bytes
+    subject: bytes
+    key_info: Constructed
+    algorithm: str
+    signature: bytes
+
+    @classmethod
+    def of(cls, element):
+        tbs, algorithm, signature = element.kids
+        fields = [field for field in tbs.kids if field.tag != 0xA0]
+        return cls(
+            write(tbs), fields[0].contents, write(fields[2]), write(fields[4]),
+            fields[5], dotted(algorithm.kids[0].contents), signature.contents[1:],
+        )
+
+    def key_octets(self):
+        return self.key_info.kids[1].contents[1:]
+
+    def key_names(self):
+        """The identifier of the key's algorithm, and its curve, where it has one."""
+        oid, *parameters = self.key_info.kids[0].kids
+        named = [dotted(one.contents) for one in parameters if one.tag == 6]
+        return dotted(oid.contents), CURVES.get(named[0]) if named else None
+
+
+class Asked(NamedTuple):
+    """A signature that the check of a file may ask for."""
+
+    what: str
+    key: Certificate
+    algorithm: str
+    digest: str
+    message: bytes
+    signature: bytes
+
+    def name(self):
+        """The name in a table, None where there is none or the key isn't for the algorithm."""
+        algorithm, curve = self.key.key_names()
+        if algorithm != self.algorithm:
+            return None
+        name = {RSA: f"rsa-{self.digest}", EC: f"{curve}-{self.digest}", ED25519: "ed25519"}[algorithm]
+        return name if name in NAMES else None
+
+    def line(self):
+        parts = self.key.key_octets(), self.message, self.signature
+        return " ".join([self.name(), *(sha256(part).hexdigest() for part in parts)])
+
+    def is_accepted(self):
+        """Whether openssl accepts the signature."""
+        with TemporaryDirectory() as place:
+            files = {word: Path(place) / word for word in ("key", "message", "signature")}
+            for file, octets in zip(files.values(), (write(self.key.key_info), self.message, self.signature)):
+                file.write_bytes(octets)
+            try:
+                if self.digest is None:
+                    openssl("pkeyutl", "-verify", "-pubin", "-inkey", files["key"], "-keyform", "DER", "-rawin",
+                            "-in", files["message"], "-sigfile", files["signature"])
+                else:
+                    openssl("dgst", f"-{self.digest}", "-verify", files["key"], "-keyform", "DER",
+                            "-signature", files["signature"], files["message"])
+            except OpensslError:
+                return False
+        return True
+
+
+# What stands in a file.
+
+def signed_data_in(octets):
+    """The fields of the signed data in a WIN_CERTIFICATE."""
+    if len(octets) < 8:
+        raise NotASignatureFile("it has fewer than eight octets")
+    length, = unpack_from("<I", octets)
+    if not 8 <= length <= len(octets):
+        raise NotASignatureFile(f"it has {len(octets)} octets, and its header says {length}")
+    try:
+        element, _ = read_first(octets[8:length])
+    except Malformed as refusal:
+        raise NotASignatureFile(f"its certificate isn't one element of DER: {refusal}") from refusal
+    return signed_fields(element)
+
+
+def signed_fields(element):
+    """The certificates and the signers of signed data (RFC 5652 5.1)."""
+    try:
+        fields = element.kids[1].kids[0].kids
+        held = [field for field in fields[3:-1] if field.tag == 0xA0]
+        return bag(held[0].kids if held else ()), fields[-1].kids
+    except (AttributeError, IndexError) as error:
+        raise NotASignatureFile("its certificate isn't signed data") from error
+
+
+def bag(members):
+    """The members that are certificates."""
+    found = []
+    for member in members:
+        try:
+            certificate(member)
+        except Shape:
+            continue
+        found.append(Certificate.of(member))
+    return found
+
+
+# What a check may ask for.
+
+def of_signer(signer, certificates):
+    """The signature of a signer named by its issuer and serial number, by RSA with its digest (RFC 5652 5.3, 5.4)."""
+    _, named, digest, *rest = signer.kids
+    if named.tag != 0x30:
+        return
+    issuer, serial = write(named.kids[0]), named.kids[1].contents
+    attributes = rest.pop(0).kids if rest[0].tag == 0xA0 else ()
+    signature = rest[1].contents
+    name = DIGESTS.get(dotted(digest.kids[0].contents))
+    for one in certificates:
+        if (one.issuer, one.serial) == (issuer, serial):
+            yield Asked("the signer", one, RSA, name, write(Constructed(0x31, tuple(attributes))), signature)
+            return
+
+
+def of_certificates(certificates, where):
+    """The signature of each certificate by each whose subject is its issuer (RFC 5280 4.1.1.3)."""
+    for place, child in enumerate(certificates):
+        algorithm, digest = SIGNATURES.get(child.algorithm, (None, None))
+        for parent in certificates:
+            if parent.subject == child.issuer:
+                yield Asked(f"certificate {place} of {where}", parent, algorithm, digest, child.tbs, child.signature)
+
+
+def token_of(signer):
+    """The token that the first unsigned attribute holds, None where it holds none."""
+    unsigned = signer.kids[-1]
+    if unsigned.tag != 0xA1 or not unsigned.kids:
+        return None
+    kind, values = unsigned.kids[0].kids
+    return values.kids[0] if dotted(kind.contents) == MICROSOFT_COUNTERSIGNATURE and values.kids else None
+
+
+def asked_of(octets):
+    """Each signature that the check of the file may ask for."""
+    certificates, signers = signed_data_in(octets)
+    if signers:
+        yield from of_signer(signers[0], certificates)
+    yield from of_certificates(certificates, "the signed data")
+    token = token_of(signers[0]) if signers else None
+    if token is not None:
+        yield from of_certificates(signed_fields(token)[0], "the token")
+
+
+def table(octets):
+    """The lines of the table, and what has none."""
+    lines, lacking = [], []
+    for asked in asked_of(octets):
+        if asked.name() is None:
+            lacking.append(f"{asked.what}: no name in a table")
+        elif not asked.is_accepted():
+            lacking.append(f"{asked.what}: not accepted as {asked.name()}")
+        elif asked.line() not in lines:
+            lines.append(asked.line())
+    return lines, lacking
+
+
+def main(arguments):
+    if len(arguments) != 1:
+        print("usage: verdict_table.py SIG", file=sys.stderr)
+        return 2
+    try:
+        lines, lacking = table(Path(arguments[0]).read_bytes())
+    except (OSError, NotASignatureFile) as error:
+        print(f"verdict_table.py: {arguments[0]}: {error}", file=sys.stderr)
+        return 1
+    for line in lines:
+        print(line)
+    for line in lacking:
+        print(f"verdict_table.py: {line}", file=sys.stderr)
+    return 0
+
+
+if __name__ == "__main__":
+    sys.exit(main(sys.argv[1:]))
