@@ -1,6 +1,7 @@
 pub mod Keyless
 pub mod KeptCertificate
 pub mod FirstValue
+pub mod SaidValues
 pub mod CertType
 pub mod Parent
 pub mod CertRefusals

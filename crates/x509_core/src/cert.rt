@@ -132,6 +132,13 @@ impl Cert {
         Ok(Vec::from_slice(alloc, self.kept.as_bytes())?)
     }
 
+    /// The octets that are kept, where they lie. It takes no memory.
+    pub fn as_bytes(&self) -> &[u8]
+        ensures { result.now ≡ kept_octets self.now }
+    {
+        self.kept.as_bytes()
+    }
+
     /// The certificate of a value, with the octets that are written for it. A value that has none is
     /// refused as `Asn1Serialization`.
     pub fn from_certificate(alloc: Global, certificate: Certificate) -> Result<Cert, CertError>

@@ -33,7 +33,7 @@ pub enum CertError {
         element: Element,
         source: DerError,
     },
-    /// Certificates are no chain.
+    /// Certificates are no chain. No call answers this yet.
     InvalidChain {
         source: CaChainError,
     },

@@ -2,7 +2,9 @@
 
 ghost use Rattle.der_core.specs.DerElement.{DerElement};
 ghost use Rattle.x509_types.specs.Certificate.{IsCertificate};
+ghost use Rattle.x509_types.specs.CertificateElements.{CertificateElements, AreCertificateFields};
 ghost use Rattle.x509_types.specs.declared.certificate.Certificate.{Certificate};
+ghost use Rattle.x509_core.specs.SaidValues.{SayTheSame};
 ghost use Rattle.x509_core.specs.Spellings.{IsWrittenAlike};
 
 /// What is read of an element as a certificate is written as that element, but for its extensions
@@ -11,4 +13,11 @@ ghost use Rattle.x509_core.specs.Spellings.{IsWrittenAlike};
 /// may have other octets, for that reason alone.
 pub fn certificates_are_written_as_read()
     ensures { (element : DerElement) (c : Certificate) → IsCertificate element c → IsWrittenAlike element c }
+{}
+
+/// What the elements of a certificate say of its keys, of its being an authority's and of the length
+/// of paths, the first extensions of its value say, and the other way around. So what `CertView` lends
+/// of them is what `Cert` has.
+pub fn elements_and_values_say_the_same()
+    ensures { (f : CertificateElements) (c : Certificate) → AreCertificateFields f c → SayTheSame f c }
 {}

@@ -15,5 +15,5 @@ pub use cert::Cert;
 pub use cert_type::CertType;
 pub use error::{CaChainError, CertCause, CertError, ExtName};
 pub use key_core::Element;
-pub use laws::certificates_are_written_as_read;
+pub use laws::{certificates_are_written_as_read, elements_and_values_say_the_same};
 pub use parent::names_agree;

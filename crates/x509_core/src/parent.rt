@@ -32,8 +32,9 @@ impl Cert {
         // Whatever memory there is.
         ensures accepted { AgreeByKeyAndName self.now.elements other.now.elements → result ≡ Ok tt }
     {
-        match key_link(self.view(), other.view()) {
-            KeyLink::Agree => self.expect_issuer_of(alloc, other),
+        let (parent, child) = (self.view(), other.view());
+        match key_link(parent, child) {
+            KeyLink::Agree => self.expect_issuer_of(alloc, other, names_agree(parent, child)),
             KeyLink::Missing => {
                 let name = ExtName::SubjectKeyIdentifier;
                 Err(self.invalid(alloc, CertCause::ExtensionNotFound { name }))
@@ -44,15 +45,15 @@ impl Cert {
         }
     }
 
-    /// The issuer of the other certificate is the subject of this one.
-    fn expect_issuer_of(&self, alloc: Global, other: &Cert) -> Result<(), CertError>
-        requires { AgreeByKey self.now.elements other.now.elements }
+    /// The issuer of the other certificate is the subject of this one, by whether their names agree.
+    fn expect_issuer_of(&self, alloc: Global, other: &Cert, agree: bool) -> Result<(), CertError>
+        requires { AgreeByKey self.now.elements other.now.elements × (IsTrue agree ↔ AgreeByName self.now.elements other.now.elements) }
         ensures answer { MatchResult result
             (λ _. AgreeByKeyAndName self.now.elements other.now.elements)
             (RefusesParent self.now other.now) }
         ensures accepted { AgreeByName self.now.elements other.now.elements → result ≡ Ok tt }
     {
-        if names_agree(self.view(), other.view()) {
+        if agree {
             return Ok(());
         }
         let source = CaChainError::IssuerNameMismatch {
