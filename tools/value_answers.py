@@ -235,6 +235,7 @@ READ_AS = [
     ("validity", structures.VALIDITIES, structures.NO_VALIDITIES),
     ("general_names", structures.GENERAL_NAMES, structures.NO_GENERAL_NAMES),
     ("valued_attribute", structures.ATTRIBUTES, structures.NO_ATTRIBUTES),
+    ("request", structures.REQUESTS, structures.NO_REQUESTS),
 ]
 
 UNLIKE = [
@@ -252,6 +253,7 @@ UNLIKE = [
     ("ia5", structures.UNLIKE_IA5),
     ("extension", structures.UNLIKE_EXTENSIONS),
     ("valued_attribute", structures.UNLIKE_ATTRIBUTES),
+    ("request", structures.UNLIKE_REQUESTS),
 ]
 
 
@@ -305,6 +307,8 @@ def unlike_rows():
         yield f"unlike extension {one} {other}", "equal"
     for one, other, _ in structures.LIKE_ATTRIBUTES:
         yield f"unlike valued_attribute {one} {other}", "equal"
+    for one, other, _ in structures.LIKE_REQUESTS:
+        yield f"unlike request {one} {other}", "equal"
 
 
 def made_row(call, kind, element):
@@ -742,7 +746,7 @@ def stored_run(program, rows_and_lines):
 def is_extension(row_and_line):
     """Whether a row is one of `extension_answers`: its second word says so."""
     row, _ = row_and_line
-    return row.split()[1] in ("extension", "general_name", "general_names", "validity", "valued_attribute")
+    return row.split()[1] in ("extension", "general_name", "general_names", "validity", "valued_attribute", "request")
 
 
 def stored_files():

@@ -575,8 +575,30 @@ def valued_attribute(element):
     return f"{line} {word(write(Constructed(0x30, (fields[0], Constructed(0x31, written)))))}"
 
 
+def request(element):
+    """A CertificationRequest (RFC 2986 4.2), field by field, and what is written for it."""
+    parts = kids(element, 0x30)
+    need(len(parts) == 3)
+    info, outer, signature = parts
+    fields = list(kids(info, 0x30))
+    need(len(fields) >= 3 and fields[0] == Primitive(2, b"\0"))
+    version, subject, subject_key, *rest = fields
+    name(subject), key(subject_key)
+    listed, shown = given(rest, 0xA0), "none"
+    need(not rest)
+    written = [version, subject, subject_key]
+    if listed is not None:
+        lines = list(map(valued_attribute, kids(listed, 0xA0)))
+        shown = " ".join((str(len(lines)), *lines))
+        written.append(Constructed(0xA0, tuple(read_exact(bytes.fromhex(line.split()[-1])) for line in lines)))
+    whole_request = Constructed(0x30, (Constructed(0x30, tuple(written)), outer, signature))
+    return " ".join((
+        whole(subject), whole(subject_key), shown, algorithm(outer).split()[0], bits(contents(signature, 3)), whole(whole_request),
+    ))
+
+
 # Of these what is written may be another element than the one that was read; it is printed last.
-WRITTEN_ANEW = ("extension", "certificate", "valued_attribute")
+WRITTEN_ANEW = ("extension", "certificate", "valued_attribute", "request")
 
 KINDS = {
     "integer": lambda element: integer(contents(element, 2)).split()[0],
@@ -599,6 +621,7 @@ KINDS = {
     "general_names": general_names,
     "certificate": certificate,
     "valued_attribute": valued_attribute,
+    "request": request,
 }
 
 

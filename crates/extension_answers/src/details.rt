@@ -55,7 +55,7 @@ fn key_usage(alloc: Global, usage: &KeyUsage) -> Result<String, AllocError> {
     format!(in alloc; "KeyUsage {bits} {flags}")
 }
 
-fn bits(alloc: Global, bits: &BitString) -> Result<String, AllocError> {
+pub fn bits(alloc: Global, bits: &BitString) -> Result<String, AllocError> {
     let (unused, payload) = (bits.unused(), word_of(alloc, bits.payload_view())?);
     format!(in alloc; "{unused} {payload}")
 }

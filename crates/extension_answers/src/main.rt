@@ -1,5 +1,5 @@
-//! What is answered to rows of a file on extensions, attributes, general names and validities, for a
-//! comparison with other answers.
+//! What is answered to rows of a file on extensions, attributes, requests, general names and
+//! validities, for a comparison with other answers.
 //!
 //! ```text
 //! extension_answers FILE
@@ -18,6 +18,7 @@ mod general_finding;
 mod general_making;
 mod making;
 mod reading;
+mod request_details;
 mod row;
 
 use anyhow::{Result, bail};

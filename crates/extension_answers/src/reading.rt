@@ -3,6 +3,7 @@
 use crate::details::Details;
 use anyhow::{Result, bail};
 use der_core::{DerError, Structure};
+use request_types::CertificationRequest;
 use row_answers::{are_equal, comes_back, octets_of, shown_shape, value_of};
 use std::alloc::Global;
 use x509_types::{Attribute, Extension, RawGeneralNames, Validity};
@@ -15,6 +16,7 @@ pub fn answer(alloc: Global, kind: &str, element: &str) -> Result<String> {
         "general_names" => read_of::<RawGeneralNames>(alloc, &element),
         "validity" => read_of::<Validity>(alloc, &element),
         "valued_attribute" => read_of::<Attribute>(alloc, &element),
+        "request" => read_of::<CertificationRequest>(alloc, &element),
         _ => bail!("no structure has the kind {kind}"),
     };
     Ok(answer?)
@@ -47,6 +49,7 @@ pub fn answer_unlike(alloc: Global, kind: &str, one: &str, other: &str) -> Resul
         "general_names" => are_equal::<RawGeneralNames>(alloc, &one, &other),
         "validity" => are_equal::<Validity>(alloc, &one, &other),
         "valued_attribute" => are_equal::<Attribute>(alloc, &one, &other),
+        "request" => are_equal::<CertificationRequest>(alloc, &one, &other),
         _ => bail!("no structure has the kind {kind}"),
     };
     let answer = if equal? { "equal" } else { "unlike" };

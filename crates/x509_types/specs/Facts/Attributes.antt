@@ -28,11 +28,11 @@ same_attribute a b ty value =
     (λ h. ap (attribute_with a.ty a.value) (same_attribute_kinds (kind_of_values a.value) (named_attribute (identifier_contents a.ty)) a.fits h)) in
     subst (λ (i : ObjectIdentifier). (h : kind_of_values b.value ≡ named_attribute (identifier_contents i)) → a ≡ attribute_with i b.value h) ty with_value b.fits
 
-same_id : (a b : ObjectIdentifier) → object_identifier a ≡ object_identifier b → a ≡ b
+pub same_id : (a b : ObjectIdentifier) → object_identifier a ≡ object_identifier b → a ≡ b
 same_id a b e = identifiers.once (object_identifier a) a b refl e
 
 -- attributes of one identifier have values of one kind
-same_kind : (a b : Attribute) → a.ty ≡ b.ty → kind_of_values a.value ≡ kind_of_values b.value
+pub same_kind : (a b : Attribute) → a.ty ≡ b.ty → kind_of_values a.value ≡ kind_of_values b.value
 same_kind a b ty = a.fits ∙ ap (λ (i : ObjectIdentifier). named_attribute (identifier_contents i)) ty ∙ sym b.fits
 
 -- two elements stand in a sequence once
@@ -45,7 +45,7 @@ attributes_once element a b p q =
     let ty = same_id a.ty b.ty same.0 in
     same_attribute a b ty (values_once q.values a.value b.value (same_kind a b ty) (subst (λ (v : DerElement). AreAttributeValues v a.value) same.1 p.spelled) q.spelled)
 
-attributes_told : (a b : Attribute) → asked_kinds a.value ≡ asked_kinds b.value → attribute a ≡ attribute b → a ≡ b
+pub attributes_told : (a b : Attribute) → asked_kinds a.value ≡ asked_kinds b.value → attribute a ≡ attribute b → a ≡ b
 attributes_told a b asked e =
     let same = same_two (object_identifier a.ty) (attribute_values a.value) (object_identifier b.ty) (attribute_values b.value) e in
     let ty = same_id a.ty b.ty same.0 in

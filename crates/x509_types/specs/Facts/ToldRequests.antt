@@ -9,11 +9,11 @@ use Rattle.x509_types.specs.TbsCertificate.{extensions}
 use Rattle.x509_types.specs.Facts.ToldExtensions.{number_of, AreSmall, lists_told, small_list}
 use Rattle.x509_types.specs.declared.extension.Extension.{Extension}
 
-abbrev kinds_of : List (List Extension) → List ℕ
+abbrev pub kinds_of : List (List Extension) → List ℕ
 kinds_of requests = flat_map (λ (request : List Extension). value_kinds (Some request)) requests
 
 -- where the same is written for extensions, there are as many kinds of both
-split_kinds : (x y : List Extension) (r s : List ℕ) → map extension x ≡ map extension y → map number_of x ++ r ≡ map number_of y ++ s → (map number_of x ≡ map number_of y) × (r ≡ s)
+pub split_kinds : (x y : List Extension) (r s : List ℕ) → map extension x ≡ map extension y → map number_of x ++ r ≡ map number_of y ++ s → (map number_of x ≡ map number_of y) × (r ≡ s)
 split_kinds [] [] r s w e = (refl, e)
 split_kinds [] (b ∷ y) r s w e = absurd cc
 split_kinds (a ∷ x) [] r s w e = absurd cc
@@ -46,7 +46,7 @@ requests_told a b k e = each_told a b k (same_members (map extensions a) (map ex
 
 -- ---- the kinds end where an element begins
 
-small_append : (ks ls : List ℕ) → AreSmall ks → AreSmall ls → AreSmall (ks ++ ls)
+pub small_append : (ks ls : List ℕ) → AreSmall ks → AreSmall ls → AreSmall (ks ++ ls)
 small_append [] ls f g = g
 small_append (k ∷ ks) ls f g = (f.0, small_append ks ls f.1 g)
 

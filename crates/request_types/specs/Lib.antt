@@ -1,0 +1,4 @@
+pub mod RequestElements
+pub mod RequestInfo
+pub mod CertificationRequest
+pub mod Facts

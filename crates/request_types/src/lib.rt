@@ -1,0 +1,8 @@
+//! Requests for certificates (RFC 2986) as values, read from octets or trees and written as trees.
+#![tactic(auto)]
+
+mod request;
+mod request_info;
+
+pub use request::CertificationRequest;
+pub use request_info::CertificationRequestInfo;

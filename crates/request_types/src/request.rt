@@ -1,0 +1,121 @@
+//! Requests for certificates.
+
+ghost use Rattle.std.specs.Prelude.{◌≡◌, ◌↔◌, IsTrue, MatchOption};
+ghost use Rattle.der_core.specs.Structure.{Fits};
+
+use crate::request_info::CertificationRequestInfo;
+use asn1_types::BitString;
+use der_core::tag::SEQUENCE;
+use der_core::{DerError, Elem, NewKids, Structure, Tree, expect, three_kids};
+use key_types::AlgorithmIdentifier;
+use std::alloc::{AllocError, Global};
+
+/// A request for a certificate: what is signed, the algorithm of the signature, and the signature
+/// (RFC 2986 4.2).
+#[derive(Debug, Drop)]
+pub struct CertificationRequest {
+    pub certification_request_info: CertificationRequestInfo,
+    pub signature_algorithm: AlgorithmIdentifier,
+    pub signature: BitString,
+}
+
+impl CertificationRequest {
+    ghost use Rattle.request_types.specs.CertificationRequest.{IsRequest};
+    ghost use Rattle.request_types.specs.declared.request.CertificationRequest.{CertificationRequest};
+
+    /// The element spells a request.
+    fn expect_shapes(elem: Elem<'_>) -> Option<()>
+        ensures { MatchOption result
+            ((r : CertificationRequest) → IsRequest elem.entry.is.0 r → ⊥)
+            (λ _. Fits IsRequest elem.entry.is.0) }
+    {
+        let Some((info, algorithm, value)) = three_kids(elem, SEQUENCE) else {
+            return None;
+        };
+        expect::<CertificationRequestInfo>(info)?;
+        expect::<AlgorithmIdentifier>(algorithm)?;
+        expect::<BitString>(value)?;
+        Some(())
+    }
+}
+
+impl Structure for CertificationRequest {
+    ghost use Rattle.request_types.specs.CertificationRequest.{request, inner_of_request, IsRequest};
+    ghost use Rattle.request_types.specs.Facts.Requests.{requests};
+
+    ghost written = { request };
+
+    ghost spells = { IsRequest };
+
+    ghost inner = { inner_of_request };
+
+    fn has_shape(elem: Elem<'_>) -> bool {
+        CertificationRequest::expect_shapes(elem).is_some()
+    }
+
+    fn read_at(alloc: Global, elem: Elem<'_>) -> Result<CertificationRequest, DerError> {
+        let Some((info, algorithm, value)) = three_kids(elem, SEQUENCE) else {
+            return Err(DerError::Shape);
+        };
+        let certification_request_info = CertificationRequestInfo::read_at(alloc, info)?;
+        let signature_algorithm = AlgorithmIdentifier::read_at(alloc, algorithm)?;
+        let signature = BitString::read_at(alloc, value)?;
+        Ok(CertificationRequest {
+            certification_request_info,
+            signature_algorithm,
+            signature,
+        })
+    }
+
+    fn write(&self, alloc: Global) -> Result<Tree, DerError> {
+        let mut kids = NewKids::new(alloc);
+        kids.push(self.certification_request_info.write(alloc)?)?;
+        kids.push(self.signature_algorithm.write(alloc)?)?;
+        kids.push(self.signature.write(alloc)?)?;
+        Ok(kids.into_branch(SEQUENCE))
+    }
+
+    fn try_clone(&self, alloc: Global) -> Result<CertificationRequest, AllocError> {
+        Ok(CertificationRequest {
+            certification_request_info: self.certification_request_info.try_clone(alloc)?,
+            signature_algorithm: self.signature_algorithm.try_clone(alloc)?,
+            signature: self.signature.try_clone(alloc)?,
+        })
+    }
+
+    ghost grammar = { requests };
+}
+
+/// Requests are equal exactly where the kinds of the values of their extensions are, and the octets that
+/// are written for them; the octets alone decide where they can be written.
+impl PartialEq for CertificationRequest {
+    ghost use Rattle.std.specs.Ordering.{on};
+    ghost use Rattle.std.specs.Cmp.Lexicographic.{nat_list_eq_equiv};
+    ghost use Rattle.std.specs.Cmp.{on_per, partial_equiv_from_equiv};
+    ghost use Rattle.std.specs.Prelude.{bytes_eq};
+    ghost use Rattle.der_core.specs.Equality.{same_octets};
+    ghost use Rattle.der_core.specs.Placed.{AreDer};
+    ghost use Rattle.request_types.specs.CertificationRequest.{request, inner_of_request, request_octets};
+
+    ghost eq = { on (λ value. request_octets value) bytes_eq };
+
+    ghost laws = { on_per (λ value. request_octets value) (partial_equiv_from_equiv nat_list_eq_equiv) };
+
+    fn eq(&self, other: &CertificationRequest) -> bool
+        ensures octets { AreDer (inner_of_request self.now) → AreDer (inner_of_request other.now) → result ≡ same_octets request self.now other.now }
+        ensures told { result ≡ bytes_eq (request_octets self.now) (request_octets other.now) }
+        ensures same { IsTrue result ↔ (self.now ≡ other.now) }
+    {
+        self.certification_request_info == other.certification_request_info
+            && self.signature_algorithm == other.signature_algorithm
+            && self.signature == other.signature
+    }
+}
+
+impl Eq for CertificationRequest {
+    ghost use Rattle.std.specs.Cmp.Lexicographic.{nat_list_eq_equiv};
+    ghost use Rattle.std.specs.Cmp.{on_equiv};
+    ghost use Rattle.request_types.specs.CertificationRequest.{request_octets};
+
+    ghost laws = { on_equiv (λ value. request_octets value) nat_list_eq_equiv };
+}
