@@ -8,3 +8,4 @@ pub mod ListFields
 pub mod Fields
 pub mod Viewed
 pub mod Unsigned
+pub mod MemberLaws
