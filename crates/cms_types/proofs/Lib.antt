@@ -8,3 +8,5 @@ pub mod ListFields
 pub mod Fields
 pub mod Viewed
 pub mod Unsigned
+pub mod Equal
+pub mod MemberLaws

@@ -72,6 +72,9 @@ pub alone_inner : {X : Type 0} (written : X → DerElement) (values : List X) �
 alone_inner written [] = refl
 alone_inner written (v ∷ values) = ap (λ es. written v ∷ es) (alone_inner written values)
 
+pub alone_refused : {X : Type 0} (written : X → DerElement) (values : List X) (e : DerError) → RefusesInner (all_inner (λ value. []) written values) e → RefusesInner (map written values) e
+alone_refused written values e refused = subst (λ inner. RefusesInner inner e) (alone_inner written values) refused
+
 -- ---- values without elements in strings of them
 
 abbrev no_inner : List DerElement

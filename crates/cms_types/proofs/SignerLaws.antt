@@ -25,7 +25,6 @@ use Rattle.asn1_types.specs.declared.oid.ObjectIdentifier.{ObjectIdentifier}
 use Rattle.asn1_types.proofs.KnownTable.{known_is}
 use Rattle.asn1_types.specs.declared.oids.TheConstants.{COUNTERSIGNATURE, RFC3161_COUNTER_SIGN}
 use Rattle.key_types.specs.AlgorithmIdentifier.{algorithm_identifier}
-use Rattle.content_types.specs.ContentInfo.{content_info}
 use Rattle.cms_types.specs.CertificateChoices.{certificate_choice}
 use Rattle.cms_types.specs.SignedAttributes.{AreSignedAttributes}
 use Rattle.cms_types.specs.SignedAttributesElement.{signed_attributes}

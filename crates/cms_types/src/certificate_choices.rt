@@ -80,3 +80,28 @@ impl Structure for CertificateChoices {
 
     ghost grammar = { certificate_choices };
 }
+
+/// Certificates are equal exactly where their elements are.
+impl PartialEq for CertificateChoices {
+    ghost use Rattle.std.specs.Prelude.{◌≡◌, ◌↔◌, IsTrue};
+    ghost use Rattle.der_core.specs.Equality.{same_octets, same_octets_per};
+    ghost use Rattle.cms_types.specs.CertificateChoices.{certificate_choice};
+
+    ghost eq = { same_octets certificate_choice };
+
+    ghost laws = { same_octets_per certificate_choice };
+
+    fn eq(&self, other: &CertificateChoices) -> bool
+        ensures octets { result ≡ same_octets certificate_choice self.now other.now }
+        ensures same { IsTrue result ↔ (self.now ≡ other.now) }
+    {
+        *self.element() == *other.element()
+    }
+}
+
+impl Eq for CertificateChoices {
+    ghost use Rattle.der_core.specs.Equality.{same_octets_equiv};
+    ghost use Rattle.cms_types.specs.CertificateChoices.{certificate_choice};
+
+    ghost laws = { same_octets_equiv certificate_choice };
+}

@@ -59,3 +59,28 @@ impl Structure for IssuerAndSerialNumber {
 
     ghost grammar = { issuers_and_serials };
 }
+
+/// Values are equal exactly where their octets are.
+impl PartialEq for IssuerAndSerialNumber {
+    ghost use Rattle.std.specs.Prelude.{◌≡◌, ◌↔◌, IsTrue};
+    ghost use Rattle.der_core.specs.Equality.{same_octets, same_octets_per};
+    ghost use Rattle.cms_types.specs.SignerIdentifier.{issuer_and_serial_number};
+
+    ghost eq = { same_octets issuer_and_serial_number };
+
+    ghost laws = { same_octets_per issuer_and_serial_number };
+
+    fn eq(&self, other: &IssuerAndSerialNumber) -> bool
+        ensures octets { result ≡ same_octets issuer_and_serial_number self.now other.now }
+        ensures same { IsTrue result ↔ (self.now ≡ other.now) }
+    {
+        self.issuer == other.issuer && self.serial_number == other.serial_number
+    }
+}
+
+impl Eq for IssuerAndSerialNumber {
+    ghost use Rattle.der_core.specs.Equality.{same_octets_equiv};
+    ghost use Rattle.cms_types.specs.SignerIdentifier.{issuer_and_serial_number};
+
+    ghost laws = { same_octets_equiv issuer_and_serial_number };
+}

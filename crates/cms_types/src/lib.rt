@@ -9,6 +9,7 @@ mod issuer_and_serial;
 mod laws;
 mod levels;
 mod list_fields;
+mod members;
 mod opus_info;
 mod pkcs7;
 mod raw_certificate;

@@ -50,3 +50,29 @@ impl Structure for Pkcs7Certificate {
 
     ghost grammar = { pkcs7s };
 }
+
+/// Values are equal exactly where they are written as the same element.
+impl PartialEq for Pkcs7Certificate {
+    ghost use Rattle.std.specs.Prelude.{◌≡◌, ◌↔◌, IsTrue};
+    ghost use Rattle.der_core.specs.Equality.{same_octets, same_octets_per};
+    ghost use Rattle.cms_types.specs.Pkcs7.{pkcs7};
+
+    ghost eq = { same_octets pkcs7 };
+
+    ghost laws = { same_octets_per pkcs7 };
+
+    fn eq(&self, other: &Pkcs7Certificate) -> bool
+        ensures octets { result ≡ same_octets pkcs7 self.now other.now }
+        ensures same { IsTrue result ↔ (self.now ≡ other.now) }
+        ensures written { IsTrue result ↔ (pkcs7 self.now ≡ pkcs7 other.now) }
+    {
+        self.signed_data == other.signed_data
+    }
+}
+
+impl Eq for Pkcs7Certificate {
+    ghost use Rattle.der_core.specs.Equality.{same_octets_equiv};
+    ghost use Rattle.cms_types.specs.Pkcs7.{pkcs7};
+
+    ghost laws = { same_octets_equiv pkcs7 };
+}

@@ -1,6 +1,6 @@
 //! Unsigned attributes of other types.
 
-ghost use Rattle.std.specs.Prelude.{◌≡◌, ◌≢◌, [], IfOk, MatchOption, MatchResult};
+ghost use Rattle.std.specs.Prelude.{◌≡◌, ◌≢◌, ◌↔◌, [], IfOk, IsTrue, MatchOption, MatchResult};
 ghost use Rattle.der_core.specs.Encoding.{IsWellFormed};
 ghost use Rattle.der_core.specs.Refusals.{RefusesInner};
 ghost use Rattle.asn1_types.specs.Values.{identifier_contents};
@@ -51,6 +51,20 @@ impl RawUnsignedAttribute {
             values: self.values.try_clone(alloc)?,
         })
     }
+
+    /// Whether identifier and values are the same.
+    pub(crate) fn is_same(&self, other: &RawUnsignedAttribute) -> bool
+        ensures { IsTrue result ↔ (self.now ≡ other.now) }
+    {
+        self.ty == other.ty && are_same_elements(&self.values, &other.values)
+    }
+}
+
+/// Whether the elements are the same, one by one.
+pub(crate) fn are_same_elements(a: &RawList, b: &RawList) -> bool
+    ensures { IsTrue result ↔ (a.now ≡ b.now) }
+{
+    a == b
 }
 
 /// The element of an attribute of this identifier, by its contents octets, and these values.

@@ -65,3 +65,28 @@ impl Structure for SignedAttributes {
 
     ghost grammar = { all_signed_attributes };
 }
+
+/// Signed attributes are equal exactly where their elements are: these tell the attributes.
+impl PartialEq for SignedAttributes {
+    ghost use Rattle.std.specs.Prelude.{◌↔◌, IsTrue};
+    ghost use Rattle.der_core.specs.Equality.{same_octets, same_octets_per};
+    ghost use Rattle.cms_types.specs.SignedAttributesElement.{signed_attributes};
+
+    ghost eq = { same_octets signed_attributes };
+
+    ghost laws = { same_octets_per signed_attributes };
+
+    fn eq(&self, other: &SignedAttributes) -> bool
+        ensures octets { result ≡ same_octets signed_attributes self.now other.now }
+        ensures same { IsTrue result ↔ (self.now ≡ other.now) }
+    {
+        self.element == other.element
+    }
+}
+
+impl Eq for SignedAttributes {
+    ghost use Rattle.der_core.specs.Equality.{same_octets_equiv};
+    ghost use Rattle.cms_types.specs.SignedAttributesElement.{signed_attributes};
+
+    ghost laws = { same_octets_equiv signed_attributes };
+}

@@ -1,5 +1,7 @@
 //! Signed data.
 
+ghost use Rattle.std.specs.Prelude.{◌≡◌, ◌↔◌, IsTrue};
+
 use crate::certificate_choices::CertificateChoices;
 use crate::list_fields::{copy_list, push_list, read_list_option};
 use crate::raw_unsigned::RawList;
@@ -59,8 +61,63 @@ impl SignedDataFields<'_> {
     }
 }
 
+impl SignedData {
+    /// Whether the digest algorithms and the signers are the same.
+    fn has_same_lists(&self, other: &SignedData) -> bool
+        ensures { IsTrue result ↔ (self.now.digest_algorithms ≡ other.now.digest_algorithms) × (self.now.signers_infos ≡ other.now.signers_infos) }
+    {
+        are_same_algorithms(&self.digest_algorithms, &other.digest_algorithms)
+            && are_same_signers(&self.signers_infos, &other.signers_infos)
+    }
+
+    /// Whether the certificates and the revocation lists are the same, where they aren't left out.
+    fn has_same_options(&self, other: &SignedData) -> bool
+        ensures { IsTrue result ↔ (self.now.certificates ≡ other.now.certificates) × (self.now.crls ≡ other.now.crls) }
+    {
+        are_same_certificates(&self.certificates, &other.certificates)
+            && are_same_lists(&self.crls, &other.crls)
+    }
+
+    /// Whether each field is the same.
+    fn is_same(&self, other: &SignedData) -> bool
+        ensures { IsTrue result ↔ (self.now ≡ other.now) }
+    {
+        self.has_same_lists(other)
+            && self.has_same_options(other)
+            && self.version == other.version
+            && self.content_info == other.content_info
+    }
+}
+
+/// Whether the algorithms are the same.
+fn are_same_algorithms(a: &DigestAlgorithms, b: &DigestAlgorithms) -> bool
+    ensures { IsTrue result ↔ (a.now ≡ b.now) }
+{
+    a == b
+}
+
+/// Whether the signers are the same.
+fn are_same_signers(a: &SignersInfos, b: &SignersInfos) -> bool
+    ensures { IsTrue result ↔ (a.now ≡ b.now) }
+{
+    a == b
+}
+
+/// Whether the certificates are the same, each given or left out.
+fn are_same_certificates(a: &Option<CertificateSet>, b: &Option<CertificateSet>) -> bool
+    ensures { IsTrue result ↔ (a.now ≡ b.now) }
+{
+    a == b
+}
+
+/// Whether the revocation lists are the same, each given or left out.
+fn are_same_lists(a: &Option<RawList>, b: &Option<RawList>) -> bool
+    ensures { IsTrue result ↔ (a.now ≡ b.now) }
+{
+    a == b
+}
+
 impl Structure for SignedData {
-    ghost use Rattle.std.specs.Prelude.{◌≡◌};
     ghost use Rattle.cms_types.specs.SignedData.{signed_data};
     ghost use Rattle.cms_types.specs.Facts.SignedDatas.{all_signed_data};
 
@@ -102,4 +159,29 @@ impl Structure for SignedData {
     }
 
     ghost grammar = { all_signed_data };
+}
+
+/// Signed data is equal exactly where it is written as the same element.
+impl PartialEq for SignedData {
+    ghost use Rattle.der_core.specs.Equality.{same_octets, same_octets_per};
+    ghost use Rattle.cms_types.specs.SignedData.{signed_data};
+
+    ghost eq = { same_octets signed_data };
+
+    ghost laws = { same_octets_per signed_data };
+
+    fn eq(&self, other: &SignedData) -> bool
+        ensures octets { result ≡ same_octets signed_data self.now other.now }
+        ensures same { IsTrue result ↔ (self.now ≡ other.now) }
+        ensures written { IsTrue result ↔ (signed_data self.now ≡ signed_data other.now) }
+    {
+        self.is_same(other)
+    }
+}
+
+impl Eq for SignedData {
+    ghost use Rattle.der_core.specs.Equality.{same_octets_equiv};
+    ghost use Rattle.cms_types.specs.SignedData.{signed_data};
+
+    ghost laws = { same_octets_equiv signed_data };
 }

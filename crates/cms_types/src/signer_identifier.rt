@@ -66,3 +66,38 @@ impl Structure for SignerIdentifier {
 
     ghost grammar = { signer_identifiers };
 }
+
+/// Values are equal exactly where their octets are.
+impl PartialEq for SignerIdentifier {
+    ghost use Rattle.std.specs.Prelude.{◌≡◌, ◌↔◌, IsTrue};
+    ghost use Rattle.der_core.specs.Equality.{same_octets, same_octets_per};
+    ghost use Rattle.cms_types.specs.SignerIdentifier.{signer_identifier};
+
+    ghost eq = { same_octets signer_identifier };
+
+    ghost laws = { same_octets_per signer_identifier };
+
+    fn eq(&self, other: &SignerIdentifier) -> bool
+        ensures octets { result ≡ same_octets signer_identifier self.now other.now }
+        ensures same { IsTrue result ↔ (self.now ≡ other.now) }
+    {
+        match (self, other) {
+            (
+                SignerIdentifier::IssuerAndSerialNumber(a),
+                SignerIdentifier::IssuerAndSerialNumber(b),
+            ) => *a == *b,
+            (
+                SignerIdentifier::SubjectKeyIdentifier(a),
+                SignerIdentifier::SubjectKeyIdentifier(b),
+            ) => *a == *b,
+            _ => false,
+        }
+    }
+}
+
+impl Eq for SignerIdentifier {
+    ghost use Rattle.der_core.specs.Equality.{same_octets_equiv};
+    ghost use Rattle.cms_types.specs.SignerIdentifier.{signer_identifier};
+
+    ghost laws = { same_octets_equiv signer_identifier };
+}

@@ -1,5 +1,7 @@
 //! Signers.
 
+ghost use Rattle.std.specs.Prelude.{◌≡◌, ◌↔◌, IsTrue};
+
 use crate::list_fields::{copy_list, push_list, read_list_option};
 use crate::shapes::is_signer_info;
 use crate::signed_attributes::SignedAttributes;
@@ -48,8 +50,50 @@ impl SignerFields<'_> {
     }
 }
 
+impl SignerInfo {
+    /// Whether the attributes are the same, signed and unsigned.
+    fn has_same_attributes(&self, other: &SignerInfo) -> bool
+        ensures { IsTrue result ↔ (self.now.signed_attrs ≡ other.now.signed_attrs) × (self.now.unsigned_attrs ≡ other.now.unsigned_attrs) }
+    {
+        are_same_signed(&self.signed_attrs, &other.signed_attrs)
+            && are_same_unsigned(&self.unsigned_attrs, &other.unsigned_attrs)
+    }
+
+    /// Whether the signatures are the same, with both algorithms.
+    fn has_same_signature(&self, other: &SignerInfo) -> bool
+        ensures { IsTrue result ↔ (self.now.digest_algorithm ≡ other.now.digest_algorithm) × ((self.now.signature_algorithm ≡ other.now.signature_algorithm) × (self.now.signature ≡ other.now.signature)) }
+    {
+        self.digest_algorithm == other.digest_algorithm
+            && self.signature_algorithm == other.signature_algorithm
+            && self.signature == other.signature
+    }
+
+    /// Whether each field is the same.
+    fn is_same(&self, other: &SignerInfo) -> bool
+        ensures { IsTrue result ↔ (self.now ≡ other.now) }
+    {
+        self.has_same_attributes(other)
+            && self.has_same_signature(other)
+            && self.version == other.version
+            && self.sid == other.sid
+    }
+}
+
+/// Whether the signed attributes are the same, each given or left out.
+fn are_same_signed(a: &Option<SignedAttributes>, b: &Option<SignedAttributes>) -> bool
+    ensures { IsTrue result ↔ (a.now ≡ b.now) }
+{
+    a == b
+}
+
+/// Whether the unsigned attributes are the same, each given or left out.
+fn are_same_unsigned(a: &Option<UnsignedAttributeList>, b: &Option<UnsignedAttributeList>) -> bool
+    ensures { IsTrue result ↔ (a.now ≡ b.now) }
+{
+    a == b
+}
+
 impl Structure for SignerInfo {
-    ghost use Rattle.std.specs.Prelude.{◌≡◌};
     ghost use Rattle.cms_types.specs.SignerInfo.{signer_info};
     ghost use Rattle.cms_types.specs.Facts.SignerInfos.{signer_infos};
 
@@ -95,4 +139,29 @@ impl Structure for SignerInfo {
     }
 
     ghost grammar = { signer_infos };
+}
+
+/// Signers are equal exactly where they are written as the same element.
+impl PartialEq for SignerInfo {
+    ghost use Rattle.der_core.specs.Equality.{same_octets, same_octets_per};
+    ghost use Rattle.cms_types.specs.SignerInfo.{signer_info};
+
+    ghost eq = { same_octets signer_info };
+
+    ghost laws = { same_octets_per signer_info };
+
+    fn eq(&self, other: &SignerInfo) -> bool
+        ensures octets { result ≡ same_octets signer_info self.now other.now }
+        ensures same { IsTrue result ↔ (self.now ≡ other.now) }
+        ensures written { IsTrue result ↔ (signer_info self.now ≡ signer_info other.now) }
+    {
+        self.is_same(other)
+    }
+}
+
+impl Eq for SignerInfo {
+    ghost use Rattle.der_core.specs.Equality.{same_octets_equiv};
+    ghost use Rattle.cms_types.specs.SignerInfo.{signer_info};
+
+    ghost laws = { same_octets_equiv signer_info };
 }

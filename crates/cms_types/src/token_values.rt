@@ -1,10 +1,10 @@
 //! Signed data that is kept as it is.
 
-ghost use Rattle.std.specs.Prelude.{◌≡◌, IfOk};
+ghost use Rattle.std.specs.Prelude.{◌≡◌, ◌↔◌, IfOk, IsTrue};
 ghost use Rattle.cms_types.specs.Members.{elements_of_kept};
 ghost use Rattle.cms_types.specs.Signers.{ArePkcs7s};
 
-use crate::raw_unsigned::RawList;
+use crate::raw_unsigned::{RawList, are_same_elements};
 use der_core::Raw;
 use std::alloc::{AllocError, Global};
 
@@ -31,5 +31,12 @@ impl TokenValues {
         Ok(TokenValues {
             items: self.items.try_clone(alloc)?,
         })
+    }
+
+    /// Whether the members are the same.
+    pub(crate) fn is_same(&self, other: &TokenValues) -> bool
+        ensures { IsTrue result ↔ (self.now ≡ other.now) }
+    {
+        are_same_elements(&self.items, &other.items)
     }
 }

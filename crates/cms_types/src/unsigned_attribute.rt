@@ -96,3 +96,47 @@ impl Structure for UnsignedAttribute {
 
     ghost grammar = { unsigned_attributes };
 }
+
+impl UnsignedAttribute {
+    ghost use Rattle.std.specs.Prelude.{◌≡◌, ◌↔◌, IsTrue};
+
+    /// Whether each is of the same kind, with the same values.
+    fn is_same(&self, other: &UnsignedAttribute) -> bool
+        ensures { IsTrue result ↔ (self.now ≡ other.now) }
+    {
+        match (self, other) {
+            (UnsignedAttribute::CounterSign(a), UnsignedAttribute::CounterSign(b)) => a.is_same(b),
+            (UnsignedAttribute::MsCounterSign(a), UnsignedAttribute::MsCounterSign(b)) => {
+                a.is_same(b)
+            }
+            (UnsignedAttribute::Raw(a), UnsignedAttribute::Raw(b)) => a.is_same(b),
+            _ => false,
+        }
+    }
+}
+
+/// Attributes are equal exactly where they are written as the same element.
+impl PartialEq for UnsignedAttribute {
+    ghost use Rattle.std.specs.Prelude.{◌≡◌, ◌↔◌, IsTrue};
+    ghost use Rattle.der_core.specs.Equality.{same_octets, same_octets_per};
+    ghost use Rattle.cms_types.specs.UnsignedAttribute.{unsigned_attribute};
+
+    ghost eq = { same_octets unsigned_attribute };
+
+    ghost laws = { same_octets_per unsigned_attribute };
+
+    fn eq(&self, other: &UnsignedAttribute) -> bool
+        ensures octets { result ≡ same_octets unsigned_attribute self.now other.now }
+        ensures same { IsTrue result ↔ (self.now ≡ other.now) }
+        ensures written { IsTrue result ↔ (unsigned_attribute self.now ≡ unsigned_attribute other.now) }
+    {
+        self.is_same(other)
+    }
+}
+
+impl Eq for UnsignedAttribute {
+    ghost use Rattle.der_core.specs.Equality.{same_octets_equiv};
+    ghost use Rattle.cms_types.specs.UnsignedAttribute.{unsigned_attribute};
+
+    ghost laws = { same_octets_equiv unsigned_attribute };
+}

@@ -1,7 +1,6 @@
 use Rattle.std.proofs.Common.{refl}
 use Rattle.der_core.specs.Each.{IsListOf}
 use Rattle.der_core.specs.Structure.{Fits}
-use Rattle.cms_types.specs.Lent.{signed_data_at}
 use Rattle.cms_types.specs.Levels.{IsVersion, IsContentInfo, IsAlgorithm}
 use Rattle.cms_types.proofs.SignerKids.{unfit_first, after, no_first, not_first, takes, constructed_option, constructed_elem, data_row, data_third, last_taken, no_signers, data_ends, data_whole}
 use Rattle.cms_types.proofs.signed_data_fields.SignedDataFields.of.Goals as goal

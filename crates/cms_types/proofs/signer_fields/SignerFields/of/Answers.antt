@@ -1,5 +1,4 @@
 use Rattle.std.proofs.Common.{refl}
-use Rattle.cms_types.specs.Lent.{signer_at}
 use Rattle.cms_types.specs.Levels.{IsVersion, IsSignerIdentifier, IsAlgorithm, IsOctets}
 use Rattle.cms_types.proofs.SignerKids.{unfit_first, after, takes, constructed_option, signer_row, signer_third, signed_taken, signed_fits, signer_ends, signer_whole}
 use Rattle.cms_types.proofs.signer_fields.SignerFields.of.Goals as goal

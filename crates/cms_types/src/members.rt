@@ -1,0 +1,104 @@
+//! The members of counter-signatures, read and put together.
+
+ghost use Rattle.std.specs.Prelude.{◌≡◌, ◌∷◌, ◌++◌, [], map, flat_map, MatchResult};
+ghost use Rattle.der_core.specs.Placed.{AreDer};
+ghost use Rattle.der_core.specs.Refusals.{RefusesInner};
+ghost use Rattle.der_core.specs.declared.error.DerError.TheVariants as errors;
+ghost use Rattle.cms_types.specs.Members.{elements_of_kept, all_inner};
+
+use crate::pkcs7::Pkcs7Certificate;
+use crate::raw_unsigned::RawList;
+use crate::signer_info::SignerInfo;
+use crate::signer_values::SignerValues;
+use crate::token_values::TokenValues;
+use der_core::{DerError, ListOf, Raw, Structure};
+use std::alloc::{AllocError, Global};
+
+impl SignerValues {
+    ghost use Rattle.std.specs.Prelude.{◌≤◌, length, slice_get, Ok, None, IfOk};
+    ghost use Rattle.std.specs.Option.{option_map};
+    ghost use Rattle.cms_types.specs.Members.{element_of_kept};
+    ghost use Rattle.cms_types.specs.SignerInfo.{signer_info};
+
+    /// The elements of the signers, in order. It is refused as `TooDeep` or `TooLong` exactly where
+    /// `der_core::write` so refuses the first of them that can't be written.
+    pub fn from_signers(alloc: Global, signers: &[SignerInfo]) -> Result<SignerValues, DerError>
+        ensures { MatchResult result
+            (λ values. elements_of_kept values.items ≡ map signer_info signers.now)
+            (RefusesInner (map signer_info signers.now)) }
+    {
+        let items = keep_each(alloc, signers)?;
+        Ok(SignerValues { items })
+    }
+
+    /// The signer that the member at this place spells, `None` exactly from the length on.
+    pub fn get(&self, alloc: Global, place: usize) -> Result<Option<SignerInfo>, AllocError>
+        ensures found { IfOk result (λ signer. option_map signer_info signer ≡ option_map element_of_kept (slice_get self.now.items place)) }
+        // From the length on no memory is asked for.
+        ensures past { length self.now.items ≤ place → result ≡ Ok None }
+    {
+        let Some(member) = self.items.as_slice().get(place) else {
+            return Ok(None);
+        };
+        match SignerInfo::read_at(alloc, member.elem()) {
+            Ok(signer) => Ok(Some(signer)),
+            Err(error) => Err(want_of_memory(error)),
+        }
+    }
+}
+
+impl TokenValues {
+    ghost use Rattle.std.specs.Prelude.{◌≤◌, length, slice_get, Ok, None, IfOk};
+    ghost use Rattle.std.specs.Option.{option_map};
+    ghost use Rattle.cms_types.specs.Members.{element_of_kept};
+    ghost use Rattle.cms_types.specs.Pkcs7.{pkcs7};
+
+    /// The elements of the tokens, in order. It is refused as `TooDeep` or `TooLong` exactly where
+    /// `der_core::write` so refuses the first of them that can't be written.
+    pub fn from_tokens(alloc: Global, tokens: &[Pkcs7Certificate]) -> Result<TokenValues, DerError>
+        ensures { MatchResult result
+            (λ values. elements_of_kept values.items ≡ map pkcs7 tokens.now)
+            (RefusesInner (map pkcs7 tokens.now)) }
+    {
+        let items = keep_each(alloc, tokens)?;
+        Ok(TokenValues { items })
+    }
+
+    /// The token that the member at this place spells, `None` exactly from the length on.
+    pub fn get(&self, alloc: Global, place: usize) -> Result<Option<Pkcs7Certificate>, AllocError>
+        ensures found { IfOk result (λ token. option_map pkcs7 token ≡ option_map element_of_kept (slice_get self.now.items place)) }
+        // From the length on no memory is asked for.
+        ensures past { length self.now.items ≤ place → result ≡ Ok None }
+    {
+        let Some(member) = self.items.as_slice().get(place) else {
+            return Ok(None);
+        };
+        match Pkcs7Certificate::read_at(alloc, member.elem()) {
+            Ok(token) => Ok(Some(token)),
+            Err(error) => Err(want_of_memory(error)),
+        }
+    }
+}
+
+/// The elements of the values, in order, each kept.
+fn keep_each<T: Structure>(alloc: Global, values: &[T]) -> Result<RawList, DerError>
+    ensures { MatchResult result
+        (λ kept. elements_of_kept kept ≡ map T.written values.now)
+        (RefusesInner (all_inner T.inner T.written values.now)) }
+{
+    let mut kept = ListOf::new(alloc);
+    let mut rest = values;
+    while let Some((value, others)) = rest.split_first() {
+        let tree = value.write(alloc)?;
+        kept.push(Raw::from_tree(alloc, &tree)?)?;
+        rest = others;
+    }
+    Ok(kept)
+}
+
+/// Why an element that spells a value isn't read: want of memory, and nothing else.
+fn want_of_memory(_error: DerError) -> AllocError
+    requires { _error ≡ errors.Memory }
+{
+    AllocError
+}
