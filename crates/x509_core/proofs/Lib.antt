@@ -6,3 +6,5 @@ pub mod Names
 pub mod FirstOfIdentifier
 pub mod ReadCerts
 pub mod Links
+pub mod ReadCsrs
+pub mod Generating
