@@ -8,3 +8,5 @@ pub mod ReadCerts
 pub mod Links
 pub mod Parts
 pub mod Alike
+pub mod ReadCsrs
+pub mod Generating

@@ -7,4 +7,9 @@ pub mod Parent
 pub mod CertRefusals
 pub mod Spellings
 pub mod ErrorText
+pub mod KeptRequest
+pub mod CsrRefusals
+pub mod CsrErrorText
+pub mod SelfSigned
+pub mod Generated
 pub mod Facts

@@ -1,0 +1,49 @@
+-- Why a request isn't read, written, accepted or made, by what refuses the step.
+use Rattle.std.specs.Prelude.{◌≡◌}
+use Rattle.der_core.specs.declared.error.DerError.{DerError}
+use Rattle.der_core.specs.declared.error.DerError.TheVariants as der
+use Rattle.key_core.specs.declared.element.Element.{Element}
+use Rattle.key_core.specs.declared.error.KeyError.{KeyError}
+use Rattle.key_core.specs.declared.error.KeyError.TheVariants as key
+use Rattle.key_core.specs.declared.signature_error.SignatureError.{SignatureError}
+use Rattle.key_core.specs.declared.signature_error.SignatureError.TheVariants as signature
+use Rattle.x509_core.specs.declared.csr_error.CsrError.{CsrError}
+use Rattle.x509_core.specs.declared.csr_error.CsrError.TheVariants as errors
+
+-- want of memory is told as such, any other cause by the structure and the cause
+abbrev pub unread_csr : Element → DerError → CsrError
+unread_csr element der.Memory = errors.Memory
+unread_csr element (der.Malformed m) = errors.Asn1Deserialization element (der.Malformed m)
+unread_csr element der.Shape = errors.Asn1Deserialization element der.Shape
+unread_csr element der.TooDeep = errors.Asn1Deserialization element der.TooDeep
+unread_csr element der.TooLong = errors.Asn1Deserialization element der.TooLong
+
+abbrev pub unwritten_csr : Element → DerError → CsrError
+unwritten_csr element der.Memory = errors.Memory
+unwritten_csr element (der.Malformed m) = errors.Asn1Serialization element (der.Malformed m)
+unwritten_csr element der.Shape = errors.Asn1Serialization element der.Shape
+unwritten_csr element der.TooDeep = errors.Asn1Serialization element der.TooDeep
+unwritten_csr element der.TooLong = errors.Asn1Serialization element der.TooLong
+
+-- and so of a signature, and of a public key
+abbrev pub unsigned : SignatureError → CsrError
+unsigned signature.Memory = errors.Memory
+unsigned source = errors.Signature source
+
+abbrev pub keyless : KeyError → CsrError
+keyless key.Memory = errors.Memory
+keyless source = errors.PrivateKeyToPublicKey source
+
+-- The error tells of this structure, for a cause that refuses it.
+abbrev pub IsUnreadCsr : Element → (DerError → Type 0) → CsrError → Type 0
+IsUnreadCsr element Refuses e = (source : DerError) × (e ≡ unread_csr element source) × Refuses source
+
+abbrev pub IsUnwrittenCsr : Element → (DerError → Type 0) → CsrError → Type 0
+IsUnwrittenCsr element Refuses e = (source : DerError) × (e ≡ unwritten_csr element source) × Refuses source
+
+-- The error tells of a signature, or of a public key, for a cause that refuses it.
+abbrev pub IsUnsigned : (SignatureError → Type 0) → CsrError → Type 0
+IsUnsigned Refuses e = (source : SignatureError) × (e ≡ unsigned source) × Refuses source
+
+abbrev pub IsKeyless : (KeyError → Type 0) → CsrError → Type 0
+IsKeyless Refuses e = (source : KeyError) × (e ≡ keyless source) × Refuses source

@@ -1,0 +1,108 @@
+//! Why a request isn't read, written, accepted or made.
+
+ghost use Rattle.std.specs.Prelude.{◌≡◌};
+ghost use Rattle.x509_core.specs.CsrErrorText.{csr_error_text};
+ghost use Rattle.x509_core.specs.CsrRefusals.{unread_csr, unwritten_csr, unsigned, keyless};
+ghost use Rattle.x509_core.specs.declared.csr_error.CsrError.TheVariants.{Memory};
+
+use der_core::DerError;
+use key_core::{Element, KeyError, SignatureError};
+use std::alloc::{AllocError, AllocFailed};
+use std::fmt;
+use thiserror::Error;
+
+/// Why a request isn't read, written, accepted or made. No other variant comes with want of memory.
+#[derive(Debug, Drop, Error)]
+pub enum CsrError {
+    /// The value has no encoding: it is nested too deep, or some contents are too long.
+    Asn1Serialization { element: Element, source: DerError },
+    /// The octets are no element, or one of another structure.
+    Asn1Deserialization { element: Element, source: DerError },
+    /// The signature isn't accepted, or isn't made.
+    Signature { source: SignatureError },
+    /// The private key has no public key.
+    PrivateKeyToPublicKey { source: KeyError },
+    /// No memory was left.
+    Memory,
+}
+
+impl CsrError {
+    /// Why octets of the structure aren't read.
+    pub(crate) fn unread(element: Element, source: DerError) -> CsrError
+        ensures { result ≡ unread_csr element source }
+    {
+        match source {
+            DerError::Memory => CsrError::Memory,
+            source => CsrError::Asn1Deserialization { element, source },
+        }
+    }
+
+    /// Why a value of the structure isn't written.
+    pub(crate) fn unwritten(element: Element, source: DerError) -> CsrError
+        ensures { result ≡ unwritten_csr element source }
+    {
+        match source {
+            DerError::Memory => CsrError::Memory,
+            source => CsrError::Asn1Serialization { element, source },
+        }
+    }
+
+    /// Why a signature isn't accepted or made.
+    pub(crate) fn unsigned(source: SignatureError) -> CsrError
+        ensures { result ≡ unsigned source }
+    {
+        match source {
+            SignatureError::Memory => CsrError::Memory,
+            source => CsrError::Signature { source },
+        }
+    }
+
+    /// Why a private key gives no public key.
+    pub(crate) fn keyless(source: KeyError) -> CsrError
+        ensures { result ≡ keyless source }
+    {
+        match source {
+            KeyError::Memory => CsrError::Memory,
+            source => CsrError::PrivateKeyToPublicKey { source },
+        }
+    }
+}
+
+impl fmt::Display for CsrError {
+    ghost output = { csr_error_text };
+
+    fn fmt<W: fmt::Write>(&self, f: &mut fmt::Formatter<W>) -> fmt::Result {
+        match self {
+            CsrError::Asn1Serialization { element, source } => write!(
+                f,
+                "(ASN1) couldn't serialize {element}: {source}"
+            ),
+            CsrError::Asn1Deserialization { element, source } => write!(
+                f,
+                "(ASN1) couldn't deserialize {element}: {source}"
+            ),
+            CsrError::Signature { source } => write!(f, "signature error: {source}"),
+            CsrError::PrivateKeyToPublicKey { source } => write!(
+                f,
+                "failed to get public key from private key: {source}"
+            ),
+            CsrError::Memory => write!(f, "out of memory"),
+        }
+    }
+}
+
+impl From<AllocError> for CsrError {
+    ghost from_gives = { λ _ e. e ≡ Memory };
+
+    fn from(_refused: AllocError) -> CsrError {
+        CsrError::Memory
+    }
+}
+
+impl<T: Drop> From<AllocFailed<T>> for CsrError {
+    ghost from_gives = { λ _ e. e ≡ Memory };
+
+    fn from(_refused: AllocFailed<T>) -> CsrError {
+        CsrError::Memory
+    }
+}
