@@ -84,6 +84,13 @@ impl<'a> SignedView<'a> {
         }
     }
 
+    /// The element of the certificates, where they aren't left out.
+    pub fn certificates(&self) -> Option<Elem<'a>>
+        ensures { at_option result ≡ (view_elements self.now).certificates }
+    {
+        self.fields.certificates
+    }
+
     /// The certificates, none where they are left out.
     pub fn members(&self) -> Cursor<'a>
         ensures { LendsMembers (view_elements self.now).certificates result }
@@ -92,6 +99,13 @@ impl<'a> SignedView<'a> {
             Some(certificates) => kids_of(certificates),
             None => Cursor::new(&[]),
         }
+    }
+
+    /// The element of the signers.
+    pub fn signers_infos(&self) -> Elem<'a>
+        ensures { result.is.0 ≡ (view_elements self.now).signers_infos }
+    {
+        self.fields.signers_infos
     }
 
     /// The signers.
