@@ -7,7 +7,8 @@ Usage:
 
 has openssl (3.0 or later) write the public key of each key of RSA and of each
 point in `private_key_rows.txt`, and tells where the one of a line here is
-another.
+another; and has it read what is written of each key there, and tells where
+that key is another.
 
 The rows of `structure_answers` on private keys and their lines, beside those of
 `value_answers`.  A line has the kind, the octets in PKCS #8, whether a copy is
@@ -168,12 +169,18 @@ def bare(key):
     return write(sequence(*read_exact(key).kids[:2]))
 
 
+def stored_rsa():
+    """Keys of RSA that openssl made, without their algorithm."""
+    kids = [read_exact(octets).kids for octets in stored("private_key_info")]
+    return [key.contents for _, algorithm, key, *_ in kids if algorithm.kids[0].contents == RSA]
+
+
 def read_rows():
     none = octets_of(structures.NO_ELEMENTS)
     infos = octets_of(structures.PRIVATE_KEY_INFOS, structures.NO_PRIVATE_KEY_INFOS, structures.ED_SECRETS)
     for octets in infos + stored("private_key_info") + none:
         yield f"private pkcs8 {word(octets)}", read_line("private key info (pkcs8)", octets, pkcs8_line)
-    rsa = octets_of(structures.RSA_PRIVATE_KEYS, structures.NO_RSA_PRIVATE_KEYS)
+    rsa = octets_of(structures.RSA_PRIVATE_KEYS, structures.NO_RSA_PRIVATE_KEYS) + stored_rsa()
     for octets in rsa + none:
         yield f"private pkcs1 {word(octets)}", read_line("rsa private key", octets, pkcs1_line)
     curves = stored("ec_private_key")
@@ -235,12 +242,20 @@ def kept_rows():
     yield from made_rows()
 
 
+def public_of(octets):
+    """The public key of a private one, as openssl writes it."""
+    return openssl("pkey", "-inform", "DER", "-pubout", "-outform", "DER", given=octets)
+
+
 def differences():
     lines = [(octets, pkcs8_line) for octets in stored("private_key_info")]
     lines += [(octets, sec1_line) for octets in stored("ec_private_key")]
+    lines += [(octets, pkcs1_line) for octets in stored_rsa()]
     for octets, line in lines:
-        said = openssl("pkey", "-inform", "DER", "-pubout", "-outform", "DER", given=octets)
-        kind, *_, half = line(read_exact(octets)).split()
+        said = public_of(octets)
+        kind, written, *_, half = line(read_exact(octets)).split()
+        if public_of(bytes.fromhex(written)) != said:
+            yield f"openssl reads another key in what is written of {octets.hex()[:40]}"
         # The scheme derives other keys than openssl does.
         if kind != "Ed" and (kind == "Rsa" or len(octets) > 100) and half != said.hex():
             yield f"openssl writes another public key of {octets.hex()[:40]}"
@@ -251,5 +266,5 @@ if __name__ == "__main__":
         print(__doc__, file=sys.stderr)
         sys.exit(2)
     found = list(differences())
-    print("\n".join(found) or "openssl writes the same public keys")
+    print("\n".join(found) or "openssl writes the same public keys, and reads what is written")
     sys.exit(bool(found))

@@ -122,11 +122,11 @@ def key_call(key):
     return f"{key.kind}_encoded {word(key.oid)} {word(key.secret)} {public}"
 
 
-def spki(kind, oid, octets):
-    """A public key as SubjectPublicKeyInfo."""
+def spki(kind, oid, octets, unused=0):
+    """A public key as SubjectPublicKeyInfo, with so many unused bits."""
     parameters = {"rsa": (Primitive(5, b""),), "ec": (Primitive(6, oid),)}.get(kind, ())
     algorithm = Constructed(0x30, (Primitive(6, EC if kind == "ec" else oid), *parameters))
-    return write(Constructed(0x30, (algorithm, Primitive(3, b"\0" + octets))))
+    return write(Constructed(0x30, (algorithm, Primitive(3, bytes([unused]) + octets))))
 
 
 def parts(algorithm):
@@ -301,6 +301,16 @@ PUBLIC = [
 ]
 
 
+# Public keys whose bits have unused ones, and the algorithm of their signatures. What is digested, and
+# what a scheme is handed, are the octets, with these bits (RFC 5280 4.2.1.2 leaves out their count alone).
+UNUSED = [
+    ("ecdsa:SHA-256", ("ec", P256, b"\4" + bytes(63) + b"\xf0"), 4, "a point, the unused bits 0"),
+    ("ecdsa:SHA-384", ("ec", P384, b"\4\xff"), 7, "a point, the unused bits 1"),
+    ("ed25519", ("ed", ED25519, bytes(31) + b"\xfe"), 1, "32 octets of Ed25519"),
+    ("ed25519", ("ed", ED25519, bytes(31)), 3, "31 octets of Ed25519"),
+]
+
+
 def signatures_of(algorithm, key):
     """As the scheme makes it where the key is one for the algorithm, others, and some without its form."""
     kind, digest = parts(algorithm)
@@ -370,23 +380,26 @@ def verified_rows():
     good = demo_signature("rsa-sha256", rsa("11").public, MESSAGE)
     for algorithm, key in ("rsa:SHA-256", rsa("12")), ("rsa:SHA-1", rsa("11")):
         yield verify_row(algorithm, ("rsa", RSA, key.public), good)
+    for algorithm, public, unused, _ in UNUSED:
+        yield from verify_rows_of(algorithm, public, unused)
 
 
-def verify_rows_of(algorithm, public):
+def verify_rows_of(algorithm, public, unused=0):
     for signature in signatures_of(algorithm, public):
-        yield verify_row(algorithm, public, signature)
+        yield verify_row(algorithm, public, signature, unused)
 
 
-def verify_row(algorithm, public, signature):
-    row = f"signature verify {algorithm} {word(spki(*public))} {word(MESSAGE)} {word(signature)}"
+def verify_row(algorithm, public, signature, unused=0):
+    row = f"signature verify {algorithm} {word(spki(*public, unused))} {word(MESSAGE)} {word(signature)}"
     return row, verify_line(algorithm, public, MESSAGE, signature)
 
 
 def key_id_rows():
     """Of the whole SubjectPublicKeyInfo, and the first 160 bits of the digest of the octets in its bits."""
     keys = [key for *key, _ in PUBLIC]
-    for kind, oid, octets in (keys[0], keys[1], keys[5], keys[12]):
-        whole = spki(kind, oid, octets)
+    rows = [(key, 0) for key in (keys[0], keys[1], keys[5], keys[12])]
+    for (kind, oid, octets), unused in rows + [(key, unused) for _, key, unused, _ in UNUSED]:
+        whole = spki(kind, oid, octets, unused)
         for digest, algorithm in DIGESTS.items():
             made = hashlib.new(algorithm, whole).hexdigest()
             yield f"signature key_id whole {digest} {word(whole)}", made
@@ -429,6 +442,8 @@ def lent_private(key):
 def view_rows():
     for *public, _ in PUBLIC:
         yield f"view public {word(spki(*public))}", lent_public(*public)
+    for _, public, unused, _ in UNUSED:
+        yield f"view public {word(spki(*public, unused))}", lent_public(*public)
     others = [on(contents("1.2.3"), 1, False), on(contents("1.2.3"), 0)]
     for key in [key for key, _ in PRIVATE] + others:
         yield f"view private {key_call(key)}", lent_private(key)
