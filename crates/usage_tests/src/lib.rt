@@ -9,6 +9,8 @@ mod keys;
 #[cfg(test)]
 mod names;
 #[cfg(test)]
+mod private_keys;
+#[cfg(test)]
 mod schemes;
 #[cfg(test)]
 mod servers;
