@@ -5,7 +5,7 @@
 
 import unittest
 from hashlib import sha256
-from itertools import product
+from itertools import permutations, product
 from pathlib import Path
 from shutil import which
 from tempfile import TemporaryDirectory
@@ -16,6 +16,7 @@ import basic_answers
 import compare_readers
 import der_reader
 import demo_signatures
+import kept_certificates
 import oid_table
 import reader_stand_in
 import run_program
@@ -26,7 +27,7 @@ from certificate_cases import (
     Key, Requested,
 )
 from certificate_making import (
-    OpensslError, certificate_around, make_key, requested_certificate, written_name,
+    OpensslError, certificate_around, make_key, openssl, requested_certificate, written_name,
 )
 from certificate_parts import (
     TEXT_OPTIONS, complaints, made_rows, parts, printed, rows_of, said_subject, source,
@@ -448,6 +449,35 @@ class CertificatesByOpensslTest(unittest.TestCase):
             make_key(Key("", "ED25519"), key)
             with self.assertRaisesRegex(OpensslError, "Skipping"):
                 requested_certificate(Requested("", "/nothing=a"), key, Path(folder))
+
+
+@unittest.skipUnless(which("openssl"), "openssl isn't there")
+class KeptCertificatesByOpensslTest(unittest.TestCase):
+
+    def test_parents(self):
+        # Of the stored certificates every one is asked as the issuer of every other one.
+        stored = dict(kept_certificates.stored())
+        self.assertEqual(set(stored), set(kept_certificates.SUBJECTS))
+        with TemporaryDirectory() as place:
+            files = {label: Path(place, f"{label}.der") for label in stored}
+            for label, octets in stored.items():
+                files[label].write_bytes(octets)
+            for parent, child in permutations(stored, 2):
+                try:
+                    openssl("verify", "-partial_chain", "-no_check_time", "-trusted", files[parent], files[child])
+                    said = True
+                except OpensslError:
+                    said = False
+                with self.subTest(parent=parent, child=child):
+                    self.assertEqual(kept_certificates.parent_line(stored[parent], stored[child]) == "parent", said)
+
+    def test_fields(self):
+        for label, octets in kept_certificates.stored():
+            said = openssl("x509", "-inform", "DER", "-noout", "-subject", "-issuer", "-serial", "-nameopt", "RFC2253,-dn_rev", given=octets).decode()
+            subject, issuer, serial = (line.split("=", 1)[1] for line in said.splitlines())
+            words = kept_certificates.kept_line(octets)
+            with self.subTest(label=label):
+                self.assertIn(f" {subject} {issuer} {serial.lower()} ", words)
 
 
 class RunsTest(unittest.TestCase):
