@@ -20,7 +20,7 @@ else 0:
 
   view     where its octets lie, with every field: at most 2 times webpki's
            time, and below half of Mbed TLS's;
-  owned    as a value of its own: below Mbed TLS's time;
+  owned    as a `Cert`, which is kept with its octets: below Mbed TLS's time;
   growth   of either from a size to its double: at most 2.5 times.
 
 This is no part of the gate: the figures depend on the machine.

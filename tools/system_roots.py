@@ -6,8 +6,8 @@ Usage:
     python3 tools/system_roots.py [--folder FOLDER] PROGRAM
 
 PROGRAM is the path of `certificate_answers`.  It is asked for each root of
-Debian's package ca-certificates, as a value that is kept and as one that is
-lent; the answers are compared with those of `value_reader`, and these field by
+Debian's package ca-certificates, as a value of its own, as one that is lent, and
+as one that is kept; the answers are compared with those of `value_reader`, and these field by
 field with what `openssl x509` and Python's package `cryptography` say.  Printed
 are the certificates that aren't read, with the refusal, and each difference; the
 status is 1 where there is one.
@@ -21,7 +21,7 @@ import tempfile
 from pathlib import Path
 
 from certificate_making import openssl
-from value_answers import kept_line, lent_line
+from value_answers import threefold
 from world_check import check
 
 FOLDER = Path("/usr/share/ca-certificates/mozilla")
@@ -53,7 +53,7 @@ def main():
     found = list(certificates(options.folder))
     differing, read = 0, []
     for octets, answer in zip(found, answers(options.program.resolve(), found), strict=True):
-        expected = f"{kept_line(octets)} | {lent_line(octets)}"
+        expected = threefold(octets)
         if answer != expected:
             differing += 1
             print(f"differs: {subject(octets)}: {answer}, not {expected}")

@@ -5,7 +5,7 @@
 
 import unittest
 from hashlib import sha256
-from itertools import product
+from itertools import permutations, product
 from pathlib import Path
 from shutil import which
 from struct import pack
@@ -17,6 +17,7 @@ import basic_answers
 import compare_readers
 import der_reader
 import demo_signatures
+import kept_certificates
 import oid_table
 import reader_stand_in
 import run_program
@@ -28,7 +29,7 @@ from certificate_cases import (
     Key, Requested,
 )
 from certificate_making import (
-    OpensslError, certificate_around, make_key, requested_certificate, written_name,
+    OpensslError, certificate_around, make_key, openssl, requested_certificate, written_name,
 )
 from certificate_parts import (
     TEXT_OPTIONS, complaints, made_rows, parts, printed, rows_of, said_subject, source,
@@ -496,6 +497,35 @@ class VerdictTableTest(unittest.TestCase):
         for octets in b"", b"\x09\0\0\0\0\2\2\0", b"\x0a\0\0\0\0\2\2\0\5\0", self.signed("cms, written in pieces"):
             with self.assertRaises(verdict_table.NotASignatureFile):
                 verdict_table.table(octets)
+
+
+@unittest.skipUnless(which("openssl"), "openssl isn't there")
+class KeptCertificatesByOpensslTest(unittest.TestCase):
+
+    def test_parents(self):
+        # Of the stored certificates every one is asked as the issuer of every other one.
+        stored = dict(kept_certificates.stored())
+        self.assertEqual(set(stored), set(kept_certificates.SUBJECTS))
+        with TemporaryDirectory() as place:
+            files = {label: Path(place, f"{label}.der") for label in stored}
+            for label, octets in stored.items():
+                files[label].write_bytes(octets)
+            for parent, child in permutations(stored, 2):
+                try:
+                    openssl("verify", "-partial_chain", "-no_check_time", "-trusted", files[parent], files[child])
+                    said = True
+                except OpensslError:
+                    said = False
+                with self.subTest(parent=parent, child=child):
+                    self.assertEqual(kept_certificates.parent_line(stored[parent], stored[child]) == "parent", said)
+
+    def test_fields(self):
+        for label, octets in kept_certificates.stored():
+            said = openssl("x509", "-inform", "DER", "-noout", "-subject", "-issuer", "-serial", "-nameopt", "RFC2253,-dn_rev", given=octets).decode()
+            subject, issuer, serial = (line.split("=", 1)[1] for line in said.splitlines())
+            words = kept_certificates.kept_line(octets)
+            with self.subTest(label=label):
+                self.assertIn(f" {subject} {issuer} {serial.lower()} ", words)
 
 
 class RunsTest(unittest.TestCase):

@@ -24,6 +24,7 @@ from itertools import chain, filterfalse
 import cms_reader
 import cms_rows
 import hostile_certificates as hostile
+import kept_certificates
 import kept_private_keys
 import private_keys
 import signature_rows
@@ -494,14 +495,15 @@ def whole_certificate_rows():
         yield f"unlike certificate {one.hex()} {one.hex()}", "equal"
     for one, other, _ in whole_certificates.LIKE:
         yield f"unlike certificate {one.hex()} {other.hex()}", "equal"
+    yield from kept_certificates.rows()
 
 
 def digest(line):
     """The first half of the SHA-256 of a line."""
-    return sha256(line.encode("ascii")).digest()[:16].hex()
+    return sha256(line.encode()).digest()[:16].hex()
 
 
-def kept_line(octets):
+def owned_line(octets):
     """Whether a certificate comes back as it was read, and the digest of its fields; or the refusal."""
     try:
         answer, *fields = structure_line("certificate", octets).split(" ", 1)
@@ -512,21 +514,28 @@ def kept_line(octets):
 
 def lent_line(octets):
     """The digest of the fields of a certificate where it lies; or the refusal."""
-    if not octets:
-        return "none"
     try:
-        _, taken = read_first(octets)
+        read_exact(octets)
     except Malformed as refusal:
         return shown_fault(refusal)
-    if taken < len(octets):
-        return f"{len(octets) - taken} behind"
     line = view_line(octets)
     return line if line == "Shape" else digest(line)
 
 
+def kept_line(octets):
+    """The digests of what a caller asks for, and of the fields where the kept octets lie; or the refusal."""
+    line = kept_certificates.kept_line(octets)
+    return line if kept_certificates.refusal(octets) else f"{digest(line)} {lent_line(octets)}"
+
+
+def threefold(octets):
+    """What the value of its own answers, the one that is lent, and the certificate that is kept."""
+    return " | ".join((owned_line(octets), lent_line(octets), kept_line(octets)))
+
+
 def both_line(octets, answer):
-    """What the value that is kept answers, and the one that is lent; the row says how it begins."""
-    line = f"{kept_line(octets)} | {lent_line(octets)}"
+    """The answers to a certificate; the row says how they begin."""
+    line = threefold(octets)
     fault, *place = answer.split()
     begins = f"{FAULTS[fault]} at octet {place[0]} |" if place else f"{answer} "
     assert line.startswith(begins), (answer, line)

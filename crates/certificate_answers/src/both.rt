@@ -1,19 +1,22 @@
-//! What is answered to octets by the value that is kept and by the one that is lent.
+//! What is answered to octets by the value of its own, by the one that is lent, and by the
+//! certificate that is kept.
 
-use crate::details::details;
-use crate::view;
-use anyhow::Result;
-use der_core::{Cursor, DerError, Structure};
+use crate::line::{push, push_same};
+use crate::{details, kept, view};
+use der_core::{DerError, Structure, exact_elem};
 use row_answers::comes_back;
 use sha2::{Digest, Sha256};
 use std::alloc::{AllocError, Global};
-use x509_types::Certificate;
+use x509_core::Cert;
+use x509_types::{CertView, Certificate};
 
-/// The answer of the value that is kept, a bar, and that of the one that is lent.
-pub fn answer(alloc: Global, octets: &[u8]) -> Result<String> {
-    let kept = kept(alloc, octets)?;
-    let lent = lent(alloc, octets)?;
-    Ok(format!(in alloc; "{kept} | {lent}")?)
+/// The answer of the value, of the one that is lent and of the one that is kept, a bar between.
+pub fn answer(alloc: Global, octets: &[u8], out: &mut String) -> Result<(), DerError> {
+    print_owned(alloc, octets, out)?;
+    push(out, "|")?;
+    print_lent(alloc, octets, out)?;
+    push(out, "|")?;
+    Ok(print_kept(alloc, octets, out)?)
 }
 
 /// Some octets, others so many times behind them, and some at the end.
@@ -33,50 +36,80 @@ pub fn repeated(
 }
 
 /// Whether the certificate comes back as it was read, and the digest of its fields; or the refusal.
-fn kept(alloc: Global, octets: &[u8]) -> Result<String, DerError> {
-    let certificate = match Certificate::from_der(alloc, octets) {
-        Ok(certificate) => certificate,
-        Err(error) => return refusal(alloc, error),
-    };
-    let word = if comes_back(alloc, octets, &certificate)? {
-        "same"
-    } else {
-        "changed"
-    };
-    let digest = digest(alloc, &details(alloc, &certificate)?)?;
-    Ok(format!(in alloc; "{word} {digest}")?)
+fn print_owned(alloc: Global, octets: &[u8], out: &mut String) -> Result<(), DerError> {
+    match Certificate::from_der(alloc, octets) {
+        Ok(certificate) => print_value(alloc, &certificate, octets, out),
+        Err(error) => print_refusal(alloc, error, out),
+    }
+}
+
+fn print_value(
+    alloc: Global,
+    certificate: &Certificate,
+    octets: &[u8],
+    out: &mut String,
+) -> Result<(), DerError> {
+    push_same(out, comes_back(alloc, octets, certificate)?)?;
+    let mut line = String::new(alloc);
+    details::print(alloc, certificate, &mut line)?;
+    Ok(push_digest(alloc, &line, out)?)
 }
 
 /// The digest of the fields of the certificate where it lies, and of what its extensions say; or the
 /// refusal.
-fn lent(alloc: Global, octets: &[u8]) -> Result<String, DerError> {
-    let mut cursor = Cursor::new(octets);
-    match cursor.next() {
-        Ok(Some(_element)) => {}
-        Ok(None) => return Ok(String::from_str(alloc, "none")?),
-        Err(malformed) => return refusal(alloc, malformed.into()),
+fn print_lent(alloc: Global, octets: &[u8], out: &mut String) -> Result<(), DerError> {
+    match exact_elem(octets) {
+        Ok(elem) => match CertView::read(elem) {
+            Some(view) => Ok(push_view(alloc, &view, out)?),
+            None => print_refusal(alloc, DerError::Shape, out),
+        },
+        Err(malformed) => print_refusal(alloc, DerError::Malformed(malformed), out),
     }
-    let behind = cursor.rest().len();
-    if behind > 0 {
-        return Ok(format!(in alloc; "{behind} behind")?);
+}
+
+fn push_view(alloc: Global, view: &CertView<'_>, out: &mut String) -> Result<(), AllocError> {
+    let mut line = String::new(alloc);
+    view::print(alloc, view, &mut line)?;
+    push_digest(alloc, &line, out)
+}
+
+/// The digests of what a caller asks for, and of the fields where the kept octets lie; or the refusal.
+fn print_kept(alloc: Global, octets: &[u8], out: &mut String) -> Result<(), AllocError> {
+    match Cert::from_der(alloc, octets) {
+        Ok(cert) => {
+            push_kept(alloc, &cert, octets, out)?;
+            push_view(alloc, &cert.view(), out)
+        }
+        Err(error) => kept::push_error(alloc, &error, out),
     }
-    let line = view::answer(alloc, octets)?;
-    if line.as_str() == "Shape" {
-        return Ok(line);
-    }
-    Ok(digest(alloc, &line)?)
+}
+
+fn push_kept(
+    alloc: Global,
+    cert: &Cert,
+    octets: &[u8],
+    out: &mut String,
+) -> Result<(), AllocError> {
+    let mut line = String::new(alloc);
+    kept::print(alloc, cert, octets, &mut line)?;
+    push_digest(alloc, &line, out)
 }
 
 /// A refusal; want of memory ends the run.
-fn refusal(alloc: Global, error: DerError) -> Result<String, DerError> {
+fn print_refusal(alloc: Global, error: DerError, out: &mut String) -> Result<(), DerError> {
     match error {
-        DerError::Shape => Ok(String::from_str(alloc, "Shape")?),
-        DerError::Malformed(malformed) => Ok(format!(in alloc; "{malformed}")?),
+        DerError::Shape => Ok(push(out, "Shape")?),
+        DerError::Malformed(malformed) => {
+            let text = format!(in alloc; "{malformed}")?;
+            Ok(push(out, text.as_str())?)
+        }
         error => Err(error),
     }
 }
 
 /// The first half of the SHA-256 of a line.
-fn digest(alloc: Global, line: &str) -> Result<String, AllocError> {
-    hex::encode(alloc, &Sha256::digest(line.as_bytes())[..16])
+fn push_digest(alloc: Global, line: &String, out: &mut String) -> Result<(), AllocError> {
+    let digest = Sha256::digest(line.as_bytes());
+    let text = hex::encode(alloc, &digest[..16])?;
+    push(out, text.as_str())
 }

@@ -3,11 +3,12 @@
 use crate::view::octets;
 use anyhow::Result;
 use asn1_types::oids::{KP_CODE_SIGNING, KP_TIME_STAMPING};
-use der_core::{Cursor, Structure};
+use der_core::Cursor;
 use std::alloc::Global;
 use std::io::Write;
 use std::time::CpuClock;
-use x509_types::{CertView, Certificate, Time};
+use x509_core::Cert;
+use x509_types::{CertView, Time};
 
 /// Reads each certificate of a file so many times, in each way. For each way a line is printed: its
 /// name, for each certificate 1 where it is read and 0 where it isn't, the nanoseconds that all took
@@ -30,7 +31,7 @@ pub fn print_times(
 enum Way {
     /// Where its octets lie, with each field.
     Lent,
-    /// As a value of its own.
+    /// As a certificate that is kept with its octets.
     Kept,
 }
 
@@ -91,8 +92,10 @@ fn certificates_of<'a>(alloc: Global, file: &'a [u8]) -> Result<Vec<&'a [u8]>> {
 }
 
 fn kept(alloc: Global, octets: &[u8]) -> Option<usize> {
-    let certificate = Certificate::from_der(alloc, octets).ok()?;
-    Some(certificate.signature_value.payload_view().len())
+    match Cert::from_der(alloc, octets) {
+        Ok(cert) => Some(cert.as_bytes().len()),
+        Err(_) => None,
+    }
 }
 
 fn lent(octets: &[u8]) -> Option<usize> {
