@@ -4,3 +4,8 @@ pub mod Padded
 pub mod OneForm
 pub mod OneAnswer
 pub mod Hexadecimal
+pub mod OneCertificate
+pub mod BagSteps
+pub mod PlaceSteps
+pub mod WalkSteps
+pub mod SignerSteps

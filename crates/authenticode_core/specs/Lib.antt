@@ -4,3 +4,12 @@ pub mod Views
 pub mod Basic
 pub mod ErrorText
 pub mod RefusalName
+pub mod CertificateBag
+pub mod Places
+pub mod Names
+pub mod BagSigner
+pub mod IssuerWalk
+pub mod LeftMembers
+pub mod BagCursor
+pub mod WalkCursor
+pub mod Wanted

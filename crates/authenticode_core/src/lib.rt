@@ -1,15 +1,23 @@
-//! Authenticode signatures: whether a signed file's signature is vouched for.
+//! Authenticode signatures: whether a signed file's signature is vouched for, and where its
+//! certificates, that of its signer and those of the issuers stand in signed data.
 #![tactic(auto)]
 
 mod accepted;
+mod bag;
 mod basic;
 mod error;
+mod issuer_walk;
 mod laws;
 mod parts;
 mod plain_form;
 mod plain_rules;
+mod signer;
+mod wanted;
 
 pub use accepted::{Accepted, Excuse, Places};
+pub use bag::{Bag, BagCertificate};
 pub use basic::check_basic;
 pub use error::{AuthenticodeError, CheckError};
-pub use laws::one_signed_data;
+pub use issuer_walk::{IssuerWalk, is_on_path};
+pub use laws::{one_bag, one_issuer_walk, one_signed_data};
+pub use signer::{certificate_bag, issuer_walk_of, signer_of};

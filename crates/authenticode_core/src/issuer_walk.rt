@@ -1,0 +1,58 @@
+//! The walk from the certificate of a signer to those of its issuers, where their octets lie.
+
+ghost use Rattle.std.specs.Prelude.{◌↔◌, ℕ, suc, ◌<◌, List, [], length, IsTrue, IfSome, MatchOption};
+ghost use Rattle.der_core.specs.DerElement.{DerElement};
+ghost use Rattle.x509_types.specs.CertificateElements.{CertificateElements};
+ghost use Rattle.x509_types.specs.CertificateView.{view_elements};
+ghost use Rattle.authenticode_core.specs.BagCursor.{StandsIn};
+ghost use Rattle.authenticode_core.specs.IssuerWalk.{IsWalkFrom};
+ghost use Rattle.authenticode_core.specs.LeftMembers.{left_members};
+ghost use Rattle.authenticode_core.specs.Names.{HasSubject};
+ghost use Rattle.authenticode_core.specs.Places.{IsLeastPlace};
+ghost use Rattle.authenticode_core.specs.WalkCursor.{LooksFrom};
+
+use crate::bag::{Bag, BagCertificate};
+use crate::wanted::Wanted;
+use der_core::is_same;
+use x509_types::CertView;
+
+/// The first certificate whose subject is that of the signer's, then each next later one whose
+/// subject is the issuer of the one before (RFC 5280 6.1). The bag is read once, and no memory is
+/// taken.
+#[derive(Clone, Copy)]
+pub struct IssuerWalk<'a> {
+    bag: Bag<'a>,
+    subject: &'a [u8],
+}
+
+impl<'a> IssuerWalk<'a> {
+    /// The walk of the certificate over what is left of the bag.
+    pub fn new(bag: Bag<'a>, signer: &CertView<'a>) -> IssuerWalk<'a>
+        ensures { (certificates : List CertificateElements) → StandsIn bag.entry certificates → LooksFrom result certificates bag.entry.place (view_elements signer.now).tbs.subject }
+    {
+        IssuerWalk {
+            bag,
+            subject: signer.subject(),
+        }
+    }
+
+    /// The next certificate of the walk, with its place in the bag.
+    pub fn next(&mut self) -> Option<BagCertificate<'a>>
+        ensures fewer { IfSome result (λ _. length (left_members self.new.bag.members) < length (left_members self.old.bag.members)) }
+        ensures next { (bag : List CertificateElements) (from : ℕ) (subject : DerElement) → LooksFrom self.old bag from subject → MatchOption result
+            (IsWalkFrom bag from subject [])
+            (λ next. IsLeastPlace bag (HasSubject subject) from next.place (view_elements next.certificate)
+            × LooksFrom self.new bag (suc next.place) (view_elements next.certificate).tbs.issuer) }
+    {
+        let next = self.bag.next_wanted(Wanted::Subject(self.subject))?;
+        self.subject = next.certificate.issuer();
+        Some(next)
+    }
+}
+
+/// Whether a certificate of the issuer walk is one of the issuer path: its subject isn't the signer's.
+pub fn is_on_path(signer: &CertView<'_>, certificate: &CertView<'_>) -> bool
+    ensures { IsTrue result ↔ (HasSubject (view_elements signer.now).tbs.subject (view_elements certificate.now) → ⊥) }
+{
+    !is_same(certificate.subject(), signer.subject())
+}
