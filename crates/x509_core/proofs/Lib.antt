@@ -6,3 +6,4 @@ pub mod Names
 pub mod FirstOfIdentifier
 pub mod ReadCerts
 pub mod Links
+pub mod Validity

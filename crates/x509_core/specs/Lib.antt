@@ -3,6 +3,8 @@ pub mod KeptCertificate
 pub mod FirstValue
 pub mod CertType
 pub mod Parent
+pub mod Rules
+pub mod Window
 pub mod CertRefusals
 pub mod Spellings
 pub mod ErrorText

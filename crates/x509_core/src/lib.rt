@@ -1,5 +1,5 @@
-//! Certificates: read from octets, kept with them, and asked for what a caller wants of one; and
-//! whether one may be the parent of another.
+//! Certificates: read from octets, kept with them, and asked for what a caller wants of one; whether
+//! one may be the parent of another, and whether some are a chain.
 #![tactic(auto)]
 
 mod cert;
@@ -10,10 +10,12 @@ mod key_link;
 mod keyless;
 mod laws;
 mod parent;
+mod window;
 
 pub use cert::Cert;
 pub use cert_type::CertType;
-pub use error::{CaChainError, CertCause, CertError, ExtName};
+pub use error::{Arg, CaChainError, CertCause, CertError, ExtName};
 pub use key_core::Element;
 pub use laws::certificates_are_written_as_read;
 pub use parent::names_agree;
+pub use window::{DateCheck, Window};
