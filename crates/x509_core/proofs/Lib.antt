@@ -7,3 +7,6 @@ pub mod FirstOfIdentifier
 pub mod ReadCerts
 pub mod Links
 pub mod Validity
+pub mod Depths
+pub mod SignedParts
+pub mod LinkRules

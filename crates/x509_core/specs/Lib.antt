@@ -5,6 +5,7 @@ pub mod CertType
 pub mod Parent
 pub mod Rules
 pub mod Window
+pub mod Link
 pub mod CertRefusals
 pub mod Spellings
 pub mod ErrorText

@@ -9,6 +9,7 @@ mod error;
 mod key_link;
 mod keyless;
 mod laws;
+mod link;
 mod parent;
 mod window;
 
