@@ -10,3 +10,7 @@ pub mod Validity
 pub mod Depths
 pub mod SignedParts
 pub mod LinkRules
+pub mod Chains
+pub mod ChainSteps
+pub mod UnbrokenLinks
+pub mod Verdicts

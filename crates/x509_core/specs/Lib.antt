@@ -6,6 +6,8 @@ pub mod Parent
 pub mod Rules
 pub mod Window
 pub mod Link
+pub mod Checks
+pub mod Chain
 pub mod CertRefusals
 pub mod Spellings
 pub mod ErrorText
