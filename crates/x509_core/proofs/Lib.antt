@@ -10,3 +10,11 @@ pub mod Parts
 pub mod Alike
 pub mod ReadCsrs
 pub mod Generating
+pub mod Validity
+pub mod Depths
+pub mod SignedParts
+pub mod LinkRules
+pub mod Chains
+pub mod ChainSteps
+pub mod UnbrokenLinks
+pub mod Verdicts

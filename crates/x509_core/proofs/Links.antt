@@ -1,7 +1,17 @@
 -- How key identifiers of elements stand, where the elements are the same.
-use Rattle.std.proofs.Common.{◌≡◌, ◌↔◌, IsTrue, Bool, subst}
+use Rattle.std.proofs.Common.{◌≡◌, ◌≢◌, ◌↔◌, IsTrue, Bool, refl, subst}
+use Rattle.names_core.specs.declared.name.DirectoryName.{DirectoryName}
 use Rattle.x509_types.specs.CertificateElements.{CertificateElements}
-use Rattle.x509_core.specs.Parent.{AgreeByName, AgreeByKeyAndName, LacksKey, DifferByKey, IsKeyLink}
+use Rattle.x509_core.specs.KeptCertificate.{KeptCertificate}
+use Rattle.x509_core.specs.Link.{IsNoParent}
+use Rattle.x509_core.specs.Parent.{AgreeByName, AgreeByKeyAndName, LacksKey, DifferByKey, IsKeyLink, RefusesChain, RefusesLink, RefusesParent}
+use Rattle.x509_core.specs.Rules.{IsMet}
+use Rattle.x509_core.specs.declared.error.CaChainError.{CaChainError}
+use Rattle.x509_core.specs.declared.error.CaChainError.TheVariants as chain
+use Rattle.x509_core.specs.declared.error.CertCause.{CertCause}
+use Rattle.x509_core.specs.declared.error.CertCause.TheVariants as causes
+use Rattle.x509_core.specs.declared.error.CertError.{CertError}
+use Rattle.x509_core.specs.declared.error.CertError.TheVariants as errors
 use Rattle.x509_core.specs.declared.key_link.KeyLink.{KeyLink}
 use Rattle.std.specs.Prelude.{ℕ, List}
 use Rattle.x509_core.proofs.KeyIds.{had_once}
@@ -19,3 +29,34 @@ lacking parent child lacks linked = lacks.none lacks.key (linked.key lacks.key l
 -- and neither is one that has another
 pub differing : (parent child : CertificateElements) (expected actual : List ℕ) → DifferByKey parent child expected actual → AgreeByKeyAndName parent child → ⊥
 differing parent child expected actual differ linked = differ.other (had_once parent expected actual (linked.key expected differ.named) differ.had)
+
+-- ---- a parent by names and key identifiers isn't refused
+
+not_chained : (parent child : KeptCertificate) (source : CaChainError) → AgreeByKeyAndName parent.elements child.elements → RefusesChain parent child source → ⊥
+not_chained parent child (chain.TooDeep id limit) agreed refused = refused
+not_chained parent child chain.NoRoot agreed refused = refused
+not_chained parent child (chain.IssuerIsNotCA id) agreed refused = refused
+not_chained parent child (chain.AuthorityKeyIdMismatch expected actual) agreed refused = differing parent.elements child.elements expected actual refused agreed
+not_chained parent child (chain.IssuerNameMismatch expected actual) agreed refused = refused.name agreed.name
+
+not_linked : (parent child : KeptCertificate) (id : DirectoryName) (cause : CertCause) → AgreeByKeyAndName parent.elements child.elements → RefusesLink parent child id cause → ⊥
+not_linked parent child id (causes.Signature source) agreed refused = refused
+not_linked parent child id (causes.InvalidChain source) agreed refused = not_chained parent child source agreed refused.1
+not_linked parent child id (causes.ExtensionNotFound name) agreed refused = lacking parent.elements child.elements refused.2 agreed
+not_linked parent child id (causes.CertificateNotYetValid not_before now) agreed refused = refused
+not_linked parent child id (causes.CertificateExpired not_after now) agreed refused = refused
+
+pub parent_is_met : (parent child : KeptCertificate) → AgreeByKeyAndName parent.elements child.elements → IsMet (IsNoParent parent child)
+parent_is_met parent child agreed = λ e broken. by e broken.0 broken.1
+  where
+    by : (e : CertError) → RefusesParent parent child e → e ≢ errors.Memory → ⊥
+    by (errors.InvalidCertificate id source) refused told = not_linked parent child id source agreed refused
+    by (errors.Asn1Serialization element source) refused told = refused
+    by (errors.Asn1Deserialization element source) refused told = refused
+    by (errors.Signature source) refused told = refused
+    by (errors.InvalidChain source) refused told = refused
+    by (errors.ExtensionNotFound name) refused told = refused
+    by (errors.MissingBuilderArgument argument) refused told = refused
+    by (errors.CertificateNotYetValid not_before now) refused told = refused
+    by (errors.CertificateExpired not_after now) refused told = refused
+    by errors.Memory refused told = told refl

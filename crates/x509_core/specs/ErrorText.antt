@@ -1,6 +1,14 @@
 -- The texts of errors.
 use Rattle.std.specs.Prelude.{ℕ, List, ◌++◌, codes, Option, Some, None}
+use Rattle.std.specs.Option.{option_map}
+use Rattle.std.specs.Fmt.{decimal}
+use Rattle.asn1_types.specs.Time.{time_text}
+use Rattle.asn1_types.specs.declared.generalized_time.GeneralizedTime.{GeneralizedTime}
+use Rattle.key_core.specs.SignatureErrorText.{signature_error_text}
+use Rattle.key_core.specs.declared.signature_error.SignatureError.{SignatureError}
 use Rattle.x501_types.specs.NameText.{hexadecimal, name_text}
+use Rattle.x509_core.specs.declared.error.Arg.{Arg}
+use Rattle.x509_core.specs.declared.error.Arg.TheVariants as arguments
 use Rattle.x509_core.specs.declared.error.CaChainError.{CaChainError}
 use Rattle.x509_core.specs.declared.error.CaChainError.TheVariants as chain
 use Rattle.x509_core.specs.declared.error.CertCause.{CertCause}
@@ -16,6 +24,24 @@ extension_text names.SubjectKeyIdentifier = codes "subject key identifier"
 extension_text names.AuthorityKeyIdentifier = codes "authority key identifier"
 extension_text names.BasicConstraints = codes "basic constraints"
 
+-- what is handed to a validator
+abbrev pub argument_text : Arg → List ℕ
+argument_text arguments.Now = codes "now"
+argument_text arguments.Chain = codes "chain"
+
+-- the two moments of a validity that hasn't begun, or has ended
+abbrev pub not_yet_valid_text : GeneralizedTime → GeneralizedTime → List ℕ
+not_yet_valid_text not_before now =
+    codes "certificate is not yet valid (not before: " ++ time_text not_before ++ codes ", now: " ++ time_text now ++ codes ")"
+
+abbrev pub expired_text : GeneralizedTime → GeneralizedTime → List ℕ
+expired_text not_after now =
+    codes "certificate expired (not after: " ++ time_text not_after ++ codes ", now: " ++ time_text now ++ codes ")"
+
+-- a signature that isn't accepted, where its error has a text
+abbrev pub bad_signature_text : SignatureError → Option (List ℕ)
+bad_signature_text source = option_map (λ text. codes "signature error: " ++ text) (signature_error_text source)
+
 -- the key that is named and the one that stands there, in hexadecimal digits
 abbrev pub key_mismatch_text : List ℕ → List ℕ → List ℕ
 key_mismatch_text expected actual =
@@ -23,20 +49,32 @@ key_mismatch_text expected actual =
 
 -- why certificates are no chain
 abbrev pub chain_error_text : CaChainError → List ℕ
+chain_error_text (chain.TooDeep id length) =
+    codes "chain depth doesn't satisfy basic constraints extension: certificate '" ++ name_text id.name ++ codes "' has pathlen of " ++ decimal length
+chain_error_text chain.NoRoot = codes "chain is missing a root certificate"
+chain_error_text (chain.IssuerIsNotCA id) = codes "issuer certificate '" ++ name_text id.name ++ codes "' is not a CA"
 chain_error_text (chain.AuthorityKeyIdMismatch expected actual) = key_mismatch_text expected actual
 chain_error_text (chain.IssuerNameMismatch expected actual) =
     codes "issuer name doesn't match (expected: " ++ name_text expected.name ++ codes ", got: " ++ name_text actual.name ++ codes ")"
 
 -- a cause has the text of the error of its name
-abbrev pub cause_text : CertCause → List ℕ
-cause_text (causes.InvalidChain source) = codes "CA chain error: " ++ chain_error_text source
-cause_text (causes.ExtensionNotFound name) = codes "extension not found: " ++ extension_text name
+abbrev pub cause_text : CertCause → Option (List ℕ)
+cause_text (causes.Signature source) = bad_signature_text source
+cause_text (causes.InvalidChain source) = Some (codes "CA chain error: " ++ chain_error_text source)
+cause_text (causes.ExtensionNotFound name) = Some (codes "extension not found: " ++ extension_text name)
+cause_text (causes.CertificateNotYetValid not_before now) = Some (not_yet_valid_text not_before now)
+cause_text (causes.CertificateExpired not_after now) = Some (expired_text not_after now)
 
 -- What is told of a certificate. Of an element that isn't read or written no contract says what is told.
 abbrev pub cert_error_text : CertError → Option (List ℕ)
-cert_error_text (errors.InvalidCertificate id source) = Some (codes "invalid certificate '" ++ name_text id.name ++ codes "': " ++ cause_text source)
+cert_error_text (errors.InvalidCertificate id source) =
+    option_map (λ text. codes "invalid certificate '" ++ name_text id.name ++ codes "': " ++ text) (cause_text source)
 cert_error_text (errors.Asn1Serialization element source) = None
 cert_error_text (errors.Asn1Deserialization element source) = None
+cert_error_text (errors.Signature source) = bad_signature_text source
 cert_error_text (errors.InvalidChain source) = Some (codes "CA chain error: " ++ chain_error_text source)
 cert_error_text (errors.ExtensionNotFound name) = Some (codes "extension not found: " ++ extension_text name)
+cert_error_text (errors.MissingBuilderArgument argument) = Some (codes "missing required builder argument `" ++ argument_text argument ++ codes "`")
+cert_error_text (errors.CertificateNotYetValid not_before now) = Some (not_yet_valid_text not_before now)
+cert_error_text (errors.CertificateExpired not_after now) = Some (expired_text not_after now)
 cert_error_text errors.Memory = Some (codes "out of memory")

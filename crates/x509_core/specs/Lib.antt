@@ -4,6 +4,11 @@ pub mod FirstValue
 pub mod SaidValues
 pub mod CertType
 pub mod Parent
+pub mod Rules
+pub mod Window
+pub mod Link
+pub mod Checks
+pub mod Chain
 pub mod CertRefusals
 pub mod Spellings
 pub mod ErrorText

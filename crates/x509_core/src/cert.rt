@@ -189,6 +189,13 @@ impl Cert {
         &self.rest.signature
     }
 
+    /// The algorithm of the signature, beside what is signed (RFC 5280 4.1.1.2).
+    pub(crate) fn outer_algorithm(&self) -> &AlgorithmIdentifier
+        ensures { result.now ≡ self.now.certificate.signature_algorithm }
+    {
+        &self.rest.signature_algorithm
+    }
+
     /// The moment from which on the certificate is valid (RFC 5280 4.1.2.5).
     pub fn valid_not_before(&self) -> UtcDate
         ensures { generalized_fields result ≡ fields_of self.now.certificate.tbs_certificate.validity.not_before }

@@ -1,20 +1,20 @@
-//! Why a certificate isn't read or written, lacks an extension, or isn't the parent of another.
+//! Why a certificate isn't read or written, lacks an extension, isn't valid, or isn't one of a chain.
 
 ghost use Rattle.std.specs.Prelude.{◌≡◌, Some};
 ghost use Rattle.std.specs.Fmt.{WritesOnOk};
 ghost use Rattle.x501_types.specs.NameText.{hexadecimal};
-ghost use Rattle.x509_core.specs.ErrorText.{extension_text, chain_error_text, cause_text, cert_error_text, key_mismatch_text};
+ghost use Rattle.x509_core.specs.ErrorText.{argument_text, extension_text, chain_error_text, cause_text, cert_error_text, key_mismatch_text};
 ghost use Rattle.x509_core.specs.CertRefusals.{unread, unwritten};
 ghost use Rattle.x509_core.specs.declared.error.CertError.TheVariants.{Memory};
 
 use der_core::{DerError, Octets};
-use key_core::Element;
-use names_core::DirectoryName;
+use key_core::{Element, SignatureError};
+use names_core::{DirectoryName, UtcDate};
 use std::alloc::{AllocError, AllocFailed};
 use std::fmt;
 use thiserror::Error;
 
-/// Why a certificate isn't read or written, lacks an extension, or isn't the parent of another.
+/// Why a certificate isn't read or written, lacks an extension, isn't valid, or isn't one of a chain.
 #[derive(Debug, Drop, Error)]
 pub enum CertError {
     /// A certificate, told by the name of its subject, isn't what it has to be.
@@ -33,13 +33,31 @@ pub enum CertError {
         element: Element,
         source: DerError,
     },
-    /// Certificates are no chain. No call answers this yet.
+    /// The algorithm of a signature isn't known. Never with want of memory.
+    Signature {
+        source: SignatureError,
+    },
+    /// Certificates are no chain.
     InvalidChain {
         source: CaChainError,
     },
     /// The certificate has no extension of this name.
     ExtensionNotFound {
         name: ExtName,
+    },
+    /// What is asked for needs this, and it wasn't given.
+    MissingBuilderArgument {
+        arg: Arg,
+    },
+    /// The validity of the certificate begins after the moment that is asked for.
+    CertificateNotYetValid {
+        not_before: UtcDate,
+        now: UtcDate,
+    },
+    /// The validity of the certificate ended before the moment that is asked for.
+    CertificateExpired {
+        not_after: UtcDate,
+        now: UtcDate,
     },
     /// No memory was left.
     Memory,
@@ -48,15 +66,32 @@ pub enum CertError {
 /// What a certificate is refused for, each as the `CertError` of its name.
 #[derive(Debug, Drop, Error)]
 pub enum CertCause {
+    /// The signature of the certificate isn't one by the key of its parent. Never with want of memory.
+    Signature { source: SignatureError },
     /// Certificates are no chain.
     InvalidChain { source: CaChainError },
     /// The certificate has no extension of this name.
     ExtensionNotFound { name: ExtName },
+    /// The validity of the certificate begins after the moment that is asked for.
+    CertificateNotYetValid { not_before: UtcDate, now: UtcDate },
+    /// The validity of the certificate ended before the moment that is asked for.
+    CertificateExpired { not_after: UtcDate, now: UtcDate },
 }
 
 /// Why certificates are no chain.
 #[derive(Debug, Drop, Error)]
 pub enum CaChainError {
+    /// More certificates stand below this one than its path length allows (RFC 5280 4.2.1.9).
+    TooDeep {
+        cert_id: DirectoryName,
+        pathlen: u8,
+    },
+    /// The last certificate is no root.
+    NoRoot,
+    /// The parent isn't the certificate of an authority (RFC 5280 4.2.1.9).
+    IssuerIsNotCA {
+        issuer_id: DirectoryName,
+    },
     /// The certificate names another key as its authority's than the parent's (RFC 5280 4.2.1.1):
     /// `expected` is the identifier that the certificate names, `actual` the parent's own.
     AuthorityKeyIdMismatch {
@@ -77,6 +112,15 @@ pub enum ExtName {
     SubjectKeyIdentifier,
     AuthorityKeyIdentifier,
     BasicConstraints,
+}
+
+/// What is handed to a validator.
+#[derive(Clone, Copy, Debug, PartialEq, Eq)]
+pub enum Arg {
+    /// The date, or the interval.
+    Now,
+    /// The parents.
+    Chain,
 }
 
 impl CertError {
@@ -113,11 +157,30 @@ impl fmt::Display for ExtName {
     }
 }
 
+impl fmt::Display for Arg {
+    ghost output = { λ argument. Some (argument_text argument) };
+
+    fn fmt<W: fmt::Write>(&self, f: &mut fmt::Formatter<W>) -> fmt::Result {
+        match self {
+            Arg::Now => write!(f, "now"),
+            Arg::Chain => write!(f, "chain"),
+        }
+    }
+}
+
 impl fmt::Display for CaChainError {
     ghost output = { λ error. Some (chain_error_text error) };
 
     fn fmt<W: fmt::Write>(&self, f: &mut fmt::Formatter<W>) -> fmt::Result {
         match self {
+            CaChainError::TooDeep { cert_id, pathlen } => write!(
+                f,
+                "chain depth doesn't satisfy basic constraints extension: certificate '{cert_id}' has pathlen of {pathlen}"
+            ),
+            CaChainError::NoRoot => write!(f, "chain is missing a root certificate"),
+            CaChainError::IssuerIsNotCA { issuer_id } => {
+                write!(f, "issuer certificate '{issuer_id}' is not a CA")
+            }
             CaChainError::AuthorityKeyIdMismatch { expected, actual } => {
                 write_key_mismatch(expected.as_slice(), actual.as_slice(), f)
             }
@@ -153,12 +216,21 @@ fn write_hexadecimal<W: fmt::Write>(octets: &[u8], f: &mut fmt::Formatter<W>) ->
 }
 
 impl fmt::Display for CertCause {
-    ghost output = { λ cause. Some (cause_text cause) };
+    ghost output = { cause_text };
 
     fn fmt<W: fmt::Write>(&self, f: &mut fmt::Formatter<W>) -> fmt::Result {
         match self {
+            CertCause::Signature { source } => write!(f, "signature error: {source}"),
             CertCause::InvalidChain { source } => write!(f, "CA chain error: {source}"),
             CertCause::ExtensionNotFound { name } => write!(f, "extension not found: {name}"),
+            CertCause::CertificateNotYetValid { not_before, now } => write!(
+                f,
+                "certificate is not yet valid (not before: {not_before}, now: {now})"
+            ),
+            CertCause::CertificateExpired { not_after, now } => write!(
+                f,
+                "certificate expired (not after: {not_after}, now: {now})"
+            ),
         }
     }
 }
@@ -179,8 +251,20 @@ impl fmt::Display for CertError {
                 f,
                 "(ASN1) couldn't deserialize {element}: {source}"
             ),
+            CertError::Signature { source } => write!(f, "signature error: {source}"),
             CertError::InvalidChain { source } => write!(f, "CA chain error: {source}"),
             CertError::ExtensionNotFound { name } => write!(f, "extension not found: {name}"),
+            CertError::MissingBuilderArgument { arg } => {
+                write!(f, "missing required builder argument `{arg}`")
+            }
+            CertError::CertificateNotYetValid { not_before, now } => write!(
+                f,
+                "certificate is not yet valid (not before: {not_before}, now: {now})"
+            ),
+            CertError::CertificateExpired { not_after, now } => write!(
+                f,
+                "certificate expired (not after: {not_after}, now: {now})"
+            ),
             CertError::Memory => write!(f, "out of memory"),
         }
     }

@@ -1,23 +1,30 @@
 //! Certificates and requests for them: read from octets, kept with them, and asked for what a caller
-//! wants of one; and which certificate may be the parent of another.
+//! wants of one; whether one certificate may be the parent of another, and whether some are a chain.
 #![tactic(auto)]
 
 mod cert;
 mod cert_extensions;
 mod cert_type;
+mod chain_laws;
 mod csr;
 mod csr_error;
 mod error;
 mod key_link;
 mod keyless;
 mod laws;
+mod link;
 mod parent;
+mod validator;
+mod window;
 
 pub use cert::Cert;
 pub use cert_type::CertType;
+pub use chain_laws::chains_break_no_rule;
 pub use csr::Csr;
 pub use csr_error::CsrError;
-pub use error::{CaChainError, CertCause, CertError, ExtName};
+pub use error::{Arg, CaChainError, CertCause, CertError, ExtName};
 pub use key_core::Element;
 pub use laws::{certificates_are_written_as_read, elements_and_values_say_the_same};
 pub use parent::names_agree;
+pub use validator::{CertValidator, ChainChecks};
+pub use window::{DateCheck, Window};

@@ -78,7 +78,7 @@ impl Cert {
     }
 
     /// The refusal of this certificate for a cause.
-    fn invalid(&self, alloc: Global, source: CertCause) -> CertError
+    pub(crate) fn invalid(&self, alloc: Global, source: CertCause) -> CertError
         ensures { IsInvalid self.now source result }
     {
         match self.subject_name(alloc) {

@@ -1,0 +1,146 @@
+-- What is answered of a certificate over its parents, rule by rule, by what their iterator gave.
+use Rattle.std.proofs.Common.{◌≡◌, ◌≢◌, ◌⊎◌, IsTrue, false, List, [], ◌∷◌, ◌++◌, map, Option, Some, None, Result, Ok, Err, MatchResult, inl, inr, refl, sym, ap, subst, ◌∙◌}
+use Rattle.std.proofs.lemmas.Bool.{false≢true}
+use Rattle.std.specs.Borrow.{Bor}
+use Rattle.std.specs.Iterator.{AlwaysYields, Yields, Drains}
+use Rattle.key_core.specs.Verifying.{Judge}
+use Rattle.x509_types.specs.CertificateElements.{CertificateElements}
+use Rattle.x509_core.specs.CertType.{IsOfType}
+use Rattle.x509_core.specs.Chain.{Gives, IsDated, IsLinkedChain, IsFirstUnlinked, IsUnlinked, LacksDate, LacksChain, LacksRoot, IsAccepted, IsRooted, chain_rules, last_of, lent}
+use Rattle.x509_core.specs.KeptCertificate.{KeptCertificate}
+use Rattle.x509_core.specs.Link.{IsOutside}
+use Rattle.x509_core.specs.Rules.{IsMet, IsFirstBroken, Breaks, RefusesBy}
+use Rattle.x509_core.specs.Window.{IsWithinWindow}
+use Rattle.x509_core.specs.declared.cert_type.CertType.{CertType}
+use Rattle.x509_core.specs.declared.cert_type.CertType.TheVariants as types
+use Rattle.x509_core.specs.declared.error.Arg.TheVariants as arguments
+use Rattle.x509_core.specs.declared.error.CaChainError.TheVariants as chain_errors
+use Rattle.x509_core.specs.declared.error.CertError.{CertError}
+use Rattle.x509_core.specs.declared.error.CertError.TheVariants as errors
+use Rattle.x509_core.specs.declared.validator.ChainChecks.{ChainChecks}
+use Rattle.x509_core.proofs.Chains.{assoc, gives_front, gives_all}
+use Rattle.x509_core.proofs.Depths.{one_type}
+use Rattle.x509_core.proofs.LinkRules.{window_is_met}
+use Rattle.x509_core.proofs.UnbrokenLinks.{link_is_met}
+
+none_is_not : (parents : List KeptCertificate) → ◌≡◌ {A = Option (List KeptCertificate)} None (Some parents) → ⊥
+none_is_not parents e = cc
+
+same_list : (a b : List KeptCertificate) → ◌≡◌ {A = Option (List KeptCertificate)} (Some a) (Some b) → a ≡ b
+same_list a b e = cc
+
+-- where an iterator is given, it gives a list
+listed : {S : Type 0} (steps : S → Option (Bor KeptCertificate) → S → Type 0) (chain : S) (given : Option (List KeptCertificate)) → Gives steps (Some chain) given → (parents : List KeptCertificate) × (given ≡ Some parents) × AlwaysYields steps lent chain parents
+listed steps chain None gives = absurd gives
+listed steps chain (Some parents) gives = (parents, refl, gives)
+
+-- where none is, it gives none
+unlisted : {S : Type 0} (steps : S → Option (Bor KeptCertificate) → S → Type 0) (given : Option (List KeptCertificate)) → Gives steps None given → given ≡ None
+unlisted steps None gives = refl
+unlisted steps (Some parents) gives = absurd gives
+
+module _ (judge : Judge) (checks : ChainChecks) (checked : KeptCertificate) (given : Option (List KeptCertificate)) where
+  abbrev Refuses : CertError → Type 0
+  Refuses = RefusesBy (chain_rules judge checks checked given)
+
+  date_is_met : IsDated checks → IsMet (LacksDate checks)
+  date_is_met dated = λ e broken. dated broken.0 broken.1
+
+  chain_is_met : (parents : List KeptCertificate) → given ≡ Some parents → IsMet (LacksChain checks given)
+  chain_is_met parents is = λ e broken. none_is_not parents (sym broken.1 ∙ is)
+
+  links_are_met : (parents : List KeptCertificate) → given ≡ Some parents → IsLinkedChain judge checks.window checked parents → IsMet (IsUnlinked judge checks checked given)
+  links_are_met parents is linked = λ e broken.
+      let same : parents ≡ broken.parents = same_list parents broken.parents (sym is ∙ broken.is) in
+      let first = broken.first in
+      link_is_met judge checks.window _ first.parent (last_of checked first.before) e (linked first.before first.after first.parent (same ∙ first.are)) first.broken
+
+  root_is_met : (parents : List KeptCertificate) → given ≡ Some parents → IsRooted checks checked parents → IsMet (LacksRoot checks checked given)
+  root_is_met parents is rooted = λ e broken. broken.unrooted (subst (IsRooted checks checked) (same_list parents broken.parents (sym is ∙ broken.is)) rooted)
+
+  -- what is accepted breaks no rule
+  pub accepted_is_met : (e : CertError) → IsAccepted judge checks checked given → IsFirstBroken (chain_rules judge checks checked given) e → ⊥
+  accepted_is_met e accepted (inl broken) = date_is_met accepted.dated e broken
+  accepted_is_met e accepted (inr (a, inl broken)) = window_is_met checks.window checked accepted.valid e broken
+  accepted_is_met e accepted (inr (a, inr (b, inl broken))) = let path = accepted.chained broken.0 in chain_is_met path.parents path.is e broken
+  accepted_is_met e accepted (inr (a, inr (b, inr (c, inl broken)))) = let path = accepted.chained broken.asked in links_are_met path.parents path.is path.linked e broken
+  accepted_is_met e accepted (inr (a, inr (b, inr (c, inr (d, inl broken))))) = let path = accepted.chained broken.asked in root_is_met path.parents path.is path.rooted e broken
+  accepted_is_met e accepted (inr (a, inr (b, inr (c, inr (d, inr none))))) = none.1
+
+  pub outside : (e : CertError) → IsDated checks → Breaks (IsOutside checks.window checked) e → Refuses e
+  outside e dated (inl broken) = inl (inr (date_is_met dated, inl broken))
+  outside e dated (inr memory) = inr memory
+
+  pub unasked : IsDated checks → IsWithinWindow checks.window checked.elements → checks.chain ≡ false → IsAccepted judge checks checked given
+  unasked dated valid off = record { dated = dated; valid = valid; chained = λ asked. absurd (false≢true (sym off ∙ asked)) }
+
+  module _ (dated : IsDated checks) (valid : IsWithinWindow checks.window checked.elements) (asked : IsTrue checks.chain) where
+    pub no_chain : {S : Type 0} (steps : S → Option (Bor KeptCertificate) → S → Type 0) → Gives steps None given → Refuses (errors.MissingBuilderArgument arguments.Chain)
+    no_chain steps gives = inl (inr (date_is_met dated, inr (window_is_met checks.window checked valid, inl (asked, unlisted steps given gives, refl))))
+
+    module _ {S : Type 0} (steps : S → Option (Bor KeptCertificate) → S → Type 0) (chain : S) (gives : Gives steps (Some chain) given) where
+      unlinked_by : (e : CertError) (rest : S) (xs : List (Bor KeptCertificate)) → Yields steps chain xs rest → IsFirstUnlinked judge checks.window checked (map lent xs) e → Refuses e
+      unlinked_by e rest xs ran first =
+          let l = listed steps chain given gives in
+          let front = gives_front steps lent chain rest xs l.0 l.2 ran in
+          inl (inr (
+            date_is_met dated,
+            inr (
+              window_is_met checks.window checked valid,
+              inr (
+                chain_is_met l.0 l.1,
+                inl (record {
+                  asked = asked;
+                  parents = l.0;
+                  is = l.1;
+                  first = record {
+                    before = first.before;
+                    parent = first.parent;
+                    after = first.after ++ front.0;
+                    are = front.1 ∙ ap (λ (zs : List KeptCertificate). zs ++ front.0) first.are ∙ assoc first.before (first.parent ∷ first.after) front.0;
+                    linked = first.linked;
+                    broken = first.broken;
+                  };
+                }),
+              ),
+            ),
+          ))
+
+      pub refused_chain : (e : CertError) → (e ≡ errors.Memory) ⊎ ((xs : List (Bor KeptCertificate)) × (rest : S) × Yields steps chain xs rest × IsFirstUnlinked judge checks.window checked (map lent xs) e) → Refuses e
+      refused_chain e (inl memory) = inr memory
+      refused_chain e (inr (xs, rest, ran, first)) = unlinked_by e rest xs ran first
+
+      module _ (xs : List (Bor KeptCertificate)) (ran : Drains steps chain xs) (linked : IsLinkedChain judge checks.window checked (map lent xs)) where
+        is_all : given ≡ Some (map lent xs)
+        is_all = let l = listed steps chain given gives in l.1 ∙ ap Some (gives_all steps lent chain xs l.0 l.2 ran)
+
+        path : IsRooted checks checked (map lent xs) → IsAccepted judge checks checked given
+        path rooted = record { dated = dated; valid = valid; chained = λ _. record { parents = map lent xs; is = is_all; linked = linked; rooted = rooted } }
+
+        rootless : (IsRooted checks checked (map lent xs) → ⊥) → Refuses (errors.InvalidChain chain_errors.NoRoot)
+        rootless unrooted =
+            inl (inr (
+              date_is_met dated,
+              inr (
+                window_is_met checks.window checked valid,
+                inr (
+                  chain_is_met (map lent xs) is_all,
+                  inr (
+                    links_are_met (map lent xs) is_all linked,
+                    inl (record {
+                      asked = asked;
+                      parents = map lent xs;
+                      is = is_all;
+                      unrooted = unrooted;
+                      told = refl;
+                    }),
+                  ),
+                ),
+              ),
+            ))
+
+        pub verdict : {X : Type 0} (last : CertType) (r : Result X CertError) → IsOfType (last_of checked (map lent xs)).elements last
+            → MatchResult r (λ _. IsTrue checks.root → last ≡ types.Root) (λ e. IsTrue checks.root × (last ≢ types.Root) × (e ≡ errors.InvalidChain chain_errors.NoRoot))
+            → MatchResult r (λ _. IsAccepted judge checks checked given) Refuses
+        verdict last (Ok v) is h = path (λ root. subst (IsOfType (last_of checked (map lent xs)).elements) (h root) is)
+        verdict last (Err e) is h = subst Refuses (sym h.2) (rootless (λ rooted. h.1 (one_type (last_of checked (map lent xs)).elements last is (rooted h.0))))

@@ -1,0 +1,110 @@
+-- When certificates are a chain (RFC 5280 6.1), and what is answered where they aren't.
+use Rattle.std.specs.Prelude.{◌≡◌, ◌≢◌, ◌⊎◌, ⊤, ℕ, List, [], ◌∷◌, ◌++◌, length, Option, Some, None, IsTrue}
+use Rattle.std.specs.Borrow.{Bor}
+use Rattle.std.specs.Iterator.{AlwaysYields}
+use Rattle.key_core.specs.Verifying.{Judge}
+use Rattle.x509_core.specs.CertType.{IsOfType}
+use Rattle.x509_core.specs.KeptCertificate.{KeptCertificate}
+use Rattle.x509_core.specs.Link.{IsLink, IsOutside, link_rules}
+use Rattle.x509_core.specs.Rules.{Rule, IsFirstBroken}
+use Rattle.x509_core.specs.Window.{IsWithinWindow}
+use Rattle.x509_core.specs.declared.cert_type.CertType.TheVariants as types
+use Rattle.x509_core.specs.declared.error.Arg.TheVariants as arguments
+use Rattle.x509_core.specs.declared.error.CaChainError.TheVariants as chain
+use Rattle.x509_core.specs.declared.error.CertError.{CertError}
+use Rattle.x509_core.specs.declared.error.CertError.TheVariants as errors
+use Rattle.x509_core.specs.declared.validator.ChainChecks.{ChainChecks}
+use Rattle.x509_core.specs.declared.window.DateCheck.TheVariants as dates
+use Rattle.x509_core.specs.declared.window.Window.{Window}
+
+-- the last of a path: the checked certificate, where no parent stands above it
+abbrev pub last_of : {A : Type 0} → A → List A → A
+last_of checked [] = checked
+last_of checked (parent ∷ parents) = last_of parent parents
+
+-- Each parent is linked to the certificate before it, the checked one before the first, and numbered by the parents before it.
+abbrev pub IsLinkedChain : Judge → Window → KeptCertificate → List KeptCertificate → Type 0
+IsLinkedChain judge w checked parents = (before after : List KeptCertificate) (parent : KeptCertificate) → parents ≡ before ++ parent ∷ after
+    → IsLink judge w (length before) parent.elements (last_of checked before).elements
+
+-- the checks ask for the dates of a certificate
+abbrev pub AsksForDate : Window → Type 0
+AsksForDate w = IsTrue w.not_before ⊎ IsTrue w.not_after
+
+-- a date is given where one is asked for
+abbrev pub IsDated : ChainChecks → Type 0
+IsDated checks = AsksForDate checks.window → checks.window.date ≢ dates.Absent
+
+-- The last certificate is a root, where that is asked for.
+abbrev pub IsRooted : ChainChecks → KeptCertificate → List KeptCertificate → Type 0
+IsRooted checks checked parents = IsTrue checks.root → IsOfType (last_of checked parents).elements types.Root
+
+-- A chain is given, it is linked, and it ends as is asked.
+pub record IsPath (judge : Judge) (checks : ChainChecks) (checked : KeptCertificate) (given : Option (List KeptCertificate)) : Type 0 where
+  pub parents : List KeptCertificate
+  pub is : given ≡ Some parents
+  pub linked : IsLinkedChain judge checks.window checked parents
+  pub rooted : IsRooted checks checked parents
+
+-- The certificate is accepted, over the parents that are given.
+pub record IsAccepted (judge : Judge) (checks : ChainChecks) (checked : KeptCertificate) (given : Option (List KeptCertificate)) : Type 0 where
+  pub dated : IsDated checks
+  pub valid : IsWithinWindow checks.window checked.elements
+  pub chained : IsTrue checks.chain → IsPath judge checks checked given
+
+-- ---- rules, by what breaks them
+
+-- dates are asked for, and none is given
+abbrev pub LacksDate : ChainChecks → Rule CertError
+LacksDate checks e = AsksForDate checks.window × (checks.window.date ≡ dates.Absent) × (e ≡ errors.MissingBuilderArgument arguments.Now)
+
+-- a chain is asked for, and none is given
+abbrev pub LacksChain : ChainChecks → Option (List KeptCertificate) → Rule CertError
+LacksChain checks given e = IsTrue checks.chain × (given ≡ None) × (e ≡ errors.MissingBuilderArgument arguments.Chain)
+
+-- A parent isn't linked to the certificate before it, and all before it are.
+pub record IsFirstUnlinked (judge : Judge) (w : Window) (checked : KeptCertificate) (parents : List KeptCertificate) (e : CertError) : Type 0 where
+  pub before : List KeptCertificate
+  pub parent : KeptCertificate
+  pub after : List KeptCertificate
+  pub are : parents ≡ before ++ parent ∷ after
+  pub linked : IsLinkedChain judge w checked before
+  pub broken : IsFirstBroken (link_rules judge w (length before) parent (last_of checked before)) e
+
+-- some parent isn't linked
+pub record IsUnlinked (judge : Judge) (checks : ChainChecks) (checked : KeptCertificate) (given : Option (List KeptCertificate)) (e : CertError) : Type 0 where
+  pub asked : IsTrue checks.chain
+  pub parents : List KeptCertificate
+  pub is : given ≡ Some parents
+  pub first : IsFirstUnlinked judge checks.window checked parents e
+
+-- the last certificate is no root
+pub record LacksRoot (checks : ChainChecks) (checked : KeptCertificate) (given : Option (List KeptCertificate)) (e : CertError) : Type 0 where
+  pub asked : IsTrue checks.chain
+  pub parents : List KeptCertificate
+  pub is : given ≡ Some parents
+  pub unrooted : IsRooted checks checked parents → ⊥
+  pub told : e ≡ errors.InvalidChain chain.NoRoot
+
+-- The rules of a verification, in their order.
+abbrev pub chain_rules : Judge → ChainChecks → KeptCertificate → Option (List KeptCertificate) → List (Rule CertError)
+chain_rules judge checks checked given =
+    LacksDate checks ∷ IsOutside checks.window checked ∷ LacksChain checks given ∷ IsUnlinked judge checks checked given ∷ LacksRoot checks checked given ∷ []
+
+-- ---- what an iterator gives
+
+-- the certificates that are lent
+abbrev pub lent : Bor KeptCertificate → KeptCertificate
+lent certificate = certificate.now
+
+-- the last parent so far, or the checked certificate
+abbrev pub nearest : KeptCertificate → Option (Bor KeptCertificate) → KeptCertificate
+nearest checked None = checked
+nearest checked (Some parent) = parent.now
+
+-- where there is an iterator, it gives these and no others
+abbrev pub Gives : {S : Type 0} → (S → Option (Bor KeptCertificate) → S → Type 0) → Option S → Option (List KeptCertificate) → Type 0
+Gives steps None None = ⊤
+Gives steps None (Some parents) = ⊥
+Gives steps (Some chain) None = ⊥
+Gives steps (Some chain) (Some parents) = AlwaysYields steps lent chain parents

@@ -1,0 +1,30 @@
+//! Laws on chains of certificates.
+
+ghost use Rattle.std.specs.Prelude.{◌↔◌, ℕ, List, Option};
+ghost use Rattle.asn1_types.specs.declared.generalized_time.GeneralizedTime.{GeneralizedTime};
+ghost use Rattle.key_core.specs.Verifying.{Judge};
+ghost use Rattle.x509_types.specs.CertificateElements.{CertificateElements};
+ghost use Rattle.x509_core.specs.Chain.{IsAccepted, chain_rules};
+ghost use Rattle.x509_core.specs.KeptCertificate.{KeptCertificate};
+ghost use Rattle.x509_core.specs.Link.{IsLink, link_rules};
+ghost use Rattle.x509_core.specs.Rules.{IsFirstBroken};
+ghost use Rattle.x509_core.specs.Window.{IsWithinWindow, IsExpired, window_rules};
+ghost use Rattle.x509_core.specs.declared.error.CertCause.{CertCause};
+ghost use Rattle.x509_core.specs.declared.error.CertCause.TheVariants as causes;
+ghost use Rattle.x509_core.specs.declared.error.CertError.{CertError};
+ghost use Rattle.x509_core.specs.declared.validator.ChainChecks.{ChainChecks};
+ghost use Rattle.x509_core.specs.declared.window.Window.{Window};
+
+/// What is valid breaks no rule of windows, what is a link none of links, and what is accepted none
+/// of chains. So `Window::expect_valid` answers Ok exactly there, and `Cert::expect_link` and
+/// `CertValidator::verify` do, want of memory aside. What has expired is told so, and nothing else.
+pub fn chains_break_no_rule()
+    ensures window { (w : Window) (f : CertificateElements) (cause : CertCause)
+        → IsWithinWindow w f → IsFirstBroken (window_rules w f) cause → ⊥ }
+    ensures expired { (w : Window) (f : CertificateElements) → IsExpired w f
+        ↔ ((not_after : GeneralizedTime) × (now : GeneralizedTime) × IsFirstBroken (window_rules w f) (causes.CertificateExpired not_after now)) }
+    ensures link { (judge : Judge) (w : Window) (count : ℕ) (parent child : KeptCertificate) (e : CertError)
+        → IsLink judge w count parent.elements child.elements → IsFirstBroken (link_rules judge w count parent child) e → ⊥ }
+    ensures chain { (judge : Judge) (checks : ChainChecks) (checked : KeptCertificate) (given : Option (List KeptCertificate)) (e : CertError)
+        → IsAccepted judge checks checked given → IsFirstBroken (chain_rules judge checks checked given) e → ⊥ }
+{}

@@ -1,0 +1,185 @@
+//! Whether a certificate may have issued another, as one link of a chain.
+
+ghost use Rattle.std.specs.Prelude.{◌≡◌, ◌↔◌, ◌<◌, ℕ, true, IsTrue, MatchResult};
+ghost use Rattle.key_core.specs.SignatureAlgorithm.{NamesSignature};
+ghost use Rattle.key_core.specs.declared.signature_error.SignatureError.TheVariants as signature_errors;
+ghost use Rattle.x509_types.specs.ExtensionParts.{HasCa, HasPathLength};
+ghost use Rattle.x509_core.specs.Link.{IsBadlySigned, IsDeepEnough, IsLink, IsNoAuthority, IsOutside, IsSignedBy, IsStandingFor, IsTooDeep, IsToldOf, link_rules, signing_rules, signature_refusal};
+ghost use Rattle.x509_core.specs.Parent.{IsInvalid};
+ghost use Rattle.x509_core.specs.Rules.{Breaks, RefusesBy};
+ghost use Rattle.x509_core.specs.Window.{IsWithinWindow};
+ghost use Rattle.x509_core.specs.declared.error.CertCause.TheVariants as causes;
+ghost use Rattle.x509_core.specs.declared.error.CertError.TheVariants as errors;
+
+use crate::cert::Cert;
+use crate::error::{CaChainError, CertCause, CertError};
+use crate::window::Window;
+use key_core::{SignatureAlgorithm, SignatureError};
+use sig_core::Scheme;
+use std::alloc::Global;
+
+impl Cert {
+    /// Whether this certificate may have issued the other, where `number` certificates stand between
+    /// it and the end of the path (RFC 5280 6.1.3, 6.1.4). The first of these is answered that
+    /// doesn't hold: its CA flag is true, else `IssuerIsNotCA`; its path length, where it has one, is
+    /// at least the number, else `TooDeep`; it is valid; names and key identifiers agree
+    /// (`is_parent_of`); the algorithm of the signature is known, else `Signature`; the scheme
+    /// accepts the signature of the other over its octets as they are kept, else `Signature` of it.
+    /// No path length is more than 255, so a number past that stands for any.
+    pub fn expect_link<S: Scheme>(
+        &self,
+        alloc: Global,
+        other: &Cert,
+        number: u16,
+        window: &Window,
+        scheme: &S,
+    ) -> Result<(), CertError>
+        ensures { (count : ℕ) → IsStandingFor number count → MatchResult result
+            (λ _. IsLink (S.judge scheme.now) window.now count self.now.elements other.now.elements)
+            (RefusesBy (link_rules (S.judge scheme.now) window.now count self.now other.now)) }
+    {
+        self.expect_authority(alloc)?;
+        self.expect_deep_enough(alloc, number)?;
+        self.expect_valid(alloc, window)?;
+        self.is_parent_of(alloc, other)?;
+        other.expect_signed_by(alloc, self, scheme)
+    }
+
+    /// The certificate is that of an authority (RFC 5280 4.2.1.9).
+    fn expect_authority(&self, alloc: Global) -> Result<(), CertError>
+        ensures { MatchResult result (λ _. HasCa self.now.elements true) (Breaks (IsNoAuthority self.now)) }
+    {
+        if self.is_authority() {
+            return Ok(());
+        }
+        Err(self.no_authority(alloc))
+    }
+
+    /// Whether the CA flag is true.
+    fn is_authority(&self) -> bool
+        ensures { IsTrue result ↔ HasCa self.now.elements true }
+    {
+        match self.view().ca() {
+            Some(ca) => ca,
+            None => false,
+        }
+    }
+
+    /// The certificate is none of an authority.
+    fn no_authority(&self, alloc: Global) -> CertError
+        requires { HasCa self.now.elements true → ⊥ }
+        ensures { Breaks (IsNoAuthority self.now) result }
+    {
+        match self.subject_name(alloc) {
+            Ok(issuer_id) => CertError::InvalidChain {
+                source: CaChainError::IssuerIsNotCA { issuer_id },
+            },
+            Err(_) => CertError::Memory,
+        }
+    }
+
+    /// No more certificates stand below than the path length allows (RFC 5280 4.2.1.9).
+    fn expect_deep_enough(&self, alloc: Global, number: u16) -> Result<(), CertError>
+        ensures { (count : ℕ) → IsStandingFor number count → MatchResult result
+            (λ _. IsDeepEnough count self.now.elements)
+            (Breaks (IsTooDeep count self.now)) }
+    {
+        let Some(pathlen) = self.view().path_length() else {
+            return Ok(());
+        };
+        if number <= u16::from(pathlen) {
+            return Ok(());
+        }
+        Err(self.too_deep(alloc, pathlen))
+    }
+
+    /// More certificates stand below than the path length allows.
+    fn too_deep(&self, alloc: Global, pathlen: u8) -> CertError
+        requires { HasPathLength self.now.elements pathlen }
+        ensures { (count : ℕ) → pathlen < count → Breaks (IsTooDeep count self.now) result }
+    {
+        match self.subject_name(alloc) {
+            Ok(cert_id) => CertError::InvalidChain {
+                source: CaChainError::TooDeep { cert_id, pathlen },
+            },
+            Err(_) => CertError::Memory,
+        }
+    }
+
+    /// The certificate is valid (RFC 5280 6.1.3 (a) (2)).
+    pub(crate) fn expect_valid(&self, alloc: Global, window: &Window) -> Result<(), CertError>
+        ensures { MatchResult result
+            (λ _. IsWithinWindow window.now self.now.elements)
+            (Breaks (IsOutside window.now self.now)) }
+    {
+        match window.expect_valid(self.view()) {
+            Ok(()) => Ok(()),
+            Err(cause) => Err(self.invalid(alloc, cause)),
+        }
+    }
+
+    /// The signature of the certificate is one by the key of the parent (RFC 5280 6.1.3 (a) (1)).
+    fn expect_signed_by<S: Scheme>(
+        &self,
+        alloc: Global,
+        parent: &Cert,
+        scheme: &S,
+    ) -> Result<(), CertError>
+        ensures { MatchResult result
+            (λ _. IsSignedBy (S.judge scheme.now) parent.now.elements self.now.elements)
+            (RefusesBy (signing_rules (S.judge scheme.now) parent.now self.now)) }
+    {
+        match SignatureAlgorithm::from_algorithm_identifier(alloc, self.outer_algorithm()) {
+            Ok(algorithm) => self.expect_accepted(alloc, algorithm, parent, scheme),
+            Err(source) => Err(signature_refusal(source)),
+        }
+    }
+
+    /// The scheme accepts the signature of the certificate, by this algorithm and the key of the
+    /// parent.
+    fn expect_accepted<S: Scheme>(
+        &self,
+        alloc: Global,
+        algorithm: SignatureAlgorithm,
+        parent: &Cert,
+        scheme: &S,
+    ) -> Result<(), CertError>
+        requires { NamesSignature self.now.certificate.signature_algorithm algorithm }
+        ensures { MatchResult result
+            (λ _. IsSignedBy (S.judge scheme.now) parent.now.elements self.now.elements)
+            (Breaks (IsToldOf self.now (IsBadlySigned (S.judge scheme.now) parent.now.elements self.now.elements))) }
+    {
+        let view = self.view();
+        match algorithm.verify(
+            alloc,
+            parent.public_key(),
+            view.tbs(),
+            view.signature(),
+            scheme,
+        ) {
+            Ok(()) => Ok(()),
+            Err(source) => Err(self.badly_signed(alloc, source)),
+        }
+    }
+
+    /// The signature of the certificate is refused.
+    fn badly_signed(&self, alloc: Global, source: SignatureError) -> CertError
+        ensures memory { source ≡ signature_errors.Memory → result ≡ errors.Memory }
+        ensures told { IsInvalid self.now (causes.Signature source) result }
+    {
+        match source {
+            SignatureError::Memory => CertError::Memory,
+            source => self.invalid(alloc, CertCause::Signature { source }),
+        }
+    }
+}
+
+/// Why the algorithm of a signature isn't known.
+fn signature_refusal(source: SignatureError) -> CertError
+    ensures { result ≡ signature_refusal source }
+{
+    match source {
+        SignatureError::Memory => CertError::Memory,
+        source => CertError::Signature { source },
+    }
+}

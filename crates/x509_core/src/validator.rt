@@ -1,0 +1,315 @@
+//! Whether a certificate is accepted over its parents.
+
+ghost use Rattle.std.specs.Prelude.{◌≡◌, ◌≢◌, ◌↔◌, ◌⊎◌, ℕ, List, Option, Some, None, true, false, IsTrue, IfSome, map, MatchResult};
+ghost use Rattle.std.specs.Borrow.{Bor};
+ghost use Rattle.std.specs.Iterator.{IsFinite, Drains, Yields};
+ghost use Rattle.x509_core.specs.CertType.{IsOfType};
+ghost use Rattle.x509_core.specs.Chain.{Gives, IsAccepted, IsLinkedChain, IsFirstUnlinked, AsksForDate, IsDated, LacksDate, chain_rules, last_of, lent, nearest};
+ghost use Rattle.x509_core.specs.Checks.{checks_at, first_checks, with_not_before, with_not_after, with_chain, with_root};
+ghost use Rattle.x509_core.specs.KeptCertificate.{KeptCertificate};
+ghost use Rattle.x509_core.specs.Rules.{RefusesBy};
+ghost use Rattle.x509_core.specs.declared.cert_type.CertType.TheVariants as types;
+ghost use Rattle.x509_core.specs.declared.error.Arg.TheVariants as arguments;
+ghost use Rattle.x509_core.specs.declared.error.CaChainError.TheVariants as chain;
+ghost use Rattle.x509_core.specs.declared.error.CertError.TheVariants as errors;
+ghost use Rattle.x509_core.specs.declared.window.DateCheck.TheVariants as dates;
+
+use crate::cert::Cert;
+use crate::cert_type::CertType;
+use crate::error::{Arg, CaChainError, CertError};
+use crate::window::{DateCheck, Window};
+use names_core::UtcDate;
+use sig_core::Scheme;
+use std::alloc::Global;
+use std::marker::PhantomData;
+
+/// What is asked of a certificate over its parents.
+#[derive(Clone, Copy, Debug, PartialEq, Eq)]
+pub struct ChainChecks {
+    /// What is asked of the validity of each certificate.
+    pub window: Window,
+    /// Whether the parents are looked at.
+    pub chain: bool,
+    /// Whether the last certificate has to be a root.
+    pub root: bool,
+}
+
+/// Asks whether a certificate is accepted over its parents (RFC 5280 6.1). Whether the last one is
+/// trusted isn't asked. Of the setters of one kind the last call counts.
+#[derive(Drop)]
+pub struct CertValidator<'a, 'b, Chain: Iterator<Item = &'b Cert> + Drop> {
+    cert: &'a Cert,
+    checks: ChainChecks,
+    chain: Option<Chain>,
+    parents: PhantomData<&'b Cert>,
+}
+
+impl Cert {
+    /// A validator that asks for the dates, the chain and a root, to which no date and no chain is
+    /// given.
+    pub fn verifier<'a, 'b, Chain: Iterator<Item = &'b Cert> + Drop>(
+        &'a self,
+    ) -> CertValidator<'a, 'b, Chain>
+        ensures checks { result.checks ≡ first_checks }
+        ensures chain { result.chain ≡ None }
+        ensures cert { result.cert.now ≡ self.now }
+    {
+        CertValidator {
+            cert: self,
+            checks: ChainChecks {
+                window: Window {
+                    date: DateCheck::Absent,
+                    not_before: true,
+                    not_after: true,
+                },
+                chain: true,
+                root: true,
+            },
+            chain: None,
+            parents: PhantomData,
+        }
+    }
+}
+
+impl<'a, 'b, Chain: Iterator<Item = &'b Cert> + Drop> CertValidator<'a, 'b, Chain> {
+    /// The date at which certificates have to be valid. It takes the place of an interval.
+    pub fn exact_date(mut self, exact: &'a UtcDate) -> Self
+        ensures checks { result.checks ≡ checks_at (dates.Exact exact.now) self.entry.checks }
+        ensures rest { (result.chain ≡ self.entry.chain) × (result.cert.now ≡ self.entry.cert.now) }
+    {
+        self.at(DateCheck::Exact(*exact))
+    }
+
+    /// The interval at some moment of which certificates have to be valid. It takes the place of a
+    /// date.
+    pub fn interval_date(mut self, lower: &'a UtcDate, upper: &'a UtcDate) -> Self
+        ensures checks { result.checks ≡ checks_at (dates.Interval lower.now upper.now) self.entry.checks }
+        ensures rest { (result.chain ≡ self.entry.chain) × (result.cert.now ≡ self.entry.cert.now) }
+    {
+        self.at(DateCheck::Interval {
+            lower: *lower,
+            upper: *upper,
+        })
+    }
+
+    /// The moments at which certificates have to be valid.
+    fn at(self, date: DateCheck) -> Self
+        ensures checks { result.checks ≡ checks_at date self.entry.checks }
+        ensures rest { (result.chain ≡ self.entry.chain) × (result.cert.now ≡ self.entry.cert.now) }
+    {
+        let CertValidator {
+            cert,
+            checks,
+            chain,
+            parents,
+        } = self;
+        CertValidator {
+            cert,
+            checks: checks.at(date),
+            chain,
+            parents,
+        }
+    }
+
+    /// The parents, that of the certificate first.
+    pub fn chain(mut self, chain: Chain) -> Self
+        ensures chain { result.chain ≡ Some chain }
+        ensures rest { (result.checks ≡ self.entry.checks) × (result.cert.now ≡ self.entry.cert.now) }
+    {
+        self.chain = Some(chain);
+        self
+    }
+
+    /// Whether the last certificate has to be a root.
+    pub fn chain_should_contains_root_certificate(mut self, expected: bool) -> Self
+        ensures checks { result.checks ≡ with_root expected self.entry.checks }
+        ensures rest { (result.chain ≡ self.entry.chain) × (result.cert.now ≡ self.entry.cert.now) }
+    {
+        self.checks.root = expected;
+        self
+    }
+
+    /// Certificates have to be valid already.
+    pub fn require_not_before_check(mut self) -> Self
+        ensures checks { result.checks ≡ with_not_before true self.entry.checks }
+        ensures rest { (result.chain ≡ self.entry.chain) × (result.cert.now ≡ self.entry.cert.now) }
+    {
+        self.checks.window.not_before = true;
+        self
+    }
+
+    /// Certificates may be valid later.
+    pub fn ignore_not_before_check(mut self) -> Self
+        ensures checks { result.checks ≡ with_not_before false self.entry.checks }
+        ensures rest { (result.chain ≡ self.entry.chain) × (result.cert.now ≡ self.entry.cert.now) }
+    {
+        self.checks.window.not_before = false;
+        self
+    }
+
+    /// Certificates have to be valid still.
+    pub fn require_not_after_check(mut self) -> Self
+        ensures checks { result.checks ≡ with_not_after true self.entry.checks }
+        ensures rest { (result.chain ≡ self.entry.chain) × (result.cert.now ≡ self.entry.cert.now) }
+    {
+        self.checks.window.not_after = true;
+        self
+    }
+
+    /// Certificates may have expired.
+    pub fn ignore_not_after_check(mut self) -> Self
+        ensures checks { result.checks ≡ with_not_after false self.entry.checks }
+        ensures rest { (result.chain ≡ self.entry.chain) × (result.cert.now ≡ self.entry.cert.now) }
+    {
+        self.checks.window.not_after = false;
+        self
+    }
+
+    /// The parents have to be a chain.
+    pub fn require_chain_check(mut self) -> Self
+        ensures checks { result.checks ≡ with_chain true self.entry.checks }
+        ensures rest { (result.chain ≡ self.entry.chain) × (result.cert.now ≡ self.entry.cert.now) }
+    {
+        self.checks.chain = true;
+        self
+    }
+
+    /// The parents aren't looked at.
+    pub fn ignore_chain_check(mut self) -> Self
+        ensures checks { result.checks ≡ with_chain false self.entry.checks }
+        ensures rest { (result.chain ≡ self.entry.chain) × (result.cert.now ≡ self.entry.cert.now) }
+    {
+        self.checks.chain = false;
+        self
+    }
+
+    /// Whether the certificate is accepted over its parents (RFC 5280 6.1.3, 6.1.4). The first of these
+    /// is answered that doesn't hold: a date is given where a date is asked for, else
+    /// `MissingBuilderArgument`; the certificate is valid; where the chain is asked for, parents are
+    /// given, else `MissingBuilderArgument`; each parent may have issued the certificate before it
+    /// (`Cert::expect_link`); the last certificate is a root where that is asked for, else `NoRoot`.
+    /// Where the chain isn't asked for, its iterator isn't looked at.
+    pub fn verify<S: Scheme>(self, alloc: Global, scheme: &S) -> Result<(), CertError>
+        requires can { IsTrue self.checks.chain → IfSome self.chain Chain.can_next }
+        requires ends { IsTrue self.checks.chain → IfSome self.chain (λ chain. IsFinite (Chain.remaining chain)) }
+        // Where the chain isn't asked for, whatever the iterator gives.
+        ensures answer { (given : Option (List KeptCertificate)) → (IsTrue self.entry.checks.chain → Gives Chain.next_gives self.entry.chain given)
+            → MatchResult result
+            (λ _. IsAccepted (S.judge scheme.now) self.entry.checks self.entry.cert.now given)
+            (RefusesBy (chain_rules (S.judge scheme.now) self.entry.checks self.entry.cert.now given)) }
+    {
+        let CertValidator {
+            cert,
+            checks,
+            chain,
+            ..
+        } = self;
+        checks.expect_date()?;
+        cert.expect_valid(alloc, &checks.window)?;
+        if !checks.chain {
+            return Ok(());
+        }
+        let Some(chain) = chain else {
+            return Err(CertError::MissingBuilderArgument { arg: Arg::Chain });
+        };
+        let last = last_type(alloc, cert, chain, &checks.window, scheme)?;
+        checks.expect_root(last)
+    }
+}
+
+impl Window {
+    /// Whether dates are asked for.
+    fn asks_for_date(&self) -> bool
+        ensures { IsTrue result ↔ AsksForDate self.now }
+    {
+        self.not_before || self.not_after
+    }
+
+    /// No dates are asked for.
+    fn expect_unasked(&self) -> Result<(), CertError>
+        ensures { MatchResult result
+            (λ _. AsksForDate self.now → ⊥)
+            (λ e. AsksForDate self.now × (e ≡ errors.MissingBuilderArgument arguments.Now)) }
+    {
+        if self.asks_for_date() {
+            return Err(CertError::MissingBuilderArgument { arg: Arg::Now });
+        }
+        Ok(())
+    }
+}
+
+impl ChainChecks {
+    /// The same with other dates.
+    fn at(self, date: DateCheck) -> ChainChecks
+        ensures { result ≡ checks_at date self }
+    {
+        ChainChecks {
+            window: Window {
+                date,
+                not_before: self.window.not_before,
+                not_after: self.window.not_after,
+            },
+            chain: self.chain,
+            root: self.root,
+        }
+    }
+
+    /// A date is given where one is asked for.
+    fn expect_date(&self) -> Result<(), CertError>
+        ensures { MatchResult result (λ _. IsDated self.now) (LacksDate self.now) }
+    {
+        match self.window.date {
+            DateCheck::Absent => self.window.expect_unasked(),
+            DateCheck::Exact(_) => Ok(()),
+            DateCheck::Interval { .. } => Ok(()),
+        }
+    }
+
+    /// The last certificate is a root, where one is asked for.
+    fn expect_root(&self, last: CertType) -> Result<(), CertError>
+        ensures { MatchResult result
+            (λ _. IsTrue self.now.root → last ≡ types.Root)
+            (λ e. IsTrue self.now.root × (last ≢ types.Root) × (e ≡ errors.InvalidChain chain.NoRoot)) }
+    {
+        if self.root && last != CertType::Root {
+            return Err(CertError::InvalidChain {
+                source: CaChainError::NoRoot,
+            });
+        }
+        Ok(())
+    }
+}
+
+/// The kind of the last certificate, where each parent may have issued the certificate before it.
+fn last_type<'b, Chain: Iterator<Item = &'b Cert> + Drop, S: Scheme>(
+    alloc: Global,
+    checked: &Cert,
+    chain: Chain,
+    window: &Window,
+    scheme: &S,
+) -> Result<CertType, CertError>
+    requires can { Chain.can_next chain }
+    requires ends { IsFinite (Chain.remaining chain) }
+    ensures { MatchResult result
+        (λ last. (xs : List (Bor KeptCertificate)) × Drains Chain.next_gives chain xs × IsLinkedChain (S.judge scheme.now) window.now checked.now (map lent xs) × IsOfType (last_of checked.now (map lent xs)).elements last)
+        (λ e. (e ≡ errors.Memory) ⊎ ((xs : List (Bor KeptCertificate)) × (rest : Chain) × Yields Chain.next_gives chain xs rest × IsFirstUnlinked (S.judge scheme.now) window.now checked.now (map lent xs) e)) }
+{
+    let mut last: Option<&'b Cert> = None;
+    let mut number: u16 = 0;
+    for parent in chain {
+        parent.expect_link(alloc, nearest(checked, last), number, window, scheme)?;
+        last = Some(parent);
+        number = number.saturating_add(1);
+    }
+    Ok(nearest(checked, last).ty())
+}
+
+/// The last parent so far, or the checked certificate.
+fn nearest<'x>(checked: &'x Cert, last: Option<&'x Cert>) -> &'x Cert
+    ensures { result.now ≡ nearest checked.now last.entry }
+{
+    match last {
+        Some(parent) => parent,
+        None => checked,
+    }
+}
