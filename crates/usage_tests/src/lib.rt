@@ -5,6 +5,8 @@
 #[cfg(test)]
 mod algorithms;
 #[cfg(test)]
+mod certificates;
+#[cfg(test)]
 mod keys;
 #[cfg(test)]
 mod names;

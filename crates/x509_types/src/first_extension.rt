@@ -4,7 +4,7 @@ ghost use Rattle.std.specs.Prelude.{List, ℕ, MatchOption};
 ghost use Rattle.x509_types.specs.FirstExtension.{IsNamed, IsFirstNamed};
 
 use crate::extension_fields::ExtensionFields;
-use der_core::tag::OBJECT_IDENTIFIER;
+use der_core::tag::{OBJECT_IDENTIFIER, SEQUENCE};
 use der_core::{Elem, Kids, expect_leaf};
 
 /// The octets that an element holds as an extension of this identifier, by its contents octets.
@@ -13,8 +13,11 @@ pub(crate) fn octets_named<'a>(extension: Elem<'a>, oid: &[u8]) -> Option<&'a [u
         ((octets : List ℕ) → IsNamed oid.now extension.entry.is.0 octets → ⊥)
         (λ octets. IsNamed oid.now extension.entry.is.0 octets.now) }
 {
+    // The identifier stands first. Most extensions have another one, and no more is read of them.
+    let mut kids = Kids::of(extension, SEQUENCE)?;
+    let first = kids.next()?;
+    expect_leaf(first, OBJECT_IDENTIFIER, oid)?;
     let fields = ExtensionFields::of(extension)?;
-    expect_leaf(fields.oid, OBJECT_IDENTIFIER, oid)?;
     Some(fields.value)
 }
 
