@@ -102,11 +102,15 @@ BARE = "302706092a864886f70d010702a01a30180201013100300b06092a864886f70d010701a0
 assert BARE == pkcs7(signed_data(certificates="a000", lists="a100"))
 
 
-def inside_one_another(count):
-    """A signer with so many counter-signatures inside one another."""
-    one = SIGNER
+BY_KEY = "8002aabb"
+SHA384 = "300d06096086480165030402020500"
+
+
+def inside_one_another(count, sid=NAMED):
+    """A signer with so many counter-signatures inside one another, each named so."""
+    one = signer(sid=sid)
     for _ in range(count):
-        one = signer(unsigned=unsigned(counter(one)))
+        one = signer(sid=sid, unsigned=unsigned(counter(one)))
     return one
 
 
@@ -190,6 +194,7 @@ READ = [
         (signer(signed=SIGNED_ATTRIBUTES, unsigned=unsigned(counter(signer(signed=SIGNED_ATTRIBUTES)))), "attributes of both kinds"),
         (signer(signature="0400"), "a signature of no octets"),
         (inside_one_another(2), "a counter-signature of a counter-signature"),
+        (signer(digest=SHA384, signed=SIGNED_ATTRIBUTES, unsigned=unsigned(counter(signer(digest=SHA256)))), "a counter-signature with another digest algorithm"),
     ]),
     ("signed_data", [
         (signed_data(), "neither certificates nor signers"),
@@ -200,6 +205,8 @@ READ = [
         (signed_data(lists=der("a1", "3000", "0500")), "what is no revocation list is kept"),
         (signed_data(algorithms=der("31", SHA256)), "a digest algorithm"),
         (signed_data(algorithms=der("31", SHA256, SHA256)), "two digest algorithms"),
+        (signed_data(algorithms=der("31", SHA384, SHA256), signers=der("31", signer(digest=SHA256), signer(digest=SHA384))), "unlike digest algorithms, in another order than those of the signers"),
+        (signed_data(algorithms=der("31", SHA384), signers=der("31", SIGNER)), "a signer with a digest algorithm that isn't among them"),
         (signed_data(signers=der("31", SIGNER)), "a signer"),
         (signed_data(signers=der("31", SIGNER, signer(sid="8000"))), "two signers"),
         (signed_data(content=der("30", UNKNOWN, "a0020500")), "a content of an unknown type"),
@@ -211,6 +218,7 @@ READ = [
                            certificates=der("a0", "3000"), signers=der("31", signer(signed=SIGNED_ATTRIBUTES)))), "the form of a signature file"),
         (pkcs7(signed_data(signers=der("31", signer(unsigned=unsigned(token(BARE)))))), "signed data within signed data"),
         (pkcs7(signed_data(signers=der("31", inside_one_another(13)))), "thirteen counter-signatures inside one another"),
+        (pkcs7(signed_data(signers=der("31", inside_one_another(14, BY_KEY)))), "fourteen of signers that keys name, which take three levels less"),
     ]),
     ("digest_info", [
         (DIGEST, "SHA-256"),
@@ -364,13 +372,21 @@ REFUSED = [
         (signer(version="020106"), "version 6"),
         (signer(version="02020001"), "a version of two octets"),
         (signer(version=""), "no version"),
+        (signer(version="0a0101"), "an ENUMERATED as the version"),
         (signer(sid=""), "no identifier"),
+        (signer(sid=der("31", ISSUER, SERIAL)), "a SET of issuer and serial number"),
+        (signer(sid=der("30", der("31", ISSUER[4:]), SERIAL)), "a SET as the issuer"),
+        (signer(sid=der("30", ISSUER, "0a0105")), "an ENUMERATED as the serial number"),
+        (signer(sid="0402aabb"), "the identifier of a key under its own tag"),
         (signer(sid=der("30", SERIAL, ISSUER)), "the serial number in front"),
         (signer(sid=der("30", ISSUER)), "no serial number"),
         (signer(sid="a0020500"), "an identifier under a constructed tag"),
         (signer(sid="8100"), "an identifier under another tag"),
         (signer(digest=""), "one algorithm"),
         (signer(digest="3000"), "a digest algorithm of no identifier"),
+        (signer(digest=der("31", SHA256[4:])), "a SET as the digest algorithm"),
+        (signer(algorithm=der("31", RSA[4:])), "a SET as the algorithm of the signature"),
+        (signer(signed=der("a2", CONTENT_TYPE)), "signed attributes under another tag"),
         (signer(signed=der("a0", "0500")), "a signed attribute that is none"),
         (signer(signed=der("a0", der("30", "06092a864886f70d010904", "31020500"))), "a digest that is no octets"),
         (signer(signed="8000"), "signed attributes as a leaf"),
@@ -391,6 +407,12 @@ REFUSED = [
         (der("31", "020101", "3100", EMPTY, "3100"), "a SET"),
         (signed_data(version="020106"), "version 6"),
         (signed_data(version="0200"), "a version of no octets"),
+        (signed_data(version="0a0101"), "an ENUMERATED as the version"),
+        (signed_data(algorithms="a000"), "digest algorithms under another tag"),
+        (signed_data(content=der("31", DATA)), "a SET as the content"),
+        (signed_data(certificates="a200"), "certificates under another tag"),
+        (signed_data(certificates="3000"), "certificates without their tag"),
+        (signed_data(signers="a000"), "signers under another tag"),
         (signed_data(algorithms="3000"), "digest algorithms in a SEQUENCE"),
         (signed_data(algorithms="31020500"), "a digest algorithm that is none"),
         (signed_data(content="3000"), "no type of the content"),
@@ -409,6 +431,8 @@ REFUSED = [
     ("pkcs7", [
         (pkcs7(oid=DATA), "another type"),
         (pkcs7(tag="a1"), "another tag"),
+        (der("30", "88" + SIGNED_DATA[2:], der("a0", signed_data())), "the type under another tag"),
+        (pkcs7(der("31", signed_data()[4:])), "a SET as signed data"),
         (f"300b{SIGNED_DATA}", "no content"),
         (der("30", SIGNED_DATA, "a000"), "no content under the tag"),
         (der("30", SIGNED_DATA, der("a0", signed_data(), "0500")), "two contents"),
@@ -417,6 +441,7 @@ REFUSED = [
         (signed_data(), "signed data without its type"),
         (pkcs7(signed_data(signers=der("31", signer(unsigned=unsigned(token(pkcs7(signed_data(signers="31020500")))))))), "signed data within signed data whose signer is none"),
         (pkcs7(signed_data(signers=der("31", inside_one_another(14)))), "fourteen counter-signatures inside one another"),
+        (pkcs7(signed_data(signers=der("31", inside_one_another(15, BY_KEY)))), "fifteen of signers that keys name"),
     ]),
     ("digest_info", [
         (f"3131{SHA256}{ABC}", "a SET"),
@@ -490,6 +515,39 @@ REFUSED = [
 
 # Two values that are unlike one another, and in what.
 UNLIKE = [
+    ("unsigned_attribute", counter(), token(), "the kind"),
+    ("unsigned_attribute", counter(), der("30", UNKNOWN, "3100"), "a known kind and an unknown one"),
+    ("unsigned_attribute", token(), der("30", UNKNOWN, "3100"), "the other known kind and an unknown one"),
+    ("unsigned_attribute", counter(), counter(SIGNER), "a signer"),
+    ("unsigned_attribute", counter(SIGNER), counter(signer(sid="8000")), "the signer"),
+    ("unsigned_attribute", token(), token(BARE), "a token"),
+    ("unsigned_attribute", token(BARE), token(pkcs7()), "the token"),
+    ("unsigned_attribute", der("30", UNKNOWN, "3100"), der("30", "06022a04", "3100"), "the identifier"),
+    ("unsigned_attribute", der("30", UNKNOWN, "31020500"), der("30", UNKNOWN, "31020400"), "a value"),
+    ("signer_info", SIGNER, signer(version="020103"), "the version"),
+    ("signer_info", SIGNER, signer(sid="8000"), "who is named"),
+    ("signer_info", SIGNER, signer(sid=der("30", ISSUER, "020106")), "the serial number"),
+    ("signer_info", SIGNER, signer(sid=der("30", "300c310a300806035504030c0142", SERIAL)), "the issuer"),
+    ("signer_info", signer(sid="8000"), signer(sid="800100"), "the identifier of the key"),
+    ("signer_info", SIGNER, signer(digest=SHA384), "the digest algorithm"),
+    ("signer_info", SIGNER, signer(signed="a000"), "no signed attributes and absent"),
+    ("signer_info", signer(signed=SIGNED_ATTRIBUTES), signer(signed=der("a0", MESSAGE_DIGEST, CONTENT_TYPE)), "the order of the signed attributes"),
+    ("signer_info", signer(signed=der("a0", der("30", UNKNOWN, "31053003010102"))), signer(signed=der("a0", der("30", UNKNOWN, "310530030101ff"))), "the octet of TRUE in a signed attribute"),
+    ("signer_info", SIGNER, signer(algorithm=SHA256), "the algorithm of the signature"),
+    ("signer_info", SIGNER, signer(signature="0403010204"), "the signature"),
+    ("signer_info", SIGNER, signer(unsigned="a100"), "no unsigned attributes and absent"),
+    ("signer_info", signer(unsigned=unsigned(counter())), signer(unsigned=unsigned(token())), "the unsigned attributes"),
+    ("signed_data", signed_data(), signed_data(version="020103"), "the version"),
+    ("signed_data", signed_data(), signed_data(algorithms=der("31", SHA256)), "a digest algorithm"),
+    ("signed_data", signed_data(algorithms=der("31", SHA256, SHA384)), signed_data(algorithms=der("31", SHA384, SHA256)), "the order of the digest algorithms"),
+    ("signed_data", signed_data(), signed_data(content=der("30", UNKNOWN)), "the type of the content"),
+    ("signed_data", signed_data(), signed_data(certificates="a000"), "no certificates and absent"),
+    ("signed_data", signed_data(certificates="a0023000"), signed_data(certificates="a0020500"), "a certificate"),
+    ("signed_data", signed_data(), signed_data(lists="a100"), "no revocation lists and absent"),
+    ("signed_data", signed_data(lists="a1023000"), signed_data(lists="a1020500"), "a revocation list"),
+    ("signed_data", signed_data(certificates="a000"), signed_data(lists="a100"), "which of the two is left out"),
+    ("signed_data", signed_data(), signed_data(signers=der("31", SIGNER)), "a signer"),
+    ("pkcs7", BARE, pkcs7(), "the signed data"),
     ("trust_list", trust_list(), trust_list(entry()), "the entries"),
     ("trust_list", trust_list(), trust_list(behind="a000"), "the extensions"),
     ("trust_list", trust_list(this="1700"), trust_list(this="1800"), "the form of the time"),
@@ -546,4 +604,19 @@ DIGESTS = [
     ("SHA2_256", "2.16.840.1.101.3.4.2.1"),
     ("SHA2_384", "2.16.840.1.101.3.4.2.2"),
     ("SHA2_512", "2.16.840.1.101.3.4.2.3"),
+]
+
+# Signers and tokens that are put together as members of counter-signatures.
+MEMBERS = [
+    ("signer_info", SIGNER, "a signer"),
+    ("signer_info", signer(signed=SIGNED_ATTRIBUTES, unsigned=unsigned(counter(SIGNER))), "attributes of both kinds"),
+    ("pkcs7", BARE, "signed data of 41 octets"),
+    ("pkcs7", pkcs7(signed_data(signers=der("31", SIGNER))), "signed data with a signer"),
+]
+
+# A signer is put into itself as a counter-signature: 63 levels, and 67.
+WITHIN = [
+    (inside_one_another(13, BY_KEY), inside_one_another(14, BY_KEY), "of 55 levels"),
+    (inside_one_another(14, BY_KEY), inside_one_another(15, BY_KEY), "of 59 levels"),
+    (inside_one_another(15, BY_KEY), None, "of 63 levels"),
 ]

@@ -20,6 +20,7 @@ import sys
 from datetime import datetime
 from hashlib import sha256
 from itertools import chain, filterfalse
+from pathlib import Path
 
 import cms_reader
 import cms_rows
@@ -568,6 +569,15 @@ def world_signature_rows():
             yield cms_row(kind, octets.hex(), True)
 
 
+def stored_signer():
+    """The signer of the signature that lies beside the program, behind the eight octets of its head."""
+    signature = Path(__file__).resolve().parent.parent.joinpath("crates", "picky", "data", "signature.bin").read_bytes()
+    _, explicit = read_exact(signature[8:]).kids
+    signed_data, = explicit.kids
+    signer, = signed_data.kids[-1].kids
+    return write(signer)
+
+
 def signed_content_rows():
     """The rows of `cms_answers`: what Authenticode signs, texts of Authenticode, digest algorithms."""
     for rows, is_read in (cms_rows.READ, True), (cms_rows.REFUSED, False):
@@ -577,6 +587,10 @@ def signed_content_rows():
     for kind, one, other, _ in cms_rows.UNLIKE:
         yield f"unlike {kind} {one} {other}", "unlike"
         yield f"unlike {kind} {one} {one}", "equal"
+    for kind, element, _ in [("signer_info", stored_signer().hex(), "of the stored signature"), *cms_rows.MEMBERS]:
+        yield f"members {kind} {element}", "1 same none"
+    for element, whole, _ in cms_rows.WITHIN:
+        yield f"members within {element}", "TooDeep" if whole is None else str(len(whole) // 2)
     for text, _ in cms_rows.TEXTS:
         has_units = all(ord(character) < 0x10000 for character in text)
         string = Primitive(0x80, text.encode("utf-16-be"))

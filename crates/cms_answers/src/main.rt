@@ -3,17 +3,22 @@
 //!
 //! ```text
 //! cms_answers FILE
+//! cms_answers FILE TIMES
 //! ```
 //!
 //! A row is a call and its arguments, a space between: `structure KIND OCTETS`, `both pkcs7 OCTETS`,
-//! `unlike KIND OCTETS OCTETS`, `make string TEXT` or `make sha NAME`. Octets and texts stand in
+//! `unlike KIND OCTETS OCTETS`, `members KIND OCTETS`, `make string TEXT` or `make sha NAME`. Octets and texts stand in
 //! hexadecimal digits, `-` for none. A line is printed for each row. `tools/value_answers.py` makes
 //! rows and lines.
+//!
+//! With TIMES the file is signed data, which is read so many times, for `bench/signed_data.py`.
 #![tactic(auto)]
 
 mod both;
 mod details;
 mod making;
+mod measure;
+mod members;
 mod row;
 mod structures;
 mod view;
@@ -24,14 +29,20 @@ use std::{env, fs, io};
 
 fn main(rt: HostRuntime) -> Result<()> {
     let words: Vec<String> = env::args(&rt)?.skip(1).collect(rt.alloc())?;
-    let [path] = words.as_slice() else {
-        bail!("usage: cms_answers FILE");
-    };
-    let rows = fs::read_to_string(&rt, path.as_str())?;
     let mut out = BufWriter::new(rt.alloc(), io::writer(&rt))?;
-    for text in rows.lines() {
-        let answer = row::answer(rt.alloc(), text)?;
-        writeln!(out, "{answer}")?;
+    match words.as_slice() {
+        [path] => {
+            let rows = fs::read_to_string(&rt, path.as_str())?;
+            for text in rows.lines() {
+                let answer = row::answer(rt.alloc(), text)?;
+                writeln!(out, "{answer}")?;
+            }
+        }
+        [path, times] => {
+            let file = fs::read(&rt, path.as_str())?;
+            measure::print_times(rt.alloc(), &rt, &file, times.parse()?, &mut out)?;
+        }
+        _ => bail!("usage: cms_answers FILE [TIMES]"),
     }
     out.flush()?;
     Ok(())

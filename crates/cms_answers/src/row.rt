@@ -1,6 +1,6 @@
 //! Rows, and who answers them.
 
-use crate::{both, making, structures};
+use crate::{both, making, members, structures};
 use anyhow::{Result, bail};
 use row_answers::octets_of;
 use std::alloc::Global;
@@ -12,6 +12,7 @@ pub fn answer(alloc: Global, text: &str) -> Result<String> {
         ["structure", kind, element] => structures::answer(alloc, kind, element)?,
         ["unlike", kind, one, other] => structures::answer_unlike(alloc, kind, one, other)?,
         ["both", "pkcs7", octets] => Some(both::answer(alloc, &octets_of(alloc, octets)?)?),
+        ["members", kind, octets] => members::answer(alloc, kind, octets)?,
         ["make", "string", text] => Some(making::string(alloc, text)?),
         ["make", "sha", name] => Some(making::sha(alloc, name)?),
         _ => None,

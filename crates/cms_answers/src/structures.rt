@@ -26,10 +26,10 @@ pub fn answer(alloc: Global, kind: &str, element: &str) -> Result<Option<String>
         "entry" => back_of::<CTLEntry>(alloc, &element),
         "entry_attribute" => back_of::<CTLEntryAttribute>(alloc, &element),
         "timestamp_request" => read_of::<TimestampRequest>(alloc, &element),
-        "unsigned_attribute" => back_of::<UnsignedAttribute>(alloc, &element),
-        "signer_info" => back_of::<SignerInfo>(alloc, &element),
-        "signed_data" => back_of::<SignedData>(alloc, &element),
-        "pkcs7" => back_of::<Pkcs7Certificate>(alloc, &element),
+        "unsigned_attribute" => read_of::<UnsignedAttribute>(alloc, &element),
+        "signer_info" => read_of::<SignerInfo>(alloc, &element),
+        "signed_data" => read_of::<SignedData>(alloc, &element),
+        "pkcs7" => read_of::<Pkcs7Certificate>(alloc, &element),
         _ => return Ok(None),
     };
     Ok(Some(answer?))
@@ -50,6 +50,10 @@ pub fn answer_unlike(alloc: Global, kind: &str, one: &str, other: &str) -> Resul
         "content_info" => are_equal::<EncapsulatedContentInfo>(alloc, &one, &other),
         "trust_list" => are_equal::<Ctl>(alloc, &one, &other),
         "timestamp_request" => are_equal::<TimestampRequest>(alloc, &one, &other),
+        "unsigned_attribute" => are_equal::<UnsignedAttribute>(alloc, &one, &other),
+        "signer_info" => are_equal::<SignerInfo>(alloc, &one, &other),
+        "signed_data" => are_equal::<SignedData>(alloc, &one, &other),
+        "pkcs7" => are_equal::<Pkcs7Certificate>(alloc, &one, &other),
         _ => return Ok(None),
     };
     let answer = if equal? { "equal" } else { "unlike" };
@@ -63,7 +67,7 @@ fn read_of<T: Structure + PartialEq + Details>(
 ) -> Result<String, DerError> {
     let value = match value_of::<T>(alloc, element) {
         Ok(value) => value,
-        Err(error) => return shown_shape(alloc, error),
+        Err(error) => return shown_refusal(alloc, error),
     };
     let word = if comes_back(alloc, element, &value)? {
         "same"
@@ -79,14 +83,6 @@ fn read_of<T: Structure + PartialEq + Details>(
 fn back_of<T: Structure + Details>(alloc: Global, octets: &[u8]) -> Result<String, DerError> {
     let value = match T::from_der(alloc, octets) {
         Ok(value) => value,
-        Err(
-            DerError::Malformed(
-                Malformed {
-                    fault: DerFault::TooDeep,
-                    ..
-                },
-            ),
-        ) => return Ok(String::from_str(alloc, "TooDeep")?),
         Err(error) => return shown_shape(alloc, error),
     };
     let written = value.to_der(alloc)?;
@@ -98,4 +94,17 @@ fn back_of<T: Structure + Details>(alloc: Global, octets: &[u8]) -> Result<Strin
     };
     let details = value.details(alloc)?;
     Ok(format!(in alloc; "{word} {details}")?)
+}
+
+/// A refusal of the shape or of the depth; another error ends the run.
+fn shown_refusal(alloc: Global, error: DerError) -> Result<String, DerError> {
+    match error {
+        DerError::Malformed(
+            Malformed {
+                fault: DerFault::TooDeep,
+                ..
+            },
+        ) => Ok(String::from_str(alloc, "TooDeep")?),
+        error => shown_shape(alloc, error),
+    }
 }
