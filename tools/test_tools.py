@@ -19,6 +19,7 @@ import der_reader
 import demo_signatures
 import kept_certificates
 import oid_table
+import path_answers
 import reader_stand_in
 import run_program
 import verdict_table
@@ -195,6 +196,17 @@ class BasicAnswersTest(unittest.TestCase):
     def test_stored_files(self):
         for path, octets in basic_answers.stored_files().items():
             self.assertEqual((CRATES / "basic_answers" / path).read_bytes(), octets, path)
+
+
+class PathAnswersTest(unittest.TestCase):
+
+    def test_answers_are_those_by_hand(self):
+        for label, octets, said in path_answers.CASES:
+            self.assertEqual(path_answers.answer(octets), said, label)
+
+    def test_stored_files(self):
+        for path, octets in path_answers.stored_files().items():
+            self.assertEqual((CRATES / "path_answers" / path).read_bytes(), octets, path)
 
 
 class ComparisonTest(unittest.TestCase):
