@@ -28,6 +28,7 @@ import hostile_certificates as hostile
 import kept_certificates
 import kept_private_keys
 import private_keys
+import request_rows
 import signature_rows
 import structure_rows as structures
 import value_rows as values
@@ -779,6 +780,7 @@ def stored_files():
         *stored_run("structure_answers", filterfalse(is_extension, structure_rows())),
         *stored_run("extension_answers", filter(is_extension, structure_rows())),
         *stored_run("certificate_answers", chain(whole_certificate_rows(), world_rows())),
+        *stored_run("request_answers", request_rows.request_rows()),
         *stored_run("cms_answers", chain(signed_content_rows(), world_signature_rows())),
     ])
 

@@ -1,9 +1,8 @@
 -- What is signed of a request and by what, step by step.
-use Rattle.std.proofs.Common.{◌≡◌, ◌⊎◌, ℕ, List, [], ◌∷◌, Result, Ok, Err, IfOk, MatchResult, refl, sym, ap, subst, ◌∙◌, inl, inr}
+use Rattle.std.proofs.Common.{◌≡◌, ◌⊎◌, ℕ, List, Result, Ok, Err, IfOk, MatchResult, refl, sym, ap, subst, ◌∙◌, inl, inr}
 use Rattle.der_core.specs.DerElement.{DerElement}
 use Rattle.der_core.specs.Encoding.{encoding}
 use Rattle.der_core.specs.Refusals.{RefusesInner}
-use Rattle.key_types.specs.declared.algorithm.AlgorithmIdentifier.{AlgorithmIdentifier}
 use Rattle.key_types.specs.declared.key_info.SubjectPublicKeyInfo.{SubjectPublicKeyInfo}
 use Rattle.key_core.specs.SignatureAlgorithm.{IsWrittenAlgorithm, IsUnwritable}
 use Rattle.key_core.specs.Signing.{Signs, Pair, IsKeyPair}
@@ -14,11 +13,11 @@ use Rattle.key_core.specs.declared.signature_algorithm.SignatureAlgorithm.{Signa
 use Rattle.names_core.specs.declared.name.DirectoryName.{DirectoryName}
 use Rattle.x509_types.specs.declared.attribute.Attribute.{Attribute}
 use Rattle.request_types.specs.RequestInfo.{request_info}
-use Rattle.request_types.specs.CertificationRequest.{request, request_of}
+use Rattle.request_types.specs.CertificationRequest.{request}
 use Rattle.request_types.specs.declared.request.CertificationRequest.{CertificationRequest}
 use Rattle.request_types.specs.declared.request_info.CertificationRequestInfo.{CertificationRequestInfo}
 use Rattle.x509_core.specs.CsrRefusals.{IsUnwrittenCsr, IsUnsigned}
-use Rattle.x509_core.specs.Generated.{InfoUnsigned, InfoUnwritten, IsGenerated, IsInfoFor, IsInfoSigned, IsInfoWritten, IsMadeOf, RefusesToGenerate, RefusesToMake, HasNoHalf}
+use Rattle.x509_core.specs.Generated.{InfoUnsigned, InfoUnwritten, IsGenerated, IsInfoFor, IsInfoSigned, IsInfoWritten, IsMadeOf, RefusesToGenerate, RefusesToMake}
 use Rattle.x509_core.specs.KeptRequest.{KeptRequest, kept_request, request_elements}
 use Rattle.x509_core.specs.SelfSigned.{IsSelfSigned}
 use Rattle.x509_core.specs.Facts.Csrs.{info_once}
