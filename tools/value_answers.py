@@ -1,12 +1,12 @@
 #!/usr/bin/env python3
 """Make the files of the stored runs of `value_answers`, `structure_answers`,
-`extension_answers`, `certificate_answers` and `cms_answers`.
+`extension_answers`, `request_answers`, `certificate_answers` and `cms_answers`.
 
 Usage:
 
     python3 tools/value_answers.py FOLDER
 
-writes for each PROGRAM of the five FOLDER/PROGRAM/data/rows, the rows that it
+writes for each PROGRAM of the six FOLDER/PROGRAM/data/rows, the rows that it
 is asked for, and FOLDER/PROGRAM/stdout, a line for each.  The lines come from
 `value_reader` and `cms_reader`, from Python's arithmetic, `datetime` and
 codecs, from the list in `oid_table`, and for the names and keys of certificates
