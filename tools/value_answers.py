@@ -1,12 +1,12 @@
 #!/usr/bin/env python3
 """Make the files of the stored runs of `value_answers`, `structure_answers`,
-`extension_answers`, `request_answers`, `certificate_answers` and `cms_answers`.
+`extension_answers`, `certificate_answers` and `cms_answers`.
 
 Usage:
 
     python3 tools/value_answers.py FOLDER
 
-writes for each PROGRAM of the six FOLDER/PROGRAM/data/rows, the rows that it
+writes for each PROGRAM of the five FOLDER/PROGRAM/data/rows, the rows that it
 is asked for, and FOLDER/PROGRAM/stdout, a line for each.  The lines come from
 `value_reader` and `cms_reader`, from Python's arithmetic, `datetime` and
 codecs, from the list in `oid_table`, and for the names and keys of certificates
@@ -28,7 +28,6 @@ import hostile_certificates as hostile
 import kept_certificates
 import kept_private_keys
 import private_keys
-import request_rows
 import signature_rows
 import structure_rows as structures
 import value_rows as values
@@ -780,7 +779,6 @@ def stored_files():
         *stored_run("structure_answers", filterfalse(is_extension, structure_rows())),
         *stored_run("extension_answers", filter(is_extension, structure_rows())),
         *stored_run("certificate_answers", chain(whole_certificate_rows(), world_rows())),
-        *stored_run("request_answers", request_rows.request_rows()),
         *stored_run("cms_answers", chain(signed_content_rows(), world_signature_rows())),
     ])
 
