@@ -16,7 +16,6 @@ import certificate_parts
 import basic_answers
 import compare_readers
 import der_reader
-import chain_rows
 import demo_signatures
 import kept_certificates
 import oid_table
@@ -365,9 +364,6 @@ class ValueAnswersTest(unittest.TestCase):
 
     def test_demonstration_signatures_of_the_crate(self):
         self.assertTrue(demo_signatures.stands())
-
-    def test_chains_of_the_crate(self):
-        self.assertTrue(chain_rows.stands())
 
 
 @unittest.skipUnless(which("openssl"), "openssl isn't there")

@@ -1,7 +1,0 @@
-//! Tests of chains of certificates under the demonstration scheme.
-#![tactic(auto)]
-
-#[cfg(test)]
-mod certificates;
-#[cfg(test)]
-mod chains;
