@@ -20,28 +20,28 @@ use Rattle.key_core.specs.declared.private_key_value.PrivateKeyValue.TheVariants
 
 abbrev numbers_of : RsaPrivateKey → RsaNumbers
 numbers_of key = record {
-  modulus = integer_contents key.modulus;
-  public_exponent = integer_contents key.public_exponent;
-  private_exponent = integer_contents key.private_exponent;
-  prime1 = integer_contents key.prime1;
-  prime2 = integer_contents key.prime2;
-  exponent1 = integer_contents key.exponent1;
-  exponent2 = integer_contents key.exponent2;
-  coefficient = integer_contents key.coefficient;
+  modulus = integer_contents key.n;
+  public_exponent = integer_contents key.e;
+  private_exponent = integer_contents key.d;
+  prime1 = integer_contents key.p;
+  prime2 = integer_contents key.q;
+  exponent1 = integer_contents key.dp;
+  exponent2 = integer_contents key.dq;
+  coefficient = integer_contents key.qinv;
 }
 
 pub is_secret : (key : RsaPrivateKey) (octets : List ℕ) → octets ≡ encoding (rsa_private_key key) → IsDer (rsa_private_key key) → IsRsaSecret octets
 is_secret key octets is bounds = record {
   numbers = numbers_of key;
   integers = record {
-    modulus = key.modulus.formed;
-    public_exponent = key.public_exponent.formed;
-    private_exponent = key.private_exponent.formed;
-    prime1 = key.prime1.formed;
-    prime2 = key.prime2.formed;
-    exponent1 = key.exponent1.formed;
-    exponent2 = key.exponent2.formed;
-    coefficient = key.coefficient.formed;
+    modulus = key.n.formed;
+    public_exponent = key.e.formed;
+    private_exponent = key.d.formed;
+    prime1 = key.p.formed;
+    prime2 = key.q.formed;
+    exponent1 = key.dp.formed;
+    exponent2 = key.dq.formed;
+    coefficient = key.qinv.formed;
   };
   der = bounds;
   encoded = is;
@@ -49,14 +49,14 @@ is_secret key octets is bounds = record {
 
 abbrev key_of : (octets : List ℕ) → IsRsaSecret octets → RsaPrivateKey
 key_of octets secret = record {
-  modulus = record { contents = secret.numbers.modulus; formed = secret.integers.modulus };
-  public_exponent = record { contents = secret.numbers.public_exponent; formed = secret.integers.public_exponent };
-  private_exponent = record { contents = secret.numbers.private_exponent; formed = secret.integers.private_exponent };
-  prime1 = record { contents = secret.numbers.prime1; formed = secret.integers.prime1 };
-  prime2 = record { contents = secret.numbers.prime2; formed = secret.integers.prime2 };
-  exponent1 = record { contents = secret.numbers.exponent1; formed = secret.integers.exponent1 };
-  exponent2 = record { contents = secret.numbers.exponent2; formed = secret.integers.exponent2 };
-  coefficient = record { contents = secret.numbers.coefficient; formed = secret.integers.coefficient };
+  n = record { contents = secret.numbers.modulus; formed = secret.integers.modulus };
+  e = record { contents = secret.numbers.public_exponent; formed = secret.integers.public_exponent };
+  d = record { contents = secret.numbers.private_exponent; formed = secret.integers.private_exponent };
+  p = record { contents = secret.numbers.prime1; formed = secret.integers.prime1 };
+  q = record { contents = secret.numbers.prime2; formed = secret.integers.prime2 };
+  dp = record { contents = secret.numbers.exponent1; formed = secret.integers.exponent1 };
+  dq = record { contents = secret.numbers.exponent2; formed = secret.integers.exponent2 };
+  qinv = record { contents = secret.numbers.coefficient; formed = secret.integers.coefficient };
 }
 
 pub is_key : (octets : List ℕ) → IsRsaSecret octets → (key : RsaPrivateKey) × (octets ≡ encoding (rsa_private_key key)) × IsDer (rsa_private_key key)

@@ -17,7 +17,7 @@ use Rattle.key_core.specs.declared.private_key_value.PrivateKeyValue.TheVariants
 
 -- the modulus and the public exponent of a private key (RFC 8017 A.1)
 abbrev pub public_numbers : RsaPrivateKey → RsaPublicKey
-public_numbers key = record { modulus = key.modulus; public_exponent = key.public_exponent }
+public_numbers key = record { modulus = key.n; public_exponent = key.e }
 
 -- The public key of RSA is part of the private one. That of a curve is what is kept beside the container: of an elliptic curve with the
 -- same algorithm, of a curve 25519 or 448 with its identifier, without parameters (RFC 8410 3).

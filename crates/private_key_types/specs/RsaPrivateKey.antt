@@ -11,18 +11,18 @@ abbrev pub two_prime : DerElement
 two_prime = Primitive 0x02 (0 ∷ [])
 
 -- by the elements of its fields
-abbrev pub rsa_private_key_of : (modulus public_exponent private_exponent prime1 prime2 exponent1 exponent2 coefficient : DerElement) → DerElement
-rsa_private_key_of modulus public_exponent private_exponent prime1 prime2 exponent1 exponent2 coefficient =
-    sequence (two_prime ∷ modulus ∷ public_exponent ∷ private_exponent ∷ prime1 ∷ prime2 ∷ exponent1 ∷ exponent2 ∷ coefficient ∷ [])
+abbrev pub rsa_private_key_of : (n e d p q dp dq qinv : DerElement) → DerElement
+rsa_private_key_of n e d p q dp dq qinv =
+    sequence (two_prime ∷ n ∷ e ∷ d ∷ p ∷ q ∷ dp ∷ dq ∷ qinv ∷ [])
 
 abbrev pub rsa_private_key : RsaPrivateKey → DerElement
 rsa_private_key key =
     rsa_private_key_of
-    (integer key.modulus)
-    (integer key.public_exponent)
-    (integer key.private_exponent)
-    (integer key.prime1)
-    (integer key.prime2)
-    (integer key.exponent1)
-    (integer key.exponent2)
-    (integer key.coefficient)
+    (integer key.n)
+    (integer key.e)
+    (integer key.d)
+    (integer key.p)
+    (integer key.q)
+    (integer key.dp)
+    (integer key.dq)
+    (integer key.qinv)

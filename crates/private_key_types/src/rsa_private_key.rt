@@ -14,49 +14,57 @@ use std::alloc::{AllocError, Global};
 /// An RSA private key of two primes (RFC 8017 A.1.2). It has no `Debug`, so no secret is printed by
 /// mistake.
 pub struct RsaPrivateKey {
-    pub modulus: IntegerAsn1,
-    pub public_exponent: IntegerAsn1,
-    pub private_exponent: IntegerAsn1,
-    pub prime1: IntegerAsn1,
-    pub prime2: IntegerAsn1,
-    pub exponent1: IntegerAsn1,
-    pub exponent2: IntegerAsn1,
-    pub coefficient: IntegerAsn1,
+    /// The modulus.
+    pub n: IntegerAsn1,
+    /// The public exponent.
+    pub e: IntegerAsn1,
+    /// The private exponent.
+    pub d: IntegerAsn1,
+    /// The first prime.
+    pub p: IntegerAsn1,
+    /// The second prime.
+    pub q: IntegerAsn1,
+    /// The private exponent modulo p - 1.
+    pub dp: IntegerAsn1,
+    /// The private exponent modulo q - 1.
+    pub dq: IntegerAsn1,
+    /// The inverse of q modulo p.
+    pub qinv: IntegerAsn1,
 }
 
 /// The numbers that are secret are overwritten.
 impl Drop for RsaPrivateKey {
     fn drop(self) {
         let RsaPrivateKey {
-            modulus: _modulus,
-            public_exponent: _public_exponent,
-            private_exponent,
-            prime1,
-            prime2,
-            exponent1,
-            exponent2,
-            coefficient,
+            n: _modulus,
+            e: _public_exponent,
+            d,
+            p,
+            q,
+            dp,
+            dq,
+            qinv,
         } = self;
-        private_exponent.overwrite();
-        prime1.overwrite();
-        prime2.overwrite();
-        exponent1.overwrite();
-        exponent2.overwrite();
-        coefficient.overwrite();
+        d.overwrite();
+        p.overwrite();
+        q.overwrite();
+        dp.overwrite();
+        dq.overwrite();
+        qinv.overwrite();
     }
 }
 
 /// The fields of an RSA private key where they lie.
 #[derive(Clone, Copy)]
 struct Fields<'a> {
-    modulus: Elem<'a>,
-    public_exponent: Elem<'a>,
-    private_exponent: Elem<'a>,
-    prime1: Elem<'a>,
-    prime2: Elem<'a>,
-    exponent1: Elem<'a>,
-    exponent2: Elem<'a>,
-    coefficient: Elem<'a>,
+    n: Elem<'a>,
+    e: Elem<'a>,
+    d: Elem<'a>,
+    p: Elem<'a>,
+    q: Elem<'a>,
+    dp: Elem<'a>,
+    dq: Elem<'a>,
+    qinv: Elem<'a>,
 }
 
 impl<'a> Fields<'a> {
@@ -66,30 +74,30 @@ impl<'a> Fields<'a> {
     fn of(elem: Elem<'a>) -> Option<Fields<'a>>
         ensures { MatchOption result
             ((key : RsaPrivateKey) → elem.entry.is.0 ≢ rsa_private_key key)
-            (λ f. (elem.entry.is.0 ≡ rsa_private_key_of f.modulus.is.0 f.public_exponent.is.0 f.private_exponent.is.0
-            f.prime1.is.0 f.prime2.is.0 f.exponent1.is.0 f.exponent2.is.0 f.coefficient.is.0)
+            (λ f. (elem.entry.is.0 ≡ rsa_private_key_of f.n.is.0 f.e.is.0 f.d.is.0
+            f.p.is.0 f.q.is.0 f.dp.is.0 f.dq.is.0 f.qinv.is.0)
             × Fits (λ element key. element ≡ rsa_private_key key) elem.entry.is.0) }
     {
         let mut kids = Kids::of(elem, SEQUENCE)?;
         two_prime(kids.next()?)?;
-        let modulus = kids.next_as::<IntegerAsn1>()?;
-        let public_exponent = kids.next_as::<IntegerAsn1>()?;
-        let private_exponent = kids.next_as::<IntegerAsn1>()?;
-        let prime1 = kids.next_as::<IntegerAsn1>()?;
-        let prime2 = kids.next_as::<IntegerAsn1>()?;
-        let exponent1 = kids.next_as::<IntegerAsn1>()?;
-        let exponent2 = kids.next_as::<IntegerAsn1>()?;
-        let coefficient = kids.next_as::<IntegerAsn1>()?;
+        let n = kids.next_as::<IntegerAsn1>()?;
+        let e = kids.next_as::<IntegerAsn1>()?;
+        let d = kids.next_as::<IntegerAsn1>()?;
+        let p = kids.next_as::<IntegerAsn1>()?;
+        let q = kids.next_as::<IntegerAsn1>()?;
+        let dp = kids.next_as::<IntegerAsn1>()?;
+        let dq = kids.next_as::<IntegerAsn1>()?;
+        let qinv = kids.next_as::<IntegerAsn1>()?;
         kids.end()?;
         Some(Fields {
-            modulus,
-            public_exponent,
-            private_exponent,
-            prime1,
-            prime2,
-            exponent1,
-            exponent2,
-            coefficient,
+            n,
+            e,
+            d,
+            p,
+            q,
+            dp,
+            dq,
+            qinv,
         })
     }
 }
@@ -167,29 +175,29 @@ fn of_numbers(
     third: TwoNumbers,
 ) -> RsaPrivateKey
     ensures { result ≡ record {
-      modulus = public.one;
-      public_exponent = public.other;
-      private_exponent = first.one;
-      prime1 = first.other;
-      prime2 = second.one;
-      exponent1 = second.other;
-      exponent2 = third.one;
-      coefficient = third.other;
+      n = public.one;
+      e = public.other;
+      d = first.one;
+      p = first.other;
+      q = second.one;
+      dp = second.other;
+      dq = third.one;
+      qinv = third.other;
     } }
 {
-    let (modulus, public_exponent) = public.into_numbers();
-    let (private_exponent, prime1) = first.into_numbers();
-    let (prime2, exponent1) = second.into_numbers();
-    let (exponent2, coefficient) = third.into_numbers();
+    let (n, e) = public.into_numbers();
+    let (d, p) = first.into_numbers();
+    let (q, dp) = second.into_numbers();
+    let (dq, qinv) = third.into_numbers();
     RsaPrivateKey {
-        modulus,
-        public_exponent,
-        private_exponent,
-        prime1,
-        prime2,
-        exponent1,
-        exponent2,
-        coefficient,
+        n,
+        e,
+        d,
+        p,
+        q,
+        dp,
+        dq,
+        qinv,
     }
 }
 
@@ -208,32 +216,32 @@ impl Structure for RsaPrivateKey {
         let Some(fields) = Fields::of(elem) else {
             return Err(DerError::Shape);
         };
-        let public = TwoNumbers::read(alloc, fields.modulus, fields.public_exponent)?;
-        let first = TwoNumbers::read(alloc, fields.private_exponent, fields.prime1)?;
-        let second = TwoNumbers::read(alloc, fields.prime2, fields.exponent1)?;
-        let third = TwoNumbers::read(alloc, fields.exponent2, fields.coefficient)?;
+        let public = TwoNumbers::read(alloc, fields.n, fields.e)?;
+        let first = TwoNumbers::read(alloc, fields.d, fields.p)?;
+        let second = TwoNumbers::read(alloc, fields.q, fields.dp)?;
+        let third = TwoNumbers::read(alloc, fields.dq, fields.qinv)?;
         Ok(of_numbers(public, first, second, third))
     }
 
     fn write(&self, alloc: Global) -> Result<Tree, DerError> {
         let mut kids = NewKids::new(alloc);
         kids.push(leaf(alloc, INTEGER, &[0])?)?;
-        kids.push(self.modulus.write(alloc)?)?;
-        kids.push(self.public_exponent.write(alloc)?)?;
-        kids.push(self.private_exponent.write(alloc)?)?;
-        kids.push(self.prime1.write(alloc)?)?;
-        kids.push(self.prime2.write(alloc)?)?;
-        kids.push(self.exponent1.write(alloc)?)?;
-        kids.push(self.exponent2.write(alloc)?)?;
-        kids.push(self.coefficient.write(alloc)?)?;
+        kids.push(self.n.write(alloc)?)?;
+        kids.push(self.e.write(alloc)?)?;
+        kids.push(self.d.write(alloc)?)?;
+        kids.push(self.p.write(alloc)?)?;
+        kids.push(self.q.write(alloc)?)?;
+        kids.push(self.dp.write(alloc)?)?;
+        kids.push(self.dq.write(alloc)?)?;
+        kids.push(self.qinv.write(alloc)?)?;
         Ok(kids.into_branch(SEQUENCE))
     }
 
     fn try_clone(&self, alloc: Global) -> Result<RsaPrivateKey, AllocError> {
-        let public = TwoNumbers::copy(alloc, &self.modulus, &self.public_exponent)?;
-        let first = TwoNumbers::copy(alloc, &self.private_exponent, &self.prime1)?;
-        let second = TwoNumbers::copy(alloc, &self.prime2, &self.exponent1)?;
-        let third = TwoNumbers::copy(alloc, &self.exponent2, &self.coefficient)?;
+        let public = TwoNumbers::copy(alloc, &self.n, &self.e)?;
+        let first = TwoNumbers::copy(alloc, &self.d, &self.p)?;
+        let second = TwoNumbers::copy(alloc, &self.q, &self.dp)?;
+        let third = TwoNumbers::copy(alloc, &self.dq, &self.qinv)?;
         Ok(of_numbers(public, first, second, third))
     }
 
@@ -252,14 +260,14 @@ impl PartialEq for RsaPrivateKey {
         ensures octets { result ≡ same_octets rsa_private_key self.now other.now }
         ensures same { IsTrue result ↔ (self.now ≡ other.now) }
     {
-        self.modulus == other.modulus
-            && self.public_exponent == other.public_exponent
-            && self.private_exponent == other.private_exponent
-            && self.prime1 == other.prime1
-            && self.prime2 == other.prime2
-            && self.exponent1 == other.exponent1
-            && self.exponent2 == other.exponent2
-            && self.coefficient == other.coefficient
+        self.n == other.n
+            && self.e == other.e
+            && self.d == other.d
+            && self.p == other.p
+            && self.q == other.q
+            && self.dp == other.dp
+            && self.dq == other.dq
+            && self.qinv == other.qinv
     }
 }
 

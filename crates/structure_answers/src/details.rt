@@ -55,14 +55,7 @@ impl Details for AlgorithmIdentifier {
 impl Details for RsaPrivateKey {
     fn details(&self, alloc: Global) -> Result<String, AllocError> {
         let numbers = [
-            &self.modulus,
-            &self.public_exponent,
-            &self.private_exponent,
-            &self.prime1,
-            &self.prime2,
-            &self.exponent1,
-            &self.exponent2,
-            &self.coefficient,
+            &self.n, &self.e, &self.d, &self.p, &self.q, &self.dp, &self.dq, &self.qinv,
         ];
         let mut line = String::new(alloc);
         for number in numbers {

@@ -50,8 +50,8 @@ fn rsa_half(alloc: Global, key: &RsaPrivateKey) -> Result<SubjectPublicKeyInfo, 
     ensures { IfOk result (IsRsaInfo (public_numbers key.now)) }
 {
     let key = RsaPublicKey {
-        modulus: key.modulus.try_clone(alloc)?,
-        public_exponent: key.public_exponent.try_clone(alloc)?,
+        modulus: key.n.try_clone(alloc)?,
+        public_exponent: key.e.try_clone(alloc)?,
     };
     rsa_info(alloc, key)
 }

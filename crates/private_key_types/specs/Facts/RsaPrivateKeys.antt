@@ -9,28 +9,28 @@ use Rattle.private_key_types.specs.RsaPrivateKey.{rsa_private_key}
 use Rattle.private_key_types.specs.declared.rsa_private_key.RsaPrivateKey.{RsaPrivateKey}
 
 same_integer : (a b : IntegerAsn1) → integer a ≡ integer b → a ≡ b
-same_integer a b e = integers.once (integer a) a b refl e
+same_integer a b same = integers.once (integer a) a b refl same
 
 once : (a b : RsaPrivateKey) → rsa_private_key a ≡ rsa_private_key b → a ≡ b
-once a b e =
-    let modulus : a.modulus ≡ b.modulus = same_integer a.modulus b.modulus cc in
-    let public_exponent : a.public_exponent ≡ b.public_exponent = same_integer a.public_exponent b.public_exponent cc in
-    let private_exponent : a.private_exponent ≡ b.private_exponent = same_integer a.private_exponent b.private_exponent cc in
-    let prime1 : a.prime1 ≡ b.prime1 = same_integer a.prime1 b.prime1 cc in
-    let prime2 : a.prime2 ≡ b.prime2 = same_integer a.prime2 b.prime2 cc in
-    let exponent1 : a.exponent1 ≡ b.exponent1 = same_integer a.exponent1 b.exponent1 cc in
-    let exponent2 : a.exponent2 ≡ b.exponent2 = same_integer a.exponent2 b.exponent2 cc in
-    let coefficient : a.coefficient ≡ b.coefficient = same_integer a.coefficient b.coefficient cc in
+once a b same =
+    let n : a.n ≡ b.n = same_integer a.n b.n cc in
+    let e : a.e ≡ b.e = same_integer a.e b.e cc in
+    let d : a.d ≡ b.d = same_integer a.d b.d cc in
+    let p : a.p ≡ b.p = same_integer a.p b.p cc in
+    let q : a.q ≡ b.q = same_integer a.q b.q cc in
+    let dp : a.dp ≡ b.dp = same_integer a.dp b.dp cc in
+    let dq : a.dq ≡ b.dq = same_integer a.dq b.dq cc in
+    let qinv : a.qinv ≡ b.qinv = same_integer a.qinv b.qinv cc in
     λ i. record {
-      modulus = modulus i;
-      public_exponent = public_exponent i;
-      private_exponent = private_exponent i;
-      prime1 = prime1 i;
-      prime2 = prime2 i;
-      exponent1 = exponent1 i;
-      exponent2 = exponent2 i;
-      coefficient = coefficient i;
+      n = n i;
+      e = e i;
+      d = d i;
+      p = p i;
+      q = q i;
+      dp = dp i;
+      dq = dq i;
+      qinv = qinv i;
     }
 
 pub rsa_private_keys : IsGrammar (λ element key. element ≡ rsa_private_key key) rsa_private_key (λ key. [])
-rsa_private_keys = printed rsa_private_key once (λ key. ((omega arith, omega arith, omega arith), refl, (((omega arith, omega arith, omega arith), refl), (integers.formed key.modulus, (integers.formed key.public_exponent, (integers.formed key.private_exponent, (integers.formed key.prime1, (integers.formed key.prime2, (integers.formed key.exponent1, (integers.formed key.exponent2, (integers.formed key.coefficient, tt)))))))))))
+rsa_private_keys = printed rsa_private_key once (λ key. ((omega arith, omega arith, omega arith), refl, (((omega arith, omega arith, omega arith), refl), (integers.formed key.n, (integers.formed key.e, (integers.formed key.d, (integers.formed key.p, (integers.formed key.q, (integers.formed key.dp, (integers.formed key.dq, (integers.formed key.qinv, tt)))))))))))
