@@ -74,6 +74,9 @@ SECRET_SIZE = "Key error: EC error: the secret hasn't as many octets as its curv
 KEY_SIZE = "ED error: the key hasn't 32 octets"
 AGREEMENT = "ED error: the key isn't one for signatures"
 BAD = "invalid signature"
+TOO_DEEP = (
+    "(ASN1) couldn't serialize subject public key info: "
+    "the tree is nested deeper than 64 levels and cannot be written")
 
 
 class Key(NamedTuple):
@@ -407,6 +410,33 @@ def key_id_rows():
             if digest == "MD5":
                 made = f"invalid key: unsupported algorithm: {called(kind)}"
             yield f"signature key_id leftmost {digest} {word(whole)}", made
+    yield from deep_key_rows()
+
+
+def nested(levels):
+    """An element of so many levels."""
+    value = Primitive(5, b"")
+    for _ in range(levels - 1):
+        value = Constructed(0x30, (value,))
+    return value
+
+
+def deep_key_rows():
+    """A key of Ed25519 whose algorithm has deep parameters: its SubjectPublicKeyInfo has a level more, 65 aren't written."""
+    octets = bytes(range(32))
+    for levels in 62, 63:
+        algorithm = Constructed(0x30, (Primitive(6, ED25519), nested(levels)))
+        key = f"{word(write(algorithm))} {word(octets)}"
+        for digest, called_in_python in DIGESTS.items():
+            whole = f"invalid key: {TOO_DEEP}"
+            if levels == 62:
+                info = write(Constructed(0x30, (algorithm, Primitive(3, b"\0" + octets))))
+                whole = hashlib.new(called_in_python, info).hexdigest()
+            yield f"signature key_id whole {digest} {key}", whole
+            bits = hashlib.new(called_in_python, octets).hexdigest()[:40]
+            if digest == "MD5":
+                bits = f"invalid key: unsupported algorithm: {called('ed')}"
+            yield f"signature key_id leftmost {digest} {key}", bits
 
 
 # ---- what is lent

@@ -3,8 +3,12 @@
 
 use crate::private_keys;
 use anyhow::{Context, Result, bail};
+use asn1_types::BitString;
 use der_core::Structure;
-use key_core::{AlgorithmIdentifier, KeyIdGenMethod, PrivateKey, PublicKey, SignatureAlgorithm};
+use key_core::{
+    AlgorithmIdentifier, KeyIdGenMethod, PrivateKey, PublicKey, SignatureAlgorithm, SubjectKey,
+    SubjectPublicKeyInfo,
+};
 use row_answers::{octets_of, word_of};
 use sig_core::{DemoScheme, HashAlgorithm, Scheme, VerdictTable};
 use std::alloc::Global;
@@ -14,7 +18,7 @@ pub fn answer(alloc: Global, call: &str, args: &[&str]) -> Result<Option<String>
     let answer = match (call, args) {
         ("named", [id]) => named(alloc, id)?,
         ("written", [algorithm]) => written(alloc, algorithm_of(algorithm)?)?,
-        ("key_id", [method, hash, key]) => key_id(alloc, method, hash, key)?,
+        ("key_id", [method, hash, key @ ..]) => key_id(alloc, method, hash, key)?,
         ("sign", [algorithm, message, key @ ..]) => sign(alloc, algorithm, message, key)?,
         ("verify", [algorithm, key, message, signature]) => {
             verify(alloc, algorithm, key, (message, signature))?
@@ -49,17 +53,32 @@ fn written(alloc: Global, algorithm: SignatureAlgorithm) -> Result<String> {
 }
 
 /// The identifier of a key, or the text of the refusal.
-fn key_id(alloc: Global, method: &str, hash: &str, key: &str) -> Result<String> {
+fn key_id(alloc: Global, method: &str, hash: &str, key: &[&str]) -> Result<String> {
     let hash = hash_of(hash)?;
     let method = match method {
         "whole" => KeyIdGenMethod::SPKFullDER(hash),
         "leftmost" => KeyIdGenMethod::SPKValueHashedLeftmost160(hash),
         _ => bail!("no identifier of a key is made by {method}"),
     };
-    let key = PublicKey::from_der(alloc, &octets_of(alloc, key)?)?;
+    let key = public_key(alloc, key)?;
     match method.generate_from(alloc, &key) {
         Ok(id) => Ok(word_of(alloc, &id)?),
         Err(error) => Ok(format!(in alloc; "{error}")?),
+    }
+}
+
+/// The key of these octets; or of the octets of its algorithm, on a curve 25519 or 448, and of its
+/// bits, which can also be one that isn't written.
+fn public_key(alloc: Global, words: &[&str]) -> Result<PublicKey> {
+    match words {
+        [octets] => Ok(PublicKey::from_der(alloc, &octets_of(alloc, octets)?)?),
+        [algorithm, octets] => {
+            let algorithm = AlgorithmIdentifier::from_der(alloc, &octets_of(alloc, algorithm)?)?;
+            let bits = BitString::with_bytes(alloc, &octets_of(alloc, octets)?)?;
+            let info = SubjectPublicKeyInfo::new(algorithm, SubjectKey::Ed(bits));
+            Ok(PublicKey::from(info.context("the algorithm is of another kind")?))
+        }
+        _ => bail!("a key is read of its octets or made of two parts"),
     }
 }
 
