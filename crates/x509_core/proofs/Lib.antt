@@ -8,8 +8,6 @@ pub mod ReadCerts
 pub mod Links
 pub mod Parts
 pub mod Alike
-pub mod ReadCsrs
-pub mod Generating
 pub mod Validity
 pub mod Depths
 pub mod SignedParts

@@ -58,15 +58,8 @@ module _ (judge : Judge) (w : Window) (count : ℕ) (parent child : KeptCertific
 
   pub parent_refused : (e : CertError) → HasCa parent.elements true → IsDeepEnough count parent.elements → IsWithinWindow w parent.elements → RefusesParent parent child e → RefusesBy (link_rules judge w count parent child) e
   parent_refused (errors.InvalidCertificate id source) ca deep valid refused = no_parent (errors.InvalidCertificate id source) ca deep valid refused (λ e. absurd cc)
-  parent_refused (errors.Asn1Serialization element source) ca deep valid refused = absurd refused
-  parent_refused (errors.Asn1Deserialization element source) ca deep valid refused = absurd refused
-  parent_refused (errors.Signature source) ca deep valid refused = absurd refused
-  parent_refused (errors.InvalidChain source) ca deep valid refused = absurd refused
-  parent_refused (errors.ExtensionNotFound name) ca deep valid refused = absurd refused
-  parent_refused (errors.MissingBuilderArgument argument) ca deep valid refused = absurd refused
-  parent_refused (errors.CertificateNotYetValid not_before now) ca deep valid refused = absurd refused
-  parent_refused (errors.CertificateExpired not_after now) ca deep valid refused = absurd refused
   parent_refused errors.Memory ca deep valid refused = inr refl
+  parent_refused e ca deep valid refused = absurd refused
 
   pub signed_or_not : {X : Type 0} (r : Result X CertError) → HasCa parent.elements true → IsDeepEnough count parent.elements → IsWithinWindow w parent.elements → AgreeByKeyAndName parent.elements child.elements
       → MatchResult r (λ _. IsSignedBy judge parent.elements child.elements) (RefusesBy (signing_rules judge parent child))

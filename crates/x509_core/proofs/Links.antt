@@ -40,23 +40,14 @@ not_chained parent child (chain.AuthorityKeyIdMismatch expected actual) agreed r
 not_chained parent child (chain.IssuerNameMismatch expected actual) agreed refused = refused.name agreed.name
 
 not_linked : (parent child : KeptCertificate) (id : DirectoryName) (cause : CertCause) → AgreeByKeyAndName parent.elements child.elements → RefusesLink parent child id cause → ⊥
-not_linked parent child id (causes.Signature source) agreed refused = refused
 not_linked parent child id (causes.InvalidChain source) agreed refused = not_chained parent child source agreed refused.1
 not_linked parent child id (causes.ExtensionNotFound name) agreed refused = lacking parent.elements child.elements refused.2 agreed
-not_linked parent child id (causes.CertificateNotYetValid not_before now) agreed refused = refused
-not_linked parent child id (causes.CertificateExpired not_after now) agreed refused = refused
+not_linked parent child id cause agreed refused = absurd refused
 
 pub parent_is_met : (parent child : KeptCertificate) → AgreeByKeyAndName parent.elements child.elements → IsMet (IsNoParent parent child)
 parent_is_met parent child agreed = λ e broken. by e broken.0 broken.1
   where
     by : (e : CertError) → RefusesParent parent child e → e ≢ errors.Memory → ⊥
     by (errors.InvalidCertificate id source) refused told = not_linked parent child id source agreed refused
-    by (errors.Asn1Serialization element source) refused told = refused
-    by (errors.Asn1Deserialization element source) refused told = refused
-    by (errors.Signature source) refused told = refused
-    by (errors.InvalidChain source) refused told = refused
-    by (errors.ExtensionNotFound name) refused told = refused
-    by (errors.MissingBuilderArgument argument) refused told = refused
-    by (errors.CertificateNotYetValid not_before now) refused told = refused
-    by (errors.CertificateExpired not_after now) refused told = refused
     by errors.Memory refused told = told refl
+    by e refused told = absurd refused

@@ -42,15 +42,8 @@ one_key f a b p q = infos_once a b (sym p ∙ q)
 -- a certificate is told of for a cause, unless memory runs out
 pub told_of : (kept : KeptCertificate) (rule : Rule CertCause) (cause : CertCause) (e : CertError) → rule cause → IsInvalid kept cause e → Breaks (IsToldOf kept rule) e
 told_of kept rule cause (errors.InvalidCertificate id source) broken is = inl (record { cause = cause; id = id; broken = broken; name = is.0; told = ap (errors.InvalidCertificate id) is.1 })
-told_of kept rule cause (errors.Asn1Serialization element source) broken is = absurd is
-told_of kept rule cause (errors.Asn1Deserialization element source) broken is = absurd is
-told_of kept rule cause (errors.Signature source) broken is = absurd is
-told_of kept rule cause (errors.InvalidChain source) broken is = absurd is
-told_of kept rule cause (errors.ExtensionNotFound name) broken is = absurd is
-told_of kept rule cause (errors.MissingBuilderArgument argument) broken is = absurd is
-told_of kept rule cause (errors.CertificateNotYetValid not_before now) broken is = absurd is
-told_of kept rule cause (errors.CertificateExpired not_after now) broken is = absurd is
 told_of kept rule cause errors.Memory broken is = inr refl
+told_of kept rule cause e broken is = absurd is
 
 -- ---- the algorithm
 

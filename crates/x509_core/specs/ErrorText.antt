@@ -4,9 +4,12 @@ use Rattle.std.specs.Option.{option_map}
 use Rattle.std.specs.Fmt.{decimal}
 use Rattle.asn1_types.specs.Time.{time_text}
 use Rattle.asn1_types.specs.declared.generalized_time.GeneralizedTime.{GeneralizedTime}
-use Rattle.key_core.specs.SignatureErrorText.{signature_error_text}
+use Rattle.key_core.specs.ErrorText.{key_error_text}
+use Rattle.key_core.specs.SignatureErrorText.{signature_error_text, key_id_error_text}
+use Rattle.key_core.specs.declared.key_id.KeyIdGenError.{KeyIdGenError}
 use Rattle.key_core.specs.declared.signature_error.SignatureError.{SignatureError}
 use Rattle.x501_types.specs.NameText.{hexadecimal, name_text}
+use Rattle.x509_core.specs.CsrErrorText.{csr_error_text}
 use Rattle.x509_core.specs.declared.error.Arg.{Arg}
 use Rattle.x509_core.specs.declared.error.Arg.TheVariants as arguments
 use Rattle.x509_core.specs.declared.error.CaChainError.{CaChainError}
@@ -24,10 +27,15 @@ extension_text names.SubjectKeyIdentifier = codes "subject key identifier"
 extension_text names.AuthorityKeyIdentifier = codes "authority key identifier"
 extension_text names.BasicConstraints = codes "basic constraints"
 
--- what is handed to a validator
+-- what is handed to a validator, or to one who makes a certificate
 abbrev pub argument_text : Arg → List ℕ
 argument_text arguments.Now = codes "now"
 argument_text arguments.Chain = codes "chain"
+argument_text arguments.ValidFrom = codes "valid_from"
+argument_text arguments.ValidTo = codes "valid_to"
+argument_text arguments.IssuerInfos = codes "issuer_infos"
+argument_text arguments.AuthorityKeyIdentifier = codes "authority_key_identifier"
+argument_text arguments.SubjectInfos = codes "subject_infos"
 
 -- the two moments of a validity that hasn't begun, or has ended
 abbrev pub not_yet_valid_text : GeneralizedTime → GeneralizedTime → List ℕ
@@ -41,6 +49,10 @@ expired_text not_after now =
 -- a signature that isn't accepted, where its error has a text
 abbrev pub bad_signature_text : SignatureError → Option (List ℕ)
 bad_signature_text source = option_map (λ text. codes "signature error: " ++ text) (signature_error_text source)
+
+-- a key without an identifier, likewise
+abbrev pub key_id_text : KeyIdGenError → Option (List ℕ)
+key_id_text source = option_map (λ text. codes "key id generation error: " ++ text) (key_id_error_text source)
 
 -- the key that is named and the one that stands there, in hexadecimal digits
 abbrev pub key_mismatch_text : List ℕ → List ℕ → List ℕ
@@ -59,7 +71,9 @@ chain_error_text (chain.IssuerNameMismatch expected actual) =
 
 -- a cause has the text of the error of its name
 abbrev pub cause_text : CertCause → Option (List ℕ)
+cause_text (causes.Asn1Serialization element source) = None
 cause_text (causes.Signature source) = bad_signature_text source
+cause_text (causes.KeyIdGen source) = key_id_text source
 cause_text (causes.InvalidChain source) = Some (codes "CA chain error: " ++ chain_error_text source)
 cause_text (causes.ExtensionNotFound name) = Some (codes "extension not found: " ++ extension_text name)
 cause_text (causes.CertificateNotYetValid not_before now) = Some (not_yet_valid_text not_before now)
@@ -67,14 +81,18 @@ cause_text (causes.CertificateExpired not_after now) = Some (expired_text not_af
 
 -- What is told of a certificate. Of an element that isn't read or written no contract says what is told.
 abbrev pub cert_error_text : CertError → Option (List ℕ)
+cert_error_text (errors.CertGeneration source) = option_map (λ text. codes "couldn't generate certificate: " ++ text) (cause_text source)
 cert_error_text (errors.InvalidCertificate id source) =
     option_map (λ text. codes "invalid certificate '" ++ name_text id.name ++ codes "': " ++ text) (cause_text source)
 cert_error_text (errors.Asn1Serialization element source) = None
 cert_error_text (errors.Asn1Deserialization element source) = None
 cert_error_text (errors.Signature source) = bad_signature_text source
+cert_error_text (errors.KeyIdGen source) = key_id_text source
 cert_error_text (errors.InvalidChain source) = Some (codes "CA chain error: " ++ chain_error_text source)
+cert_error_text (errors.InvalidCsr source) = option_map (λ text. codes "CSR error: " ++ text) (csr_error_text source)
 cert_error_text (errors.ExtensionNotFound name) = Some (codes "extension not found: " ++ extension_text name)
 cert_error_text (errors.MissingBuilderArgument argument) = Some (codes "missing required builder argument `" ++ argument_text argument ++ codes "`")
 cert_error_text (errors.CertificateNotYetValid not_before now) = Some (not_yet_valid_text not_before now)
 cert_error_text (errors.CertificateExpired not_after now) = Some (expired_text not_after now)
+cert_error_text (errors.PrivateKeyToPublicKey source) = option_map (λ text. codes "failed to get public key from private key: " ++ text) (key_error_text source)
 cert_error_text errors.Memory = Some (codes "out of memory")

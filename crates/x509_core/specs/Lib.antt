@@ -11,10 +11,6 @@ pub mod Checks
 pub mod Chain
 pub mod CertRefusals
 pub mod Spellings
-pub mod ErrorText
-pub mod KeptRequest
-pub mod CsrRefusals
 pub mod CsrErrorText
-pub mod SelfSigned
-pub mod Generated
+pub mod ErrorText
 pub mod Facts

@@ -52,15 +52,8 @@ IsNameOf kept id = id.name ≡ kept.certificate.tbs_certificate.subject
 -- The error tells of this certificate, for this cause, or of want of memory.
 abbrev pub IsInvalid : KeptCertificate → CertCause → CertError → Type 0
 IsInvalid kept cause (errors.InvalidCertificate id source) = IsNameOf kept id × (source ≡ cause)
-IsInvalid kept cause (errors.Asn1Serialization element source) = ⊥
-IsInvalid kept cause (errors.Asn1Deserialization element source) = ⊥
-IsInvalid kept cause (errors.Signature source) = ⊥
-IsInvalid kept cause (errors.InvalidChain source) = ⊥
-IsInvalid kept cause (errors.ExtensionNotFound name) = ⊥
-IsInvalid kept cause (errors.MissingBuilderArgument argument) = ⊥
-IsInvalid kept cause (errors.CertificateNotYetValid not_before now) = ⊥
-IsInvalid kept cause (errors.CertificateExpired not_after now) = ⊥
 IsInvalid kept cause errors.Memory = ⊤
+IsInvalid kept cause e = ⊥
 
 -- The error tells of this certificate that it names one key and its parent has another, or of want of memory.
 abbrev pub IsOtherKey : KeptCertificate → (expected actual : List ℕ) → CertError → Type 0
@@ -83,22 +76,13 @@ RefusesChain parent child (chain.IssuerNameMismatch expected actual) = DifferByN
 
 -- of the parent it is told that it has no key identifier, of the child that one or the other doesn't agree
 abbrev pub RefusesLink : (parent child : KeptCertificate) → DirectoryName → CertCause → Type 0
-RefusesLink parent child id (causes.Signature source) = ⊥
 RefusesLink parent child id (causes.ExtensionNotFound name) =
     IsNameOf parent id × (name ≡ names.SubjectKeyIdentifier) × LacksKey parent.elements child.elements
 RefusesLink parent child id (causes.InvalidChain source) = IsNameOf child id × RefusesChain parent child source
-RefusesLink parent child id (causes.CertificateNotYetValid not_before now) = ⊥
-RefusesLink parent child id (causes.CertificateExpired not_after now) = ⊥
+RefusesLink parent child id cause = ⊥
 
 -- why one certificate isn't the parent of another
 abbrev pub RefusesParent : (parent child : KeptCertificate) → CertError → Type 0
 RefusesParent parent child (errors.InvalidCertificate id source) = RefusesLink parent child id source
-RefusesParent parent child (errors.Asn1Serialization element source) = ⊥
-RefusesParent parent child (errors.Asn1Deserialization element source) = ⊥
-RefusesParent parent child (errors.Signature source) = ⊥
-RefusesParent parent child (errors.InvalidChain source) = ⊥
-RefusesParent parent child (errors.ExtensionNotFound name) = ⊥
-RefusesParent parent child (errors.MissingBuilderArgument argument) = ⊥
-RefusesParent parent child (errors.CertificateNotYetValid not_before now) = ⊥
-RefusesParent parent child (errors.CertificateExpired not_after now) = ⊥
 RefusesParent parent child errors.Memory = ⊤
+RefusesParent parent child e = ⊥

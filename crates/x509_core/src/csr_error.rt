@@ -2,7 +2,6 @@
 
 ghost use Rattle.std.specs.Prelude.{◌≡◌};
 ghost use Rattle.x509_core.specs.CsrErrorText.{csr_error_text};
-ghost use Rattle.x509_core.specs.CsrRefusals.{unread_csr, unwritten_csr, unsigned, keyless};
 ghost use Rattle.x509_core.specs.declared.csr_error.CsrError.TheVariants.{Memory};
 
 use der_core::DerError;
@@ -24,48 +23,6 @@ pub enum CsrError {
     PrivateKeyToPublicKey { source: KeyError },
     /// No memory was left.
     Memory,
-}
-
-impl CsrError {
-    /// Why octets of the structure aren't read.
-    pub(crate) fn unread(element: Element, source: DerError) -> CsrError
-        ensures { result ≡ unread_csr element source }
-    {
-        match source {
-            DerError::Memory => CsrError::Memory,
-            source => CsrError::Asn1Deserialization { element, source },
-        }
-    }
-
-    /// Why a value of the structure isn't written.
-    pub(crate) fn unwritten(element: Element, source: DerError) -> CsrError
-        ensures { result ≡ unwritten_csr element source }
-    {
-        match source {
-            DerError::Memory => CsrError::Memory,
-            source => CsrError::Asn1Serialization { element, source },
-        }
-    }
-
-    /// Why a signature isn't accepted or made.
-    pub(crate) fn unsigned(source: SignatureError) -> CsrError
-        ensures { result ≡ unsigned source }
-    {
-        match source {
-            SignatureError::Memory => CsrError::Memory,
-            source => CsrError::Signature { source },
-        }
-    }
-
-    /// Why a private key gives no public key.
-    pub(crate) fn keyless(source: KeyError) -> CsrError
-        ensures { result ≡ keyless source }
-    {
-        match source {
-            KeyError::Memory => CsrError::Memory,
-            source => CsrError::PrivateKeyToPublicKey { source },
-        }
-    }
 }
 
 impl fmt::Display for CsrError {

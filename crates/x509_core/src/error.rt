@@ -1,4 +1,5 @@
-//! Why a certificate isn't read or written, lacks an extension, isn't valid, or isn't one of a chain.
+//! Why a certificate isn't read, written or made, lacks an extension, isn't valid, or isn't one of a
+//! chain.
 
 ghost use Rattle.std.specs.Prelude.{◌≡◌, Some};
 ghost use Rattle.std.specs.Fmt.{WritesOnOk};
@@ -7,16 +8,22 @@ ghost use Rattle.x509_core.specs.ErrorText.{argument_text, extension_text, chain
 ghost use Rattle.x509_core.specs.CertRefusals.{unread, unwritten};
 ghost use Rattle.x509_core.specs.declared.error.CertError.TheVariants.{Memory};
 
+use crate::csr_error::CsrError;
 use der_core::{DerError, Octets};
-use key_core::{Element, SignatureError};
+use key_core::{Element, KeyError, KeyIdGenError, SignatureError};
 use names_core::{DirectoryName, UtcDate};
 use std::alloc::{AllocError, AllocFailed};
 use std::fmt;
 use thiserror::Error;
 
-/// Why a certificate isn't read or written, lacks an extension, isn't valid, or isn't one of a chain.
+/// Why a certificate isn't read, written or made, lacks an extension, isn't valid, or isn't one of a
+/// chain.
 #[derive(Debug, Drop, Error)]
 pub enum CertError {
+    /// A certificate isn't made, for what is told.
+    CertGeneration {
+        source: CertCause,
+    },
     /// A certificate, told by the name of its subject, isn't what it has to be.
     InvalidCertificate {
         id: DirectoryName,
@@ -33,13 +40,21 @@ pub enum CertError {
         element: Element,
         source: DerError,
     },
-    /// The algorithm of a signature isn't known. Never with want of memory.
+    /// The algorithm of a signature isn't known, or has no identifier. Never with want of memory.
     Signature {
         source: SignatureError,
+    },
+    /// A key has no identifier. Never with want of memory.
+    KeyIdGen {
+        source: KeyIdGenError,
     },
     /// Certificates are no chain.
     InvalidChain {
         source: CaChainError,
+    },
+    /// The request isn't accepted that a certificate is to be made from. Never with want of memory.
+    InvalidCsr {
+        source: CsrError,
     },
     /// The certificate has no extension of this name.
     ExtensionNotFound {
@@ -59,15 +74,25 @@ pub enum CertError {
         not_after: UtcDate,
         now: UtcDate,
     },
+    /// The private key has no public key. Never with want of memory.
+    PrivateKeyToPublicKey {
+        source: KeyError,
+    },
     /// No memory was left.
     Memory,
 }
 
-/// What a certificate is refused for, each as the `CertError` of its name.
+/// What a certificate is refused for, or not made, each as the `CertError` of its name.
 #[derive(Debug, Drop, Error)]
 pub enum CertCause {
-    /// The signature of the certificate isn't one by the key of its parent. Never with want of memory.
+    /// The value has no encoding: it is nested too deep, or some contents are too long. Never with
+    /// want of memory.
+    Asn1Serialization { element: Element, source: DerError },
+    /// The signature of the certificate isn't one by the key of its parent, or isn't made. Never with
+    /// want of memory.
     Signature { source: SignatureError },
+    /// A key has no identifier. Never with want of memory.
+    KeyIdGen { source: KeyIdGenError },
     /// Certificates are no chain.
     InvalidChain { source: CaChainError },
     /// The certificate has no extension of this name.
@@ -114,13 +139,23 @@ pub enum ExtName {
     BasicConstraints,
 }
 
-/// What is handed to a validator.
+/// What is handed to a validator, or to one who makes a certificate.
 #[derive(Clone, Copy, Debug, PartialEq, Eq)]
 pub enum Arg {
     /// The date, or the interval.
     Now,
     /// The parents.
     Chain,
+    /// The first moment of the validity.
+    ValidFrom,
+    /// The last one.
+    ValidTo,
+    /// The name and the key of the issuer.
+    IssuerInfos,
+    /// The identifier of the issuer's key.
+    AuthorityKeyIdentifier,
+    /// The name and the key of the subject, or a request.
+    SubjectInfos,
 }
 
 impl CertError {
@@ -164,6 +199,11 @@ impl fmt::Display for Arg {
         match self {
             Arg::Now => write!(f, "now"),
             Arg::Chain => write!(f, "chain"),
+            Arg::ValidFrom => write!(f, "valid_from"),
+            Arg::ValidTo => write!(f, "valid_to"),
+            Arg::IssuerInfos => write!(f, "issuer_infos"),
+            Arg::AuthorityKeyIdentifier => write!(f, "authority_key_identifier"),
+            Arg::SubjectInfos => write!(f, "subject_infos"),
         }
     }
 }
@@ -220,7 +260,12 @@ impl fmt::Display for CertCause {
 
     fn fmt<W: fmt::Write>(&self, f: &mut fmt::Formatter<W>) -> fmt::Result {
         match self {
+            CertCause::Asn1Serialization { element, source } => write!(
+                f,
+                "(ASN1) couldn't serialize {element}: {source}"
+            ),
             CertCause::Signature { source } => write!(f, "signature error: {source}"),
+            CertCause::KeyIdGen { source } => write!(f, "key id generation error: {source}"),
             CertCause::InvalidChain { source } => write!(f, "CA chain error: {source}"),
             CertCause::ExtensionNotFound { name } => write!(f, "extension not found: {name}"),
             CertCause::CertificateNotYetValid { not_before, now } => write!(
@@ -240,6 +285,9 @@ impl fmt::Display for CertError {
 
     fn fmt<W: fmt::Write>(&self, f: &mut fmt::Formatter<W>) -> fmt::Result {
         match self {
+            CertError::CertGeneration { source } => {
+                write!(f, "couldn't generate certificate: {source}")
+            }
             CertError::InvalidCertificate { id, source } => {
                 write!(f, "invalid certificate '{id}': {source}")
             }
@@ -252,7 +300,9 @@ impl fmt::Display for CertError {
                 "(ASN1) couldn't deserialize {element}: {source}"
             ),
             CertError::Signature { source } => write!(f, "signature error: {source}"),
+            CertError::KeyIdGen { source } => write!(f, "key id generation error: {source}"),
             CertError::InvalidChain { source } => write!(f, "CA chain error: {source}"),
+            CertError::InvalidCsr { source } => write!(f, "CSR error: {source}"),
             CertError::ExtensionNotFound { name } => write!(f, "extension not found: {name}"),
             CertError::MissingBuilderArgument { arg } => {
                 write!(f, "missing required builder argument `{arg}`")
@@ -264,6 +314,10 @@ impl fmt::Display for CertError {
             CertError::CertificateExpired { not_after, now } => write!(
                 f,
                 "certificate expired (not after: {not_after}, now: {now})"
+            ),
+            CertError::PrivateKeyToPublicKey { source } => write!(
+                f,
+                "failed to get public key from private key: {source}"
             ),
             CertError::Memory => write!(f, "out of memory"),
         }

@@ -1,0 +1,2 @@
+pub mod ReadCsrs
+pub mod Generating

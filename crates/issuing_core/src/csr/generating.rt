@@ -1,0 +1,158 @@
+//! Requests that a private key signs.
+
+ghost use Rattle.std.specs.Prelude.{◌≡◌, ◌⊎◌, [], IfOk, MatchResult};
+ghost use Rattle.der_core.specs.Encoding.{encoding};
+ghost use Rattle.key_types.specs.declared.key_info.SubjectPublicKeyInfo.{SubjectPublicKeyInfo};
+ghost use Rattle.key_core.specs.SignatureAlgorithm.{IsWrittenAlgorithm, IsUnwritable};
+ghost use Rattle.key_core.specs.Signing.{IsKeyPair};
+ghost use Rattle.key_core.specs.Verifying.{Accepts};
+ghost use Rattle.request_types.specs.RequestInfo.{request_info};
+ghost use Rattle.issuing_core.specs.CsrRefusals.{IsUnsigned};
+ghost use Rattle.issuing_core.specs.Generated.{HasNoHalf, InfoUnsigned, InfoUnwritten, IsGenerated, IsInfoFor, IsInfoSigned, IsInfoWritten, IsMadeOf, RefusesToGenerate, RefusesToMake};
+ghost use Rattle.issuing_core.specs.SelfSigned.{IsSelfSigned};
+
+use super::{Csr, causes};
+use asn1_types::BitString;
+use der_core::Structure;
+use key_core::{Element, PrivateKey, SignatureAlgorithm};
+use names_core::DirectoryName;
+use request_types::{CertificationRequest, CertificationRequestInfo};
+use sig_core::Scheme;
+use std::alloc::Global;
+use x509_core::CsrError;
+use x509_types::{AlgorithmIdentifier, AttributeList, Name, SubjectPublicKeyInfo};
+
+impl Csr {
+    /// A request for this name and the public key of the private one, which signs it, with an empty
+    /// list of attributes. It is refused as by [`Csr::generate_with_attributes`].
+    pub fn generate<S: Scheme>(
+        alloc: Global,
+        subject: DirectoryName,
+        private_key: &PrivateKey,
+        signature_hash_type: SignatureAlgorithm,
+        scheme: &S,
+    ) -> Result<Csr, CsrError>
+        ensures answer { MatchResult result
+            (IsGenerated (S.signs scheme.now) subject private_key.now signature_hash_type [])
+            (RefusesToGenerate (S.signs scheme.now) subject private_key.now signature_hash_type []) }
+        // It is accepted under a key that pairs with its public one.
+        ensures verifies { IfOk result (λ csr. IsKeyPair (S.pair scheme.now) private_key.now csr.request.certification_request_info.subject_public_key_info
+            → IsSelfSigned (S.judge scheme.now) csr) }
+    {
+        let attributes = AttributeList::new(alloc);
+        Csr::generate_with_attributes(
+            alloc,
+            subject,
+            private_key,
+            signature_hash_type,
+            attributes,
+            scheme,
+        )
+    }
+
+    /// A request for this name, the public key of the private one and these attributes, which the
+    /// private key signs (RFC 2986 4.2). It is refused by the first of these: `PrivateKeyToPublicKey`
+    /// where there is no public key, `Asn1Serialization` of what is signed, `Signature` where it
+    /// can't be signed, and then where the algorithm has no identifier, `Asn1Serialization` of the
+    /// request.
+    pub fn generate_with_attributes<S: Scheme>(
+        alloc: Global,
+        subject: DirectoryName,
+        private_key: &PrivateKey,
+        signature_hash_type: SignatureAlgorithm,
+        attributes: AttributeList,
+        scheme: &S,
+    ) -> Result<Csr, CsrError>
+        ensures answer { MatchResult result
+            (IsGenerated (S.signs scheme.now) subject private_key.now signature_hash_type attributes)
+            (RefusesToGenerate (S.signs scheme.now) subject private_key.now signature_hash_type attributes) }
+        // It is accepted under a key that pairs with its public one.
+        ensures verifies { IfOk result (λ csr. IsKeyPair (S.pair scheme.now) private_key.now csr.request.certification_request_info.subject_public_key_info
+            → IsSelfSigned (S.judge scheme.now) csr) }
+    {
+        match info_for(alloc, subject, private_key, attributes) {
+            Ok(info) => signed(alloc, info, private_key, signature_hash_type, scheme),
+            Err(error) => Err(error),
+        }
+    }
+}
+
+/// What is asked for.
+fn info_for(
+    alloc: Global,
+    subject: DirectoryName,
+    private_key: &PrivateKey,
+    attributes: AttributeList,
+) -> Result<CertificationRequestInfo, CsrError>
+    ensures { MatchResult result (IsInfoFor subject private_key.now attributes) (HasNoHalf private_key.now) }
+{
+    match private_key.to_public_key(alloc) {
+        Ok(public_key) => Ok(CertificationRequestInfo {
+            subject: Name::from(subject),
+            subject_public_key_info: SubjectPublicKeyInfo::from(public_key),
+            attributes: Some(attributes),
+        }),
+        Err(source) => Err(causes::keyless(source)),
+    }
+}
+
+/// The request for what is asked for, signed by the private key.
+fn signed<S: Scheme>(
+    alloc: Global,
+    info: CertificationRequestInfo,
+    private_key: &PrivateKey,
+    algorithm: SignatureAlgorithm,
+    scheme: &S,
+) -> Result<Csr, CsrError>
+    ensures answer { MatchResult result
+        (λ csr. IsMadeOf algorithm info csr × IsInfoSigned (S.signs scheme.now) private_key.now algorithm info)
+        (RefusesToMake (S.signs scheme.now) private_key.now algorithm info) }
+    ensures verifies { IfOk result (λ csr. (key : SubjectPublicKeyInfo) → IsKeyPair (S.pair scheme.now) private_key.now key
+        → Accepts (S.judge scheme.now) algorithm key (encoding csr.info) csr.request.signature.payload) }
+{
+    let signature = signature_of(alloc, &info, private_key, algorithm, scheme)?;
+    let signature_algorithm = identifier_of(alloc, algorithm)?;
+    let request = CertificationRequest {
+        certification_request_info: info,
+        signature_algorithm,
+        signature,
+    };
+    Csr::from_certification_request(alloc, request)
+}
+
+/// The signature over what is asked for by the private key.
+fn signature_of<S: Scheme>(
+    alloc: Global,
+    info: &CertificationRequestInfo,
+    private_key: &PrivateKey,
+    algorithm: SignatureAlgorithm,
+    scheme: &S,
+) -> Result<BitString, CsrError>
+    ensures answer { MatchResult result
+        (λ bits. (bits.unused ≡ 0) × IsInfoWritten info.now × IsInfoSigned (S.signs scheme.now) private_key.now algorithm info.now)
+        (λ e. InfoUnwritten info.now e ⊎ (IsInfoWritten info.now × InfoUnsigned (S.signs scheme.now) private_key.now algorithm info.now e)) }
+    ensures verifies { IfOk result (λ bits. (key : SubjectPublicKeyInfo) → IsKeyPair (S.pair scheme.now) private_key.now key
+        → Accepts (S.judge scheme.now) algorithm key (encoding (request_info info.now)) bits.payload) }
+{
+    let message = match info.to_der(alloc) {
+        Ok(message) => message,
+        Err(source) => return Err(causes::unwritten(Element::RequestInfo, source)),
+    };
+    match algorithm.sign(alloc, &message, private_key, scheme) {
+        Ok(signature) => Ok(BitString::with_bytes(alloc, &signature)?),
+        Err(source) => Err(causes::unsigned(source)),
+    }
+}
+
+/// The identifier of the algorithm.
+fn identifier_of(
+    alloc: Global,
+    algorithm: SignatureAlgorithm,
+) -> Result<AlgorithmIdentifier, CsrError>
+    ensures { MatchResult result (IsWrittenAlgorithm algorithm) (IsUnsigned (IsUnwritable algorithm)) }
+{
+    match algorithm.to_algorithm_identifier(alloc) {
+        Ok(id) => Ok(id),
+        Err(source) => Err(causes::unsigned(source)),
+    }
+}

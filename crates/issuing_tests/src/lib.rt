@@ -1,0 +1,5 @@
+//! Tests of requests, and of certificates that are built, under the demonstration scheme.
+#![tactic(auto)]
+
+#[cfg(test)]
+mod requests;
