@@ -13,4 +13,5 @@ pub mod CertRefusals
 pub mod Spellings
 pub mod CsrErrorText
 pub mod ErrorText
+pub mod ErrorName
 pub mod Facts

@@ -8,6 +8,7 @@ mod cert_type;
 mod chain_laws;
 mod csr_error;
 mod error;
+mod error_name;
 mod key_link;
 mod keyless;
 mod laws;

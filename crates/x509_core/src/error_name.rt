@@ -1,0 +1,86 @@
+//! The names of errors of certificates, as a program reports them.
+
+ghost use Rattle.std.specs.Prelude.{◌≡◌, ◌++◌, IfOk, codes, string_bytes};
+ghost use Rattle.x509_core.specs.ErrorName.{cause_name, cert_error_name, chain_error_name};
+
+use crate::error::{CaChainError, CertCause, CertError};
+use std::alloc::{AllocError, Global};
+
+impl CertError {
+    /// The name of the variant. Behind that of `InvalidCertificate` and that of `InvalidChain` stand
+    /// a colon and the name of what each holds.
+    pub fn name(&self, alloc: Global) -> Result<String, AllocError>
+        ensures { IfOk result (λ name. string_bytes name ≡ cert_error_name self.now) }
+    {
+        match self {
+            CertError::CertGeneration { .. } => String::from_str(alloc, "CertGeneration"),
+            CertError::InvalidCertificate { source, .. } => named_certificate(alloc, source),
+            CertError::Asn1Serialization { .. } => String::from_str(alloc, "Asn1Serialization"),
+            CertError::Asn1Deserialization { .. } => String::from_str(alloc, "Asn1Deserialization"),
+            CertError::Signature { .. } => String::from_str(alloc, "Signature"),
+            CertError::KeyIdGen { .. } => String::from_str(alloc, "KeyIdGen"),
+            CertError::InvalidChain { source } => named_chain(alloc, source),
+            CertError::InvalidCsr { .. } => String::from_str(alloc, "InvalidCsr"),
+            CertError::ExtensionNotFound { .. } => String::from_str(alloc, "ExtensionNotFound"),
+            CertError::MissingBuilderArgument { .. } => {
+                String::from_str(alloc, "MissingBuilderArgument")
+            }
+            CertError::CertificateNotYetValid { .. } => {
+                String::from_str(alloc, "CertificateNotYetValid")
+            }
+            CertError::CertificateExpired { .. } => String::from_str(alloc, "CertificateExpired"),
+            CertError::PrivateKeyToPublicKey { .. } => {
+                String::from_str(alloc, "PrivateKeyToPublicKey")
+            }
+            CertError::Memory => String::from_str(alloc, "Memory"),
+        }
+    }
+}
+
+/// The name of what a certificate is refused for, behind that of the refusal.
+fn named_certificate(alloc: Global, cause: &CertCause) -> Result<String, AllocError>
+    ensures { IfOk result (λ name. string_bytes name ≡ codes "InvalidCertificate:" ++ cause_name cause.now) }
+{
+    format!(in alloc; "InvalidCertificate:{}", cause.name(alloc)?)
+}
+
+/// The name of why certificates are no chain, behind that of the refusal.
+fn named_chain(alloc: Global, error: &CaChainError) -> Result<String, AllocError>
+    ensures { IfOk result (λ name. string_bytes name ≡ codes "InvalidChain:" ++ chain_error_name error.now) }
+{
+    format!(in alloc; "InvalidChain:{}", error.name())
+}
+
+impl CertCause {
+    /// The name of the variant, that of `InvalidChain` with the name of what it holds.
+    fn name(&self, alloc: Global) -> Result<String, AllocError>
+        ensures { IfOk result (λ name. string_bytes name ≡ cause_name self.now) }
+    {
+        match self {
+            CertCause::Asn1Serialization { .. } => String::from_str(alloc, "Asn1Serialization"),
+            CertCause::Signature { .. } => String::from_str(alloc, "Signature"),
+            CertCause::KeyIdGen { .. } => String::from_str(alloc, "KeyIdGen"),
+            CertCause::InvalidChain { source } => named_chain(alloc, source),
+            CertCause::ExtensionNotFound { .. } => String::from_str(alloc, "ExtensionNotFound"),
+            CertCause::CertificateNotYetValid { .. } => {
+                String::from_str(alloc, "CertificateNotYetValid")
+            }
+            CertCause::CertificateExpired { .. } => String::from_str(alloc, "CertificateExpired"),
+        }
+    }
+}
+
+impl CaChainError {
+    /// The name of the variant.
+    fn name(&self) -> &'static str
+        ensures { result.now ≡ chain_error_name self.now }
+    {
+        match self {
+            CaChainError::TooDeep { .. } => "TooDeep",
+            CaChainError::NoRoot => "NoRoot",
+            CaChainError::IssuerIsNotCA { .. } => "IssuerIsNotCA",
+            CaChainError::AuthorityKeyIdMismatch { .. } => "AuthorityKeyIdMismatch",
+            CaChainError::IssuerNameMismatch { .. } => "IssuerNameMismatch",
+        }
+    }
+}
