@@ -15,5 +15,5 @@ same_text a b c (Some text) = ap Some (sym (assoc (a ++ b) c text ∙ assoc a b 
 pub returns-in-InvalidCertificate-clause-writes : goal.returns-in-InvalidCertificate-clause-writes
 returns-in-InvalidCertificate-clause-writes g c =
     rw c.in-InvalidCertificate.is
-    (subst (λ (text : Option (List ℕ)). DisplaysOnOk g.W.Write.write_str_gives c.args.f.now c.write.result text c.write.new.self)
-    (same_text (codes "invalid certificate '") (name_text c.in-InvalidCertificate.id.name) (codes "': ") (cause_text c.in-InvalidCertificate.source)) c.write.ensures.writes)
+    (subst (λ (text : Option (List ℕ)). DisplaysOnOk g.W.Write.write_str_gives c.args.f.now c.write-in-InvalidCertificate.result text c.write-in-InvalidCertificate.new.self)
+    (same_text (codes "invalid certificate '") (name_text c.in-InvalidCertificate.id.name) (codes "': ") (cause_text c.in-InvalidCertificate.source)) c.write-in-InvalidCertificate.ensures.writes)
