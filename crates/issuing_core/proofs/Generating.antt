@@ -17,39 +17,39 @@ use Rattle.request_types.specs.CertificationRequest.{request}
 use Rattle.request_types.specs.declared.request.CertificationRequest.{CertificationRequest}
 use Rattle.request_types.specs.declared.request_info.CertificationRequestInfo.{CertificationRequestInfo}
 use Rattle.issuing_core.specs.CsrRefusals.{IsUnwrittenCsr, IsUnsigned}
-use Rattle.issuing_core.specs.Generated.{InfoUnsigned, InfoUnwritten, IsGenerated, IsInfoFor, IsInfoSigned, IsInfoWritten, IsMadeOf, RefusesToGenerate, RefusesToMake}
+use Rattle.issuing_core.specs.Generated.{InfoUnsigned, InfoUnwritten, IsGenerated, IsInfoFor, IsInfoSigned, IsInfoWritten, IsMadeOf, IsSignedWhole, RefusesToGenerate, RefusesToMake}
 use Rattle.issuing_core.specs.KeptRequest.{KeptRequest, kept_request, request_elements}
 use Rattle.issuing_core.specs.SelfSigned.{IsSelfSigned}
 use Rattle.issuing_core.specs.Facts.Csrs.{info_once}
 use Rattle.x509_core.specs.declared.csr_error.CsrError.{CsrError}
 
-pub not_signed : (signs : Signs) (key : PrivateKey) (algorithm : SignatureAlgorithm) (info : CertificationRequestInfo) (e : CsrError)
-    → InfoUnwritten info e ⊎ (IsInfoWritten info × InfoUnsigned signs key algorithm info e) → RefusesToMake signs key algorithm info e
-not_signed signs key algorithm info e (inl unwritten) = inl unwritten
-not_signed signs key algorithm info e (inr (written, unsigned)) = inr (written, inl unsigned)
+pub not_signed : (judge : Judge) (signs : Signs) (pair : Pair) (key : PrivateKey) (algorithm : SignatureAlgorithm) (info : CertificationRequestInfo) (e : CsrError)
+    → InfoUnwritten info e ⊎ (IsInfoWritten info × InfoUnsigned signs key algorithm info e) → RefusesToMake judge signs pair key algorithm info e
+not_signed judge signs pair key algorithm info e (inl unwritten) = inl unwritten
+not_signed judge signs pair key algorithm info e (inr (written, unsigned)) = inr (written, inl unsigned)
 
-pub not_named : (signs : Signs) (key : PrivateKey) (algorithm : SignatureAlgorithm) (info : CertificationRequestInfo) (e : CsrError)
-    → IsInfoWritten info → IsInfoSigned signs key algorithm info → IsUnsigned (IsUnwritable algorithm) e → RefusesToMake signs key algorithm info e
-not_named signs key algorithm info e written signed unnamed = inr (written, inr (signed, inl unnamed))
+pub not_named : (judge : Judge) (signs : Signs) (pair : Pair) (key : PrivateKey) (algorithm : SignatureAlgorithm) (info : CertificationRequestInfo) (e : CsrError)
+    → IsInfoWritten info → IsInfoSigned signs key algorithm info → IsUnsigned (IsUnwritable algorithm) e → RefusesToMake judge signs pair key algorithm info e
+not_named judge signs pair key algorithm info e written signed unnamed = inr (written, inr (signed, inl unnamed))
 
 -- what is kept of a request as it is written is around what is written of what is signed
 pub written_info : (csr : KeptRequest) (r : CertificationRequest) → kept_request csr ≡ request r → csr.info ≡ request_info r.certification_request_info
 written_info csr r e = info_once csr.info (request_info r.certification_request_info) csr.request r e
 
-pub made : (signs : Signs) (key : PrivateKey) (algorithm : SignatureAlgorithm) (r : CertificationRequest) (result : Result KeptRequest CsrError)
-    → IsInfoWritten r.certification_request_info → IsInfoSigned signs key algorithm r.certification_request_info → IsWrittenAlgorithm algorithm r.signature_algorithm → r.signature.unused ≡ 0
+pub made : (judge : Judge) (signs : Signs) (pair : Pair) (key : PrivateKey) (algorithm : SignatureAlgorithm) (r : CertificationRequest) (result : Result KeptRequest CsrError)
+    → IsInfoWritten r.certification_request_info → IsInfoSigned signs key algorithm r.certification_request_info → IsSignedWhole judge pair key algorithm r.certification_request_info r
     → MatchResult result (λ csr. (kept_request csr ≡ request r) × (csr.request ≡ r)) (IsUnwrittenCsr elements.Request (RefusesInner (request_elements r)))
-    → MatchResult result (λ csr. IsMadeOf algorithm r.certification_request_info csr × IsInfoSigned signs key algorithm r.certification_request_info) (RefusesToMake signs key algorithm r.certification_request_info)
-made signs key algorithm r (Ok csr) written signed named unused (kept, value) = (
+    → MatchResult result (λ csr. IsMadeOf algorithm r.certification_request_info csr × IsInfoSigned signs key algorithm r.certification_request_info) (RefusesToMake judge signs pair key algorithm r.certification_request_info)
+made judge signs pair key algorithm r (Ok csr) written signed whole (kept, value) = (
   record {
     info_is = ap (λ (x : CertificationRequest). x.certification_request_info) value;
-    algorithm_is = subst (λ (x : CertificationRequest). IsWrittenAlgorithm algorithm x.signature_algorithm) (sym value) named;
-    unused = ap (λ (x : CertificationRequest). x.signature.unused) value ∙ unused;
+    algorithm_is = subst (λ (x : CertificationRequest). IsWrittenAlgorithm algorithm x.signature_algorithm) (sym value) whole.algorithm_is;
+    unused = ap (λ (x : CertificationRequest). x.signature.unused) value ∙ whole.unused;
     written = kept ∙ ap request (sym value);
   },
   signed,
 )
-made signs key algorithm r (Err e) written signed named unused refused = inr (written, inr (signed, inr (r, refl, named, refused)))
+made judge signs pair key algorithm r (Err e) written signed whole refused = inr (written, inr (signed, inr (r, whole, refused)))
 
 -- what is accepted over what is written of what is signed is accepted over what is kept
 pub accepted : (judge : Judge) (pair : Pair) (private : PrivateKey) (algorithm : SignatureAlgorithm) (r : CertificationRequest) (result : Result KeptRequest CsrError) (Refused : CsrError → Type 0)
@@ -61,16 +61,16 @@ accepted judge pair private algorithm r (Ok csr) Refused accepts (kept, value) =
     (subst (λ (x : DerElement). Accepts judge algorithm key (encoding x) r.signature.payload) (sym (written_info csr r kept)) (accepts key paired))
 accepted judge pair private algorithm r (Err e) Refused accepts is = tt
 
-pub generated : (signs : Signs) (subject : DirectoryName) (key : PrivateKey) (algorithm : SignatureAlgorithm) (attributes : List Attribute) (info : CertificationRequestInfo) (result : Result KeptRequest CsrError)
+pub generated : (judge : Judge) (signs : Signs) (pair : Pair) (subject : DirectoryName) (key : PrivateKey) (algorithm : SignatureAlgorithm) (attributes : List Attribute) (info : CertificationRequestInfo) (result : Result KeptRequest CsrError)
     → IsInfoFor subject key attributes info
-    → MatchResult result (λ csr. IsMadeOf algorithm info csr × IsInfoSigned signs key algorithm info) (RefusesToMake signs key algorithm info)
-    → MatchResult result (IsGenerated signs subject key algorithm attributes) (RefusesToGenerate signs subject key algorithm attributes)
-generated signs subject key algorithm attributes info (Ok csr) asked (is, signed) = record { info = info; asked = asked; signed = signed; made = is }
-generated signs subject key algorithm attributes info (Err e) asked refused = inr (info, asked, refused)
+    → MatchResult result (λ csr. IsMadeOf algorithm info csr × IsInfoSigned signs key algorithm info) (RefusesToMake judge signs pair key algorithm info)
+    → MatchResult result (IsGenerated signs subject key algorithm attributes) (RefusesToGenerate judge signs pair subject key algorithm attributes)
+generated judge signs pair subject key algorithm attributes info (Ok csr) asked (is, signed) = record { info = info; asked = asked; signed = signed; made = is }
+generated judge signs pair subject key algorithm attributes info (Err e) asked refused = inr (info, asked, refused)
 
 -- a request that names the algorithm and is accepted under its own key is self-signed
 pub self_signed : (signs : Signs) (judge : Judge) (pair : Pair) (private : PrivateKey) (algorithm : SignatureAlgorithm) (info : CertificationRequestInfo) (result : Result KeptRequest CsrError)
-    → MatchResult result (λ csr. IsMadeOf algorithm info csr × IsInfoSigned signs private algorithm info) (RefusesToMake signs private algorithm info)
+    → MatchResult result (λ csr. IsMadeOf algorithm info csr × IsInfoSigned signs private algorithm info) (RefusesToMake judge signs pair private algorithm info)
     → IfOk result (λ csr. (key : SubjectPublicKeyInfo) → IsKeyPair pair private key → Accepts judge algorithm key (encoding csr.info) csr.request.signature.payload)
     → IfOk result (λ csr. IsKeyPair pair private csr.request.certification_request_info.subject_public_key_info → IsSelfSigned judge csr)
 self_signed signs judge pair private algorithm info (Ok csr) (is, signed) accepts = λ paired. record {

@@ -3,10 +3,12 @@ use Rattle.std.specs.Prelude.{◌≡◌, ◌⊎◌, List, Some, true}
 use Rattle.der_core.specs.Encoding.{encoding, IsDer}
 use Rattle.der_core.specs.Placed.{AreDer}
 use Rattle.der_core.specs.Refusals.{RefusesInner}
+use Rattle.key_types.specs.declared.key_info.SubjectPublicKeyInfo.{SubjectPublicKeyInfo}
 use Rattle.key_core.specs.PublicHalf.{IsPublicHalf, RefusesPublicHalf}
 use Rattle.key_core.specs.SignatureAlgorithm.{IsWrittenAlgorithm, IsUnwritable}
 use Rattle.key_core.specs.SignatureRules.{RefusesBy}
-use Rattle.key_core.specs.Signing.{Signs, IsAsked, sign_rules}
+use Rattle.key_core.specs.Signing.{Signs, Pair, IsAsked, IsKeyPair, sign_rules}
+use Rattle.key_core.specs.Verifying.{Judge, Accepts}
 use Rattle.key_core.specs.declared.element.Element.TheVariants as elements
 use Rattle.key_core.specs.declared.private_key.PrivateKey.{PrivateKey}
 use Rattle.key_core.specs.declared.signature_algorithm.SignatureAlgorithm.{SignatureAlgorithm}
@@ -50,11 +52,18 @@ pub record IsGenerated (signs : Signs) (subject : DirectoryName) (key : PrivateK
 abbrev pub HasNoHalf : PrivateKey → CsrError → Type 0
 HasNoHalf key = IsKeyless (RefusesPublicHalf key.info.private_key key.public_key)
 
+-- The whole is that of this that is asked for, this algorithm, and a signature without unused bits, which is accepted under each public key
+-- of the pair.
+pub record IsSignedWhole (judge : Judge) (pair : Pair) (key : PrivateKey) (algorithm : SignatureAlgorithm) (info : CertificationRequestInfo) (r : CertificationRequest) : Type 0 where
+  pub info_is : r.certification_request_info ≡ info
+  pub algorithm_is : IsWrittenAlgorithm algorithm r.signature_algorithm
+  pub unused : r.signature.unused ≡ 0
+  pub accepted : (public : SubjectPublicKeyInfo) → IsKeyPair pair key public → Accepts judge algorithm public (encoding (request_info info)) r.signature.payload
+
 -- the whole has no encoding
-abbrev pub WholeUnwritten : SignatureAlgorithm → CertificationRequestInfo → CsrError → Type 0
-WholeUnwritten algorithm info e =
-    (r : CertificationRequest) × (r.certification_request_info ≡ info) × IsWrittenAlgorithm algorithm r.signature_algorithm
-    × IsUnwrittenCsr elements.Request (RefusesInner (request_elements r)) e
+abbrev pub WholeUnwritten : Judge → Pair → PrivateKey → SignatureAlgorithm → CertificationRequestInfo → CsrError → Type 0
+WholeUnwritten judge pair key algorithm info e =
+    (r : CertificationRequest) × IsSignedWhole judge pair key algorithm info r × IsUnwrittenCsr elements.Request (RefusesInner (request_elements r)) e
 
 -- what is signed has no encoding
 abbrev pub InfoUnwritten : CertificationRequestInfo → CsrError → Type 0
@@ -69,16 +78,16 @@ abbrev pub InfoUnsigned : Signs → PrivateKey → SignatureAlgorithm → Certif
 InfoUnsigned signs key algorithm info = IsUnsigned (RefusesBy (sign_rules signs algorithm key (encoding (request_info info))))
 
 -- The first step refuses that isn't taken: to write what is signed, to sign it, to name the algorithm, to write the whole.
-abbrev pub RefusesToMake : Signs → PrivateKey → SignatureAlgorithm → CertificationRequestInfo → CsrError → Type 0
-RefusesToMake signs key algorithm info e =
+abbrev pub RefusesToMake : Judge → Signs → Pair → PrivateKey → SignatureAlgorithm → CertificationRequestInfo → CsrError → Type 0
+RefusesToMake judge signs pair key algorithm info e =
     InfoUnwritten info e
     ⊎ (IsInfoWritten info
     × (InfoUnsigned signs key algorithm info e
     ⊎ (IsInfoSigned signs key algorithm info
-    × (IsUnsigned (IsUnwritable algorithm) e ⊎ WholeUnwritten algorithm info e))))
+    × (IsUnsigned (IsUnwritable algorithm) e ⊎ WholeUnwritten judge pair key algorithm info e))))
 
 -- There is no public key, or what is asked for is refused.
-abbrev pub RefusesToGenerate : Signs → DirectoryName → PrivateKey → SignatureAlgorithm → List Attribute → CsrError → Type 0
-RefusesToGenerate signs subject key algorithm attributes e =
+abbrev pub RefusesToGenerate : Judge → Signs → Pair → DirectoryName → PrivateKey → SignatureAlgorithm → List Attribute → CsrError → Type 0
+RefusesToGenerate judge signs pair subject key algorithm attributes e =
     HasNoHalf key e
-    ⊎ ((info : CertificationRequestInfo) × IsInfoFor subject key attributes info × RefusesToMake signs key algorithm info e)
+    ⊎ ((info : CertificationRequestInfo) × IsInfoFor subject key attributes info × RefusesToMake judge signs pair key algorithm info e)

@@ -34,7 +34,7 @@ impl Csr {
     ) -> Result<Csr, CsrError>
         ensures answer { MatchResult result
             (IsGenerated (S.signs scheme.now) subject private_key.now signature_hash_type [])
-            (RefusesToGenerate (S.signs scheme.now) subject private_key.now signature_hash_type []) }
+            (RefusesToGenerate (S.judge scheme.now) (S.signs scheme.now) (S.pair scheme.now) subject private_key.now signature_hash_type []) }
         // It is accepted under a key that pairs with its public one.
         ensures verifies { IfOk result (λ csr. IsKeyPair (S.pair scheme.now) private_key.now csr.request.certification_request_info.subject_public_key_info
             → IsSelfSigned (S.judge scheme.now) csr) }
@@ -65,7 +65,7 @@ impl Csr {
     ) -> Result<Csr, CsrError>
         ensures answer { MatchResult result
             (IsGenerated (S.signs scheme.now) subject private_key.now signature_hash_type attributes)
-            (RefusesToGenerate (S.signs scheme.now) subject private_key.now signature_hash_type attributes) }
+            (RefusesToGenerate (S.judge scheme.now) (S.signs scheme.now) (S.pair scheme.now) subject private_key.now signature_hash_type attributes) }
         // It is accepted under a key that pairs with its public one.
         ensures verifies { IfOk result (λ csr. IsKeyPair (S.pair scheme.now) private_key.now csr.request.certification_request_info.subject_public_key_info
             → IsSelfSigned (S.judge scheme.now) csr) }
@@ -106,7 +106,7 @@ fn signed<S: Scheme>(
 ) -> Result<Csr, CsrError>
     ensures answer { MatchResult result
         (λ csr. IsMadeOf algorithm info csr × IsInfoSigned (S.signs scheme.now) private_key.now algorithm info)
-        (RefusesToMake (S.signs scheme.now) private_key.now algorithm info) }
+        (RefusesToMake (S.judge scheme.now) (S.signs scheme.now) (S.pair scheme.now) private_key.now algorithm info) }
     ensures verifies { IfOk result (λ csr. (key : SubjectPublicKeyInfo) → IsKeyPair (S.pair scheme.now) private_key.now key
         → Accepts (S.judge scheme.now) algorithm key (encoding csr.info) csr.request.signature.payload) }
 {
