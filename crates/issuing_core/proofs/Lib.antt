@@ -1,2 +1,8 @@
 pub mod ReadCsrs
 pub mod Generating
+pub mod TakenSteps
+pub mod WantedExtensions
+pub mod Subjects
+pub mod MadeCertificates
+pub mod BuiltCertificates
+pub mod IssuersGiven

@@ -2,4 +2,11 @@ pub mod KeptRequest
 pub mod CsrRefusals
 pub mod SelfSigned
 pub mod Generated
+pub mod IssuedUnder
+pub mod Steps
+pub mod Inherited
+pub mod MadeExtensions
+pub mod BuiltCertificate
+pub mod BuildRefusals
+pub mod Building
 pub mod Facts

@@ -17,6 +17,7 @@ ghost use Rattle.issuing_core.specs.KeptRequest.{HasInfo, kept_request, request_
 ghost use Rattle.x509_core.specs.declared.csr_error.CsrError.TheVariants as errors;
 ghost use Rattle.issuing_core.specs.Facts.Csrs.{HasInfo-prop};
 
+mod asking;
 mod causes;
 mod generating;
 mod verifying;

@@ -1,0 +1,182 @@
+-- Extensions that are wanted, in a row; those of a builder have different identifiers, and so they have with those that are added.
+use Rattle.std.proofs.Common.{◌≡◌, ◌≢◌, ◌⊎◌, ℕ, List, [], ◌∷◌, ◌++◌, Bool, true, false, ◌&&◌, ◌||◌, not, IsTrue, Option, Some, None, refl, sym, ap, subst, ◌∙◌, inl, inr, append_assoc}
+use Rattle.std.specs.Prelude.{if◌then◌else◌, option_to_list}
+use Rattle.std.specs.Str.{bytes_eq}
+use Rattle.std.proofs.lemmas.Bool.{and_parts, not-true}
+use Rattle.std.proofs.lemmas.Slice.Eq.{bytes_eq-Decides}
+use Rattle.asn1_types.specs.Values.{identifier_contents}
+use Rattle.asn1_types.specs.declared.oids.TheConstants.{CE_KEY_USAGE, CE_SUBJECT_ALT_NAME, CE_ISSUER_ALT_NAME, CE_BASIC_CONSTRAINTS, CE_EXT_KEY_USAGE}
+use Rattle.x501_types.specs.declared.general_name.RawGeneralName.{RawGeneralName}
+use Rattle.x509_types.specs.FirstOfValue.{NoneHas}
+use Rattle.x509_types.specs.declared.extension.Extension.{Extension}
+use Rattle.x509_types.specs.declared.extension_view.ExtensionView.{ExtensionView}
+use Rattle.x509_types.specs.declared.extension_view.ExtensionView.TheVariants as views
+use Rattle.x509_values.specs.declared.extended_key_usage.ExtendedKeyUsage.{ExtendedKeyUsage}
+use Rattle.x509_values.specs.declared.key_usage.KeyUsage.{KeyUsage}
+use Rattle.x509_core.specs.FirstValue.{HasFirst}
+use Rattle.issuing_core.specs.Inherited.{has_one, with_one, with_others, AreDistinct}
+use Rattle.issuing_core.specs.MadeExtensions.{Wanted, IsWanted, AreWanted, AreBuilt, HasUses, IsConstraints, constraints_of, inherited, where_given, wanted, wanted_keys, wanted_names, wanted_uses}
+use Rattle.issuing_core.specs.declared.builder.CertificateBuilder.{CertificateBuilder}
+use Rattle.issuing_core.specs.declared.builder.IssuerInfos.{IssuerInfos}
+
+pub wanted_both : (a b : List Wanted) (xs ys : List Extension) → AreWanted a xs → AreWanted b ys → AreWanted (a ++ b) (xs ++ ys)
+wanted_both [] b [] ys p q = q
+wanted_both [] b (x ∷ xs) ys p q = absurd p
+wanted_both (w ∷ a) b [] ys p q = absurd p
+wanted_both (w ∷ a) b (x ∷ xs) ys p q = (p.0, wanted_both a b xs ys p.1 q)
+
+-- ---- different identifiers
+
+differs : (a b : List ℕ) → bytes_eq a b ≡ false → a ≢ b
+differs a b fails same = let yes : true ≡ false = sym ((bytes_eq-Decides a b).1 same) ∙ fails in absurd cc
+
+or_parts : (a b : Bool) → (a || b) ≡ false → (a ≡ false) × (b ≡ false)
+or_parts true b e = let no : true ≡ false = e in absurd cc
+or_parts false b e = (refl, e)
+
+not_parts : (a : Bool) → not a ≡ true → a ≡ false
+not_parts true e = let no : false ≡ true = e in absurd cc
+not_parts false e = refl
+
+-- none of the wanted has this identifier, and no two have the same, as tests
+abbrev lack : List ℕ → List Wanted → Bool
+lack oid [] = true
+lack oid (w ∷ others) = not (bytes_eq w.oid oid) && lack oid others
+
+abbrev differ : List Wanted → Bool
+differ [] = true
+differ (w ∷ others) = lack w.oid others && differ others
+
+none_of : (oid : List ℕ) (ws : List Wanted) (es : List Extension) → AreWanted ws es → lack oid ws ≡ true → NoneHas oid es
+none_of oid [] [] are test = tt
+none_of oid [] (e ∷ es) are test = absurd are
+none_of oid (w ∷ ws) [] are test = absurd are
+none_of oid (w ∷ ws) (e ∷ es) are test =
+    let parts = and_parts _ _ test in
+    (subst (λ (id : List ℕ). id ≢ oid) (sym are.0.named) (differs w.oid oid (not_parts _ parts.0)), none_of oid ws es are.1 parts.1)
+
+distinct_of : (ws : List Wanted) (es : List Extension) → AreWanted ws es → differ ws ≡ true → AreDistinct es
+distinct_of [] [] are test = tt
+distinct_of [] (e ∷ es) are test = absurd are
+distinct_of (w ∷ ws) [] are test = absurd are
+distinct_of (w ∷ ws) (e ∷ es) are test =
+    let parts = and_parts _ _ test in
+    (subst (λ (id : List ℕ). NoneHas id es) (sym are.0.named) (none_of w.oid ws es are.1 parts.0), distinct_of ws es are.1 parts.1)
+
+-- those that a builder wants
+abbrev all_wanted : Bool → ExtensionView → Option KeyUsage → Option ExtendedKeyUsage → Option (List RawGeneralName) → Option (List RawGeneralName) → (own authority : List ℕ) → List Wanted
+all_wanted critical constraints uses purposes subject issuer own authority =
+    (record { oid = CE_BASIC_CONSTRAINTS.now; critical = critical; value = constraints }
+    ∷ (where_given CE_KEY_USAGE.now true views.KeyUsage uses ++ where_given CE_EXT_KEY_USAGE.now false views.ExtendedKeyUsage purposes))
+    ++ ((where_given CE_SUBJECT_ALT_NAME.now false views.SubjectAltName subject ++ where_given CE_ISSUER_ALT_NAME.now false views.IssuerAltName issuer) ++ wanted_keys own authority)
+
+all_differ : (critical : Bool) (constraints : ExtensionView) (uses : Option KeyUsage) (purposes : Option ExtendedKeyUsage) (subject issuer : Option (List RawGeneralName)) (own authority : List ℕ)
+    → differ (all_wanted critical constraints uses purposes subject issuer own authority) ≡ true
+all_differ critical constraints None None None None own authority = refl
+all_differ critical constraints None None None (Some i) own authority = refl
+all_differ critical constraints None None (Some s) None own authority = refl
+all_differ critical constraints None None (Some s) (Some i) own authority = refl
+all_differ critical constraints None (Some p) None None own authority = refl
+all_differ critical constraints None (Some p) None (Some i) own authority = refl
+all_differ critical constraints None (Some p) (Some s) None own authority = refl
+all_differ critical constraints None (Some p) (Some s) (Some i) own authority = refl
+all_differ critical constraints (Some u) None None None own authority = refl
+all_differ critical constraints (Some u) None None (Some i) own authority = refl
+all_differ critical constraints (Some u) None (Some s) None own authority = refl
+all_differ critical constraints (Some u) None (Some s) (Some i) own authority = refl
+all_differ critical constraints (Some u) (Some p) None None own authority = refl
+all_differ critical constraints (Some u) (Some p) None (Some i) own authority = refl
+all_differ critical constraints (Some u) (Some p) (Some s) None own authority = refl
+all_differ critical constraints (Some u) (Some p) (Some s) (Some i) own authority = refl
+
+made_distinct : (b : CertificateBuilder) (critical : Bool) (own authority : List ℕ) (made : List Extension) → AreWanted (wanted b critical own authority) made → AreDistinct made
+made_distinct b critical own authority made are =
+    distinct_of (wanted b critical own authority) made are
+    (all_differ critical (constraints_of b) b.key_usage b.extended_key_usage b.subject_alt_name b.issuer_alt_name own authority)
+
+-- ---- one more, and others
+
+none_with : (oid : List ℕ) (es : List Extension) (e : Extension) → NoneHas oid es → identifier_contents e.extn_id ≢ oid → NoneHas oid (es ++ e ∷ [])
+none_with oid [] e none other = (other, tt)
+none_with oid (x ∷ es) e none other = (none.0, none_with oid es e none.1 other)
+
+distinct_with : (es : List Extension) (e : Extension) → AreDistinct es → NoneHas (identifier_contents e.extn_id) es → AreDistinct (es ++ e ∷ [])
+distinct_with [] e distinct none = (tt, tt)
+distinct_with (x ∷ es) e distinct none =
+    (none_with (identifier_contents x.extn_id) es e distinct.0 (λ same. none.0 (sym same)), distinct_with es e distinct.1 none.1)
+
+none_has : (es : List Extension) (oid : List ℕ) → has_one es oid ≡ false → NoneHas oid es
+none_has [] oid test = tt
+none_has (e ∷ es) oid test =
+    let parts = or_parts _ _ test in
+    (differs (identifier_contents e.extn_id) oid parts.0, none_has es oid parts.1)
+
+distinct_or : (es : List Extension) (e : Extension) (t : Bool) → has_one es (identifier_contents e.extn_id) ≡ t → AreDistinct es → AreDistinct (if t then es else es ++ e ∷ [])
+distinct_or es e true test distinct = distinct
+distinct_or es e false test distinct = distinct_with es e distinct (none_has es (identifier_contents e.extn_id) test)
+
+distinct_others : (es others : List Extension) → AreDistinct es → AreDistinct (with_others es others)
+distinct_others es [] distinct = distinct
+distinct_others es (e ∷ others) distinct = distinct_others (with_one es e) others (distinct_or es e (has_one es (identifier_contents e.extn_id)) refl distinct)
+
+pub built_distinct : (b : CertificateBuilder) (issuer : IssuerInfos) (own authority : List ℕ) (es : List Extension) → AreBuilt b issuer own authority es → AreDistinct es
+built_distinct b issuer own authority es built =
+    subst AreDistinct (sym built.are)
+    (distinct_others built.made (inherited issuer.self_signed b.inherits b.subject_infos) (made_distinct b built.critical own authority built.made built.are_made))
+
+-- ---- the first stays
+
+abbrev BeginsWith : Extension → List Extension → Type 0
+BeginsWith first es = (others : List Extension) × (es ≡ first ∷ others)
+
+begins_or : (first : Extension) (es : List Extension) (e : Extension) (t : Bool) → BeginsWith first es → BeginsWith first (if t then es else es ++ e ∷ [])
+begins_or first es e true begins = begins
+begins_or first es e false begins = (begins.0 ++ e ∷ [], ap (λ (x : List Extension). x ++ e ∷ []) begins.1)
+
+begins_others : (first : Extension) (es others : List Extension) → BeginsWith first es → BeginsWith first (with_others es others)
+begins_others first es [] begins = begins
+begins_others first es (e ∷ others) begins = begins_others first (with_one es e) others (begins_or first es e (has_one es (identifier_contents e.extn_id)) begins)
+
+first_wanted : (w : Wanted) (ws : List Wanted) (es : List Extension) → AreWanted (w ∷ ws) es → (e : Extension) × IsWanted w e × BeginsWith e es
+first_wanted w ws [] are = absurd are
+first_wanted w ws (e ∷ es) are = (e, are.0, (es, refl))
+
+first_value : (oid : List ℕ) (value : ExtensionView) (e : Extension) (es : List Extension) → identifier_contents e.extn_id ≡ oid → e.extn_value ≡ value → BeginsWith e es → HasFirst oid es value
+first_value oid value e es named valued begins = record {
+  extension = e;
+  first = record { before = []; after = begins.0; are = begins.1; first = tt; named = named };
+  valued = valued;
+}
+
+pub built_constrained : (b : CertificateBuilder) (issuer : IssuerInfos) (own authority : List ℕ) (es : List Extension) → AreBuilt b issuer own authority es → HasFirst CE_BASIC_CONSTRAINTS.now es (constraints_of b)
+built_constrained b issuer own authority es built =
+    let first = first_wanted _ _ built.made built.are_made in
+    let begins = begins_others first.0 built.made (inherited issuer.self_signed b.inherits b.subject_infos) first.2 in
+    first_value CE_BASIC_CONSTRAINTS.now (constraints_of b) first.0 es first.1.named first.1.valued (subst (BeginsWith first.0) (sym built.are) begins)
+
+-- ---- put together
+
+pub has_uses : (b : CertificateBuilder) (e : Extension) (usage purposes : Option Extension) (one two three : List Extension) → IsConstraints b e → one ≡ e ∷ []
+    → AreWanted (where_given CE_KEY_USAGE.now true views.KeyUsage b.key_usage) (option_to_list usage) → two ≡ one ++ option_to_list usage
+    → AreWanted (where_given CE_EXT_KEY_USAGE.now false views.ExtendedKeyUsage b.extended_key_usage) (option_to_list purposes) → three ≡ two ++ option_to_list purposes → HasUses b three
+has_uses b e usage purposes one two three is first used second purposed third =
+    let all : three ≡ ((e ∷ []) ++ option_to_list usage) ++ option_to_list purposes =
+    third ∙ ap (λ (x : List Extension). x ++ option_to_list purposes) (second ∙ ap (λ (x : List Extension). x ++ option_to_list usage) first) in
+    subst (HasUses b) (sym all) (record {
+      critical = e.critical;
+      flagged = is.flagged;
+      are = (record { named = is.named; flagged = refl; valued = is.valued }, wanted_both _ _ (option_to_list usage) (option_to_list purposes) used purposed);
+    })
+
+pub all_built : (b : CertificateBuilder) (issuer : IssuerInfos) (own lent authority : List ℕ) (one two three all names keys others : List Extension) → HasUses b one
+    → AreWanted (wanted_names b) names → two ≡ one ++ names → AreWanted (wanted_keys own lent) keys → three ≡ two ++ keys → lent ≡ authority
+    → others ≡ inherited issuer.self_signed b.inherits b.subject_infos → all ≡ with_others three others → AreBuilt b issuer own authority all
+all_built b issuer own lent authority one two three all names keys others uses named second keyed third same inherit last = record {
+  critical = uses.critical;
+  flagged = uses.flagged;
+  made = one ++ (names ++ keys);
+  are_made = wanted_both (wanted_uses b uses.critical) (wanted_names b ++ wanted_keys own authority) one (names ++ keys) uses.are
+      (wanted_both (wanted_names b) (wanted_keys own authority) names keys named (subst (λ (a : List ℕ). AreWanted (wanted_keys own a) keys) same keyed));
+  are = last ∙ ap (with_others three) inherit
+      ∙ ap (λ (es : List Extension). with_others es (inherited issuer.self_signed b.inherits b.subject_infos)) (third ∙ ap (λ (x : List Extension). x ++ keys) second ∙ append_assoc one names keys);
+}

@@ -1,0 +1,50 @@
+-- What is told of a certificate that isn't built, by what refuses the step.
+use Rattle.std.specs.Prelude.{◌≡◌}
+use Rattle.der_core.specs.declared.error.DerError.{DerError}
+use Rattle.der_core.specs.declared.error.DerError.TheVariants as der
+use Rattle.key_core.specs.declared.element.Element.TheVariants as elements
+use Rattle.key_core.specs.declared.error.KeyError.{KeyError}
+use Rattle.key_core.specs.declared.error.KeyError.TheVariants as key
+use Rattle.key_core.specs.declared.key_id.KeyIdGenError.{KeyIdGenError}
+use Rattle.key_core.specs.declared.key_id.KeyIdGenError.TheVariants as key_id
+use Rattle.key_core.specs.declared.signature_error.SignatureError.{SignatureError}
+use Rattle.key_core.specs.declared.signature_error.SignatureError.TheVariants as signature
+use Rattle.x509_core.specs.declared.csr_error.CsrError.{CsrError}
+use Rattle.x509_core.specs.declared.csr_error.CsrError.TheVariants as csr
+use Rattle.x509_core.specs.declared.error.CertCause.TheVariants as causes
+use Rattle.x509_core.specs.declared.error.CertError.{CertError}
+use Rattle.x509_core.specs.declared.error.CertError.TheVariants as errors
+
+-- Want of memory is told as such, any other cause by what is made: the public half of a private key,
+abbrev pub no_half : KeyError → CertError
+no_half key.Memory = errors.Memory
+no_half source = errors.PrivateKeyToPublicKey source
+
+-- the verdict on a request,
+abbrev pub no_request : CsrError → CertError
+no_request csr.Memory = errors.Memory
+no_request source = errors.InvalidCsr source
+
+-- the identifier of a key,
+abbrev pub no_key_id : KeyIdGenError → CertError
+no_key_id key_id.Memory = errors.Memory
+no_key_id source = errors.CertGeneration (causes.KeyIdGen source)
+
+-- the identifier of the algorithm,
+abbrev pub no_algorithm : SignatureError → CertError
+no_algorithm signature.Memory = errors.Memory
+no_algorithm source = errors.Signature source
+
+-- what is signed,
+abbrev pub no_octets : DerError → CertError
+no_octets der.Memory = errors.Memory
+no_octets source = errors.CertGeneration (causes.Asn1Serialization elements.TbsCertificate source)
+
+-- the signature.
+abbrev pub no_signature : SignatureError → CertError
+no_signature signature.Memory = errors.Memory
+no_signature source = errors.CertGeneration (causes.Signature source)
+
+-- The error tells of a cause that refuses the step.
+abbrev pub Tells : {E : Type 0} → (E → CertError) → (E → Type 0) → CertError → Type 0
+Tells {E} told Refuses e = (source : E) × (e ≡ told source) × Refuses source

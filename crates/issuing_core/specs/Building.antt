@@ -1,0 +1,158 @@
+-- When a certificate is built, and why it isn't: the steps in their order.
+use Rattle.std.specs.Prelude.{◌≡◌, ⊤, ℕ, Bool, true, false, List, [], ◌∷◌, ◌++◌, Option, Some, None, IsSome}
+use Rattle.der_core.specs.DerElement.{DerElement}
+use Rattle.der_core.specs.Encoding.{encoding, IsDer}
+use Rattle.der_core.specs.Placed.{AreDer}
+use Rattle.der_core.specs.Refusals.{RefusesInner}
+use Rattle.key_types.specs.declared.algorithm.AlgorithmIdentifier.{AlgorithmIdentifier}
+use Rattle.key_types.specs.declared.key_info.SubjectPublicKeyInfo.{SubjectPublicKeyInfo}
+use Rattle.key_core.specs.KeyIdentifier.{RefusesKeyIdentifier}
+use Rattle.key_core.specs.PublicHalf.{RefusesPublicHalf}
+use Rattle.key_core.specs.SignatureAlgorithm.{IsWrittenAlgorithm, IsUnwritable}
+use Rattle.key_core.specs.SignatureRules.{RefusesBy}
+use Rattle.key_core.specs.Signing.{Signs, Pair, IsAsked, IsKeyPair, sign_rules}
+use Rattle.key_core.specs.Verifying.{Judge, Accepts}
+use Rattle.key_core.specs.declared.element.Element.TheVariants as elements
+use Rattle.key_core.specs.declared.private_key.PrivateKey.{PrivateKey}
+use Rattle.key_core.specs.declared.signature_algorithm.SignatureAlgorithm.{SignatureAlgorithm}
+use Rattle.x509_types.specs.Certificate.{certificate}
+use Rattle.x509_types.specs.CertificateElements.{certificate_of}
+use Rattle.x509_types.specs.TbsCertificate.{tbs_certificate, inner_tbs}
+use Rattle.x509_types.specs.declared.certificate.Certificate.{Certificate}
+use Rattle.x509_types.specs.declared.tbs_certificate.TbsCertificate.{TbsCertificate}
+use Rattle.x509_core.specs.CertRefusals.{IsUnwritten}
+use Rattle.x509_core.specs.KeptCertificate.{KeptCertificate, written_elements}
+use Rattle.x509_core.specs.declared.error.Arg.{Arg}
+use Rattle.x509_core.specs.declared.error.Arg.TheVariants as arguments
+use Rattle.x509_core.specs.declared.error.CertError.{CertError}
+use Rattle.x509_core.specs.declared.error.CertError.TheVariants as errors
+use Rattle.issuing_core.specs.BuildRefusals.{no_half, no_request, no_key_id, no_algorithm, no_octets, no_signature, Tells}
+use Rattle.issuing_core.specs.BuiltCertificate.{IsHalfOf, Name, IsSubject, IsIssuedTo, IsTbsFor}
+use Rattle.issuing_core.specs.CsrRefusals.{IsUnsigned}
+use Rattle.issuing_core.specs.KeptRequest.{KeptRequest}
+use Rattle.issuing_core.specs.SelfSigned.{IsSelfSigned, RefusesSelfSigned}
+use Rattle.issuing_core.specs.Steps.{Step}
+use Rattle.issuing_core.specs.declared.builder.CertificateBuilder.{CertificateBuilder}
+use Rattle.issuing_core.specs.declared.builder.IssuerInfos.{IssuerInfos}
+use Rattle.issuing_core.specs.declared.builder.SubjectInfos.{SubjectInfos}
+use Rattle.issuing_core.specs.declared.builder.SubjectInfos.TheVariants as subjects
+
+-- the octets that are signed (RFC 5280 4.1.1.3)
+abbrev pub message_of : TbsCertificate → List ℕ
+message_of tbs = encoding (tbs_certificate tbs)
+
+-- The certificate is one of these, its algorithm stands beside what is signed as within it, and the signature has no unused bits and is
+-- accepted under each public key that pairs with the private one.
+pub record IsSignedCertificate (judge : Judge) (pair : Pair) (algorithm : SignatureAlgorithm) (key : PrivateKey) (IsTbs : TbsCertificate → Type 0) (c : Certificate) : Type 0 where
+  pub tbs : IsTbs c.tbs_certificate
+  pub beside : c.signature_algorithm ≡ c.tbs_certificate.signature
+  pub unused : c.signature_value.unused ≡ 0
+  pub accepted : (public : SubjectPublicKeyInfo) → IsKeyPair pair key public → Accepts judge algorithm public (message_of c.tbs_certificate) c.signature_value.payload
+
+-- The scheme signs what is signed of a certificate.
+abbrev pub IsTbsSigned : Signs → SignatureAlgorithm → PrivateKey → TbsCertificate → Type 0
+IsTbsSigned signs algorithm key tbs = IsAsked signs algorithm key (message_of tbs) true
+
+-- The certificate is one of these, signed by the key, and kept with the element that is written for it.
+pub record IsMade (judge : Judge) (signs : Signs) (pair : Pair) (algorithm : SignatureAlgorithm) (key : PrivateKey) (IsTbs : TbsCertificate → Type 0) (cert : KeptCertificate) : Type 0 where
+  pub signed : IsTbsSigned signs algorithm key cert.certificate.tbs_certificate
+  pub made : IsSignedCertificate judge pair algorithm key IsTbs cert.certificate
+  pub written : certificate_of cert.elements ≡ certificate cert.certificate
+
+-- The certificate is the one that the builder asks for, and the issuer signs it.
+pub record IsBuilt (judge : Judge) (signs : Signs) (pair : Pair) (b : CertificateBuilder) (word : ℕ) (cert : KeptCertificate) : Type 0 where
+  pub issuer : IssuerInfos
+  pub given : b.issuer_infos ≡ Some issuer
+  pub made : IsMade judge signs pair b.signature_hash_type issuer.key.now (IsTbsFor judge b issuer word) cert
+
+-- ---- steps
+
+-- what is needed is given, else it is told by its name
+abbrev pub given_step : {X : Type 0} → Arg → Option X → Step
+given_step {X} argument option = record {
+  taken = IsSome option;
+  refused = λ e. (option ≡ None) × (e ≡ errors.MissingBuilderArgument argument);
+}
+
+-- the private key of the issuer has a public half
+abbrev pub half_step : PrivateKey → Step
+half_step key = record {
+  taken = (info : SubjectPublicKeyInfo) × IsHalfOf key info;
+  refused = Tells no_half (RefusesPublicHalf key.info.private_key key.public_key);
+}
+
+-- where there is a request, it is signed by its own key
+abbrev pub request_step : Judge → Option SubjectInfos → Step
+request_step judge subject = record {
+  taken = (csr : KeptRequest) → subject ≡ Some (subjects.Request csr) → IsSelfSigned judge csr;
+  refused = λ e. (csr : KeptRequest) × (subject ≡ Some (subjects.Request csr)) × Tells no_request (IsUnsigned (RefusesSelfSigned judge csr)) e;
+}
+
+-- where the subject isn't the issuer: the key of the issuer is identified, the subject is given, and its request is signed
+abbrev pub other_steps : Judge → CertificateBuilder → List Step
+other_steps judge b =
+    given_step arguments.AuthorityKeyIdentifier b.authority_key_identifier ∷ given_step arguments.SubjectInfos b.subject_infos ∷ request_step judge b.subject_infos ∷ []
+
+-- who the subject is: the issuer itself, whose key has a public half, or another
+abbrev pub subject_steps : Judge → (self_signed : Bool) → CertificateBuilder → IssuerInfos → List Step
+subject_steps judge true b issuer = half_step issuer.key.now ∷ []
+subject_steps judge false b issuer = other_steps judge b
+
+-- The key of the subject is identified. Where the issuer is the subject, so is the issuer's.
+abbrev pub identifier_step : Judge → CertificateBuilder → IssuerInfos → Step
+identifier_step judge b issuer = record {
+  taken = (name : Name) × (key : SubjectPublicKeyInfo) × (own : List ℕ) × IsIssuedTo judge b issuer own name key;
+  refused = λ e. (name : Name) × (key : SubjectPublicKeyInfo) × IsSubject judge b issuer name key × Tells no_key_id (RefusesKeyIdentifier b.key_id_gen_method key) e;
+}
+
+-- the algorithm has an identifier
+abbrev pub algorithm_step : CertificateBuilder → Step
+algorithm_step b = record {
+  taken = (id : AlgorithmIdentifier) × IsWrittenAlgorithm b.signature_hash_type id;
+  refused = Tells no_algorithm (IsUnwritable b.signature_hash_type);
+}
+
+-- all elements that are written for what is signed, those within strings first
+abbrev pub tbs_written : TbsCertificate → List DerElement
+tbs_written tbs = inner_tbs tbs ++ tbs_certificate tbs ∷ []
+
+module _ (judge : Judge) (signs : Signs) (pair : Pair) (algorithm : SignatureAlgorithm) (key : PrivateKey) (IsTbs : TbsCertificate → Type 0) where
+  -- what is signed can be written
+  abbrev pub octets_step : Step
+  octets_step = record {
+    taken = (tbs : TbsCertificate) × IsTbs tbs × IsDer (tbs_certificate tbs) × AreDer (inner_tbs tbs);
+    refused = λ e. (tbs : TbsCertificate) × IsTbs tbs × Tells no_octets (RefusesInner (tbs_written tbs)) e;
+  }
+
+  -- the key signs it
+  abbrev pub signature_step : Step
+  signature_step = record {
+    taken = (tbs : TbsCertificate) × IsTbs tbs × IsTbsSigned signs algorithm key tbs;
+    refused = λ e. (tbs : TbsCertificate) × IsTbs tbs × Tells no_signature (RefusesBy (sign_rules signs algorithm key (message_of tbs))) e;
+  }
+
+  -- the whole can be written
+  abbrev pub whole_step : Step
+  whole_step = record {
+    taken = (cert : KeptCertificate) × IsMade judge signs pair algorithm key IsTbs cert;
+    refused = λ e. (c : Certificate) × IsSignedCertificate judge pair algorithm key IsTbs c × IsUnwritten elements.Certificate (RefusesInner (written_elements c)) e;
+  }
+
+  -- the steps that make a certificate of what is signed
+  abbrev pub signing_steps : List Step
+  signing_steps = octets_step ∷ signature_step ∷ whole_step ∷ []
+
+abbrev pub steps_by : Judge → Signs → Pair → CertificateBuilder → ℕ → Option IssuerInfos → List Step
+steps_by judge signs pair b word None = []
+steps_by judge signs pair b word (Some issuer) =
+    subject_steps judge issuer.self_signed b issuer
+    ++ identifier_step judge b issuer ∷ algorithm_step b ∷ signing_steps judge signs pair b.signature_hash_type issuer.key.now (IsTbsFor judge b issuer word)
+
+-- the times and the issuer are given
+abbrev pub given_steps : CertificateBuilder → List Step
+given_steps b =
+    given_step arguments.ValidFrom b.valid_from ∷ given_step arguments.ValidTo b.valid_to ∷ given_step arguments.IssuerInfos b.issuer_infos ∷ []
+
+-- The steps of a building, in their order.
+abbrev pub build_steps : Judge → Signs → Pair → CertificateBuilder → ℕ → List Step
+build_steps judge signs pair b word = given_steps b ++ steps_by judge signs pair b word b.issuer_infos

@@ -1,0 +1,141 @@
+//! Whom the certificate is for.
+
+ghost use Rattle.std.specs.Prelude.{◌≡◌, ◌⊎◌, [], ◌∷◌, ◌++◌, IfOk, IsSome, MatchResult};
+ghost use Rattle.issuing_core.specs.BuildRefusals.{Tells, no_request as request_refusal};
+ghost use Rattle.issuing_core.specs.BuiltCertificate.{IsGivenSubject, IsHalfOf, IsIssuedTo, IsSubject};
+ghost use Rattle.issuing_core.specs.Building.{half_step, identifier_step, other_steps, subject_steps};
+ghost use Rattle.issuing_core.specs.CsrRefusals.{IsUnsigned};
+ghost use Rattle.issuing_core.specs.SelfSigned.{IsSelfSigned, RefusesSelfSigned};
+ghost use Rattle.issuing_core.specs.Steps.{RefusesBySteps};
+ghost use Rattle.x509_core.specs.declared.error.CertError.TheVariants as errors;
+
+use super::refusing::{missing, no_half, no_key_id, no_request};
+use super::{CertificateBuilder, IssuerInfos, SubjectInfos};
+use crate::csr::Csr;
+use key_core::PublicKey;
+use names_core::DirectoryName;
+use sig_core::Scheme;
+use std::alloc::{AllocError, Global};
+use x509_core::{Arg, CertError};
+
+/// Whom the certificate is for: a name, a key, and how the key is identified.
+#[derive(Drop)]
+pub(super) struct Subject {
+    pub(super) name: DirectoryName,
+    pub(super) key: PublicKey,
+    pub(super) own: Vec<u8>,
+}
+
+impl CertificateBuilder<'_> {
+    /// The subject, its key identified.
+    pub(super) fn identified<S: Scheme>(
+        &self,
+        alloc: Global,
+        issuer: &IssuerInfos<'_>,
+        scheme: &S,
+    ) -> Result<Subject, CertError>
+        ensures { MatchResult result
+            (λ subject. IsIssuedTo (S.judge scheme.now) self.now issuer.now subject.own.items subject.name.name subject.key.info)
+            (RefusesBySteps (subject_steps (S.judge scheme.now) issuer.now.self_signed self.now issuer.now ++ identifier_step (S.judge scheme.now) self.now issuer.now ∷ [])) }
+    {
+        let (name, key) = self.subject_of(alloc, issuer, scheme)?;
+        match self.key_id_gen_method.generate_from(alloc, &key) {
+            Ok(own) => Ok(Subject { name, key, own }),
+            Err(source) => Err(no_key_id(source)),
+        }
+    }
+
+    /// The name and the key of the subject.
+    fn subject_of<S: Scheme>(
+        &self,
+        alloc: Global,
+        issuer: &IssuerInfos<'_>,
+        scheme: &S,
+    ) -> Result<(DirectoryName, PublicKey), CertError>
+        ensures { MatchResult result
+            (λ subject. IsSubject (S.judge scheme.now) self.now issuer.now subject.0.name subject.1.info)
+            (RefusesBySteps (subject_steps (S.judge scheme.now) issuer.now.self_signed self.now issuer.now)) }
+    {
+        if issuer.self_signed {
+            own_subject(alloc, issuer)
+        } else {
+            self.other_subject(alloc, scheme)
+        }
+    }
+
+    /// The name and the key of a subject that isn't the issuer, whose key is identified.
+    fn other_subject<S: Scheme>(
+        &self,
+        alloc: Global,
+        scheme: &S,
+    ) -> Result<(DirectoryName, PublicKey), CertError>
+        ensures { MatchResult result
+            (λ subject. IsSome self.now.authority_key_identifier × IsGivenSubject (S.judge scheme.now) self.now.subject_infos subject.0.name subject.1.info)
+            (RefusesBySteps (other_steps (S.judge scheme.now) self.now)) }
+    {
+        if self.authority_key_identifier.is_none() {
+            return Err(missing(Arg::AuthorityKeyIdentifier));
+        }
+        match &self.subject_infos {
+            Some(SubjectInfos::Named(name, key)) => Ok(copied(alloc, name, key)?),
+            Some(SubjectInfos::Request(csr)) => requested(alloc, csr, scheme),
+            None => Err(missing(Arg::SubjectInfos)),
+        }
+    }
+}
+
+/// The name of the issuer, and the public half of its key.
+fn own_subject(
+    alloc: Global,
+    issuer: &IssuerInfos<'_>,
+) -> Result<(DirectoryName, PublicKey), CertError>
+    ensures { MatchResult result
+        (λ subject. (subject.0.name ≡ issuer.now.name.name) × IsHalfOf issuer.now.key.now subject.1.info)
+        (RefusesBySteps (half_step issuer.now.key.now ∷ [])) }
+{
+    let name = issuer.name.try_clone(alloc)?;
+    match issuer.key.to_public_key(alloc) {
+        Ok(key) => Ok((name, key)),
+        Err(source) => Err(no_half(source)),
+    }
+}
+
+/// Copies of both.
+fn copied(
+    alloc: Global,
+    name: &DirectoryName,
+    key: &PublicKey,
+) -> Result<(DirectoryName, PublicKey), AllocError>
+    ensures { IfOk result (λ copies. (copies.0 ≡ name.now) × (copies.1 ≡ key.now)) }
+{
+    let name = name.try_clone(alloc)?;
+    Ok((name, key.try_clone(alloc)?))
+}
+
+/// The name and the key of a request that its own key signs.
+fn requested<S: Scheme>(
+    alloc: Global,
+    csr: &Csr,
+    scheme: &S,
+) -> Result<(DirectoryName, PublicKey), CertError>
+    ensures { MatchResult result
+        (λ subject. IsSelfSigned (S.judge scheme.now) csr.now
+        × (subject.0.name ≡ csr.now.request.certification_request_info.subject)
+        × (subject.1.info ≡ csr.now.request.certification_request_info.subject_public_key_info))
+        (λ e. Tells request_refusal (IsUnsigned (RefusesSelfSigned (S.judge scheme.now) csr.now)) e ⊎ (e ≡ errors.Memory)) }
+{
+    match csr.verify(alloc, scheme) {
+        Ok(()) => Ok(asked(alloc, csr)?),
+        Err(source) => Err(no_request(source)),
+    }
+}
+
+/// The name and the key of a request.
+fn asked(alloc: Global, csr: &Csr) -> Result<(DirectoryName, PublicKey), AllocError>
+    ensures { IfOk result (λ subject.
+        (subject.0.name ≡ csr.now.request.certification_request_info.subject)
+        × (subject.1.info ≡ csr.now.request.certification_request_info.subject_public_key_info)) }
+{
+    let name = csr.subject_name(alloc)?;
+    Ok((name, csr.public_key().try_clone(alloc)?))
+}
