@@ -55,15 +55,43 @@ fn what_is_missing_is_named(rt: HostRuntime) -> Result<(), Fail> {
     let alloc = rt.alloc();
     let (key, demo) = (key(alloc)?, DemoScheme::new());
     let empty = CertificateBuilder::new(alloc);
-    assert!(rt; is_told(alloc, empty, &demo, "missing required builder argument `valid_from`")?);
+    assert!(rt;
+        is_told(
+            alloc,
+            empty,
+            &demo,
+            "missing required builder argument `valid_from`"
+        )?
+    );
     let dated = builder(alloc)?;
-    assert!(rt; is_told(alloc, dated, &demo, "missing required builder argument `issuer_infos`")?);
+    assert!(rt;
+        is_told(
+            alloc,
+            dated,
+            &demo,
+            "missing required builder argument `issuer_infos`"
+        )?
+    );
     let issued = builder(alloc)?.issuer(named(alloc)?, &key);
-    assert!(rt; is_told(alloc, issued, &demo, "missing required builder argument `authority_key_identifier`")?);
+    assert!(rt;
+        is_told(
+            alloc,
+            issued,
+            &demo,
+            "missing required builder argument `authority_key_identifier`"
+        )?
+    );
     let identified = builder(alloc)?
         .issuer(named(alloc)?, &key)
         .authority_key_identifier(Octets::from_slice(alloc, &[1])?);
-    assert!(rt; is_told(alloc, identified, &demo, "missing required builder argument `subject_infos`")?);
+    assert!(rt;
+        is_told(
+            alloc,
+            identified,
+            &demo,
+            "missing required builder argument `subject_infos`"
+        )?
+    );
     Ok(())
 }
 
@@ -74,14 +102,35 @@ fn what_refuses_is_told(rt: HostRuntime) -> Result<(), Fail> {
     let leftmost = builder(alloc)?
         .self_signed(named(alloc)?, &key)
         .key_id_gen_method(KeyIdGenMethod::SPKValueHashedLeftmost160(HashAlgorithm::MD5));
-    assert!(rt; is_told(alloc, leftmost, &demo, "couldn't generate certificate: key id generation error: invalid key: unsupported algorithm: RSA")?);
+    assert!(rt;
+        is_told(
+            alloc,
+            leftmost,
+            &demo,
+            "couldn't generate certificate: key id generation error: invalid key: unsupported algorithm: RSA"
+        )?
+    );
     let unnamed = builder(alloc)?
         .self_signed(named(alloc)?, &key)
         .signature_hash_type(SignatureAlgorithm::Ecdsa(HashAlgorithm::SHA1));
-    assert!(rt; is_told(alloc, unnamed, &demo, "signature error: EC error: the digest algorithm isn't supported")?);
+    assert!(rt;
+        is_told(
+            alloc,
+            unnamed,
+            &demo,
+            "signature error: EC error: the digest algorithm isn't supported"
+        )?
+    );
     let table = VerdictTable::parse(alloc, &[])?;
     let unsigned = builder(alloc)?.self_signed(named(alloc)?, &key);
-    assert!(rt; is_told(alloc, unsigned, &table, "couldn't generate certificate: signature error: RSA error: the signature scheme refused")?);
+    assert!(rt;
+        is_told(
+            alloc,
+            unsigned,
+            &table,
+            "couldn't generate certificate: signature error: RSA error: the signature scheme refused"
+        )?
+    );
     Ok(())
 }
 
