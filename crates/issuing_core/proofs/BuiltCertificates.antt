@@ -1,28 +1,39 @@
 -- Certificates that are built, and the steps to them.
 use Rattle.std.proofs.Common.{◌≡◌, ◌⊎◌, ℕ, List, [], ◌∷◌, ◌++◌, Bool, true, Option, Some, None, Result, Ok, Err, IfOk, MatchResult, refl, sym, ap, subst, ◌∙◌, inl, inr}
 use Rattle.std.specs.Prelude.{IsSome}
+use Rattle.der_core.specs.DerElement.{Primitive}
+use Rattle.der_core.specs.Encoding.{encoding}
+use Rattle.asn1_types.specs.Elements.{bit_string}
+use Rattle.asn1_types.specs.declared.bit_string.BitString.{BitString}
 use Rattle.asn1_types.specs.declared.generalized_time.GeneralizedTime.{GeneralizedTime}
 use Rattle.asn1_types.specs.declared.oids.TheConstants.{CE_BASIC_CONSTRAINTS}
+use Rattle.key_types.specs.AlgorithmIdentifier.{algorithm_identifier}
 use Rattle.key_types.specs.declared.key_info.SubjectPublicKeyInfo.{SubjectPublicKeyInfo}
-use Rattle.key_core.specs.Signing.{Signs, Pair}
+use Rattle.key_core.specs.SignatureAlgorithm.{NamesSignature}
+use Rattle.key_core.specs.Signing.{Signs, Pair, IsKeyPair}
 use Rattle.key_core.specs.Verifying.{Judge}
+use Rattle.x509_types.specs.Facts.Certificates.{same_three}
 use Rattle.x509_types.specs.FirstOfValue.{extensions_in}
+use Rattle.x509_types.specs.TbsCertificate.{tbs_certificate}
+use Rattle.x509_types.specs.TbsElements.{tbs_of}
 use Rattle.x509_types.specs.declared.extension.Extension.{Extension}
 use Rattle.x509_types.specs.declared.tbs_certificate.TbsCertificate.{TbsCertificate}
 use Rattle.x509_core.specs.FirstValue.{HasFirst}
 use Rattle.x509_core.specs.KeptCertificate.{KeptCertificate}
+use Rattle.x509_core.specs.Link.{IsSignedBy}
 use Rattle.x509_core.specs.declared.error.CertError.{CertError}
 use Rattle.asn1_types.specs.declared.integer.IntegerAsn1.{IntegerAsn1}
 use Rattle.key_types.specs.declared.algorithm.AlgorithmIdentifier.{AlgorithmIdentifier}
 use Rattle.x509_types.specs.declared.version.Version.TheVariants as versions
 use Rattle.x509_values.specs.declared.validity.Validity.{Validity}
 use Rattle.issuing_core.specs.BuiltCertificate.{authority_of, IsIssuedBy, IsIssuedTo, IsTbsBy, IsTbsFor, IsValidityOf, Name}
-use Rattle.issuing_core.specs.Building.{IsBuilt, IsMade, algorithm_step, build_steps, given_steps, identifier_step, signing_steps, steps_by, subject_steps}
+use Rattle.issuing_core.specs.Building.{IsBuilt, IsMade, algorithm_step, build_steps, given_steps, identifier_step, message_of, signing_steps, steps_by, subject_steps}
 use Rattle.issuing_core.specs.Inherited.{AreDistinct}
 use Rattle.issuing_core.specs.MadeExtensions.{AreBuilt, constraints_of}
 use Rattle.issuing_core.specs.Steps.{Step, IsFirstUntaken, AreTaken, RefusesBySteps}
 use Rattle.issuing_core.specs.declared.builder.CertificateBuilder.{CertificateBuilder}
 use Rattle.issuing_core.specs.declared.builder.IssuerInfos.{IssuerInfos}
+use Rattle.x509_core.proofs.SignedParts.{signed_by, signed_with}
 use Rattle.issuing_core.proofs.MadeCertificates.{made_or_refused}
 use Rattle.issuing_core.proofs.Subjects.{subject_taken}
 use Rattle.issuing_core.proofs.TakenSteps.{untaken_before, refused_behind, refused_within}
@@ -134,3 +145,31 @@ pub tbs_by : (b : CertificateBuilder) (issuer : IssuerInfos) (word : ℕ) (own :
 tbs_by b issuer word own serial algorithm by validity subject key extensions tbs is issued built =
     subst (λ (t : TbsCertificate). IsTbsBy b issuer word own t × (t.validity ≡ validity) × (t.subject ≡ subject) × (t.subject_public_key_info ≡ key)) (sym is)
     (record { version = refl; issued_by = issued; issuer_unique_id = refl; subject_unique_id = refl; extensions = extensions; given = refl; built = built }, refl, refl, refl)
+
+-- ---- links of chains
+
+one_issuer : (a b : IssuerInfos) → ◌≡◌ {A = Option IssuerInfos} (Some a) (Some b) → a ≡ b
+one_issuer a b e = cc
+
+same_payload : (unused : ℕ) (signature : List ℕ) (bits : BitString) → Primitive 0x03 (unused ∷ signature) ≡ bit_string bits → bits.payload ≡ signature
+same_payload unused signature bits e = cc
+
+signed_under : (judge : Judge) (signs : Signs) (pair : Pair) (b : CertificateBuilder) (word : ℕ) (cert parent : KeptCertificate) (is : IsBuilt judge signs pair b word cert)
+    → IsKeyPair pair is.issuer.key.now parent.certificate.tbs_certificate.subject_public_key_info → IsSignedBy judge parent.elements cert.elements
+signed_under judge signs pair b word cert parent is paired =
+    let c = cert.certificate in
+    let whole = is.made.made in
+    let info = parent.certificate.tbs_certificate.subject_public_key_info in
+    let same = same_three (tbs_of cert.elements.tbs) cert.elements.algorithm (Primitive 0x03 (cert.elements.unused ∷ cert.elements.signature)) (tbs_certificate c.tbs_certificate) (algorithm_identifier c.signature_algorithm) (bit_string c.signature_value) is.made.written in
+    signed_by judge parent cert b.signature_hash_type info (message_of c.tbs_certificate) c.signature_value.payload
+    (signed_with parent cert b.signature_hash_type info refl (subst (λ (id : AlgorithmIdentifier). NamesSignature id b.signature_hash_type) (sym whole.beside) whole.tbs.by.issued_by.signs.identifier))
+    (ap encoding (sym same.0)) (same_payload cert.elements.unused cert.elements.signature c.signature_value same.2) (whole.accepted info paired)
+
+pub signed_by_parents : (judge : Judge) (signs : Signs) (pair : Pair) (b : CertificateBuilder) (word : ℕ) (r : Result KeptCertificate CertError) (Refused : CertError → Type 0)
+    → MatchResult r (IsBuilt judge signs pair b word) Refused
+    → IfOk r (λ cert. (issuer : IssuerInfos) (parent : KeptCertificate) → b.issuer_infos ≡ Some issuer → IsKeyPair pair issuer.key.now parent.certificate.tbs_certificate.subject_public_key_info
+    → IsSignedBy judge parent.elements cert.elements)
+signed_by_parents judge signs pair b word (Ok cert) Refused is = λ issuer parent given paired.
+    signed_under judge signs pair b word cert parent is
+    (subst (λ (i : IssuerInfos). IsKeyPair pair i.key.now parent.certificate.tbs_certificate.subject_public_key_info) (one_issuer issuer is.issuer (sym given ∙ is.given)) paired)
+signed_by_parents judge signs pair b word (Err e) Refused is = tt

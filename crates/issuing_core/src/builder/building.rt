@@ -6,7 +6,11 @@ ghost use Rattle.asn1_types.specs.declared.oids.TheConstants.{CE_BASIC_CONSTRAIN
 ghost use Rattle.key_core.specs.SignatureAlgorithm.{IsWrittenAlgorithm, IsUnwritable};
 ghost use Rattle.x509_types.specs.FirstOfValue.{extensions_in};
 ghost use Rattle.x509_types.specs.declared.version.Version.TheVariants as versions;
+ghost use Rattle.key_core.specs.Signing.{IsKeyPair};
 ghost use Rattle.x509_core.specs.FirstValue.{HasFirst};
+ghost use Rattle.x509_core.specs.KeptCertificate.{KeptCertificate};
+ghost use Rattle.x509_core.specs.Link.{IsSignedBy};
+ghost use Rattle.issuing_core.specs.declared.builder.IssuerInfos.{IssuerInfos};
 ghost use Rattle.issuing_core.specs.BuildRefusals.{Tells, no_algorithm as algorithm_refusal};
 ghost use Rattle.issuing_core.specs.BuiltCertificate.{IsIssuedBy, IsTbsBy, IsValidityOf, serial_of};
 ghost use Rattle.issuing_core.specs.Building.{IsBuilt, algorithm_step, build_steps, given_steps};
@@ -48,6 +52,9 @@ impl<'a> CertificateBuilder<'a> {
         ensures answer { MatchResult result
             (IsBuilt (S.judge scheme.now) (S.signs scheme.now) (S.pair scheme.now) self.entry word)
             (RefusesBySteps (build_steps (S.judge scheme.now) (S.signs scheme.now) (S.pair scheme.now) self.entry word)) }
+        // Its signature is one by each certificate whose key pairs with the issuer's.
+        ensures linked { IfOk result (λ cert. (issuer : IssuerInfos) (parent : KeptCertificate) → self.entry.issuer_infos ≡ Some issuer
+            → IsKeyPair (S.pair scheme.now) issuer.key.now parent.certificate.tbs_certificate.subject_public_key_info → IsSignedBy (S.judge scheme.now) parent.elements cert.elements) }
         // No two extensions have one identifier, whatever a request asks for.
         ensures distinct { IfOk result (λ cert. AreDistinct (extensions_in cert.certificate.tbs_certificate.extensions)) }
         // The flag and the path length are the builder's, whatever a request asks for.

@@ -1,5 +1,9 @@
-use Rattle.issuing_core.proofs.BuiltCertificates.{all_distinct, constrained}
+use Rattle.issuing_core.proofs.BuiltCertificates.{all_distinct, constrained, signed_by_parents}
 use Rattle.issuing_core.proofs.builder.CertificateBuilder.build.Goals as goal
+
+pub returns-clause-linked : goal.returns-clause-linked
+returns-clause-linked g c =
+    signed_by_parents (g.S.Scheme.judge c.args.scheme.now) (g.S.Scheme.signs c.args.scheme.now) (g.S.Scheme.pair c.args.scheme.now) c.args.self c.args.word c.built.result _ c.built.ensures
 
 pub returns-clause-distinct : goal.returns-clause-distinct
 returns-clause-distinct g c =
