@@ -1,5 +1,5 @@
 -- Certificates that are built, and the steps to them.
-use Rattle.std.proofs.Common.{◌≡◌, ◌⊎◌, ℕ, List, [], ◌∷◌, ◌++◌, Bool, true, Option, Some, None, Result, Ok, Err, IfOk, MatchResult, refl, sym, ap, subst, ◌∙◌, inl, inr}
+use Rattle.std.proofs.Common.{◌≡◌, ℕ, List, [], ◌∷◌, ◌++◌, Option, Some, None, Result, Ok, Err, IfOk, MatchResult, refl, sym, ap, subst, ◌∙◌, inl}
 use Rattle.std.specs.Prelude.{IsSome}
 use Rattle.der_core.specs.DerElement.{Primitive}
 use Rattle.der_core.specs.Encoding.{encoding}
@@ -30,7 +30,7 @@ use Rattle.issuing_core.specs.BuiltCertificate.{authority_of, IsIssuedBy, IsIssu
 use Rattle.issuing_core.specs.Building.{IsBuilt, IsMade, algorithm_step, build_steps, given_steps, identifier_step, message_of, signing_steps, steps_by, subject_steps}
 use Rattle.issuing_core.specs.Inherited.{AreDistinct}
 use Rattle.issuing_core.specs.MadeExtensions.{AreBuilt, constraints_of}
-use Rattle.issuing_core.specs.Steps.{Step, IsFirstUntaken, AreTaken, RefusesBySteps}
+use Rattle.issuing_core.specs.Steps.{IsFirstUntaken, AreTaken, RefusesBySteps}
 use Rattle.issuing_core.specs.declared.builder.CertificateBuilder.{CertificateBuilder}
 use Rattle.issuing_core.specs.declared.builder.IssuerInfos.{IssuerInfos}
 use Rattle.x509_core.proofs.SignedParts.{signed_by, signed_with}

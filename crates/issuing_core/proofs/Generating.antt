@@ -1,5 +1,5 @@
 -- What is signed of a request and by what, step by step.
-use Rattle.std.proofs.Common.{◌≡◌, ◌⊎◌, ℕ, List, Result, Ok, Err, IfOk, MatchResult, refl, sym, ap, subst, ◌∙◌, inl, inr}
+use Rattle.std.proofs.Common.{◌≡◌, ◌⊎◌, ℕ, List, Result, Ok, Err, IfOk, MatchResult, sym, ap, subst, ◌∙◌, inl, inr}
 use Rattle.der_core.specs.DerElement.{DerElement}
 use Rattle.der_core.specs.Encoding.{encoding}
 use Rattle.der_core.specs.Refusals.{RefusesInner}

@@ -1,5 +1,5 @@
 -- Whom a certificate is for: which steps are taken where it is known.
-use Rattle.std.proofs.Common.{◌≡◌, ◌⊎◌, ℕ, List, [], ◌∷◌, ◌++◌, Bool, true, false, Option, Some, None, Result, Ok, Err, MatchResult, refl, sym, ap, subst, ◌∙◌, inl, inr}
+use Rattle.std.proofs.Common.{◌≡◌, ◌⊎◌, ℕ, List, [], ◌∷◌, Bool, true, false, Option, Some, None, Result, Ok, Err, MatchResult, refl, sym, subst, inl, inr}
 use Rattle.std.specs.Prelude.{IsSome}
 use Rattle.key_types.specs.declared.key_info.SubjectPublicKeyInfo.{SubjectPublicKeyInfo}
 use Rattle.key_core.specs.Verifying.{Judge}
@@ -8,7 +8,7 @@ use Rattle.names_core.specs.declared.name.DirectoryName.{DirectoryName}
 use Rattle.x509_core.specs.declared.error.CertError.{CertError}
 use Rattle.x509_core.specs.declared.error.CertError.TheVariants as errors
 use Rattle.issuing_core.specs.BuildRefusals.{no_request, Tells}
-use Rattle.issuing_core.specs.BuiltCertificate.{IsGivenSubject, IsHalfOf, IsSubject, IsSubjectBy, Name}
+use Rattle.issuing_core.specs.BuiltCertificate.{IsGivenSubject, IsHalfOf, IsSubjectBy, Name}
 use Rattle.issuing_core.specs.Building.{half_step, other_steps, subject_steps}
 use Rattle.issuing_core.specs.CsrRefusals.{IsUnsigned}
 use Rattle.issuing_core.specs.KeptRequest.{KeptRequest}

@@ -1,7 +1,6 @@
 -- Steps in a row: the first that can't be taken is that of the first part, or all of that part are taken.
-use Rattle.std.proofs.Common.{◌≡◌, ◌⊎◌, List, [], ◌∷◌, ◌++◌, inl, inr}
+use Rattle.std.proofs.Common.{List, [], ◌∷◌, ◌++◌, inl, inr}
 use Rattle.x509_core.specs.declared.error.CertError.{CertError}
-use Rattle.x509_core.specs.declared.error.CertError.TheVariants as errors
 use Rattle.issuing_core.specs.Steps.{Step, IsFirstUntaken, AreTaken, RefusesBySteps}
 
 pub untaken_before : (a b : List Step) (e : CertError) → IsFirstUntaken a e → IsFirstUntaken (a ++ b) e

@@ -1,5 +1,5 @@
 -- When a certificate is built, and why it isn't: the steps in their order.
-use Rattle.std.specs.Prelude.{◌≡◌, ⊤, ℕ, Bool, true, false, List, [], ◌∷◌, ◌++◌, Option, Some, None, IsSome}
+use Rattle.std.specs.Prelude.{◌≡◌, ℕ, Bool, true, false, List, [], ◌∷◌, ◌++◌, Option, Some, None, IsSome}
 use Rattle.der_core.specs.DerElement.{DerElement}
 use Rattle.der_core.specs.Encoding.{encoding, IsDer}
 use Rattle.der_core.specs.Placed.{AreDer}
@@ -24,7 +24,6 @@ use Rattle.x509_core.specs.CertRefusals.{IsUnwritten}
 use Rattle.x509_core.specs.KeptCertificate.{KeptCertificate, written_elements}
 use Rattle.x509_core.specs.declared.error.Arg.{Arg}
 use Rattle.x509_core.specs.declared.error.Arg.TheVariants as arguments
-use Rattle.x509_core.specs.declared.error.CertError.{CertError}
 use Rattle.x509_core.specs.declared.error.CertError.TheVariants as errors
 use Rattle.issuing_core.specs.BuildRefusals.{no_half, no_request, no_key_id, no_algorithm, no_octets, no_signature, Tells}
 use Rattle.issuing_core.specs.BuiltCertificate.{IsHalfOf, Name, IsSubject, IsIssuedTo, IsTbsFor}

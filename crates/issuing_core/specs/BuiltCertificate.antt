@@ -1,5 +1,5 @@
 -- The certificate that is built (RFC 5280 4.1), field by field.
-use Rattle.std.specs.Prelude.{◌≡◌, ◌+◌, ◌*◌, ◌==◌, if◌then◌else◌, ℕ, Bool, true, false, List, Option, Some, None}
+use Rattle.std.specs.Prelude.{◌≡◌, ◌==◌, if◌then◌else◌, ℕ, Bool, true, false, List, Option, Some, None}
 use Rattle.asn1_types.specs.Integer.{number_of, IsUnsignedInteger}
 use Rattle.asn1_types.specs.declared.generalized_time.GeneralizedTime.{GeneralizedTime}
 use Rattle.asn1_types.specs.declared.integer.IntegerAsn1.{IntegerAsn1}

@@ -1,5 +1,5 @@
 -- The extensions that a request asks for, and those of them that a certificate gets.
-use Rattle.std.specs.Prelude.{◌≡◌, ⊤, ℕ, Bool, if◌then◌else◌, bytes_eq, List, [], ◌∷◌, ◌++◌, Option, Some, None}
+use Rattle.std.specs.Prelude.{⊤, ℕ, Bool, if◌then◌else◌, bytes_eq, List, [], ◌∷◌, ◌++◌, Option, Some, None}
 use Rattle.std.specs.List.{list_any}
 use Rattle.asn1_types.specs.Values.{identifier_contents}
 use Rattle.x509_types.specs.FirstOfValue.{NoneHas}

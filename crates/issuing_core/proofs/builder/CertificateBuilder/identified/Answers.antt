@@ -1,4 +1,4 @@
-use Rattle.std.proofs.Common.{[], ◌∷◌, inl, inr}
+use Rattle.std.proofs.Common.{[], ◌∷◌, inl}
 use Rattle.std.proofs.lemmas.Result.{err_from_is_err_and}
 use Rattle.issuing_core.specs.Building.{identifier_step, subject_steps}
 use Rattle.issuing_core.proofs.Subjects.{subject_taken}
