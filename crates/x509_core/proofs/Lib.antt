@@ -18,3 +18,6 @@ pub mod Chains
 pub mod ChainSteps
 pub mod UnbrokenLinks
 pub mod Verdicts
+pub mod Walks
+pub mod OneLink
+pub mod OneChain
