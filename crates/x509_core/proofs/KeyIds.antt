@@ -18,7 +18,7 @@ same_contents a b e = cc
 begins_once : (x y : DerElement) (a b : List ℕ) → x ≡ y → BeginsWith IsKeyIdentifier x a → BeginsWith IsKeyIdentifier y b → a ≡ b
 begins_once x y a b same p q = same_contents a b (sym p.says ∙ first_kid p.kid q.kid p.kids q.kids (sym p.is ∙ same ∙ q.is) ∙ q.says)
 
-named_once : (f : CertificateElements) (a b : List ℕ) → HasAuthorityKey f a → HasAuthorityKey f b → a ≡ b
+pub named_once : (f : CertificateElements) (a b : List ℕ) → HasAuthorityKey f a → HasAuthorityKey f b → a ≡ b
 named_once f a b p q = begins_once p.0 q.0 a b (value_once f CE_AUTHORITY_KEY_IDENTIFIER.now p.0 q.0 p.1 q.1) p.2 q.2
 
 -- the same identifiers agree

@@ -16,3 +16,6 @@ pub mod Chains
 pub mod ChainSteps
 pub mod UnbrokenLinks
 pub mod Verdicts
+pub mod Walks
+pub mod OneLink
+pub mod OneChain

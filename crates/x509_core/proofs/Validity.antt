@@ -18,10 +18,10 @@ use Rattle.x509_core.specs.declared.error.CertCause.{CertCause}
 use Rattle.x509_core.specs.declared.error.CertCause.TheVariants as causes
 use Rattle.x509_core.specs.declared.window.Window.{Window}
 
-same_some : {A : Type 0} (x y : A) → Some x ≡ Some y → x ≡ y
+pub same_some : {A : Type 0} (x y : A) → Some x ≡ Some y → x ≡ y
 same_some x y e = cc
 
-one_moment : (element : Option DerElement) (a b : GeneralizedTime) → IsTimeAt element a → IsTimeAt element b → generalized_fields a ≡ generalized_fields b
+pub one_moment : (element : Option DerElement) (a b : GeneralizedTime) → IsTimeAt element a → IsTimeAt element b → generalized_fields a ≡ generalized_fields b
 one_moment element a b p q = p.at ∙ ap fields_of (times_once p.time q.time (same_some (time_element p.time) (time_element q.time) (sym p.is ∙ q.is))) ∙ sym q.at
 
 earlier_there : (a b c d : GeneralizedTime) → generalized_fields a ≡ generalized_fields c → generalized_fields b ≡ generalized_fields d → IsEarlier a b → IsEarlier c d

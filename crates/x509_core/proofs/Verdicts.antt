@@ -26,7 +26,7 @@ use Rattle.x509_core.proofs.UnbrokenLinks.{link_is_met}
 none_is_not : (parents : List KeptCertificate) → ◌≡◌ {A = Option (List KeptCertificate)} None (Some parents) → ⊥
 none_is_not parents e = cc
 
-same_list : (a b : List KeptCertificate) → ◌≡◌ {A = Option (List KeptCertificate)} (Some a) (Some b) → a ≡ b
+pub same_list : (a b : List KeptCertificate) → ◌≡◌ {A = Option (List KeptCertificate)} (Some a) (Some b) → a ≡ b
 same_list a b e = cc
 
 -- where an iterator is given, it gives a list
@@ -43,7 +43,7 @@ module _ (judge : Judge) (checks : ChainChecks) (checked : KeptCertificate) (giv
   abbrev Refuses : CertError → Type 0
   Refuses = RefusesBy (chain_rules judge checks checked given)
 
-  date_is_met : IsDated checks → IsMet (LacksDate checks)
+  pub date_is_met : IsDated checks → IsMet (LacksDate checks)
   date_is_met dated = λ e broken. dated broken.0 broken.1
 
   chain_is_met : (parents : List KeptCertificate) → given ≡ Some parents → IsMet (LacksChain checks given)
@@ -75,36 +75,70 @@ module _ (judge : Judge) (checks : ChainChecks) (checked : KeptCertificate) (giv
   unasked dated valid off = record { dated = dated; valid = valid; chained = λ asked. absurd (false≢true (sym off ∙ asked)) }
 
   module _ (dated : IsDated checks) (valid : IsWithinWindow checks.window checked.elements) (asked : IsTrue checks.chain) where
+    pub lacking_chain : given ≡ None → IsFirstBroken (chain_rules judge checks checked given) (errors.MissingBuilderArgument arguments.Chain)
+    lacking_chain none = inr (date_is_met dated, inr (window_is_met checks.window checked valid, inl (asked, none, refl)))
+
     pub no_chain : {S : Type 0} (steps : S → Option (Bor KeptCertificate) → S → Type 0) → Gives steps None given → Refuses (errors.MissingBuilderArgument arguments.Chain)
-    no_chain steps gives = inl (inr (date_is_met dated, inr (window_is_met checks.window checked valid, inl (asked, unlisted steps given gives, refl))))
+    no_chain steps gives = inl (lacking_chain (unlisted steps given gives))
+
+    -- where these parents are given
+    module _ (parents : List KeptCertificate) (is : given ≡ Some parents) where
+      pub unlinked_over : (e : CertError) → IsFirstUnlinked judge checks.window checked parents e → IsFirstBroken (chain_rules judge checks checked given) e
+      unlinked_over e first =
+          inr (
+            date_is_met dated,
+            inr (
+              window_is_met checks.window checked valid,
+              inr (chain_is_met parents is, inl (record { asked = asked; parents = parents; is = is; first = first })),
+            ),
+          )
+
+      module _ (linked : IsLinkedChain judge checks.window checked parents) where
+        path : IsRooted checks checked parents → IsAccepted judge checks checked given
+        path rooted = record { dated = dated; valid = valid; chained = λ _. record { parents = parents; is = is; linked = linked; rooted = rooted } }
+
+        rootless : (IsRooted checks checked parents → ⊥) → IsFirstBroken (chain_rules judge checks checked given) (errors.InvalidChain chain_errors.NoRoot)
+        rootless unrooted =
+            inr (
+              date_is_met dated,
+              inr (
+                window_is_met checks.window checked valid,
+                inr (
+                  chain_is_met parents is,
+                  inr (
+                    links_are_met parents is linked,
+                    inl (record {
+                      asked = asked;
+                      parents = parents;
+                      is = is;
+                      unrooted = unrooted;
+                      told = refl;
+                    }),
+                  ),
+                ),
+              ),
+            )
+
+        pub verdict_over : {X : Type 0} (last : CertType) (r : Result X CertError) → IsOfType (last_of checked parents).elements last
+            → MatchResult r (λ _. IsTrue checks.root → last ≡ types.Root) (λ e. IsTrue checks.root × (last ≢ types.Root) × (e ≡ errors.InvalidChain chain_errors.NoRoot))
+            → MatchResult r (λ _. IsAccepted judge checks checked given) (IsFirstBroken (chain_rules judge checks checked given))
+        verdict_over last (Ok v) is h = path (λ root. subst (IsOfType (last_of checked parents).elements) (h root) is)
+        verdict_over last (Err e) is h =
+            subst (IsFirstBroken (chain_rules judge checks checked given)) (sym h.2) (rootless (λ rooted. h.1 (one_type (last_of checked parents).elements last is (rooted h.0))))
 
     module _ {S : Type 0} (steps : S → Option (Bor KeptCertificate) → S → Type 0) (chain : S) (gives : Gives steps (Some chain) given) where
       unlinked_by : (e : CertError) (rest : S) (xs : List (Bor KeptCertificate)) → Yields steps chain xs rest → IsFirstUnlinked judge checks.window checked (map lent xs) e → Refuses e
       unlinked_by e rest xs ran first =
           let l = listed steps chain given gives in
           let front = gives_front steps lent chain rest xs l.0 l.2 ran in
-          inl (inr (
-            date_is_met dated,
-            inr (
-              window_is_met checks.window checked valid,
-              inr (
-                chain_is_met l.0 l.1,
-                inl (record {
-                  asked = asked;
-                  parents = l.0;
-                  is = l.1;
-                  first = record {
-                    before = first.before;
-                    parent = first.parent;
-                    after = first.after ++ front.0;
-                    are = front.1 ∙ ap (λ (zs : List KeptCertificate). zs ++ front.0) first.are ∙ assoc first.before (first.parent ∷ first.after) front.0;
-                    linked = first.linked;
-                    broken = first.broken;
-                  };
-                }),
-              ),
-            ),
-          ))
+          inl (unlinked_over l.0 l.1 e (record {
+            before = first.before;
+            parent = first.parent;
+            after = first.after ++ front.0;
+            are = front.1 ∙ ap (λ (zs : List KeptCertificate). zs ++ front.0) first.are ∙ assoc first.before (first.parent ∷ first.after) front.0;
+            linked = first.linked;
+            broken = first.broken;
+          }))
 
       pub refused_chain : (e : CertError) → (e ≡ errors.Memory) ⊎ ((xs : List (Bor KeptCertificate)) × (rest : S) × Yields steps chain xs rest × IsFirstUnlinked judge checks.window checked (map lent xs) e) → Refuses e
       refused_chain e (inl memory) = inr memory
@@ -114,33 +148,11 @@ module _ (judge : Judge) (checks : ChainChecks) (checked : KeptCertificate) (giv
         is_all : given ≡ Some (map lent xs)
         is_all = let l = listed steps chain given gives in l.1 ∙ ap Some (gives_all steps lent chain xs l.0 l.2 ran)
 
-        path : IsRooted checks checked (map lent xs) → IsAccepted judge checks checked given
-        path rooted = record { dated = dated; valid = valid; chained = λ _. record { parents = map lent xs; is = is_all; linked = linked; rooted = rooted } }
-
-        rootless : (IsRooted checks checked (map lent xs) → ⊥) → Refuses (errors.InvalidChain chain_errors.NoRoot)
-        rootless unrooted =
-            inl (inr (
-              date_is_met dated,
-              inr (
-                window_is_met checks.window checked valid,
-                inr (
-                  chain_is_met (map lent xs) is_all,
-                  inr (
-                    links_are_met (map lent xs) is_all linked,
-                    inl (record {
-                      asked = asked;
-                      parents = map lent xs;
-                      is = is_all;
-                      unrooted = unrooted;
-                      told = refl;
-                    }),
-                  ),
-                ),
-              ),
-            ))
+        told : {X : Type 0} (r : Result X CertError) → MatchResult r (λ _. IsAccepted judge checks checked given) (IsFirstBroken (chain_rules judge checks checked given)) → MatchResult r (λ _. IsAccepted judge checks checked given) Refuses
+        told (Ok v) accepted = accepted
+        told (Err e) broken = inl broken
 
         pub verdict : {X : Type 0} (last : CertType) (r : Result X CertError) → IsOfType (last_of checked (map lent xs)).elements last
             → MatchResult r (λ _. IsTrue checks.root → last ≡ types.Root) (λ e. IsTrue checks.root × (last ≢ types.Root) × (e ≡ errors.InvalidChain chain_errors.NoRoot))
             → MatchResult r (λ _. IsAccepted judge checks checked given) Refuses
-        verdict last (Ok v) is h = path (λ root. subst (IsOfType (last_of checked (map lent xs)).elements) (h root) is)
-        verdict last (Err e) is h = subst Refuses (sym h.2) (rootless (λ rooted. h.1 (one_type (last_of checked (map lent xs)).elements last is (rooted h.0))))
+        verdict last r is h = told r (verdict_over (map lent xs) is_all linked last r is h)

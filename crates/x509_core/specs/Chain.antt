@@ -1,7 +1,7 @@
 -- When certificates are a chain (RFC 5280 6.1), and what is answered where they aren't.
-use Rattle.std.specs.Prelude.{◌≡◌, ◌≢◌, ◌⊎◌, ⊤, ℕ, List, [], ◌∷◌, ◌++◌, length, Option, Some, None, IsTrue}
+use Rattle.std.specs.Prelude.{◌≡◌, ◌≢◌, ◌⊎◌, ⊤, ℕ, List, [], ◌∷◌, ◌++◌, map, length, Option, Some, None, IsSome, IsTrue}
 use Rattle.std.specs.Borrow.{Bor}
-use Rattle.std.specs.Iterator.{AlwaysYields}
+use Rattle.std.specs.Iterator.{AlwaysYields, Yields, Drains}
 use Rattle.key_core.specs.Verifying.{Judge}
 use Rattle.x509_core.specs.CertType.{IsOfType}
 use Rattle.x509_core.specs.KeptCertificate.{KeptCertificate}
@@ -10,7 +10,7 @@ use Rattle.x509_core.specs.Rules.{Rule, IsFirstBroken}
 use Rattle.x509_core.specs.Window.{IsWithinWindow}
 use Rattle.x509_core.specs.declared.cert_type.CertType.TheVariants as types
 use Rattle.x509_core.specs.declared.error.Arg.TheVariants as arguments
-use Rattle.x509_core.specs.declared.error.CaChainError.TheVariants as chain
+use Rattle.x509_core.specs.declared.error.CaChainError.TheVariants as chain_errors
 use Rattle.x509_core.specs.declared.error.CertError.{CertError}
 use Rattle.x509_core.specs.declared.error.CertError.TheVariants as errors
 use Rattle.x509_core.specs.declared.validator.ChainChecks.{ChainChecks}
@@ -52,6 +52,10 @@ pub record IsAccepted (judge : Judge) (checks : ChainChecks) (checked : KeptCert
   pub valid : IsWithinWindow checks.window checked.elements
   pub chained : IsTrue checks.chain → IsPath judge checks checked given
 
+-- Memory is asked for: a date is given where one is asked for, and the certificate isn't valid, which its name tells of, or parents are looked at.
+abbrev pub AsksForMemory : {S : Type 0} → ChainChecks → KeptCertificate → Option S → Type 0
+AsksForMemory checks checked chain = IsDated checks × ((IsWithinWindow checks.window checked.elements → ⊥) ⊎ (IsTrue checks.chain × IsSome chain))
+
 -- ---- rules, by what breaks them
 
 -- dates are asked for, and none is given
@@ -84,7 +88,7 @@ pub record LacksRoot (checks : ChainChecks) (checked : KeptCertificate) (given :
   pub parents : List KeptCertificate
   pub is : given ≡ Some parents
   pub unrooted : IsRooted checks checked parents → ⊥
-  pub told : e ≡ errors.InvalidChain chain.NoRoot
+  pub told : e ≡ errors.InvalidChain chain_errors.NoRoot
 
 -- The rules of a verification, in their order.
 abbrev pub chain_rules : Judge → ChainChecks → KeptCertificate → Option (List KeptCertificate) → List (Rule CertError)
@@ -108,3 +112,31 @@ Gives steps None None = ⊤
 Gives steps None (Some parents) = ⊥
 Gives steps (Some chain) None = ⊥
 Gives steps (Some chain) (Some parents) = AlwaysYields steps lent chain parents
+
+-- ---- what an iterator gave in one call, where it may give this or that
+
+-- where there is an iterator, it gave these so far
+abbrev pub GaveSoFar : {S : Type 0} → (S → Option (Bor KeptCertificate) → S → Type 0) → Option S → Option (List KeptCertificate) → Type 0
+GaveSoFar steps None given = given ≡ None
+GaveSoFar {S} steps (Some chain) given = (parents : List (Bor KeptCertificate)) × (rest : S) × Yields steps chain parents rest × (given ≡ Some (map lent parents))
+
+-- There is an iterator, it was walked to its end, and gave these.
+pub record IsWalked {S : Type 0} (steps : S → Option (Bor KeptCertificate) → S → Type 0) (chain : Option S) (given : Option (List KeptCertificate)) : Type 0 where
+  pub iterator : S
+  pub parents : List (Bor KeptCertificate)
+  pub is : chain ≡ Some iterator
+  pub ended : Drains steps iterator parents
+  pub are : given ≡ Some (map lent parents)
+
+-- The certificate is accepted over all that the iterator gave. Where no chain is asked for, nothing is said of the iterator.
+pub record WasAccepted {S : Type 0} (judge : Judge) (steps : S → Option (Bor KeptCertificate) → S → Type 0) (checks : ChainChecks) (checked : KeptCertificate) (chain : Option S) : Type 0 where
+  pub given : Option (List KeptCertificate)
+  pub walked : IsTrue checks.chain → IsWalked steps chain given
+  pub accepted : IsAccepted judge checks checked given
+
+-- The error tells of the first rule that is broken over what the iterator gave so far. That a root is missing is told at its end.
+pub record WasRefused {S : Type 0} (judge : Judge) (steps : S → Option (Bor KeptCertificate) → S → Type 0) (checks : ChainChecks) (checked : KeptCertificate) (chain : Option S) (e : CertError) : Type 0 where
+  pub given : Option (List KeptCertificate)
+  pub came : GaveSoFar steps chain given
+  pub ended : e ≡ errors.InvalidChain chain_errors.NoRoot → IsWalked steps chain given
+  pub broken : IsFirstBroken (chain_rules judge checks checked given) e

@@ -87,7 +87,7 @@ pub record IsNoAuthority (parent : KeptCertificate) (e : CertError) : Type 0 whe
   pub name : IsNameOf parent id
   pub told : e ≡ errors.InvalidChain (chain.IssuerIsNotCA id)
 
--- more stand below the parent than its path length allows
+-- more stand between the parent and the end of the path than its path length allows
 pub record IsTooDeep (number : ℕ) (parent : KeptCertificate) (e : CertError) : Type 0 where
   pub id : DirectoryName
   pub limit : ℕ

@@ -1,6 +1,6 @@
 //! Laws on chains of certificates.
 
-ghost use Rattle.std.specs.Prelude.{◌↔◌, ℕ, List, Option};
+ghost use Rattle.std.specs.Prelude.{◌≡◌, ◌↔◌, ℕ, List, Option};
 ghost use Rattle.asn1_types.specs.declared.generalized_time.GeneralizedTime.{GeneralizedTime};
 ghost use Rattle.key_core.specs.Verifying.{Judge};
 ghost use Rattle.x509_types.specs.CertificateElements.{CertificateElements};
@@ -27,4 +27,16 @@ pub fn chains_break_no_rule()
         → IsLink judge w count parent.elements child.elements → IsFirstBroken (link_rules judge w count parent child) e → ⊥ }
     ensures chain { (judge : Judge) (checks : ChainChecks) (checked : KeptCertificate) (given : Option (List KeptCertificate)) (e : CertError)
         → IsAccepted judge checks checked given → IsFirstBroken (chain_rules judge checks checked given) e → ⊥ }
+{}
+
+/// At most one error tells of the first broken rule of windows, of links and of chains. So
+/// `Window::expect_valid`, `Cert::expect_link` and `CertValidator::verify` have one answer, want of
+/// memory aside.
+pub fn chains_have_one_answer()
+    ensures window { (w : Window) (f : CertificateElements) (a b : CertCause)
+        → IsFirstBroken (window_rules w f) a → IsFirstBroken (window_rules w f) b → a ≡ b }
+    ensures link { (judge : Judge) (w : Window) (count : ℕ) (parent child : KeptCertificate) (a b : CertError)
+        → IsFirstBroken (link_rules judge w count parent child) a → IsFirstBroken (link_rules judge w count parent child) b → a ≡ b }
+    ensures chain { (judge : Judge) (checks : ChainChecks) (checked : KeptCertificate) (given : Option (List KeptCertificate)) (a b : CertError)
+        → IsFirstBroken (chain_rules judge checks checked given) a → IsFirstBroken (chain_rules judge checks checked given) b → a ≡ b }
 {}

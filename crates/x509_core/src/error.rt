@@ -106,7 +106,8 @@ pub enum CertCause {
 /// Why certificates are no chain.
 #[derive(Debug, Drop, Error)]
 pub enum CaChainError {
-    /// More certificates stand below this one than its path length allows (RFC 5280 4.2.1.9).
+    /// More certificates stand between this one and the end of the path than its path length allows
+    /// (RFC 5280 4.2.1.9).
     TooDeep {
         cert_id: DirectoryName,
         pathlen: u8,

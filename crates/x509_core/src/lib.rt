@@ -19,7 +19,7 @@ mod window;
 
 pub use cert::Cert;
 pub use cert_type::CertType;
-pub use chain_laws::chains_break_no_rule;
+pub use chain_laws::{chains_break_no_rule, chains_have_one_answer};
 pub use csr_error::CsrError;
 pub use error::{Arg, CaChainError, CertCause, CertError, ExtName};
 pub use key_core::Element;

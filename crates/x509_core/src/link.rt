@@ -1,6 +1,6 @@
 //! Whether a certificate may have issued another, as one link of a chain.
 
-ghost use Rattle.std.specs.Prelude.{◌≡◌, ◌↔◌, ◌<◌, ℕ, true, IsTrue, MatchResult};
+ghost use Rattle.std.specs.Prelude.{◌≡◌, ◌↔◌, ◌<◌, ℕ, true, IsTrue, MatchResult, OnErr};
 ghost use Rattle.key_core.specs.SignatureAlgorithm.{NamesSignature};
 ghost use Rattle.key_core.specs.declared.signature_error.SignatureError.TheVariants as signature_errors;
 ghost use Rattle.x509_types.specs.ExtensionParts.{HasCa, HasPathLength};
@@ -78,7 +78,8 @@ impl Cert {
         }
     }
 
-    /// No more certificates stand below than the path length allows (RFC 5280 4.2.1.9).
+    /// No more certificates stand between it and the end of the path than the path length allows
+    /// (RFC 5280 4.2.1.9).
     fn expect_deep_enough(&self, alloc: Global, number: u16) -> Result<(), CertError>
         ensures { (count : ℕ) → IsStandingFor number count → MatchResult result
             (λ _. IsDeepEnough count self.now.elements)
@@ -93,7 +94,7 @@ impl Cert {
         Err(self.too_deep(alloc, pathlen))
     }
 
-    /// More certificates stand below than the path length allows.
+    /// More certificates stand between it and the end of the path than the path length allows.
     fn too_deep(&self, alloc: Global, pathlen: u8) -> CertError
         requires { HasPathLength self.now.elements pathlen }
         ensures { (count : ℕ) → pathlen < count → Breaks (IsTooDeep count self.now) result }
@@ -108,9 +109,11 @@ impl Cert {
 
     /// The certificate is valid (RFC 5280 6.1.3 (a) (2)).
     pub(crate) fn expect_valid(&self, alloc: Global, window: &Window) -> Result<(), CertError>
-        ensures { MatchResult result
+        ensures answer { MatchResult result
             (λ _. IsWithinWindow window.now self.now.elements)
             (Breaks (IsOutside window.now self.now)) }
+        // What is valid is so whatever memory there is.
+        ensures valid { OnErr result (IsWithinWindow window.now self.now.elements → ⊥) }
     {
         match window.expect_valid(self.view()) {
             Ok(()) => Ok(()),

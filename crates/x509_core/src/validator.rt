@@ -1,10 +1,10 @@
 //! Whether a certificate is accepted over its parents.
 
-ghost use Rattle.std.specs.Prelude.{◌≡◌, ◌≢◌, ◌↔◌, ◌⊎◌, ℕ, List, Option, Some, None, true, false, IsTrue, IfSome, map, MatchResult};
+ghost use Rattle.std.specs.Prelude.{◌≡◌, ◌≢◌, ◌↔◌, ◌⊎◌, ℕ, List, Option, Some, None, true, false, IsTrue, IfSome, IfErr, map, MatchResult};
 ghost use Rattle.std.specs.Borrow.{Bor};
 ghost use Rattle.std.specs.Iterator.{IsFinite, Drains, Yields};
 ghost use Rattle.x509_core.specs.CertType.{IsOfType};
-ghost use Rattle.x509_core.specs.Chain.{Gives, IsAccepted, IsLinkedChain, IsFirstUnlinked, AsksForDate, IsDated, LacksDate, chain_rules, last_of, lent, nearest};
+ghost use Rattle.x509_core.specs.Chain.{Gives, IsAccepted, WasAccepted, WasRefused, AsksForMemory, IsLinkedChain, IsFirstUnlinked, AsksForDate, IsDated, LacksDate, chain_rules, last_of, lent, nearest};
 ghost use Rattle.x509_core.specs.Checks.{checks_at, first_checks, with_not_before, with_not_after, with_chain, with_root};
 ghost use Rattle.x509_core.specs.KeptCertificate.{KeptCertificate};
 ghost use Rattle.x509_core.specs.Rules.{RefusesBy};
@@ -188,15 +188,21 @@ impl<'a, 'b, Chain: Iterator<Item = &'b Cert> + Drop> CertValidator<'a, 'b, Chai
     /// `MissingBuilderArgument`; the certificate is valid; where the chain is asked for, parents are
     /// given, else `MissingBuilderArgument`; each parent may have issued the certificate before it
     /// (`Cert::expect_link`); the last certificate is a root where that is asked for, else `NoRoot`.
-    /// Where the chain isn't asked for, its iterator isn't looked at.
+    /// Where the chain isn't asked for, its iterator isn't looked at; where the certificate is accepted
+    /// over a chain, or lacks a root, the iterator is walked to its end.
     pub fn verify<S: Scheme>(self, alloc: Global, scheme: &S) -> Result<(), CertError>
         requires can { IsTrue self.checks.chain → IfSome self.chain Chain.can_next }
         requires ends { IsTrue self.checks.chain → IfSome self.chain (λ chain. IsFinite (Chain.remaining chain)) }
-        // Where the chain isn't asked for, whatever the iterator gives.
+        // Of an iterator that gives one list on every run; where the chain isn't asked for, of any.
         ensures answer { (given : Option (List KeptCertificate)) → (IsTrue self.entry.checks.chain → Gives Chain.next_gives self.entry.chain given)
             → MatchResult result
             (λ _. IsAccepted (S.judge scheme.now) self.entry.checks self.entry.cert.now given)
             (RefusesBy (chain_rules (S.judge scheme.now) self.entry.checks self.entry.cert.now given)) }
+        // Of any iterator: what it gave in this call.
+        ensures walked { MatchResult result
+            (λ _. WasAccepted (S.judge scheme.now) Chain.next_gives self.entry.checks self.entry.cert.now self.entry.chain)
+            (λ e. WasRefused (S.judge scheme.now) Chain.next_gives self.entry.checks self.entry.cert.now self.entry.chain e ⊎ (e ≡ errors.Memory)) }
+        ensures memory { IfErr result (λ e. e ≡ errors.Memory → AsksForMemory self.entry.checks self.entry.cert.now self.entry.chain) }
     {
         let CertValidator {
             cert,

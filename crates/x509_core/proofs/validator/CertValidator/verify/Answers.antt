@@ -1,54 +1,77 @@
-use Rattle.std.proofs.Common.{◌≡◌, IsTrue, false, Option, inl, subst, rules}
+use Rattle.std.proofs.Common.{◌≡◌, IsTrue, false, Option, inl, inr, subst, rules}
 use Rattle.std.proofs.lemmas.Result.{err_from_is_err_and}
 use Rattle.x509_core.specs.Chain.{Gives}
 use Rattle.x509_core.proofs.Verdicts.{outside, unasked, no_chain, refused_chain, verdict}
+use Rattle.x509_core.proofs.Walks.{undated_is_told, where_asked, is_given, undated, invalid, unlooked, chainless, refused_walk, walk}
 use Rattle.x509_core.proofs.validator.CertValidator.verify.Goals as goal
 
 pub returns-in_err-expect_date : goal.returns-in_err-expect_date
-returns-in_err-expect_date g c = record {
-  answer = λ given gives.
-      let p = err_from_is_err_and c.from_residual.result c.from_residual.ensures.1 in
-      rw (p.1, p.2) (inl (inl c.in_err-expect_date.ensures));
-}
+returns-in_err-expect_date g c =
+    let p = err_from_is_err_and c.from_residual.result c.from_residual.ensures.1 in
+    record {
+      answer = λ given gives. rw (p.1, p.2) (inl (inl c.in_err-expect_date.ensures));
+      walked = rw (p.1, p.2) (undated (g.S.Scheme.judge c.args.scheme.now) g.Chain.Iterator.next_gives c.args.self.checks c.args.self.cert.now c.args.self.chain c.in_err-expect_date.field-0.0 c.in_err-expect_date.ensures);
+      memory = rw (p.1, p.2) (λ none. absurd (undated_is_told c.args.self.checks c.in_err-expect_date.field-0.0 c.in_err-expect_date.ensures none));
+    }
 
 pub returns-in_err-expect_valid : goal.returns-in_err-expect_valid
-returns-in_err-expect_valid g c = record {
-  answer = λ given gives.
-      let p = err_from_is_err_and c.from_residual-in_err-expect_valid.result c.from_residual-in_err-expect_valid.ensures.1 in
-      rw (p.1, p.2) (outside (g.S.Scheme.judge c.args.scheme.now) c.args.self.checks c.args.self.cert.now given c.in_err-expect_valid.field-0.0 c.in_ok-expect_date.ensures c.in_err-expect_valid.ensures);
-}
+returns-in_err-expect_valid g c =
+    let p = err_from_is_err_and c.from_residual-in_err-expect_valid.result c.from_residual-in_err-expect_valid.ensures.1 in
+    record {
+      answer = λ given gives.
+          rw (p.1, p.2) (outside (g.S.Scheme.judge c.args.scheme.now) c.args.self.checks c.args.self.cert.now given c.in_err-expect_valid.field-0.0 c.in_ok-expect_date.ensures c.in_err-expect_valid.ensures.answer);
+      walked =
+          rw (p.1, p.2) (invalid (g.S.Scheme.judge c.args.scheme.now) g.Chain.Iterator.next_gives c.args.self.checks c.args.self.cert.now c.args.self.chain c.in_err-expect_valid.field-0.0 c.in_ok-expect_date.ensures c.in_err-expect_valid.ensures.answer);
+      memory = where_asked c.from_residual-in_err-expect_valid.result (c.in_ok-expect_date.ensures, inl c.in_err-expect_valid.ensures.valid);
+    }
 
 pub returns-then-not-checks : goal.returns-then-not-checks
-returns-then-not-checks g c = record {
-  answer = λ given gives.
-      let off : c.args.self.checks.chain ≡ false = search rules in
-      unasked (g.S.Scheme.judge c.args.scheme.now) c.args.self.checks c.args.self.cert.now given c.in_ok-expect_date.ensures c.in_ok-expect_valid.ensures off;
-}
+returns-then-not-checks g c =
+    let off : c.args.self.checks.chain ≡ false = search rules in
+    record {
+      answer = λ given gives. unasked (g.S.Scheme.judge c.args.scheme.now) c.args.self.checks c.args.self.cert.now given c.in_ok-expect_date.ensures c.in_ok-expect_valid.ensures.answer off;
+      walked = unlooked (g.S.Scheme.judge c.args.scheme.now) g.Chain.Iterator.next_gives c.args.self.checks c.args.self.cert.now c.in_ok-expect_date.ensures c.in_ok-expect_valid.ensures.answer c.args.self.chain off;
+      memory = tt;
+    }
 
 pub returns-in_default : goal.returns-in_default
-returns-in_default g c = record {
-  answer = λ given gives.
-      let asked : IsTrue c.args.self.checks.chain = search rules in
-      let by = subst (λ (chain : Option _). Gives g.Chain.Iterator.next_gives chain given) c.in_default.is (gives asked) in
-      no_chain (g.S.Scheme.judge c.args.scheme.now) c.args.self.checks c.args.self.cert.now given c.in_ok-expect_date.ensures c.in_ok-expect_valid.ensures asked g.Chain.Iterator.next_gives by;
-}
+returns-in_default g c =
+    let asked : IsTrue c.args.self.checks.chain = search rules in
+    record {
+      answer = λ given gives.
+          let by = subst (λ (chain : Option _). Gives g.Chain.Iterator.next_gives chain given) c.in_default.is (gives asked) in
+          no_chain (g.S.Scheme.judge c.args.scheme.now) c.args.self.checks c.args.self.cert.now given c.in_ok-expect_date.ensures c.in_ok-expect_valid.ensures.answer asked g.Chain.Iterator.next_gives by;
+      walked =
+          chainless (g.S.Scheme.judge c.args.scheme.now) g.Chain.Iterator.next_gives c.args.self.checks c.args.self.cert.now c.in_ok-expect_date.ensures c.in_ok-expect_valid.ensures.answer asked c.args.self.chain c.in_default.is;
+      memory = λ none. absurd cc;
+    }
 
 pub returns-in_err-last : goal.returns-in_err-last
-returns-in_err-last g c = record {
-  answer = λ given gives.
-      let p = err_from_is_err_and c.from_residual-in_err-last.result c.from_residual-in_err-last.ensures.1 in
-      let asked : IsTrue c.args.self.checks.chain = search rules in
-      let by = subst (λ (chain : Option _). Gives g.Chain.Iterator.next_gives chain given) c.in-Some.is (gives asked) in
-      rw (p.1, p.2) (refused_chain (g.S.Scheme.judge c.args.scheme.now) c.args.self.checks c.args.self.cert.now given c.in_ok-expect_date.ensures c.in_ok-expect_valid.ensures asked
-      g.Chain.Iterator.next_gives c.in-Some.chain by c.in_err-last.field-0.0 c.in_err-last.ensures);
-}
+returns-in_err-last g c =
+    let p = err_from_is_err_and c.from_residual-in_err-last.result c.from_residual-in_err-last.ensures.1 in
+    let asked : IsTrue c.args.self.checks.chain = search rules in
+    record {
+      answer = λ given gives.
+          let by = subst (λ (chain : Option _). Gives g.Chain.Iterator.next_gives chain given) c.in-Some.is (gives asked) in
+          rw (p.1, p.2) (refused_chain (g.S.Scheme.judge c.args.scheme.now) c.args.self.checks c.args.self.cert.now given c.in_ok-expect_date.ensures c.in_ok-expect_valid.ensures.answer asked
+          g.Chain.Iterator.next_gives c.in-Some.chain by c.in_err-last.field-0.0 c.in_err-last.ensures);
+      walked =
+          rw (p.1, p.2) (refused_walk (g.S.Scheme.judge c.args.scheme.now) g.Chain.Iterator.next_gives c.args.self.checks c.args.self.cert.now c.in_ok-expect_date.ensures c.in_ok-expect_valid.ensures.answer asked
+          c.args.self.chain c.in-Some.chain c.in-Some.is c.in_err-last.field-0.0 c.in_err-last.ensures);
+      memory = where_asked c.from_residual-in_err-last.result (c.in_ok-expect_date.ensures, inr (asked, is_given c.args.self.chain c.in-Some.chain c.in-Some.is));
+    }
 
 pub returns : goal.returns
-returns g c = record {
-  answer = λ given gives.
-      let asked : IsTrue c.args.self.checks.chain = search rules in
-      let by = subst (λ (chain : Option _). Gives g.Chain.Iterator.next_gives chain given) c.in-Some.is (gives asked) in
-      let ran = c.in_ok-last.ensures in
-      verdict (g.S.Scheme.judge c.args.scheme.now) c.args.self.checks c.args.self.cert.now given c.in_ok-expect_date.ensures c.in_ok-expect_valid.ensures asked
-      g.Chain.Iterator.next_gives c.in-Some.chain by ran.0 ran.1 ran.2 c.in_ok-last.last c.expect_root.result ran.3 c.expect_root.ensures;
-}
+returns g c =
+    let asked : IsTrue c.args.self.checks.chain = search rules in
+    let ran = c.in_ok-last.ensures in
+    record {
+      answer = λ given gives.
+          let by = subst (λ (chain : Option _). Gives g.Chain.Iterator.next_gives chain given) c.in-Some.is (gives asked) in
+          verdict (g.S.Scheme.judge c.args.scheme.now) c.args.self.checks c.args.self.cert.now given c.in_ok-expect_date.ensures c.in_ok-expect_valid.ensures.answer asked
+          g.Chain.Iterator.next_gives c.in-Some.chain by ran.0 ran.1 ran.2 c.in_ok-last.last c.expect_root.result ran.3 c.expect_root.ensures;
+      walked =
+          walk (g.S.Scheme.judge c.args.scheme.now) g.Chain.Iterator.next_gives c.args.self.checks c.args.self.cert.now c.in_ok-expect_date.ensures c.in_ok-expect_valid.ensures.answer asked
+          c.args.self.chain c.in-Some.chain c.in-Some.is ran.0 ran.1 c.in_ok-last.last c.expect_root.result ran.2 ran.3 c.expect_root.ensures;
+      memory = where_asked c.expect_root.result (c.in_ok-expect_date.ensures, inr (asked, is_given c.args.self.chain c.in-Some.chain c.in-Some.is));
+    }
