@@ -14,6 +14,8 @@ from unittest.mock import patch
 
 import certificate_parts
 import basic_answers
+import basic_rows
+import basic_world
 import compare_readers
 import der_reader
 import demo_signatures
@@ -190,8 +192,28 @@ class StoredAnswersTest(unittest.TestCase):
 class BasicAnswersTest(unittest.TestCase):
 
     def test_lines_are_those_of_the_file(self):
-        made = basic_answers.wrapped(basic_answers.encoded(basic_answers.LINES))
-        self.assertEqual(made, basic_answers.FILE)
+        made = basic_rows.wrapped(basic_rows.encoded(basic_rows.LINES))
+        self.assertEqual(made, basic_rows.FILE)
+
+    def test_answers_are_those_by_hand(self):
+        self.assertEqual(list(basic_answers.unlike()), [])
+
+    def test_every_refusal_has_a_row(self):
+        names = {said.split()[0] for *_, said in basic_answers.rows()}
+        self.assertEqual(names, {
+            "WrongLength", "CertificateDataIsEmpty", "WrongRevisionValue", "WrongCertificateType", "Io", "Asn1Deserialization",
+            "IncorrectVersion", "MultipleSignerInfo", "IncorrectDigestAlgorithmsCount", "NoEncapsulatedContentInfo", "NoSpcIndirectDataContent",
+            "DigestAlgorithmMismatch", "FileHashMismatch", "IncorrectSignerIdentifier", "NoCertificatesAssociatedWithIssuerAndSerialNumber",
+            "UnsupportedAlgorithmError", "SignatureError", "NoMessageDigest", "UnsupportedHashAlgorithmError", "HashMismatch", "NoEKUCodeSigning",
+            "accepted",
+        })
+
+    def test_changes(self):
+        # Each change is of one octet, which becomes another one.
+        for label, file, _, _, changes, said in basic_world.rows():
+            self.assertEqual(len(said), 1 + len(changes), label)
+            for at, octet in changes:
+                self.assertNotEqual(file[at], octet, label)
 
     def test_stored_files(self):
         for path, octets in basic_answers.stored_files().items():
@@ -486,6 +508,10 @@ class VerdictTableTest(unittest.TestCase):
             "a revocation list alone": [],
         }.items():
             self.assertEqual(self.names(label), names, label)
+
+    def test_stored_tables(self):
+        stored = basic_world.tables()
+        self.assertEqual({label: lines for label, _, lines in basic_world.made()}, stored)
 
     def test_a_line(self):
         octets = self.signed("program, RSA, sha256")
