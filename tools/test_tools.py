@@ -3,6 +3,7 @@
     python3 -m unittest discover -s tools
 """
 
+import re
 import unittest
 from hashlib import sha256
 from itertools import permutations, product
@@ -24,9 +25,11 @@ import oid_table
 import path_answers
 import reader_stand_in
 import run_program
+import signed_program
 import verdict_table
 import world_certificates
 import world_signatures
+from basic_judge import answer
 from certificate_cases import (
     AGREED, AGREEMENT_KEYS, GENERATED, KEY_LABELS, LABELS, REQUESTED, SIGNING_KEYS, WRITTEN,
     Key, Requested,
@@ -51,6 +54,7 @@ from first_path import (
     verdict_line,
 )
 from hostile_inputs import ROWS
+from signature_making import portable_executable
 from stored_answers import stored_files
 from value_answers import stored_files as stored_values
 from value_reader import WORDS, dotted, name_text, structure_line
@@ -509,6 +513,15 @@ class VerdictTableTest(unittest.TestCase):
         }.items():
             self.assertEqual(self.names(label), names, label)
 
+    def test_the_signers_row(self):
+        # Where a signature of the world is accepted, it is by its first row; a signer on a curve has none.
+        for label, file, file_hash, table, _, said in basic_world.rows():
+            if said[0].startswith("accepted"):
+                without = table.split("\n", 1)[1]
+                self.assertEqual(answer(file, bytes.fromhex(file_hash), without), "SignatureError invalid signature", label)
+            if said[0].endswith(" EC"):
+                self.assertIn("the signer: no name in a table", verdict_table.table(file)[1], label)
+
     def test_stored_tables(self):
         stored = basic_world.tables()
         self.assertEqual({label: lines for label, _, lines in basic_world.made()}, stored)
@@ -566,6 +579,30 @@ class KeptCertificatesByOpensslTest(unittest.TestCase):
                 self.assertIn(f" {subject} {issuer} {serial.lower()} ", words)
 
 
+class SignedProgramTest(unittest.TestCase):
+    SIGNED = {label: octets for label, _, octets in world_signatures.stored()}
+
+    def program(self, label):
+        """The program that is signed there, with the signature of this label."""
+        program, entry = bytearray(portable_executable()), basic_world.signature_file(self.SIGNED[label])
+        optional, place, _, _ = signed_program.parts(program)
+        program[optional + place:optional + place + 8] = pack("<II", len(program), len(entry))
+        return bytes(program) + entry
+
+    def test_digests(self):
+        for digest in "md5", "sha1", "sha256", "sha384", "sha512":
+            label = f"program, RSA, {digest}"
+            program = self.program(label)
+            entry = signed_program.signature(program)
+            self.assertEqual(entry, basic_world.signature_file(self.SIGNED[label]))
+            self.assertEqual(signed_program.image_digest(program, digest), basic_world.asked_hash(entry).hex())
+
+    def test_no_signature(self):
+        for octets in b"", b"MZ", bytes(100), portable_executable(), self.program("program, RSA, sha1")[:-1]:
+            with self.assertRaises(signed_program.NotSigned):
+                signed_program.signature(octets)
+
+
 class RunsTest(unittest.TestCase):
     def differences(self, script):
         """The rows that a stand-in for the program differs from, by their reasons."""
@@ -579,6 +616,13 @@ class RunsTest(unittest.TestCase):
         self.assertEqual({row.status for row in run_program.ROWS}, set(range(7)))
         reasons = [row.why for row in run_program.ROWS]
         self.assertEqual(len(reasons), len(set(reasons)))
+
+    def test_answers_of_the_judge(self):
+        for row in run_program.REFUSED_ROWS + run_program.WRITTEN_ROWS + run_program.STEP_ROWS:
+            said = answer(row.files["s"], bytes.fromhex(row.words[3]), row.files["t"].decode()).split()
+            place = re.search(r"[0-9]+", said[1]).group() if row.status == 0 else None
+            line = f"accepted signer={place} path= excuse=none\n" if row.status == 0 else f"refused {said[0]}\n"
+            self.assertEqual(row.line, line, row.why)
 
     def test_a_constant_status(self):
         for row, what in zip(run_program.ROWS, self.differences("exit 2").values()):
