@@ -11,7 +11,7 @@ rows of the table that `verdict_table` has openssl find for it, bars between.  T
 second compares that file with what openssl finds.
 
 A file is asked for the digest that stands in it.  `CHANGES` lists the octets that
-are changed, one at a time, where they stand.
+are changed, one at a time, where they stand; of the file EVERY each octet is.
 """
 
 import sys
@@ -26,6 +26,7 @@ from world_signatures import stored
 
 STORED = Path(__file__).resolve().parent / "world_tables.txt"
 HEADER = 8
+EVERY = "program, RSA, sha256"
 INDIRECT_DATA = bytes.fromhex("060a2b060104018237020104")
 MESSAGE_DIGEST = bytes.fromhex("06092a864886f70d010904")
 CODE_SIGNING = bytes.fromhex("06082b06010505070303")
@@ -223,6 +224,8 @@ def rows():
             file, table_text = signature_file(octets), "".join(f"{line}\n" for line in known[label])
             file_hash = asked_hash(file)
             changed = [(at, octet) for _, at, octet in changes_of(file)]
+            if label == EVERY:
+                changed = [(at, octet ^ 1) for at, octet in enumerate(file)]
             files = [file, *(with_octet(file, *change) for change in changed)]
             yield label, file, file_hash.hex(), table_text, changed, [answer(one, file_hash, table_text) for one in files]
 
