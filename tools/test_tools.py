@@ -4,6 +4,7 @@
 """
 
 import re
+import sys
 import unittest
 from hashlib import sha256
 from itertools import permutations, product
@@ -17,6 +18,7 @@ import certificate_parts
 import basic_answers
 import basic_rows
 import basic_world
+import compare_basic
 import compare_readers
 import der_reader
 import demo_signatures
@@ -577,6 +579,35 @@ class KeptCertificatesByOpensslTest(unittest.TestCase):
             words = kept_certificates.kept_line(octets)
             with self.subTest(label=label):
                 self.assertIn(f" {subject} {issuer} {serial.lower()} ", words)
+
+
+class CompareBasicTest(unittest.TestCase):
+    JUDGE = """#!{python}
+import sys
+sys.path.insert(0, {tools!r})
+from basic_judge import answer
+octets = lambda word: b"" if word == "-" else bytes.fromhex(word)
+for line in open(sys.argv[1]):
+    file, file_hash, table = map(octets, line.split())
+    print(answer(file, file_hash, table.decode()){changed})
+"""
+
+    def compared(self, changed=""):
+        """The status and the last line of a comparison with the judge as the program."""
+        with TemporaryDirectory() as folder:
+            program = Path(folder, "program")
+            program.write_text(self.JUDGE.format(python=sys.executable, tools=str(Path(compare_basic.__file__).parent), changed=changed))
+            program.chmod(0o755)
+            with patch("sys.argv", ["", "--count", "200", str(program)]), patch("builtins.print") as printed:
+                return compare_basic.main(), printed.call_args.args[0]
+
+    def test_the_judge(self):
+        self.assertEqual(self.compared(), (0, "signature files: 200 as the judge says, 0 not"))
+
+    def test_another_answer(self):
+        status, line = self.compared('.replace("DigestAlgorithmMismatch", "accepted")')
+        self.assertEqual(status, 1)
+        self.assertNotIn(" 0 not", line)
 
 
 class SignedProgramTest(unittest.TestCase):
