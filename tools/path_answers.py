@@ -19,16 +19,16 @@ import sys
 from cms_reader import pkcs7
 from der_reader import Constructed, Malformed, read_exact
 from first_path import (
-    COMMON_NAME, SIGNED_DATA, SHA256, SignatureFile, algorithm, context, context_primitive, element, identifier, integer, name, octet_string, sequence, set_of,
+    COMMON_NAME, RSA_ENCRYPTION, SIGNED_DATA, SHA256, SignatureFile, algorithm, context, context_primitive, element, identifier, integer, name, octet_string, sequence, set_of,
 )
 from stored_run import write_stored_run
 from value_reader import Shape, certificate as read_certificate
 from world_signatures import stored
 
 
-def certificate(subject, issuer, serial=1):
-    """A certificate by the texts of its names and the octet of its serial number."""
-    return SignatureFile(subject=subject.encode(), issuer=issuer.encode(), serial=bytes([serial])).certificate()
+def certificate(subject, issuer, serial=1, spelled=None):
+    """A certificate by the texts of its names and its serial number, in one octet or as it is spelled."""
+    return SignatureFile(subject=subject.encode(), issuer=issuer.encode(), serial=spelled or bytes([serial])).certificate()
 
 
 def signer(sid):
@@ -36,14 +36,18 @@ def signer(sid):
     return sequence(integer(b"\x01"), sid, algorithm(SHA256), algorithm("1.2.840.113549.1.1.1"), octet_string(b"\xAA"))
 
 
-def named(issuer, serial=1):
+def named(issuer, serial=1, spelled=None):
     """A signer by issuer and serial number."""
-    return signer(sequence(name(issuer.encode()), integer(bytes([serial]))))
+    return signer(sequence(name(issuer.encode()), integer(spelled or bytes([serial]))))
 
 
 def signed_data(signers, *members):
     """Signed data with these signers; without members the field of certificates is left out."""
-    certificates = (context(0, *members),) if members else ()
+    return with_members(signers, *((context(0, *members),) if members else ()))
+
+
+def with_members(signers, *certificates):
+    """Signed data with these signers and a field of certificates, or none."""
     return around(sequence(
         integer(b"\x01"), set_of(algorithm(SHA256)), sequence(identifier("1.2.840.113549.1.7.1")), *certificates, set_of(*signers),
     ))
@@ -56,6 +60,8 @@ def around(value):
 S, A, B, ROOT = certificate("S", "A"), certificate("A", "B"), certificate("B", "R"), certificate("R", "R")
 PRINTABLE_A = sequence(set_of(sequence(identifier(COMMON_NAME), element(0x13, b"A"))))
 BY_A = [named("A")]
+# Algorithms of keys: one of them isn't read.
+RSA, OTHER = identifier(RSA_ENCRYPTION), identifier("1.2.840.113549.1.1.2")
 
 # What it is, signed data, and what is answered.
 CASES = [
@@ -82,7 +88,13 @@ CASES = [
     ("no signer", signed_data([], S, A), "2"),
     ("two signers: the first", signed_data([named("B"), named("A")], S, A, B), "3 1: (1) 2"),
     ("two signers: the first names none", signed_data([named("T"), named("A")], S, A, B), "3"),
+    ("the same number spelled with a zero in front", signed_data([named("A", spelled=b"\0\1")], S, A), "2"),
+    ("one spelled so behind one that isn't", signed_data([named("A", spelled=b"\0\1")], S, certificate("T", "A", spelled=b"\0\1"), A), "3 1: (1) 2"),
+    ("one that isn't spelled so behind one that is", signed_data(BY_A, certificate("T", "A", spelled=b"\0\1"), S, A), "3 1: (1) 2"),
+    ("a member that fails in its key", signed_data(BY_A, S.replace(RSA, OTHER), S, A.replace(RSA, OTHER), A), "2 0: (0) 1"),
+    ("a member that fails in its dates", signed_data(BY_A, S.replace(b"200101", b"201301"), S, A), "2 0: (0) 1"),
     ("certificates left out", signed_data(BY_A), "0"),
+    ("no certificates in their field", with_members(BY_A, context(0)), "0"),
     ("other octets after the element", signed_data(BY_A, S) + b"\x00", "no signed data"),
     ("no signed data", S, "no signed data"),
 ]

@@ -15,8 +15,10 @@ standard output, and the status that the system is told.  These rows are for
 that part, each status from 0 to 6 among them.
 
 The files come from `first_path.py`, which shares nothing with a reader
-here, and the answers from the table of statuses in README.md.  Exit status
-1 says that a row differs.
+here, from the signatures that osslsigncode and openssl wrote, with the tables
+of openssl's arithmetic (`basic_world.py`), and from the rows of every refusal
+(`basic_steps.py`); the answers from the tables of statuses and of refusals in
+README.md.  Exit status 1 says that a row differs.
 """
 
 import os
@@ -28,6 +30,9 @@ from dataclasses import dataclass, field
 from hashlib import sha256
 from pathlib import Path
 
+import basic_steps
+import basic_world
+import world_signatures
 from first_path import FILE_HASH, signature_file, verdict_line
 
 SECONDS = 60
@@ -39,6 +44,10 @@ HASH = FILE_HASH.hex()
 OTHER_HASH = sha256(b"abd").hexdigest()
 
 ACCEPTED = "accepted signer=0 path= excuse=none\n"
+
+
+def accepted_at(place):
+    return f"accepted signer={place} path= excuse=none\n"
 
 
 def refused(name):
@@ -119,7 +128,7 @@ REFUSED_ROWS = [
     Row("another hash", ("basic", "s", "t", OTHER_HASH), 1, refused("FileHashMismatch")),
     by_table("no row accepts", b"", 1, refused("SignatureError")),
     by_table("a row of another algorithm", OTHER_TABLE, 1, refused("SignatureError")),
-    judged("an element of another form", header(10) + EMPTY, 1, refused("NotThisForm")),
+    judged("an element that is no signed data", header(10) + EMPTY, 1, refused("Asn1Deserialization")),
     judged("no element", header(8), 1, refused("Asn1Deserialization")),
     judged("no octets", b"", 1, refused("WrongLength")),
     judged("a length below the header's", header(7) + EMPTY, 1, refused("WrongLength")),
@@ -128,6 +137,64 @@ REFUSED_ROWS = [
     judged("type 4", header(10, kind=4) + EMPTY, 1, refused("WrongCertificateType")),
     judged("fewer octets than the length says", header(11) + EMPTY, 1, refused("Io")),
 ]
+
+# Signatures that osslsigncode and openssl wrote, by their labels in `world_signatures.txt`.
+WRITTEN = {label: octets for label, _, octets in world_signatures.stored()}
+TABLES = basic_world.tables()
+SIGNED = "program, RSA, sha256"
+TOWER = "program, a token, five certificates"
+
+
+def written(why, label, line, change="", rows=None):
+    """A row with a signature file that was written so, its digest and its table, an octet of it changed."""
+    octets = basic_world.signature_file(WRITTEN[label])
+    file_hash = basic_world.asked_hash(octets)
+    if change:
+        at, octet = next((at, octet) for what, at, octet in basic_world.changes_of(octets) if what == change)
+        octets = basic_world.with_octet(octets, at, octet)
+    lines = TABLES[label] if rows is None else rows
+    files = {"s": octets, "t": "".join(f"{one}\n" for one in lines).encode("ascii")}
+    return Row(why, ("basic", "s", "t", file_hash.hex()), 1 if line.startswith("refused") else 0, line, files)
+
+
+WRITTEN_ROWS = [
+    written("a program that osslsigncode signed", SIGNED, ACCEPTED),
+    *(written(f"the same by {digest}", f"program, RSA, {digest}", ACCEPTED) for digest in ("md5", "sha1", "sha384", "sha512")),
+    written("a signer of two certificates", "program, two certificates", accepted_at(1)),
+    written("a signer of five certificates, and a token", TOWER, accepted_at(3)),
+    written("a counter-signature behind", "program, a counter-signature", ACCEPTED),
+    written("a cabinet", "cabinet, a counter-signature, five certificates", accepted_at(3)),
+    written("the rows of the table from the last to the first", TOWER, accepted_at(3), rows=TABLES[TOWER][::-1]),
+    written("no row for the signer", TOWER, refused("SignatureError"), rows=TABLES[TOWER][1:]),
+    written("another program's row", SIGNED, refused("SignatureError"), rows=TABLES["program, RSA, sha1"]),
+    written("another signature", SIGNED, refused("SignatureError"), change="signature"),
+    written("another attribute", SIGNED, refused("SignatureError"), change="first attribute"),
+    written("another digest of the program", SIGNED, refused("FileHashMismatch"), change="digest in the content"),
+    written("another content", SIGNED, refused("HashMismatch"), change="what is signed"),
+    written("another purpose of the signer", SIGNED, refused("NoEKUCodeSigning"), change="purpose of the signer's certificate"),
+    written("another serial number", SIGNED, refused("NoCertificatesAssociatedWithIssuerAndSerialNumber"), change="identifier of the signer"),
+    written("another digest algorithm of the signer", SIGNED, refused("DigestAlgorithmMismatch"), change="digest of the signer"),
+    written("another version", SIGNED, refused("IncorrectVersion"), change="version"),
+    written("a signer on a curve", "program, P-256, sha256", refused("SignatureError")),
+    written("a catalogue", "catalogue, sha1, RSA", refused("NoSpcIndirectDataContent")),
+    written("a message", "cms, RSA, sha256", refused("NoSpcIndirectDataContent")),
+    written("a message whose content is left out", "cms, the content left out", refused("NoEncapsulatedContentInfo")),
+    written("a signer by the identifier of its key", "cms, the signer by its key's identifier", refused("IncorrectVersion")),
+    written("two signers", "cms, two signers", refused("MultipleSignerInfo")),
+    written("no signer", "certificates alone", refused("MultipleSignerInfo")),
+    written("a message in pieces", "cms, written in pieces", refused("Asn1Deserialization")),
+]
+
+
+def first_of(name):
+    """The first row of every step that is refused so."""
+    why, octets, file_hash, table, _ = next(row for row in basic_steps.rows() if row[4].split()[0] == name)
+    return Row(f"{name}: {why}", ("basic", "s", "t", file_hash), 1, refused(name), {"s": octets, "t": table.encode("ascii")})
+
+
+STEP_ROWS = [first_of(name) for name in (
+    "IncorrectDigestAlgorithmsCount", "IncorrectSignerIdentifier", "UnsupportedAlgorithmError", "NoMessageDigest", "UnsupportedHashAlgorithmError",
+)]
 
 USAGE_ROWS = [
     Row("no words", (), 2),
@@ -196,6 +263,8 @@ LENGTH_ROWS = [
 ROWS = [
     *ACCEPTED_ROWS,
     *REFUSED_ROWS,
+    *WRITTEN_ROWS,
+    *STEP_ROWS,
     *USAGE_ROWS,
     *BAD_TABLE_ROWS,
     *SHELF_ROWS,

@@ -645,6 +645,7 @@ GENERAL_NAMES = [
     ("3020a40e300c310a300806035504030c0141a40e300c310a300806035504030c0141", "a directory name twice"),
     ("300388012a", "the shortest identifier"),
     ("3006820162820161", "two of one form"),
+    ("300b82096c6f63616c686f7374", "a host"),
 ]
 
 # Elements that are no general names.

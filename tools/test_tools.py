@@ -3,6 +3,8 @@
     python3 -m unittest discover -s tools
 """
 
+import re
+import sys
 import unittest
 from hashlib import sha256
 from itertools import permutations, product
@@ -14,6 +16,9 @@ from unittest.mock import patch
 
 import certificate_parts
 import basic_answers
+import basic_rows
+import basic_world
+import compare_basic
 import compare_readers
 import der_reader
 import demo_signatures
@@ -22,9 +27,11 @@ import oid_table
 import path_answers
 import reader_stand_in
 import run_program
+import signed_program
 import verdict_table
 import world_certificates
 import world_signatures
+from basic_judge import answer
 from certificate_cases import (
     AGREED, AGREEMENT_KEYS, GENERATED, KEY_LABELS, LABELS, REQUESTED, SIGNING_KEYS, WRITTEN,
     Key, Requested,
@@ -49,6 +56,7 @@ from first_path import (
     verdict_line,
 )
 from hostile_inputs import ROWS
+from signature_making import portable_executable
 from stored_answers import stored_files
 from value_answers import stored_files as stored_values
 from value_reader import WORDS, dotted, name_text, structure_line
@@ -190,8 +198,28 @@ class StoredAnswersTest(unittest.TestCase):
 class BasicAnswersTest(unittest.TestCase):
 
     def test_lines_are_those_of_the_file(self):
-        made = basic_answers.wrapped(basic_answers.encoded(basic_answers.LINES))
-        self.assertEqual(made, basic_answers.FILE)
+        made = basic_rows.wrapped(basic_rows.encoded(basic_rows.LINES))
+        self.assertEqual(made, basic_rows.FILE)
+
+    def test_answers_are_those_by_hand(self):
+        self.assertEqual(list(basic_answers.unlike()), [])
+
+    def test_every_refusal_has_a_row(self):
+        names = {said.split()[0] for *_, said in basic_answers.rows()}
+        self.assertEqual(names, {
+            "WrongLength", "CertificateDataIsEmpty", "WrongRevisionValue", "WrongCertificateType", "Io", "Asn1Deserialization",
+            "IncorrectVersion", "MultipleSignerInfo", "IncorrectDigestAlgorithmsCount", "NoEncapsulatedContentInfo", "NoSpcIndirectDataContent",
+            "DigestAlgorithmMismatch", "FileHashMismatch", "IncorrectSignerIdentifier", "NoCertificatesAssociatedWithIssuerAndSerialNumber",
+            "UnsupportedAlgorithmError", "SignatureError", "NoMessageDigest", "UnsupportedHashAlgorithmError", "HashMismatch", "NoEKUCodeSigning",
+            "accepted",
+        })
+
+    def test_changes(self):
+        # Each change is of one octet, which becomes another one.
+        for label, file, _, _, changes, said in basic_world.rows():
+            self.assertEqual(len(said), 1 + len(changes), label)
+            for at, octet in changes:
+                self.assertNotEqual(file[at], octet, label)
 
     def test_stored_files(self):
         for path, octets in basic_answers.stored_files().items():
@@ -487,6 +515,19 @@ class VerdictTableTest(unittest.TestCase):
         }.items():
             self.assertEqual(self.names(label), names, label)
 
+    def test_the_signers_row(self):
+        # Where a signature of the world is accepted, it is by its first row; a signer on a curve has none.
+        for label, file, file_hash, table, _, said in basic_world.rows():
+            if said[0].startswith("accepted"):
+                without = table.split("\n", 1)[1]
+                self.assertEqual(answer(file, bytes.fromhex(file_hash), without), "SignatureError invalid signature", label)
+            if said[0].endswith(" EC"):
+                self.assertIn("the signer: no name in a table", verdict_table.table(file)[1], label)
+
+    def test_stored_tables(self):
+        stored = basic_world.tables()
+        self.assertEqual({label: lines for label, _, lines in basic_world.made()}, stored)
+
     def test_a_line(self):
         octets = self.signed("program, RSA, sha256")
         certificates, signers = verdict_table.signed_data_in(octets)
@@ -540,6 +581,59 @@ class KeptCertificatesByOpensslTest(unittest.TestCase):
                 self.assertIn(f" {subject} {issuer} {serial.lower()} ", words)
 
 
+class CompareBasicTest(unittest.TestCase):
+    JUDGE = """#!{python}
+import sys
+sys.path.insert(0, {tools!r})
+from basic_judge import answer
+octets = lambda word: b"" if word == "-" else bytes.fromhex(word)
+for line in open(sys.argv[1]):
+    file, file_hash, table = map(octets, line.split())
+    print(answer(file, file_hash, table.decode()){changed})
+"""
+
+    def compared(self, changed=""):
+        """The status and the last line of a comparison with the judge as the program."""
+        with TemporaryDirectory() as folder:
+            program = Path(folder, "program")
+            program.write_text(self.JUDGE.format(python=sys.executable, tools=str(Path(compare_basic.__file__).parent), changed=changed))
+            program.chmod(0o755)
+            with patch("sys.argv", ["", "--count", "200", str(program)]), patch("builtins.print") as printed:
+                return compare_basic.main(), printed.call_args.args[0]
+
+    def test_the_judge(self):
+        self.assertEqual(self.compared(), (0, "signature files: 200 as the judge says, 0 not"))
+
+    def test_another_answer(self):
+        status, line = self.compared('.replace("DigestAlgorithmMismatch", "accepted")')
+        self.assertEqual(status, 1)
+        self.assertNotIn(" 0 not", line)
+
+
+class SignedProgramTest(unittest.TestCase):
+    SIGNED = {label: octets for label, _, octets in world_signatures.stored()}
+
+    def program(self, label):
+        """The program that is signed there, with the signature of this label."""
+        program, entry = bytearray(portable_executable()), basic_world.signature_file(self.SIGNED[label])
+        optional, place, _, _ = signed_program.parts(program)
+        program[optional + place:optional + place + 8] = pack("<II", len(program), len(entry))
+        return bytes(program) + entry
+
+    def test_digests(self):
+        for digest in "md5", "sha1", "sha256", "sha384", "sha512":
+            label = f"program, RSA, {digest}"
+            program = self.program(label)
+            entry = signed_program.signature(program)
+            self.assertEqual(entry, basic_world.signature_file(self.SIGNED[label]))
+            self.assertEqual(signed_program.image_digest(program, digest), basic_world.asked_hash(entry).hex())
+
+    def test_no_signature(self):
+        for octets in b"", b"MZ", bytes(100), portable_executable(), self.program("program, RSA, sha1")[:-1]:
+            with self.assertRaises(signed_program.NotSigned):
+                signed_program.signature(octets)
+
+
 class RunsTest(unittest.TestCase):
     def differences(self, script):
         """The rows that a stand-in for the program differs from, by their reasons."""
@@ -551,8 +645,17 @@ class RunsTest(unittest.TestCase):
 
     def test_rows(self):
         self.assertEqual({row.status for row in run_program.ROWS}, set(range(7)))
+        names = {row.line.split()[1] for row in run_program.ROWS if row.status == 1}
+        self.assertEqual(names, {said.split()[0] for *_, said in basic_answers.rows()} - {"accepted"})
         reasons = [row.why for row in run_program.ROWS]
         self.assertEqual(len(reasons), len(set(reasons)))
+
+    def test_answers_of_the_judge(self):
+        for row in run_program.REFUSED_ROWS + run_program.WRITTEN_ROWS + run_program.STEP_ROWS:
+            said = answer(row.files["s"], bytes.fromhex(row.words[3]), row.files["t"].decode()).split()
+            place = re.search(r"[0-9]+", said[1]).group() if row.status == 0 else None
+            line = f"accepted signer={place} path= excuse=none\n" if row.status == 0 else f"refused {said[0]}\n"
+            self.assertEqual(row.line, line, row.why)
 
     def test_a_constant_status(self):
         for row, what in zip(run_program.ROWS, self.differences("exit 2").values()):

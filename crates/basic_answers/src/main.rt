@@ -4,14 +4,18 @@
 //! basic_answers FILE
 //! ```
 //!
-//! Each line of FILE has three words in hexadecimal digits: a signature file, the digest that is
-//! asked for, and the text of a verdict table. `tools/basic_answers.py` makes such a file, and the
-//! answers to it.
+//! Each line of FILE is a case, its words in hexadecimal digits, `-` for none: a signature file, the
+//! digest that is asked for, the text of a verdict table, and any number of changes. A change is a
+//! place in two octets and the octet that stands there instead. A line is printed for the file as it
+//! is, and one for each change of it. `tools/basic_answers.py` makes such a file, and the answers
+//! to it.
 #![tactic(auto)]
 
+mod case;
+mod line;
+
+use crate::case::{answer, answer_to_change, case_of};
 use anyhow::{Context, Result, bail};
-use authenticode_core::check_basic;
-use sig_core::VerdictTable;
 use std::alloc::Global;
 use std::io::{BufWriter, Write};
 use std::{env, fs, io};
@@ -27,30 +31,24 @@ fn main(rt: HostRuntime) -> Result<()> {
 }
 
 fn print_answers(alloc: Global, cases: &str, out: &mut impl Write) -> Result<()> {
-    for case in cases.lines() {
-        let answer = answer_line(alloc, case)?;
-        out.write_all(answer.as_bytes())?;
+    for text in cases.lines() {
+        print_case(alloc, text, out)?;
     }
     Ok(())
 }
 
-/// The line for what a case is answered.
-fn answer_line(alloc: Global, case: &str) -> Result<String> {
-    let mut words = case.split(' ');
+/// The lines for a case: for its file as it is, and for each change of it.
+fn print_case(alloc: Global, text: &str, out: &mut impl Write) -> Result<()> {
+    let mut words = text.split(' ');
     let (Some(file), Some(hash), Some(table)) = (words.next(), words.next(), words.next()) else {
         bail!("a case has three words");
     };
-    let file = hex::decode(alloc, file)?;
-    let hash = hex::decode(alloc, hash)?;
-    let table = VerdictTable::parse(alloc, &hex::decode(alloc, table)?)?;
-    let line = match check_basic(alloc, &file, &hash, &table) {
-        Ok(accepted) => format!(in alloc;
-            "accepted {:?} {:?} {:?}\n",
-            accepted.signer,
-            accepted.path.as_slice(),
-            accepted.excuse
-        )?,
-        Err(error) => format!(in alloc; "{} {error}\n", error.name(alloc)?)?,
-    };
-    Ok(line)
+    let case = case_of(alloc, file, hash, table)?;
+    let line = answer(alloc, &case, &case.file)?;
+    writeln!(out, "{line}")?;
+    for change in words {
+        let line = answer_to_change(alloc, &case, change)?;
+        writeln!(out, "{line}")?;
+    }
+    Ok(())
 }

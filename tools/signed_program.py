@@ -1,0 +1,77 @@
+#!/usr/bin/env python3
+"""Take the signature out of a signed program of Windows, and print the digest that it is for.
+
+    python3 tools/signed_program.py PROGRAM SIG [DIGEST]
+
+writes to SIG the first entry of the program's certificate table, a WIN_CERTIFICATE,
+and prints the digest of the program in hexadecimal digits: by DIGEST, `sha256`
+unless it is given, of all octets but the checksum, the place of the certificate
+table and that table (Windows Authenticode Portable Executable Signature Format,
+"Calculating the PE Image Hash").
+"""
+
+import sys
+from hashlib import new
+from pathlib import Path
+from struct import error, unpack_from
+
+CHECKSUM = 64
+# The place of the certificate table, by the magic number of the optional header: after its fixed fields, the fifth pair.
+TABLE_PLACE = {0x10B: 96 + 4 * 8, 0x20B: 112 + 4 * 8}
+
+
+class NotSigned(Exception):
+    """The file is no signed program."""
+
+
+def parts(program):
+    """Where the optional header begins, where in it the place of the table stands, and the table's place and length."""
+    try:
+        header, = unpack_from("<I", program, 60)
+        optional = header + 24
+        place = TABLE_PLACE[unpack_from("<H", program, optional)[0]]
+        at, length = unpack_from("<II", program, optional + place)
+    except (error, KeyError) as refusal:
+        raise NotSigned("it is no portable executable") from refusal
+    if not program.startswith(b"MZ") or program[header:header + 4] != b"PE\0\0":
+        raise NotSigned("it is no portable executable")
+    return optional, place, at, length
+
+
+def signature(program):
+    """The first entry of the certificate table, with its padding."""
+    _, _, at, length = parts(program)
+    if length < 8 or at + length > len(program):
+        raise NotSigned("it has no certificate table")
+    stated, = unpack_from("<I", program, at)
+    return program[at:at + stated]
+
+
+def image_digest(program, digest):
+    """The digest of the program without its signature."""
+    optional, place, at, length = parts(program)
+    end = at if length else len(program)
+    hashed = new(digest)
+    hashed.update(program[:optional + CHECKSUM])
+    hashed.update(program[optional + CHECKSUM + 4:optional + place])
+    hashed.update(program[optional + place + 8:end])
+    hashed.update(program[end + length:])
+    return hashed.hexdigest()
+
+
+def main(arguments):
+    if len(arguments) not in (2, 3):
+        print("usage: signed_program.py PROGRAM SIG [DIGEST]", file=sys.stderr)
+        return 2
+    try:
+        program = Path(arguments[0]).read_bytes()
+        Path(arguments[1]).write_bytes(signature(program))
+        print(image_digest(program, *arguments[2:] or ["sha256"]))
+    except (OSError, NotSigned, ValueError) as refusal:
+        print(f"signed_program.py: {arguments[0]}: {refusal}", file=sys.stderr)
+        return 1
+    return 0
+
+
+if __name__ == "__main__":
+    sys.exit(main(sys.argv[1:]))
