@@ -630,6 +630,7 @@ UNLIKE_VALIDITIES = [
 GENERAL_NAMES = [
     ("30819ca020060a2b060104018237140203a0120c1075736572406578616d706c652e6f7267810d61406578616d706c652e6f7267820f7777772e6578616d706c652e6f7267a421301f310b30090603550406130253453110300e060355040a0c074578616d706c65861568747470733a2f2f6578616d706c652e6f72672f618704c0000201871020010db800000000000000000000000188062a864886f70d", "all but the party, as openssl req -x509 writes them: UPN, email, DNS, dirName, URI, IP of both kinds, RID"),
     ("3000", "no names"),
+    ("300b82096c6f63616c686f7374", "a host"),
     ("3007a505a103130142", "a party, a PrintableString"),
     ("300ca50aa0030c0141a1030c0142", "a party and who assigned it"),
     ("300ba509a0021e00a103140142", "a party, a TeletexString, and an empty BMPString"),
@@ -741,7 +742,6 @@ MADE_ADDRESSES = [
 
 # Lists of general names in which names are found, beside those that are read.
 FOUND_GENERAL_NAMES = [
-    ("300b82096c6f63616c686f7374", "one host"),
     ("3010a40e300c310a300806035504030c0141", "one name of the directory"),
     ("3009820161820162820163", "three hosts"),
     ("3020a40e300c310a300806035504030c0141a40e300c310a300806035504030c0142", "two names of the directory"),

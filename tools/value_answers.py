@@ -404,6 +404,11 @@ def made_extension_rows():
     usage = made_extension(15, write(made_usage(1)))
     critical = Constructed(0x30, (usage.kids[0], Primitive(1, b"\xff"), usage.kids[1]))
     yield made_row("extension critical_key_usage 1", "extension", critical)
+    # The flag alone is taken away; one that isn't there stays so.
+    for element, why in structures.EXTENSIONS:
+        if "octet of TRUE" not in why:
+            oid, *_, value = read_exact(bytes.fromhex(element)).kids
+            yield made_row(f"extension non_critical {element}", "extension", Constructed(0x30, (oid, value)))
 
 
 def made_attribute_rows():

@@ -14,6 +14,7 @@ pub fn answer(alloc: Global, call: &str, args: &[&str]) -> Result<String> {
         ("basic_constraints", [ca, pathlen]) => basic_constraints(alloc, ca, pathlen)?,
         ("key_usage", [flags]) => key_usage(alloc, flags)?,
         ("critical_key_usage", [flags]) => critical_key_usage(alloc, flags)?,
+        ("non_critical", [octets]) => non_critical(alloc, octets)?,
         ("extended_key_usage", purposes) => extended_key_usage(alloc, purposes)?,
         ("subject_alt_name", [names]) => subject_alt_name(alloc, names)?,
         ("issuer_alt_name", [names]) => issuer_alt_name(alloc, names)?,
@@ -43,6 +44,11 @@ fn key_usage(alloc: Global, flags: &str) -> Result<Made> {
 
 fn critical_key_usage(alloc: Global, flags: &str) -> Result<Made> {
     Ok(key_usage(alloc, flags)?.map(Extension::into_critical))
+}
+
+fn non_critical(alloc: Global, octets: &str) -> Result<Made> {
+    let read = Extension::from_der(alloc, &octets_of(alloc, octets)?);
+    Ok(read.map(Extension::into_non_critical))
 }
 
 fn extended_key_usage(alloc: Global, purposes: &[&str]) -> Result<Made> {
