@@ -18,6 +18,7 @@ import certificate_parts
 import basic_answers
 import basic_rows
 import basic_world
+import chains
 import compare_basic
 import compare_readers
 import der_reader
@@ -550,6 +551,46 @@ class VerdictTableTest(unittest.TestCase):
         for octets in b"", b"\x09\0\0\0\0\2\2\0", b"\x0a\0\0\0\0\2\2\0\5\0", self.signed("cms, written in pieces"):
             with self.assertRaises(verdict_table.NotASignatureFile):
                 verdict_table.table(octets)
+
+
+class ChainsTest(unittest.TestCase):
+    """Lines by hand, from the kinds of the certificates."""
+
+    LINES = [
+        ("root", "2025-01-31", "accepted parents=0"),
+        ("by third, third, second, first, root", "2025-01-31", "accepted parents=4"),
+        ("by first, first", "2025-01-31", "refused InvalidChain:NoRoot"),
+        ("below below short, below short, short", "2025-01-31", "refused InvalidChain:TooDeep"),
+        ("by no authority, no authority, root", "2025-01-31", "refused InvalidChain:IssuerIsNotCA"),
+        ("late, root", "2030-06-01T11:59:59", "refused InvalidCertificate:CertificateNotYetValid"),
+        ("early, root", "2024-03-01", "refused InvalidCertificate:CertificateExpired"),
+        ("by early root, early root", "2024-03-01", "refused InvalidCertificate:CertificateExpired"),
+        ("names a missing key, nameless key", "2025-01-31", "refused InvalidCertificate:ExtensionNotFound"),
+        ("names another key, root", "2025-01-31", "refused InvalidCertificate:InvalidChain:AuthorityKeyIdMismatch"),
+        ("no identifier, other", "2025-01-31", "refused InvalidCertificate:InvalidChain:IssuerNameMismatch"),
+        ("no identifier, namesake", "2025-01-31", "refused InvalidCertificate:Signature"),
+        ("pss, root", "2025-01-31", "refused Signature"),
+    ]
+
+    def test_lines(self):
+        certificates, table = chains.stored(), chains.stored_table()
+        for labels, date, line in self.LINES:
+            case = chains.Case(date, tuple(labels.split(", ")))
+            self.assertEqual(chains.answer(case, certificates, table)[1], line + "\n", labels)
+
+    def test_what_is_stored(self):
+        self.assertEqual(list(chains.stored()), list(chains.KINDS))
+
+    @unittest.skipUnless(which("openssl"), "openssl isn't there")
+    def test_a_table(self):
+        certificates = chains.stored()
+        labels = "by second", "second", "first", "root"
+        lines, lacking = verdict_table.chain_table([certificates[label] for label in labels])
+        self.assertEqual([line.split()[0] for line in lines], ["p384-sha384", "p256-sha256", "rsa-sha512"])
+        self.assertLessEqual(set(lines), set(chains.stored_table().splitlines()))
+        self.assertEqual(lacking, [])
+        _, lacking = verdict_table.chain_table([certificates["no identifier"], certificates["namesake"]])
+        self.assertEqual(lacking, ["certificate 0: not accepted as rsa-sha256"])
 
 
 @unittest.skipUnless(which("openssl"), "openssl isn't there")

@@ -1,7 +1,8 @@
 #!/usr/bin/env python3
-"""Print the verdict table that real arithmetic gives for a signature file.
+"""Print the verdict table that real arithmetic gives for a signature file, or for certificates.
 
     python3 tools/verdict_table.py SIG > TABLE
+    python3 tools/verdict_table.py --chain CERT .. > TABLE
 
 SIG is a file with a WIN_CERTIFICATE.  Each line names one signature that openssl
 accepts, in the form that docs/FORMATS.md gives for verdict tables:
@@ -10,6 +11,9 @@ accepts, in the form that docs/FORMATS.md gives for verdict tables:
   - of each certificate that stands in the signed data, that of whoever's subject is
     its issuer, over its TBSCertificate;
   - of the certificates in the token of a timestamp, the same.
+
+Each CERT is a file with one certificate in DER, the one that is checked first and
+its nearest parent next.  Each line names the signature of one by the key of the next.
 
 A signature that is asked for and that openssl doesn't accept, or whose algorithm
 has no name in a table, has a line on standard error.  Nothing is said of whether
@@ -24,7 +28,7 @@ from tempfile import TemporaryDirectory
 from typing import NamedTuple
 
 from certificate_making import OpensslError, openssl
-from der_reader import Constructed, Malformed, read_first, write
+from der_reader import Constructed, Malformed, read_exact, read_first, write
 from value_reader import Shape, certificate, dotted
 
 RSA = "1.2.840.113549.1.1.1"
@@ -50,6 +54,10 @@ MICROSOFT_COUNTERSIGNATURE = "1.3.6.1.4.1.311.3.3.1"
 
 class NotASignatureFile(Exception):
     """The file isn't a WIN_CERTIFICATE with signed data."""
+
+
+class NotACertificate(Exception):
+    """The file isn't one certificate."""
 
 
 class Certificate(NamedTuple):
@@ -206,10 +214,37 @@ def asked_of(octets):
         yield from of_certificates(signed_fields(token)[0], "the token")
 
 
+def certificate_in(octets):
+    """The parts of the certificate that octets are."""
+    try:
+        element = read_exact(octets)
+        certificate(element)
+    except (Malformed, Shape) as refusal:
+        raise NotACertificate(f"it isn't one certificate in DER: {refusal}") from refusal
+    return Certificate.of(element)
+
+
+def asked_of_chain(certificates):
+    """The signature of each certificate by the next one (RFC 5280 4.1.1.3)."""
+    for place, (child, parent) in enumerate(zip(certificates, certificates[1:])):
+        algorithm, digest = SIGNATURES.get(child.algorithm, (None, None))
+        yield Asked(f"certificate {place}", parent, algorithm, digest, child.tbs, child.signature)
+
+
 def table(octets):
-    """The lines of the table, and what has none."""
+    """The lines of the table for a signature file, and what has none."""
+    return table_of(asked_of(octets))
+
+
+def chain_table(files):
+    """The lines of the table for certificates, by their octets, and what has none."""
+    return table_of(asked_of_chain([certificate_in(octets) for octets in files]))
+
+
+def table_of(all_asked):
+    """The lines for signatures that are asked for, and what has none."""
     lines, lacking = [], []
-    for asked in asked_of(octets):
+    for asked in all_asked:
         if asked.name() is None:
             lacking.append(f"{asked.what}: no name in a table")
         elif not asked.is_accepted():
@@ -220,13 +255,17 @@ def table(octets):
 
 
 def main(arguments):
-    if len(arguments) != 1:
-        print("usage: verdict_table.py SIG", file=sys.stderr)
+    of_chain = arguments[:1] == ["--chain"]
+    if len(arguments) < 2 if of_chain else len(arguments) != 1:
+        print("usage: verdict_table.py SIG | --chain CERT ..", file=sys.stderr)
         return 2
     try:
-        lines, lacking = table(Path(arguments[0]).read_bytes())
-    except (OSError, NotASignatureFile) as error:
-        print(f"verdict_table.py: {arguments[0]}: {error}", file=sys.stderr)
+        if of_chain:
+            lines, lacking = chain_table([Path(file).read_bytes() for file in arguments[1:]])
+        else:
+            lines, lacking = table(Path(arguments[0]).read_bytes())
+    except (OSError, NotASignatureFile, NotACertificate) as error:
+        print(f"verdict_table.py: {error}", file=sys.stderr)
         return 1
     for line in lines:
         print(line)
