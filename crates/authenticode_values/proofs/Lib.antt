@@ -1,0 +1,4 @@
+pub mod Members
+pub mod Namings
+pub mod Padding
+pub mod Walks

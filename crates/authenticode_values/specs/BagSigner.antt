@@ -1,0 +1,30 @@
+-- The certificate of the signer (RFC 5652 5.3, 10.2.4).
+use Rattle.std.specs.Prelude.{◌≡◌, ℕ, List, ◌∷◌}
+use Rattle.der_core.specs.DerElement.{DerElement}
+use Rattle.asn1_types.specs.Values.{integer_contents}
+use Rattle.x501_types.specs.Name.{name}
+use Rattle.x509_types.specs.CertificateElements.{CertificateElements}
+use Rattle.cms_types.specs.SignerInfo.{signer_info}
+use Rattle.cms_types.specs.declared.issuer_and_serial.IssuerAndSerialNumber.{IssuerAndSerialNumber}
+use Rattle.cms_types.specs.declared.signer_identifier.SignerIdentifier.TheVariants as named
+use Rattle.cms_types.specs.declared.signer_info.SignerInfo.{SignerInfo}
+use Rattle.authenticode_values.specs.Names.{IsSameName}
+use Rattle.authenticode_values.specs.Places.{IsLeastPlace, HasNoPlace}
+
+-- The first of the signers names the certificate by its issuer and its serial number.
+pub record IsNamed (signers : List DerElement) (c : CertificateElements) : Type 0 where
+  pub signer : SignerInfo
+  pub others : List DerElement
+  pub first : signers ≡ signer_info signer ∷ others
+  pub value : IssuerAndSerialNumber
+  pub sid : signer.sid ≡ named.IssuerAndSerialNumber value
+  pub issuer : IsSameName (name value.issuer) c.tbs.issuer
+  pub serial_number : integer_contents value.serial_number ≡ c.tbs.serial_number
+
+-- the place is the least one whose certificate the first of the signers names
+abbrev pub IsSignerPlace : List DerElement → List CertificateElements → ℕ → CertificateElements → Type 0
+IsSignerPlace signers bag place c = IsLeastPlace bag (IsNamed signers) 0 place c
+
+-- There is no such place: there is no signer, it names the identifier of a key, or no certificate fits.
+abbrev pub HasNoSigner : List DerElement → List CertificateElements → Type 0
+HasNoSigner signers bag = HasNoPlace bag (IsNamed signers) 0

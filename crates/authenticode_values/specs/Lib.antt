@@ -1,0 +1,12 @@
+pub mod CertificateBag
+pub mod Places
+pub mod Names
+pub mod BagSigner
+pub mod IssuerWalk
+pub mod Unread
+pub mod Pkcs7
+pub mod Refusals
+pub mod ErrorText
+pub mod SigningCertificate
+pub mod SignedFields
+pub mod Walk

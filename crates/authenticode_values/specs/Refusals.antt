@@ -1,0 +1,47 @@
+-- Why signed data isn't read or written, by why its element isn't.
+use Rattle.std.specs.Prelude.{◌≡◌}
+use Rattle.der_core.specs.declared.error.DerError.{DerError}
+use Rattle.der_core.specs.declared.error.DerError.TheVariants as der
+use Rattle.key_core.specs.declared.element.Element.TheVariants as structures
+use Rattle.x509_core.specs.declared.error.CertError.{CertError}
+use Rattle.x509_core.specs.declared.error.CertError.TheVariants as certs
+use Rattle.authenticode_values.specs.declared.error.AuthenticodeError.{AuthenticodeError}
+use Rattle.authenticode_values.specs.declared.error.AuthenticodeError.TheVariants as authenticode
+use Rattle.authenticode_values.specs.declared.pkcs7_error.Pkcs7Error.{Pkcs7Error}
+use Rattle.authenticode_values.specs.declared.pkcs7_error.Pkcs7Error.TheVariants as errors
+
+-- want of memory is told as such, any other cause by the structure and the cause
+abbrev pub unread : DerError → Pkcs7Error
+unread der.Memory = errors.Memory
+unread (der.Malformed m) = errors.Cert (certs.Asn1Deserialization structures.Pkcs7 (der.Malformed m))
+unread der.Shape = errors.Cert (certs.Asn1Deserialization structures.Pkcs7 der.Shape)
+unread der.TooDeep = errors.Cert (certs.Asn1Deserialization structures.Pkcs7 der.TooDeep)
+unread der.TooLong = errors.Cert (certs.Asn1Deserialization structures.Pkcs7 der.TooLong)
+
+abbrev pub unwritten : DerError → Pkcs7Error
+unwritten der.Memory = errors.Memory
+unwritten (der.Malformed m) = errors.Cert (certs.Asn1Serialization structures.Pkcs7 (der.Malformed m))
+unwritten der.Shape = errors.Cert (certs.Asn1Serialization structures.Pkcs7 der.Shape)
+unwritten der.TooDeep = errors.Cert (certs.Asn1Serialization structures.Pkcs7 der.TooDeep)
+unwritten der.TooLong = errors.Cert (certs.Asn1Serialization structures.Pkcs7 der.TooLong)
+
+-- an error of certificates as one of signed data
+abbrev pub of_certificates : CertError → Pkcs7Error
+of_certificates certs.Memory = errors.Memory
+of_certificates e = errors.Cert e
+
+-- an error of signed data as one of signatures
+abbrev pub of_signed_data : Pkcs7Error → AuthenticodeError
+of_signed_data (errors.Cert e) = authenticode.CertError e
+of_signed_data errors.Memory = authenticode.Memory
+
+-- the error tells of octets, or of a value, that are refused for this cause
+abbrev pub IsUnread : (DerError → Type 0) → Pkcs7Error → Type 0
+IsUnread Refuses e = (source : DerError) × (e ≡ unread source) × Refuses source
+
+abbrev pub IsUnwritten : (DerError → Type 0) → Pkcs7Error → Type 0
+IsUnwritten Refuses e = (source : DerError) × (e ≡ unwritten source) × Refuses source
+
+-- the error of a signature tells so
+abbrev pub Tells : (Pkcs7Error → Type 0) → AuthenticodeError → Type 0
+Tells Refuses e = (source : Pkcs7Error) × (e ≡ of_signed_data source) × Refuses source

@@ -1,0 +1,49 @@
+-- The signer's certificate among others (RFC 5652 5.3, 10.2.4).
+use Rattle.std.specs.Prelude.{◌≡◌, ⊤, ℕ, List, [], ◌∷◌, Some, map, slice_get}
+use Rattle.asn1_types.specs.Values.{integer_contents}
+use Rattle.cms_types.specs.SignerInfo.{signer_info}
+use Rattle.cms_types.specs.declared.issuer_and_serial.IssuerAndSerialNumber.{IssuerAndSerialNumber}
+use Rattle.cms_types.specs.declared.signer_identifier.SignerIdentifier.{SignerIdentifier}
+use Rattle.cms_types.specs.declared.signer_identifier.SignerIdentifier.TheVariants as named
+use Rattle.cms_types.specs.declared.signer_info.SignerInfo.{SignerInfo}
+use Rattle.x501_types.specs.Name.{name}
+use Rattle.x509_core.specs.KeptCertificate.{KeptCertificate}
+use Rattle.x509_types.specs.CertificateElements.{CertificateElements}
+use Rattle.authenticode_values.specs.BagSigner.{IsSignerPlace, HasNoSigner}
+use Rattle.authenticode_values.specs.Names.{IsSameName}
+use Rattle.authenticode_values.specs.Pkcs7.{elements_of}
+use Rattle.authenticode_values.specs.declared.error.AuthenticodeError.{AuthenticodeError}
+use Rattle.authenticode_values.specs.declared.error.AuthenticodeError.TheVariants as errors
+
+-- The certificate is one of these, and stands at the least place of those that the first of the signers names.
+pub record IsSigningCertificate (signers : List SignerInfo) (certificates : List KeptCertificate) (c : KeptCertificate) : Type 0 where
+  pub place : ℕ
+  pub stands : slice_get certificates place ≡ Some c
+  pub is_signer : IsSignerPlace (map signer_info signers) (elements_of certificates) place c.elements
+
+-- The first of the signers names its certificate by this.
+pub record IsFirstNamed (signers : List SignerInfo) (sid : SignerIdentifier) : Type 0 where
+  pub signer : SignerInfo
+  pub others : List SignerInfo
+  pub first : signers ≡ signer ∷ others
+  pub named : signer.sid ≡ sid
+
+-- Why none of the certificates is the signer's: there is no signer, it is named by the identifier of a key, or none of them is named.
+abbrev pub HasNoSigningCertificate : List SignerInfo → List KeptCertificate → AuthenticodeError → Type 0
+HasNoSigningCertificate signers certificates (errors.MultipleSignerInfo count) = (signers ≡ []) × (count ≡ 0)
+HasNoSigningCertificate signers certificates errors.IncorrectSignerIdentifier = (octets : List ℕ) × IsFirstNamed signers (named.SubjectKeyIdentifier octets)
+HasNoSigningCertificate signers certificates (errors.NoCertificatesAssociatedWithIssuerAndSerialNumber issuer serial_number) =
+    IsFirstNamed signers (named.IssuerAndSerialNumber (record { issuer = issuer.name; serial_number = serial_number }))
+    × HasNoSigner (map signer_info signers) (elements_of certificates)
+HasNoSigningCertificate signers certificates errors.Memory = ⊤
+HasNoSigningCertificate signers certificates _ = ⊥
+
+-- why the first of the signers isn't named by an issuer and a serial number
+abbrev pub IsNamedOtherwise : List SignerInfo → AuthenticodeError → Type 0
+IsNamedOtherwise signers (errors.MultipleSignerInfo count) = (signers ≡ []) × (count ≡ 0)
+IsNamedOtherwise signers errors.IncorrectSignerIdentifier = (octets : List ℕ) × IsFirstNamed signers (named.SubjectKeyIdentifier octets)
+IsNamedOtherwise signers _ = ⊥
+
+-- the certificate has this issuer and this serial number
+abbrev pub IsNamedBy : IssuerAndSerialNumber → CertificateElements → Type 0
+IsNamedBy value c = IsSameName (name value.issuer) c.tbs.issuer × (integer_contents value.serial_number ≡ c.tbs.serial_number)
