@@ -27,7 +27,7 @@ pub members_are : (element : DerElement) (kids : List DerElement) → kids_of el
 members_are (Primitive tag content) kids e = absurd cc
 members_are (Constructed tag elements) kids e = cc
 
-heads : (a b : DerElement) (x y : List DerElement) → a ∷ x ≡ b ∷ y → a ≡ b
+pub heads : (a b : DerElement) (x y : List DerElement) → a ∷ x ≡ b ∷ y → a ≡ b
 heads a b x y e = cc
 
 first_is : (signers left : List DerElement) (first : DerElement) (c : CertificateElements) → signers ≡ first ∷ left → (n : IsNamed signers c) → first ≡ signer_info n.signer
@@ -35,7 +35,7 @@ first_is signers left first c e n = heads first (signer_info n.signer) left n.ot
 
 -- ---- what it names
 
-same_sid : (f g : SignerElements) → signer_of f ≡ signer_of g → f.sid ≡ g.sid
+pub same_sid : (f g : SignerElements) → signer_of f ≡ signer_of g → f.sid ≡ g.sid
 same_sid f g e = cc
 
 -- what is named, as it lies there

@@ -16,11 +16,17 @@ same_place bag holds from p q c d a b (inl less) other = absurd (not_less bag ho
 same_place bag holds from p q c d a b (inr more) (inl less) = absurd (not_less bag holds from q p d c b a less)
 same_place bag holds from p q c d a b (inr more) (inr less) = omega (arith, more, less)
 
-same_certificate : (bag : List CertificateElements) (p q : ℕ) (c d : CertificateElements) → p ≡ q → StandsAt bag p c → StandsAt bag q d → d ≡ c
+pub same_certificate : (bag : List CertificateElements) (p q : ℕ) (c d : CertificateElements) → p ≡ q → StandsAt bag p c → StandsAt bag q d → d ≡ c
 same_certificate bag p q c d e a b =
     let there : StandsAt bag p d = subst (λ (n : ℕ). StandsAt bag n d) (sym e) b in
     let some : Some d ≡ Some c = sym there ∙ a in
     cc
+
+-- there is one least place, and one certificate at it
+pub least_once : (bag : List CertificateElements) (holds : CertificateElements → Type 0) (from p q : ℕ) (c d : CertificateElements) → IsLeastPlace bag holds from p c → IsLeastPlace bag holds from q d → (p ≡ q) × (d ≡ c)
+least_once bag holds from p q c d a b =
+    let place = same_place bag holds from p q c d a b (cases_lt p q) (cases_lt q p) in
+    (place, same_certificate bag p q c d place a.stands b.stands)
 
 one_walk_from : (bag : List CertificateElements) (from : ℕ) (subject : DerElement) (a b : List ℕ) → IsWalkFrom bag from subject a → IsWalkFrom bag from subject b → a ≡ b
 one_walk_from bag from subject [] [] w v = refl

@@ -1,36 +1,56 @@
 -- What basic validation of a signature file answers, and why.
-use Rattle.std.specs.Prelude.{◌≡◌, ◌≢◌, ◌≤◌, ◌⊎◌, ℕ, drop, replicate, List, [], Some, Result, Ok, Err}
-use Rattle.std.specs.Result.{IsErrAnd}
-use Rattle.sig_core.specs.declared.algorithm.SigAlg.{SigAlg}
-use Rattle.sig_core.specs.declared.algorithm.SigAlg.TheVariants.{RsaSha256}
-use Rattle.sig_core.specs.declared.scheme.Verdict.{Verdict}
-use Rattle.sig_core.specs.declared.scheme.Verdict.TheVariants.{Accept}
+use Rattle.std.specs.Prelude.{◌≡◌, ◌≢◌, ◌≤◌, ◌⊎◌, ⊤, ℕ, drop, replicate, List, [], ◌∷◌, ◌++◌, Some, Result, Ok, Err}
+use Rattle.cms_types.specs.Pkcs7.{pkcs7}
+use Rattle.cms_types.specs.SignedData.{signed_data_elements}
+use Rattle.cms_types.specs.SignedDataElements.{SignedDataElements}
+use Rattle.cms_types.specs.SignerElements.{SignerElements}
+use Rattle.cms_types.specs.declared.pkcs7.Pkcs7Certificate.{Pkcs7Certificate}
 use Rattle.der_core.specs.DerElement.{DerElement}
 use Rattle.der_core.specs.Encoding.{IsPaddedEncoding}
-use Rattle.der_core.specs.Reading.{IsFirst}
 use Rattle.der_core.specs.Fault.{IsFirstFault}
+use Rattle.der_core.specs.Reading.{IsFirst}
+use Rattle.der_core.specs.declared.error.DerError.{DerError}
+use Rattle.der_core.specs.declared.error.DerError.TheVariants as der
 use Rattle.der_core.specs.declared.fault.DerFault.TheVariants.{Trailing}
 use Rattle.der_core.specs.declared.fault.Malformed.{Malformed}
-use Rattle.der_core.specs.declared.error.DerError.TheVariants as der
+use Rattle.key_core.specs.Verifying.{Judge}
+use Rattle.key_core.specs.declared.element.Element.TheVariants.{Pkcs7}
 use Rattle.wincert_core.specs.Refusal.{contents_in}
-use Rattle.authenticode_core.specs.PlainForm.{SignatureParts, IsPlainForm, signed_message}
+use Rattle.x509_core.specs.Rules.{Rule, IsFirstBroken}
+use Rattle.x509_core.specs.declared.error.CertError.TheVariants.{Asn1Deserialization}
+use Rattle.authenticode_core.specs.FormRules.{HasForm, FileDiffers, form_rules}
+use Rattle.authenticode_core.specs.SignedFields.{HasIndirectData, IndirectData, IsFirstSigner}
+use Rattle.authenticode_core.specs.SigningRules.{IsSigned, signing_rules}
 use Rattle.authenticode_core.specs.declared.accepted.Accepted.{Accepted}
 use Rattle.authenticode_core.specs.declared.accepted.Excuse.TheVariants as excuses
+use Rattle.authenticode_core.specs.declared.error.AuthenticodeError.{AuthenticodeError}
+use Rattle.authenticode_core.specs.declared.error.AuthenticodeError.TheVariants.{CertError}
 use Rattle.authenticode_core.specs.declared.error.CheckError.{CheckError}
-use Rattle.authenticode_core.specs.declared.error.CheckError.TheVariants.{Win, Unread, NotThisForm, Authenticode, Memory}
-use Rattle.authenticode_core.specs.declared.error.AuthenticodeError.TheVariants as authenticode
+use Rattle.authenticode_core.specs.declared.error.CheckError.TheVariants.{Win, Authenticode, Memory}
 
--- A scheme's verdict on an algorithm, a key, a message and a signature.
-abbrev pub Judge : Type 0
-Judge = SigAlg → List ℕ → List ℕ → List ℕ → Verdict
+-- The octets begin with a WIN_CERTIFICATE whose certificate is signed data of these fields, with at most seven zeros after it.
+pub record HasSignedData (octets : List ℕ) (f : SignedDataElements) : Type 0 where
+  pub certificate : List ℕ
+  pub named : contents_in octets ≡ Ok certificate
+  pub value : Pkcs7Certificate
+  pub spelled : IsPaddedEncoding certificate (pkcs7 value)
+  pub fields : f ≡ signed_data_elements value.signed_data
 
--- The signature of the signer over the signed attributes is accepted under the key of the certificate.
-abbrev pub IsSigned : Judge → SignatureParts → Type 0
-IsSigned judge p = judge RsaSha256 p.certificate.tbs.key (signed_message p) p.signer.signature ≡ Accept
+-- the signer's certificate stands at this place, and nothing is said of who vouches for it
+abbrev pub accepted_at : ℕ → Accepted
+accepted_at place = record { signer = Some place; path = []; excuse = excuses.None }
 
--- the first certificate signed, and nothing is said of who vouches for it
-abbrev pub accepted_first : Accepted
-accepted_first = record { signer = Some 0; path = []; excuse = excuses.None }
+-- Signed data vouches for the digest of a file: it has the form, the digest is the one that is asked for, and the signature of its one signer, whose certificate
+-- stands at this place, is good.
+pub record IsVouchedFor (judge : Judge) (f : SignedDataElements) (file_hash : List ℕ) (place : ℕ) : Type 0 where
+  pub algorithm : DerElement
+  pub d : IndirectData
+  pub g : SignerElements
+  pub form : HasForm f algorithm d g
+  pub binds_hash : d.digest ≡ file_hash
+  pub signed : IsSigned judge f d g place
+
+-- ---- why the octets hold no signed data
 
 -- at most seven zeros, which align a WIN_CERTIFICATE
 abbrev pub IsPadding : List ℕ → Type 0
@@ -47,37 +67,60 @@ abbrev pub IsUnread : List ℕ → Malformed → Type 0
 IsUnread certificate m =
     IsFirstFault certificate m.at m.fault ⊎ ((m.fault ≡ Trailing) × HasMoreThanPadding certificate m.at)
 
--- Why the octets have no signed data of the plain form, in this order: the header, the element, the form.
+-- The octets are an element, with at most seven zeros after it, that isn't signed data.
+pub record IsShapeless (certificate : List ℕ) : Type 0 where
+  pub element : DerElement
+  pub spelled : IsPaddedEncoding certificate element
+  pub none : (value : Pkcs7Certificate) → element ≡ pkcs7 value → ⊥
+
+-- why the octets of a certificate aren't signed data: they are no element, or that of another structure
+abbrev pub IsNoSignedData : List ℕ → DerError → Type 0
+IsNoSignedData certificate (der.Malformed m) = IsUnread certificate m
+IsNoSignedData certificate der.Shape = IsShapeless certificate
+IsNoSignedData certificate der.TooDeep = ⊥
+IsNoSignedData certificate der.TooLong = ⊥
+IsNoSignedData certificate der.Memory = ⊥
+
+-- The certificate of the WIN_CERTIFICATE isn't signed data, and the error tells why.
+pub record IsUnreadSignature (octets : List ℕ) (e : AuthenticodeError) : Type 0 where
+  pub certificate : List ℕ
+  pub named : contents_in octets ≡ Ok certificate
+  pub source : DerError
+  pub cause : IsNoSignedData certificate source
+  pub told : e ≡ CertError (Asn1Deserialization Pkcs7 source)
+
+-- ---- rules, in their order
+
+-- the rules of the parts that signed data of this form has: the digest of the file, and the signature
+abbrev pub IsRefusedPart : Judge → SignedDataElements → List ℕ → Rule AuthenticodeError
+IsRefusedPart judge f file_hash e =
+    (d : IndirectData) × (g : SignerElements) × HasIndirectData f d × IsFirstSigner f g
+    × IsFirstBroken (FileDiffers f file_hash ∷ signing_rules judge f d g) e
+
+-- the first broken rule: of the form, then of the digest of the file and of the signature
+abbrev pub basic_rules : Judge → SignedDataElements → List ℕ → List (Rule AuthenticodeError)
+basic_rules judge f file_hash = form_rules f ++ IsRefusedPart judge f file_hash ∷ []
+
+-- ---- answers
+
+-- Why the octets are refused for their header, for what their certificate is, or for the form of its signed data.
 abbrev pub RefusesForm : List ℕ → CheckError → Type 0
 RefusesForm octets (Win e) = contents_in octets ≡ Err e
-RefusesForm octets (Unread e) =
-    (certificate : List ℕ) × (m : Malformed) × (contents_in octets ≡ Ok certificate) × (e ≡ der.Malformed m) × IsUnread certificate m
-RefusesForm octets NotThisForm =
-    (certificate : List ℕ) × (element : DerElement) × (contents_in octets ≡ Ok certificate)
-    × IsPaddedEncoding certificate element × ((p : SignatureParts) → IsPlainForm octets p → ⊥)
-RefusesForm octets (Authenticode e) = ⊥
+RefusesForm octets (Authenticode e) =
+    IsUnreadSignature octets e ⊎ ((f : SignedDataElements) × HasSignedData octets f × IsFirstBroken (form_rules f) e)
 RefusesForm octets Memory = ⊥
 
--- What is answered for parts of the plain form: the digest of the file is compared before the signature.
-abbrev pub IsJudged : Judge → SignatureParts → List ℕ → Result Accepted CheckError → Type 0
-IsJudged judge p file_hash (Ok accepted) = (accepted ≡ accepted_first) × (p.file_hash ≡ file_hash) × IsSigned judge p
-IsJudged judge p file_hash (Err (Authenticode (authenticode.FileHashMismatch actual expected))) =
-    (actual ≡ p.file_hash) × (expected ≡ file_hash) × (actual ≢ expected)
-IsJudged judge p file_hash (Err (Authenticode authenticode.SignatureError)) =
-    (p.file_hash ≡ file_hash) × (IsSigned judge p → ⊥)
-IsJudged judge p file_hash (Err (Authenticode authenticode.Memory)) = ⊥
-IsJudged judge p file_hash (Err (Win e)) = ⊥
-IsJudged judge p file_hash (Err (Unread e)) = ⊥
-IsJudged judge p file_hash (Err NotThisForm) = ⊥
-IsJudged judge p file_hash (Err Memory) = Unit {0}
-
--- Octets without signed data of the plain form are refused for that; else the answer is one for the parts.
+-- The answer: acceptance at the place of the signer's certificate; a refusal by its cause, the first in order; want of memory.
 abbrev pub IsBasicAnswer : Judge → List ℕ → List ℕ → Result Accepted CheckError → Type 0
-IsBasicAnswer judge octets file_hash answer =
-    IsErrAnd answer (RefusesForm octets) ⊎ ((p : SignatureParts) × IsPlainForm octets p × IsJudged judge p file_hash answer)
+IsBasicAnswer judge octets file_hash (Ok accepted) =
+    (f : SignedDataElements) × (place : ℕ) × HasSignedData octets f × IsVouchedFor judge f file_hash place × (accepted ≡ accepted_at place)
+IsBasicAnswer judge octets file_hash (Err (Win e)) = contents_in octets ≡ Err e
+IsBasicAnswer judge octets file_hash (Err (Authenticode e)) =
+    IsUnreadSignature octets e ⊎ ((f : SignedDataElements) × HasSignedData octets f × IsFirstBroken (basic_rules judge f file_hash) e)
+IsBasicAnswer judge octets file_hash (Err Memory) = ⊤
 
 -- Two answers are one, but where one of them is want of memory.
 abbrev pub IsSameUnlessMemory : Result Accepted CheckError → Result Accepted CheckError → Type 0
-IsSameUnlessMemory (Err Memory) b = Unit {0}
-IsSameUnlessMemory a (Err Memory) = Unit {0}
+IsSameUnlessMemory (Err Memory) b = ⊤
+IsSameUnlessMemory a (Err Memory) = ⊤
 IsSameUnlessMemory a b = a ≡ b

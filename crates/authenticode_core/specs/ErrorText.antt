@@ -1,31 +1,64 @@
 -- The texts of errors.
-use Rattle.std.specs.Prelude.{ℕ, List, ◌++◌, codes, Option, Some, None}
+use Rattle.std.specs.Prelude.{ℕ, List, ◌++◌, codes, decimal, Option, Some}
+use Rattle.std.specs.Option.{option_map}
 use Rattle.hex.specs.Hex.{encode_lower}
+use Rattle.key_core.specs.SignatureErrorText.{signature_error_text}
+use Rattle.names_core.specs.declared.name.DirectoryName.{DirectoryName}
+use Rattle.sig_core.specs.ErrorText.{unsupported_hash_text, unsupported_algorithm_text}
 use Rattle.wincert_core.specs.ErrorText.{error_text}
+use Rattle.x501_types.specs.NameText.{name_text}
+use Rattle.x509_core.specs.ErrorText.{cert_error_text}
 use Rattle.authenticode_core.specs.declared.error.AuthenticodeError.{AuthenticodeError}
-use Rattle.authenticode_core.specs.declared.error.AuthenticodeError.TheVariants as authenticode
+use Rattle.authenticode_core.specs.declared.error.AuthenticodeError.TheVariants as contents
 use Rattle.authenticode_core.specs.declared.error.CheckError.{CheckError}
 use Rattle.authenticode_core.specs.declared.error.CheckError.TheVariants as check
 
--- what is told of a digest of the file that is not the one asked for
-abbrev pub mismatch_text : List ℕ → List ℕ → List ℕ
-mismatch_text actual expected =
+-- what is told of a digest of the file that isn't the one asked for
+abbrev pub file_mismatch_text : List ℕ → List ℕ → List ℕ
+file_mismatch_text actual expected =
     codes "the signature is for a file with the digest " ++ encode_lower actual
     ++ codes ", but that of the file is " ++ encode_lower expected
 
--- what is told of signed data that is refused
-abbrev pub content_error_text : AuthenticodeError → List ℕ
-content_error_text (authenticode.FileHashMismatch actual expected) = mismatch_text actual expected
-content_error_text authenticode.SignatureError =
-    codes "the signature is not accepted under the signer's key"
-content_error_text authenticode.Memory = codes "out of memory"
+-- what is told of a message digest that isn't that of the content
+abbrev pub mismatch_text : List ℕ → List ℕ → List ℕ
+mismatch_text actual expected =
+    codes "the signed message digest is " ++ encode_lower actual
+    ++ codes ", but that of the content is " ++ encode_lower expected
 
--- what is told of a signature file that is refused. Of an element that is not read no contract says
--- what is told
+-- what is told of an issuer and the contents octets of a serial number that no certificate has
+abbrev pub unnamed_text : DirectoryName → List ℕ → List ℕ
+unnamed_text issuer serial_number =
+    codes "the signed data has no certificate of the issuer '" ++ name_text issuer.name
+    ++ codes "' with the serial number " ++ encode_lower serial_number
+
+-- what is told of signed data that is refused. Of an element that isn't read, and of a key that
+-- can't be written, no contract says what is told
+abbrev pub content_error_text : AuthenticodeError → Option (List ℕ)
+content_error_text (contents.CertError e) = cert_error_text e
+content_error_text (contents.IncorrectVersion expected got) =
+    Some (codes "the version of the signed data is " ++ decimal got ++ codes ", and not " ++ decimal expected)
+content_error_text (contents.MultipleSignerInfo count) =
+    Some (codes "the signed data has " ++ decimal count ++ codes " signers, and not one")
+content_error_text (contents.IncorrectDigestAlgorithmsCount count) =
+    Some (codes "the signed data has " ++ decimal count ++ codes " digest algorithms, and not one")
+content_error_text contents.NoEncapsulatedContentInfo = Some (codes "the signed data has no content")
+content_error_text contents.NoSpcIndirectDataContent = Some (codes "what is signed does not stand for a file")
+content_error_text contents.DigestAlgorithmMismatch = Some (codes "the signed data names several digest algorithms")
+content_error_text (contents.FileHashMismatch actual expected) = Some (file_mismatch_text actual expected)
+content_error_text contents.IncorrectSignerIdentifier =
+    Some (codes "the signer is named by the identifier of a key, and not by issuer and serial number")
+content_error_text (contents.NoCertificatesAssociatedWithIssuerAndSerialNumber issuer serial_number) =
+    Some (unnamed_text issuer serial_number.contents)
+content_error_text (contents.UnsupportedAlgorithmError e) = Some unsupported_algorithm_text
+content_error_text (contents.SignatureError e) = option_map (λ text. codes "signature error: " ++ text) (signature_error_text e)
+content_error_text contents.NoMessageDigest = Some (codes "no message digest is among the signed attributes")
+content_error_text (contents.UnsupportedHashAlgorithmError e) = Some (unsupported_hash_text e)
+content_error_text (contents.HashMismatch actual expected) = Some (mismatch_text actual expected)
+content_error_text contents.NoEKUCodeSigning = Some (codes "the certificate of the signer is not one for code signing")
+content_error_text contents.Memory = Some (codes "out of memory")
+
+-- what is told of a signature file that is refused
 abbrev pub check_error_text : CheckError → Option (List ℕ)
 check_error_text (check.Win e) = Some (error_text e)
-check_error_text (check.Unread e) = None
-check_error_text check.NotThisForm =
-    Some (codes "the certificate is not signed data of the one form that is checked: one certificate, and one signer with an RSA key and SHA-256")
-check_error_text (check.Authenticode e) = Some (content_error_text e)
+check_error_text (check.Authenticode e) = content_error_text e
 check_error_text check.Memory = Some (codes "out of memory")

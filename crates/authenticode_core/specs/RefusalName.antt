@@ -2,8 +2,9 @@
 use Rattle.std.specs.Prelude.{ℕ, List, codes}
 use Rattle.wincert_core.specs.declared.error.WinCertificateError.{WinCertificateError}
 use Rattle.wincert_core.specs.declared.error.WinCertificateError.TheVariants as win
+use Rattle.x509_core.specs.ErrorName.{cert_error_name}
 use Rattle.authenticode_core.specs.declared.error.AuthenticodeError.{AuthenticodeError}
-use Rattle.authenticode_core.specs.declared.error.AuthenticodeError.TheVariants as authenticode
+use Rattle.authenticode_core.specs.declared.error.AuthenticodeError.TheVariants as contents
 use Rattle.authenticode_core.specs.declared.error.CheckError.{CheckError}
 use Rattle.authenticode_core.specs.declared.error.CheckError.TheVariants as check
 
@@ -17,16 +18,34 @@ header_refusal_name (win.Io stated got) = codes "Io"
 header_refusal_name win.TooLong = codes "TooLong"
 header_refusal_name win.Memory = codes "Memory"
 
--- the name of a refusal of the signed data
+-- the name of the variant
+abbrev pub variant_name : AuthenticodeError → List ℕ
+variant_name (contents.CertError e) = codes "CertError"
+variant_name (contents.IncorrectVersion expected got) = codes "IncorrectVersion"
+variant_name (contents.MultipleSignerInfo count) = codes "MultipleSignerInfo"
+variant_name (contents.IncorrectDigestAlgorithmsCount count) = codes "IncorrectDigestAlgorithmsCount"
+variant_name contents.NoEncapsulatedContentInfo = codes "NoEncapsulatedContentInfo"
+variant_name contents.NoSpcIndirectDataContent = codes "NoSpcIndirectDataContent"
+variant_name contents.DigestAlgorithmMismatch = codes "DigestAlgorithmMismatch"
+variant_name (contents.FileHashMismatch actual expected) = codes "FileHashMismatch"
+variant_name contents.IncorrectSignerIdentifier = codes "IncorrectSignerIdentifier"
+variant_name (contents.NoCertificatesAssociatedWithIssuerAndSerialNumber issuer serial_number) =
+    codes "NoCertificatesAssociatedWithIssuerAndSerialNumber"
+variant_name (contents.UnsupportedAlgorithmError e) = codes "UnsupportedAlgorithmError"
+variant_name (contents.SignatureError e) = codes "SignatureError"
+variant_name contents.NoMessageDigest = codes "NoMessageDigest"
+variant_name (contents.UnsupportedHashAlgorithmError e) = codes "UnsupportedHashAlgorithmError"
+variant_name (contents.HashMismatch actual expected) = codes "HashMismatch"
+variant_name contents.NoEKUCodeSigning = codes "NoEKUCodeSigning"
+variant_name contents.Memory = codes "Memory"
+
+-- the name of a refusal of the signed data: that of the variant, or of the error of certificates that it holds
 abbrev pub content_refusal_name : AuthenticodeError → List ℕ
-content_refusal_name (authenticode.FileHashMismatch actual expected) = codes "FileHashMismatch"
-content_refusal_name authenticode.SignatureError = codes "SignatureError"
-content_refusal_name authenticode.Memory = codes "Memory"
+content_refusal_name (contents.CertError e) = cert_error_name e
+content_refusal_name e = variant_name e
 
 -- the name of a refusal
 abbrev pub refusal_name : CheckError → List ℕ
 refusal_name (check.Win e) = header_refusal_name e
-refusal_name (check.Unread e) = codes "Asn1Deserialization"
-refusal_name check.NotThisForm = codes "NotThisForm"
 refusal_name (check.Authenticode e) = content_refusal_name e
 refusal_name check.Memory = codes "Memory"

@@ -1,61 +1,196 @@
 //! Why a signature is refused.
 
-ghost use Rattle.std.specs.Prelude.{◌≡◌, Some, IfOk, string_bytes};
+ghost use Rattle.std.specs.Prelude.{◌≡◌, IfOk, string_bytes};
 ghost use Rattle.std.specs.Fmt.{WritesOnOk};
 ghost use Rattle.hex.specs.Hex.{encode_lower};
-ghost use Rattle.der_core.specs.declared.error.DerError.TheVariants as der;
-ghost use Rattle.authenticode_core.specs.ErrorText.{check_error_text, content_error_text, mismatch_text};
-ghost use Rattle.authenticode_core.specs.RefusalName.{content_refusal_name, header_refusal_name, refusal_name};
-ghost use Rattle.authenticode_core.specs.declared.error.CheckError.TheVariants.{Memory, Unread, Win};
+ghost use Rattle.authenticode_core.specs.ErrorText.{check_error_text, content_error_text, file_mismatch_text, mismatch_text, unnamed_text};
+ghost use Rattle.authenticode_core.specs.ContentRefusal.{told_of_content};
+ghost use Rattle.authenticode_core.specs.RefusalName.{content_refusal_name, header_refusal_name, refusal_name, variant_name};
+ghost use Rattle.authenticode_core.specs.declared.error.CheckError.TheVariants.{Memory, Win};
+ghost use Rattle.authenticode_core.specs.declared.error.AuthenticodeError.TheVariants as contents;
 
-use der_core::{DerError, Malformed, Octets};
+use asn1_types::IntegerAsn1;
+use der_core::Octets;
+use key_core::SignatureError;
+use names_core::DirectoryName;
+use sig_core::{UnsupportedAlgorithmError, UnsupportedHashAlgorithmError};
 use std::alloc::{AllocError, AllocFailed, Global};
 use std::fmt::{self, Display};
 use thiserror::Error;
 use wincert_core::WinCertificateError;
+use x509_core::CertError;
 
-/// Why the signed data is refused.
+/// Why signed data is refused, in the order in which it is asked (Windows Authenticode Portable
+/// Executable Signature Format).
 #[derive(Debug, Drop, Error)]
 pub enum AuthenticodeError {
-    /// The digest of the file in the signed data is another one.
-    FileHashMismatch { actual: Octets, expected: Octets },
-    /// The signature of the signer is not accepted.
-    SignatureError,
+    /// The octets are no element, or no signed data. Never with want of memory.
+    CertError(CertError),
+    /// The version of the signed data is another one.
+    IncorrectVersion {
+        expected: u8,
+        got: u8,
+    },
+    /// There are so many signers, and not one.
+    MultipleSignerInfo {
+        count: usize,
+    },
+    /// There are so many digest algorithms, and not one.
+    IncorrectDigestAlgorithmsCount {
+        incorrect_count: usize,
+    },
+    /// The content is left out.
+    NoEncapsulatedContentInfo,
+    /// The content isn't what is signed in the place of a file.
+    NoSpcIndirectDataContent,
+    /// The digest algorithm of the content, or that of the signer, is another one than that of the
+    /// signed data.
+    DigestAlgorithmMismatch,
+    /// The digest of the file in the content, `actual`, is another one than is asked for.
+    FileHashMismatch {
+        actual: Octets,
+        expected: Octets,
+    },
+    /// The signer is named by the identifier of a key, and not by an issuer and a serial number.
+    IncorrectSignerIdentifier,
+    /// No certificate of the signed data has the issuer and the serial number that name the signer.
+    NoCertificatesAssociatedWithIssuerAndSerialNumber {
+        issuer: DirectoryName,
+        serial_number: IntegerAsn1,
+    },
+    /// The digest algorithm of the signer isn't known.
+    UnsupportedAlgorithmError(UnsupportedAlgorithmError),
+    /// The signature of the signer isn't accepted under its key. Never with want of memory.
+    SignatureError(SignatureError),
+    /// No message digest is among the signed attributes.
+    NoMessageDigest,
+    /// The digest algorithm of the signer is none that Authenticode has.
+    UnsupportedHashAlgorithmError(UnsupportedHashAlgorithmError),
+    /// The message digest, `actual`, isn't the digest of the content.
+    HashMismatch {
+        actual: Octets,
+        expected: Octets,
+    },
+    /// The certificate of the signer isn't one for code signing.
+    NoEKUCodeSigning,
     /// No memory was left.
     Memory,
 }
 
 impl AuthenticodeError {
-    /// The name of the variant.
-    fn name(&self) -> &'static str
-        ensures { result.now ≡ content_refusal_name self.now }
+    /// The name of the variant, or that of the error of certificates that it holds.
+    fn name(&self, alloc: Global) -> Result<String, AllocError>
+        ensures { IfOk result (λ name. string_bytes name ≡ content_refusal_name self.now) }
     {
         match self {
+            AuthenticodeError::CertError(error) => error.name(alloc),
+            _ => String::from_str(alloc, self.word()),
+        }
+    }
+
+    /// The name of the variant.
+    fn word(&self) -> &'static str
+        ensures { result.now ≡ variant_name self.now }
+    {
+        match self {
+            AuthenticodeError::CertError(_) => "CertError",
+            AuthenticodeError::IncorrectVersion { .. } => "IncorrectVersion",
+            AuthenticodeError::MultipleSignerInfo { .. } => "MultipleSignerInfo",
+            AuthenticodeError::IncorrectDigestAlgorithmsCount { .. } => {
+                "IncorrectDigestAlgorithmsCount"
+            }
+            AuthenticodeError::NoEncapsulatedContentInfo => "NoEncapsulatedContentInfo",
+            AuthenticodeError::NoSpcIndirectDataContent => "NoSpcIndirectDataContent",
+            AuthenticodeError::DigestAlgorithmMismatch => "DigestAlgorithmMismatch",
             AuthenticodeError::FileHashMismatch { .. } => "FileHashMismatch",
-            AuthenticodeError::SignatureError => "SignatureError",
+            AuthenticodeError::IncorrectSignerIdentifier => "IncorrectSignerIdentifier",
+            AuthenticodeError::NoCertificatesAssociatedWithIssuerAndSerialNumber { .. } => {
+                "NoCertificatesAssociatedWithIssuerAndSerialNumber"
+            }
+            AuthenticodeError::UnsupportedAlgorithmError(_) => "UnsupportedAlgorithmError",
+            AuthenticodeError::SignatureError(_) => "SignatureError",
+            AuthenticodeError::NoMessageDigest => "NoMessageDigest",
+            AuthenticodeError::UnsupportedHashAlgorithmError(_) => "UnsupportedHashAlgorithmError",
+            AuthenticodeError::HashMismatch { .. } => "HashMismatch",
+            AuthenticodeError::NoEKUCodeSigning => "NoEKUCodeSigning",
             AuthenticodeError::Memory => "Memory",
         }
     }
 }
 
 impl fmt::Display for AuthenticodeError {
-    ghost output = { λ error. Some (content_error_text error) };
+    ghost output = { content_error_text };
 
     fn fmt<W: fmt::Write>(&self, f: &mut fmt::Formatter<W>) -> fmt::Result {
         match self {
+            AuthenticodeError::CertError(error) => error.fmt(f),
+            AuthenticodeError::IncorrectVersion { expected, got } => write!(
+                f,
+                "the version of the signed data is {got}, and not {expected}"
+            ),
+            AuthenticodeError::MultipleSignerInfo { count } => {
+                write!(f, "the signed data has {count} signers, and not one")
+            }
+            AuthenticodeError::IncorrectDigestAlgorithmsCount { incorrect_count } => write!(
+                f,
+                "the signed data has {incorrect_count} digest algorithms, and not one"
+            ),
+            AuthenticodeError::NoEncapsulatedContentInfo => {
+                write!(f, "the signed data has no content")
+            }
+            AuthenticodeError::NoSpcIndirectDataContent => {
+                write!(f, "what is signed does not stand for a file")
+            }
+            AuthenticodeError::DigestAlgorithmMismatch => {
+                write!(f, "the signed data names several digest algorithms")
+            }
             AuthenticodeError::FileHashMismatch { actual, expected } => {
+                write_file_mismatch(actual.as_slice(), expected.as_slice(), f)
+            }
+            AuthenticodeError::IncorrectSignerIdentifier => write!(
+                f,
+                "the signer is named by the identifier of a key, and not by issuer and serial number"
+            ),
+            AuthenticodeError::NoCertificatesAssociatedWithIssuerAndSerialNumber {
+                issuer,
+                serial_number,
+            } => write_unnamed(issuer, serial_number.as_signed_bytes_be(), f),
+            AuthenticodeError::UnsupportedAlgorithmError(error) => error.fmt(f),
+            AuthenticodeError::SignatureError(error) => write!(f, "signature error: {error}"),
+            AuthenticodeError::NoMessageDigest => {
+                write!(f, "no message digest is among the signed attributes")
+            }
+            AuthenticodeError::UnsupportedHashAlgorithmError(error) => error.fmt(f),
+            AuthenticodeError::HashMismatch { actual, expected } => {
                 write_mismatch(actual.as_slice(), expected.as_slice(), f)
             }
-            AuthenticodeError::SignatureError => write!(
-                f,
-                "the signature is not accepted under the signer's key"
-            ),
+            AuthenticodeError::NoEKUCodeSigning => {
+                write!(
+                    f,
+                    "the certificate of the signer is not one for code signing"
+                )
+            }
             AuthenticodeError::Memory => write!(f, "out of memory"),
         }
     }
 }
 
-/// The text of a digest that is not the one asked for.
+/// The text of a digest of the file that isn't the one asked for.
+fn write_file_mismatch<W: fmt::Write>(
+    actual: &[u8],
+    expected: &[u8],
+    f: &mut fmt::Formatter<W>,
+) -> fmt::Result
+    ensures { WritesOnOk W.write_str_gives f.old result
+        (file_mismatch_text actual.now expected.now) f.new }
+{
+    f.write_str("the signature is for a file with the digest ")?;
+    write_hexadecimal(actual, f)?;
+    f.write_str(", but that of the file is ")?;
+    write_hexadecimal(expected, f)
+}
+
+/// The text of a message digest that isn't that of the content.
 fn write_mismatch<W: fmt::Write>(
     actual: &[u8],
     expected: &[u8],
@@ -64,10 +199,26 @@ fn write_mismatch<W: fmt::Write>(
     ensures { WritesOnOk W.write_str_gives f.old result
         (mismatch_text actual.now expected.now) f.new }
 {
-    f.write_str("the signature is for a file with the digest ")?;
+    f.write_str("the signed message digest is ")?;
     write_hexadecimal(actual, f)?;
-    f.write_str(", but that of the file is ")?;
+    f.write_str(", but that of the content is ")?;
     write_hexadecimal(expected, f)
+}
+
+/// The text of an issuer and a serial number that no certificate has.
+fn write_unnamed<W: fmt::Write>(
+    issuer: &DirectoryName,
+    serial_number: &[u8],
+    f: &mut fmt::Formatter<W>,
+) -> fmt::Result
+    ensures { WritesOnOk W.write_str_gives f.old result
+        (unnamed_text issuer.now serial_number.now) f.new }
+{
+    write!(
+        f,
+        "the signed data has no certificate of the issuer '{issuer}' with the serial number "
+    )?;
+    write_hexadecimal(serial_number, f)
 }
 
 /// The octets in lower-case hexadecimal digits.
@@ -85,35 +236,21 @@ fn write_hexadecimal<W: fmt::Write>(octets: &[u8], f: &mut fmt::Formatter<W>) ->
 pub enum CheckError {
     /// The octets begin with no WIN_CERTIFICATE.
     Win(WinCertificateError),
-    /// The certificate of the WIN_CERTIFICATE is not one element in DER, with at most seven zeros
-    /// after it.
-    Unread(DerError),
-    /// The element is not signed data of the plain form.
-    NotThisForm,
-    /// The signed data is refused.
+    /// The signed data is refused. Never with want of memory.
     Authenticode(AuthenticodeError),
     /// No memory was left.
     Memory,
 }
 
 impl CheckError {
-    /// The name of the refusal, as a report prints it: that of the variant, or of the one within.
+    /// The name of the refusal, as a report prints it: that of the variant of the error within.
     pub fn name(&self, alloc: Global) -> Result<String, AllocError>
         ensures { IfOk result (λ name. string_bytes name ≡ refusal_name self.now) }
     {
-        String::from_str(alloc, self.word())
-    }
-
-    /// The name, lent.
-    fn word(&self) -> &'static str
-        ensures { result.now ≡ refusal_name self.now }
-    {
         match self {
-            CheckError::Win(error) => header_refusal_name(error),
-            CheckError::Unread(_) => "Asn1Deserialization",
-            CheckError::NotThisForm => "NotThisForm",
-            CheckError::Authenticode(error) => error.name(),
-            CheckError::Memory => "Memory",
+            CheckError::Win(error) => String::from_str(alloc, header_refusal_name(error)),
+            CheckError::Authenticode(error) => error.name(alloc),
+            CheckError::Memory => String::from_str(alloc, "Memory"),
         }
     }
 }
@@ -139,14 +276,6 @@ impl fmt::Display for CheckError {
     fn fmt<W: fmt::Write>(&self, f: &mut fmt::Formatter<W>) -> fmt::Result {
         match self {
             CheckError::Win(error) => error.fmt(f),
-            CheckError::Unread(error) => write!(
-                f,
-                "the certificate of the WIN_CERTIFICATE is not read: {error}"
-            ),
-            CheckError::NotThisForm => write!(
-                f,
-                "the certificate is not signed data of the one form that is checked: one certificate, and one signer with an RSA key and SHA-256"
-            ),
             CheckError::Authenticode(error) => error.fmt(f),
             CheckError::Memory => write!(f, "out of memory"),
         }
@@ -161,11 +290,15 @@ impl From<WinCertificateError> for CheckError {
     }
 }
 
-impl From<Malformed> for CheckError {
-    ghost from_gives = { λ malformed e. e ≡ Unread (der.Malformed malformed) };
+/// Want of memory is told as such.
+impl From<AuthenticodeError> for CheckError {
+    ghost from_gives = { λ error e. e ≡ told_of_content error };
 
-    fn from(malformed: Malformed) -> CheckError {
-        CheckError::Unread(DerError::Malformed(malformed))
+    fn from(error: AuthenticodeError) -> CheckError {
+        match error {
+            AuthenticodeError::Memory => CheckError::Memory,
+            error => CheckError::Authenticode(error),
+        }
     }
 }
 
@@ -177,10 +310,18 @@ impl From<AllocError> for CheckError {
     }
 }
 
-impl<T: Drop> From<AllocFailed<T>> for CheckError {
-    ghost from_gives = { λ _ e. e ≡ Memory };
+impl From<AllocError> for AuthenticodeError {
+    ghost from_gives = { λ _ e. e ≡ contents.Memory };
 
-    fn from(_error: AllocFailed<T>) -> CheckError {
-        CheckError::Memory
+    fn from(_error: AllocError) -> AuthenticodeError {
+        AuthenticodeError::Memory
+    }
+}
+
+impl<T: Drop> From<AllocFailed<T>> for AuthenticodeError {
+    ghost from_gives = { λ _ e. e ≡ contents.Memory };
+
+    fn from(_error: AllocFailed<T>) -> AuthenticodeError {
+        AuthenticodeError::Memory
     }
 }

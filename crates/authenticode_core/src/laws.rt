@@ -1,17 +1,17 @@
-//! Laws on signed data of the plain form, and on the certificates that signed data carries.
+//! Laws on signed data, and on the certificates that it carries.
 
 ghost use Rattle.std.specs.Prelude.{◌≡◌, ℕ, List};
+ghost use Rattle.cms_types.specs.SignedDataElements.{SignedDataElements};
 ghost use Rattle.der_core.specs.DerElement.{DerElement};
 ghost use Rattle.x509_types.specs.CertificateElements.{CertificateElements};
+ghost use Rattle.authenticode_core.specs.Basic.{HasSignedData};
 ghost use Rattle.authenticode_core.specs.CertificateBag.{IsBag};
 ghost use Rattle.authenticode_core.specs.IssuerWalk.{IsIssuerWalk, IsIssuerPath};
-ghost use Rattle.authenticode_core.specs.PlainForm.{IsPlainForm, SignatureParts};
 
-/// Octets are signed data of the plain form in one way at most, so there is the signed data that a
-/// signature file has.
+/// Octets have one signed data at most, so there is the signed data that a signature file has.
 pub fn one_signed_data()
-    ensures { (octets : List ℕ) (p q : SignatureParts)
-        → IsPlainForm octets p → IsPlainForm octets q → p ≡ q }
+    ensures { (octets : List ℕ) (f g : SignedDataElements)
+        → HasSignedData octets f → HasSignedData octets g → f ≡ g }
 {}
 
 /// Members have one bag.

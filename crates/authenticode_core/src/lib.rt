@@ -3,15 +3,18 @@
 #![tactic(auto)]
 
 mod accepted;
+mod attributes;
 mod bag;
 mod basic;
+mod code_signing;
+mod digests;
 mod error;
+mod form;
 mod issuer_walk;
 mod laws;
-mod parts;
-mod plain_form;
-mod plain_rules;
 mod signer;
+mod signing;
+mod value;
 mod wanted;
 
 pub use accepted::{Accepted, Excuse, Places};

@@ -1,10 +1,16 @@
 //! What is told of refusals: their texts and their names.
 
 use crate::made::{FILE, FILE_HASH, table};
+use asn1_types::IntegerAsn1;
 use authenticode_core::{AuthenticodeError, CheckError, check_basic};
 use der_core::{DerError, Octets};
+use key_core::{Element, SignatureError};
+use names_core::DirectoryName;
+use sig_core::{HashAlgorithm, UnsupportedAlgorithmError, UnsupportedHashAlgorithmError};
+use std::alloc::Global;
 use std::test::Fail;
 use wincert_core::WinCertificateError;
+use x509_core::CertError;
 
 /// The text of a mismatch.
 const MISMATCH: &str =
@@ -15,7 +21,8 @@ const MISMATCH: &str =
 fn texts(rt: HostRuntime) -> Result<(), Fail> {
     for error in [
         CheckError::Win(WinCertificateError::Memory),
-        CheckError::Unread(DerError::Memory),
+        CheckError::Authenticode(AuthenticodeError::CertError(CertError::Memory)),
+        CheckError::Authenticode(AuthenticodeError::SignatureError(SignatureError::Memory)),
         CheckError::Authenticode(AuthenticodeError::Memory),
         CheckError::Memory,
     ] {
@@ -76,24 +83,101 @@ fn names_of_header_refusals(rt: HostRuntime) -> Result<(), Fail> {
     Ok(())
 }
 
+/// Refusals of signed data that carry no memory, their names and their texts.
+#[rattlefmt::skip]
+const CONTENTS: [(AuthenticodeError, &str, &str); 12] = [
+    (AuthenticodeError::IncorrectVersion { expected: 1, got: 3 }, "IncorrectVersion",
+        "the version of the signed data is 3, and not 1"),
+    (AuthenticodeError::MultipleSignerInfo { count: 2 }, "MultipleSignerInfo",
+        "the signed data has 2 signers, and not one"),
+    (AuthenticodeError::IncorrectDigestAlgorithmsCount { incorrect_count: 0 }, "IncorrectDigestAlgorithmsCount",
+        "the signed data has 0 digest algorithms, and not one"),
+    (AuthenticodeError::NoEncapsulatedContentInfo, "NoEncapsulatedContentInfo", "the signed data has no content"),
+    (AuthenticodeError::NoSpcIndirectDataContent, "NoSpcIndirectDataContent",
+        "what is signed does not stand for a file"),
+    (AuthenticodeError::DigestAlgorithmMismatch, "DigestAlgorithmMismatch",
+        "the signed data names several digest algorithms"),
+    (AuthenticodeError::IncorrectSignerIdentifier, "IncorrectSignerIdentifier",
+        "the signer is named by the identifier of a key, and not by issuer and serial number"),
+    (AuthenticodeError::UnsupportedAlgorithmError(UnsupportedAlgorithmError), "UnsupportedAlgorithmError",
+        "the identifier names no supported digest algorithm"),
+    (AuthenticodeError::SignatureError(SignatureError::BadSignature), "SignatureError",
+        "signature error: invalid signature"),
+    (AuthenticodeError::NoMessageDigest, "NoMessageDigest", "no message digest is among the signed attributes"),
+    (AuthenticodeError::NoEKUCodeSigning, "NoEKUCodeSigning",
+        "the certificate of the signer is not one for code signing"),
+    (AuthenticodeError::Memory, "Memory", "out of memory"),
+];
+
+#[test]
+fn refusals_of_signed_data(rt: HostRuntime) -> Result<(), Fail> {
+    for (error, name, text) in CONTENTS {
+        assert!(rt;
+            is_told(rt.alloc(), &CheckError::Authenticode(error), name, text)?,
+            "{name}"
+        );
+    }
+    Ok(())
+}
+
+/// Whether the refusal has the name and the text.
+fn is_told(alloc: Global, error: &CheckError, name: &str, text: &str) -> Result<bool, Fail> {
+    let told = format!(in alloc; "{error}")?;
+    Ok(error.name(alloc)?.as_str() == name && told.as_str() == text)
+}
+
+#[test]
+fn refusals_that_carry_octets(rt: HostRuntime) -> Result<(), Fail> {
+    let mismatch = AuthenticodeError::HashMismatch {
+        actual: Octets::from_slice(rt.alloc(), &[])?,
+        expected: Octets::from_slice(rt.alloc(), &[0xAB])?,
+    };
+    assert!(rt;
+        is_told(
+            rt.alloc(),
+            &CheckError::Authenticode(mismatch),
+            "HashMismatch",
+            "the signed message digest is , but that of the content is ab",
+        )?
+    );
+    let unnamed = AuthenticodeError::NoCertificatesAssociatedWithIssuerAndSerialNumber {
+        issuer: DirectoryName::new_common_name(rt.alloc(), "A")?,
+        serial_number: IntegerAsn1::from_content(rt.alloc(), &[0x0F, 0xA0])?,
+    };
+    assert!(rt;
+        is_told(
+            rt.alloc(),
+            &CheckError::Authenticode(unnamed),
+            "NoCertificatesAssociatedWithIssuerAndSerialNumber",
+            "the signed data has no certificate of the issuer 'CN=A' with the serial number 0fa0",
+        )?
+    );
+    Ok(())
+}
+
 #[test]
 fn names_of_other_refusals(rt: HostRuntime) -> Result<(), Fail> {
+    let unread = CertError::Asn1Deserialization {
+        element: Element::Pkcs7,
+        source: DerError::Shape,
+    };
+    let unsupported = UnsupportedHashAlgorithmError {
+        algorithm: HashAlgorithm::SHA2_224,
+    };
     let mismatch = AuthenticodeError::FileHashMismatch {
         actual: Octets::from_slice(rt.alloc(), &[])?,
         expected: Octets::from_slice(rt.alloc(), &[0])?,
     };
     for (error, want) in [
-        (CheckError::Unread(DerError::Shape), "Asn1Deserialization"),
-        (CheckError::NotThisForm, "NotThisForm"),
+        (
+            CheckError::Authenticode(AuthenticodeError::CertError(unread)),
+            "Asn1Deserialization",
+        ),
+        (
+            CheckError::Authenticode(AuthenticodeError::UnsupportedHashAlgorithmError(unsupported)),
+            "UnsupportedHashAlgorithmError",
+        ),
         (CheckError::Authenticode(mismatch), "FileHashMismatch"),
-        (
-            CheckError::Authenticode(AuthenticodeError::SignatureError),
-            "SignatureError",
-        ),
-        (
-            CheckError::Authenticode(AuthenticodeError::Memory),
-            "Memory",
-        ),
         (CheckError::Memory, "Memory"),
     ] {
         let name = error.name(rt.alloc())?;

@@ -2,7 +2,7 @@
 use Rattle.std.proofs.Common.{◌≡◌, ℕ, List, Option, Some, None, IsSome, Result, Ok, Err, refl, subst}
 use Rattle.authenticode_core.specs.declared.accepted.Accepted.{Accepted}
 use Rattle.authenticode_core.specs.declared.error.CheckError.{CheckError}
-use Rattle.authenticode_core.specs.declared.error.CheckError.TheVariants.{Win, Unread, NotThisForm, Authenticode, Memory}
+use Rattle.authenticode_core.specs.declared.error.CheckError.TheVariants.{Win, Authenticode, Memory}
 use Rattle.authenticode_core.specs.Basic.{IsSameUnlessMemory}
 use Rattle.picky_check.specs.declared.report.Report.{Report}
 use Rattle.picky_check.specs.declared.stop.Stop.{Stop}
@@ -16,8 +16,6 @@ pub GivesReport-reported : (answer : Result Accepted CheckError) (result : Resul
     → IsReported answer result → GivesReport answer result
 GivesReport-reported (Ok a) result h = h
 GivesReport-reported (Err (Win e)) result h = h
-GivesReport-reported (Err (Unread e)) result h = h
-GivesReport-reported (Err NotThisForm) result h = h
 GivesReport-reported (Err (Authenticode e)) result h = h
 GivesReport-reported (Err Memory) result h = tt
 
@@ -25,8 +23,6 @@ want_of_memory : (answer : Result Accepted CheckError) (result : Result Report S
     → IsReported (Err Memory) result → GivesReport answer result
 want_of_memory (Ok a) result h = rw h refl
 want_of_memory (Err (Win e)) result h = rw h refl
-want_of_memory (Err (Unread e)) result h = rw h refl
-want_of_memory (Err NotThisForm) result h = rw h refl
 want_of_memory (Err (Authenticode e)) result h = rw h refl
 want_of_memory (Err Memory) result h = tt
 

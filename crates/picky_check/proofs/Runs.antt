@@ -80,8 +80,6 @@ memory_status : (answer : Result Accepted CheckError) (s : Stop) → answer ≢ 
     → GivesReport answer (Err s) → status_for s ≡ 7
 memory_status (Ok a) s other h = ap status_for h
 memory_status (Err (check.Win e)) s other h = ap status_for h
-memory_status (Err (check.Unread e)) s other h = ap status_for h
-memory_status (Err check.NotThisForm) s other h = ap status_for h
 memory_status (Err (check.Authenticode e)) s other h = ap status_for h
 memory_status (Err check.Memory) s other h = absurd (other refl)
 
@@ -90,8 +88,6 @@ report_status : (answer : Result Accepted CheckError) (report : Report) → IsRe
     → report.status ≡ status_of answer
 report_status (Ok a) report h = h.0
 report_status (Err (check.Win e)) report h = h.0
-report_status (Err (check.Unread e)) report h = h.0
-report_status (Err check.NotThisForm) report h = h.0
 report_status (Err (check.Authenticode e)) report h = h.0
 report_status (Err check.Memory) report h = absurd h
 
@@ -99,8 +95,6 @@ report_line : (answer : Result Accepted CheckError) (report : Report) → IsRepo
     → string_bytes report.line ≡ line_of answer
 report_line (Ok a) report h = h.1
 report_line (Err (check.Win e)) report h = h.1
-report_line (Err (check.Unread e)) report h = h.1
-report_line (Err check.NotThisForm) report h = h.1
 report_line (Err (check.Authenticode e)) report h = h.1
 report_line (Err check.Memory) report h = absurd h
 
@@ -108,8 +102,6 @@ given_report : (answer : Result Accepted CheckError) (report : Report) → answe
     → GivesReport answer (Ok report) → IsReportOf answer report
 given_report (Ok a) report other h = h
 given_report (Err (check.Win e)) report other h = h
-given_report (Err (check.Unread e)) report other h = h
-given_report (Err check.NotThisForm) report other h = h
 given_report (Err (check.Authenticode e)) report other h = h
 given_report (Err check.Memory) report other h = absurd (other refl)
 

@@ -1,8 +1,5 @@
 -- What is accepted is vouched for.
-use Rattle.std.proofs.Common.{◌≡◌, List, ℕ, Option, Some, Ok, inl, inr}
-use Rattle.sig_core.specs.VerdictTable.{verdict_of}
-use Rattle.authenticode_core.specs.Basic.{Judge, IsBasicAnswer, IsJudged}
-use Rattle.authenticode_core.specs.PlainForm.{SignatureParts, IsPlainForm}
+use Rattle.std.proofs.Common.{◌≡◌, List, ℕ, Option, Some, Ok}
 use Rattle.authenticode_core.specs.declared.accepted.Accepted.{Accepted}
 use Rattle.picky_check.specs.Headline.{IsVouchedFor}
 use Rattle.picky_check.specs.Answer.{IsAnswered}
@@ -10,31 +7,24 @@ use Rattle.picky_check.specs.Run.{Answers}
 use Rattle.picky_check.specs.Shelf.{Files}
 use Rattle.picky_check.specs.Words.{Job, Basic, job_of}
 
--- what is accepted has parts
-accepted_parts : (judge : Judge) (octets hash : List ℕ) (a : Accepted) → IsBasicAnswer judge octets hash (Ok a)
-    → (p : SignatureParts) × IsPlainForm octets p × IsJudged judge p hash (Ok a)
-accepted_parts judge octets hash a (inl h) = absurd h
-accepted_parts judge octets hash a (inr h) = h
-
 vouched_for_job : (words : List (List ℕ)) (files : Option Files) (job : Job) (a : Accepted)
     → job_of words ≡ Some job → IsAnswered files job (Ok a) → IsVouchedFor words files
-vouched_for_job words files (Basic signature table hash) a asked h =
-    let answer = accepted_parts (verdict_of h.rows) h.octets hash a h.is_answer in record {
-      signature = signature;
-      table = table;
-      hash = hash;
-      asked = asked;
-      octets = h.octets;
-      text = h.text;
-      rows = h.rows;
-      parts = answer.0;
-      signature_file = h.signature_file;
-      table_file = h.table_file;
-      is_table = h.is_table;
-      form = answer.1;
-      binds_hash = answer.2.1;
-      signed = answer.2.2;
-    }
+vouched_for_job words files (Basic signature table hash) a asked h = record {
+  signature = signature;
+  table = table;
+  hash = hash;
+  asked = asked;
+  octets = h.octets;
+  text = h.text;
+  rows = h.rows;
+  signed_data = h.is_answer.0;
+  place = h.is_answer.1;
+  signature_file = h.signature_file;
+  table_file = h.table_file;
+  is_table = h.is_table;
+  holds = h.is_answer.2;
+  vouches = h.is_answer.3;
+}
 
 pub vouched_for : (words : List (List ℕ)) (files : Option Files) (a : Accepted)
     → Answers words files (Ok a) → IsVouchedFor words files

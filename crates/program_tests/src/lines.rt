@@ -1,7 +1,7 @@
 //! The lines of reports.
 
 use authenticode_core::{Accepted, AuthenticodeError, CheckError, Excuse, Places};
-use der_core::{DerError, Octets};
+use der_core::Octets;
 use picky_check::{accepted_line, refused_line};
 use std::alloc::{AllocError, Global};
 use wincert_core::WinCertificateError;
@@ -60,17 +60,12 @@ fn a_refusal_is_a_line_with_its_name(rt: HostRuntime) -> Result<(), AllocError> 
     };
     let rows = [
         (
-            CheckError::Unread(DerError::Shape),
-            "refused Asn1Deserialization\n",
-        ),
-        (CheckError::NotThisForm, "refused NotThisForm\n"),
-        (
             CheckError::Authenticode(mismatch),
             "refused FileHashMismatch\n",
         ),
         (
-            CheckError::Authenticode(AuthenticodeError::SignatureError),
-            "refused SignatureError\n",
+            CheckError::Authenticode(AuthenticodeError::NoMessageDigest),
+            "refused NoMessageDigest\n",
         ),
         (
             CheckError::Authenticode(AuthenticodeError::Memory),

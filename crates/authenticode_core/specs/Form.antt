@@ -1,0 +1,41 @@
+-- What is looked at of signed data that has the form, where its octets lie.
+use Rattle.std.specs.Prelude.{◌≡◌, ℕ, List, Ok}
+use Rattle.cms_types.specs.SignedData.{signed_data_elements}
+use Rattle.cms_types.specs.SignedDataElements.{SignedDataElements}
+use Rattle.cms_types.specs.SignedView.{IsSignedView}
+use Rattle.cms_types.specs.SignerView.{signer_elements_at}
+use Rattle.cms_types.specs.declared.signed_data.SignedData.{SignedData}
+use Rattle.cms_types.specs.declared.signed_view.SignedView.{SignedView}
+use Rattle.der_core.specs.DerElement.{DerElement}
+use Rattle.der_core.specs.Elements.{sequence}
+use Rattle.der_core.specs.Encoding.{IsPaddedEncoding}
+use Rattle.wincert_core.specs.Refusal.{contents_in}
+use Rattle.authenticode_core.specs.FormRules.{HasForm}
+use Rattle.authenticode_core.specs.SignedFields.{HasIndirectData, IndirectData, indirect_kids}
+use Rattle.authenticode_core.specs.declared.form.Content.{Content}
+use Rattle.authenticode_core.specs.declared.form.Form.{Form}
+
+-- the fields are those of a value
+abbrev pub AreSpelled : SignedDataElements → Type 0
+AreSpelled f = (value : SignedData) × (f ≡ signed_data_elements value)
+
+-- The octets begin with a WIN_CERTIFICATE whose certificate is this element, with at most seven zeros after it, and the view is one of it.
+pub record LiesIn (octets : List ℕ) (element : DerElement) (view : SignedView) : Type 0 where
+  pub certificate : List ℕ
+  pub named : contents_in octets ≡ Ok certificate
+  pub spelled : IsPaddedEncoding certificate element
+  pub is : IsSignedView element view
+
+-- The content is indirect data, whose algorithm and digest lie there.
+pub record IsContentOf (f : SignedDataElements) (d : IndirectData) (content : Content) : Type 0 where
+  pub has : HasIndirectData f d
+  pub is : content.elem.is.0 ≡ sequence (indirect_kids d)
+  pub algorithm : content.algorithm.is.0 ≡ d.algorithm
+  pub digest : content.digest.now ≡ d.digest
+
+-- The signed data has the form, and its content and its signer lie there.
+pub record IsFormOf (f : SignedDataElements) (form : Form) : Type 0 where
+  pub algorithm : DerElement
+  pub d : IndirectData
+  pub has : HasForm f algorithm d (signer_elements_at form.signer)
+  pub content : IsContentOf f d form.content

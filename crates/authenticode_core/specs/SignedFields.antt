@@ -1,0 +1,88 @@
+-- The fields of signed data that a check asks for, by the elements that stand for them (RFC 2315 9.1, 9.2; Windows Authenticode Portable Executable Signature Format).
+use Rattle.std.specs.Prelude.{◌≡◌, ⊤, ℕ, List, [], ◌∷◌, ◌++◌, Option, Some}
+use Rattle.asn1_types.specs.declared.oids.TheConstants.{MESSAGE_DIGEST, SPC_INDIRECT_DATA}
+use Rattle.cms_types.specs.SignedDataElements.{SignedDataElements}
+use Rattle.cms_types.specs.SignerElements.{SignerElements}
+use Rattle.cms_types.specs.SignerInfo.{signer_info, signer_elements}
+use Rattle.cms_types.specs.declared.signer_info.SignerInfo.{SignerInfo}
+use Rattle.content_types.specs.ContentInfoElements.{content_info_of}
+use Rattle.der_core.specs.DerElement.{DerElement, Primitive}
+use Rattle.der_core.specs.Elements.{sequence, set, octet_string}
+use Rattle.der_core.specs.Encoding.{encoding}
+use Rattle.authenticode_core.specs.CertificateBag.{members_of}
+
+-- the number of the version
+abbrev pub HasVersion : SignedDataElements → ℕ → Type 0
+HasVersion f number = f.version ≡ Primitive 0x02 (number ∷ [])
+
+-- the digest algorithms
+abbrev pub digest_algorithms_of : SignedDataElements → List DerElement
+digest_algorithms_of f = members_of (Some f.digest_algorithms)
+
+-- the signers
+abbrev pub signers_of : SignedDataElements → List DerElement
+signers_of f = members_of (Some f.signers_infos)
+
+-- the first of the digest algorithms
+abbrev pub IsFirstAlgorithm : SignedDataElements → DerElement → Type 0
+IsFirstAlgorithm f algorithm = (others : List DerElement) × (digest_algorithms_of f ≡ algorithm ∷ others)
+
+-- the content, where it isn't left out, with the contents octets of the identifier of its type
+abbrev pub HasContent : SignedDataElements → List ℕ → Option DerElement → Type 0
+HasContent f content_type content = f.content_info ≡ content_info_of (Primitive 0x06 content_type) content
+
+-- What varies in an SpcIndirectDataContent: what kind of file it is, the algorithm of the digest, and the digest of the file.
+pub record IndirectData : Type 0 where
+  pub image : DerElement
+  pub algorithm : DerElement
+  pub digest : List ℕ
+
+-- the elements in it
+abbrev pub indirect_kids : IndirectData → List DerElement
+indirect_kids d = d.image ∷ sequence (d.algorithm ∷ octet_string d.digest ∷ []) ∷ []
+
+-- the content is indirect data
+abbrev pub HasIndirectData : SignedDataElements → IndirectData → Type 0
+HasIndirectData f d = HasContent f SPC_INDIRECT_DATA.now (Some (sequence (indirect_kids d)))
+
+-- The first of the signers, whose element spells a value.
+pub record IsFirstSigner (f : SignedDataElements) (g : SignerElements) : Type 0 where
+  pub value : SignerInfo
+  pub others : List DerElement
+  pub is : g ≡ signer_elements value
+  pub first : signers_of f ≡ signer_info value ∷ others
+
+-- two algorithms are the same where their octets are
+abbrev pub IsSameAlgorithm : DerElement → DerElement → Type 0
+IsSameAlgorithm a b = encoding a ≡ encoding b
+
+-- the signed attributes: where they are left out there are none
+abbrev pub signed_attributes_of : SignerElements → List DerElement
+signed_attributes_of g = members_of g.signed_attrs
+
+-- what a signer signs: its attributes as a SET, in the order that stands (RFC 2315 9.3)
+abbrev pub signed_message : SignerElements → List ℕ
+signed_message g = encoding (set (signed_attributes_of g))
+
+-- an attribute of this identifier, by its contents octets, with these values (RFC 5652 5.3)
+abbrev pub IsAttributeOf : List ℕ → DerElement → List DerElement → Type 0
+IsAttributeOf oid element values = element ≡ sequence (Primitive 0x06 oid ∷ set values ∷ [])
+
+-- none of the elements is an attribute of this identifier
+abbrev pub NoneIsOf : List ℕ → List DerElement → Type 0
+NoneIsOf oid [] = ⊤
+NoneIsOf oid (element ∷ elements) = ((values : List DerElement) → IsAttributeOf oid element values → ⊥) × NoneIsOf oid elements
+
+-- The first attribute of this identifier has these values.
+pub record IsFirstAttribute (oid : List ℕ) (elements values : List DerElement) : Type 0 where
+  pub before : List DerElement
+  pub attribute : DerElement
+  pub after : List DerElement
+  pub are : elements ≡ before ++ attribute ∷ after
+  pub first : NoneIsOf oid before
+  pub named : IsAttributeOf oid attribute values
+
+-- The first message digest attribute has this first value (RFC 2985 5.3.2).
+pub record HasMessageDigest (g : SignerElements) (digest : List ℕ) : Type 0 where
+  pub others : List DerElement
+  pub first : IsFirstAttribute MESSAGE_DIGEST.now (signed_attributes_of g) (octet_string digest ∷ others)

@@ -1,0 +1,204 @@
+//! The form of signed data: its version, its one signer, its one digest algorithm, and what is
+//! signed in the place of a file. It takes no memory.
+
+ghost use Rattle.std.specs.Prelude.{◌≡◌, ◌≢◌, List, [], ◌∷◌, length, Some, MatchOption, MatchResult};
+ghost use Rattle.cms_types.specs.Pkcs7Elements.{pkcs7_of};
+ghost use Rattle.cms_types.specs.SignedDataElements.{SignedDataElements, signed_data_of};
+ghost use Rattle.cms_types.specs.SignedView.{view_elements};
+ghost use Rattle.cms_types.specs.SignerView.{signer_elements_at};
+ghost use Rattle.der_core.specs.DerElement.{DerElement};
+ghost use Rattle.der_core.specs.Elements.{sequence, octet_string};
+ghost use Rattle.der_core.specs.Lent.{at_option};
+ghost use Rattle.x509_core.specs.Rules.{IsFirstBroken};
+ghost use Rattle.authenticode_core.specs.CertificateBag.{members_of};
+ghost use Rattle.authenticode_core.specs.Form.{AreSpelled, IsContentOf, IsFormOf};
+ghost use Rattle.authenticode_core.specs.FormRules.{IsOfOtherVersion, HasOtherSigners, HasOtherAlgorithms, LacksContent, HasOtherContent, form_rules};
+ghost use Rattle.authenticode_core.specs.SignedFields.{HasVersion, IndirectData, IsFirstSigner, digest_algorithms_of, signers_of, indirect_kids};
+
+use crate::error::AuthenticodeError;
+use asn1_types::oids::SPC_INDIRECT_DATA;
+use cms_types::{SignedView, SignerView};
+use der_core::tag::{OCTET_STRING, SEQUENCE};
+use der_core::{Elem, Kids, explicit_at, is_same, leaf_at, two_kids};
+
+/// The tag of a content under its type.
+const CONTENT: u8 = 0xA0;
+
+/// The version of signed data whose content isn't data (RFC 2315 9.1).
+const VERSION: u8 = 1;
+
+/// What is signed in the place of a file: its element, and in it the digest algorithm and the digest.
+#[derive(Clone, Copy)]
+pub(crate) struct Content<'a> {
+    pub(crate) elem: Elem<'a>,
+    pub(crate) algorithm: Elem<'a>,
+    pub(crate) digest: &'a [u8],
+}
+
+/// What is looked at of signed data that has the form.
+#[derive(Clone, Copy)]
+pub(crate) struct Form<'a> {
+    pub(crate) content: Content<'a>,
+    pub(crate) signer: SignerView<'a>,
+}
+
+/// Signed data has the form, or breaks its first rule so.
+pub(crate) fn expect_form<'a>(
+    elem: Elem<'a>,
+    signed_data: &SignedView<'a>,
+) -> Result<Form<'a>, AuthenticodeError>
+    requires is { elem.is.0 ≡ pkcs7_of (signed_data_of (view_elements signed_data.now)) }
+    requires spelled { AreSpelled (view_elements signed_data.now) }
+    ensures { MatchResult result
+        (IsFormOf (view_elements signed_data.now))
+        (IsFirstBroken (form_rules (view_elements signed_data.now))) }
+{
+    expect_version(signed_data)?;
+    let signer = one_signer(signed_data)?;
+    let algorithm = one_algorithm(elem, signed_data)?;
+    let content = expect_content(signed_data)?;
+    if !is_same(content.algorithm.whole, algorithm.whole) {
+        return Err(AuthenticodeError::DigestAlgorithmMismatch);
+    }
+    if !is_same(signer.digest_algorithm(), algorithm.whole) {
+        return Err(AuthenticodeError::DigestAlgorithmMismatch);
+    }
+    Ok(Form { content, signer })
+}
+
+/// The version is 1.
+fn expect_version(signed_data: &SignedView<'_>) -> Result<(), AuthenticodeError>
+    ensures { MatchResult result
+        (λ _. HasVersion (view_elements signed_data.now) 1)
+        (IsOfOtherVersion (view_elements signed_data.now)) }
+{
+    let got = signed_data.version();
+    if got != VERSION {
+        return Err(AuthenticodeError::IncorrectVersion {
+            expected: VERSION,
+            got,
+        });
+    }
+    Ok(())
+}
+
+/// The one signer.
+fn one_signer<'a>(signed_data: &SignedView<'a>) -> Result<SignerView<'a>, AuthenticodeError>
+    requires { AreSpelled (view_elements signed_data.now) }
+    ensures { MatchResult result
+        (λ signer. (length (signers_of (view_elements signed_data.now)) ≡ 1) × IsFirstSigner (view_elements signed_data.now) (signer_elements_at signer))
+        (HasOtherSigners (view_elements signed_data.now)) }
+{
+    let only = match only_within(signed_data.signers_infos()) {
+        Ok(only) => only,
+        Err(count) => return Err(AuthenticodeError::MultipleSignerInfo { count }),
+    };
+    match SignerView::read(only) {
+        Some(signer) => Ok(signer),
+        None => unreachable!(),
+    }
+}
+
+/// The one digest algorithm.
+fn one_algorithm<'a>(
+    elem: Elem<'a>,
+    signed_data: &SignedView<'a>,
+) -> Result<Elem<'a>, AuthenticodeError>
+    requires { elem.is.0 ≡ pkcs7_of (signed_data_of (view_elements signed_data.now)) }
+    ensures { MatchResult result
+        (λ algorithm. digest_algorithms_of (view_elements signed_data.now) ≡ algorithm.is.0 ∷ [])
+        (HasOtherAlgorithms (view_elements signed_data.now)) }
+{
+    let Some(algorithms) = digest_algorithms_in(elem) else {
+        unreachable!();
+    };
+    match only_within(algorithms) {
+        Ok(only) => Ok(only),
+        Err(incorrect_count) => {
+            Err(AuthenticodeError::IncorrectDigestAlgorithmsCount { incorrect_count })
+        }
+    }
+}
+
+/// The element of the digest algorithms in signed data with its type.
+fn digest_algorithms_in<'a>(elem: Elem<'a>) -> Option<Elem<'a>>
+    ensures { (f : SignedDataElements) → elem.entry.is.0 ≡ pkcs7_of (signed_data_of f) → at_option result ≡ Some f.digest_algorithms }
+{
+    let (_, tagged) = two_kids(elem, SEQUENCE)?;
+    let signed_data = explicit_at(tagged, CONTENT)?;
+    let mut kids = Kids::of(signed_data, SEQUENCE)?;
+    let _version = kids.next()?;
+    kids.next()
+}
+
+/// The content is what is signed in the place of a file.
+fn expect_content<'a>(signed_data: &SignedView<'a>) -> Result<Content<'a>, AuthenticodeError>
+    requires { AreSpelled (view_elements signed_data.now) }
+    ensures { MatchResult result
+        (λ content. (d : IndirectData) × IsContentOf (view_elements signed_data.now) d content)
+        (IsFirstBroken (LacksContent (view_elements signed_data.now) ∷ HasOtherContent (view_elements signed_data.now) ∷ [])) }
+{
+    let Some(elem) = signed_data.content() else {
+        return Err(AuthenticodeError::NoEncapsulatedContentInfo);
+    };
+    if !is_same(signed_data.content_type(), SPC_INDIRECT_DATA) {
+        return Err(AuthenticodeError::NoSpcIndirectDataContent);
+    }
+    match indirect_data_in(elem) {
+        Some(content) => Ok(content),
+        None => unreachable!(),
+    }
+}
+
+/// The digest algorithm and the digest in what is signed in the place of a file.
+fn indirect_data_in<'a>(elem: Elem<'a>) -> Option<Content<'a>>
+    ensures { MatchOption result
+        ((d : IndirectData) → elem.entry.is.0 ≢ sequence (indirect_kids d))
+        (λ content. (image : DerElement) × (elem.entry.is.0 ≡ sequence (image ∷ sequence (content.algorithm.is.0 ∷ octet_string content.digest.now ∷ []) ∷ [])) × (content.elem.is.0 ≡ elem.entry.is.0)) }
+{
+    let (_image, digest_info) = two_kids(elem, SEQUENCE)?;
+    let (algorithm, digest) = two_kids(digest_info, SEQUENCE)?;
+    let digest = leaf_at(digest, OCTET_STRING)?;
+    Some(Content {
+        elem,
+        algorithm,
+        digest,
+    })
+}
+
+/// The one element in an element, or how many there are.
+fn only_within<'a>(elem: Elem<'a>) -> Result<Elem<'a>, usize>
+    ensures { MatchResult result
+        (λ only. members_of (Some elem.entry.is.0) ≡ only.is.0 ∷ [])
+        (λ count. (length (members_of (Some elem.entry.is.0)) ≢ 1) × (count ≡ length (members_of (Some elem.entry.is.0)))) }
+{
+    let count = count_within(elem);
+    match first_within(elem) {
+        Some(only) if count == 1 => Ok(only),
+        _ => Err(count),
+    }
+}
+
+/// The first element in an element.
+fn first_within<'a>(elem: Elem<'a>) -> Option<Elem<'a>>
+    ensures { MatchOption result
+        (members_of (Some elem.entry.is.0) ≡ [])
+        (λ first. (others : List DerElement) × (members_of (Some elem.entry.is.0) ≡ first.is.0 ∷ others)) }
+{
+    let mut kids = Kids::within(elem)?;
+    kids.next()
+}
+
+/// How many elements are in an element.
+fn count_within(elem: Elem<'_>) -> usize
+    ensures { result ≡ length (members_of (Some elem.entry.is.0)) }
+{
+    let Some(mut kids) = Kids::within(elem) else {
+        return 0;
+    };
+    let mut count: usize = 0;
+    while let Some(_kid) = kids.next() {
+        count += 1;
+    }
+    count
+}

@@ -1,0 +1,71 @@
+//! The signed data in a WIN_CERTIFICATE, where its octets lie.
+
+ghost use Rattle.std.specs.Prelude.{◌≡◌, ◌↔◌, IsTrue, MatchResult};
+ghost use Rattle.der_core.specs.Encoding.{IsPaddedEncoding};
+ghost use Rattle.authenticode_core.specs.Basic.{IsPadding, IsUnread, RefusesForm};
+ghost use Rattle.authenticode_core.specs.Form.{LiesIn};
+ghost use Rattle.x509_core.specs.declared.error.CertError.{CertError};
+ghost use Rattle.key_core.specs.declared.element.Element.{Element};
+
+use crate::error::{AuthenticodeError, CheckError};
+use cms_types::SignedView;
+use der_core::{Cursor, DerError, DerFault, Elem, Malformed};
+use key_core::Element;
+use wincert_core::certificate_of;
+use x509_core::CertError;
+
+/// The most zeros that align a WIN_CERTIFICATE.
+const MOST_PADDING: usize = 7;
+
+/// The signed data in a WIN_CERTIFICATE, and its element. It takes no memory.
+pub(crate) fn signed_data_of<'a>(bytes: &'a [u8]) -> Result<(Elem<'a>, SignedView<'a>), CheckError>
+    ensures { MatchResult result
+        (λ found. LiesIn bytes.now found.0.is.0 found.1)
+        (RefusesForm bytes.now) }
+{
+    let certificate = certificate_of(bytes)?;
+    let elem = match padded_element(certificate) {
+        Ok(elem) => elem,
+        Err(malformed) => return Err(unread(DerError::Malformed(malformed))),
+    };
+    match SignedView::read(elem) {
+        Some(signed_data) => Ok((elem, signed_data)),
+        None => Err(unread(DerError::Shape)),
+    }
+}
+
+/// Why a certificate isn't signed data.
+fn unread(source: DerError) -> CheckError
+    ensures { result ≡ CheckError.Authenticode (AuthenticodeError.CertError (CertError.Asn1Deserialization Element.Pkcs7 source)) }
+{
+    CheckError::Authenticode(AuthenticodeError::CertError(CertError::Asn1Deserialization {
+        element: Element::Pkcs7,
+        source,
+    }))
+}
+
+/// The element that octets are, with at most seven zeros after it.
+fn padded_element(octets: &[u8]) -> Result<Elem<'_>, Malformed>
+    ensures { MatchResult result
+        (λ elem. IsPaddedEncoding octets.now elem.is.0)
+        (IsUnread octets.now) }
+{
+    let mut cursor = Cursor::new(octets);
+    match cursor.next()? {
+        Some(elem) if is_padding(cursor.rest()) => Ok(elem),
+        Some(_) => Err(Malformed {
+            at: cursor.place(),
+            fault: DerFault::Trailing,
+        }),
+        None => Err(Malformed {
+            at: 0,
+            fault: DerFault::Truncated,
+        }),
+    }
+}
+
+fn is_padding(octets: &[u8]) -> bool
+    ensures { IsTrue result ↔ IsPadding octets.now }
+{
+    octets.len() <= MOST_PADDING && octets.iter().all(|octet| *octet == 0)
+}
