@@ -1,5 +1,5 @@
 -- A report of an answer is a report of each answer with the same cause.
-use Rattle.std.proofs.Common.{◌≡◌, ℕ, List, Option, Some, None, IsSome, Result, Ok, Err, refl, subst}
+use Rattle.std.proofs.Common.{◌≡◌, ℕ, List, Option, Some, None, IsSome, Result, Ok, Err, IfOk, IfErr, refl, sym, subst}
 use Rattle.authenticode_core.specs.declared.accepted.Accepted.{Accepted}
 use Rattle.authenticode_core.specs.declared.error.CheckError.{CheckError}
 use Rattle.authenticode_core.specs.declared.error.CheckError.TheVariants.{Win, Authenticode, Memory}
@@ -9,7 +9,7 @@ use Rattle.picky_check.specs.declared.stop.Stop.{Stop}
 use Rattle.picky_check.specs.declared.stop.Stop.TheVariants as stop
 use Rattle.picky_check.specs.Limits.{IsWholeFile, IsMissing}
 use Rattle.picky_check.specs.Shelf.{Files, file_of}
-use Rattle.picky_check.specs.Inquiry.{IsReported, GivesReport}
+use Rattle.picky_check.specs.Inquiry.{IsReported, IsReportOf, GivesReport, StopsForText}
 
 -- what is reported is given, and want of memory gives any answer's place
 pub GivesReport-reported : (answer : Result Accepted CheckError) (result : Result Report Stop)
@@ -52,3 +52,32 @@ is_none o file none some = absurd cc
 pub not_missing : (files : Option Files) (name file : List ℕ) → IsMissing files name
     → IsWholeFile files name file → ⊥
 not_missing files name file missing whole = is_none (file_of files name) file missing.none (whole.as_told missing.told)
+
+-- what is reported is a report of the answer, and only want of memory has none
+pub is_report : (answer : Result Accepted CheckError) (result : Result Report Stop)
+    → IsReported answer result → IfOk result (IsReportOf answer)
+is_report (Ok a) (Ok report) h = h
+is_report (Ok a) (Err e) h = tt
+is_report (Err (Win e)) (Ok report) h = h
+is_report (Err (Win e)) (Err s) h = tt
+is_report (Err (Authenticode e)) (Ok report) h = h
+is_report (Err (Authenticode e)) (Err s) h = tt
+is_report (Err Memory) (Ok report) h = absurd cc
+is_report (Err Memory) (Err s) h = tt
+
+-- what a report of the answer has, what is reported has
+pub carried : (P : Report → Type 0) (answer : Result Accepted CheckError) (result : Result Report Stop)
+    → IfOk result (IsReportOf answer) → ((report : Report) → IsReportOf answer report → P report) → IfOk result P
+carried P answer (Ok report) h f = f report h
+carried P answer (Err s) h f = tt
+
+-- want of memory is the one cause without a report
+pub only_memory : (text : List ℕ) (answer : Result Accepted CheckError) (result : Result Report Stop)
+    → IsReported answer result → IfErr result (StopsForText text)
+only_memory text (Ok a) (Ok report) h = tt
+only_memory text (Ok a) (Err s) h = subst (λ x. StopsForText text x) (sym h) tt
+only_memory text (Err (Win e)) (Ok report) h = tt
+only_memory text (Err (Win e)) (Err s) h = subst (λ x. StopsForText text x) (sym h) tt
+only_memory text (Err (Authenticode e)) (Ok report) h = tt
+only_memory text (Err (Authenticode e)) (Err s) h = subst (λ x. StopsForText text x) (sym h) tt
+only_memory text (Err Memory) result h = subst (λ (x : Result Report Stop). IfErr x (StopsForText text)) (sym h) tt

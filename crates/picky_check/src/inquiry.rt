@@ -69,5 +69,5 @@ fn judge(alloc: Global, octets: &[u8], text: &[u8], hash: &[u8]) -> Result<Repor
 {
     let table = VerdictTable::parse(alloc, text)?;
     let answer = check_basic(alloc, octets, hash, &table);
-    report_of(alloc, answer)
+    report_of(alloc, &answer)
 }
