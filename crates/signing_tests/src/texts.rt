@@ -23,6 +23,7 @@ const CALLED: [(Element, &str); 11] = [
 
 /// Contents that are too long, as an error and as it prints.
 const SOURCE: DerError = DerError::TooLong;
+
 const TOLD: &str = "some contents of the tree pass 4294967295 octets and cannot be written";
 
 #[test]
@@ -41,13 +42,17 @@ fn signatures_and_identifiers(rt: HostRuntime) -> Result<(), Fail> {
     let (element, source) = (Element::RsaPublicKey, SOURCE);
     let unwritten = KeyError::Asn1Serialization { element, source };
     let told = format!(in rt.alloc(); "{}", SignatureError::Key { source: unwritten })?;
-    let want = format!(in rt.alloc(); "Key error: (ASN1) couldn't serialize rsa public key: {TOLD}")?;
+    let want = format!(in rt.alloc();
+        "Key error: (ASN1) couldn't serialize rsa public key: {TOLD}"
+    )?;
     assert_eq!(rt; told, want);
     let told = format!(in rt.alloc(); "{}", KeyIdGenError::Asn1Serialization { element, source })?;
     let want = format!(in rt.alloc(); "(asn1) couldn't serialize rsa public key: {TOLD}")?;
     assert_eq!(rt; told, want);
     let told = format!(in rt.alloc(); "{}", KeyIdGenError::InvalidKey { source: unwritten })?;
-    let want = format!(in rt.alloc(); "invalid key: (ASN1) couldn't serialize rsa public key: {TOLD}")?;
+    let want = format!(in rt.alloc();
+        "invalid key: (ASN1) couldn't serialize rsa public key: {TOLD}"
+    )?;
     assert_eq!(rt; told, want);
     Ok(())
 }
