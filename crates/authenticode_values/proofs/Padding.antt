@@ -17,7 +17,8 @@ use Rattle.der_core.proofs.Exact.{no_fault_where_first}
 use Rattle.der_core.proofs.Faults.{refused_as, same_malformed}
 use Rattle.cms_types.specs.Pkcs7.{pkcs7}
 use Rattle.cms_types.specs.declared.pkcs7.Pkcs7Certificate.{Pkcs7Certificate}
-use Rattle.authenticode_values.specs.Unread.{IsNoSignedData, IsUnread, RefusesPadded}
+use Rattle.authenticode_core.specs.Basic.{IsNoSignedData, IsUnread}
+use Rattle.authenticode_values.specs.Unread.{RefusesPadded}
 
 -- no octets are cut off at once
 pub no_octets : {octets : List ℕ} → octets ≡ [] → IsFirstFault octets 0 Truncated
