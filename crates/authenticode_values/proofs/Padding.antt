@@ -17,27 +17,15 @@ use Rattle.der_core.proofs.Exact.{no_fault_where_first}
 use Rattle.der_core.proofs.Faults.{refused_as, same_malformed}
 use Rattle.cms_types.specs.Pkcs7.{pkcs7}
 use Rattle.cms_types.specs.declared.pkcs7.Pkcs7Certificate.{Pkcs7Certificate}
-use Rattle.authenticode_values.specs.Unread.{IsNoSignedData, IsUnread, RefusesPadded}
-
--- no octets are cut off at once
-pub no_octets : {octets : List ℕ} → octets ≡ [] → IsFirstFault octets 0 Truncated
-unfolding head_at
-no_octets {octets} none = rw none (record { octets = []; levels = 64; start = Outermost; fails = refl })
-
-padded_first : (octets : List ℕ) (element : DerElement) → IsPaddedEncoding octets element → IsFirst octets element (length (encoding element))
-padded_first octets element padded = record {
-  der = padded.0;
-  many = refl;
-  front = ap (take (length (encoding element))) padded.3 ∙ take_at (encoding element) (replicate padded.1 0) _ refl;
-}
-
-padded_once : (octets : List ℕ) (a b : DerElement) → IsPaddedEncoding octets a → IsPaddedEncoding octets b → a ≡ b
-padded_once octets a b p q = (first_once octets a b (length (encoding a)) (length (encoding b)) (padded_first octets a p) (padded_first octets b q)).0
+use Rattle.authenticode_core.specs.Basic.{IsNoSignedData, IsUnread}
+use Rattle.authenticode_core.proofs.OneData.{one_element}
+use Rattle.authenticode_core.proofs.Padded.{IsFirst-padded}
+use Rattle.authenticode_values.specs.Unread.{RefusesPadded}
 
 read_or_not : (octets : List ℕ) (element : DerElement) (m : Malformed) → IsPaddedEncoding octets element → IsUnread octets m → ⊥
-read_or_not octets element m padded (inl fault) = no_fault_where_first octets element (length (encoding element)) m.at m.fault (padded_first octets element padded) fault
+read_or_not octets element m padded (inl fault) = no_fault_where_first octets element (length (encoding element)) m.at m.fault (IsFirst-padded octets element padded) fault
 read_or_not octets element m padded (inr h) =
-    let same = first_once octets element h.1.element (length (encoding element)) m.at (padded_first octets element padded) h.1.first in
+    let same = first_once octets element h.1.element (length (encoding element)) m.at (IsFirst-padded octets element padded) h.1.first in
     h.1.unpadded (padded.1, padded.2, ap (drop m.at) padded.3 ∙ drop_at (encoding element) (replicate padded.1 0) m.at same.1)
 
 one_unread : (octets : List ℕ) (m n : Malformed) → IsUnread octets m → IsUnread octets n → m ≡ n
@@ -66,7 +54,7 @@ shapeless_for octets element der.Memory padded cause = absurd cause
 -- there is none where signed data is spelled
 pub none_for : (octets : List ℕ) (element : DerElement) (value : Pkcs7Certificate) (source : DerError) → IsPaddedEncoding octets element → element ≡ pkcs7 value → IsNoSignedData octets source → ⊥
 none_for octets element value (der.Malformed n) padded is cause = read_or_not octets element n padded cause
-none_for octets element value der.Shape padded is cause = cause.none value (padded_once octets cause.element element cause.spelled padded ∙ is)
+none_for octets element value der.Shape padded is cause = cause.none value (one_element octets cause.element element cause.spelled padded ∙ is)
 none_for octets element value der.TooDeep padded is cause = cause
 none_for octets element value der.TooLong padded is cause = cause
 none_for octets element value der.Memory padded is cause = cause

@@ -1,8 +1,3 @@
-pub mod CertificateBag
-pub mod Places
-pub mod Names
-pub mod BagSigner
-pub mod IssuerWalk
 pub mod Unread
 pub mod Pkcs7
 pub mod Refusals

@@ -5,8 +5,8 @@ use Rattle.der_core.specs.declared.error.DerError.TheVariants as der
 use Rattle.key_core.specs.declared.element.Element.TheVariants as structures
 use Rattle.x509_core.specs.declared.error.CertError.{CertError}
 use Rattle.x509_core.specs.declared.error.CertError.TheVariants as certs
-use Rattle.authenticode_values.specs.declared.error.AuthenticodeError.{AuthenticodeError}
-use Rattle.authenticode_values.specs.declared.error.AuthenticodeError.TheVariants as authenticode
+use Rattle.authenticode_core.specs.declared.error.AuthenticodeError.{AuthenticodeError}
+use Rattle.authenticode_core.specs.declared.error.AuthenticodeError.TheVariants as authenticode
 use Rattle.authenticode_values.specs.declared.pkcs7_error.Pkcs7Error.{Pkcs7Error}
 use Rattle.authenticode_values.specs.declared.pkcs7_error.Pkcs7Error.TheVariants as errors
 

@@ -9,11 +9,11 @@ use Rattle.cms_types.specs.declared.signer_info.SignerInfo.{SignerInfo}
 use Rattle.x501_types.specs.Name.{name}
 use Rattle.x509_core.specs.KeptCertificate.{KeptCertificate}
 use Rattle.x509_types.specs.CertificateElements.{CertificateElements}
-use Rattle.authenticode_values.specs.BagSigner.{IsSignerPlace, HasNoSigner}
-use Rattle.authenticode_values.specs.Names.{IsSameName}
+use Rattle.authenticode_core.specs.BagSigner.{IsSignerPlace, HasNoSigner}
+use Rattle.authenticode_core.specs.Names.{IsSameName}
 use Rattle.authenticode_values.specs.Pkcs7.{elements_of}
-use Rattle.authenticode_values.specs.declared.error.AuthenticodeError.{AuthenticodeError}
-use Rattle.authenticode_values.specs.declared.error.AuthenticodeError.TheVariants as errors
+use Rattle.authenticode_core.specs.declared.error.AuthenticodeError.{AuthenticodeError}
+use Rattle.authenticode_core.specs.declared.error.AuthenticodeError.TheVariants as errors
 
 -- The certificate is one of these, and stands at the least place of those that the first of the signers names.
 pub record IsSigningCertificate (signers : List SignerInfo) (certificates : List KeptCertificate) (c : KeptCertificate) : Type 0 where

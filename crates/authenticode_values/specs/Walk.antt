@@ -2,7 +2,7 @@
 use Rattle.std.specs.Prelude.{◌≡◌, ℕ, List, [], ◌∷◌, Some, if◌then◌else◌, bytes_eq, slice_get}
 use Rattle.der_core.specs.Encoding.{encoding}
 use Rattle.x509_core.specs.KeptCertificate.{KeptCertificate}
-use Rattle.authenticode_values.specs.IssuerWalk.{IsIssuerWalk}
+use Rattle.authenticode_core.specs.IssuerWalk.{IsIssuerWalk}
 use Rattle.authenticode_values.specs.Pkcs7.{elements_of}
 use Rattle.authenticode_values.specs.declared.certificates.SignatureCertificatesIterator.{SignatureCertificatesIterator}
 

@@ -3,7 +3,7 @@
 ghost use Rattle.std.specs.Prelude.{map, IfOk, MatchOption};
 ghost use Rattle.cms_types.specs.CertificateChoices.{certificate_choice};
 ghost use Rattle.x509_types.specs.CertificateElements.{CertificateElements};
-ghost use Rattle.authenticode_values.specs.CertificateBag.{IsBag, IsMember};
+ghost use Rattle.authenticode_core.specs.CertificateBag.{IsBag, IsMember};
 ghost use Rattle.authenticode_values.specs.Pkcs7.{elements_of};
 
 use cms_types::CertificateChoices;

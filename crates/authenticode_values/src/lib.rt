@@ -4,7 +4,6 @@
 
 mod bag;
 mod certificates;
-mod error;
 mod padded;
 mod pkcs7;
 mod pkcs7_error;
@@ -12,7 +11,6 @@ mod signature;
 mod signing_certificate;
 
 pub use certificates::SignatureCertificatesIterator;
-pub use error::AuthenticodeError;
 pub use pkcs7::Pkcs7;
 pub use pkcs7_error::Pkcs7Error;
 pub use signature::AuthenticodeSignature;

@@ -4,7 +4,8 @@ ghost use Rattle.std.specs.Prelude.{◌≡◌, ◌↔◌, IsTrue, Err, MatchResu
 ghost use Rattle.der_core.specs.Encoding.{IsPaddedEncoding};
 ghost use Rattle.der_core.specs.declared.error.DerError.{DerError};
 ghost use Rattle.cms_types.specs.Pkcs7.{pkcs7};
-ghost use Rattle.authenticode_values.specs.Unread.{IsNoSignedData, IsPadding, IsUnread, RefusesPadded};
+ghost use Rattle.authenticode_core.specs.Basic.{IsNoSignedData, IsPadding, IsUnread};
+ghost use Rattle.authenticode_values.specs.Unread.{RefusesPadded};
 
 use cms_types::{Pkcs7Certificate, SignedView};
 use der_core::{Cursor, DerError, DerFault, Elem, Malformed, Structure};

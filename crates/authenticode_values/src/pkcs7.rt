@@ -10,7 +10,7 @@ ghost use Rattle.der_core.specs.declared.error.DerError.TheVariants as der_error
 ghost use Rattle.der_core.specs.declared.fault.DerFault.{DerFault};
 ghost use Rattle.cms_types.specs.Pkcs7.{pkcs7};
 ghost use Rattle.cms_types.specs.declared.pkcs7.Pkcs7Certificate.{Pkcs7Certificate};
-ghost use Rattle.authenticode_values.specs.CertificateBag.{IsBag, members_of};
+ghost use Rattle.authenticode_core.specs.CertificateBag.{IsBag, members_of};
 ghost use Rattle.authenticode_values.specs.Pkcs7.{IsPkcs7Of, elements_of, fields_of, written};
 ghost use Rattle.authenticode_values.specs.Refusals.{IsUnread, IsUnwritten, unread};
 

@@ -5,7 +5,7 @@ ghost use Rattle.authenticode_values.specs.ErrorText.{pkcs7_error_text};
 ghost use Rattle.authenticode_values.specs.Refusals.{of_certificates, of_signed_data, unread, unwritten};
 ghost use Rattle.authenticode_values.specs.declared.pkcs7_error.Pkcs7Error.TheVariants.{Memory};
 
-use crate::error::AuthenticodeError;
+use authenticode_core::AuthenticodeError;
 use der_core::DerError;
 use std::alloc::{AllocError, AllocFailed};
 use std::fmt::{self, Display};

@@ -16,9 +16,10 @@ ghost use Rattle.authenticode_values.specs.Pkcs7.{IsPkcs7Of, signers_of, written
 ghost use Rattle.authenticode_values.specs.Refusals.{IsUnread, IsUnwritten, Tells, of_signed_data, unread};
 ghost use Rattle.authenticode_values.specs.SignedFields.{file_hash_in, signed_attributes_in, unsigned_attributes_in};
 ghost use Rattle.authenticode_values.specs.SigningCertificate.{HasNoSigningCertificate, IsSigningCertificate};
-ghost use Rattle.authenticode_values.specs.Unread.{IsNoSignedData, RefusesPadded};
+ghost use Rattle.authenticode_core.specs.Basic.{IsNoSignedData};
+ghost use Rattle.authenticode_values.specs.Unread.{RefusesPadded};
 
-use crate::error::AuthenticodeError;
+use authenticode_core::AuthenticodeError;
 use crate::padded::read_padded;
 use crate::pkcs7::Pkcs7;
 use crate::pkcs7_error::Pkcs7Error;

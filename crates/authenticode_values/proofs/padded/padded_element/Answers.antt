@@ -1,5 +1,5 @@
 use Rattle.std.proofs.Common.{inl, sym, ◌∙◌}
-use Rattle.authenticode_values.proofs.Padding.{no_octets}
+use Rattle.authenticode_core.proofs.Padded.{no_octets}
 use Rattle.authenticode_values.proofs.padded.padded_element.Goals as goal
 
 pub returns-in-None : goal.returns-in-None

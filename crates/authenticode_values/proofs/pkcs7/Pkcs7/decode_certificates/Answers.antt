@@ -1,6 +1,6 @@
 use Rattle.std.proofs.Common.{List, IfOk, subst}
 use Rattle.der_core.specs.DerElement.{DerElement}
-use Rattle.authenticode_values.specs.CertificateBag.{IsBag}
+use Rattle.authenticode_core.specs.CertificateBag.{IsBag}
 use Rattle.authenticode_values.specs.Pkcs7.{elements_of}
 use Rattle.authenticode_values.proofs.Members.{members_in}
 use Rattle.authenticode_values.proofs.pkcs7.Pkcs7.decode_certificates.Goals as goal
