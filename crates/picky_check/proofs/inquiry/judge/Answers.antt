@@ -1,14 +1,7 @@
-use Rattle.std.proofs.Common.{sym, subst}
-use Rattle.sig_core.specs.VerdictTable.{verdict_of}
-use Rattle.authenticode_core.specs.Basic.{IsBasicAnswer}
-use Rattle.picky_check.proofs.Reported.{GivesReport-same}
+use Rattle.std.proofs.Common.{List, ℕ, sym, subst}
+use Rattle.sig_core.specs.VerdictTable.{IsFirstBadLine}
 use Rattle.picky_check.proofs.inquiry.judge.Goals as goal
 
-pub returns-clause-only : goal.returns-clause-only
-returns-clause-only c rows answer table cause =
-    let same = c.in_ok-table.ensures.each_table rows table in
-    let of_table = subst (λ r. IsBasicAnswer (verdict_of r) c.args.octets.now c.args.hash.now answer) (sym same) cause in
-    GivesReport-same c.check_basic-answer.result answer c.report_of.result c.report_of.ensures (c.check_basic-answer.ensures.only answer of_table)
-
 pub returns-clause-bad : goal.returns-clause-bad
-returns-clause-bad c number bad = absurd (c.in_ok-table.ensures.each_bad_line number bad)
+returns-clause-bad c number bad =
+    absurd (c.in_ok-table.ensures.each_bad_line number (subst (λ (text : List ℕ). IsFirstBadLine text number) (sym c.table_in.ensures) bad))
