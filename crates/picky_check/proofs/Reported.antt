@@ -11,27 +11,15 @@ use Rattle.picky_check.specs.declared.stop.Stop.{Stop}
 use Rattle.picky_check.specs.declared.stop.Stop.TheVariants as stop
 use Rattle.picky_check.specs.Answer.{IsSignatureAnswer}
 use Rattle.picky_check.specs.Report.{Answer, OfSignature, OfChain, WantsMemory}
-use Rattle.picky_check.specs.Inquiry.{IsReportOf, IsReported, IsLike, GivesReport, Reports}
-
--- a report of an answer is like one
-pub is_like : (answer : Answer) (report : Report) → IsReportOf answer report → IsLike answer report
-is_like (OfSignature (Ok a)) report h = h
-is_like (OfSignature (Err e)) report h = h
-is_like (OfChain (Ok count)) report h = h
-is_like (OfChain (Err e)) report h = h.status
-
-like_of : (answer : Answer) (result : Result Report Stop) → IsReported answer result
-    → MatchResult result (IsLike answer) (λ s. s ≡ stop.Memory)
-like_of answer (Ok report) h = is_like answer report h
-like_of answer (Err s) h = h
+use Rattle.picky_check.specs.Inquiry.{IsReportOf, IsReported, GivesReport, Reports}
 
 -- what is reported is given
 pub GivesReport-reported : (answer : Answer) (result : Result Report Stop) → IsReported answer result → GivesReport answer result
-GivesReport-reported answer result h other = like_of answer result h
+GivesReport-reported answer result h other = h
 
 -- an answer that is want of memory isn't reported, so that memory ran out
 pub out_of_memory : (answer other : Answer) (result : Result Report Stop) → WantsMemory answer → IsReported answer result
-    → MatchResult result (IsLike other) (λ s. s ≡ stop.Memory)
+    → IsReported other result
 out_of_memory answer other (Ok report) wants h = absurd (h.told wants)
 out_of_memory answer other (Err s) wants h = h
 
@@ -56,7 +44,7 @@ given_signature a b result h same other = elim (same_or_memory a b same) [
   | inl wants ↦ out_of_memory (OfSignature a) (OfSignature b) result wants h
   | inr rest ↦ elim rest [
     | inl wants ↦ absurd (other wants)
-    | inr is ↦ like_of (OfSignature b) result (subst (λ (x : Result Accepted CheckError). IsReported (OfSignature x) result) is h)
+    | inr is ↦ subst (λ (x : Result Accepted CheckError). IsReported (OfSignature x) result) is h
   ]
 ]
 

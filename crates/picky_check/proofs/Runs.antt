@@ -12,7 +12,7 @@ use Rattle.picky_check.specs.Stops.{status_for}
 use Rattle.picky_check.specs.Words.{Job, AsksFor, AsksForNothing, files_of}
 use Rattle.picky_check.specs.Report.{Answer, OfSignature, OfChain, WantsMemory, line_of, status_of}
 use Rattle.picky_check.specs.Answer.{IsAnswered}
-use Rattle.picky_check.specs.Inquiry.{IsReportOf, IsLike, GivesReport, GivesStop, IsStopped, IsInquiry}
+use Rattle.picky_check.specs.Inquiry.{IsReportOf, GivesReport, GivesStop, IsStopped, IsInquiry}
 use Rattle.picky_check.specs.Run.{Answers, IsDelivered, IsRun, LacksRoom}
 
 status_bounded : (s : Stop) → status_for s ≤ 7
@@ -81,13 +81,6 @@ low (OfSignature (Err e)) = omega arith
 low (OfChain (Ok count)) = omega arith
 low (OfChain (Err e)) = omega arith
 
-like_status : (answer : Answer) (report : Report) → IsLike answer report
-    → report.status ≡ status_of answer
-like_status (OfSignature (Ok a)) report h = h.status
-like_status (OfSignature (Err e)) report h = h.status
-like_status (OfChain (Ok count)) report h = h.status
-like_status (OfChain (Err e)) report h = h
-
 -- a sink that has room for a text takes it whole
 no_room : (text : List ℕ) (out out_now : SinkState) → IsCutShort text out out_now
     → HasRoom out.room (length text) → ⊥
@@ -98,15 +91,10 @@ cut_line : (answer : Answer) (report : Report) (out out_now : SinkState) → IsR
     → IsCutShort (line_of answer) out out_now
 cut_line answer report out out_now h cut = subst (λ (line : List ℕ). IsCutShort line out out_now) h.line cut
 
-lacks_room : (answer : Answer) (report : Report) (out out_now : SinkState) → IsLike answer report
+lacks_room : (answer : Answer) (report : Report) (out out_now : SinkState) → IsReportOf answer report
     → IsCutShort (string_bytes report.line) out out_now → LacksRoom out answer
-lacks_room (OfSignature (Ok a)) report out out_now h cut =
-    no_room (line_of (OfSignature (Ok a))) out out_now (cut_line (OfSignature (Ok a)) report out out_now h cut)
-lacks_room (OfSignature (Err e)) report out out_now h cut =
-    no_room (line_of (OfSignature (Err e))) out out_now (cut_line (OfSignature (Err e)) report out out_now h cut)
-lacks_room (OfChain (Ok count)) report out out_now h cut =
-    no_room (line_of (OfChain (Ok count))) out out_now (cut_line (OfChain (Ok count)) report out out_now h cut)
-lacks_room (OfChain (Err e)) report out out_now h cut = tt
+lacks_room answer report out out_now h cut =
+    no_room (line_of answer) out out_now (cut_line answer report out out_now h cut)
 
 module _ (words : List (List ℕ)) (shelf shelf_now : ShelfState) (settled : AsksForNothing words ⊎ ((job : Job) × AsksFor words job)) where
   -- where there is no report
@@ -192,9 +180,9 @@ module _ (words : List (List ℕ)) (shelf shelf_now : ShelfState) (settled : Ask
     low_status : report.status < 2
     low_status = omega (arith, low the_answer.0, the_answer.1.status)
 
-    -- an answer that is given is like the report
+    -- the report is that of each answer that is given
     given : (job : Job) (answer : Answer) → AsksFor words job → shelf.is_quiet → IsSome shelf.files
-        → IsAnswered shelf.files job answer → (WantsMemory answer → ⊥) → IsLike answer report
+        → IsAnswered shelf.files job answer → (WantsMemory answer → ⊥) → IsReportOf answer report
     given job answer some q t a told = (asked job some).answered answer t a q told
 
     module _ (out out_now : SinkState) where
@@ -220,8 +208,7 @@ module _ (words : List (List ℕ)) (shelf shelf_now : ShelfState) (settled : Ask
         too_long = λ e. absurd (omega (arith, low_status));
         too_long_always = λ job some long. absurd (no_long ((asked job some).too_long long));
         nothing_written = λ two five. absurd (omega (arith, low_status));
-        answered = λ job answer some q t a told. inl (inl (is
-            ∙ like_status answer report (given job answer some q t a told)));
+        answered = λ job answer some q t a told. inl (inl (is ∙ (given job answer some q t a told).status));
       }
 
       IsRun-cut : (status : ℕ) → status ≡ 5 → HasRisen out.faults out_now.faults

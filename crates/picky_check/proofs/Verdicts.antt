@@ -1,5 +1,6 @@
 -- Answers about the same octets of certificates are of one kind.
-use Rattle.std.proofs.Common.{◌≡◌, ◌⊎◌, ℕ, List, [], ◌∷◌, map, Option, Some, Result, Ok, Err, MatchResult, inl, inr, refl, sym, ap, subst, ◌∙◌}
+use Rattle.std.proofs.Common.{◌≡◌, ◌⊎◌, ℕ, List, [], ◌∷◌, ◌++◌, map, Option, Some, Result, Ok, Err, MatchResult, inl, inr, refl, sym, ap, subst, ◌∙◌}
+use Rattle.std.specs.Prelude.{codes}
 use Rattle.std.proofs.Math.Logic.{∥∥₁_elim}
 use Rattle.asn1_types.specs.declared.generalized_time.GeneralizedTime.{GeneralizedTime}
 use Rattle.der_core.specs.Encoding.{encoding}
@@ -13,6 +14,7 @@ use Rattle.x509_types.specs.Certificate.{IsCertificate}
 use Rattle.x509_types.specs.CertificateElements.{certificate_of, AreCertificateFields}
 use Rattle.x509_types.specs.declared.certificate.Certificate.{Certificate}
 use Rattle.x509_core.specs.CertRefusals.{unread}
+use Rattle.x509_core.specs.ErrorName.{cert_error_name}
 use Rattle.x509_core.specs.Chain.{IsAccepted, chain_rules}
 use Rattle.x509_core.specs.KeptCertificate.{KeptCertificate, kept_octets}
 use Rattle.x509_core.specs.Rules.{IsFirstBroken}
@@ -26,8 +28,8 @@ use Rattle.picky_check.specs.declared.stop.Stop.TheVariants as stop
 use Rattle.picky_check.specs.Answer.{IsCertificateAnswer}
 use Rattle.picky_check.specs.ChainAnswer.{AreCertificates, IsFirstUnread, IsJudged, IsChainAnswer, all_checks}
 use Rattle.picky_check.specs.Report.{Answer, OfSignature, OfChain, WantsMemory}
-use Rattle.picky_check.specs.Inquiry.{IsReported, IsLike, GivesReport, Reports}
-use Rattle.picky_check.proofs.Reported.{is_like, reported_is, out_of_memory, GivesReport-reported}
+use Rattle.picky_check.specs.Inquiry.{IsReported, GivesReport, Reports}
+use Rattle.picky_check.proofs.Reported.{reported_is, out_of_memory, GivesReport-reported}
 
 -- ---- octets that are a certificate are read as it
 
@@ -65,6 +67,33 @@ unread_is_memory (one ∷ others) (kept ∷ certificates) e are (inl refused) =
     refused.1 ∙ ap (unread elements.Certificate) (refused_for_memory kept one refused.0 (cc) refused.2)
 unread_is_memory (one ∷ others) (kept ∷ certificates) e are (inr behind) = unread_is_memory others certificates e (cc) behind.1
 
+-- one is want of memory, or they have one name
+IsNamedAlike : CertError → CertError → Type 0
+IsNamedAlike e f = (e ≡ cert.Memory) ⊎ ((f ≡ cert.Memory) ⊎ (cert_error_name e ≡ cert_error_name f))
+
+unread_name : (source : DerError) → (unread elements.Certificate source ≡ cert.Memory) ⊎ (cert_error_name (unread elements.Certificate source) ≡ codes "Asn1Deserialization")
+unread_name (der.Malformed m) = inr refl
+unread_name der.Shape = inr refl
+unread_name der.TooDeep = inr refl
+unread_name der.TooLong = inr refl
+unread_name der.Memory = inl refl
+
+-- octets that are no certificate are refused by this name
+first_name : (octets : List (List ℕ)) (e : CertError) → IsFirstUnread octets e → (e ≡ cert.Memory) ⊎ (cert_error_name e ≡ codes "Asn1Deserialization")
+first_name [] e h = absurd h
+first_name (one ∷ others) e (inl refused) =
+    subst (λ (x : CertError). (x ≡ cert.Memory) ⊎ (cert_error_name x ≡ codes "Asn1Deserialization")) (sym refused.1) (unread_name refused.0)
+first_name (one ∷ others) e (inr behind) = first_name others e behind.1
+
+unread_alike : (octets : List (List ℕ)) (e f : CertError) → IsFirstUnread octets e → IsFirstUnread octets f → IsNamedAlike e f
+unread_alike octets e f a b = elim (first_name octets e a) [
+  | inl memory ↦ inl memory
+  | inr name ↦ elim (first_name octets f b) [
+    | inl memory ↦ inr (inl memory)
+    | inr other ↦ inr (inr (name ∙ sym other))
+  ]
+]
+
 -- ---- answers about the same octets
 
 wants : (e : CertError) → e ≡ cert.Memory → WantsMemory (OfChain (Err e))
@@ -79,9 +108,19 @@ one_count : (judge : Judge) (date : GeneralizedTime) (certificates : List KeptCe
 one_count judge date [] m n a b = absurd a
 one_count judge date (checked ∷ parents) m n a b = a.0 ∙ sym b.0
 
--- what is accepted breaks no rule
+-- what is accepted breaks no rule, and one error tells of the first that is broken
 module _ (unbroken : (judge : Judge) (checks : ChainChecks) (checked : KeptCertificate) (given : Option (List KeptCertificate)) (e : CertError)
-    → IsAccepted judge checks checked given → IsFirstBroken (chain_rules judge checks checked given) e → ⊥) where
+    → IsAccepted judge checks checked given → IsFirstBroken (chain_rules judge checks checked given) e → ⊥)
+    (once : (judge : Judge) (checks : ChainChecks) (checked : KeptCertificate) (given : Option (List KeptCertificate)) (e f : CertError)
+    → IsFirstBroken (chain_rules judge checks checked given) e → IsFirstBroken (chain_rules judge checks checked given) f → e ≡ f) where
+  judged_alike : (judge : Judge) (date : GeneralizedTime) (certificates : List KeptCertificate) (e f : CertError)
+      → IsJudged judge date certificates (Err e) → IsJudged judge date certificates (Err f) → IsNamedAlike e f
+  judged_alike judge date [] e f a b = absurd a
+  judged_alike judge date (checked ∷ parents) e f (inr memory) b = inl memory
+  judged_alike judge date (checked ∷ parents) e f (inl a) (inr memory) = inr (inl memory)
+  judged_alike judge date (checked ∷ parents) e f (inl a) (inl b) =
+      inr (inr (ap cert_error_name (once judge (all_checks date) checked (Some parents) e f a b)))
+
   not_both : (judge : Judge) (date : GeneralizedTime) (certificates : List KeptCertificate) (count : ℕ) (e : CertError)
       → IsJudged judge date certificates (Ok count) → IsJudged judge date certificates (Err e) → e ≡ cert.Memory
   not_both judge date [] count e accepted refused = absurd accepted
@@ -106,10 +145,22 @@ module _ (unbroken : (judge : Judge) (checks : ChainChecks) (checked : KeptCerti
       one_count judge date x.0 m n x.2
       (subst (λ (cs : List KeptCertificate). IsJudged judge date cs (Ok n)) (same_certificates y.0 x.0 (y.1 ∙ sym x.1)) y.2)
 
-  refused_alike : (e f : CertError) (result : Result Report Stop) → IsReported (OfChain (Err e)) result
-      → MatchResult result (IsLike (OfChain (Err f))) (λ s. s ≡ stop.Memory)
-  refused_alike e f (Ok report) h = h.status
-  refused_alike e f (Err s) h = h
+  -- two refusals have one name, want of memory aside
+  one_name : (judge : Judge) (date : GeneralizedTime) (octets : List (List ℕ)) (e f : CertError)
+      → IsChainAnswer judge date octets (Err e) → IsChainAnswer judge date octets (Err f) → IsNamedAlike e f
+  one_name judge date octets e f (inl a) (inl b) = unread_alike octets e f a b
+  one_name judge date octets e f (inl a) (inr b) = inl (unread_is_memory octets b.0 e b.1 a)
+  one_name judge date octets e f (inr a) (inl b) = inr (inl (unread_is_memory octets a.0 f a.1 b))
+  one_name judge date octets e f (inr a) (inr b) =
+      judged_alike judge date a.0 e f a.2 (subst (λ (cs : List KeptCertificate). IsJudged judge date cs (Err f)) (same_certificates b.0 a.0 (b.1 ∙ sym a.1)) b.2)
+
+  refused_alike : (e f : CertError) (result : Result Report Stop) → IsNamedAlike e f → IsReported (OfChain (Err e)) result
+      → (WantsMemory (OfChain (Err f)) → ⊥) → IsReported (OfChain (Err f)) result
+  refused_alike e f result (inl memory) h told = out_of_memory (OfChain (Err e)) (OfChain (Err f)) result (wants e memory) h
+  refused_alike e f result (inr (inl memory)) h told = absurd (told (wants f memory))
+  refused_alike e f (Ok report) (inr (inr name)) h told =
+      record { told = told; status = h.status; line = h.line ∙ ap (λ (text : List ℕ). codes "refused " ++ text ++ 10 ∷ []) name }
+  refused_alike e f (Err s) (inr (inr name)) h told = h
 
   given_chain : (judge : Judge) (date : GeneralizedTime) (octets : List (List ℕ)) (a b : Result ℕ CertError) (result : Result Report Stop)
       → IsReported (OfChain a) result → IsChainAnswer judge date octets a → IsChainAnswer judge date octets b → GivesReport (OfChain b) result
@@ -117,7 +168,7 @@ module _ (unbroken : (judge : Judge) (checks : ChainChecks) (checked : KeptCerti
       GivesReport-reported (OfChain (Ok n)) result (subst (λ (k : ℕ). IsReported (OfChain (Ok k)) result) (same_count judge date octets m n is also) h)
   given_chain judge date octets (Ok m) (Err f) result h is also = λ other. absurd (other (wants f (refused_is_memory judge date octets m f is also)))
   given_chain judge date octets (Err e) (Ok n) result h is also = λ other. out_of_memory (OfChain (Err e)) (OfChain (Ok n)) result (wants e (refused_is_memory judge date octets n e also is)) h
-  given_chain judge date octets (Err e) (Err f) result h is also = λ other. refused_alike e f result h
+  given_chain judge date octets (Err e) (Err f) result h is also = λ other. refused_alike e f result (one_name judge date octets e f is also) h other
 
   given_each : (judge : Judge) (date : GeneralizedTime) (octets : List (List ℕ)) (a : Result ℕ CertError) (result : Result Report Stop) → IsReported (OfChain a) result
       → IsChainAnswer judge date octets a → (b : Answer) → IsCertificateAnswer judge date octets b → GivesReport b result

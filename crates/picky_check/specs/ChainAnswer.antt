@@ -41,3 +41,9 @@ abbrev pub IsChainAnswer : Judge → GeneralizedTime → List (List ℕ) → Res
 IsChainAnswer judge date octets answer =
     IsErrAnd answer (IsFirstUnread octets)
     ⊎ ((certificates : List KeptCertificate) × AreCertificates octets certificates × IsJudged judge date certificates answer)
+
+-- The same for a certificate that was read, about the octets of the others.
+abbrev pub IsAnswerOver : Judge → GeneralizedTime → KeptCertificate → List (List ℕ) → Result ℕ CertError → Type 0
+IsAnswerOver judge date checked octets answer =
+    IsErrAnd answer (IsFirstUnread octets)
+    ⊎ ((parents : List KeptCertificate) × AreCertificates octets parents × IsJudged judge date (checked ∷ parents) answer)

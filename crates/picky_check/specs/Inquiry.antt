@@ -6,7 +6,7 @@ use Rattle.picky_check.specs.declared.stop.Stop.TheVariants.{Usage, BadTable, Sh
 use Rattle.picky_check.specs.declared.report.Report.{Report}
 use Rattle.picky_check.specs.Counts.{HasRisen, RisesBeyond}
 use Rattle.picky_check.specs.Limits.{longest_file, IsMissing, HasFiles, HasLongFile}
-use Rattle.picky_check.specs.Report.{Answer, OfSignature, OfChain, WantsMemory, line_of, status_of}
+use Rattle.picky_check.specs.Report.{Answer, WantsMemory, line_of, status_of}
 use Rattle.picky_check.specs.Answer.{HasBadTable, IsAnswered}
 use Rattle.picky_check.specs.Shelf.{ShelfState}
 use Rattle.picky_check.specs.Words.{Job, AsksFor, files_of}
@@ -21,14 +21,9 @@ pub record IsReportOf (answer : Answer) (report : Report) : Type 0 where
 abbrev pub IsReported : Answer → Result Report Stop → Type 0
 IsReported answer result = MatchResult result (IsReportOf answer) (λ stop. stop ≡ Memory)
 
--- The report is that of the answer; of a refused chain it is a refusal.
-abbrev pub IsLike : Answer → Report → Type 0
-IsLike (OfChain (Err e)) report = report.status ≡ 1
-IsLike answer report = IsReportOf answer report
-
 -- The same for an answer that may be want of memory, of which nothing is said.
 abbrev pub GivesReport : Answer → Result Report Stop → Type 0
-GivesReport answer result = (WantsMemory answer → ⊥) → MatchResult result (IsLike answer) (λ stop. stop ≡ Memory)
+GivesReport answer result = (WantsMemory answer → ⊥) → IsReported answer result
 
 -- What is reported is an answer of which this holds, and each such answer is, unless memory ran out.
 pub record Reports (IsAnswer : Answer → Type 0) (result : Result Report Stop) : Type 0 where

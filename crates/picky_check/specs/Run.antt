@@ -1,8 +1,8 @@
 -- What a run does: its status, its cause, and what the sink then holds.
-use Rattle.std.specs.Prelude.{◌≡◌, ◌≢◌, ◌⊎◌, ◌↔◌, ℕ, ◌≤◌, List, ◌∷◌, ◌++◌, length, Option, IsSome, Err}
+use Rattle.std.specs.Prelude.{◌≡◌, ◌≢◌, ◌⊎◌, ◌↔◌, ℕ, ◌≤◌, List, ◌∷◌, ◌++◌, length, Option, IsSome}
 use Rattle.picky_check.specs.Counts.{HasRisen, RisesBeyond}
 use Rattle.picky_check.specs.Limits.{longest_file, IsMissing, HasFiles, HasLongFile}
-use Rattle.picky_check.specs.Report.{Answer, OfChain, WantsMemory, line_of, status_of}
+use Rattle.picky_check.specs.Report.{Answer, WantsMemory, line_of, status_of}
 use Rattle.picky_check.specs.Answer.{HasBadTable, IsAnswered}
 use Rattle.picky_check.specs.Shelf.{Files, ShelfState}
 use Rattle.picky_check.specs.Sink.{SinkState, Appends, Keeps, HasRoom, IsCutShort}
@@ -46,9 +46,8 @@ pub record IsLost (words : List (List ℕ)) (files : Option Files) (out out_now 
   pub cut_short : IsCutShort (line_of answer) out out_now
   pub has_risen : HasRisen out.faults out_now.faults
 
--- the sink tells no room for the line of the answer; of a refused chain nothing is said
+-- the sink tells no room for the line of the answer
 abbrev pub LacksRoom : SinkState → Answer → Type 0
-LacksRoom out (OfChain (Err e)) = Unit {0}
 LacksRoom out answer = HasRoom out.room (length (line_of answer)) → ⊥
 
 -- A run by words: over a shelf before and after it, to a sink before and after it, with a status.

@@ -4,7 +4,7 @@ ghost use Rattle.std.specs.Prelude.{◌≡◌, ◌++◌, ◌∷◌, List, Some, 
 ghost use Rattle.x509_core.specs.Chain.{IsAccepted, chain_rules};
 ghost use Rattle.x509_core.specs.KeptCertificate.{KeptCertificate};
 ghost use Rattle.x509_core.specs.Rules.{RefusesBy};
-ghost use Rattle.picky_check.specs.ChainAnswer.{AreCertificates, IsChainAnswer, IsFirstUnread, all_checks};
+ghost use Rattle.picky_check.specs.ChainAnswer.{AreCertificates, IsAnswerOver, IsChainAnswer, IsFirstUnread, all_checks};
 
 use names_core::UtcDate;
 use sig_core::Scheme;
@@ -25,9 +25,23 @@ pub(crate) fn check_chain<S: Scheme>(
         (checked.now ∷ map (λ octets. octets.items) parents.now) result }
 {
     let checked = Cert::from_der(alloc, checked)?;
+    check_over(alloc, &checked, parents, date, scheme)
+}
+
+/// The same for a certificate that was read.
+fn check_over<S: Scheme>(
+    alloc: Global,
+    checked: &Cert,
+    parents: &[Vec<u8>],
+    date: &UtcDate,
+    scheme: &S,
+) -> Result<usize, CertError>
+    ensures { IsAnswerOver (S.judge scheme.now) date.now checked.now
+        (map (λ octets. octets.items) parents.now) result }
+{
     let mut read = Vec::new(alloc);
     read_on(alloc, parents, &mut read)?;
-    accept(alloc, &checked, &read, date, scheme)?;
+    accept(alloc, checked, &read, date, scheme)?;
     Ok(read.len())
 }
 

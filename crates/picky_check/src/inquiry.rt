@@ -19,7 +19,7 @@ use authenticode_core::check_basic;
 use names_core::UtcDate;
 use sig_core::{Scheme, VerdictTable};
 use std::alloc::Global;
-use x509_core::chains_break_no_rule;
+use x509_core::{chains_break_no_rule, chains_have_one_answer};
 
 /// The report that the words ask for.
 pub(crate) fn inquire<F: Shelf>(
@@ -104,7 +104,7 @@ fn judge_signature<S: Scheme>(
     ensures { Reports (IsSignatureAnswer (S.judge scheme.now) octets.now hash.now) result }
 {
     let answer = check_basic(alloc, octets, hash, scheme);
-    report_of(alloc, answer)
+    report_of(alloc, &answer)
 }
 
 /// The report of the octets of a certificate and its parents, judged by a scheme at a date.
@@ -119,6 +119,7 @@ fn judge_chain<S: Scheme>(
         (checked.now ∷ map (λ octets. octets.items) parents.now)) result }
 {
     chains_break_no_rule();
+    chains_have_one_answer();
     let answer = check_chain(alloc, checked, parents, date, scheme);
     chain_report_of(alloc, &answer)
 }

@@ -17,18 +17,21 @@ pub(crate) struct Report {
 }
 
 /// The report of an answer about a signature file.
-pub(crate) fn report_of(alloc: Global, answer: Result<Accepted, CheckError>) -> Result<Report, Stop>
-    ensures { IsReported (OfSignature answer) result }
+pub(crate) fn report_of(
+    alloc: Global,
+    answer: &Result<Accepted, CheckError>,
+) -> Result<Report, Stop>
+    ensures { IsReported (OfSignature answer.now) result }
 {
     match answer {
         Ok(accepted) => Ok(Report {
             status: ACCEPTED,
-            line: accepted_line(alloc, &accepted)?,
+            line: accepted_line(alloc, accepted)?,
         }),
         Err(CheckError::Memory) => Err(Stop::Memory),
         Err(error) => Ok(Report {
             status: REFUSED,
-            line: refused_line(alloc, &error)?,
+            line: refused_line(alloc, error)?,
         }),
     }
 }
