@@ -2,7 +2,7 @@
 use Rattle.std.proofs.Common.{◌≡◌, ◌↔◌, ℕ, ◌+◌, ◌/◌, ◌%◌, List, [], ◌∷◌, length, get_or, inl, inr, refl, ap, arith}
 use Rattle.asn1_types.specs.Time.{generalized_contents}
 use Rattle.asn1_types.specs.declared.generalized_time.GeneralizedTime.{GeneralizedTime}
-use Rattle.picky_check.specs.DateWord.{IsDateWord, IsMidnight, day_text}
+use Rattle.picky_check.specs.DateWord.{IsDateWord}
 
 no_digits : (n : ℕ) → 48 ≡ 48 + n / 10 → 48 ≡ 48 + n % 10 → n ≡ 0
 no_digits n tens ones = omega arith

@@ -1,5 +1,5 @@
 -- Certificates that are read one behind another.
-use Rattle.std.proofs.Common.{◌≡◌, ℕ, List, [], ◌∷◌, ◌++◌, map, length, Some, Result, Ok, Err, MatchResult, inl, inr, append_assoc, refl, sym, ap, ap₂, subst, ◌∙◌}
+use Rattle.std.proofs.Common.{◌≡◌, ℕ, List, [], ◌∷◌, ◌++◌, map, length, Some, Result, Ok, Err, inl, inr, append_assoc, refl, sym, ap, ap₂, subst, ◌∙◌}
 use Rattle.asn1_types.specs.declared.generalized_time.GeneralizedTime.{GeneralizedTime}
 use Rattle.der_core.specs.Refusals.{RefusesOctets}
 use Rattle.der_core.specs.declared.error.DerError.TheVariants as der
@@ -32,10 +32,10 @@ pub read_behind : (octets : List ℕ) (others all : List (List ℕ)) (certificat
     → (read : List KeptCertificate) × (after ≡ kept ++ read) × AreCertificates others read
     → (read : List KeptCertificate) × (after ≡ before ++ read) × AreCertificates all read
 read_behind octets others all certificate before kept after are is pushed h = (
-    certificate ∷ h.0,
-    h.1 ∙ ap (λ (xs : List KeptCertificate). xs ++ h.0) pushed ∙ append_assoc before (certificate ∷ []) h.0,
-    ap₂ (λ (x : List ℕ) (xs : List (List ℕ)). x ∷ xs) is h.2 ∙ sym are,
-  )
+  certificate ∷ h.0,
+  h.1 ∙ ap (λ (xs : List KeptCertificate). xs ++ h.0) pushed ∙ append_assoc before (certificate ∷ []) h.0,
+  ap₂ (λ (x : List ℕ) (xs : List (List ℕ)). x ∷ xs) is h.2 ∙ sym are,
+)
 
 -- ---- answers about a certificate that was read
 

@@ -1,17 +1,16 @@
 -- A report of an answer is a report of each answer with the same cause.
-use Rattle.std.proofs.Common.{◌≡◌, ◌⊎◌, ℕ, List, Option, Some, None, IsSome, Result, Ok, Err, MatchResult, inl, inr, refl, sym, ap, subst, ◌∙◌}
+use Rattle.std.proofs.Common.{◌≡◌, ◌⊎◌, ℕ, List, Result, Ok, Err, inl, inr, refl, subst}
 use Rattle.authenticode_core.specs.declared.accepted.Accepted.{Accepted}
 use Rattle.authenticode_core.specs.declared.error.CheckError.{CheckError}
 use Rattle.authenticode_core.specs.declared.error.CheckError.TheVariants as check
-use Rattle.authenticode_core.specs.Basic.{Judge, IsBasicAnswer, IsSameUnlessMemory}
-use Rattle.x509_core.specs.declared.error.CertError.{CertError}
-use Rattle.x509_core.specs.declared.error.CertError.TheVariants as cert
+use Rattle.key_core.specs.Verifying.{Judge}
+use Rattle.authenticode_core.specs.Basic.{IsBasicAnswer, IsSameUnlessMemory}
 use Rattle.picky_check.specs.declared.report.Report.{Report}
 use Rattle.picky_check.specs.declared.stop.Stop.{Stop}
 use Rattle.picky_check.specs.declared.stop.Stop.TheVariants as stop
 use Rattle.picky_check.specs.Answer.{IsSignatureAnswer}
 use Rattle.picky_check.specs.Report.{Answer, OfSignature, OfChain, WantsMemory}
-use Rattle.picky_check.specs.Inquiry.{IsReportOf, IsReported, GivesReport, Reports}
+use Rattle.picky_check.specs.Inquiry.{IsReported, GivesReport, Reports}
 
 -- what is reported is given
 pub GivesReport-reported : (answer : Answer) (result : Result Report Stop) → IsReported answer result → GivesReport answer result

@@ -1,19 +1,19 @@
 -- What a run does follows from what was found out about the files, and from what the sink took.
-use Rattle.std.proofs.Common.{◌≡◌, ◌≢◌, ◌⊎◌, ℕ, ◌<◌, ◌≤◌, List, ◌∷◌, ◌++◌, length, IsSome, Result, Ok, Err, inl, inr, refl, sym, ◌∙◌, ap, subst, arith}
+use Rattle.std.proofs.Common.{◌≡◌, ◌≢◌, ◌⊎◌, ℕ, ◌<◌, ◌≤◌, List, length, IsSome, Result, Ok, Err, inl, inr, refl, sym, ◌∙◌, ap, subst, arith}
 use Rattle.std.specs.Prelude.{string_bytes}
 use Rattle.picky_check.specs.declared.report.Report.{Report}
 use Rattle.picky_check.specs.declared.stop.Stop.{Stop}
 use Rattle.picky_check.specs.declared.stop.Stop.TheVariants as stop
 use Rattle.picky_check.specs.Counts.{HasRisen}
-use Rattle.picky_check.specs.Limits.{IsMissing, HasLongFile}
+use Rattle.picky_check.specs.Limits.{HasLongFile}
 use Rattle.picky_check.specs.Shelf.{ShelfState}
 use Rattle.picky_check.specs.Sink.{SinkState, Appends, HasRoom, IsCutShort}
 use Rattle.picky_check.specs.Stops.{status_for}
-use Rattle.picky_check.specs.Words.{Job, AsksFor, AsksForNothing, files_of}
+use Rattle.picky_check.specs.Words.{Job, AsksFor, AsksForNothing}
 use Rattle.picky_check.specs.Report.{Answer, OfSignature, OfChain, WantsMemory, line_of, status_of}
 use Rattle.picky_check.specs.Answer.{IsAnswered}
 use Rattle.picky_check.specs.Inquiry.{IsReportOf, GivesReport, GivesStop, IsStopped, IsInquiry}
-use Rattle.picky_check.specs.Run.{Answers, IsDelivered, IsRun, LacksRoom}
+use Rattle.picky_check.specs.Run.{Answers, IsRun, LacksRoom}
 
 status_bounded : (s : Stop) → status_for s ≤ 7
 status_bounded stop.Usage = omega arith

@@ -1,9 +1,8 @@
 -- Answers about the same octets of certificates are of one kind.
-use Rattle.std.proofs.Common.{◌≡◌, ◌⊎◌, ℕ, List, [], ◌∷◌, ◌++◌, map, Option, Some, Result, Ok, Err, MatchResult, inl, inr, refl, sym, ap, subst, ◌∙◌}
+use Rattle.std.proofs.Common.{◌≡◌, ◌⊎◌, ℕ, List, [], ◌∷◌, ◌++◌, map, Option, Some, Result, Ok, Err, inl, inr, refl, sym, ap, subst, ◌∙◌}
 use Rattle.std.specs.Prelude.{codes}
 use Rattle.std.proofs.Math.Logic.{∥∥₁_elim}
 use Rattle.asn1_types.specs.declared.generalized_time.GeneralizedTime.{GeneralizedTime}
-use Rattle.der_core.specs.Encoding.{encoding}
 use Rattle.der_core.specs.Refusals.{RefusesOctets}
 use Rattle.der_core.specs.declared.error.DerError.{DerError}
 use Rattle.der_core.specs.declared.error.DerError.TheVariants as der
@@ -11,7 +10,7 @@ use Rattle.der_core.proofs.Exact.{no_fault_where_whole, whole_once}
 use Rattle.key_core.specs.Verifying.{Judge}
 use Rattle.key_core.specs.declared.element.Element.TheVariants as elements
 use Rattle.x509_types.specs.Certificate.{IsCertificate}
-use Rattle.x509_types.specs.CertificateElements.{certificate_of, AreCertificateFields}
+use Rattle.x509_types.specs.CertificateElements.{certificate_of}
 use Rattle.x509_types.specs.declared.certificate.Certificate.{Certificate}
 use Rattle.x509_core.specs.CertRefusals.{unread}
 use Rattle.x509_core.specs.ErrorName.{cert_error_name}
@@ -24,7 +23,6 @@ use Rattle.x509_core.specs.declared.error.CertError.TheVariants as cert
 use Rattle.x509_core.specs.declared.validator.ChainChecks.{ChainChecks}
 use Rattle.picky_check.specs.declared.report.Report.{Report}
 use Rattle.picky_check.specs.declared.stop.Stop.{Stop}
-use Rattle.picky_check.specs.declared.stop.Stop.TheVariants as stop
 use Rattle.picky_check.specs.Answer.{IsCertificateAnswer}
 use Rattle.picky_check.specs.ChainAnswer.{AreCertificates, IsFirstUnread, IsJudged, IsChainAnswer, all_checks}
 use Rattle.picky_check.specs.Report.{Answer, OfSignature, OfChain, WantsMemory}
@@ -68,7 +66,7 @@ unread_is_memory (one ∷ others) (kept ∷ certificates) e are (inl refused) =
 unread_is_memory (one ∷ others) (kept ∷ certificates) e are (inr behind) = unread_is_memory others certificates e (cc) behind.1
 
 -- one is want of memory, or they have one name
-IsNamedAlike : CertError → CertError → Type 0
+abbrev IsNamedAlike : CertError → CertError → Type 0
 IsNamedAlike e f = (e ≡ cert.Memory) ⊎ ((f ≡ cert.Memory) ⊎ (cert_error_name e ≡ cert_error_name f))
 
 unread_name : (source : DerError) → (unread elements.Certificate source ≡ cert.Memory) ⊎ (cert_error_name (unread elements.Certificate source) ≡ codes "Asn1Deserialization")

@@ -1,11 +1,11 @@
 -- What is accepted of certificates is vouched for.
-use Rattle.std.proofs.Common.{◌≡◌, List, [], ◌∷◌, ℕ, Option, Some, Ok, Err, inl, inr, refl, sym, subst}
+use Rattle.std.proofs.Common.{◌≡◌, List, [], ◌∷◌, ℕ, Option, Some, Ok, inl, inr, refl, subst}
 use Rattle.asn1_types.specs.declared.generalized_time.GeneralizedTime.{GeneralizedTime}
 use Rattle.sig_core.specs.declared.verdict_row.VerdictRow.{VerdictRow}
 use Rattle.sig_core.specs.VerdictTable.{IsTable, verdict_of}
 use Rattle.key_core.specs.Verifying.{Judge}
 use Rattle.x509_core.specs.CertType.{IsOfType}
-use Rattle.x509_core.specs.Chain.{IsAccepted, IsLinkedChain, IsPath, last_of}
+use Rattle.x509_core.specs.Chain.{IsLinkedChain, IsPath, last_of}
 use Rattle.x509_core.specs.KeptCertificate.{KeptCertificate}
 use Rattle.x509_core.specs.declared.cert_type.CertType.TheVariants as types
 use Rattle.picky_check.specs.ChainAnswer.{AreCertificates, IsChainAnswer, IsJudged, all_checks}

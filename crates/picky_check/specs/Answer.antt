@@ -3,7 +3,8 @@ use Rattle.std.specs.Prelude.{ℕ, List, [], ◌∷◌, Option}
 use Rattle.asn1_types.specs.declared.generalized_time.GeneralizedTime.{GeneralizedTime}
 use Rattle.sig_core.specs.declared.verdict_row.VerdictRow.{VerdictRow}
 use Rattle.sig_core.specs.VerdictTable.{IsTable, IsFirstBadLine, verdict_of}
-use Rattle.authenticode_core.specs.Basic.{Judge, IsBasicAnswer}
+use Rattle.key_core.specs.Verifying.{Judge}
+use Rattle.authenticode_core.specs.Basic.{IsBasicAnswer}
 use Rattle.picky_check.specs.ChainAnswer.{IsChainAnswer}
 use Rattle.picky_check.specs.Limits.{AreWholeFiles}
 use Rattle.picky_check.specs.Report.{Answer, OfSignature, OfChain}

@@ -1,5 +1,5 @@
 -- Acceptance means vouched for: a certificate over its parents.
-use Rattle.std.specs.Prelude.{◌≡◌, List, ◌∷◌, ℕ, Option, true}
+use Rattle.std.specs.Prelude.{List, ◌∷◌, ℕ, Option, true}
 use Rattle.asn1_types.specs.declared.generalized_time.GeneralizedTime.{GeneralizedTime}
 use Rattle.sig_core.specs.declared.verdict_row.VerdictRow.{VerdictRow}
 use Rattle.sig_core.specs.VerdictTable.{IsTable, verdict_of}

@@ -1,5 +1,5 @@
 -- Acceptance means vouched for.
-use Rattle.std.specs.Prelude.{◌≡◌, List, ℕ, Option}
+use Rattle.std.specs.Prelude.{List, ℕ, Option}
 use Rattle.cms_types.specs.SignedDataElements.{SignedDataElements}
 use Rattle.sig_core.specs.declared.verdict_row.VerdictRow.{VerdictRow}
 use Rattle.sig_core.specs.VerdictTable.{IsTable, verdict_of}

@@ -1,5 +1,5 @@
 -- A job and the contents of its files, as the program holds them.
-use Rattle.std.specs.Prelude.{ℕ, List, [], ◌∷◌, map, string_bytes}
+use Rattle.std.specs.Prelude.{ℕ, List, ◌∷◌, map, string_bytes}
 use Rattle.picky_check.specs.declared.files.Contents.{Contents}
 use Rattle.picky_check.specs.declared.files.Names.{Names}
 use Rattle.picky_check.specs.declared.words.Job.{Job as HeldJob}

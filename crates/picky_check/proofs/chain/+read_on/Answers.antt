@@ -1,7 +1,7 @@
-use Rattle.std.proofs.Common.{List, ℕ, ◌∷◌, map, refl, sym, subst}
+use Rattle.std.proofs.Common.{map, sym}
 use Rattle.std.proofs.lemmas.Result.{IfErr-weaker, on_ok_weaker, err_from_is_err_and}
 use Rattle.picky_check.proofs.AskedWords.{behind, words_are}
-use Rattle.picky_check.proofs.ReadCertificates.{first_unread, unkept, later_unread, read_behind}
+use Rattle.picky_check.proofs.ReadCertificates.{unkept, later_unread, read_behind}
 use Rattle.picky_check.proofs.chain.+read_on.Goals as goal
 
 -- src/chain.rt:44:5

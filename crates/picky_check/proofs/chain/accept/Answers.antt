@@ -1,8 +1,6 @@
-use Rattle.std.proofs.Common.{◌≡◌, List, Iter, Option, Some, Result, MatchResult, sym, ap, subst, ◌∙◌}
-use Rattle.std.specs.Borrow.{Bor}
+use Rattle.std.proofs.Common.{◌≡◌, List, Iter, Option, Some, Result, MatchResult, ap, subst, ◌∙◌}
 use Rattle.std.specs.Iterator.{AlwaysYields}
 use Rattle.std.proofs.lemmas.Fn.{fronts, slice_gives}
-use Rattle.asn1_types.specs.declared.generalized_time.GeneralizedTime.{GeneralizedTime}
 use Rattle.key_core.specs.Verifying.{Judge}
 use Rattle.x509_core.specs.Chain.{Gives, IsAccepted, chain_rules, lent}
 use Rattle.x509_core.specs.Checks.{checks_at}

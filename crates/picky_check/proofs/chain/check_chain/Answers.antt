@@ -1,4 +1,4 @@
-use Rattle.std.proofs.Common.{List, map}
+use Rattle.std.proofs.Common.{map}
 use Rattle.picky_check.proofs.ReadCertificates.{answer_over}
 use Rattle.picky_check.proofs.chain.check_chain.Goals as goal
 

@@ -1,4 +1,4 @@
-use Rattle.std.proofs.Common.{List, map, inl, sym, ◌∙◌}
+use Rattle.std.proofs.Common.{map, inl, sym, ◌∙◌}
 use Rattle.std.proofs.lemmas.Result.{err_from_is_err_and}
 use Rattle.picky_check.proofs.ReadCertificates.{refused_over, accepted_over}
 use Rattle.picky_check.proofs.chain.check_over.Goals as goal

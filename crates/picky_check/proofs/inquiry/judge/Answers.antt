@@ -1,6 +1,15 @@
 use Rattle.std.proofs.Common.{List, ℕ, sym, subst}
-use Rattle.sig_core.specs.VerdictTable.{IsFirstBadLine}
+use Rattle.sig_core.specs.declared.verdict_row.VerdictRow.{VerdictRow}
+use Rattle.sig_core.specs.VerdictTable.{IsTable, IsFirstBadLine, verdict_of}
+use Rattle.picky_check.specs.Answer.{IsAnswerTo}
+use Rattle.picky_check.specs.Jobs.{contents_held, job_held}
 use Rattle.picky_check.proofs.inquiry.judge.Goals as goal
+
+pub returns-clause-only : goal.returns-clause-only
+returns-clause-only c rows answer is_table is told =
+    let same = c.in_ok-table.ensures.each_table rows (subst (λ (text : List ℕ). IsTable text rows) (sym c.table_in.ensures) is_table) in
+    c.judge_by.ensures.only answer
+    (subst (λ (rs : List VerdictRow). IsAnswerTo (verdict_of rs) (job_held c.args.asked.now) (contents_held c.args.read.now) answer) (sym same) is) told
 
 pub returns-clause-bad : goal.returns-clause-bad
 returns-clause-bad c number bad =

@@ -1,7 +1,5 @@
-use Rattle.std.proofs.Common.{◌≡◌, List, ℕ, map, string_bytes, sym, ◌∙◌}
+use Rattle.std.proofs.Common.{string_bytes, sym, ◌∙◌}
 use Rattle.std.specs.Prelude.{codes}
-use Rattle.picky_check.specs.Jobs.{job_held}
-use Rattle.picky_check.specs.Words.{Job, AsksFor, AsksForNothing}
 use Rattle.picky_check.proofs.AskedWords.{text_is, words_are}
 use Rattle.picky_check.proofs.words.job_of.Goals as goal
 
