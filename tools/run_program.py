@@ -14,11 +14,13 @@ the system begins: at the words of the command line, the paths of files,
 standard output, and the status that the system is told.  These rows are for
 that part, each status from 0 to 6 among them.
 
-The files come from `first_path.py`, which shares nothing with a reader
-here, from the signatures that osslsigncode and openssl wrote, with the tables
-of openssl's arithmetic (`basic_world.py`), and from the rows of every refusal
-(`basic_steps.py`); the answers from the tables of statuses and of refusals in
-README.md.  Exit status 1 says that a row differs.
+The files of `basic` come from `first_path.py`, which shares nothing with a
+reader here, from the signatures that osslsigncode and openssl wrote, with the
+tables of openssl's arithmetic (`basic_world.py`), and from the rows of every
+refusal (`basic_steps.py`); the answers from the tables of statuses and of
+refusals in README.md.  The certificates of `chain` are those of `chains.py`,
+which openssl made, and the answers to them are those of the reader in
+`chain_reader.py`.  Exit status 1 says that a row differs.
 """
 
 import os
@@ -32,6 +34,7 @@ from pathlib import Path
 
 import basic_steps
 import basic_world
+import chains
 import world_signatures
 from first_path import FILE_HASH, signature_file, verdict_line
 
@@ -205,6 +208,7 @@ USAGE_ROWS = [
     Row("a word too many", (*BASIC, "s"), 2),
     Row("an empty word too many", (*BASIC, ""), 2),
     Row("another command", ("check", "s", "t", HASH), 2),
+    Row("a command that begins like another", ("basics", "s", "t", HASH), 2),
     Row("the command in another case", ("BASIC", "s", "t", HASH), 2),
     Row("an empty hash", ("basic", "s", "t", ""), 2),
     Row("an odd digit", ("basic", "s", "t", HASH[:-1]), 2),
@@ -260,6 +264,112 @@ LENGTH_ROWS = [
     Row("too long a signature file, and no table", ("basic", "/dev/zero", "x", HASH), 6),
 ]
 
+# Chains of certificates.
+
+CERTIFICATES = chains.stored()
+CHAIN_TABLE = chains.stored_table().encode("ascii")
+DAY = chains.DAY
+LEAF, AUTHORITY, ROOT = (CERTIFICATES[label] for label in ("by first", "first", "root"))
+PARENTS = {"l": LEAF, "a": AUTHORITY, "r": ROOT}
+CHAIN = ("chain", "t", DAY, "l", "a", "r")
+TWO_PARENTS = "accepted parents=2\n"
+ONE_PARENT = "accepted parents=1\n"
+UNREAD = refused("Asn1Deserialization")
+
+
+def of_chain(why, words, status, line="", table=CHAIN_TABLE, **others):
+    """A row with the files of a chain of three, some of them others."""
+    return Row(why, words, status, line, {"t": table, **PARENTS, **others})
+
+
+def of_case(case):
+    """The row of a case of `chains.py`."""
+    names = tuple(f"{number}.cer" for number in range(len(case.labels)))
+    files = {name: CERTIFICATES[label] for name, label in zip(names, case.labels)}
+    status, line = chains.answer(case, CERTIFICATES, chains.stored_table())
+    return Row(f"{', '.join(case.labels)} at {case.date}", ("chain", "t", case.date, *names), status, line, {"t": CHAIN_TABLE, **files})
+
+
+def dated(date, status, line=""):
+    """A row with this word DATE."""
+    return of_chain(f"the date {date!r}", ("chain", "t", date, "l", "a", "r"), status, line)
+
+
+NOT_YET, EXPIRED = (refused(f"InvalidCertificate:Certificate{word}") for word in ("NotYetValid", "Expired"))
+MANY = ("l", "a", *["r"] * 30)
+
+CHAIN_ROWS = [
+    *map(of_case, chains.CASES),
+    of_chain("32 certificates", ("chain", "t", DAY, *MANY), 0, "accepted parents=31\n"),
+    of_chain("33 certificates", ("chain", "t", DAY, *MANY, "r"), 2),
+    of_chain("the command alone", ("chain",), 2),
+    of_chain("a table alone", ("chain", "t"), 2),
+    of_chain("no certificate", ("chain", "t", DAY), 2),
+    of_chain("the command in another case", ("Chain", *CHAIN[1:]), 2),
+    of_chain("a name that isn't UTF-8", (*CHAIN, b"\xff"), 2),
+    # dates
+    dated("2025-01-31T00:00:00", 0, TWO_PARENTS),
+    dated("2024-02-29", 0, TWO_PARENTS),
+    dated("2024-02-29T23:59:59", 0, TWO_PARENTS),
+    dated("0000-02-29", 1, NOT_YET),
+    dated("9999-12-31T23:59:59", 1, EXPIRED),
+    dated("2023-02-29", 2),
+    dated("1900-02-29", 2),
+    dated("2025-00-10", 2),
+    dated("2025-13-10", 2),
+    dated("2025-04-31", 2),
+    dated("2025-04-00", 2),
+    dated("2025-01-31T24:00:00", 2),
+    dated("2025-01-31T23:60:00", 2),
+    dated("2025-01-31T23:59:60", 2),
+    dated("2025-01-31T23:59", 2),
+    dated("2025-01-31 23:59:59", 2),
+    dated("2025-01-31t23:59:59", 2),
+    dated("2025-01-31T23:59:59Z", 2),
+    dated("2025-1-31", 2),
+    dated("25-01-31", 2),
+    dated("02025-01-31", 2),
+    dated("-025-01-31", 2),
+    dated("+025-01-31", 2),
+    dated("2025/01/31", 2),
+    dated("20250131", 2),
+    dated("2025-01-3x", 2),
+    dated("2025-01-31T", 2),
+    dated(" 2025-01-31", 2),
+    dated("", 2),
+    # tables
+    of_chain("a table without rows", CHAIN, 1, refused("InvalidCertificate:Signature"), table=b""),
+    of_chain("a bad line", CHAIN, 3, table=CHAIN_TABLE + BAD_TABLE),
+    of_chain("a bad line before what isn't a certificate", CHAIN, 3, table=BAD_TABLE, l=b"", r=b"\x30"),
+    of_chain("a certificate for the table", ("chain", "l", DAY, "l"), 3),
+    # certificates
+    of_chain("no octets", CHAIN, 1, UNREAD, l=b""),
+    of_chain("an octet behind the first", CHAIN, 1, UNREAD, l=LEAF + b"\0"),
+    of_chain("an octet behind the last", CHAIN, 1, UNREAD, r=ROOT + b"\0"),
+    of_chain("an empty sequence", CHAIN, 1, UNREAD, a=EMPTY),
+    of_chain("a certificate cut short", CHAIN, 1, UNREAD, a=AUTHORITY[:-1]),
+    of_chain("one that isn't read behind a root", (*CHAIN, "e"), 1, UNREAD, e=EMPTY),
+    of_chain("one that isn't read behind one that is refused", ("chain", "t", "2040-01-01", "l", "e"), 1, UNREAD, e=EMPTY),
+    of_chain("one octet of the signature is another", CHAIN, 1, refused("InvalidCertificate:Signature"), l=LEAF[:-1] + bytes([LEAF[-1] ^ 1])),
+    Row("a certificate from a pipe", ("chain", "t", DAY, "l", PIPE, "r"), 0, TWO_PARENTS, {"t": CHAIN_TABLE, **PARENTS}, given=AUTHORITY),
+    # files
+    of_chain("no table", ("chain", "x", DAY, "l", "a", "r"), 4),
+    of_chain("no first certificate", ("chain", "t", DAY, "x", "a", "r"), 4),
+    of_chain("no last certificate", ("chain", "t", DAY, "l", "a", "x"), 4),
+    of_chain("no last certificate, and a bad table", ("chain", "t", DAY, "l", "x"), 4, table=BAD_TABLE),
+    of_chain("a folder for a certificate", CHAIN, 4, a=Folder()),
+    of_chain("a certificate of an octet too many", CHAIN, 6, a=Zeros(LONGEST_FILE + 1)),
+    of_chain("the longest certificate", CHAIN, 1, UNREAD, a=Zeros(LONGEST_FILE)),
+    of_chain("a table of an octet too many, and no certificate", ("chain", "t", DAY, "x"), 6, table=Zeros(LONGEST_FILE + 1)),
+    of_chain("no certificate, and one of an octet too many behind it", ("chain", "t", DAY, "x", "a"), 4, a=Zeros(LONGEST_FILE + 1)),
+    of_chain("one file for two", ("chain", "t", DAY, "r", "r"), 0, ONE_PARENT),
+    of_chain("names like options", ("chain", "--t", DAY, "-l", "--", "-r"), 0, TWO_PARENTS,
+             **{"--t": CHAIN_TABLE, "-l": LEAF, "--": AUTHORITY, "-r": ROOT}),
+    # the sink
+    Row("a full device for a chain", CHAIN, 5, files={"t": CHAIN_TABLE, **PARENTS}, output="full"),
+    Row("a closed output for a refused chain", CHAIN, 5, files={"t": b"", **PARENTS}, output="closed"),
+]
+
 ROWS = [
     *ACCEPTED_ROWS,
     *REFUSED_ROWS,
@@ -270,6 +380,7 @@ ROWS = [
     *SHELF_ROWS,
     *SINK_ROWS,
     *LENGTH_ROWS,
+    *CHAIN_ROWS,
 ]
 
 

@@ -1,8 +1,14 @@
 pub mod Appending
 pub mod Reading
+pub mod SeveralFiles
 pub mod Adding
 pub mod Hashes
+pub mod DateWords
+pub mod AskedWords
 pub mod Reported
+pub mod Verdicts
+pub mod ReadCertificates
 pub mod Inquiries
 pub mod Runs
+pub mod VouchedChains
 pub mod Vouching

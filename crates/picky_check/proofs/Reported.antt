@@ -1,83 +1,62 @@
 -- A report of an answer is a report of each answer with the same cause.
-use Rattle.std.proofs.Common.{◌≡◌, ℕ, List, Option, Some, None, IsSome, Result, Ok, Err, IfOk, IfErr, refl, sym, subst}
+use Rattle.std.proofs.Common.{◌≡◌, ◌⊎◌, ℕ, List, Result, Ok, Err, inl, inr, refl, subst}
 use Rattle.authenticode_core.specs.declared.accepted.Accepted.{Accepted}
 use Rattle.authenticode_core.specs.declared.error.CheckError.{CheckError}
-use Rattle.authenticode_core.specs.declared.error.CheckError.TheVariants.{Win, Authenticode, Memory}
-use Rattle.authenticode_core.specs.Basic.{IsSameUnlessMemory}
+use Rattle.authenticode_core.specs.declared.error.CheckError.TheVariants as check
+use Rattle.key_core.specs.Verifying.{Judge}
+use Rattle.authenticode_core.specs.Basic.{IsBasicAnswer, IsSameUnlessMemory}
 use Rattle.picky_check.specs.declared.report.Report.{Report}
 use Rattle.picky_check.specs.declared.stop.Stop.{Stop}
 use Rattle.picky_check.specs.declared.stop.Stop.TheVariants as stop
-use Rattle.picky_check.specs.Limits.{IsWholeFile, IsMissing}
-use Rattle.picky_check.specs.Shelf.{Files, file_of}
-use Rattle.picky_check.specs.Inquiry.{IsReported, IsReportOf, GivesReport, StopsForText}
+use Rattle.picky_check.specs.Answer.{IsSignatureAnswer}
+use Rattle.picky_check.specs.Report.{Answer, OfSignature, OfChain, WantsMemory}
+use Rattle.picky_check.specs.Inquiry.{IsReported, GivesReport, Reports}
 
--- what is reported is given, and want of memory gives any answer's place
-pub GivesReport-reported : (answer : Result Accepted CheckError) (result : Result Report Stop)
-    → IsReported answer result → GivesReport answer result
-GivesReport-reported (Ok a) result h = h
-GivesReport-reported (Err (Win e)) result h = h
-GivesReport-reported (Err (Authenticode e)) result h = h
-GivesReport-reported (Err Memory) result h = tt
+-- what is reported is given
+pub GivesReport-reported : (answer : Answer) (result : Result Report Stop) → IsReported answer result → GivesReport answer result
+GivesReport-reported answer result h other = h
 
-want_of_memory : (answer : Result Accepted CheckError) (result : Result Report Stop)
-    → IsReported (Err Memory) result → GivesReport answer result
-want_of_memory (Ok a) result h = rw h refl
-want_of_memory (Err (Win e)) result h = rw h refl
-want_of_memory (Err (Authenticode e)) result h = rw h refl
-want_of_memory (Err Memory) result h = tt
+-- an answer that is want of memory isn't reported, so that memory ran out
+pub out_of_memory : (answer other : Answer) (result : Result Report Stop) → WantsMemory answer → IsReported answer result
+    → IsReported other result
+out_of_memory answer other (Ok report) wants h = absurd (h.told wants)
+out_of_memory answer other (Err s) wants h = h
 
-pub GivesReport-same : (a b : Result Accepted CheckError) (result : Result Report Stop)
-    → IsReported a result → IsSameUnlessMemory a b → GivesReport b result
-GivesReport-same (Err Memory) b result h same = want_of_memory b result h
-GivesReport-same a (Err Memory) result h same = tt
-GivesReport-same a b result h same = GivesReport-reported b result (subst (λ x. IsReported x result) same h)
+pub GivesReport-memory : (answer : Answer) → GivesReport answer (Err stop.Memory)
+GivesReport-memory answer other = refl
 
-pub GivesReport-memory : (answer : Result Accepted CheckError)
-    → GivesReport answer (Err stop.Memory)
-GivesReport-memory answer = want_of_memory answer (Err stop.Memory) refl
+-- what is reported is an answer, and without a report memory ran out
+pub reported_is : (Is : Answer → Type 0) (answer : Answer) (result : Result Report Stop) → Is answer → IsReported answer result
+    → ((other : Answer) → Is other → GivesReport other result) → Reports Is result
+reported_is Is answer (Ok report) is h only = record { reported = (answer, is, h); stopped = tt; only = only }
+reported_is Is answer (Err s) is h only = record { reported = tt; stopped = h; only = only }
 
--- a shelf that has a file tells its files
-pub told : (files : Option Files) (name file : List ℕ) → file_of files name ≡ Some file
-    → IsSome files
-told (Some files) name file h = refl
-told None name file h = absurd cc
+-- ---- of a signature file
 
-pub is_there : (o : Option (List ℕ)) (file : List ℕ) → o ≡ Some file → IsSome o
-is_there (Some x) file h = refl
-is_there None file h = absurd cc
+same_or_memory : (a b : Result Accepted CheckError) → IsSameUnlessMemory a b → WantsMemory (OfSignature a) ⊎ (WantsMemory (OfSignature b) ⊎ (a ≡ b))
+same_or_memory (Err check.Memory) b same = inl tt
+same_or_memory a (Err check.Memory) same = inr (inl tt)
+same_or_memory a b same = inr (inr same)
 
-is_none : (o : Option (List ℕ)) (file : List ℕ) → o ≡ None → o ≡ Some file → ⊥
-is_none o file none some = absurd cc
+given_signature : (a b : Result Accepted CheckError) (result : Result Report Stop) → IsReported (OfSignature a) result → IsSameUnlessMemory a b → GivesReport (OfSignature b) result
+given_signature a b result h same other = elim (same_or_memory a b same) [
+  | inl wants ↦ out_of_memory (OfSignature a) (OfSignature b) result wants h
+  | inr rest ↦ elim rest [
+    | inl wants ↦ absurd (other wants)
+    | inr is ↦ subst (λ (x : Result Accepted CheckError). IsReported (OfSignature x) result) is h
+  ]
+]
 
-pub not_missing : (files : Option Files) (name file : List ℕ) → IsMissing files name
-    → IsWholeFile files name file → ⊥
-not_missing files name file missing whole = is_none (file_of files name) file missing.none (whole.as_told missing.told)
+given_each : (judge : Judge) (octets hash : List ℕ) (a : Result Accepted CheckError) (result : Result Report Stop) → IsReported (OfSignature a) result
+    → ((b : Result Accepted CheckError) → IsBasicAnswer judge octets hash b → IsSameUnlessMemory a b)
+    → (b : Answer) → IsSignatureAnswer judge octets hash b → GivesReport b result
+given_each judge octets hash a result h only (OfSignature b) is = given_signature a b result h (only b is)
+given_each judge octets hash a result h only (OfChain b) is = absurd is
 
--- what is reported is a report of the answer, and only want of memory has none
-pub is_report : (answer : Result Accepted CheckError) (result : Result Report Stop)
-    → IsReported answer result → IfOk result (IsReportOf answer)
-is_report (Ok a) (Ok report) h = h
-is_report (Ok a) (Err e) h = tt
-is_report (Err (Win e)) (Ok report) h = h
-is_report (Err (Win e)) (Err s) h = tt
-is_report (Err (Authenticode e)) (Ok report) h = h
-is_report (Err (Authenticode e)) (Err s) h = tt
-is_report (Err Memory) (Ok report) h = absurd cc
-is_report (Err Memory) (Err s) h = tt
-
--- what a report of the answer has, what is reported has
-pub carried : (P : Report → Type 0) (answer : Result Accepted CheckError) (result : Result Report Stop)
-    → IfOk result (IsReportOf answer) → ((report : Report) → IsReportOf answer report → P report) → IfOk result P
-carried P answer (Ok report) h f = f report h
-carried P answer (Err s) h f = tt
-
--- want of memory is the one cause without a report
-pub only_memory : (text : List ℕ) (answer : Result Accepted CheckError) (result : Result Report Stop)
-    → IsReported answer result → IfErr result (StopsForText text)
-only_memory text (Ok a) (Ok report) h = tt
-only_memory text (Ok a) (Err s) h = subst (λ x. StopsForText text x) (sym h) tt
-only_memory text (Err (Win e)) (Ok report) h = tt
-only_memory text (Err (Win e)) (Err s) h = subst (λ x. StopsForText text x) (sym h) tt
-only_memory text (Err (Authenticode e)) (Ok report) h = tt
-only_memory text (Err (Authenticode e)) (Err s) h = subst (λ x. StopsForText text x) (sym h) tt
-only_memory text (Err Memory) result h = subst (λ (x : Result Report Stop). IfErr x (StopsForText text)) (sym h) tt
+pub signature_reported : (judge : Judge) (octets hash : List ℕ) (a : Result Accepted CheckError) (result : Result Report Stop)
+    → IsBasicAnswer judge octets hash a
+    → ((b : Result Accepted CheckError) → IsBasicAnswer judge octets hash b → IsSameUnlessMemory a b)
+    → IsReported (OfSignature a) result
+    → Reports (IsSignatureAnswer judge octets hash) result
+signature_reported judge octets hash a result is only h =
+    reported_is (IsSignatureAnswer judge octets hash) (OfSignature a) result is h (given_each judge octets hash a result h only)

@@ -1,46 +1,51 @@
--- What the files say that a job names: the answer about the signature, or that the table is none.
-use Rattle.std.specs.Prelude.{◌≡◌, ◌⊎◌, ℕ, ◌+◌, ◌<◌, List, Option, IsSome, Result}
+-- What the files say that a job names: the answer, or that the table is none.
+use Rattle.std.specs.Prelude.{ℕ, List, [], ◌∷◌, Option}
+use Rattle.asn1_types.specs.declared.generalized_time.GeneralizedTime.{GeneralizedTime}
 use Rattle.sig_core.specs.declared.verdict_row.VerdictRow.{VerdictRow}
 use Rattle.sig_core.specs.VerdictTable.{IsTable, IsFirstBadLine, verdict_of}
-use Rattle.authenticode_core.specs.declared.accepted.Accepted.{Accepted}
-use Rattle.authenticode_core.specs.declared.error.CheckError.{CheckError}
+use Rattle.key_core.specs.Verifying.{Judge}
 use Rattle.authenticode_core.specs.Basic.{IsBasicAnswer}
-use Rattle.picky_check.specs.Counts.{last_count}
-use Rattle.picky_check.specs.Limits.{longest_file, IsWholeFile, IsLongFile}
-use Rattle.picky_check.specs.Shelf.{Files, file_of}
-use Rattle.picky_check.specs.Words.{Job, signature_name, table_name, asked_hash}
+use Rattle.picky_check.specs.ChainAnswer.{IsChainAnswer}
+use Rattle.picky_check.specs.Limits.{AreWholeFiles}
+use Rattle.picky_check.specs.Report.{Answer, OfSignature, OfChain}
+use Rattle.picky_check.specs.Shelf.{Files}
+use Rattle.picky_check.specs.Words.{Job, Basic, Chain, files_of}
 
--- The answer about a signature file, by the verdicts of a table. The octets and the text are those
--- of the named files, as far as the shelf tells its files.
-pub record IsAnswered (files : Option Files) (job : Job) (answer : Result Accepted CheckError)
-    : Type 0 where
-  pub octets : List ℕ
-  pub text : List ℕ
+-- the text of the table, among the contents of the files
+abbrev pub table_in : Job → List (List ℕ) → List ℕ
+table_in (Basic signature table hash) (octets ∷ text ∷ others) = text
+table_in (Chain table date certificates) (text ∷ others) = text
+table_in job contents = []
+
+-- an answer about the octets of a signature file
+abbrev pub IsSignatureAnswer : Judge → (octets hash : List ℕ) → Answer → Type 0
+IsSignatureAnswer judge octets hash (OfSignature given) = IsBasicAnswer judge octets hash given
+IsSignatureAnswer judge octets hash (OfChain given) = ⊥
+
+-- an answer about the octets of certificates
+abbrev pub IsCertificateAnswer : Judge → GeneralizedTime → List (List ℕ) → Answer → Type 0
+IsCertificateAnswer judge date octets (OfSignature given) = ⊥
+IsCertificateAnswer judge date octets (OfChain given) = IsChainAnswer judge date octets given
+
+-- The answer to a job about the contents of its files, where these are the verdicts of its table.
+abbrev pub IsAnswerTo : Judge → Job → List (List ℕ) → Answer → Type 0
+IsAnswerTo judge (Basic signature table hash) (octets ∷ others) answer = IsSignatureAnswer judge octets hash answer
+IsAnswerTo judge (Chain table date certificates) (text ∷ octets) answer = IsCertificateAnswer judge date octets answer
+IsAnswerTo judge job contents answer = ⊥
+
+-- The answer to a job, by the verdicts of its table. The contents are those of the named files, as
+-- far as the shelf tells its files.
+pub record IsAnswered (files : Option Files) (job : Job) (answer : Answer) : Type 0 where
+  pub contents : List (List ℕ)
   pub rows : List VerdictRow
-  pub signature_file : IsWholeFile files (signature_name job) octets
-  pub table_file : IsWholeFile files (table_name job) text
-  pub is_table : IsTable text rows
-  pub is_answer : IsBasicAnswer (verdict_of rows) octets (asked_hash job) answer
+  pub are_files : AreWholeFiles files (files_of job) contents
+  pub is_table : IsTable (table_in job contents) rows
+  pub is_answer : IsAnswerTo (verdict_of rows) job contents answer
 
--- A signature file, and a text with a bad line in the place of a table: they are the named files,
--- as far as the shelf tells its files.
+-- The files of a job, with a text that has a bad line in the place of the table: they are the named
+-- files, as far as the shelf tells its files.
 pub record HasBadTable (files : Option Files) (job : Job) : Type 0 where
-  pub octets : List ℕ
-  pub text : List ℕ
+  pub contents : List (List ℕ)
   pub number : ℕ
-  pub signature_file : IsWholeFile files (signature_name job) octets
-  pub table_file : IsWholeFile files (table_name job) text
-  pub bad_line : IsFirstBadLine text number
-
--- The shelf tells both files.
-pub record HasFiles (files : Option Files) (job : Job) : Type 0 where
-  pub signature_file : IsSome (file_of files (signature_name job))
-  pub table_file : IsSome (file_of files (table_name job))
-
--- The shelf tells a file that is longer than is read.
-abbrev pub HasLongFile : Option Files → Job → Type 0
-HasLongFile files job = IsLongFile files (signature_name job) ⊎ IsLongFile files (table_name job)
-
--- a count rose by more than the octets of the longest file, or stands at its last value
-abbrev pub RisesBeyond : ℕ → ℕ → Type 0
-RisesBeyond before now = (before + longest_file < now) ⊎ (now ≡ last_count)
+  pub are_files : AreWholeFiles files (files_of job) contents
+  pub bad_line : IsFirstBadLine (table_in job contents) number

@@ -19,3 +19,7 @@ pub record RisesBy (number before now : ℕ) : Type 0 where
   pub no_fall : before ≤ now
   pub fits : now ≤ last_count
   pub by_number : (now ≡ before + number) ⊎ (now ≡ last_count)
+
+-- it rose by more than a number, or stands at its last value
+abbrev pub RisesBeyond : ℕ → ℕ → ℕ → Type 0
+RisesBeyond number before now = (before + number < now) ⊎ (now ≡ last_count)

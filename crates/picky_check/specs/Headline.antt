@@ -1,12 +1,12 @@
 -- Acceptance means vouched for.
-use Rattle.std.specs.Prelude.{◌≡◌, List, ℕ, Option, Some}
+use Rattle.std.specs.Prelude.{List, ℕ, Option}
 use Rattle.cms_types.specs.SignedDataElements.{SignedDataElements}
 use Rattle.sig_core.specs.declared.verdict_row.VerdictRow.{VerdictRow}
 use Rattle.sig_core.specs.VerdictTable.{IsTable, verdict_of}
 use Rattle.authenticode_core.specs.Basic.{HasSignedData, IsVouchedFor as Vouches}
 use Rattle.picky_check.specs.Limits.{IsWholeFile}
 use Rattle.picky_check.specs.Shelf.{Files}
-use Rattle.picky_check.specs.Words.{Basic, job_of}
+use Rattle.picky_check.specs.Words.{Basic, AsksFor}
 
 -- The words are basic SIG TABLE HASH. There are octets that hold signed data, and a text that is a
 -- table, and by the verdicts of the table the signed data vouches for the digest HASH, with the
@@ -16,7 +16,7 @@ pub record IsVouchedFor (words : List (List ℕ)) (files : Option Files) : Type 
   pub signature : List ℕ
   pub table : List ℕ
   pub hash : List ℕ
-  pub asked : job_of words ≡ Some (Basic signature table hash)
+  pub asked : AsksFor words (Basic signature table hash)
   pub octets : List ℕ
   pub text : List ℕ
   pub rows : List VerdictRow

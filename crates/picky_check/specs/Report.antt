@@ -1,10 +1,27 @@
--- The line that a run reports.
+-- What is answered, and the line that a run reports.
 use Rattle.std.specs.Prelude.{ℕ, List, [], ◌∷◌, ◌++◌, Option, Some, None, Result, Ok, Err, codes, decimal, flat_map}
 use Rattle.authenticode_core.specs.declared.accepted.Accepted.{Accepted}
 use Rattle.authenticode_core.specs.declared.accepted.Excuse.{Excuse}
 use Rattle.authenticode_core.specs.declared.accepted.Excuse.TheVariants as excuse
 use Rattle.authenticode_core.specs.declared.error.CheckError.{CheckError}
+use Rattle.authenticode_core.specs.declared.error.CheckError.TheVariants as check
 use Rattle.authenticode_core.specs.RefusalName.{refusal_name}
+use Rattle.x509_core.specs.ErrorName.{cert_error_name}
+use Rattle.x509_core.specs.declared.error.CertError.{CertError}
+use Rattle.x509_core.specs.declared.error.CertError.TheVariants as cert
+
+-- what is answered
+pub data Answer : Type 0 where
+  -- about a signature file
+  OfSignature : Result Accepted CheckError → Answer
+  -- about a certificate over its parents: how many these are, or why it is refused
+  OfChain : Result ℕ CertError → Answer
+
+-- want of memory, which isn't reported
+abbrev pub WantsMemory : Answer → Type 0
+WantsMemory (OfSignature (Err check.Memory)) = Unit {0}
+WantsMemory (OfChain (Err cert.Memory)) = Unit {0}
+WantsMemory answer = ⊥
 
 -- the word for an excuse
 abbrev pub excuse_word : Excuse → List ℕ
@@ -29,16 +46,28 @@ accepted_line accepted =
     ++ codes " path=" ++ places_text accepted.path
     ++ codes " excuse=" ++ excuse_word accepted.excuse ++ 10 ∷ []
 
+-- accepted parents=K
+abbrev pub parents_line : ℕ → List ℕ
+parents_line count = codes "accepted parents=" ++ decimal count ++ 10 ∷ []
+
 -- refused NAME
 abbrev pub refused_line : CheckError → List ℕ
 refused_line e = codes "refused " ++ refusal_name e ++ 10 ∷ []
 
+-- and for a chain
+abbrev pub refused_chain_line : CertError → List ℕ
+refused_chain_line e = codes "refused " ++ cert_error_name e ++ 10 ∷ []
+
 -- the line that reports an answer
-abbrev pub line_of : Result Accepted CheckError → List ℕ
-line_of (Ok accepted) = accepted_line accepted
-line_of (Err e) = refused_line e
+abbrev pub line_of : Answer → List ℕ
+line_of (OfSignature (Ok accepted)) = accepted_line accepted
+line_of (OfSignature (Err e)) = refused_line e
+line_of (OfChain (Ok count)) = parents_line count
+line_of (OfChain (Err e)) = refused_chain_line e
 
 -- the status of a run that reports it
-abbrev pub status_of : Result Accepted CheckError → ℕ
-status_of (Ok accepted) = 0
-status_of (Err e) = 1
+abbrev pub status_of : Answer → ℕ
+status_of (OfSignature (Ok accepted)) = 0
+status_of (OfSignature (Err e)) = 1
+status_of (OfChain (Ok count)) = 0
+status_of (OfChain (Err e)) = 1

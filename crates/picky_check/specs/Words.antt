@@ -1,24 +1,21 @@
 -- What the words of a command line ask for.
-use Rattle.std.specs.Prelude.{ℕ, List, [], ◌∷◌, length, Option, Some, None, Result, Ok, Err, option_map, nat_le, ◌&&◌, if◌then◌else◌, bytes_eq, codes}
+use Rattle.std.specs.Prelude.{◌≡◌, ◌≤◌, ℕ, List, [], ◌∷◌, length, Option, Some, None, Result, Ok, Err, nat_le, ◌&&◌, if◌then◌else◌, codes}
 use Rattle.hex.specs.Hex.{decode_of}
 use Rattle.hex.specs.declared.error.FromHexError.{FromHexError}
+use Rattle.asn1_types.specs.declared.generalized_time.GeneralizedTime.{GeneralizedTime}
+use Rattle.picky_check.specs.DateWord.{IsDateWord}
 
--- a check of one signature file
+-- what is asked for
 pub data Job : Type 0 where
   -- the form of the file SIG, its digest, which is HASH, and its signature, which TABLE accepts
   Basic : (signature table hash : List ℕ) → Job
+  -- the first of the files CERT over the others, its parents, at DATE, by the signatures that TABLE accepts
+  Chain : (table : List ℕ) → (date : GeneralizedTime) → (certificates : List (List ℕ)) → Job
 
--- the name of the signature file
-abbrev pub signature_name : Job → List ℕ
-signature_name (Basic signature table hash) = signature
-
--- the name of the table's file
-abbrev pub table_name : Job → List ℕ
-table_name (Basic signature table hash) = table
-
--- the digest that is asked for
-abbrev pub asked_hash : Job → List ℕ
-asked_hash (Basic signature table hash) = hash
+-- the names of its files, in the order in which they are read
+abbrev pub files_of : Job → List (List ℕ)
+files_of (Basic signature table hash) = signature ∷ table ∷ []
+files_of (Chain table date certificates) = table ∷ certificates
 
 -- these octets, where there are 1 to 64
 abbrev pub sized : Result (List ℕ) FromHexError → Option (List ℕ)
@@ -30,10 +27,25 @@ sized (Err e) = None
 abbrev pub hash_of : List ℕ → Option (List ℕ)
 hash_of word = sized (decode_of word)
 
--- the table of the commands: basic SIG TABLE HASH
-abbrev pub job_of : List (List ℕ) → Option Job
-job_of (command ∷ signature ∷ table ∷ hash ∷ []) =
-    if bytes_eq command (codes "basic")
-    then option_map (Basic signature table) (hash_of hash)
-    else None
-job_of words = None
+-- basic SIG TABLE HASH
+pub record IsBasic (words : List (List ℕ)) (signature table hash : List ℕ) : Type 0 where
+  pub word : List ℕ
+  pub words_are : words ≡ codes "basic" ∷ signature ∷ table ∷ word ∷ []
+  pub hash_is : hash_of word ≡ Some hash
+
+-- chain TABLE DATE CERT .., with 1 to 32 files CERT
+pub record IsChain (words : List (List ℕ)) (table : List ℕ) (date : GeneralizedTime) (certificates : List (List ℕ)) : Type 0 where
+  pub word : List ℕ
+  pub words_are : words ≡ codes "chain" ∷ table ∷ word ∷ certificates
+  pub date_is : IsDateWord word date
+  pub some : 1 ≤ length certificates
+  pub most : length certificates ≤ 32
+
+-- The table of the commands: the words ask for this job.
+abbrev pub AsksFor : List (List ℕ) → Job → Type 0
+AsksFor words (Basic signature table hash) = IsBasic words signature table hash
+AsksFor words (Chain table date certificates) = IsChain words table date certificates
+
+-- the words are of no command
+abbrev pub AsksForNothing : List (List ℕ) → Type 0
+AsksForNothing words = (job : Job) → AsksFor words job → ⊥

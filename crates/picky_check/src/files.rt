@@ -1,11 +1,12 @@
 //! Whole files from a shelf, and whole reports to a sink.
 
-ghost use Rattle.std.specs.Prelude.{◌≡◌, ◌⊎◌, ◌+◌, ◌≤◌, Err, length, IfOk, OnOk, OnErr, IsOk, IsErr, IsSome, IsErrOf};
-ghost use Rattle.picky_check.specs.Answer.{RisesBeyond};
+ghost use Rattle.std.specs.Prelude.{◌≡◌, ◌+◌, ◌≤◌, ◌++◌, ℕ, List, Err, length, map, string_bytes, IfOk, IfErr, OnOk, OnErr, IsOk, IsSome, IsErrOf, MatchResult};
 ghost use Rattle.picky_check.specs.Counts.{GoesOn, HasRisen, RisesBy};
-ghost use Rattle.picky_check.specs.Limits.{longest_file, IsWholeFile, IsLongFile, IsMissing};
+ghost use Rattle.picky_check.specs.Jobs.{contents_held, names_held};
+ghost use Rattle.picky_check.specs.Limits.{longest_file, IsWholeFile, IsLongFile, IsMissing, AreWholeFiles};
 ghost use Rattle.picky_check.specs.Shelf.{file_of};
 ghost use Rattle.picky_check.specs.Sink.{Appends, Lowers, HasRoom, IsCutShort};
+ghost use Rattle.picky_check.specs.Unread.{AreUnread};
 
 use crate::{Failed, FileError, Shelf, Sink};
 use std::alloc::Global;
@@ -73,34 +74,59 @@ pub fn write_report<O: Sink>(out: &mut O, text: &str) -> Result<(), Failed>
     Ok(())
 }
 
-/// Reads two whole files, in this order.
-pub(crate) fn read_both<F: Shelf>(
+/// The names of files that are read, in order: there are at least two.
+#[derive(Clone, Copy, Debug)]
+pub(crate) struct Names<'a> {
+    pub(crate) first: &'a str,
+    pub(crate) second: &'a str,
+    pub(crate) others: &'a [String],
+}
+
+/// The contents of files that were read, in order.
+#[derive(Debug, Drop)]
+pub(crate) struct Contents {
+    pub(crate) first: Vec<u8>,
+    pub(crate) second: Vec<u8>,
+    pub(crate) others: Vec<Vec<u8>>,
+}
+
+/// Reads whole files, in their order.
+pub(crate) fn read_files<F: Shelf>(
     alloc: Global,
     shelf: &mut F,
-    first: &str,
-    second: &str,
-) -> Result<(Vec<u8>, Vec<u8>), FileError>
-    ensures first { IfOk result (λ both.
-        IsWholeFile (F.state shelf.old).files first.now both.0.items) }
-    ensures second { IfOk result (λ both.
-        IsWholeFile (F.state shelf.old).files second.now both.1.items) }
-
-    ensures too_long { IsErrOf result FileError.TooLong → IsSome (F.state shelf.old).files
-        → IsLongFile (F.state shelf.old).files first.now
-        ⊎ IsLongFile (F.state shelf.old).files second.now }
-    ensures more_given { IsErrOf result FileError.TooLong
-        → RisesBeyond (F.state shelf.old).given (F.state shelf.new).given }
-
-    ensures missing_first { IsMissing (F.state shelf.old).files first.now
-        → result ≡ Err FileError.Fault }
-    ensures missing_second { IsMissing (F.state shelf.old).files second.now → IsErr result }
-    ensures cause { IsErrOf result FileError.Fault
-        → HasRisen (F.state shelf.old).faults (F.state shelf.new).faults }
-    ensures no_fault { (F.state shelf.old).is_quiet
-        → IsSome (file_of (F.state shelf.old).files first.now)
-        → IsSome (file_of (F.state shelf.old).files second.now) → ¬ IsErrOf result FileError.Fault }
+    names: &Names<'_>,
+) -> Result<Contents, FileError>
+    ensures { MatchResult result
+        (λ read. AreWholeFiles (F.state shelf.old).files (names_held names.now) (contents_held read))
+        (AreUnread (F.state shelf.old) (F.state shelf.new) (names_held names.now)) }
 {
-    let one = read_file(alloc, shelf, first)?;
-    let other = read_file(alloc, shelf, second)?;
-    Ok((one, other))
+    let first = read_file(alloc, shelf, names.first)?;
+    let second = read_file(alloc, shelf, names.second)?;
+    let mut others = Vec::new(alloc);
+    read_on(alloc, shelf, names.others, &mut others)?;
+    Ok(Contents {
+        first,
+        second,
+        others,
+    })
+}
+
+/// Reads whole files behind those that were read.
+fn read_on<F: Shelf>(
+    alloc: Global,
+    shelf: &mut F,
+    names: &[String],
+    contents: &mut Vec<Vec<u8>>,
+) -> Result<(), FileError>
+    ensures read { OnOk result ((read : List (List ℕ))
+        × (map (λ octets. octets.items) contents.new.items ≡ map (λ octets. octets.items) contents.old.items ++ read)
+        × AreWholeFiles (F.state shelf.old).files (map string_bytes names.now) read) }
+    ensures unread { IfErr result
+        (AreUnread (F.state shelf.old) (F.state shelf.new) (map string_bytes names.now)) }
+{
+    let [name, others @ ..] = names else {
+        return Ok(());
+    };
+    contents.push(read_file(alloc, shelf, name.as_str())?)?;
+    read_on(alloc, shelf, others, contents)
 }

@@ -1,22 +1,25 @@
 //! What is found out about the files that the words name: a report, or why there is none.
 
-ghost use Rattle.std.specs.Prelude.{◌≡◌, ℕ, Ok, Err, None, map, string_bytes, IsSome, Result, List, IfOk, IfErr};
+ghost use Rattle.std.specs.Prelude.{◌≡◌, ◌⊎◌, ◌∷◌, ℕ, Err, map, string_bytes, IfOk, IfErr, List};
 ghost use Rattle.sig_core.specs.declared.verdict_row.VerdictRow.{VerdictRow};
 ghost use Rattle.sig_core.specs.VerdictTable.{IsTable, IsFirstBadLine, verdict_of};
-ghost use Rattle.authenticode_core.specs.declared.accepted.Accepted.{Accepted};
-ghost use Rattle.authenticode_core.specs.declared.error.CheckError.{CheckError};
-ghost use Rattle.authenticode_core.specs.Basic.{IsBasicAnswer};
-ghost use Rattle.picky_check.specs.Inquiry.{IsReportOf, GivesReport, GivesStop, StopsForText, IsInquiry, Inquires};
-ghost use Rattle.picky_check.specs.Words.{Basic, job_of};
+ghost use Rattle.picky_check.specs.Answer.{IsAnswerTo, IsCertificateAnswer, IsSignatureAnswer, table_in};
+ghost use Rattle.picky_check.specs.Inquiry.{IsReportOf, GivesReport, GivesStop, StopsForText, IsInquiry, Inquires, Reports};
+ghost use Rattle.picky_check.specs.Jobs.{contents_held, job_held};
+ghost use Rattle.picky_check.specs.Report.{Answer};
+ghost use Rattle.picky_check.specs.Words.{AsksFor, AsksForNothing, Job as AskedJob};
 
 use crate::Shelf;
-use crate::files::read_both;
-use crate::report::{Report, report_of};
+use crate::chain::check_chain;
+use crate::files::{Contents, read_files};
+use crate::report::{Report, chain_report_of, report_of};
 use crate::stop::Stop;
 use crate::words::{Job, job_of};
 use authenticode_core::check_basic;
-use sig_core::VerdictTable;
+use names_core::UtcDate;
+use sig_core::{Scheme, VerdictTable};
 use std::alloc::Global;
+use x509_core::{chains_break_no_rule, chains_have_one_answer};
 
 /// The report that the words ask for.
 pub(crate) fn inquire<F: Shelf>(
@@ -24,50 +27,99 @@ pub(crate) fn inquire<F: Shelf>(
     words: &[String],
     shelf: &mut F,
 ) -> Result<Report, Stop>
-    ensures usage { job_of (map string_bytes words.now) ≡ None → result ≡ Err Stop.Usage }
+    ensures usage { AsksForNothing (map string_bytes words.now) → result ≡ Err Stop.Usage }
     ensures asked { Inquires (map string_bytes words.now)
         (F.state shelf.old) (F.state shelf.new) result }
+    ensures settled { AsksForNothing (map string_bytes words.now)
+        ⊎ ((asked : AskedJob) × AsksFor (map string_bytes words.now) asked) }
 {
     match job_of(alloc, words)? {
-        Some(
-            Job::Basic {
-                signature,
-                table,
-                hash,
-            },
-        ) => basic(alloc, shelf, signature, table, &hash),
+        Some(job) => answer(alloc, shelf, &job),
         None => Err(Stop::Usage),
     }
 }
 
-/// Reads a signature file and a table, and judges the one by the other.
-fn basic<F: Shelf>(
-    alloc: Global,
-    shelf: &mut F,
-    signature: &str,
-    table: &str,
-    hash: &[u8],
-) -> Result<Report, Stop>
-    ensures { IsInquiry (F.state shelf.old) (F.state shelf.new)
-        (Basic signature.now table.now hash.now) result }
+/// Reads the files of a job, and judges what they hold.
+fn answer<F: Shelf>(alloc: Global, shelf: &mut F, job: &Job<'_>) -> Result<Report, Stop>
+    ensures { IsInquiry (F.state shelf.old) (F.state shelf.new) (job_held job.now) result }
 {
-    let (octets, text) = read_both(alloc, shelf, signature, table)?;
-    judge(alloc, &octets, &text, hash)
+    let contents = read_files(alloc, shelf, &job.names())?;
+    judge(alloc, job, &contents)
 }
 
-/// The report of a signature file, judged by the text of a table.
-fn judge(alloc: Global, octets: &[u8], text: &[u8], hash: &[u8]) -> Result<Report, Stop>
-    ensures reported { IfOk result (λ report. (rows : List VerdictRow)
-        × (answer : Result Accepted CheckError)
-        × IsTable text.now rows × IsBasicAnswer (verdict_of rows) octets.now hash.now answer
+/// The report of the contents of the files of a job, judged by the text of the table among them.
+fn judge(alloc: Global, asked: &Job<'_>, read: &Contents) -> Result<Report, Stop>
+    ensures reported { IfOk result (λ report. (rows : List VerdictRow) × (answer : Answer)
+        × IsTable (table_in (job_held asked.now) (contents_held read.now)) rows
+        × IsAnswerTo (verdict_of rows) (job_held asked.now) (contents_held read.now) answer
         × IsReportOf answer report) }
-    ensures stopped { IfErr result (λ stop. StopsForText text.now stop) }
-    ensures only { (rows : List VerdictRow) (answer : Result Accepted CheckError)
-        → IsTable text.now rows
-        → IsBasicAnswer (verdict_of rows) octets.now hash.now answer → GivesReport answer result }
-    ensures bad { (number : ℕ) → IsFirstBadLine text.now number → GivesStop Stop.BadTable result }
+    ensures stopped { IfErr result
+        (StopsForText (table_in (job_held asked.now) (contents_held read.now))) }
+    ensures only { (rows : List VerdictRow) (answer : Answer)
+        → IsTable (table_in (job_held asked.now) (contents_held read.now)) rows
+        → IsAnswerTo (verdict_of rows) (job_held asked.now) (contents_held read.now) answer
+        → GivesReport answer result }
+    ensures bad { (number : ℕ)
+        → IsFirstBadLine (table_in (job_held asked.now) (contents_held read.now)) number
+        → GivesStop Stop.BadTable result }
 {
-    let table = VerdictTable::parse(alloc, text)?;
-    let answer = check_basic(alloc, octets, hash, &table);
+    let table = VerdictTable::parse(alloc, asked.table_in(read))?;
+    judge_by(alloc, asked, read, &table)
+}
+
+impl Job<'_> {
+    /// The text of the table, among the contents of the files.
+    fn table_in<'a>(&self, read: &'a Contents) -> &'a [u8]
+        ensures { result.now ≡ table_in (job_held self.now) (contents_held read.now) }
+    {
+        match self {
+            Job::Basic { .. } => &read.second,
+            Job::Chain { .. } => &read.first,
+        }
+    }
+}
+
+/// The report of the contents of the files of a job, judged by a scheme.
+fn judge_by<S: Scheme>(
+    alloc: Global,
+    asked: &Job<'_>,
+    read: &Contents,
+    scheme: &S,
+) -> Result<Report, Stop>
+    ensures { Reports (IsAnswerTo (S.judge scheme.now) (job_held asked.now) (contents_held read.now)) result }
+{
+    match asked {
+        Job::Basic { hash, .. } => judge_signature(alloc, &read.first, hash, scheme),
+        Job::Chain { date, .. } => judge_chain(alloc, &read.second, &read.others, date, scheme),
+    }
+}
+
+/// The report of the octets of a signature file, judged by a scheme.
+fn judge_signature<S: Scheme>(
+    alloc: Global,
+    octets: &[u8],
+    hash: &[u8],
+    scheme: &S,
+) -> Result<Report, Stop>
+    ensures { Reports (IsSignatureAnswer (S.judge scheme.now) octets.now hash.now) result }
+{
+    let answer = check_basic(alloc, octets, hash, scheme);
     report_of(alloc, &answer)
+}
+
+/// The report of the octets of a certificate and its parents, judged by a scheme at a date.
+fn judge_chain<S: Scheme>(
+    alloc: Global,
+    checked: &[u8],
+    parents: &[Vec<u8>],
+    date: &UtcDate,
+    scheme: &S,
+) -> Result<Report, Stop>
+    ensures { Reports (IsCertificateAnswer (S.judge scheme.now) date.now
+        (checked.now ∷ map (λ octets. octets.items) parents.now)) result }
+{
+    chains_break_no_rule();
+    chains_have_one_answer();
+    let answer = check_chain(alloc, checked, parents, date, scheme);
+    chain_report_of(alloc, &answer)
 }

@@ -1,6 +1,8 @@
 //! The command line over files and an output that callers hand in: words, files, report.
 #![tactic(auto)]
 
+mod chain;
+mod dates;
 mod disk;
 mod error;
 mod files;
@@ -20,7 +22,7 @@ pub use error::FileError;
 pub use files::{read_file, write_report};
 pub use memory::{MemShelf, MemSink};
 pub use program::{run, status_without_words};
-pub use report::{accepted_line, refused_line};
+pub use report::{accepted_line, parents_line, refused_chain_line, refused_line};
 pub use shelf::{Failed, Shelf};
 pub use sink::Sink;
 pub use stop::{

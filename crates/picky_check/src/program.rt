@@ -3,6 +3,7 @@
 ghost use Rattle.std.specs.Prelude.{◌≡◌, ◌⊎◌, map, string_bytes};
 ghost use Rattle.std.specs.IoError.{error_kind};
 ghost use Rattle.picky_check.specs.Counts.{HasRisen};
+ghost use Rattle.picky_check.specs.ChainHeadline.{IsVouchedChain};
 ghost use Rattle.picky_check.specs.Headline.{IsVouchedFor};
 ghost use Rattle.picky_check.specs.Run.{IsRun};
 ghost use Rattle.picky_check.specs.Sink.{Appends, IsCutShort};
@@ -19,7 +20,8 @@ use std::io::{Error, ErrorKind};
 pub fn run<F: Shelf, O: Sink>(alloc: Global, words: &[String], shelf: &mut F, out: &mut O) -> u8
     // Acceptance means vouched for.
     ensures vouched_for { result ≡ 0
-        → IsVouchedFor (map string_bytes words.now) (F.state shelf.old).files }
+        → IsVouchedFor (map string_bytes words.now) (F.state shelf.old).files
+        ⊎ IsVouchedChain (map string_bytes words.now) (F.state shelf.old).files }
     // What each status tells, and when it comes.
     ensures ends { IsRun (map string_bytes words.now) (F.state shelf.old) (F.state shelf.new)
         (O.state out.old) (O.state out.new) result }

@@ -2,11 +2,12 @@
 
 ghost use Rattle.std.specs.Prelude.{◌≡◌, ◌++◌, IfOk, OnOk, string_bytes};
 ghost use Rattle.picky_check.specs.Inquiry.{IsReported};
-ghost use Rattle.picky_check.specs.Report.{accepted_line, excuse_word, refused_line, places_text};
+ghost use Rattle.picky_check.specs.Report.{OfChain, OfSignature, accepted_line, excuse_word, parents_line, places_text, refused_chain_line, refused_line};
 
 use crate::stop::{ACCEPTED, REFUSED, Stop};
 use authenticode_core::{Accepted, CheckError, Excuse};
 use std::alloc::{AllocError, Global};
+use x509_core::CertError;
 
 /// What is written, and the status that the run ends with.
 #[derive(Debug, Drop)]
@@ -15,12 +16,12 @@ pub(crate) struct Report {
     pub(crate) line: String,
 }
 
-/// The report of an answer.
+/// The report of an answer about a signature file.
 pub(crate) fn report_of(
     alloc: Global,
     answer: &Result<Accepted, CheckError>,
 ) -> Result<Report, Stop>
-    ensures { IsReported answer.now result }
+    ensures { IsReported (OfSignature answer.now) result }
 {
     match answer {
         Ok(accepted) => Ok(Report {
@@ -31,6 +32,26 @@ pub(crate) fn report_of(
         Err(error) => Ok(Report {
             status: REFUSED,
             line: refused_line(alloc, error)?,
+        }),
+    }
+}
+
+/// The report of an answer about a certificate over its parents, of which there are so many.
+pub(crate) fn chain_report_of(
+    alloc: Global,
+    answer: &Result<usize, CertError>,
+) -> Result<Report, Stop>
+    ensures { IsReported (OfChain answer.now) result }
+{
+    match answer {
+        Ok(count) => Ok(Report {
+            status: ACCEPTED,
+            line: parents_line(alloc, *count)?,
+        }),
+        Err(CertError::Memory) => Err(Stop::Memory),
+        Err(error) => Ok(Report {
+            status: REFUSED,
+            line: refused_chain_line(alloc, error)?,
         }),
     }
 }
@@ -77,6 +98,21 @@ fn excuse_word(excuse: Excuse) -> &'static str
 /// The line of a refused signature, `refused NAME` and a newline.
 pub fn refused_line(alloc: Global, error: &CheckError) -> Result<String, AllocError>
     ensures { IfOk result (λ line. string_bytes line ≡ refused_line error.now) }
+{
+    format!(in alloc; "refused {}\n", error.name(alloc)?)
+}
+
+/// The line of a certificate that is accepted over so many parents, `accepted parents=K` and a
+/// newline.
+pub fn parents_line(alloc: Global, count: usize) -> Result<String, AllocError>
+    ensures { IfOk result (λ line. string_bytes line ≡ parents_line count) }
+{
+    format!(in alloc; "accepted parents={count}\n")
+}
+
+/// The line of a certificate that is refused over its parents, `refused NAME` and a newline.
+pub fn refused_chain_line(alloc: Global, error: &CertError) -> Result<String, AllocError>
+    ensures { IfOk result (λ line. string_bytes line ≡ refused_chain_line error.now) }
 {
     format!(in alloc; "refused {}\n", error.name(alloc)?)
 }

@@ -1,13 +1,19 @@
 //! What the words of a command line ask for.
 
-ghost use Rattle.std.specs.Prelude.{◌≡◌, map, option_map, IfOk, IsErr, IsSome, string_bytes};
-ghost use Rattle.picky_check.specs.Jobs.{job};
-ghost use Rattle.picky_check.specs.Words.{job_of, hash_of};
+ghost use Rattle.std.specs.Prelude.{◌≡◌, Some, None, map, IfOk, IfSome, IsErr, IsSome, MatchOption, option_map, string_bytes, ◌∷◌, codes, Ok};
+ghost use Rattle.picky_check.specs.Jobs.{job_held, names_held};
+ghost use Rattle.picky_check.specs.Words.{AsksFor, AsksForNothing, Job as AskedJob, files_of, hash_of};
 
+use crate::dates::date_of;
+use crate::files::Names;
+use names_core::UtcDate;
 use std::alloc::{AllocError, Global};
 
 /// The most octets of a hash.
 const LONGEST_HASH: usize = 64;
+
+/// The most parents of a certificate.
+const MOST_PARENTS: usize = 31;
 
 /// What is asked for.
 #[derive(Debug, Drop)]
@@ -18,21 +24,79 @@ pub(crate) enum Job<'a> {
         table: &'a str,
         hash: Vec<u8>,
     },
+    /// A certificate over its parents, at a date.
+    Chain {
+        table: &'a str,
+        date: UtcDate,
+        checked: &'a str,
+        parents: &'a [String],
+    },
+}
+
+impl Job<'_> {
+    /// The names of its files, in the order in which they are read.
+    pub(crate) fn names(&self) -> Names<'_>
+        ensures { names_held result ≡ files_of (job_held self.now) }
+    {
+        match self {
+            Job::Basic {
+                signature,
+                table,
+                ..
+            } => Names {
+                first: signature,
+                second: table,
+                others: &[],
+            },
+            Job::Chain {
+                table,
+                checked,
+                parents,
+                ..
+            } => Names {
+                first: table,
+                second: checked,
+                others: parents,
+            },
+        }
+    }
 }
 
 /// The job that the words ask for, if they are in the table of commands. Memory is asked for only
 /// where they are.
 pub(crate) fn job_of(alloc: Global, words: &[String]) -> Result<Option<Job<'_>>, AllocError>
-    ensures asked { IfOk result (λ asked.
-        option_map job asked ≡ job_of (map string_bytes words.now)) }
-    ensures memory { IsErr result → IsSome (job_of (map string_bytes words.now)) }
+    ensures asked { IfOk result (λ asked. MatchOption asked
+        (AsksForNothing (map string_bytes words.now))
+        (λ held. AsksFor (map string_bytes words.now) (job_held held))) }
+    ensures only { (asked : AskedJob) → AsksFor (map string_bytes words.now) asked
+        → IfOk result (λ held. option_map job_held held ≡ Some asked) }
+    ensures memory { IsErr result → (asked : AskedJob) × AsksFor (map string_bytes words.now) asked }
 {
-    let [command, signature, table, hash] = words else {
+    let [command, words @ ..] = words else {
         return Ok(None);
     };
-    if command.as_str() != "basic" {
-        return Ok(None);
+    if command.as_str() == "basic" {
+        return basic_of(alloc, words);
     }
+    if command.as_str() == "chain" {
+        return Ok(chain_of(words));
+    }
+    Ok(None)
+}
+
+/// The job of the words behind `basic`.
+fn basic_of(alloc: Global, words: &[String]) -> Result<Option<Job<'_>>, AllocError>
+    ensures asked { IfOk result (λ asked. MatchOption asked
+        (AsksForNothing (codes "basic" ∷ map string_bytes words.now))
+        (λ held. AsksFor (codes "basic" ∷ map string_bytes words.now) (job_held held))) }
+    ensures only { (asked : AskedJob) → AsksFor (codes "basic" ∷ map string_bytes words.now) asked
+        → IfOk result (λ held. option_map job_held held ≡ Some asked) }
+    ensures memory { IsErr result → (asked : AskedJob)
+        × AsksFor (codes "basic" ∷ map string_bytes words.now) asked }
+{
+    let [signature, table, hash] = words else {
+        return Ok(None);
+    };
     let Some(hash) = hash_of(alloc, hash.as_str())? else {
         return Ok(None);
     };
@@ -41,6 +105,29 @@ pub(crate) fn job_of(alloc: Global, words: &[String]) -> Result<Option<Job<'_>>,
         table: table.as_str(),
         hash,
     }))
+}
+
+/// The job of the words behind `chain`.
+fn chain_of(words: &[String]) -> Option<Job<'_>>
+    ensures asked { MatchOption result
+        (AsksForNothing (codes "chain" ∷ map string_bytes words.now))
+        (λ held. AsksFor (codes "chain" ∷ map string_bytes words.now) (job_held held)) }
+    ensures only { (asked : AskedJob) → AsksFor (codes "chain" ∷ map string_bytes words.now) asked
+        → option_map job_held result ≡ Some asked }
+{
+    let [table, date, checked, parents @ ..] = words else {
+        return None;
+    };
+    if parents.len() > MOST_PARENTS {
+        return None;
+    }
+    let date = date_of(date.as_str())?;
+    Some(Job::Chain {
+        table: table.as_str(),
+        date,
+        checked: checked.as_str(),
+        parents,
+    })
 }
 
 // 1 to 64 octets in hexadecimal digits of either case.

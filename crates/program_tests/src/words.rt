@@ -11,7 +11,7 @@ const OCTETS_65: &str = "000102030405060708090a0b0c0d0e0f101112131415161718191a1
 
 // Words, and whether they ask for a job.
 #[rattlefmt::skip]
-const WORDS: [(&str, &[&str], bool); 17] = [
+const WORDS: [(&str, &[&str], bool); 24] = [
     ("no words",            &[],                              false),
     ("a command alone",     &["basic"],                       false),
     ("a word too few",      &["basic", "s", "t"],             false),
@@ -29,6 +29,13 @@ const WORDS: [(&str, &[&str], bool); 17] = [
     ("no digits",           &["basic", "s", "t", "x0"],       false),
     ("a prefix",            &["basic", "s", "t", "0x00"],     false),
     ("a space",             &["basic", "s", "t", "00 "],      false),
+    ("a chain of one",      &["chain", "t", "2025-01-31", "s"],          true),
+    ("of two at a moment",  &["chain", "t", "2024-02-29T23:59:59", "s", "s"], true),
+    ("no certificate",      &["chain", "t", "2025-01-31"],    false),
+    ("no such day",         &["chain", "t", "2023-02-29", "s"],          false),
+    ("no such hour",        &["chain", "t", "2025-01-31T24:00:00", "s"], false),
+    ("a hash for a date",   &["chain", "t", "00", "s"],       false),
+    ("a date for a hash",   &["basic", "s", "t", "2025-01-31"], false),
 ];
 
 #[test]

@@ -1,16 +1,17 @@
+use Rattle.std.proofs.Common.{◌∙◌, arith}
 use Rattle.picky_check.proofs.Runs.{IsRun-stopped, IsRun-delivered}
 use Rattle.picky_check.proofs.Vouching.{vouched_for}
 use Rattle.picky_check.proofs.program.run.Goals as goal
 
 pub returns-in-Ok-clause-ends : goal.returns-in-Ok-clause-ends
 returns-in-Ok-clause-ends g c =
-    IsRun-delivered _ _ _ c.in-Ok.report c.in-Ok.ensures.usage c.in-Ok.ensures.asked _ _ c.deliver.result c.deliver.ensures
+    IsRun-delivered _ _ _ c.in-Ok.ensures.settled c.in-Ok.report c.in-Ok.ensures.usage c.in-Ok.ensures.asked _ _ c.deliver.result c.deliver.ensures
 
 pub returns-in-Ok-clause-vouched_for : goal.returns-in-Ok-clause-vouched_for
 returns-in-Ok-clause-vouched_for g c zero =
-    let h = (returns-in-Ok-clause-ends g c).accepted zero in
-    vouched_for _ _ h.0 h.1
+    let h = (returns-in-Ok-clause-ends g c).reported (omega (arith, zero)) in
+    vouched_for _ _ h.answer h.is_answer (h.is_status ∙ zero)
 
 pub returns-in-Err-clause-ends : goal.returns-in-Err-clause-ends
 returns-in-Err-clause-ends g c =
-    rw c.status.ensures (IsRun-stopped _ _ _ c.in-Err.stop c.in-Err.ensures.usage c.in-Err.ensures.asked _)
+    rw c.status.ensures (IsRun-stopped _ _ _ c.in-Err.ensures.settled c.in-Err.stop c.in-Err.ensures.usage c.in-Err.ensures.asked _)

@@ -1,0 +1,64 @@
+-- Certificates that are read one behind another.
+use Rattle.std.proofs.Common.{◌≡◌, ℕ, List, [], ◌∷◌, ◌++◌, map, length, Some, Result, Ok, Err, inl, inr, append_assoc, refl, sym, ap, ap₂, subst, ◌∙◌}
+use Rattle.asn1_types.specs.declared.generalized_time.GeneralizedTime.{GeneralizedTime}
+use Rattle.der_core.specs.Refusals.{RefusesOctets}
+use Rattle.der_core.specs.declared.error.DerError.TheVariants as der
+use Rattle.key_core.specs.Verifying.{Judge}
+use Rattle.key_core.specs.declared.element.Element.TheVariants as elements
+use Rattle.x509_types.specs.Certificate.{IsCertificate}
+use Rattle.x509_core.specs.CertRefusals.{IsUnread}
+use Rattle.x509_core.specs.Chain.{IsAccepted, chain_rules}
+use Rattle.x509_core.specs.KeptCertificate.{KeptCertificate, kept_octets}
+use Rattle.x509_core.specs.Rules.{RefusesBy}
+use Rattle.x509_core.specs.declared.error.CertError.{CertError}
+use Rattle.x509_core.specs.declared.error.CertError.TheVariants as cert
+use Rattle.picky_check.specs.ChainAnswer.{AreCertificates, IsFirstUnread, IsAnswerOver, IsChainAnswer, all_checks}
+
+-- where the first isn't read
+pub first_unread : (octets : List ℕ) (others all : List (List ℕ)) (e : CertError) → all ≡ octets ∷ others → IsUnread elements.Certificate (RefusesOctets IsCertificate octets) e → IsFirstUnread all e
+first_unread octets others all e are unread = subst (λ (xs : List (List ℕ)). IsFirstUnread xs e) (sym are) (inl unread)
+
+-- where there was no memory to keep it
+pub unkept : (octets : List ℕ) (others all : List (List ℕ)) → all ≡ octets ∷ others → IsFirstUnread all cert.Memory
+unkept octets others all are = first_unread octets others all cert.Memory are (der.Memory, refl, tt)
+
+-- where it is read, and one behind it isn't
+pub later_unread : (octets : List ℕ) (others all : List (List ℕ)) (e : CertError) (certificate : KeptCertificate) → all ≡ octets ∷ others → kept_octets certificate ≡ octets → IsFirstUnread others e → IsFirstUnread all e
+later_unread octets others all e certificate are kept unread = subst (λ (xs : List (List ℕ)). IsFirstUnread xs e) (sym are) (inr ((certificate, kept), unread))
+
+-- where it is read, and all behind it are
+pub read_behind : (octets : List ℕ) (others all : List (List ℕ)) (certificate : KeptCertificate) (before kept after : List KeptCertificate)
+    → all ≡ octets ∷ others → kept_octets certificate ≡ octets → kept ≡ before ++ certificate ∷ []
+    → (read : List KeptCertificate) × (after ≡ kept ++ read) × AreCertificates others read
+    → (read : List KeptCertificate) × (after ≡ before ++ read) × AreCertificates all read
+read_behind octets others all certificate before kept after are is pushed h = (
+  certificate ∷ h.0,
+  h.1 ∙ ap (λ (xs : List KeptCertificate). xs ++ h.0) pushed ∙ append_assoc before (certificate ∷ []) h.0,
+  ap₂ (λ (x : List ℕ) (xs : List (List ℕ)). x ∷ xs) is h.2 ∙ sym are,
+)
+
+-- ---- answers about a certificate that was read
+
+-- where an answer is about it, it is about its octets
+pub answer_over : (judge : Judge) (date : GeneralizedTime) (octets : List ℕ) (others : List (List ℕ)) (checked : KeptCertificate) (answer : Result ℕ CertError)
+    → kept_octets checked ≡ octets → IsAnswerOver judge date checked others answer → IsChainAnswer judge date (octets ∷ others) answer
+answer_over judge date octets others checked (Ok count) kept (inl unread) = absurd unread
+answer_over judge date octets others checked (Err e) kept (inl unread) = inl (inr ((checked, kept), unread))
+answer_over judge date octets others checked answer kept (inr judged) =
+    inr (checked ∷ judged.0, ap₂ (λ (x : List ℕ) (xs : List (List ℕ)). x ∷ xs) kept judged.1, judged.2)
+
+-- all that was read are the parents, where nothing was read before
+module _ (judge : Judge) (date : GeneralizedTime) (octets : List (List ℕ)) (checked : KeptCertificate) (before all : List KeptCertificate) (none : before ≡ [])
+    (read : (x : List KeptCertificate) × (all ≡ before ++ x) × AreCertificates octets x) where
+  are_all : AreCertificates octets all
+  are_all = ap (map kept_octets) (read.1 ∙ ap (λ (xs : List KeptCertificate). xs ++ read.0) none) ∙ read.2
+
+  pub refused_over : (lent : List KeptCertificate) (e : CertError) → lent ≡ all → RefusesBy (chain_rules judge (all_checks date) checked (Some lent)) e
+      → IsAnswerOver judge date checked octets (Err e)
+  refused_over lent e are refused =
+      inr (all, are_all, subst (λ (ps : List KeptCertificate). RefusesBy (chain_rules judge (all_checks date) checked (Some ps)) e) are refused)
+
+  pub accepted_over : (lent : List KeptCertificate) (count : ℕ) → lent ≡ all → count ≡ length lent → IsAccepted judge (all_checks date) checked (Some lent)
+      → IsAnswerOver judge date checked octets (Ok count)
+  accepted_over lent count are counted accepted =
+      inr (all, are_all, (counted ∙ ap length are, subst (λ (ps : List KeptCertificate). IsAccepted judge (all_checks date) checked (Some ps)) are accepted))

@@ -1,0 +1,55 @@
+-- What is accepted of certificates is vouched for.
+use Rattle.std.proofs.Common.{◌≡◌, List, [], ◌∷◌, ℕ, Option, Some, Ok, inl, inr, refl, subst}
+use Rattle.asn1_types.specs.declared.generalized_time.GeneralizedTime.{GeneralizedTime}
+use Rattle.sig_core.specs.declared.verdict_row.VerdictRow.{VerdictRow}
+use Rattle.sig_core.specs.VerdictTable.{IsTable, verdict_of}
+use Rattle.key_core.specs.Verifying.{Judge}
+use Rattle.x509_core.specs.CertType.{IsOfType}
+use Rattle.x509_core.specs.Chain.{IsLinkedChain, IsPath, last_of}
+use Rattle.x509_core.specs.KeptCertificate.{KeptCertificate}
+use Rattle.x509_core.specs.declared.cert_type.CertType.TheVariants as types
+use Rattle.picky_check.specs.ChainAnswer.{AreCertificates, IsChainAnswer, IsJudged, all_checks}
+use Rattle.picky_check.specs.ChainHeadline.{IsVouchedChain, window_at}
+use Rattle.picky_check.specs.Limits.{IsWholeFile, AreWholeFiles}
+use Rattle.picky_check.specs.Shelf.{Files}
+use Rattle.picky_check.specs.Words.{Chain, AsksFor}
+
+-- the path of an accepted certificate is the one that was given
+the_path : (judge : Judge) (date : GeneralizedTime) (checked : KeptCertificate) (parents : List KeptCertificate)
+    → IsPath judge (all_checks date) checked (Some parents)
+    → IsLinkedChain judge (window_at date) checked parents × IsOfType (last_of checked parents).elements types.Root
+the_path judge date checked parents path =
+    let same : path.parents ≡ parents = (let is = path.is in cc) in (
+      subst (λ (ps : List KeptCertificate). IsLinkedChain judge (window_at date) checked ps) same path.linked,
+      subst (λ (ps : List KeptCertificate). IsOfType (last_of checked ps).elements types.Root) same (path.rooted refl),
+    )
+
+module _ (words : List (List ℕ)) (files : Option Files) (table : List ℕ) (date : GeneralizedTime) (names : List (List ℕ))
+    (asked : AsksFor words (Chain table date names)) (text : List ℕ) (rows : List VerdictRow) (octets : List (List ℕ))
+    (table_file : IsWholeFile files table text) (certificate_files : AreWholeFiles files names octets) (is_table : IsTable text rows) where
+  of_certificates : (count : ℕ) (certificates : List KeptCertificate) → AreCertificates octets certificates
+      → IsJudged (verdict_of rows) date certificates (Ok count) → IsVouchedChain words files
+  of_certificates count [] are judged = absurd judged
+  of_certificates count (checked ∷ parents) are judged =
+      let path = the_path (verdict_of rows) date checked parents (judged.1.chained refl) in record {
+        table = table;
+        date = date;
+        names = names;
+        asked = asked;
+        text = text;
+        rows = rows;
+        octets = octets;
+        checked = checked;
+        parents = parents;
+        table_file = table_file;
+        certificate_files = certificate_files;
+        is_table = is_table;
+        are_certificates = are;
+        valid = judged.1.valid;
+        linked = path.0;
+        rooted = path.1;
+      }
+
+  pub vouched_chain : (count : ℕ) → IsChainAnswer (verdict_of rows) date octets (Ok count) → IsVouchedChain words files
+  vouched_chain count (inl unread) = absurd unread
+  vouched_chain count (inr judged) = of_certificates count judged.0 judged.1 judged.2

@@ -1,0 +1,49 @@
+-- What is answered about a certificate over its parents, by their octets.
+use Rattle.std.specs.Prelude.{◌≡◌, ◌⊎◌, ℕ, List, [], ◌∷◌, length, map, Some, Result, Ok, Err}
+use Rattle.std.specs.Result.{IsErrAnd}
+use Rattle.asn1_types.specs.declared.generalized_time.GeneralizedTime.{GeneralizedTime}
+use Rattle.der_core.specs.Refusals.{RefusesOctets}
+use Rattle.key_core.specs.Verifying.{Judge}
+use Rattle.key_core.specs.declared.element.Element.TheVariants as elements
+use Rattle.x509_types.specs.Certificate.{IsCertificate}
+use Rattle.x509_core.specs.CertRefusals.{IsUnread}
+use Rattle.x509_core.specs.Chain.{IsAccepted, chain_rules}
+use Rattle.x509_core.specs.Checks.{checks_at, first_checks}
+use Rattle.x509_core.specs.KeptCertificate.{KeptCertificate, kept_octets}
+use Rattle.x509_core.specs.Rules.{RefusesBy}
+use Rattle.x509_core.specs.declared.error.CertError.{CertError}
+use Rattle.x509_core.specs.declared.validator.ChainChecks.{ChainChecks}
+use Rattle.x509_core.specs.declared.window.DateCheck.TheVariants as dates
+
+-- all is asked for: the validity of each certificate at this moment, the parents, and a root
+abbrev pub all_checks : GeneralizedTime → ChainChecks
+all_checks date = checks_at (dates.Exact date) first_checks
+
+-- the octets are those of these certificates, as they are kept
+abbrev pub AreCertificates : List (List ℕ) → List KeptCertificate → Type 0
+AreCertificates octets certificates = map kept_octets certificates ≡ octets
+
+-- The error tells of the first octets that aren't a certificate.
+abbrev pub IsFirstUnread : List (List ℕ) → CertError → Type 0
+IsFirstUnread [] e = ⊥
+IsFirstUnread (octets ∷ others) e =
+    IsUnread elements.Certificate (RefusesOctets IsCertificate octets) e
+    ⊎ (((certificate : KeptCertificate) × (kept_octets certificate ≡ octets)) × IsFirstUnread others e)
+
+-- The first certificate is accepted over the others, and these are counted; or the error tells of the first rule that is broken.
+abbrev pub IsJudged : Judge → GeneralizedTime → List KeptCertificate → Result ℕ CertError → Type 0
+IsJudged judge date [] answer = ⊥
+IsJudged judge date (checked ∷ parents) (Ok count) = (count ≡ length parents) × IsAccepted judge (all_checks date) checked (Some parents)
+IsJudged judge date (checked ∷ parents) (Err e) = RefusesBy (chain_rules judge (all_checks date) checked (Some parents)) e
+
+-- Octets that aren't all certificates are refused for the first that is none; else the answer is one about the certificates.
+abbrev pub IsChainAnswer : Judge → GeneralizedTime → List (List ℕ) → Result ℕ CertError → Type 0
+IsChainAnswer judge date octets answer =
+    IsErrAnd answer (IsFirstUnread octets)
+    ⊎ ((certificates : List KeptCertificate) × AreCertificates octets certificates × IsJudged judge date certificates answer)
+
+-- The same for a certificate that was read, about the octets of the others.
+abbrev pub IsAnswerOver : Judge → GeneralizedTime → KeptCertificate → List (List ℕ) → Result ℕ CertError → Type 0
+IsAnswerOver judge date checked octets answer =
+    IsErrAnd answer (IsFirstUnread octets)
+    ⊎ ((parents : List KeptCertificate) × AreCertificates octets parents × IsJudged judge date (checked ∷ parents) answer)

@@ -1,0 +1,79 @@
+//! Whether a certificate is accepted over its parents, by their octets.
+
+ghost use Rattle.std.specs.Prelude.{◌≡◌, ◌++◌, ◌∷◌, List, Some, map, IfErr, MatchResult, OnOk};
+ghost use Rattle.x509_core.specs.Chain.{IsAccepted, chain_rules};
+ghost use Rattle.x509_core.specs.KeptCertificate.{KeptCertificate};
+ghost use Rattle.x509_core.specs.Rules.{RefusesBy};
+ghost use Rattle.picky_check.specs.ChainAnswer.{AreCertificates, IsAnswerOver, IsChainAnswer, IsFirstUnread, all_checks};
+
+use names_core::UtcDate;
+use sig_core::Scheme;
+use std::alloc::Global;
+use x509_core::{Cert, CertError};
+
+/// Whether the certificate that octets are is accepted over those that others are, the nearest parent
+/// first, at a date: how many parents these are. All checks of `CertValidator` are on, and a root is
+/// asked for.
+pub(crate) fn check_chain<S: Scheme>(
+    alloc: Global,
+    checked: &[u8],
+    parents: &[Vec<u8>],
+    date: &UtcDate,
+    scheme: &S,
+) -> Result<usize, CertError>
+    ensures { IsChainAnswer (S.judge scheme.now) date.now
+        (checked.now ∷ map (λ octets. octets.items) parents.now) result }
+{
+    let checked = Cert::from_der(alloc, checked)?;
+    check_over(alloc, &checked, parents, date, scheme)
+}
+
+/// The same for a certificate that was read.
+fn check_over<S: Scheme>(
+    alloc: Global,
+    checked: &Cert,
+    parents: &[Vec<u8>],
+    date: &UtcDate,
+    scheme: &S,
+) -> Result<usize, CertError>
+    ensures { IsAnswerOver (S.judge scheme.now) date.now checked.now
+        (map (λ octets. octets.items) parents.now) result }
+{
+    let mut read = Vec::new(alloc);
+    read_on(alloc, parents, &mut read)?;
+    accept(alloc, checked, &read, date, scheme)?;
+    Ok(read.len())
+}
+
+/// Reads certificates behind those that were read.
+fn read_on(alloc: Global, octets: &[Vec<u8>], certificates: &mut Vec<Cert>) -> Result<(), CertError>
+    ensures read { OnOk result ((read : List KeptCertificate)
+        × (certificates.new.items ≡ certificates.old.items ++ read)
+        × AreCertificates (map (λ octets. octets.items) octets.now) read) }
+    ensures unread { IfErr result (IsFirstUnread (map (λ octets. octets.items) octets.now)) }
+{
+    let [first, others @ ..] = octets else {
+        return Ok(());
+    };
+    certificates.push(Cert::from_der(alloc, first)?)?;
+    read_on(alloc, others, certificates)
+}
+
+/// Whether a certificate is accepted over its parents, the nearest first.
+fn accept<S: Scheme>(
+    alloc: Global,
+    checked: &Cert,
+    parents: &[Cert],
+    date: &UtcDate,
+    scheme: &S,
+) -> Result<(), CertError>
+    ensures { MatchResult result
+        (λ _. IsAccepted (S.judge scheme.now) (all_checks date.now) checked.now (Some parents.now))
+        (RefusesBy (chain_rules (S.judge scheme.now) (all_checks date.now) checked.now (Some parents.now))) }
+{
+    checked
+        .verifier()
+        .exact_date(date)
+        .chain(parents.iter())
+        .verify(alloc, scheme)
+}
