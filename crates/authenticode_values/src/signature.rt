@@ -19,11 +19,11 @@ ghost use Rattle.authenticode_values.specs.SigningCertificate.{HasNoSigningCerti
 ghost use Rattle.authenticode_core.specs.Basic.{IsNoSignedData};
 ghost use Rattle.authenticode_values.specs.Unread.{RefusesPadded};
 
-use authenticode_core::AuthenticodeError;
 use crate::padded::read_padded;
 use crate::pkcs7::Pkcs7;
 use crate::pkcs7_error::Pkcs7Error;
 use crate::signing_certificate::signing_certificate_of;
+use authenticode_core::AuthenticodeError;
 use cms_types::{ContentValue, UnsignedAttribute};
 use std::alloc::{AllocError, Global};
 use wincert_core::WinCertificate;
