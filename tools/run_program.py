@@ -279,7 +279,7 @@ UNREAD = refused("Asn1Deserialization")
 
 def of_chain(why, words, status, line="", table=CHAIN_TABLE, **others):
     """A row with the files of a chain of three, some of them others."""
-    return Row(why, words, status, line, {"t": table, **PARENTS, **others})
+    return Row(f"chain: {why}", words, status, line, {"t": table, **PARENTS, **others})
 
 
 def of_case(case):
