@@ -107,8 +107,9 @@ impl Cert {
         }
     }
 
-    /// The certificate is valid (RFC 5280 6.1.3 (a) (2)).
-    pub(crate) fn expect_valid(&self, alloc: Global, window: &Window) -> Result<(), CertError>
+    /// The certificate is valid (RFC 5280 6.1.3 (a) (2)), else `InvalidCertificate` of it with the
+    /// cause that the window tells (`Window::expect_valid`).
+    pub fn expect_valid(&self, alloc: Global, window: &Window) -> Result<(), CertError>
         ensures answer { MatchResult result
             (λ _. IsWithinWindow window.now self.now.elements)
             (Breaks (IsOutside window.now self.now)) }

@@ -260,8 +260,8 @@ impl ChainChecks {
         }
     }
 
-    /// A date is given where one is asked for.
-    fn expect_date(&self) -> Result<(), CertError>
+    /// A date is given where one is asked for, else `MissingBuilderArgument`. It takes no memory.
+    pub fn expect_date(&self) -> Result<(), CertError>
         ensures { MatchResult result (λ _. IsDated self.now) (LacksDate self.now) }
     {
         match self.window.date {
