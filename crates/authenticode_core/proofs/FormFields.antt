@@ -1,5 +1,5 @@
 -- The fields of signed data, each once.
-use Rattle.std.proofs.Common.{◌≡◌, ◌≢◌, ℕ, List, [], ◌∷◌, Option, Some, None, refl, sym, ap, subst, ◌∙◌}
+use Rattle.std.proofs.Common.{◌≡◌, ℕ, List, [], ◌∷◌, Option, Some, None, refl, sym, ap, ◌∙◌}
 use Rattle.std.specs.Prelude.{map}
 use Rattle.std.specs.Option.{option_map}
 use Rattle.asn1_types.specs.Elements.{object_identifier}
@@ -21,21 +21,18 @@ use Rattle.content_types.specs.ContentInfoElements.{content_info_of}
 use Rattle.content_types.specs.ContentKind.{named_content}
 use Rattle.content_types.specs.ContentValue.{HasKind, content_value, kind_of_content}
 use Rattle.content_types.specs.Facts.ContentInfos.{fields_once}
-use Rattle.content_types.specs.declared.content_info.EncapsulatedContentInfo.{EncapsulatedContentInfo}
 use Rattle.content_types.specs.declared.content_kind.ContentKind.{ContentKind}
 use Rattle.content_types.specs.declared.content_kind.ContentKind.TheVariants as kinds
 use Rattle.content_types.specs.declared.content_value.ContentValue.{ContentValue}
 use Rattle.content_types.specs.declared.content_value.ContentValue.TheVariants as contents
 use Rattle.der_core.specs.DerElement.{DerElement, Primitive, Constructed, row}
-use Rattle.der_core.specs.Each.{list_element}
-use Rattle.der_core.specs.Elements.{sequence, octet_string}
+use Rattle.der_core.specs.Elements.{sequence}
 use Rattle.der_core.specs.Facts.Rows.{listed-row}
 use Rattle.key_types.specs.AlgorithmIdentifier.{algorithm_identifier}
 use Rattle.content_types.specs.SpcAttribute.{spc_attribute}
-use Rattle.content_types.specs.IndirectData.{indirect_data_content}
 use Rattle.authenticode_core.specs.CertificateBag.{members_of}
 use Rattle.authenticode_core.specs.Form.{AreSpelled}
-use Rattle.authenticode_core.specs.SignedFields.{HasVersion, HasContent, HasIndirectData, IndirectData, IsFirstAlgorithm, IsFirstSigner, digest_algorithms_of, indirect_kids, signers_of}
+use Rattle.authenticode_core.specs.SignedFields.{HasVersion, HasContent, HasIndirectData, IndirectData, IsFirstAlgorithm, IsFirstSigner, indirect_kids, signers_of}
 
 -- ---- the fields are those of a value
 

@@ -1,18 +1,16 @@
 -- The rules of the form: what meets them, and that each is told once.
-use Rattle.std.proofs.Common.{◌≡◌, ◌≢◌, ℕ, List, [], ◌∷◌, Option, Some, None, length, refl, sym, ap, subst, ◌∙◌}
-use Rattle.std.specs.Prelude.{⊤}
+use Rattle.std.proofs.Common.{◌≡◌, ℕ, List, [], ◌∷◌, Some, None, length, sym, ap, subst, ◌∙◌}
 use Rattle.asn1_types.specs.declared.oids.TheConstants.{SPC_INDIRECT_DATA}
 use Rattle.cms_types.specs.SignedDataElements.{SignedDataElements}
 use Rattle.cms_types.specs.SignerElements.{SignerElements}
 use Rattle.der_core.specs.DerElement.{DerElement}
 use Rattle.der_core.specs.Elements.{sequence}
-use Rattle.x509_core.specs.Rules.{Rule, IsMet, IsFirstBroken}
+use Rattle.x509_core.specs.Rules.{IsMet}
 use Rattle.authenticode_core.specs.FormRules.{HasForm, IsOfOtherVersion, HasOtherSigners, HasOtherAlgorithms, LacksContent, HasOtherContent, ContentDiffers, SignerDiffers, FileDiffers, form_rules}
 use Rattle.authenticode_core.specs.SignedFields.{HasVersion, HasContent, HasIndirectData, IndirectData, IsFirstAlgorithm, IsFirstSigner, IsSameAlgorithm, digest_algorithms_of, indirect_kids, signers_of}
-use Rattle.authenticode_core.specs.declared.error.AuthenticodeError.{AuthenticodeError}
 use Rattle.authenticode_core.specs.declared.error.AuthenticodeError.TheVariants as errors
 use Rattle.authenticode_core.proofs.FormFields.{version_once, content_once, indirect_once, algorithm_once, signer_once}
-use Rattle.authenticode_core.proofs.RuleLists.{AreMet, IsToldOnce, AreToldOnce, NoneTells, none_tells}
+use Rattle.authenticode_core.proofs.RuleLists.{AreMet, IsToldOnce, AreToldOnce, NoneTells}
 
 no_version : (number : ℕ) → errors.Memory ≡ errors.IncorrectVersion 1 number → ⊥
 no_version number e = absurd cc
@@ -91,8 +89,8 @@ module _ (f : SignedDataElements) where
 
   -- ---- want of memory is never told
 
-  pub form_never_memory : IsFirstBroken (form_rules f) errors.Memory → ⊥
-  form_never_memory =
+  pub form_tells_no_memory : NoneTells (form_rules f) errors.Memory
+  form_tells_no_memory =
       let same : NoneTells (ContentDiffers f ∷ SignerDiffers f ∷ []) errors.Memory = ((λ p. no_mismatch p.5), ((λ p. no_mismatch p.5), tt)) in
       let content : NoneTells (LacksContent f ∷ HasOtherContent f ∷ ContentDiffers f ∷ SignerDiffers f ∷ []) errors.Memory = ((λ p. no_content p.2), ((λ p. no_indirect p.4), same)) in
-      none_tells (form_rules f) errors.Memory ((λ p. no_version p.0 p.3), ((λ p. no_signers p.1), ((λ p. no_algorithms p.1), content)))
+      ((λ p. no_version p.0 p.3), ((λ p. no_signers p.1), ((λ p. no_algorithms p.1), content)))

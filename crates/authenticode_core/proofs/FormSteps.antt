@@ -1,5 +1,5 @@
 -- The form, step by step.
-use Rattle.std.proofs.Common.{◌≡◌, ◌≢◌, ℕ, List, [], ◌∷◌, Option, Some, None, MatchOption, length, inl, inr, refl, sym, ap, subst, ◌∙◌}
+use Rattle.std.proofs.Common.{◌≡◌, ◌≢◌, ℕ, List, [], ◌∷◌, Option, Some, None, length, inl, inr, refl, sym, ap, subst, ◌∙◌}
 use Rattle.std.specs.Option.{option_map}
 use Rattle.asn1_types.specs.Elements.{object_identifier}
 use Rattle.asn1_types.specs.Values.{identifier_contents}
@@ -7,7 +7,6 @@ use Rattle.asn1_types.specs.declared.oids.TheConstants.{SPC_INDIRECT_DATA}
 use Rattle.cms_types.specs.Facts.SignerElements.{told_fields, same_signer}
 use Rattle.cms_types.specs.Facts.SignerInfos.{told_signer}
 use Rattle.cms_types.specs.Pkcs7Elements.{pkcs7_of}
-use Rattle.cms_types.specs.SignedData.{signed_data_elements}
 use Rattle.cms_types.specs.SignedDataElements.{SignedDataElements, signed_data_of}
 use Rattle.cms_types.specs.SignerElements.{SignerElements}
 use Rattle.cms_types.specs.SignerInfo.{signer_info, signer_elements}
@@ -21,15 +20,14 @@ use Rattle.der_core.specs.DerElement.{DerElement, Primitive, Constructed, row, l
 use Rattle.der_core.specs.Elements.{sequence, explicit, octet_string}
 use Rattle.der_core.specs.Encoding.{encoding}
 use Rattle.der_core.specs.Facts.Rows.{listed-row}
-use Rattle.x509_core.specs.Rules.{IsMet, IsFirstBroken}
+use Rattle.x509_core.specs.Rules.{IsFirstBroken}
 use Rattle.authenticode_core.specs.CertificateBag.{members_of}
-use Rattle.authenticode_core.specs.Form.{AreSpelled, IsContentOf, IsFormOf}
-use Rattle.authenticode_core.specs.FormRules.{HasForm, IsOfOtherVersion, HasOtherSigners, HasOtherAlgorithms, LacksContent, HasOtherContent, ContentDiffers, SignerDiffers, form_rules}
-use Rattle.authenticode_core.specs.SignedFields.{HasVersion, HasContent, HasIndirectData, IndirectData, IsFirstAlgorithm, IsFirstSigner, IsSameAlgorithm, digest_algorithms_of, indirect_kids, signers_of}
+use Rattle.authenticode_core.specs.Form.{AreSpelled, IsContentOf}
+use Rattle.authenticode_core.specs.FormRules.{HasForm, IsOfOtherVersion, HasOtherSigners, HasOtherAlgorithms, LacksContent, HasOtherContent, form_rules}
+use Rattle.authenticode_core.specs.SignedFields.{HasVersion, HasContent, IndirectData, IsFirstAlgorithm, IsFirstSigner, IsSameAlgorithm, digest_algorithms_of, indirect_kids, signers_of}
 use Rattle.authenticode_core.specs.declared.error.AuthenticodeError.{AuthenticodeError}
 use Rattle.authenticode_core.specs.declared.error.AuthenticodeError.TheVariants as errors
 use Rattle.authenticode_core.specs.declared.form.Content.{Content}
-use Rattle.authenticode_core.specs.declared.form.Form.{Form}
 use Rattle.authenticode_core.proofs.FormFields.{content_is, indirect_is_spelled, signer_is_spelled}
 use Rattle.authenticode_core.proofs.FormOrder.{version_met, signers_met, algorithms_met, some_content_met, content_met, indirect_met, content_same_met}
 
@@ -68,10 +66,10 @@ second_is kids left others first version algorithms e read = cc (e, read)
 
 -- ---- the signer
 
-signer_lies : (element : DerElement) (view : SignerView) (is : IsSignerView element view) → signer_elements_at view ≡ signer_elements is.value
+pub signer_lies : (element : DerElement) (view : SignerView) (is : IsSignerView element view) → signer_elements_at view ≡ signer_elements is.value
 signer_lies element view is = same_signer (signer_elements_at view) (signer_elements is.value) (told_fields (signer_elements_at view) is.fields) (told_signer is.value) (sym is.is ∙ is.spelled)
 
-signers_are : (f : SignedDataElements) (element : DerElement) → element ≡ f.signers_infos → signers_of f ≡ members_of (Some element)
+pub signers_are : (f : SignedDataElements) (element : DerElement) → element ≡ f.signers_infos → signers_of f ≡ members_of (Some element)
 signers_are f element e = ap (λ (x : DerElement). members_of (Some x)) (sym e)
 
 pub the_signer : (f : SignedDataElements) (element only : DerElement) (view : SignerView) → element ≡ f.signers_infos → members_of (Some element) ≡ only ∷ [] → IsSignerView only view

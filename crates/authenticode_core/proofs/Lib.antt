@@ -5,8 +5,6 @@ pub mod FormOrder
 pub mod FormSteps
 pub mod ValueSteps
 pub mod OneData
-pub mod OneAnswer
-pub mod BasicSteps
 pub mod Hexadecimal
 pub mod OneCertificate
 pub mod BagSteps
@@ -21,3 +19,16 @@ pub mod OneSigning
 pub mod SigningOrder
 pub mod NamedCertificates
 pub mod AcceptedSignatures
+pub mod Tokens
+pub mod StampSteps
+pub mod OneExcuse
+pub mod OnePath
+pub mod WalkedAll
+pub mod OtherSteps
+pub mod LinkedPlaces
+pub mod KeptOctets
+pub mod BasicOrder
+pub mod SignerOrder
+pub mod OneSignerRule
+pub mod PolicyOrder
+pub mod OneAnswer

@@ -1,10 +1,9 @@
 -- Each cause has one answer.
-use Rattle.std.proofs.Common.{◌≡◌, ◌⊎◌, ℕ, List, [], ◌∷◌, ◌++◌, Some, length, drop, Result, Ok, Err, inl, inr, refl, sym, ◌∙◌, ap, subst}
+use Rattle.std.proofs.Common.{◌≡◌, ◌⊎◌, ℕ, List, ◌++◌, Bool, length, drop, Result, Ok, Err, true, false, inl, inr, refl, sym, ◌∙◌, ap, subst}
 use Rattle.std.specs.Prelude.{replicate}
 use Rattle.std.proofs.lemmas.List.{drop_at, take-append-drop}
 use Rattle.cms_types.specs.Pkcs7.{pkcs7}
 use Rattle.cms_types.specs.SignedDataElements.{SignedDataElements}
-use Rattle.cms_types.specs.SignerElements.{SignerElements}
 use Rattle.der_core.specs.DerElement.{DerElement}
 use Rattle.der_core.specs.Encoding.{encoding, IsPaddedEncoding}
 use Rattle.der_core.specs.Facts.Fronts.{fronts}
@@ -20,22 +19,21 @@ use Rattle.wincert_core.specs.Refusal.{contents_in}
 use Rattle.wincert_core.specs.declared.error.WinCertificateError.{WinCertificateError}
 use Rattle.x509_core.specs.Rules.{IsFirstBroken}
 use Rattle.x509_core.specs.declared.error.CertError.TheVariants.{Asn1Deserialization}
-use Rattle.authenticode_core.specs.Basic.{HasSignedData, IsBasicAnswer, IsNoSignedData, IsRefusedPart, IsSameUnlessMemory, IsShapeless, IsUnread, IsUnreadSignature, IsVouchedFor, RefusesForm, accepted_at, basic_rules}
+use Rattle.authenticode_core.specs.Basic.{HasSignedData, IsNoSignedData, IsSameUnlessMemory, IsShapeless, IsUnread, IsUnreadSignature, RefusesValue}
 use Rattle.authenticode_core.specs.ContentRefusal.{told_of_content}
-use Rattle.authenticode_core.specs.FormRules.{FileDiffers, HasForm, form_rules}
-use Rattle.authenticode_core.specs.SignedFields.{HasIndirectData, IndirectData, IsFirstSigner}
-use Rattle.authenticode_core.specs.SigningRules.{IsSigned, signing_rules}
+use Rattle.authenticode_core.specs.SigningRules.{RefusesBy}
+use Rattle.authenticode_core.specs.Trusted.{IsAnswer, IsTrusted, RefusesShape, asked, policy_rules, shape_rules}
 use Rattle.authenticode_core.specs.declared.accepted.Accepted.{Accepted}
 use Rattle.authenticode_core.specs.declared.error.AuthenticodeError.{AuthenticodeError}
 use Rattle.authenticode_core.specs.declared.error.AuthenticodeError.TheVariants as errors
 use Rattle.authenticode_core.specs.declared.error.CheckError.{CheckError}
 use Rattle.authenticode_core.specs.declared.error.CheckError.TheVariants.{Win, Authenticode, Memory}
-use Rattle.authenticode_core.proofs.FormFields.{indirect_once, signer_once}
-use Rattle.authenticode_core.proofs.FormOrder.{file_told, form_met, form_never_memory, form_told}
+use Rattle.authenticode_core.specs.declared.policy.Policy.{Policy}
+use Rattle.authenticode_core.proofs.BasicOrder.{shape_tells_no_memory, shape_told}
 use Rattle.authenticode_core.proofs.OneData.{one_data, one_element, same_certificate}
-use Rattle.authenticode_core.proofs.OneSigning.{one_signing_refusal, place_once, signed_breaks_no_rule}
 use Rattle.authenticode_core.proofs.Padded.{IsFirst-padded}
-use Rattle.authenticode_core.proofs.RuleLists.{IsToldOnce, broken_before, broken_behind, left_broken, none_broken, one_broken, one_of_two, told_together}
+use Rattle.authenticode_core.proofs.PolicyOrder.{asked_told, one_trusted, policy_told, shape_in_policy, trusted_unbroken}
+use Rattle.authenticode_core.proofs.RuleLists.{none_tells, one_broken}
 
 -- Octets have one first fault at most, and none where they begin with an element.
 abbrev pub FaultsAreOne : Type 0
@@ -64,35 +62,7 @@ same_malformed m n same_place same_fault =
 named_once : (octets certificate : List ℕ) (e : WinCertificateError) → contents_in octets ≡ Ok certificate → contents_in octets ≡ Err e → ⊥
 named_once octets certificate e named refused = absurd cc
 
-same_answer : (r : Result Accepted CheckError) → IsSameUnlessMemory r r
-same_answer (Ok a) = refl
-same_answer (Err (Win e)) = refl
-same_answer (Err (Authenticode e)) = refl
-same_answer (Err Memory) = tt
-
-answers_same : (a b : Result Accepted CheckError) → a ≡ b → IsSameUnlessMemory a b
-answers_same a b e = subst (λ (r : Result Accepted CheckError). IsSameUnlessMemory a r) e (same_answer a)
-
--- ---- the signer's place
-
-one_place : (judge : Judge) (f : SignedDataElements) (file_hash : List ℕ) (p q : ℕ) → IsVouchedFor judge f file_hash p → IsVouchedFor judge f file_hash q → p ≡ q
-one_place judge f file_hash p q a b =
-    let d = indirect_once f a.d b.d a.form.indirect b.form.indirect in
-    let g = signer_once f a.g b.g a.form.signer b.form.signer in
-    place_once judge f b.d b.g p q (subst (λ (x : SignerElements). IsSigned judge f b.d x p) g (subst (λ (x : IndirectData). IsSigned judge f x a.g p) d a.signed)) b.signed
-
--- ---- a refusal of the form is an answer
-
-pub refusal_is_answer : (judge : Judge) (octets file_hash : List ℕ) (e : CheckError) → RefusesForm octets e → IsBasicAnswer judge octets file_hash (Err e)
-refusal_is_answer judge octets file_hash (Win e) p = p
-refusal_is_answer judge octets file_hash (Authenticode e) (inl p) = inl p
-refusal_is_answer judge octets file_hash (Authenticode e) (inr p) = inr (p.0, p.1, broken_before (form_rules p.0) (IsRefusedPart judge p.0 file_hash ∷ []) e p.2)
-refusal_is_answer judge octets file_hash Memory p = absurd p
-
--- broken rules of the form refuse it
-form_refuses_told : (octets : List ℕ) (f : SignedDataElements) (e : AuthenticodeError) → HasSignedData octets f → IsFirstBroken (form_rules f) e → (told_of_content e ≡ Authenticode e) ⊎ (e ≡ errors.Memory) → RefusesForm octets (told_of_content e)
-form_refuses_told octets f e has broken (inl told) = rw told (inr (f, has, broken))
-form_refuses_told octets f e has broken (inr memory) = absurd (form_never_memory f (subst (λ (x : AuthenticodeError). IsFirstBroken (form_rules f) x) memory broken))
+-- ---- refusals are answers
 
 told_or_memory : (e : AuthenticodeError) → (told_of_content e ≡ Authenticode e) ⊎ (e ≡ errors.Memory)
 told_or_memory (errors.CertError e) = inl refl
@@ -111,22 +81,43 @@ told_or_memory errors.NoMessageDigest = inl refl
 told_or_memory (errors.UnsupportedHashAlgorithmError e) = inl refl
 told_or_memory (errors.HashMismatch actual expected) = inl refl
 told_or_memory errors.NoEKUCodeSigning = inl refl
+told_or_memory errors.MissingExpectedFileHash = inl refl
+told_or_memory (errors.InvalidTimestampCert e) = inl refl
+told_or_memory errors.ProgramNameCharSet = inl refl
+told_or_memory errors.NoCertificates = inl refl
+told_or_memory (errors.Asn1DerError e) = inl refl
+told_or_memory (errors.TimestampError e) = inl refl
 told_or_memory errors.Memory = inr refl
 
-pub form_refuses : (octets : List ℕ) (f : SignedDataElements) (e : AuthenticodeError) → HasSignedData octets f → IsFirstBroken (form_rules f) e → RefusesForm octets (told_of_content e)
-form_refuses octets f e has broken = form_refuses_told octets f e has broken (told_or_memory e)
+-- of what the certificate is
+pub value_refuses : (policy : Policy) (octets : List ℕ) (e : CheckError) → RefusesValue octets e → RefusesShape policy octets e
+value_refuses policy octets (Win e) p = p
+value_refuses policy octets (Authenticode e) p = inl p
+value_refuses policy octets Memory p = absurd p
 
--- a refusal of the parts behind the form is an answer, and so is want of memory
-part_answers : (judge : Judge) (octets file_hash : List ℕ) (f : SignedDataElements) (e : AuthenticodeError) (algorithm : DerElement) (d : IndirectData) (g : SignerElements) → HasSignedData octets f → HasForm f algorithm d g
-    → IsRefusedPart judge f file_hash e ⊎ (e ≡ errors.Memory) → (told_of_content e ≡ Authenticode e) ⊎ (e ≡ errors.Memory) → IsBasicAnswer judge octets file_hash (Err (told_of_content e))
-part_answers judge octets file_hash f e algorithm d g has form (inl p) (inl told) =
-    rw told (inr (f, has, broken_behind (form_rules f) (IsRefusedPart judge f file_hash ∷ []) e (form_met f algorithm d g form) (inl p)))
-part_answers judge octets file_hash f e algorithm d g has form p (inr memory) = rw memory tt
-part_answers judge octets file_hash f e algorithm d g has form (inr memory) told = rw memory tt
+-- and of the form
+pub shape_is_answer : (judge : Judge) (policy : Policy) (octets : List ℕ) (e : CheckError) → RefusesShape policy octets e → IsAnswer judge policy octets (Err e)
+shape_is_answer judge policy octets (Win e) p = p
+shape_is_answer judge policy octets (Authenticode e) (inl p) = inl p
+shape_is_answer judge policy octets (Authenticode e) (inr p) = inr (p.0, p.1, shape_in_policy judge policy p.0 e p.2)
+shape_is_answer judge policy octets Memory p = absurd p
 
-pub part_is_answer : (judge : Judge) (octets file_hash : List ℕ) (f : SignedDataElements) (e : AuthenticodeError) (algorithm : DerElement) (d : IndirectData) (g : SignerElements) → HasSignedData octets f → HasForm f algorithm d g
-    → IsRefusedPart judge f file_hash e ⊎ (e ≡ errors.Memory) → IsBasicAnswer judge octets file_hash (Err (told_of_content e))
-part_is_answer judge octets file_hash f e algorithm d g has form p = part_answers judge octets file_hash f e algorithm d g has form p (told_or_memory e)
+rules_told : (judge : Judge) (policy : Policy) (octets : List ℕ) (f : SignedDataElements) (e : AuthenticodeError) → HasSignedData octets f → RefusesBy (policy_rules judge policy f) e → (told_of_content e ≡ Authenticode e) ⊎ (e ≡ errors.Memory)
+    → IsAnswer judge policy octets (Err (told_of_content e))
+rules_told judge policy octets f e has (inl broken) (inl told) = rw told (inr (f, has, broken))
+rules_told judge policy octets f e has p (inr memory) = rw memory tt
+rules_told judge policy octets f e has (inr memory) told = rw memory tt
+
+-- of the rules, and want of memory
+pub refusal_is_answer : (judge : Judge) (policy : Policy) (octets : List ℕ) (f : SignedDataElements) (e : AuthenticodeError) → HasSignedData octets f → RefusesBy (policy_rules judge policy f) e → IsAnswer judge policy octets (Err (told_of_content e))
+refusal_is_answer judge policy octets f e has p = rules_told judge policy octets f e has p (told_or_memory e)
+
+-- a refusal of the form is never told as want of memory
+shape_told_so : (policy : Policy) (f : SignedDataElements) (e : AuthenticodeError) (b : Bool) → IsFirstBroken (asked b (shape_rules f policy.file_hash)) e → (told_of_content e ≡ Authenticode e) ⊎ (e ≡ errors.Memory) → told_of_content e ≡ Authenticode e
+shape_told_so policy f e b broken (inl told) = told
+shape_told_so policy f e true broken (inr memory) =
+    absurd (none_tells (shape_rules f policy.file_hash) errors.Memory (shape_tells_no_memory f policy.file_hash) (subst (λ (x : AuthenticodeError). IsFirstBroken (shape_rules f policy.file_hash) x) memory broken))
+shape_told_so policy f e false broken (inr memory) = absurd broken
 
 module _ (at_most_one : FaultsAreOne) (exclude : FaultsExclude) where
   not_both : (octets : List ℕ) (element : DerElement) (m : Malformed) → IsPaddedEncoding octets element → IsUnread octets m → ⊥
@@ -180,105 +171,94 @@ module _ (at_most_one : FaultsAreOne) (exclude : FaultsExclude) where
 
   -- ---- refusals of the form
 
-  one_form_cause : (octets : List ℕ) (a b : AuthenticodeError) → RefusesForm octets (Authenticode a) → RefusesForm octets (Authenticode b) → a ≡ b
-  one_form_cause octets a b (inl p) (inl q) = one_unread_signature octets a b p q
-  one_form_cause octets a b (inl p) (inr q) = absurd (signed_data_is_read octets a q.0 p q.1)
-  one_form_cause octets a b (inr p) (inl q) = absurd (signed_data_is_read octets b p.0 q p.1)
-  one_form_cause octets a b (inr p) (inr q) =
-      one_broken (form_rules q.0) (form_told q.0) a b (subst (λ (f : SignedDataElements). IsFirstBroken (form_rules f) a) (one_data octets p.0 q.0 p.1 q.1) p.2) q.2
+  one_shape_cause : (policy : Policy) (octets : List ℕ) (a b : AuthenticodeError) → RefusesShape policy octets (Authenticode a) → RefusesShape policy octets (Authenticode b) → a ≡ b
+  one_shape_cause policy octets a b (inl p) (inl q) = one_unread_signature octets a b p q
+  one_shape_cause policy octets a b (inl p) (inr q) = absurd (signed_data_is_read octets a q.0 p q.1)
+  one_shape_cause policy octets a b (inr p) (inl q) = absurd (signed_data_is_read octets b p.0 q p.1)
+  one_shape_cause policy octets a b (inr p) (inr q) =
+      one_broken (asked policy.basic (shape_rules q.0 policy.file_hash)) (asked_told policy.basic (shape_rules q.0 policy.file_hash) (shape_told q.0 policy.file_hash)) a b
+      (subst (λ (f : SignedDataElements). IsFirstBroken (asked policy.basic (shape_rules f policy.file_hash)) a) (one_data octets p.0 q.0 p.1 q.1) p.2) q.2
 
-  unnamed_form : (octets : List ℕ) (header : WinCertificateError) (e : AuthenticodeError) → contents_in octets ≡ Err header → RefusesForm octets (Authenticode e) → ⊥
-  unnamed_form octets header e refused (inl p) = named_once octets p.certificate header p.named refused
-  unnamed_form octets header e refused (inr p) = named_once octets p.1.certificate header p.1.named refused
+  unnamed_shape : (policy : Policy) (octets : List ℕ) (header : WinCertificateError) (e : AuthenticodeError) → contents_in octets ≡ Err header → RefusesShape policy octets (Authenticode e) → ⊥
+  unnamed_shape policy octets header e refused (inl p) = named_once octets p.certificate header p.named refused
+  unnamed_shape policy octets header e refused (inr p) = named_once octets p.1.certificate header p.1.named refused
 
   -- octets are refused for one cause
-  pub one_refusal : (octets : List ℕ) (e f : CheckError) → RefusesForm octets e → RefusesForm octets f → e ≡ f
-  one_refusal octets (Win e) (Win f) h k = let same : e ≡ f = cc in ap Win same
-  one_refusal octets (Win e) (Authenticode f) h k = absurd (unnamed_form octets e f h k)
-  one_refusal octets (Win e) Memory h k = absurd k
-  one_refusal octets (Authenticode e) (Win f) h k = absurd (unnamed_form octets f e k h)
-  one_refusal octets (Authenticode e) (Authenticode f) h k = ap Authenticode (one_form_cause octets e f h k)
-  one_refusal octets (Authenticode e) Memory h k = absurd k
-  one_refusal octets Memory f h k = absurd h
+  pub one_refusal : (policy : Policy) (octets : List ℕ) (e f : CheckError) → RefusesShape policy octets e → RefusesShape policy octets f → e ≡ f
+  one_refusal policy octets (Win e) (Win f) h k = let same : e ≡ f = cc in ap Win same
+  one_refusal policy octets (Win e) (Authenticode f) h k = absurd (unnamed_shape policy octets e f h k)
+  one_refusal policy octets (Win e) Memory h k = absurd k
+  one_refusal policy octets (Authenticode e) (Win f) h k = absurd (unnamed_shape policy octets f e k h)
+  one_refusal policy octets (Authenticode e) (Authenticode f) h k = ap Authenticode (one_shape_cause policy octets e f h k)
+  one_refusal policy octets (Authenticode e) Memory h k = absurd k
+  one_refusal policy octets Memory f h k = absurd h
 
-  -- and not where there is signed data of the form
-  pub no_refusal : (octets : List ℕ) (e : CheckError) (f : SignedDataElements) (algorithm : DerElement) (d : IndirectData) (g : SignerElements) → HasSignedData octets f → HasForm f algorithm d g → RefusesForm octets e → ⊥
-  no_refusal octets (Win e) f algorithm d g has form p = named_once octets has.certificate e has.named p
-  no_refusal octets (Authenticode e) f algorithm d g has form (inl p) = signed_data_is_read octets e f p has
-  no_refusal octets (Authenticode e) f algorithm d g has form (inr p) =
-      none_broken (form_rules f) (form_met f algorithm d g form) e (subst (λ (x : SignedDataElements). IsFirstBroken (form_rules x) e) (one_data octets p.0 f p.1 has) p.2)
-  no_refusal octets Memory f algorithm d g has form p = p
-
-  -- ---- rules and what is vouched for
-
-  part_told : (judge : Judge) (f : SignedDataElements) (file_hash : List ℕ) → IsToldOnce (IsRefusedPart judge f file_hash)
-  part_told judge f file_hash a b p q =
-      let d = indirect_once f p.0 q.0 p.2 q.2 in
-      let g = signer_once f p.1 q.1 p.3 q.3 in
-      let moved : IsFirstBroken (FileDiffers f file_hash ∷ signing_rules judge f q.0 q.1) a =
-      subst (λ (x : SignerElements). IsFirstBroken (FileDiffers f file_hash ∷ signing_rules judge f q.0 x) a) g
-      (subst (λ (x : IndirectData). IsFirstBroken (FileDiffers f file_hash ∷ signing_rules judge f x p.1) a) d p.4) in
-      one_of_two (FileDiffers f file_hash) (signing_rules judge f q.0 q.1) (file_told f file_hash) (one_signing_refusal judge f q.0 q.1) a b moved q.4
-
-  basic_told : (judge : Judge) (f : SignedDataElements) (file_hash : List ℕ) (a b : AuthenticodeError) → IsFirstBroken (basic_rules judge f file_hash) a → IsFirstBroken (basic_rules judge f file_hash) b → a ≡ b
-  basic_told judge f file_hash =
-      one_broken (basic_rules judge f file_hash) (told_together (form_rules f) (IsRefusedPart judge f file_hash ∷ []) (form_told f) (part_told judge f file_hash, tt))
-
-  part_unbroken : (judge : Judge) (f : SignedDataElements) (file_hash : List ℕ) (place : ℕ) (d : IndirectData) (g : SignerElements) (e : AuthenticodeError) → HasIndirectData f d → IsFirstSigner f g → d.digest ≡ file_hash → IsSigned judge f d g place
-      → IsFirstBroken (FileDiffers f file_hash ∷ signing_rules judge f d g) e → ⊥
-  part_unbroken judge f file_hash place d g e has first binds signed (inl p) =
-      p.2 (ap (λ (x : IndirectData). x.digest) (indirect_once f p.0 d p.1 has) ∙ binds)
-  part_unbroken judge f file_hash place d g e has first binds signed (inr p) = signed_breaks_no_rule judge f d g place e first signed p.1
-
-  unrefused : (judge : Judge) (f : SignedDataElements) (file_hash : List ℕ) (place : ℕ) (e : AuthenticodeError) → IsVouchedFor judge f file_hash place → IsRefusedPart judge f file_hash e → ⊥
-  unrefused judge f file_hash place e v p =
-      let d = indirect_once f p.0 v.d p.2 v.form.indirect in
-      let g = signer_once f p.1 v.g p.3 v.form.signer in
-      part_unbroken judge f file_hash place v.d v.g e v.form.indirect v.form.signer v.binds_hash v.signed
-      (subst (λ (x : SignerElements). IsFirstBroken (FileDiffers f file_hash ∷ signing_rules judge f v.d x) e) g
-      (subst (λ (x : IndirectData). IsFirstBroken (FileDiffers f file_hash ∷ signing_rules judge f x p.1) e) d p.4))
-
-  pub vouched_unbroken : (judge : Judge) (f : SignedDataElements) (file_hash : List ℕ) (place : ℕ) (e : AuthenticodeError) → IsVouchedFor judge f file_hash place → IsFirstBroken (basic_rules judge f file_hash) e → ⊥
-  vouched_unbroken judge f file_hash place e v broken =
-      none_broken (IsRefusedPart judge f file_hash ∷ []) ((λ a p. unrefused judge f file_hash place a v p), tt) e
-      (left_broken (form_rules f) (IsRefusedPart judge f file_hash ∷ []) e (form_met f v.algorithm v.d v.g v.form) broken)
+  -- where there is signed data they are for its form
+  pub refused_there : (policy : Policy) (octets : List ℕ) (f : SignedDataElements) (e : CheckError) → HasSignedData octets f → RefusesShape policy octets e
+      → (x : AuthenticodeError) × (told_of_content x ≡ e) × IsFirstBroken (asked policy.basic (shape_rules f policy.file_hash)) x
+  refused_there policy octets f (Win e) has p = absurd (named_once octets has.certificate e has.named p)
+  refused_there policy octets f (Authenticode e) has (inl p) = absurd (signed_data_is_read octets e f p has)
+  refused_there policy octets f (Authenticode e) has (inr p) =
+      let broken = subst (λ (x : SignedDataElements). IsFirstBroken (asked policy.basic (shape_rules x policy.file_hash)) e) (one_data octets p.0 f p.1 has) p.2 in
+      (e, shape_told_so policy f e policy.basic broken (told_or_memory e), broken)
+  refused_there policy octets f Memory has p = absurd p
 
   -- ---- answers
 
-  abbrev Causes : Judge → List ℕ → List ℕ → AuthenticodeError → Type 0
-  Causes judge octets file_hash e =
-      IsUnreadSignature octets e ⊎ ((f : SignedDataElements) × HasSignedData octets f × IsFirstBroken (basic_rules judge f file_hash) e)
+  abbrev Causes : Judge → Policy → List ℕ → AuthenticodeError → Type 0
+  Causes judge policy octets e =
+      IsUnreadSignature octets e ⊎ ((f : SignedDataElements) × HasSignedData octets f × IsFirstBroken (policy_rules judge policy f) e)
 
-  one_cause : (judge : Judge) (octets file_hash : List ℕ) (a b : AuthenticodeError) → Causes judge octets file_hash a → Causes judge octets file_hash b → a ≡ b
-  one_cause judge octets file_hash a b (inl p) (inl q) = one_unread_signature octets a b p q
-  one_cause judge octets file_hash a b (inl p) (inr q) = absurd (signed_data_is_read octets a q.0 p q.1)
-  one_cause judge octets file_hash a b (inr p) (inl q) = absurd (signed_data_is_read octets b p.0 q p.1)
-  one_cause judge octets file_hash a b (inr p) (inr q) =
-      basic_told judge q.0 file_hash a b (subst (λ (f : SignedDataElements). IsFirstBroken (basic_rules judge f file_hash) a) (one_data octets p.0 q.0 p.1 q.1) p.2) q.2
+  one_cause : (judge : Judge) (policy : Policy) (octets : List ℕ) (a b : AuthenticodeError) → Causes judge policy octets a → Causes judge policy octets b → a ≡ b
+  one_cause judge policy octets a b (inl p) (inl q) = one_unread_signature octets a b p q
+  one_cause judge policy octets a b (inl p) (inr q) = absurd (signed_data_is_read octets a q.0 p q.1)
+  one_cause judge policy octets a b (inr p) (inl q) = absurd (signed_data_is_read octets b p.0 q p.1)
+  one_cause judge policy octets a b (inr p) (inr q) =
+      one_broken (policy_rules judge policy q.0) (policy_told judge policy q.0) a b (subst (λ (f : SignedDataElements). IsFirstBroken (policy_rules judge policy f) a) (one_data octets p.0 q.0 p.1 q.1) p.2) q.2
 
-  no_cause : (judge : Judge) (octets file_hash : List ℕ) (f : SignedDataElements) (place : ℕ) (e : AuthenticodeError) → HasSignedData octets f → IsVouchedFor judge f file_hash place → Causes judge octets file_hash e → ⊥
-  no_cause judge octets file_hash f place e has v (inl p) = signed_data_is_read octets e f p has
-  no_cause judge octets file_hash f place e has v (inr p) =
-      vouched_unbroken judge f file_hash place e v (subst (λ (x : SignedDataElements). IsFirstBroken (basic_rules judge x file_hash) e) (one_data octets p.0 f p.1 has) p.2)
+  no_cause : (judge : Judge) (policy : Policy) (octets : List ℕ) (f : SignedDataElements) (accepted : Accepted) (e : AuthenticodeError) → HasSignedData octets f → IsTrusted judge policy f accepted → Causes judge policy octets e → ⊥
+  no_cause judge policy octets f accepted e has t (inl p) = signed_data_is_read octets e f p has
+  no_cause judge policy octets f accepted e has t (inr p) =
+      trusted_unbroken judge policy f accepted e t (subst (λ (x : SignedDataElements). IsFirstBroken (policy_rules judge policy x) e) (one_data octets p.0 f p.1 has) p.2)
 
-  unnamed : (judge : Judge) (octets file_hash : List ℕ) (header : WinCertificateError) (e : AuthenticodeError) → contents_in octets ≡ Err header → Causes judge octets file_hash e → ⊥
-  unnamed judge octets file_hash header e refused (inl p) = named_once octets p.certificate header p.named refused
-  unnamed judge octets file_hash header e refused (inr p) = named_once octets p.1.certificate header p.1.named refused
+  unnamed : (judge : Judge) (policy : Policy) (octets : List ℕ) (header : WinCertificateError) (e : AuthenticodeError) → contents_in octets ≡ Err header → Causes judge policy octets e → ⊥
+  unnamed judge policy octets header e refused (inl p) = named_once octets p.certificate header p.named refused
+  unnamed judge policy octets header e refused (inr p) = named_once octets p.1.certificate header p.1.named refused
 
-  pub one_answer : (judge : Judge) (octets file_hash : List ℕ) (r s : Result Accepted CheckError) → IsBasicAnswer judge octets file_hash r → IsBasicAnswer judge octets file_hash s → IsSameUnlessMemory r s
-  one_answer judge octets file_hash (Err Memory) s h k = tt
-  one_answer judge octets file_hash (Ok a) (Err Memory) h k = tt
-  one_answer judge octets file_hash (Ok a) (Ok b) h k =
-      let same = one_data octets h.0 k.0 h.2 k.2 in
-      let place = one_place judge k.0 file_hash h.1 k.1 (subst (λ (f : SignedDataElements). IsVouchedFor judge f file_hash h.1) same h.3) k.3 in
-      ap Ok (h.4 ∙ ap accepted_at place ∙ sym k.4)
-  one_answer judge octets file_hash (Ok a) (Err (Win e)) h k = absurd (named_once octets h.2.certificate e h.2.named k)
-  one_answer judge octets file_hash (Ok a) (Err (Authenticode e)) h k = absurd (no_cause judge octets file_hash h.0 h.1 e h.2 h.3 k)
-  one_answer judge octets file_hash (Err (Win e)) (Err Memory) h k = tt
-  one_answer judge octets file_hash (Err (Win e)) (Ok b) h k = absurd (named_once octets k.2.certificate e k.2.named h)
-  one_answer judge octets file_hash (Err (Win e)) (Err (Win other)) h k = let same : e ≡ other = cc in ap (λ (x : WinCertificateError). Err (Win x)) same
-  one_answer judge octets file_hash (Err (Win e)) (Err (Authenticode other)) h k = absurd (unnamed judge octets file_hash e other h k)
-  one_answer judge octets file_hash (Err (Authenticode e)) (Err Memory) h k = tt
-  one_answer judge octets file_hash (Err (Authenticode e)) (Ok b) h k = absurd (no_cause judge octets file_hash k.0 k.1 e k.2 k.3 h)
-  one_answer judge octets file_hash (Err (Authenticode e)) (Err (Win other)) h k = absurd (unnamed judge octets file_hash other e k h)
-  one_answer judge octets file_hash (Err (Authenticode e)) (Err (Authenticode other)) h k = ap (λ (x : AuthenticodeError). Err (Authenticode x)) (one_cause judge octets file_hash e other h k)
+  pub one_answer : (judge : Judge) (policy : Policy) (octets : List ℕ) (r s : Result Accepted CheckError) → IsAnswer judge policy octets r → IsAnswer judge policy octets s → IsSameUnlessMemory r s
+  one_answer judge policy octets (Err Memory) s h k = tt
+  one_answer judge policy octets (Ok a) (Err Memory) h k = tt
+  one_answer judge policy octets (Ok a) (Ok b) h k =
+      let same = one_data octets h.0 k.0 h.1 k.1 in
+      ap Ok (one_trusted judge policy k.0 a b (subst (λ (f : SignedDataElements). IsTrusted judge policy f a) same h.2) k.2)
+  one_answer judge policy octets (Ok a) (Err (Win e)) h k = absurd (named_once octets h.1.certificate e h.1.named k)
+  one_answer judge policy octets (Ok a) (Err (Authenticode e)) h k = absurd (no_cause judge policy octets h.0 a e h.1 h.2 k)
+  one_answer judge policy octets (Err (Win e)) (Err Memory) h k = tt
+  one_answer judge policy octets (Err (Win e)) (Ok b) h k = absurd (named_once octets k.1.certificate e k.1.named h)
+  one_answer judge policy octets (Err (Win e)) (Err (Win other)) h k = let same : e ≡ other = cc in ap (λ (x : WinCertificateError). Err (Win x)) same
+  one_answer judge policy octets (Err (Win e)) (Err (Authenticode other)) h k = absurd (unnamed judge policy octets e other h k)
+  one_answer judge policy octets (Err (Authenticode e)) (Err Memory) h k = tt
+  one_answer judge policy octets (Err (Authenticode e)) (Ok b) h k = absurd (no_cause judge policy octets k.0 b e k.1 k.2 h)
+  one_answer judge policy octets (Err (Authenticode e)) (Err (Win other)) h k = absurd (unnamed judge policy octets other e k h)
+  one_answer judge policy octets (Err (Authenticode e)) (Err (Authenticode other)) h k = ap (λ (x : AuthenticodeError). Err (Authenticode x)) (one_cause judge policy octets e other h k)
+
+  -- ---- exits
+
+  module _ (judge : Judge) (policy : Policy) (octets : List ℕ) where
+    pub answer_at : (r s : Result Accepted CheckError) → r ≡ s → IsAnswer judge policy octets s → IsAnswer judge policy octets r
+    answer_at r s e answer = subst (λ (x : Result Accepted CheckError). IsAnswer judge policy octets x) (sym e) answer
+
+    pub only_at : (r s : Result Accepted CheckError) → r ≡ s → IsAnswer judge policy octets s → (other : Result Accepted CheckError) → IsAnswer judge policy octets other → IsSameUnlessMemory r other
+    only_at r s e answer other k =
+        subst (λ (x : Result Accepted CheckError). IsSameUnlessMemory x other) (sym e) (one_answer judge policy octets s other answer k)
+
+    pub refused_at : (r : Result Accepted CheckError) (e : CheckError) → r ≡ Err e → RefusesShape policy octets e → (f : CheckError) → RefusesShape policy octets f → r ≡ Err f
+    refused_at r e is refuses f k = is ∙ ap Err (one_refusal policy octets e f refuses k)
+
+    -- what the signed data is refused for, its form first
+    pub refused_behind : (r : Result Accepted CheckError) (f : SignedDataElements) (given : Result Accepted AuthenticodeError) → HasSignedData octets f
+        → ((x : AuthenticodeError) → IsFirstBroken (asked policy.basic (shape_rules f policy.file_hash)) x → given ≡ Err x) → ((x : AuthenticodeError) → given ≡ Err x → r ≡ Err (told_of_content x))
+        → (e : CheckError) → RefusesShape policy octets e → r ≡ Err e
+    refused_behind r f given has shape so e k =
+        let there = refused_there policy octets f e has k in
+        so there.0 (shape there.0 there.2) ∙ ap Err there.1

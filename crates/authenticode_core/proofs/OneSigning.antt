@@ -52,7 +52,7 @@ named_sid f g c first n =
 key_or_name : (octets : List ℕ) (kids : List DerElement) → Primitive 0x80 octets ≡ sequence kids → ⊥
 key_or_name octets kids e = absurd cc
 
-same_bag : (f : SignedDataElements) (a b : List CertificateElements) → IsBagOf f a → IsBagOf f b → a ≡ b
+pub same_bag : (f : SignedDataElements) (a b : List CertificateElements) → IsBagOf f a → IsBagOf f b → a ≡ b
 same_bag f a b = one_bag (members_of f.certificates) a b
 
 -- there is one certificate of the signer, at one place
@@ -65,7 +65,7 @@ signature_octets s t e = cc
 
 -- ---- rules that are met
 
-module _ (judge : Judge) (f : SignedDataElements) (d : IndirectData) (g : SignerElements) where
+module _ (f : SignedDataElements) (g : SignerElements) where
   pub named_is_met : (bag : List CertificateElements) (place : ℕ) (c : CertificateElements) → IsFirstSigner f g → IsSignerOf f bag place c → IsMet (IsNamedByKey g)
   named_is_met bag place c first signer = λ e broken.
       let named = named_sid f g c first signer.fits in
@@ -76,6 +76,20 @@ module _ (judge : Judge) (f : SignedDataElements) (d : IndirectData) (g : Signer
       let there : IsSignerOf f broken.bag place c = subst (λ (b : List CertificateElements). IsSignerOf f b place c) (same_bag f bag broken.bag is broken.is_bag) signer in
       broken.none place c there.later there.stands there.fits
 
+  -- told once
+
+  pub certificate_once : IsToldOnce (HasNoCertificate f g)
+  certificate_once a b p q =
+      let parts = two (name p.issuer.name) (name q.issuer.name) (integer p.serial_number) (integer q.serial_number) (sym p.named ∙ q.named) in
+      p.told
+      ∙ ap (λ (n : DirectoryName). errors.NoCertificatesAssociatedWithIssuerAndSerialNumber n p.serial_number) (directory_names.once (name p.issuer.name) p.issuer q.issuer refl parts.0)
+      ∙ ap (errors.NoCertificatesAssociatedWithIssuerAndSerialNumber q.issuer) (integers.once (integer p.serial_number) p.serial_number q.serial_number refl parts.1)
+      ∙ sym q.told
+    where
+      two : (x y s t : DerElement) → sequence (x ∷ s ∷ []) ≡ sequence (y ∷ t ∷ []) → (x ≡ y) × (s ≡ t)
+      two x y s t e = (cc, cc)
+
+module _ (judge : Judge) (f : SignedDataElements) (d : IndirectData) (g : SignerElements) where
   pub digest_is_met : (hash : HashAlgorithm) → NamesDigest g.digest_algorithm hash → IsMet (HasUnknownDigest g)
   digest_is_met hash named = λ e broken. broken.0 hash named
 
@@ -120,9 +134,9 @@ module _ (judge : Judge) (f : SignedDataElements) (d : IndirectData) (g : Signer
   -- where the signature is good, no rule is broken
   pub signed_is_met : (place : ℕ) → IsFirstSigner f g → IsSigned judge f d g place → AreMet (signing_rules judge f d g)
   signed_is_met place first s = (
-    named_is_met s.bag place s.certificate first s.is_signer,
+    named_is_met f g s.bag place s.certificate first s.is_signer,
     (
-      certificate_is_met s.bag place s.certificate s.is_bag s.is_signer,
+      certificate_is_met f g s.bag place s.certificate s.is_bag s.is_signer,
       (
         digest_is_met s.hash s.named,
         (
@@ -144,17 +158,6 @@ module _ (judge : Judge) (f : SignedDataElements) (d : IndirectData) (g : Signer
   place_once p q a b = (signer_once f a.bag b.bag p q a.certificate b.certificate a.is_bag b.is_bag a.is_signer b.is_signer).0
 
   -- ---- rules are told once
-
-  certificate_once : IsToldOnce (HasNoCertificate f g)
-  certificate_once a b p q =
-      let parts = two (name p.issuer.name) (name q.issuer.name) (integer p.serial_number) (integer q.serial_number) (sym p.named ∙ q.named) in
-      p.told
-      ∙ ap (λ (n : DirectoryName). errors.NoCertificatesAssociatedWithIssuerAndSerialNumber n p.serial_number) (directory_names.once (name p.issuer.name) p.issuer q.issuer refl parts.0)
-      ∙ ap (errors.NoCertificatesAssociatedWithIssuerAndSerialNumber q.issuer) (integers.once (integer p.serial_number) p.serial_number q.serial_number refl parts.1)
-      ∙ sym q.told
-    where
-      two : (x y s t : DerElement) → sequence (x ∷ s ∷ []) ≡ sequence (y ∷ t ∷ []) → (x ≡ y) × (s ≡ t)
-      two x y s t e = (cc, cc)
 
   algorithm_once : (u v : UnsupportedAlgorithmError) → u ≡ v
   algorithm_once u v = refl
@@ -191,7 +194,7 @@ module _ (judge : Judge) (f : SignedDataElements) (d : IndirectData) (g : Signer
   pub signing_rules_are_told_once : AreToldOnce (signing_rules judge f d g)
   signing_rules_are_told_once = (
     λ a b p q. p.2 ∙ sym q.2,
-    (certificate_once, (unknown_once, (badly_once, (λ a b p q. p.1 ∙ sym q.1, (λ a b p q. p.1 ∙ sym q.1, (differs_once, (λ a b p q. p.told ∙ sym q.told, tt))))))),
+    (certificate_once f g, (unknown_once, (badly_once, (λ a b p q. p.1 ∙ sym q.1, (λ a b p q. p.1 ∙ sym q.1, (differs_once, (λ a b p q. p.told ∙ sym q.told, tt))))))),
   )
 
   pub one_signing_refusal : (a b : AuthenticodeError) → IsFirstBroken (signing_rules judge f d g) a → IsFirstBroken (signing_rules judge f d g) b → a ≡ b

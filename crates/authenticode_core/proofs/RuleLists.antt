@@ -1,5 +1,5 @@
 -- Rules that are asked for in order.
-use Rattle.std.proofs.Common.{◌≡◌, ◌⊎◌, List, [], ◌∷◌, ◌++◌, inl, inr}
+use Rattle.std.proofs.Common.{◌≡◌, List, [], ◌∷◌, ◌++◌, inl, inr}
 use Rattle.std.specs.Prelude.{⊤}
 use Rattle.x509_core.specs.Rules.{IsMet, IsFirstBroken}
 
@@ -63,3 +63,11 @@ one_of_two rule rules once others a b (inr p) (inr q) = others a b p.1 q.1
 pub told_together : {E : Type 0} (rules others : List (E → Type 0)) → AreToldOnce rules → AreToldOnce others → AreToldOnce (rules ++ others)
 told_together [] others p q = q
 told_together (rule ∷ rules) others p q = (p.0, told_together rules others p.1 q)
+
+pub met_together : {E : Type 0} (rules others : List (E → Type 0)) → AreMet rules → AreMet others → AreMet (rules ++ others)
+met_together [] others p q = q
+met_together (rule ∷ rules) others p q = (p.0, met_together rules others p.1 q)
+
+pub none_together : {E : Type 0} (rules others : List (E → Type 0)) (e : E) → NoneTells rules e → NoneTells others e → NoneTells (rules ++ others) e
+none_together [] others e p q = q
+none_together (rule ∷ rules) others e p q = (p.0, none_together rules others e p.1 q)

@@ -26,7 +26,7 @@ module _ (judge : Judge) (f : SignedDataElements) (d : IndirectData) (g : Signer
 
   pub unknown : (place : ℕ) (c : CertificateElements) (e : AuthenticodeError) → IsFirstSigner f g → HasSigner f place c → HasUnknownDigest g e → RefusesBy (signing_rules judge f d g) e
   unknown place c e first s broken =
-      inl (inr (named_is_met judge f d g s.0 place c first s.2, inr (certificate_is_met judge f d g s.0 place c s.1 s.2, inl broken)))
+      inl (inr (named_is_met f g s.0 place c first s.2, inr (certificate_is_met f g s.0 place c s.1 s.2, inl broken)))
 
   badly : (place : ℕ) (c : CertificateElements) (hash : HashAlgorithm) (e : AuthenticodeError) → HasSigner f place c → NamesDigest g.digest_algorithm hash → IsRefusedUnder judge g hash c e → IsBadlySigned judge f g e
   badly place c hash e s named refused =
@@ -36,16 +36,16 @@ module _ (judge : Judge) (f : SignedDataElements) (d : IndirectData) (g : Signer
       → RefusesBy (IsRefusedUnder judge g hash c ∷ []) e → RefusesBy (signing_rules judge f d g) e
   unaccepted place c hash e first s named (inl (inl refused)) =
       inl (inr (
-        named_is_met judge f d g s.0 place c first s.2,
-        inr (certificate_is_met judge f d g s.0 place c s.1 s.2, inr (digest_is_met judge f d g hash named, inl (badly place c hash e s named refused))),
+        named_is_met f g s.0 place c first s.2,
+        inr (certificate_is_met f g s.0 place c s.1 s.2, inr (digest_is_met judge f d g hash named, inl (badly place c hash e s named refused))),
       ))
   unaccepted place c hash e first s named (inl (inr none)) = absurd none.1
   unaccepted place c hash e first s named (inr memory) = inr memory
 
   front_is_met : (place : ℕ) (c : CertificateElements) (hash : HashAlgorithm) → IsFirstSigner f g → HasSigner f place c → NamesDigest g.digest_algorithm hash → IsSignedBy judge g hash c → AreMet front
   front_is_met place c hash first s named signed = (
-    named_is_met judge f d g s.0 place c first s.2,
-    (certificate_is_met judge f d g s.0 place c s.1 s.2, (digest_is_met judge f d g hash named, (signature_is_met judge f d g s.0 place c hash s.1 s.2 named signed, tt))),
+    named_is_met f g s.0 place c first s.2,
+    (certificate_is_met f g s.0 place c s.1 s.2, (digest_is_met judge f d g hash named, (signature_is_met judge f d g s.0 place c hash s.1 s.2 named signed, tt))),
   )
 
   pub unbound : (place : ℕ) (c : CertificateElements) (hash : HashAlgorithm) (e : AuthenticodeError) → IsFirstSigner f g → HasSigner f place c → NamesDigest g.digest_algorithm hash → IsSignedBy judge g hash c

@@ -41,7 +41,7 @@ one_walk_from bag from subject (p ∷ a) (q ∷ b) w v =
 pub one_walk : (bag : List CertificateElements) (signer : CertificateElements) (a b : List ℕ) → IsIssuerWalk bag signer a → IsIssuerWalk bag signer b → a ≡ b
 one_walk bag signer a b w v = one_walk_from bag 0 signer.tbs.subject a b w v
 
-same_others : (bag : List CertificateElements) (subject : DerElement) (places a b : List ℕ) → AreOthers bag subject places a → AreOthers bag subject places b → a ≡ b
+pub same_others : (bag : List CertificateElements) (subject : DerElement) (places a b : List ℕ) → AreOthers bag subject places a → AreOthers bag subject places b → a ≡ b
 same_others bag subject [] a b p q = p ∙ sym q
 same_others bag subject (place ∷ places) a b (inl p) (inl q) = same_others bag subject places a b p.1 q.1
 same_others bag subject (place ∷ places) a b (inl p) (inr q) = absurd (q.0 p.0)

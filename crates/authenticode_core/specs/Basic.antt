@@ -1,5 +1,5 @@
--- What basic validation of a signature file answers, and why.
-use Rattle.std.specs.Prelude.{◌≡◌, ◌≢◌, ◌≤◌, ◌⊎◌, ⊤, ℕ, drop, replicate, List, [], ◌∷◌, ◌++◌, Some, Result, Ok, Err}
+-- The signed data of a signature file: when it is there, when it vouches for the digest of a file, and why not.
+use Rattle.std.specs.Prelude.{◌≡◌, ◌≤◌, ◌⊎◌, ⊤, ℕ, drop, replicate, List, ◌∷◌, Result, Ok, Err}
 use Rattle.cms_types.specs.Pkcs7.{pkcs7}
 use Rattle.cms_types.specs.SignedData.{signed_data_elements}
 use Rattle.cms_types.specs.SignedDataElements.{SignedDataElements}
@@ -18,11 +18,10 @@ use Rattle.key_core.specs.declared.element.Element.TheVariants.{Pkcs7}
 use Rattle.wincert_core.specs.Refusal.{contents_in}
 use Rattle.x509_core.specs.Rules.{Rule, IsFirstBroken}
 use Rattle.x509_core.specs.declared.error.CertError.TheVariants.{Asn1Deserialization}
-use Rattle.authenticode_core.specs.FormRules.{HasForm, FileDiffers, form_rules}
+use Rattle.authenticode_core.specs.FormRules.{HasForm, FileDiffers}
 use Rattle.authenticode_core.specs.SignedFields.{HasIndirectData, IndirectData, IsFirstSigner}
 use Rattle.authenticode_core.specs.SigningRules.{IsSigned, signing_rules}
 use Rattle.authenticode_core.specs.declared.accepted.Accepted.{Accepted}
-use Rattle.authenticode_core.specs.declared.accepted.Excuse.TheVariants as excuses
 use Rattle.authenticode_core.specs.declared.error.AuthenticodeError.{AuthenticodeError}
 use Rattle.authenticode_core.specs.declared.error.AuthenticodeError.TheVariants.{CertError}
 use Rattle.authenticode_core.specs.declared.error.CheckError.{CheckError}
@@ -35,10 +34,6 @@ pub record HasSignedData (octets : List ℕ) (f : SignedDataElements) : Type 0 w
   pub value : Pkcs7Certificate
   pub spelled : IsPaddedEncoding certificate (pkcs7 value)
   pub fields : f ≡ signed_data_elements value.signed_data
-
--- the signer's certificate stands at this place, and nothing is said of who vouches for it
-abbrev pub accepted_at : ℕ → Accepted
-accepted_at place = record { signer = Some place; path = []; excuse = excuses.None }
 
 -- Signed data vouches for the digest of a file: it has the form, the digest is the one that is asked for, and the signature of its one signer, whose certificate
 -- stands at this place, is good.
@@ -89,7 +84,7 @@ pub record IsUnreadSignature (octets : List ℕ) (e : AuthenticodeError) : Type 
   pub cause : IsNoSignedData certificate source
   pub told : e ≡ CertError (Asn1Deserialization Pkcs7 source)
 
--- ---- rules, in their order
+-- ---- rules
 
 -- the rules of the parts that signed data of this form has: the digest of the file, and the signature
 abbrev pub IsRefusedPart : Judge → SignedDataElements → List ℕ → Rule AuthenticodeError
@@ -97,27 +92,13 @@ IsRefusedPart judge f file_hash e =
     (d : IndirectData) × (g : SignerElements) × HasIndirectData f d × IsFirstSigner f g
     × IsFirstBroken (FileDiffers f file_hash ∷ signing_rules judge f d g) e
 
--- the first broken rule: of the form, then of the digest of the file and of the signature
-abbrev pub basic_rules : Judge → SignedDataElements → List ℕ → List (Rule AuthenticodeError)
-basic_rules judge f file_hash = form_rules f ++ IsRefusedPart judge f file_hash ∷ []
-
 -- ---- answers
 
--- Why the octets are refused for their header, for what their certificate is, or for the form of its signed data.
-abbrev pub RefusesForm : List ℕ → CheckError → Type 0
-RefusesForm octets (Win e) = contents_in octets ≡ Err e
-RefusesForm octets (Authenticode e) =
-    IsUnreadSignature octets e ⊎ ((f : SignedDataElements) × HasSignedData octets f × IsFirstBroken (form_rules f) e)
-RefusesForm octets Memory = ⊥
-
--- The answer: acceptance at the place of the signer's certificate; a refusal by its cause, the first in order; want of memory.
-abbrev pub IsBasicAnswer : Judge → List ℕ → List ℕ → Result Accepted CheckError → Type 0
-IsBasicAnswer judge octets file_hash (Ok accepted) =
-    (f : SignedDataElements) × (place : ℕ) × HasSignedData octets f × IsVouchedFor judge f file_hash place × (accepted ≡ accepted_at place)
-IsBasicAnswer judge octets file_hash (Err (Win e)) = contents_in octets ≡ Err e
-IsBasicAnswer judge octets file_hash (Err (Authenticode e)) =
-    IsUnreadSignature octets e ⊎ ((f : SignedDataElements) × HasSignedData octets f × IsFirstBroken (basic_rules judge f file_hash) e)
-IsBasicAnswer judge octets file_hash (Err Memory) = ⊤
+-- Why the octets are refused for their header, or for what their certificate is.
+abbrev pub RefusesValue : List ℕ → CheckError → Type 0
+RefusesValue octets (Win e) = contents_in octets ≡ Err e
+RefusesValue octets (Authenticode e) = IsUnreadSignature octets e
+RefusesValue octets Memory = ⊥
 
 -- Two answers are one, but where one of them is want of memory.
 abbrev pub IsSameUnlessMemory : Result Accepted CheckError → Result Accepted CheckError → Type 0

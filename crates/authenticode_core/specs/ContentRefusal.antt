@@ -1,4 +1,12 @@
 -- What is answered for signed data that is refused.
+use Rattle.asn1_types.specs.declared.error.CharSetError.{CharSetError}
+use Rattle.asn1_types.specs.declared.error.CharSetError.TheVariants as texts
+use Rattle.der_core.specs.declared.error.DerError.{DerError}
+use Rattle.der_core.specs.declared.error.DerError.TheVariants as der
+use Rattle.key_core.specs.declared.signature_error.SignatureError.{SignatureError}
+use Rattle.key_core.specs.declared.signature_error.SignatureError.TheVariants as signatures
+use Rattle.x509_core.specs.declared.error.CertError.{CertError}
+use Rattle.x509_core.specs.declared.error.CertError.TheVariants as certs
 use Rattle.authenticode_core.specs.declared.error.AuthenticodeError.{AuthenticodeError}
 use Rattle.authenticode_core.specs.declared.error.AuthenticodeError.TheVariants as contents
 use Rattle.authenticode_core.specs.declared.error.CheckError.{CheckError}
@@ -8,3 +16,20 @@ use Rattle.authenticode_core.specs.declared.error.CheckError.TheVariants.{Authen
 abbrev pub told_of_content : AuthenticodeError → CheckError
 told_of_content contents.Memory = Memory
 told_of_content e = Authenticode e
+
+-- an error of certificates, of signatures, of an encoding, of a text: want of memory is told as such
+abbrev pub of_certificates : CertError → AuthenticodeError
+of_certificates certs.Memory = contents.Memory
+of_certificates e = contents.CertError e
+
+abbrev pub of_signatures : SignatureError → AuthenticodeError
+of_signatures signatures.Memory = contents.Memory
+of_signatures e = contents.SignatureError e
+
+abbrev pub of_der : DerError → AuthenticodeError
+of_der der.Memory = contents.Memory
+of_der e = contents.Asn1DerError e
+
+abbrev pub of_char_set : CharSetError → AuthenticodeError
+of_char_set texts.Memory = contents.Memory
+of_char_set texts.CharSet = contents.ProgramNameCharSet

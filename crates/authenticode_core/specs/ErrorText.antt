@@ -1,5 +1,5 @@
 -- The texts of errors.
-use Rattle.std.specs.Prelude.{ℕ, List, ◌++◌, codes, decimal, Option, Some}
+use Rattle.std.specs.Prelude.{ℕ, List, ◌++◌, codes, decimal, Option, Some, None}
 use Rattle.std.specs.Option.{option_map}
 use Rattle.hex.specs.Hex.{encode_lower}
 use Rattle.key_core.specs.SignatureErrorText.{signature_error_text}
@@ -12,6 +12,10 @@ use Rattle.authenticode_core.specs.declared.error.AuthenticodeError.{Authenticod
 use Rattle.authenticode_core.specs.declared.error.AuthenticodeError.TheVariants as contents
 use Rattle.authenticode_core.specs.declared.error.CheckError.{CheckError}
 use Rattle.authenticode_core.specs.declared.error.CheckError.TheVariants as check
+use Rattle.authenticode_core.specs.declared.pkcs7_error.Pkcs7Error.{Pkcs7Error}
+use Rattle.authenticode_core.specs.declared.pkcs7_error.Pkcs7Error.TheVariants as pkcs7
+use Rattle.authenticode_core.specs.declared.timestamp_error.TimestampError.{TimestampError}
+use Rattle.authenticode_core.specs.declared.timestamp_error.TimestampError.TheVariants as stamps
 
 -- what is told of a digest of the file that isn't the one asked for
 abbrev pub file_mismatch_text : List ℕ → List ℕ → List ℕ
@@ -31,8 +35,20 @@ unnamed_text issuer serial_number =
     codes "the signed data has no certificate of the issuer '" ++ name_text issuer.name
     ++ codes "' with the serial number " ++ encode_lower serial_number
 
--- what is told of signed data that is refused. Of an element that isn't read, and of a key that
--- can't be written, no contract says what is told
+-- what is told of signed data that isn't read or written. Of an element that isn't no contract says what is told
+abbrev pub pkcs7_error_text : Pkcs7Error → Option (List ℕ)
+pkcs7_error_text (pkcs7.Cert e) = cert_error_text e
+pkcs7_error_text pkcs7.Memory = Some (codes "out of memory")
+
+-- what is told of a time stamp that isn't given or put in
+abbrev pub timestamp_error_text : TimestampError → Option (List ℕ)
+timestamp_error_text (stamps.Pkcs7Error e) = pkcs7_error_text e
+timestamp_error_text (stamps.Asn1DerError e) = cert_error_text e
+timestamp_error_text stamps.TimestampTokenEmpty = Some (codes "the token or the signed data has no signer")
+timestamp_error_text stamps.Memory = Some (codes "out of memory")
+
+-- what is told of signed data that is refused. Of an element that isn't read or written, and of a key
+-- that can't be written, no contract says what is told
 abbrev pub content_error_text : AuthenticodeError → Option (List ℕ)
 content_error_text (contents.CertError e) = cert_error_text e
 content_error_text (contents.IncorrectVersion expected got) =
@@ -55,6 +71,12 @@ content_error_text contents.NoMessageDigest = Some (codes "no message digest is 
 content_error_text (contents.UnsupportedHashAlgorithmError e) = Some (unsupported_hash_text e)
 content_error_text (contents.HashMismatch actual expected) = Some (mismatch_text actual expected)
 content_error_text contents.NoEKUCodeSigning = Some (codes "the certificate of the signer is not one for code signing")
+content_error_text contents.MissingExpectedFileHash = Some (codes "no digest of the file is given")
+content_error_text (contents.InvalidTimestampCert e) = option_map (λ text. codes "certificate of the time stamp: " ++ text) (cert_error_text e)
+content_error_text contents.ProgramNameCharSet = Some (codes "the name of the program has a character past U+FFFF")
+content_error_text contents.NoCertificates = Some (codes "the signed data has no certificates")
+content_error_text (contents.Asn1DerError e) = None
+content_error_text (contents.TimestampError e) = timestamp_error_text e
 content_error_text contents.Memory = Some (codes "out of memory")
 
 -- what is told of a signature file that is refused

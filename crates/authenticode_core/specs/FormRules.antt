@@ -1,5 +1,5 @@
 -- What signed data has to be in its form, rule by rule, in their order (Windows Authenticode Portable Executable Signature Format).
-use Rattle.std.specs.Prelude.{◌≡◌, ◌≢◌, ℕ, List, [], ◌∷◌, length, Option, Some, None}
+use Rattle.std.specs.Prelude.{◌≡◌, ◌≢◌, ℕ, List, [], ◌∷◌, length, Some, None}
 use Rattle.asn1_types.specs.declared.oids.TheConstants.{SPC_INDIRECT_DATA}
 use Rattle.cms_types.specs.SignedDataElements.{SignedDataElements}
 use Rattle.cms_types.specs.SignerElements.{SignerElements}

@@ -37,6 +37,12 @@ variant_name contents.NoMessageDigest = codes "NoMessageDigest"
 variant_name (contents.UnsupportedHashAlgorithmError e) = codes "UnsupportedHashAlgorithmError"
 variant_name (contents.HashMismatch actual expected) = codes "HashMismatch"
 variant_name contents.NoEKUCodeSigning = codes "NoEKUCodeSigning"
+variant_name contents.MissingExpectedFileHash = codes "MissingExpectedFileHash"
+variant_name (contents.InvalidTimestampCert e) = codes "InvalidTimestampCert"
+variant_name contents.ProgramNameCharSet = codes "ProgramNameCharSet"
+variant_name contents.NoCertificates = codes "NoCertificates"
+variant_name (contents.Asn1DerError e) = codes "Asn1DerError"
+variant_name (contents.TimestampError e) = codes "TimestampError"
 variant_name contents.Memory = codes "Memory"
 
 -- the name of a refusal of the signed data: that of the variant, or of the error of certificates that it holds

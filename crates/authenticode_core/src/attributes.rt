@@ -75,7 +75,7 @@ fn first_values<'a>(mut attributes: Kids<'a>, oid: &[u8]) -> Option<Kids<'a>>
 }
 
 /// The values in an attribute of this identifier, by its contents octets (RFC 5652 5.3).
-fn values_of<'a>(attribute: Elem<'a>, oid: &[u8]) -> Option<Kids<'a>>
+pub(crate) fn values_of<'a>(attribute: Elem<'a>, oid: &[u8]) -> Option<Kids<'a>>
     ensures { MatchOption result
         ((values : List DerElement) → IsAttributeOf oid.now attribute.entry.is.0 values → ⊥)
         (λ values. IsAttributeOf oid.now attribute.entry.is.0 values.are.0) }

@@ -1,50 +1,48 @@
-//! Basic validation: what the certificate is, the form of the signed data, the digest of the file,
-//! and the signature.
+//! Basic validation: the form of the signed data, the digest of the file, and the signature.
 
-ghost use Rattle.std.specs.Prelude.{◌≡◌, ◌⊎◌, Err, Result, MatchResult};
+ghost use Rattle.std.specs.Prelude.{◌≡◌, ◌⊎◌, Err, MatchResult};
+ghost use Rattle.cms_types.specs.Pkcs7Elements.{pkcs7_of};
+ghost use Rattle.cms_types.specs.SignedDataElements.{signed_data_of};
 ghost use Rattle.cms_types.specs.SignedView.{view_elements};
-ghost use Rattle.authenticode_core.specs.Basic.{IsBasicAnswer, IsRefusedPart, IsSameUnlessMemory, IsVouchedFor, RefusesForm};
-ghost use Rattle.authenticode_core.specs.Form.{IsFormOf};
-ghost use Rattle.authenticode_core.specs.declared.accepted.Accepted.{Accepted};
-ghost use Rattle.authenticode_core.specs.declared.error.CheckError.{CheckError};
+ghost use Rattle.x509_core.specs.Rules.{IsFirstBroken};
+ghost use Rattle.authenticode_core.specs.Basic.{IsRefusedPart, IsVouchedFor};
+ghost use Rattle.authenticode_core.specs.Form.{AreSpelled, IsFormOf};
+ghost use Rattle.authenticode_core.specs.PolicySteps.{IsVouchedAt};
+ghost use Rattle.authenticode_core.specs.SigningRules.{RefusesBy};
+ghost use Rattle.authenticode_core.specs.Trusted.{basic_rules, shape_rules};
 
-use crate::accepted::{Accepted, Excuse, Places};
-use crate::error::{AuthenticodeError, CheckError};
+use crate::error::AuthenticodeError;
 use crate::form::{Form, expect_form};
+use crate::policy::Policy;
 use crate::signing::expect_signed;
-use crate::value::signed_data_of;
 use cms_types::SignedView;
-use der_core::{Octets, is_same, one_first_fault};
+use der_core::{Elem, Octets, is_same};
 use sig_core::Scheme;
 use std::alloc::Global;
 
-/// Checks the signature in a WIN_CERTIFICATE: that it is signed data that stands for a file, that
-/// the digest of the file is the one that is asked for, and that the signature of its signer is good
-/// by the scheme (Windows Authenticode Portable Executable Signature Format). The first rule that is
-/// broken is told.
-pub fn check_basic<S: Scheme>(
+/// Signed data vouches for the digest of the file that the policy has: the place of its signer's
+/// certificate. The first of these is answered that doesn't hold: its form; a digest is given; it is
+/// that of the content; the signature of its one signer is good by the scheme (`expect_signed`).
+pub(crate) fn expect_basic<'a, S: Scheme>(
     alloc: Global,
-    bytes: &[u8],
-    file_hash: &[u8],
+    elem: Elem<'a>,
+    signed_data: &SignedView<'a>,
+    policy: &Policy,
     scheme: &S,
-) -> Result<Accepted, CheckError>
-    ensures answer { IsBasicAnswer (S.judge scheme.now) bytes.now file_hash.now result }
-    // A refusal of the header, of what the certificate is or of the form comes whatever memory there is.
-    ensures refused { (e : CheckError) → RefusesForm bytes.now e → result ≡ Err e }
-    // No other answer has its cause, want of memory aside.
-    ensures only { (other : Result Accepted CheckError)
-        → IsBasicAnswer (S.judge scheme.now) bytes.now file_hash.now other
-        → IsSameUnlessMemory result other }
+) -> Result<usize, AuthenticodeError>
+    requires is { elem.is.0 ≡ pkcs7_of (signed_data_of (view_elements signed_data.now)) }
+    requires spelled { AreSpelled (view_elements signed_data.now) }
+    ensures answer { MatchResult result
+        (IsVouchedAt (S.judge scheme.now) policy.now.file_hash (view_elements signed_data.now))
+        (RefusesBy (basic_rules (S.judge scheme.now) (view_elements signed_data.now) policy.now.file_hash)) }
+    // A refusal of the form comes whatever memory there is, and that no digest is given, too.
+    ensures shape { (e : AuthenticodeError) → IsFirstBroken (shape_rules (view_elements signed_data.now) policy.now.file_hash) e → result ≡ Err e }
 {
-    one_first_fault();
-    let (elem, signed_data) = signed_data_of(bytes)?;
-    let form = expect_form(elem, &signed_data)?;
-    let place = expect_vouched(alloc, &signed_data, &form, file_hash, scheme)?;
-    Ok(Accepted {
-        signer: Some(place),
-        path: Places::new(alloc),
-        excuse: Excuse::None,
-    })
+    let form = expect_form(elem, signed_data)?;
+    let Some(file_hash) = &policy.file_hash else {
+        return Err(AuthenticodeError::MissingExpectedFileHash);
+    };
+    expect_vouched(alloc, signed_data, &form, file_hash.as_slice(), scheme)
 }
 
 /// Signed data of the form vouches for the digest of the file: the place of its signer's certificate.

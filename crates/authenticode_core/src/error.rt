@@ -4,13 +4,14 @@ ghost use Rattle.std.specs.Prelude.{◌≡◌, IfOk, string_bytes};
 ghost use Rattle.std.specs.Fmt.{WritesOnOk};
 ghost use Rattle.hex.specs.Hex.{encode_lower};
 ghost use Rattle.authenticode_core.specs.ErrorText.{check_error_text, content_error_text, file_mismatch_text, mismatch_text, unnamed_text};
-ghost use Rattle.authenticode_core.specs.ContentRefusal.{told_of_content};
+ghost use Rattle.authenticode_core.specs.ContentRefusal.{of_certificates, of_char_set, of_der, of_signatures, told_of_content};
 ghost use Rattle.authenticode_core.specs.RefusalName.{content_refusal_name, header_refusal_name, refusal_name, variant_name};
 ghost use Rattle.authenticode_core.specs.declared.error.CheckError.TheVariants.{Memory, Win};
 ghost use Rattle.authenticode_core.specs.declared.error.AuthenticodeError.TheVariants as contents;
 
-use asn1_types::IntegerAsn1;
-use der_core::Octets;
+use crate::timestamp_error::TimestampError;
+use asn1_types::{CharSetError, IntegerAsn1};
+use der_core::{DerError, Octets};
 use key_core::SignatureError;
 use names_core::DirectoryName;
 use sig_core::{UnsupportedAlgorithmError, UnsupportedHashAlgorithmError};
@@ -24,7 +25,8 @@ use x509_core::CertError;
 /// Executable Signature Format).
 #[derive(Debug, Drop, Error)]
 pub enum AuthenticodeError {
-    /// The octets are no element, or no signed data. Never with want of memory.
+    /// The octets are no element, or no signed data; or the certificate of the signer isn't valid or
+    /// not vouched for. Never with want of memory.
     CertError(CertError),
     /// The version of the signed data is another one.
     IncorrectVersion {
@@ -46,6 +48,8 @@ pub enum AuthenticodeError {
     /// The digest algorithm of the content, or that of the signer, is another one than that of the
     /// signed data.
     DigestAlgorithmMismatch,
+    /// No digest of the file is given.
+    MissingExpectedFileHash,
     /// The digest of the file in the content, `actual`, is another one than is asked for.
     FileHashMismatch {
         actual: Octets,
@@ -73,6 +77,17 @@ pub enum AuthenticodeError {
     },
     /// The certificate of the signer isn't one for code signing.
     NoEKUCodeSigning,
+    /// The certificate of the signer has expired, and that of a time stamp, which would excuse it,
+    /// isn't vouched for. Never with want of memory.
+    InvalidTimestampCert(CertError),
+    /// The name of a program has a character past U+FFFF.
+    ProgramNameCharSet,
+    /// No certificate is there that could be the signer's.
+    NoCertificates,
+    /// What is to be signed, or the signed data, has no encoding. Never with want of memory.
+    Asn1DerError(DerError),
+    /// No time stamp was given or put in. Never with want of memory.
+    TimestampError(TimestampError),
     /// No memory was left.
     Memory,
 }
@@ -113,6 +128,12 @@ impl AuthenticodeError {
             AuthenticodeError::UnsupportedHashAlgorithmError(_) => "UnsupportedHashAlgorithmError",
             AuthenticodeError::HashMismatch { .. } => "HashMismatch",
             AuthenticodeError::NoEKUCodeSigning => "NoEKUCodeSigning",
+            AuthenticodeError::MissingExpectedFileHash => "MissingExpectedFileHash",
+            AuthenticodeError::InvalidTimestampCert(_) => "InvalidTimestampCert",
+            AuthenticodeError::ProgramNameCharSet => "ProgramNameCharSet",
+            AuthenticodeError::NoCertificates => "NoCertificates",
+            AuthenticodeError::Asn1DerError(_) => "Asn1DerError",
+            AuthenticodeError::TimestampError(_) => "TimestampError",
             AuthenticodeError::Memory => "Memory",
         }
     }
@@ -170,6 +191,20 @@ impl fmt::Display for AuthenticodeError {
                     "the certificate of the signer is not one for code signing"
                 )
             }
+            AuthenticodeError::MissingExpectedFileHash => {
+                write!(f, "no digest of the file is given")
+            }
+            AuthenticodeError::InvalidTimestampCert(error) => {
+                write!(f, "certificate of the time stamp: {error}")
+            }
+            AuthenticodeError::ProgramNameCharSet => {
+                write!(f, "the name of the program has a character past U+FFFF")
+            }
+            AuthenticodeError::NoCertificates => {
+                write!(f, "the signed data has no certificates")
+            }
+            AuthenticodeError::Asn1DerError(error) => error.fmt(f),
+            AuthenticodeError::TimestampError(error) => error.fmt(f),
             AuthenticodeError::Memory => write!(f, "out of memory"),
         }
     }
@@ -307,6 +342,54 @@ impl From<AllocError> for CheckError {
 
     fn from(_error: AllocError) -> CheckError {
         CheckError::Memory
+    }
+}
+
+/// Want of memory is told as such.
+impl From<CertError> for AuthenticodeError {
+    ghost from_gives = { λ error e. e ≡ of_certificates error };
+
+    fn from(error: CertError) -> AuthenticodeError {
+        match error {
+            CertError::Memory => AuthenticodeError::Memory,
+            error => AuthenticodeError::CertError(error),
+        }
+    }
+}
+
+/// Want of memory is told as such.
+impl From<SignatureError> for AuthenticodeError {
+    ghost from_gives = { λ error e. e ≡ of_signatures error };
+
+    fn from(error: SignatureError) -> AuthenticodeError {
+        match error {
+            SignatureError::Memory => AuthenticodeError::Memory,
+            error => AuthenticodeError::SignatureError(error),
+        }
+    }
+}
+
+/// Want of memory is told as such.
+impl From<DerError> for AuthenticodeError {
+    ghost from_gives = { λ error e. e ≡ of_der error };
+
+    fn from(error: DerError) -> AuthenticodeError {
+        match error {
+            DerError::Memory => AuthenticodeError::Memory,
+            error => AuthenticodeError::Asn1DerError(error),
+        }
+    }
+}
+
+/// Want of memory is told as such.
+impl From<CharSetError> for AuthenticodeError {
+    ghost from_gives = { λ error e. e ≡ of_char_set error };
+
+    fn from(error: CharSetError) -> AuthenticodeError {
+        match error {
+            CharSetError::Memory => AuthenticodeError::Memory,
+            CharSetError::CharSet => AuthenticodeError::ProgramNameCharSet,
+        }
     }
 }
 

@@ -180,7 +180,7 @@ fn only_within<'a>(elem: Elem<'a>) -> Result<Elem<'a>, usize>
 }
 
 /// The first element in an element.
-fn first_within<'a>(elem: Elem<'a>) -> Option<Elem<'a>>
+pub(crate) fn first_within<'a>(elem: Elem<'a>) -> Option<Elem<'a>>
     ensures { MatchOption result
         (members_of (Some elem.entry.is.0) ≡ [])
         (λ first. (others : List DerElement) × (members_of (Some elem.entry.is.0) ≡ first.is.0 ∷ others)) }

@@ -55,7 +55,7 @@ pub(crate) fn expect_signed<'a, S: Scheme>(
 }
 
 /// The certificate that the first signer names by its issuer and its serial number.
-fn expect_certificate<'a>(
+pub(crate) fn expect_certificate<'a>(
     alloc: Global,
     signed_data: &SignedView<'a>,
     signer: &SignerView<'a>,

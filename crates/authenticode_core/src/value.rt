@@ -2,7 +2,7 @@
 
 ghost use Rattle.std.specs.Prelude.{◌≡◌, ◌↔◌, IsTrue, MatchResult};
 ghost use Rattle.der_core.specs.Encoding.{IsPaddedEncoding};
-ghost use Rattle.authenticode_core.specs.Basic.{IsPadding, IsUnread, RefusesForm};
+ghost use Rattle.authenticode_core.specs.Basic.{IsPadding, IsUnread, RefusesValue};
 ghost use Rattle.authenticode_core.specs.Form.{LiesIn};
 ghost use Rattle.x509_core.specs.declared.error.CertError.{CertError};
 ghost use Rattle.key_core.specs.declared.element.Element.{Element};
@@ -21,7 +21,7 @@ const MOST_PADDING: usize = 7;
 pub(crate) fn signed_data_of<'a>(bytes: &'a [u8]) -> Result<(Elem<'a>, SignedView<'a>), CheckError>
     ensures { MatchResult result
         (λ found. LiesIn bytes.now found.0.is.0 found.1)
-        (RefusesForm bytes.now) }
+        (RefusesValue bytes.now) }
 {
     let certificate = certificate_of(bytes)?;
     let elem = match padded_element(certificate) {

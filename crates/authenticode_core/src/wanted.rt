@@ -7,12 +7,13 @@ ghost use Rattle.authenticode_core.specs.Wanted.{IsWanted};
 use der_core::is_same;
 use x509_types::CertView;
 
-/// A certificate by the octets of its subject, or by the octets of its issuer and the contents
-/// octets of its serial number.
+/// A certificate by the octets of its subject, by the octets of its issuer and the contents octets of
+/// its serial number, or by a purpose that it names, by the contents octets of this.
 #[derive(Clone, Copy)]
 pub(crate) enum Wanted<'a> {
     Subject(&'a [u8]),
     IssuerAndSerial(&'a [u8], &'a [u8]),
+    Purpose(&'a [u8]),
 }
 
 impl<'a> Wanted<'a> {
@@ -26,6 +27,7 @@ impl<'a> Wanted<'a> {
                 is_same(certificate.issuer(), issuer)
                     && is_same(certificate.serial(), serial_number)
             }
+            Wanted::Purpose(oid) => certificate.names(oid),
         }
     }
 }

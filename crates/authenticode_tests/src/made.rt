@@ -1,7 +1,9 @@
-//! The signature file, and tables for it.
+//! The signature file, tables for it, and what is asked of it.
 
+use authenticode_core::Policy;
+use der_core::Octets;
 use sig_core::VerdictTable;
-use std::alloc::Global;
+use std::alloc::{AllocError, Global};
 use std::test::Fail;
 
 /// The file, and what it signs: the digest of `abc`.
@@ -23,4 +25,12 @@ pub(crate) fn table(alloc: Global, names: &[&str]) -> Result<VerdictTable, Fail>
         text.push_str(DIGESTS)?;
     }
     Ok(VerdictTable::parse(alloc, text.as_bytes())?)
+}
+
+/// Basic validation alone, for a file with this digest.
+pub(crate) fn basic_policy(alloc: Global, hash: &[u8]) -> Result<Policy, AllocError> {
+    let mut policy = Policy::new(alloc);
+    policy.file_hash = Some(Octets::from_slice(alloc, hash)?);
+    policy.signing = false;
+    Ok(policy)
 }

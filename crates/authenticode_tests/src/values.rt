@@ -1,7 +1,7 @@
 //! Places, and what is said of a signature that is accepted.
 
-use crate::made::{FILE, FILE_HASH, table};
-use authenticode_core::{Accepted, Excuse, Places, check_basic};
+use crate::made::{FILE, FILE_HASH, basic_policy, table};
+use authenticode_core::{Accepted, Excuse, Places, check_wincert};
 use std::test::Fail;
 
 #[test]
@@ -9,7 +9,8 @@ fn accepted(rt: HostRuntime) -> Result<(), Fail> {
     let file = hex::decode(rt.alloc(), FILE)?;
     let hash = hex::decode(rt.alloc(), FILE_HASH)?;
     let table = table(rt.alloc(), &["rsa-sha256"])?;
-    let accepted = check_basic(rt.alloc(), &file, &hash, &table)?;
+    let policy = basic_policy(rt.alloc(), &hash)?;
+    let accepted = check_wincert(rt.alloc(), &file, &policy, &table)?;
     assert_eq!(rt; accepted.signer, Some(0));
     assert!(rt; accepted.path.as_slice().is_empty());
     assert_eq!(rt; accepted.excuse, Excuse::None);

@@ -2,16 +2,18 @@
 
 use crate::line::{accepted_line, refused_line};
 use anyhow::{Result, bail};
-use authenticode_core::check_basic;
+use authenticode_core::{Accepted, CheckError, Policy, check_wincert};
+use der_core::Octets;
 use row_answers::octets_of;
 use sig_core::VerdictTable;
 use std::alloc::Global;
+use x509_core::DateCheck;
 
-/// A signature file, the digest that is asked for, and a table.
+/// A signature file, what is asked of it, and a table.
 #[derive(Drop)]
 pub struct Case {
     pub file: Vec<u8>,
-    hash: Vec<u8>,
+    policy: Policy,
     table: VerdictTable,
 }
 
@@ -19,8 +21,22 @@ pub struct Case {
 pub fn case_of(alloc: Global, file: &str, hash: &str, table: &str) -> Result<Case> {
     Ok(Case {
         file: octets_of(alloc, file)?,
-        hash: octets_of(alloc, hash)?,
+        policy: policy_of(alloc, hash)?,
         table: table_of(alloc, table)?,
+    })
+}
+
+/// Basic validation alone, for a digest.
+fn policy_of(alloc: Global, word: &str) -> Result<Policy> {
+    let hash = octets_of(alloc, word)?;
+    Ok(Policy {
+        basic: true,
+        file_hash: Some(Octets::from_slice(alloc, &hash)?),
+        signing: false,
+        not_before: false,
+        not_after: false,
+        chain: false,
+        date: DateCheck::Absent,
     })
 }
 
@@ -31,11 +47,22 @@ fn table_of(alloc: Global, word: &str) -> Result<VerdictTable> {
 
 /// The line for what a file is answered in a case.
 pub fn answer(alloc: Global, case: &Case, file: &[u8]) -> Result<String> {
-    match check_basic(alloc, file, &case.hash, &case.table) {
-        Ok(accepted) => accepted_line(alloc, &accepted),
-        Err(error) => refused_line(alloc, &error),
+    let answer = check_wincert(alloc, file, &case.policy, &case.table);
+    let line = told(alloc, &answer);
+    let_go(answer);
+    line
+}
+
+/// The line for an answer.
+fn told(alloc: Global, answer: &Result<Accepted, CheckError>) -> Result<String> {
+    match answer {
+        Ok(accepted) => accepted_line(alloc, accepted),
+        Err(error) => refused_line(alloc, error),
     }
 }
+
+/// Lets a value go. What that takes is proved once for any type, and not for each error in an answer.
+fn let_go<T: Drop>(_value: T) {}
 
 /// The line for what the file is answered with a change.
 pub fn answer_to_change(alloc: Global, case: &Case, change: &str) -> Result<String> {

@@ -1,4 +1,4 @@
-//! What `check_basic` answers to many signature files.
+//! What `check_wincert` answers to many signature files under a policy of basic validation alone.
 //!
 //! ```text
 //! basic_answers FILE

@@ -3,7 +3,7 @@
 ghost use Rattle.std.specs.Prelude.{bytes_eq, if◌then◌else◌};
 ghost use Rattle.sig_core.specs.declared.scheme.Verdict.TheVariants.{Accept, Reject};
 
-use authenticode_core::{CheckError, check_basic};
+use authenticode_core::{CheckError, Policy, check_wincert};
 use der_core::Octets;
 use sig_core::{Scheme, SchemeError, SchemeKind, SigAlg, Verdict};
 use std::alloc::{AllocError, Global};
@@ -74,7 +74,10 @@ fn is_signed_under(
     let scheme = OneKey {
         key: Octets::from_slice(alloc, key)?,
     };
-    match check_basic(alloc, file, hash, &scheme) {
+    let mut policy = Policy::new(alloc);
+    policy.file_hash = Some(Octets::from_slice(alloc, hash)?);
+    policy.signing = false;
+    match check_wincert(alloc, file, &policy, &scheme) {
         Ok(_) => Ok(true),
         Err(CheckError::Memory) => Err(CheckError::Memory),
         Err(_) => Ok(false),

@@ -1,6 +1,6 @@
 use Rattle.std.proofs.Common.{refl}
 use Rattle.cms_types.specs.SignedView.{view_elements}
-use Rattle.authenticode_core.proofs.BasicSteps.{vouched_or_not}
+use Rattle.authenticode_core.proofs.BasicOrder.{vouched_or_not}
 use Rattle.authenticode_core.proofs.basic.expect_vouched.Goals as goal
 
 pub returns : goal.returns

@@ -1,0 +1,165 @@
+-- The rules of a policy: what meets them, that each is told once, and which is broken first.
+use Rattle.std.proofs.Common.{◌≡◌, ℕ, List, [], ◌++◌, Bool, Option, Some, None, Result, Ok, Err, MatchResult, true, false, IsTrue, inl, inr, refl, sym, ap, ◌∙◌}
+use Rattle.cms_types.specs.SignedDataElements.{SignedDataElements}
+use Rattle.key_core.specs.Verifying.{Judge}
+use Rattle.x509_core.specs.Rules.{Rule, IsFirstBroken}
+use Rattle.authenticode_core.specs.PolicySteps.{IsPlaceAsked, IsVouchedAt}
+use Rattle.authenticode_core.specs.SignerRules.{IsSignerVouched, signer_rules}
+use Rattle.authenticode_core.specs.SigningRules.{RefusesBy}
+use Rattle.authenticode_core.specs.Trusted.{IsBasicallyVouched, IsTrusted, asked, basic_rules, policy_rules, shape_rules}
+use Rattle.authenticode_core.specs.declared.accepted.Accepted.{Accepted}
+use Rattle.authenticode_core.specs.declared.accepted.Excuse.TheVariants as excuses
+use Rattle.authenticode_core.specs.declared.error.AuthenticodeError.{AuthenticodeError}
+use Rattle.authenticode_core.specs.declared.policy.Policy.{Policy}
+use Rattle.authenticode_core.proofs.BasicOrder.{basic_met, basic_told, one_vouched_place, shape_in_basic}
+use Rattle.authenticode_core.proofs.OneSignerRule.{same_accepted, signer_met, signer_told, vouched_once}
+use Rattle.authenticode_core.proofs.OneSigning.{signer_once}
+use Rattle.authenticode_core.proofs.RuleLists.{AreMet, AreToldOnce, broken_before, broken_behind, met_together, none_broken, told_together}
+
+-- ---- rules that are asked for
+
+on_or_off : (b : Bool) → b ≡ true → b ≡ false → ⊥
+on_or_off b on off = absurd (cc (on, off))
+
+asked_met : (b : Bool) (rules : List (Rule AuthenticodeError)) → (IsTrue b → AreMet rules) → AreMet (asked b rules)
+asked_met true rules met = met refl
+asked_met false rules met = tt
+
+pub asked_told : (b : Bool) (rules : List (Rule AuthenticodeError)) → AreToldOnce rules → AreToldOnce (asked b rules)
+asked_told true rules told = told
+asked_told false rules told = tt
+
+behind_asked : (b : Bool) (rules others : List (Rule AuthenticodeError)) (e : AuthenticodeError) → b ≡ true → AreMet rules → IsFirstBroken others e → IsFirstBroken (rules ++ asked b others) e
+behind_asked true rules others e on met broken = broken_behind rules others e met broken
+behind_asked false rules others e on met broken = absurd (cc on)
+
+module _ (judge : Judge) (policy : Policy) (f : SignedDataElements) where
+  abbrev given : Option (List ℕ)
+  given = policy.file_hash
+
+  abbrev first_rules : List (Rule AuthenticodeError)
+  first_rules = asked policy.basic (basic_rules judge f policy.file_hash)
+
+  abbrev last_rules : List (Rule AuthenticodeError)
+  last_rules = asked policy.signing (signer_rules judge policy f)
+
+  -- ---- each is told once
+
+  pub policy_told : AreToldOnce (policy_rules judge policy f)
+  policy_told = told_together first_rules last_rules (asked_told policy.basic (basic_rules judge f given) (basic_told f given judge)) (asked_told policy.signing (signer_rules judge policy f) (signer_told judge policy f))
+
+  -- ---- what is trusted breaks none
+
+  trusted_met : (a : Accepted) → IsTrusted judge policy f a → AreMet (policy_rules judge policy f)
+  trusted_met a t =
+      met_together first_rules last_rules (asked_met policy.basic (basic_rules judge f given) (λ on. let v = t.basic on in basic_met f given judge v.place (v.hash, v.given, v.vouches)))
+      (asked_met policy.signing (signer_rules judge policy f) (λ on. signer_met judge policy f a (t.signing on)))
+
+  pub trusted_unbroken : (a : Accepted) (e : AuthenticodeError) → IsTrusted judge policy f a → IsFirstBroken (policy_rules judge policy f) e → ⊥
+  trusted_unbroken a e t broken = none_broken (policy_rules judge policy f) (trusted_met a t) e broken
+
+  -- ---- and is told once
+
+  module _ (a b : Accepted) (t : IsTrusted judge policy f a) (u : IsTrusted judge policy f b) where
+    same_places : IsBasicallyVouched judge given f a → IsBasicallyVouched judge given f b → a.signer ≡ b.signer
+    same_places v w = v.told ∙ ap Some (one_vouched_place f given judge v.place w.place (v.hash, v.given, v.vouches) (w.hash, w.given, w.vouches)) ∙ sym w.told
+
+    unasked : policy.signing ≡ false → a.signer ≡ b.signer → a ≡ b
+    unasked off signer = same_accepted judge policy f a b signer ((t.pathless off).0 ∙ sym (u.pathless off).0) ((t.pathless off).1 ∙ sym (u.pathless off).1)
+
+    one_by : (basic signing : Bool) → policy.basic ≡ basic → policy.signing ≡ signing → a ≡ b
+    one_by true true basic on = vouched_once judge policy f a b (t.signing on) (u.signing on)
+    one_by false true basic on = vouched_once judge policy f a b (t.signing on) (u.signing on)
+    one_by true false basic off = unasked off (same_places (t.basic basic) (u.basic basic))
+    one_by false false basic off = unasked off (t.placeless basic off ∙ sym (u.placeless basic off))
+
+    pub one_trusted : a ≡ b
+    one_trusted = one_by policy.basic policy.signing refl refl
+
+  -- ---- refusals
+
+  shape_asked : (b : Bool) (e : AuthenticodeError) → IsFirstBroken (asked b (shape_rules f given)) e → IsFirstBroken (asked b (basic_rules judge f given)) e
+  shape_asked true e broken = shape_in_basic f given judge e broken
+  shape_asked false e broken = absurd broken
+
+  pub shape_in_policy : (e : AuthenticodeError) → IsFirstBroken (asked policy.basic (shape_rules f given)) e → IsFirstBroken (policy_rules judge policy f) e
+  shape_in_policy e broken = broken_before first_rules last_rules e (shape_asked policy.basic e broken)
+
+  pub basic_refuses : (e : AuthenticodeError) → RefusesBy first_rules e → RefusesBy (policy_rules judge policy f) e
+  basic_refuses e (inl broken) = inl (broken_before first_rules last_rules e broken)
+  basic_refuses e (inr memory) = inr memory
+
+  place_met : (b : Bool) (told : Option ℕ) → IsPlaceAsked b judge given f told → AreMet (asked b (basic_rules judge f given))
+  place_met true told at = basic_met f given judge at.0 at.1
+  place_met false told none = tt
+
+  -- ---- acceptance
+
+  placed : (b : Bool) (told : Option ℕ) (a : Accepted) → IsPlaceAsked b judge given f told → b ≡ true → ((place : ℕ) → IsVouchedAt judge given f place → told ≡ Some place → a.signer ≡ Some place) → IsBasicallyVouched judge given f a
+  placed true told a at on signer = record { hash = at.1.0; given = at.1.1; place = at.0; vouches = at.1.2; told = signer at.0 at.1 at.2 }
+  placed false told a at on signer = absurd (cc on)
+
+  same_signer : (a : Accepted) → (v : IsSignerVouched judge policy f a) → (place : ℕ) → IsVouchedAt judge given f place → a.signer ≡ Some place
+  same_signer a v place at =
+      let s = at.2.signed in
+      v.told ∙ ap Some (signer_once f v.bag s.bag v.place place v.signer.elements s.certificate v.is.is_bag s.is_bag v.is.is_signer s.is_signer).0
+
+  with_signer : (told : Option ℕ) (a : Accepted) → IsPlaceAsked policy.basic judge given f told → policy.signing ≡ true → IsSignerVouched judge policy f a → IsTrusted judge policy f a
+  with_signer told a at signing v = record {
+    basic = λ on. placed policy.basic told a at on (λ place vouched is. same_signer a v place vouched);
+    signing = λ on. v;
+    pathless = λ off. absurd (on_or_off policy.signing signing off);
+    placeless = λ none off. absurd (on_or_off policy.signing signing off);
+  }
+
+  pub signer_or_not : (told : Option ℕ) → IsPlaceAsked policy.basic judge given f told → policy.signing ≡ true → (r : Result Accepted AuthenticodeError) → MatchResult r (IsSignerVouched judge policy f) (RefusesBy (signer_rules judge policy f))
+      → MatchResult r (IsTrusted judge policy f) (RefusesBy (policy_rules judge policy f))
+  signer_or_not told at signing (Ok a) v = with_signer told a at signing v
+  signer_or_not told at signing (Err e) (inl broken) = inl (behind_asked policy.signing first_rules (signer_rules judge policy f) e signing (place_met policy.basic told at) broken)
+  signer_or_not told at signing (Err e) (inr memory) = inr memory
+
+  abbrev accepted_with : Option ℕ → List ℕ → Accepted
+  accepted_with told path = record { signer = told; path = path; excuse = excuses.None }
+
+  unplaced : (b : Bool) (told : Option ℕ) → IsPlaceAsked b judge given f told → b ≡ false → told ≡ None
+  unplaced true told at off = absurd (cc off)
+  unplaced false told none off = none
+
+  pub without_signer : (told : Option ℕ) (path : List ℕ) → IsPlaceAsked policy.basic judge given f told → policy.signing ≡ false → path ≡ [] → IsTrusted judge policy f (accepted_with told path)
+  without_signer told path at off empty = record {
+    basic = λ on. placed policy.basic told (accepted_with told path) at on (λ place vouched is. is);
+    signing = λ on. absurd (on_or_off policy.signing on off);
+    pathless = λ none. (empty, refl);
+    placeless = λ none none'. unplaced policy.basic told at none;
+  }
+
+  -- ---- where basic validation is asked for, and where it isn't
+
+  pub unasked_place : (b : Bool) → b ≡ false → IsPlaceAsked b judge given f None
+  unasked_place true off = absurd cc
+  unasked_place false off = refl
+
+  pub unasked_shape : (b : Bool) (e : AuthenticodeError) → b ≡ false → IsFirstBroken (asked b (shape_rules f given)) e → ⊥
+  unasked_shape true e off broken = absurd cc
+  unasked_shape false e off broken = broken
+
+  pub asked_place : (b : Bool) (place : ℕ) → b ≡ true → IsVouchedAt judge given f place → IsPlaceAsked b judge given f (Some place)
+  asked_place true place on at = (place, at, refl)
+  asked_place false place on at = absurd cc
+
+  pub asked_refusal : (b : Bool) (e : AuthenticodeError) → b ≡ true → RefusesBy (basic_rules judge f given) e → RefusesBy (asked b (basic_rules judge f given)) e
+  asked_refusal true e on refuses = refuses
+  asked_refusal false e on refuses = absurd cc
+
+  pub asked_shape : (b : Bool) (e : AuthenticodeError) → b ≡ true → IsFirstBroken (asked b (shape_rules f given)) e → IsFirstBroken (shape_rules f given) e
+  asked_shape true e on broken = broken
+  asked_shape false e on broken = absurd broken
+
+-- what is answered is no refusal, and refusals are the same by what they tell
+pub answered : {A E : Type 0} (x : A) (e : E) → Ok x ≡ Err e → ⊥
+answered x e same = absurd cc
+
+pub told_same : {A : Type 0} (r : Result A AuthenticodeError) (d e : AuthenticodeError) → r ≡ Err d → r ≡ Err e → d ≡ e
+told_same r d e p q =
+    let same = sym p ∙ q in
+    cc

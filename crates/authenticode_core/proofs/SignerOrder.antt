@@ -1,0 +1,335 @@
+-- The rules of the certificate of the signer: what meets them, and which is broken first.
+use Rattle.std.proofs.Common.{◌≡◌, ◌⊎◌, ◌↔◌, ℕ, List, [], ◌∷◌, Bool, Option, Some, None, Result, Ok, Err, MatchResult, MatchOption, IsTrue, true, false, inl, inr, refl, sym, ap, subst, ◌∙◌}
+use Rattle.cms_types.specs.SignedDataElements.{SignedDataElements}
+use Rattle.cms_types.specs.SignerElements.{SignerElements}
+use Rattle.cms_types.specs.SignerInfo.{signer_elements}
+use Rattle.der_core.specs.DerElement.{DerElement}
+use Rattle.key_core.specs.Verifying.{Judge}
+use Rattle.names_core.specs.declared.name.DirectoryName.{DirectoryName}
+use Rattle.x509_core.proofs.OneLink.{window_once}
+use Rattle.x509_core.proofs.Validity.{expired_is_told, told_is_expired, valid_is_met}
+use Rattle.x509_core.specs.Chain.{IsDated, LacksDate}
+use Rattle.x509_core.specs.Facts.Certs.{same_kept}
+use Rattle.x509_core.specs.KeptCertificate.{KeptCertificate}
+use Rattle.x509_core.specs.Link.{IsOutside}
+use Rattle.x509_core.specs.Rules.{Breaks, Rule, IsFirstBroken, IsMet}
+use Rattle.x509_core.specs.Window.{IsExpired, IsWithinWindow, window_rules}
+use Rattle.x509_core.specs.declared.error.CertCause.{CertCause}
+use Rattle.x509_core.specs.declared.error.CertCause.TheVariants as causes
+use Rattle.x509_core.specs.declared.error.CertError.{CertError}
+use Rattle.x509_core.specs.declared.error.CertError.TheVariants as cert_errors
+use Rattle.x509_core.specs.declared.window.Window.{Window}
+use Rattle.x509_types.specs.CertificateElements.{CertificateElements}
+use Rattle.authenticode_core.specs.ContentRefusal.{of_certificates}
+use Rattle.authenticode_core.specs.Form.{AreSpelled}
+use Rattle.authenticode_core.specs.Excuses.{HasBadStamp, HasNoExcuse, IsExcused}
+use Rattle.authenticode_core.specs.IssuerWalk.{IsIssuerPath}
+use Rattle.authenticode_core.specs.LinkedPath.{IsUnlinkedAt}
+use Rattle.authenticode_core.specs.Policy.{checks_of, window_of}
+use Rattle.authenticode_core.specs.PolicySteps.{IsExpiry, IsUnlinkedPath, TellsExpiry, standing_rules}
+use Rattle.authenticode_core.specs.SignedFields.{IsFirstSigner, signers_of}
+use Rattle.authenticode_core.specs.SignerRules.{HasKeyName, HasUnknownName, IsBadlyStamped, IsKeptSigner, IsPathAsked, IsSignerVouched, IsStanding, IsVouchedPath, IsUnbegun, IsUndated, IsUnexcused, IsUnvouched, LacksSigner, signer_rules}
+use Rattle.authenticode_core.specs.SigningRules.{HasNoCertificate, IsBagOf, IsNamedByKey, IsSignerOf, RefusesBy}
+use Rattle.authenticode_core.specs.SigningSteps.{HasSigner}
+use Rattle.authenticode_core.specs.declared.accepted.Accepted.{Accepted}
+use Rattle.authenticode_core.specs.declared.accepted.Excuse.{Excuse}
+use Rattle.authenticode_core.specs.declared.accepted.Excuse.TheVariants as excuses
+use Rattle.authenticode_core.specs.declared.error.AuthenticodeError.{AuthenticodeError}
+use Rattle.authenticode_core.specs.declared.error.AuthenticodeError.TheVariants as errors
+use Rattle.authenticode_core.specs.declared.policy.Policy.{Policy}
+use Rattle.authenticode_core.proofs.FormFields.{signer_is_spelled, signer_once as first_once}
+use Rattle.authenticode_core.proofs.OneExcuse.{bad_stamp_is_told}
+use Rattle.authenticode_core.proofs.OneSigning.{certificate_is_met, named_is_met, same_bag, signer_once}
+use Rattle.authenticode_core.proofs.RuleLists.{AreMet, broken_behind}
+
+-- ---- the certificate of the signer is one
+
+-- what is said of a bag and a certificate in it that is the signer's is said of each such pair
+pub moved : (Says : List CertificateElements → KeptCertificate → Type 0) (f : SignedDataElements) (a b : List CertificateElements) (p q : ℕ) (s t : KeptCertificate) → IsKeptSigner f a p s → IsKeptSigner f b q t → Says a s → Says b t
+moved Says f a b p q s t here there said =
+    let same = signer_once f a b p q s.elements t.elements here.is_bag there.is_bag here.is_signer there.is_signer in
+    subst (λ (signer : KeptCertificate). Says b signer) (same_kept s t (sym same.1)) (subst (λ (bag : List CertificateElements). Says bag s) (same_bag f a b here.is_bag there.is_bag) said)
+
+-- ---- who it is
+
+some_signers : (signers others : List DerElement) (first : DerElement) → signers ≡ first ∷ others → signers ≡ [] → ⊥
+some_signers signers others first is none =
+    let same : first ∷ others ≡ [] = sym is ∙ none in
+    absurd cc
+
+pub first_met : (f : SignedDataElements) (g : SignerElements) → IsFirstSigner f g → IsMet (LacksSigner f)
+first_met f g first = λ e broken. some_signers (signers_of f) first.others _ first.first broken.0
+
+key_name_met : (f : SignedDataElements) (g : SignerElements) → IsFirstSigner f g → IsMet (IsNamedByKey g) → IsMet (HasKeyName f)
+key_name_met f g first met = λ e broken. met e (subst (λ (x : SignerElements). IsNamedByKey x e) (first_once f broken.0 g broken.1 first) broken.2)
+
+abbrev pub named_rules : SignedDataElements → List (Rule AuthenticodeError)
+named_rules f = LacksSigner f ∷ HasKeyName f ∷ HasUnknownName f ∷ []
+
+pub named_met : (f : SignedDataElements) (bag : List CertificateElements) (place : ℕ) (c : CertificateElements) → IsBagOf f bag → IsSignerOf f bag place c → AreMet (named_rules f)
+named_met f bag place c is_bag is_signer = (
+  λ e broken. some_signers (signers_of f) is_signer.fits.others _ is_signer.fits.first broken.0,
+  (λ e broken. named_is_met f broken.0 bag place c broken.1 is_signer e broken.2, (λ e broken. certificate_is_met f broken.0 bag place c is_bag is_signer e broken.2, tt)),
+)
+
+pub dated_met : (policy : Policy) → IsDated (checks_of policy) → IsMet (IsUndated policy)
+dated_met policy dated = λ e broken. dated broken.1.0 broken.1.1
+
+-- there is no signer
+no_signer_in : (f : SignedDataElements) (signers : List DerElement) → AreSpelled f → signers_of f ≡ signers → ((g : SignerElements) → IsFirstSigner f g → ⊥) → LacksSigner f (errors.MultipleSignerInfo 0)
+no_signer_in f [] spelled are none = (are, refl)
+no_signer_in f (first ∷ others) spelled are none =
+    let v = signer_is_spelled f first others spelled are in
+    absurd (none (signer_elements v.0) (record { value = v.0; others = others; is = refl; first = are ∙ ap (λ (x : DerElement). x ∷ others) v.1 }))
+
+pub lacks_signer : (f : SignedDataElements) → AreSpelled f → ((g : SignerElements) → IsFirstSigner f g → ⊥) → LacksSigner f (errors.MultipleSignerInfo 0)
+lacks_signer f spelled none = no_signer_in f (signers_of f) spelled refl none
+
+-- ---- what is told of certificates
+
+pub told_of_certificates : (e : CertError) → (of_certificates e ≡ errors.CertError e) ⊎ (e ≡ cert_errors.Memory)
+told_of_certificates (cert_errors.CertGeneration source) = inl refl
+told_of_certificates (cert_errors.InvalidCertificate id source) = inl refl
+told_of_certificates (cert_errors.Asn1Serialization element source) = inl refl
+told_of_certificates (cert_errors.Asn1Deserialization element source) = inl refl
+told_of_certificates (cert_errors.Signature source) = inl refl
+told_of_certificates (cert_errors.KeyIdGen source) = inl refl
+told_of_certificates (cert_errors.InvalidChain source) = inl refl
+told_of_certificates (cert_errors.InvalidCsr source) = inl refl
+told_of_certificates (cert_errors.ExtensionNotFound name) = inl refl
+told_of_certificates (cert_errors.MissingBuilderArgument arg) = inl refl
+told_of_certificates (cert_errors.CertificateNotYetValid not_before now) = inl refl
+told_of_certificates (cert_errors.CertificateExpired not_after now) = inl refl
+told_of_certificates (cert_errors.PrivateKeyToPublicKey source) = inl refl
+told_of_certificates cert_errors.Memory = inr refl
+
+undated_told : (policy : Policy) (cause : CertError) → LacksDate (checks_of policy) cause → of_certificates cause ≡ errors.CertError cause
+undated_told policy cause lacks = ap of_certificates lacks.2 ∙ sym (ap errors.CertError lacks.2)
+
+outside_told : (w : Window) (signer : KeptCertificate) (cause : CertError) → IsOutside w signer cause → of_certificates cause ≡ errors.CertError cause
+outside_told w signer cause outside = ap of_certificates outside.told ∙ sym (ap errors.CertError outside.told)
+
+-- ---- what has expired, and what is told of it
+
+pub valid_or_expired : (w : Window) (c : CertificateElements) → IsWithinWindow w c → IsExpired w c → ⊥
+valid_or_expired w c valid expired = valid.lasts expired.1.2.asked expired.1.0 expired.1.1 expired.1.2.ends expired.1.2.first expired.1.2.passed
+
+same_cause : (a b : DirectoryName) (x y : CertCause) → cert_errors.InvalidCertificate a x ≡ cert_errors.InvalidCertificate b y → x ≡ y
+same_cause a b x y e = cc
+
+pub expired_if_told : (w : Window) (signer : KeptCertificate) (cause : CertError) → IsOutside w signer cause → TellsExpiry cause → IsExpired w signer.elements
+expired_if_told w signer cause outside tells =
+    let same : outside.cause ≡ causes.CertificateExpired tells.2.0 tells.2.1 = same_cause outside.id tells.0 outside.cause tells.1 (sym outside.told ∙ tells.3) ∙ tells.2.2 in
+    told_is_expired w signer.elements (tells.2.0, tells.2.1, subst (λ (x : CertCause). IsFirstBroken (window_rules w signer.elements) x) same outside.broken)
+
+unexpired_if_untold : (w : Window) (signer : KeptCertificate) (cause : CertError) → IsOutside w signer cause → (TellsExpiry cause → ⊥) → IsExpired w signer.elements → ⊥
+unexpired_if_untold w signer cause outside untold expired =
+    let told = expired_is_told w signer.elements expired in
+    let same : outside.cause ≡ causes.CertificateExpired told.0 told.1 = window_once w signer.elements outside.cause (causes.CertificateExpired told.0 told.1) outside.broken told.2 in
+    untold (outside.id, outside.cause, (told.0, told.1, same), outside.told)
+
+-- what an option holds, or that it holds nothing
+pub given : {X : Type 0} (o : Option X) (x : X) (N : Type 0) (P : X → Type 0) → o ≡ Some x → MatchOption o N P → P x
+given None x N P e m = absurd (cc e)
+given (Some y) x N P e m =
+    let same : y ≡ x = cc e in
+    subst P same m
+
+pub none_given : {X : Type 0} (o : Option X) (N : Type 0) (P : X → Type 0) → o ≡ None → MatchOption o N P → N
+none_given None N P e m = m
+none_given (Some y) N P e m = absurd (cc e)
+
+-- ---- refusals before the certificate is looked at
+
+module _ (judge : Judge) (policy : Policy) (f : SignedDataElements) where
+  pub no_signer : (e : AuthenticodeError) → LacksSigner f e → RefusesBy (signer_rules judge policy f) e
+  no_signer e broken = inl (inl broken)
+
+  pub unnamed : (g : SignerElements) (e : AuthenticodeError) → IsFirstSigner f g → RefusesBy (IsNamedByKey g ∷ HasNoCertificate f g ∷ []) e → RefusesBy (signer_rules judge policy f) e
+  unnamed g e first (inl (inl broken)) = inl (inr (first_met f g first, inl (g, first, broken)))
+  unnamed g e first (inl (inr (met, inl broken))) = inl (inr (first_met f g first, inr (key_name_met f g first met, inl (g, first, broken))))
+  unnamed g e first (inl (inr (met, inr none))) = absurd none.1
+  unnamed g e first (inr memory) = inr memory
+
+  pub undated : (place : ℕ) (c : CertificateElements) (cause : CertError) → HasSigner f place c → LacksDate (checks_of policy) cause → RefusesBy (signer_rules judge policy f) (of_certificates cause)
+  undated place c cause s lacks =
+      inl (broken_behind (named_rules f) (IsUndated policy ∷ standing_rules judge policy f) (of_certificates cause) (named_met f s.0 place c s.1 s.2) (inl (cause, lacks, undated_told policy cause lacks)))
+
+  pub not_standing : (place : ℕ) (c : CertificateElements) (e : AuthenticodeError) → HasSigner f place c → IsDated (checks_of policy) → RefusesBy (standing_rules judge policy f) e → RefusesBy (signer_rules judge policy f) e
+  not_standing place c e s dated (inl broken) =
+      inl (broken_behind (named_rules f) (IsUndated policy ∷ standing_rules judge policy f) e (named_met f s.0 place c s.1 s.2) (inr (dated_met policy dated, broken)))
+  not_standing place c e s dated (inr memory) = inr memory
+
+  -- ---- what the rules say of the certificate of the signer
+
+  abbrev pub UnbegunAt : AuthenticodeError → List CertificateElements → KeptCertificate → Type 0
+  UnbegunAt e bag signer = (IsExpired (window_of policy) signer.elements → ⊥) × (cause : CertError) × IsOutside (window_of policy) signer cause × (e ≡ errors.CertError cause)
+
+  abbrev pub UnexcusedAt : AuthenticodeError → List CertificateElements → KeptCertificate → Type 0
+  UnexcusedAt e bag signer =
+      IsExpired (window_of policy) signer.elements × HasNoExcuse f bag signer.elements × (cause : CertError) × IsOutside (window_of policy) signer cause × (e ≡ errors.CertError cause)
+
+  abbrev pub StampedAt : AuthenticodeError → List CertificateElements → KeptCertificate → Type 0
+  StampedAt e bag signer = IsExpired (window_of policy) signer.elements × HasBadStamp judge f bag signer.elements e
+
+  abbrev pub UnvouchedAt : AuthenticodeError → List CertificateElements → KeptCertificate → Type 0
+  UnvouchedAt e bag signer =
+      IsWithinWindow (window_of policy) signer.elements × IsTrue policy.chain × (path : List ℕ) × (cause : CertError) × IsIssuerPath bag signer.elements path × IsUnlinkedAt judge (window_of policy) bag signer path cause
+      × (e ≡ errors.CertError cause)
+
+  module _ (bag : List CertificateElements) (place : ℕ) (signer : KeptCertificate) (is : IsKeptSigner f bag place signer) where
+    pub unbegun_at : (e : AuthenticodeError) → IsUnbegun policy f e → UnbegunAt e bag signer
+    unbegun_at e broken =
+        moved (UnbegunAt e) f broken.bag bag broken.place place broken.signer signer broken.is is (broken.unexpired, broken.cause, broken.outside, broken.told)
+
+    pub unexcused_at : (e : AuthenticodeError) → IsUnexcused policy f e → UnexcusedAt e bag signer
+    unexcused_at e broken =
+        moved (UnexcusedAt e) f broken.bag bag broken.place place broken.signer signer broken.is is (broken.expired, broken.unexcused, broken.cause, broken.outside, broken.told)
+
+    pub stamped_at : (e : AuthenticodeError) → IsBadlyStamped judge policy f e → StampedAt e bag signer
+    stamped_at e broken = moved (StampedAt e) f broken.bag bag broken.place place broken.signer signer broken.is is (broken.expired, broken.stamp)
+
+    pub unvouched_at : (e : AuthenticodeError) → IsUnvouched judge policy f e → UnvouchedAt e bag signer
+    unvouched_at e broken =
+        moved (UnvouchedAt e) f broken.bag bag broken.place place broken.signer signer broken.is is (broken.valid, broken.asked, broken.path, broken.cause, broken.is_path, broken.unlinked, broken.told)
+
+    -- ---- what meets them
+
+    pub begun_met : IsExpired (window_of policy) signer.elements → IsMet (IsUnbegun policy f)
+    begun_met expired = λ e broken. (unbegun_at e broken).0 expired
+
+    pub valid_met : IsWithinWindow (window_of policy) signer.elements → AreMet (IsUnbegun policy f ∷ IsUnexcused policy f ∷ IsBadlyStamped judge policy f ∷ [])
+    valid_met valid = (
+      λ e broken. let there = unbegun_at e broken in valid_is_met (window_of policy) signer.elements there.2.cause valid there.2.broken,
+      (
+        λ e broken. valid_or_expired (window_of policy) signer.elements valid (unexcused_at e broken).0,
+        (λ e broken. valid_or_expired (window_of policy) signer.elements valid (stamped_at e broken).0, tt),
+      ),
+    )
+
+    pub unexcused_met : (e : AuthenticodeError) → HasBadStamp judge f bag signer.elements e → IsMet (IsUnexcused policy f)
+    unexcused_met e stamp = λ x broken. bad_stamp_is_told judge f bag signer.elements e stamp (unexcused_at x broken).1
+
+    -- ---- refusals
+
+    pub unbegun : (cause : CertError) → IsOutside (window_of policy) signer cause → (TellsExpiry cause → ⊥) → RefusesBy (standing_rules judge policy f) (of_certificates cause)
+    unbegun cause outside untold = inl (inl (record {
+      bag = bag;
+      place = place;
+      signer = signer;
+      is = is;
+      unexpired = unexpired_if_untold (window_of policy) signer cause outside untold;
+      cause = cause;
+      outside = outside;
+      told = outside_told (window_of policy) signer cause outside;
+    }))
+
+    pub unexcused : (cause : CertError) → IsOutside (window_of policy) signer cause → IsExpired (window_of policy) signer.elements → HasNoExcuse f bag signer.elements → RefusesBy (standing_rules judge policy f) (of_certificates cause)
+    unexcused cause outside expired none = inl (inr (
+      begun_met expired,
+      inl (record {
+        bag = bag;
+        place = place;
+        signer = signer;
+        is = is;
+        expired = expired;
+        unexcused = none;
+        cause = cause;
+        outside = outside;
+        told = outside_told (window_of policy) signer cause outside;
+      }),
+    ))
+
+    pub badly_stamped : (e : AuthenticodeError) → IsExpired (window_of policy) signer.elements → HasBadStamp judge f bag signer.elements e → RefusesBy (standing_rules judge policy f) e
+    badly_stamped e expired stamp =
+        inl (inr (begun_met expired, inr (unexcused_met e stamp, inl (record { bag = bag; place = place; signer = signer; is = is; expired = expired; stamp = stamp }))))
+
+    unvouched_told : (cause : CertError) → IsWithinWindow (window_of policy) signer.elements → IsTrue policy.chain → IsUnlinkedPath judge (window_of policy) bag signer cause → (of_certificates cause ≡ errors.CertError cause) ⊎ (cause ≡ cert_errors.Memory)
+        → RefusesBy (standing_rules judge policy f) (of_certificates cause)
+    unvouched_told cause valid asked unlinked (inl told) =
+        inl (broken_behind (IsUnbegun policy f ∷ IsUnexcused policy f ∷ IsBadlyStamped judge policy f ∷ []) (IsUnvouched judge policy f ∷ []) (of_certificates cause) (valid_met valid) (inl (record {
+          bag = bag;
+          place = place;
+          signer = signer;
+          is = is;
+          valid = valid;
+          asked = asked;
+          path = unlinked.0;
+          is_path = unlinked.1;
+          cause = cause;
+          unlinked = unlinked.2;
+          told = told;
+        })))
+    unvouched_told cause valid asked unlinked (inr memory) = inr (ap of_certificates memory)
+
+    pub unvouched : (cause : CertError) → IsWithinWindow (window_of policy) signer.elements → IsTrue policy.chain → IsUnlinkedPath judge (window_of policy) bag signer cause → RefusesBy (standing_rules judge policy f) (of_certificates cause)
+    unvouched cause valid asked unlinked = unvouched_told cause valid asked unlinked (told_of_certificates cause)
+
+    -- ---- what isn't valid
+
+    expired_by : (cause : CertError) → Breaks (IsOutside (window_of policy) signer) cause → TellsExpiry cause → IsOutside (window_of policy) signer cause
+    expired_by cause (inl outside) tells = outside
+    expired_by cause (inr memory) tells =
+        let other : cert_errors.InvalidCertificate tells.0 tells.1 ≡ cert_errors.Memory = sym tells.3 ∙ memory in
+        absurd cc
+
+    pub has_expired : (cause : CertError) → Breaks (IsOutside (window_of policy) signer) cause → TellsExpiry cause → IsExpired (window_of policy) signer.elements
+    has_expired cause breaks tells = expired_if_told (window_of policy) signer cause (expired_by cause breaks tells) tells
+
+    pub unbegun_or_memory : (cause : CertError) → Breaks (IsOutside (window_of policy) signer) cause → (TellsExpiry cause → ⊥) → RefusesBy (standing_rules judge policy f) (of_certificates cause)
+    unbegun_or_memory cause (inl outside) untold = unbegun cause outside untold
+    unbegun_or_memory cause (inr memory) untold = inr (ap of_certificates memory)
+
+    pub no_excuse : (cause : CertError) → Breaks (IsOutside (window_of policy) signer) cause → TellsExpiry cause → HasNoExcuse f bag signer.elements → RefusesBy (standing_rules judge policy f) (of_certificates cause)
+    no_excuse cause breaks tells none = unexcused cause (expired_by cause breaks tells) (has_expired cause breaks tells) none
+
+    pub stamped_or_memory : (cause : CertError) (e : AuthenticodeError) → Breaks (IsOutside (window_of policy) signer) cause → TellsExpiry cause → HasBadStamp judge f bag signer.elements e ⊎ (e ≡ errors.Memory)
+        → RefusesBy (standing_rules judge policy f) e
+    stamped_or_memory cause e breaks tells (inl stamp) = badly_stamped e (has_expired cause breaks tells) stamp
+    stamped_or_memory cause e breaks tells (inr memory) = inr memory
+
+    pub unvouched_or_memory : (cause : CertError) → IsWithinWindow (window_of policy) signer.elements → (IsTrue policy.chain × IsUnlinkedPath judge (window_of policy) bag signer cause) ⊎ (cause ≡ cert_errors.Memory)
+        → RefusesBy (standing_rules judge policy f) (of_certificates cause)
+    unvouched_or_memory cause valid (inl (asked, unlinked)) = unvouched cause valid asked unlinked
+    unvouched_or_memory cause valid (inr memory) = inr (ap of_certificates memory)
+
+    -- ---- acceptance
+
+    pub excused_stands : (path : List ℕ) (excuse : Excuse) → IsExpired (window_of policy) signer.elements → IsExcused judge f bag signer.elements excuse → path ≡ [] → IsStanding judge policy f bag signer path excuse
+    excused_stands path excuses.None expired excused empty = absurd excused
+    excused_stands path excuses.Bag expired excused empty = (expired, excused, empty)
+    excused_stands path excuses.Token expired excused empty = (expired, excused, empty)
+
+    pub vouched_or_not : IsDated (checks_of policy) → (r : Result Accepted AuthenticodeError)
+        → MatchResult r (λ a. (a.signer ≡ Some place) × IsStanding judge policy f bag signer a.path a.excuse) (RefusesBy (standing_rules judge policy f)) → MatchResult r (IsSignerVouched judge policy f) (RefusesBy (signer_rules judge policy f))
+    vouched_or_not dated (Ok a) h = record { bag = bag; place = place; signer = signer; is = is; told = h.0; dated = dated; stands = h.1 }
+    vouched_or_not dated (Err e) h = not_standing place signer.elements e (bag, is.is_bag, is.is_signer) dated h
+
+-- what is kept of the certificate of the signer
+pub kept_signer : (f : SignedDataElements) (place : ℕ) (c : CertificateElements) (signer : KeptCertificate) (s : HasSigner f place c) → signer.elements ≡ c → IsKeptSigner f s.0 place signer
+kept_signer f place c signer s same = record { is_bag = s.1; is_signer = subst (λ (x : CertificateElements). IsSignerOf f s.0 place x) (sym same) s.2 }
+
+-- ---- whether expiry is told
+
+pub tells_so : (e : CertError) (id : DirectoryName) (cause : CertCause) (t : Bool) → e ≡ cert_errors.InvalidCertificate id cause → (IsTrue t ↔ IsExpiry cause) → IsTrue t ↔ TellsExpiry e
+tells_so e id cause t is test = (
+  λ on. (id, cause, test.0 on, is),
+  λ tells. test.1 (subst IsExpiry (same_cause tells.0 id tells.1 cause (sym tells.3 ∙ is)) tells.2),
+)
+
+pub tells_not : (e : CertError) → ((id : DirectoryName) (cause : CertCause) → e ≡ cert_errors.InvalidCertificate id cause → ⊥) → IsTrue false ↔ TellsExpiry e
+tells_not e none = (λ on. absurd cc, λ tells. absurd (none tells.0 tells.1 tells.3))
+
+-- ---- where a chain is asked for, and where it isn't
+
+module _ (judge : Judge) (w : Window) (bag : List CertificateElements) (signer : KeptCertificate) where
+  pub unasked_path : (b : Bool) (path : List ℕ) → b ≡ false → path ≡ [] → IsPathAsked b judge w bag signer path
+  unasked_path true path off empty = absurd cc
+  unasked_path false path off empty = empty
+
+  pub asked_path : (b : Bool) (r : Result (List ℕ) CertError) → b ≡ true → MatchResult r (IsVouchedPath judge w bag signer) (λ e. IsUnlinkedPath judge w bag signer e ⊎ (e ≡ cert_errors.Memory))
+      → MatchResult r (IsPathAsked b judge w bag signer) (λ e. (IsTrue b × IsUnlinkedPath judge w bag signer e) ⊎ (e ≡ cert_errors.Memory))
+  asked_path true (Ok path) on vouched = vouched
+  asked_path true (Err e) on (inl unlinked) = inl (refl, unlinked)
+  asked_path true (Err e) on (inr memory) = inr memory
+  asked_path false r on answer = absurd cc

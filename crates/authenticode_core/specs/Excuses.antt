@@ -1,0 +1,121 @@
+-- Why the expiry of a signer's certificate is excused: for a time stamp, or for a certificate that could have made one (Windows Authenticode Portable Executable
+-- Signature Format). The signature and the time of a stamp aren't asked.
+use Rattle.std.specs.Prelude.{◌≡◌, ◌⊎◌, ℕ, zero, suc, List, [], ◌∷◌, length, false}
+use Rattle.asn1_types.specs.declared.oids.TheConstants.{KP_LIFETIME_SIGNING, KP_TIME_STAMPING, RFC3161_COUNTER_SIGN}
+use Rattle.cms_types.specs.Pkcs7.{pkcs7}
+use Rattle.cms_types.specs.SignedData.{signed_data_elements}
+use Rattle.cms_types.specs.SignedDataElements.{SignedDataElements}
+use Rattle.cms_types.specs.SignerElements.{SignerElements}
+use Rattle.cms_types.specs.declared.pkcs7.Pkcs7Certificate.{Pkcs7Certificate}
+use Rattle.der_core.specs.DerElement.{DerElement}
+use Rattle.key_core.specs.Verifying.{Judge}
+use Rattle.x509_core.specs.KeptCertificate.{KeptCertificate}
+use Rattle.x509_core.specs.declared.error.CertError.{CertError}
+use Rattle.x509_core.specs.declared.window.DateCheck.TheVariants as dates
+use Rattle.x509_core.specs.declared.window.Window.{Window}
+use Rattle.x509_types.specs.CertificateElements.{CertificateElements}
+use Rattle.x509_types.specs.Purposes.{NamesPurpose}
+use Rattle.authenticode_core.specs.CertificateBag.{members_of}
+use Rattle.authenticode_core.specs.IssuerWalk.{AreOthers}
+use Rattle.authenticode_core.specs.LinkedPath.{AreLinkedAt, IsUnlinkedAt}
+use Rattle.authenticode_core.specs.Places.{StandsAt}
+use Rattle.authenticode_core.specs.SignedFields.{IsAttributeOf, IsFirstSigner}
+use Rattle.authenticode_core.specs.SigningRules.{IsBagOf}
+use Rattle.authenticode_core.specs.declared.accepted.Excuse.{Excuse}
+use Rattle.authenticode_core.specs.declared.accepted.Excuse.TheVariants as excuses
+use Rattle.authenticode_core.specs.declared.error.AuthenticodeError.{AuthenticodeError}
+use Rattle.authenticode_core.specs.declared.error.AuthenticodeError.TheVariants as errors
+
+-- some certificate of the bag names time stamping (RFC 5280 4.2.1.12)
+abbrev pub NamesTimeStamping : List CertificateElements → Type 0
+NamesTimeStamping bag = (place : ℕ) × (c : CertificateElements) × StandsAt bag place c × NamesPurpose c KP_TIME_STAMPING.now
+
+-- the certificate names lifetime signing: its signatures end with it
+abbrev pub NamesLifetime : CertificateElements → Type 0
+NamesLifetime c = NamesPurpose c KP_LIFETIME_SIGNING.now
+
+-- ---- tokens
+
+-- The first unsigned attribute of the first signer holds time-stamp tokens, and the first of them has these fields.
+pub record HasToken (f t : SignedDataElements) : Type 0 where
+  pub g : SignerElements
+  pub signer : IsFirstSigner f g
+  pub attribute : DerElement
+  pub attributes : List DerElement
+  pub unsigned : members_of g.unsigned_attrs ≡ attribute ∷ attributes
+  pub token : DerElement
+  pub tokens : List DerElement
+  pub stamps : IsAttributeOf RFC3161_COUNTER_SIGN.now attribute (token ∷ tokens)
+  pub value : Pkcs7Certificate
+  pub spelled : token ≡ pkcs7 value
+  pub fields : t ≡ signed_data_elements value.signed_data
+
+-- Some certificate of the token's bag names time stamping.
+pub record IsForStamping (t : SignedDataElements) (bag : List CertificateElements) : Type 0 where
+  pub is_bag : IsBagOf t bag
+  pub named : NamesTimeStamping bag
+
+-- so many places from one on
+abbrev pub places_from : ℕ → ℕ → List ℕ
+places_from place zero = []
+places_from place (suc count) = place ∷ places_from (suc place) count
+
+-- the places of a bag without those of certificates with the subject of this one
+abbrev pub AreOthersThan : List CertificateElements → CertificateElements → List ℕ → Type 0
+AreOthersThan bag first places = AreOthers bag first.tbs.subject (places_from 0 (length bag)) places
+
+-- no moment is asked for
+abbrev pub any_time : Window
+any_time = record { date = dates.Absent; not_before = false; not_after = false }
+
+-- The first certificate of the bag is linked to the others with another subject, in order, at whatever time.
+pub record IsLinkedToken (judge : Judge) (bag : List CertificateElements) : Type 0 where
+  pub first : KeptCertificate
+  pub stands : StandsAt bag 0 first.elements
+  pub places : List ℕ
+  pub others : AreOthersThan bag first.elements places
+  pub linked : AreLinkedAt judge any_time bag first places
+
+-- The first certificate of the bag isn't linked so.
+pub record IsUnlinkedToken (judge : Judge) (bag : List CertificateElements) (e : CertError) : Type 0 where
+  pub first : KeptCertificate
+  pub stands : StandsAt bag 0 first.elements
+  pub places : List ℕ
+  pub others : AreOthersThan bag first.elements places
+  pub unlinked : IsUnlinkedAt judge any_time bag first places e
+
+-- ---- excuses of a certificate of a signer in a bag, which has expired
+
+-- A token stands beside the signature, and a certificate that could have made it is linked.
+pub record IsStamped (judge : Judge) (f : SignedDataElements) : Type 0 where
+  pub t : SignedDataElements
+  pub has : HasToken f t
+  pub bag : List CertificateElements
+  pub stamping : IsForStamping t bag
+  pub linked : IsLinkedToken judge bag
+
+-- The expiry is excused, for this reason.
+abbrev pub IsExcused : Judge → SignedDataElements → List CertificateElements → CertificateElements → Excuse → Type 0
+IsExcused judge f bag c excuses.None = ⊥
+IsExcused judge f bag c excuses.Bag = (NamesLifetime c → ⊥) × NamesTimeStamping bag
+IsExcused judge f bag c excuses.Token = (NamesLifetime c → ⊥) × (NamesTimeStamping bag → ⊥) × IsStamped judge f
+
+-- no token stands there whose certificates could have made it
+abbrev pub IsUnstamped : SignedDataElements → Type 0
+IsUnstamped f = (t : SignedDataElements) (bag : List CertificateElements) → HasToken f t → IsForStamping t bag → ⊥
+
+-- The expiry isn't excused, and nothing else is told: the certificate names lifetime signing, or none names time stamping.
+abbrev pub HasNoExcuse : SignedDataElements → List CertificateElements → CertificateElements → Type 0
+HasNoExcuse f bag c = NamesLifetime c ⊎ ((NamesTimeStamping bag → ⊥) × IsUnstamped f)
+
+-- A token stands there, and a certificate that could have made it isn't linked, which the error tells.
+pub record HasBadStamp (judge : Judge) (f : SignedDataElements) (bag : List CertificateElements) (c : CertificateElements) (e : AuthenticodeError) : Type 0 where
+  pub mortal : NamesLifetime c → ⊥
+  pub unnamed : NamesTimeStamping bag → ⊥
+  pub t : SignedDataElements
+  pub has : HasToken f t
+  pub stamping_bag : List CertificateElements
+  pub stamping : IsForStamping t stamping_bag
+  pub cause : CertError
+  pub unlinked : IsUnlinkedToken judge stamping_bag cause
+  pub told : e ≡ errors.InvalidTimestampCert cause

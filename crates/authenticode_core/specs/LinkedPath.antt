@@ -1,0 +1,37 @@
+-- When the certificates at some places of a bag are a chain above another (RFC 5280 6.1).
+use Rattle.std.specs.Prelude.{◌≡◌, ⊤, ℕ, List, [], ◌∷◌, ◌++◌, length}
+use Rattle.key_core.specs.Verifying.{Judge}
+use Rattle.x509_core.specs.Chain.{IsLinkedChain, last_of}
+use Rattle.x509_core.specs.KeptCertificate.{KeptCertificate}
+use Rattle.x509_core.specs.Link.{link_rules}
+use Rattle.x509_core.specs.Rules.{IsFirstBroken}
+use Rattle.x509_core.specs.declared.error.CertError.{CertError}
+use Rattle.x509_core.specs.declared.window.Window.{Window}
+use Rattle.x509_types.specs.CertificateElements.{CertificateElements}
+use Rattle.authenticode_core.specs.Places.{StandsAt}
+
+-- the certificates stand at these places, one at each
+abbrev pub StandAt : List CertificateElements → List ℕ → List KeptCertificate → Type 0
+StandAt bag [] [] = ⊤
+StandAt bag [] (kept ∷ others) = ⊥
+StandAt bag (place ∷ places) [] = ⊥
+StandAt bag (place ∷ places) (kept ∷ others) = StandsAt bag place kept.elements × StandAt bag places others
+
+-- The certificates at the places are a chain above the checked one: each may have issued the one before it, and is valid.
+pub record AreLinkedAt (judge : Judge) (w : Window) (bag : List CertificateElements) (checked : KeptCertificate) (places : List ℕ) : Type 0 where
+  pub parents : List KeptCertificate
+  pub stand : StandAt bag places parents
+  pub linked : IsLinkedChain judge w checked parents
+
+-- The certificate at one of the places isn't linked to the one before it, and all before it are.
+pub record IsUnlinkedAt (judge : Judge) (w : Window) (bag : List CertificateElements) (checked : KeptCertificate) (places : List ℕ) (e : CertError) : Type 0 where
+  pub before : List ℕ
+  pub place : ℕ
+  pub after : List ℕ
+  pub are : places ≡ before ++ place ∷ after
+  pub below : List KeptCertificate
+  pub stand : StandAt bag before below
+  pub parent : KeptCertificate
+  pub stands : StandsAt bag place parent.elements
+  pub linked : IsLinkedChain judge w checked below
+  pub broken : IsFirstBroken (link_rules judge w (length below) parent (last_of checked below)) e

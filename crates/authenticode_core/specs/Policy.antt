@@ -1,0 +1,18 @@
+-- What is asked of a signature file.
+use Rattle.std.specs.Prelude.{None, true, false}
+use Rattle.x509_core.specs.declared.validator.ChainChecks.{ChainChecks}
+use Rattle.x509_core.specs.declared.window.DateCheck.TheVariants as dates
+use Rattle.x509_core.specs.declared.window.Window.{Window}
+use Rattle.authenticode_core.specs.declared.policy.Policy.{Policy}
+
+-- all is asked, and no digest and no date are given
+abbrev pub first_policy : Policy
+first_policy = record { basic = true; file_hash = None; signing = true; not_before = true; not_after = true; chain = true; date = dates.Absent }
+
+-- what is asked of the validity of a certificate
+abbrev pub window_of : Policy → Window
+window_of policy = record { date = policy.date; not_before = policy.not_before; not_after = policy.not_after }
+
+-- what is asked of the certificate of a signer over those of its issuers: no root is
+abbrev pub checks_of : Policy → ChainChecks
+checks_of policy = record { window = window_of policy; chain = policy.chain; root = false }

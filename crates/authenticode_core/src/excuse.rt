@@ -1,0 +1,96 @@
+//! Why the expiry of a signer's certificate is excused.
+
+ghost use Rattle.std.specs.Prelude.{◌≡◌, ◌⊎◌, ◌↔◌, List, IsTrue, MatchOption, MatchResult};
+ghost use Rattle.cms_types.specs.SignedView.{view_elements as data_elements};
+ghost use Rattle.x509_types.specs.CertificateElements.{CertificateElements};
+ghost use Rattle.x509_types.specs.CertificateView.{view_elements};
+ghost use Rattle.authenticode_core.specs.ExcuseSteps.{LeadsStamping, TellsUnlinked};
+ghost use Rattle.authenticode_core.specs.Excuses.{HasBadStamp, HasNoExcuse, IsExcused, IsForStamping, IsLinkedToken, NamesTimeStamping};
+ghost use Rattle.authenticode_core.specs.Places.{StandsAt};
+ghost use Rattle.authenticode_core.specs.SigningRules.{IsBagOf};
+ghost use Rattle.authenticode_core.specs.declared.error.AuthenticodeError.TheVariants as errors;
+
+use crate::accepted::Excuse;
+use crate::bag::BagCertificate;
+use crate::error::AuthenticodeError;
+use crate::linking::{expect_linked_token, kept};
+use crate::signer::certificate_bag;
+use crate::token::token_of;
+use crate::wanted::Wanted;
+use asn1_types::oids::{KP_LIFETIME_SIGNING, KP_TIME_STAMPING};
+use cms_types::SignedView;
+use sig_core::Scheme;
+use std::alloc::Global;
+use x509_core::CertError;
+use x509_types::CertView;
+
+/// Why the expiry of the certificate of a signer is excused, if it is. Memory is taken only to link
+/// the certificates of a token, which are asked for last.
+pub(crate) fn excuse_of<S: Scheme>(
+    alloc: Global,
+    signed_data: &SignedView<'_>,
+    signer: &CertView<'_>,
+    scheme: &S,
+) -> Result<Option<Excuse>, AuthenticodeError>
+    ensures { (bag : List CertificateElements) → IsBagOf (data_elements signed_data.now) bag → MatchResult result
+        (λ found. MatchOption found
+        (HasNoExcuse (data_elements signed_data.now) bag (view_elements signer.now))
+        (IsExcused (S.judge scheme.now) (data_elements signed_data.now) bag (view_elements signer.now)))
+        (λ e. HasBadStamp (S.judge scheme.now) (data_elements signed_data.now) bag (view_elements signer.now) e ⊎ (e ≡ errors.Memory)) }
+{
+    if signer.names(KP_LIFETIME_SIGNING) {
+        return Ok(None);
+    }
+    if names_time_stamping(signed_data) {
+        return Ok(Some(Excuse::Bag));
+    }
+    let Some(token) = token_of(signed_data) else {
+        return Ok(None);
+    };
+    let Some(first) = first_of_stamping(&token) else {
+        return Ok(None);
+    };
+    expect_linked(alloc, &token, &first, scheme)?;
+    Ok(Some(Excuse::Token))
+}
+
+/// Whether some certificate of signed data names time stamping (RFC 5280 4.2.1.12).
+fn names_time_stamping(signed_data: &SignedView<'_>) -> bool
+    ensures { (bag : List CertificateElements) → IsBagOf (data_elements signed_data.now) bag → IsTrue result ↔ NamesTimeStamping bag }
+{
+    let mut bag = certificate_bag(signed_data);
+    bag.next_wanted(Wanted::Purpose(KP_TIME_STAMPING)).is_some()
+}
+
+/// The first certificate of a token, where some certificate of it names time stamping.
+fn first_of_stamping<'a>(token: &SignedView<'a>) -> Option<BagCertificate<'a>>
+    ensures { MatchOption result
+        ((bag : List CertificateElements) → IsForStamping (data_elements token.now) bag → ⊥)
+        (λ first. LeadsStamping (data_elements token.now) (view_elements first.certificate)) }
+{
+    if !names_time_stamping(token) {
+        return None;
+    }
+    // The bag is read to its end, so that it is known whose first certificate is answered.
+    let _certificates = certificate_bag(token).count();
+    certificate_bag(token).next()
+}
+
+/// The first certificate of a token is linked to the others with another subject.
+fn expect_linked<S: Scheme>(
+    alloc: Global,
+    token: &SignedView<'_>,
+    first: &BagCertificate<'_>,
+    scheme: &S,
+) -> Result<(), AuthenticodeError>
+    ensures { (bag : List CertificateElements) → IsBagOf (data_elements token.now) bag → StandsAt bag 0 (view_elements first.now.certificate) → MatchResult result
+        (λ _. IsLinkedToken (S.judge scheme.now) bag)
+        (λ e. TellsUnlinked (S.judge scheme.now) bag e ⊎ (e ≡ errors.Memory)) }
+{
+    let first = kept(alloc, first)?;
+    match expect_linked_token(alloc, token, first, scheme) {
+        Ok(()) => Ok(()),
+        Err(CertError::Memory) => Err(AuthenticodeError::Memory),
+        Err(cause) => Err(AuthenticodeError::InvalidTimestampCert(cause)),
+    }
+}

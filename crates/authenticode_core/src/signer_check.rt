@@ -1,0 +1,168 @@
+//! Whether the certificate of the first signer is vouched for, or its expiry excused, step by step (RFC
+//! 5280 6.1; Windows Authenticode Portable Executable Signature Format).
+
+ghost use Rattle.std.specs.Prelude.{◌≡◌, ◌⊎◌, ◌↔◌, ℕ, List, Some, IsTrue, MatchResult};
+ghost use Rattle.cms_types.specs.SignedView.{view_elements as data_elements};
+ghost use Rattle.cms_types.specs.SignerView.{signer_elements_at};
+ghost use Rattle.x509_core.specs.KeptCertificate.{KeptCertificate};
+ghost use Rattle.x509_core.specs.Link.{IsOutside};
+ghost use Rattle.x509_core.specs.Rules.{Breaks};
+ghost use Rattle.x509_core.specs.Window.{IsExpired};
+ghost use Rattle.x509_core.specs.declared.error.CertError.TheVariants as cert_errors;
+ghost use Rattle.x509_types.specs.CertificateElements.{CertificateElements};
+ghost use Rattle.x509_types.specs.CertificateView.{view_elements};
+ghost use Rattle.authenticode_core.specs.Excuses.{IsExcused};
+ghost use Rattle.authenticode_core.specs.Form.{AreSpelled};
+ghost use Rattle.authenticode_core.specs.Policy.{window_of};
+ghost use Rattle.authenticode_core.specs.PolicySteps.{IsExpiry, IsUnlinkedPath, TellsExpiry, standing_rules};
+ghost use Rattle.authenticode_core.specs.SignedFields.{IsFirstSigner};
+ghost use Rattle.authenticode_core.specs.SignerRules.{IsKeptSigner, IsPathAsked, IsSignerVouched, IsStanding, LacksSigner, signer_rules};
+ghost use Rattle.authenticode_core.specs.SigningRules.{IsBagOf, RefusesBy};
+
+use crate::accepted::{Accepted, Excuse, Places};
+use crate::bag::BagCertificate;
+use crate::error::AuthenticodeError;
+use crate::excuse::excuse_of;
+use crate::linking::{kept, linked_path};
+use crate::policy::Policy;
+use crate::signing::expect_certificate;
+use crate::token::first_signer_of;
+use cms_types::{SignedView, SignerView};
+use sig_core::Scheme;
+use std::alloc::Global;
+use x509_core::{Cert, CertCause, CertError};
+use x509_types::CertView;
+
+/// The certificate of the first signer is vouched for under a policy. The first of these is answered
+/// that doesn't hold: there is a signer; some certificate is named; a date is given where one is asked
+/// for; the certificate is valid, or its expiry is excused; where a chain is asked for, and nothing is
+/// excused, the certificates of the issuer path are linked.
+pub(crate) fn expect_signer<S: Scheme>(
+    alloc: Global,
+    signed_data: &SignedView<'_>,
+    policy: &Policy,
+    scheme: &S,
+) -> Result<Accepted, AuthenticodeError>
+    requires { AreSpelled (data_elements signed_data.now) }
+    ensures { MatchResult result
+        (IsSignerVouched (S.judge scheme.now) policy.now (data_elements signed_data.now))
+        (RefusesBy (signer_rules (S.judge scheme.now) policy.now (data_elements signed_data.now))) }
+{
+    let first = expect_first(signed_data)?;
+    let named = expect_certificate(alloc, signed_data, &first)?;
+    let checks = policy.checks();
+    checks.expect_date()?;
+    let signer = kept(alloc, &named)?;
+    expect_standing(alloc, signed_data, &named, signer, policy, scheme)
+}
+
+/// The first of the signers.
+fn expect_first<'a>(signed_data: &SignedView<'a>) -> Result<SignerView<'a>, AuthenticodeError>
+    requires { AreSpelled (data_elements signed_data.now) }
+    ensures { MatchResult result
+        (λ signer. IsFirstSigner (data_elements signed_data.now) (signer_elements_at signer))
+        (LacksSigner (data_elements signed_data.now)) }
+{
+    match first_signer_of(signed_data) {
+        Some(signer) => Ok(signer),
+        None => Err(AuthenticodeError::MultipleSignerInfo { count: 0 }),
+    }
+}
+
+/// The certificate of the signer is valid, and those of the issuer path are linked where that is asked
+/// for; or it has expired, which is excused. What is kept of it is handed in.
+fn expect_standing<S: Scheme>(
+    alloc: Global,
+    signed_data: &SignedView<'_>,
+    named: &BagCertificate<'_>,
+    signer: Cert,
+    policy: &Policy,
+    scheme: &S,
+) -> Result<Accepted, AuthenticodeError>
+    requires { signer.elements ≡ view_elements named.now.certificate }
+    ensures { (bag : List CertificateElements) → IsKeptSigner (data_elements signed_data.now) bag named.now.place signer → MatchResult result
+        (λ a. (a.signer ≡ Some named.now.place) × IsStanding (S.judge scheme.now) policy.now (data_elements signed_data.now) bag signer a.path a.excuse)
+        (RefusesBy (standing_rules (S.judge scheme.now) policy.now (data_elements signed_data.now))) }
+{
+    let checks = policy.checks();
+    match signer.expect_valid(alloc, &checks.window) {
+        Ok(()) => {
+            let path = asked_path(alloc, signed_data, signer, policy, scheme)?;
+            Ok(Accepted {
+                signer: Some(named.place),
+                path,
+                excuse: Excuse::None,
+            })
+        }
+        Err(error) => {
+            let excuse = expect_excuse(alloc, signed_data, &named.certificate, error, scheme)?;
+            Ok(Accepted {
+                signer: Some(named.place),
+                path: Places::new(alloc),
+                excuse,
+            })
+        }
+    }
+}
+
+/// The places of the issuer path, where a chain is asked for, and else none.
+fn asked_path<S: Scheme>(
+    alloc: Global,
+    signed_data: &SignedView<'_>,
+    signer: Cert,
+    policy: &Policy,
+    scheme: &S,
+) -> Result<Places, CertError>
+    ensures { (bag : List CertificateElements) → IsBagOf (data_elements signed_data.now) bag → MatchResult result
+        (IsPathAsked policy.now.chain (S.judge scheme.now) (window_of policy.now) bag signer)
+        (λ e. (IsTrue policy.now.chain × IsUnlinkedPath (S.judge scheme.now) (window_of policy.now) bag signer e) ⊎ (e ≡ cert_errors.Memory)) }
+{
+    if !policy.chain {
+        return Ok(Places::new(alloc));
+    }
+    let checks = policy.checks();
+    linked_path(alloc, signed_data, signer, &checks.window, scheme)
+}
+
+/// Why the expiry of the signer's certificate is excused, where this error tells that it isn't valid.
+fn expect_excuse<S: Scheme>(
+    alloc: Global,
+    signed_data: &SignedView<'_>,
+    signer: &CertView<'_>,
+    error: CertError,
+    scheme: &S,
+) -> Result<Excuse, AuthenticodeError>
+    ensures { (policy : Policy) (bag : List CertificateElements) (place : ℕ) (signer' : KeptCertificate)
+        → IsKeptSigner (data_elements signed_data.now) bag place signer' → signer'.elements ≡ view_elements signer.now
+        → Breaks (IsOutside (window_of policy) signer') error → MatchResult result
+        (λ excuse. IsExpired (window_of policy) signer'.elements × IsExcused (S.judge scheme.now) (data_elements signed_data.now) bag signer'.elements excuse)
+        (RefusesBy (standing_rules (S.judge scheme.now) policy (data_elements signed_data.now))) }
+{
+    if !tells_expiry(&error) {
+        return Err(AuthenticodeError::from(error));
+    }
+    match excuse_of(alloc, signed_data, signer, scheme)? {
+        Some(excuse) => Ok(excuse),
+        None => Err(AuthenticodeError::from(error)),
+    }
+}
+
+/// Whether an error tells of a certificate that has expired.
+fn tells_expiry(error: &CertError) -> bool
+    ensures { IsTrue result ↔ TellsExpiry error.now }
+{
+    match error {
+        CertError::InvalidCertificate { source, .. } => is_expiry(source),
+        _ => false,
+    }
+}
+
+/// Whether the cause is that a certificate has expired.
+fn is_expiry(cause: &CertCause) -> bool
+    ensures { IsTrue result ↔ IsExpiry cause.now }
+{
+    match cause {
+        CertCause::CertificateExpired { .. } => true,
+        _ => false,
+    }
+}

@@ -1,0 +1,100 @@
+//! Whether a signature file is trusted under a policy: what its certificate is, then basic validation,
+//! then the certificate of the signer, each where it is asked for.
+
+ghost use Rattle.std.specs.Prelude.{◌≡◌, Err, Result, MatchResult};
+ghost use Rattle.cms_types.specs.Pkcs7Elements.{pkcs7_of};
+ghost use Rattle.cms_types.specs.SignedDataElements.{signed_data_of};
+ghost use Rattle.cms_types.specs.SignedView.{view_elements};
+ghost use Rattle.x509_core.specs.Rules.{IsFirstBroken};
+ghost use Rattle.authenticode_core.specs.Basic.{IsSameUnlessMemory};
+ghost use Rattle.authenticode_core.specs.Form.{AreSpelled};
+ghost use Rattle.authenticode_core.specs.PolicySteps.{IsPlaceAsked};
+ghost use Rattle.authenticode_core.specs.SigningRules.{RefusesBy};
+ghost use Rattle.authenticode_core.specs.Trusted.{IsAnswer, IsTrusted, RefusesShape, asked, basic_rules, policy_rules, shape_rules};
+ghost use Rattle.authenticode_core.specs.declared.accepted.Accepted.{Accepted};
+ghost use Rattle.authenticode_core.specs.declared.error.CheckError.{CheckError};
+
+use crate::accepted::{Accepted, Excuse, Places};
+use crate::basic::expect_basic;
+use crate::error::{AuthenticodeError, CheckError};
+use crate::policy::Policy;
+use crate::signer_check::expect_signer;
+use crate::value::signed_data_of;
+use cms_types::SignedView;
+use der_core::{Elem, one_first_fault};
+use sig_core::Scheme;
+use std::alloc::Global;
+
+/// Checks the signature in a WIN_CERTIFICATE under a policy (Windows Authenticode Portable Executable
+/// Signature Format): what its certificate is, then the steps of `check_signed_data`. The first rule
+/// that is broken is told.
+pub fn check_wincert<S: Scheme>(
+    alloc: Global,
+    bytes: &[u8],
+    policy: &Policy,
+    scheme: &S,
+) -> Result<Accepted, CheckError>
+    ensures answer { IsAnswer (S.judge scheme.now) policy.now bytes.now result }
+    // A refusal of the header, of what the certificate is or of the form comes whatever memory there is.
+    ensures refused { (e : CheckError) → RefusesShape policy.now bytes.now e → result ≡ Err e }
+    // No other answer has its cause, want of memory aside.
+    ensures only { (other : Result Accepted CheckError)
+        → IsAnswer (S.judge scheme.now) policy.now bytes.now other
+        → IsSameUnlessMemory result other }
+{
+    one_first_fault();
+    let (elem, signed_data) = signed_data_of(bytes)?;
+    let accepted = check_signed_data(alloc, elem, &signed_data, policy, scheme)?;
+    Ok(accepted)
+}
+
+/// Checks signed data under a policy, which lies in this element: where basic validation is asked for,
+/// its form, the digest of the file and the signature of its signer; then, where that is asked for, the
+/// certificate of its first signer. The first rule that is broken is told.
+pub fn check_signed_data<'a, S: Scheme>(
+    alloc: Global,
+    elem: Elem<'a>,
+    signed_data: &SignedView<'a>,
+    policy: &Policy,
+    scheme: &S,
+) -> Result<Accepted, AuthenticodeError>
+    requires is { elem.is.0 ≡ pkcs7_of (signed_data_of (view_elements signed_data.now)) }
+    requires spelled { AreSpelled (view_elements signed_data.now) }
+    ensures answer { MatchResult result
+        (IsTrusted (S.judge scheme.now) policy.now (view_elements signed_data.now))
+        (RefusesBy (policy_rules (S.judge scheme.now) policy.now (view_elements signed_data.now))) }
+    // A refusal of the form comes whatever memory there is, and that no digest is given, too.
+    ensures shape { (e : AuthenticodeError) → IsFirstBroken (asked policy.now.basic (shape_rules (view_elements signed_data.now) policy.now.file_hash)) e → result ≡ Err e }
+{
+    let signer = basic_place(alloc, elem, signed_data, policy, scheme)?;
+    if policy.signing {
+        return expect_signer(alloc, signed_data, policy, scheme);
+    }
+    Ok(Accepted {
+        signer,
+        path: Places::new(alloc),
+        excuse: Excuse::None,
+    })
+}
+
+/// Basic validation, where it is asked for: the place of the signer's certificate.
+fn basic_place<'a, S: Scheme>(
+    alloc: Global,
+    elem: Elem<'a>,
+    signed_data: &SignedView<'a>,
+    policy: &Policy,
+    scheme: &S,
+) -> Result<Option<usize>, AuthenticodeError>
+    requires is { elem.is.0 ≡ pkcs7_of (signed_data_of (view_elements signed_data.now)) }
+    requires spelled { AreSpelled (view_elements signed_data.now) }
+    ensures answer { MatchResult result
+        (IsPlaceAsked policy.now.basic (S.judge scheme.now) policy.now.file_hash (view_elements signed_data.now))
+        (RefusesBy (asked policy.now.basic (basic_rules (S.judge scheme.now) (view_elements signed_data.now) policy.now.file_hash))) }
+    ensures shape { (e : AuthenticodeError) → IsFirstBroken (asked policy.now.basic (shape_rules (view_elements signed_data.now) policy.now.file_hash)) e → result ≡ Err e }
+{
+    if !policy.basic {
+        return Ok(None);
+    }
+    let place = expect_basic(alloc, elem, signed_data, policy, scheme)?;
+    Ok(Some(place))
+}
