@@ -5,10 +5,12 @@ pub mod Adding
 pub mod Hashes
 pub mod DateWords
 pub mod AskedWords
+pub mod OptionWords
 pub mod Reported
 pub mod Verdicts
 pub mod ReadCertificates
 pub mod Inquiries
 pub mod Runs
 pub mod VouchedChains
+pub mod VouchedSignatures
 pub mod Vouching

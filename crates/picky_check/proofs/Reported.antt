@@ -4,7 +4,9 @@ use Rattle.authenticode_core.specs.declared.accepted.Accepted.{Accepted}
 use Rattle.authenticode_core.specs.declared.error.CheckError.{CheckError}
 use Rattle.authenticode_core.specs.declared.error.CheckError.TheVariants as check
 use Rattle.key_core.specs.Verifying.{Judge}
-use Rattle.authenticode_core.specs.Basic.{IsBasicAnswer, IsSameUnlessMemory}
+use Rattle.authenticode_core.specs.Basic.{IsSameUnlessMemory}
+use Rattle.authenticode_core.specs.Trusted.{IsAnswer}
+use Rattle.authenticode_core.specs.declared.policy.Policy.{Policy}
 use Rattle.picky_check.specs.declared.report.Report.{Report}
 use Rattle.picky_check.specs.declared.stop.Stop.{Stop}
 use Rattle.picky_check.specs.declared.stop.Stop.TheVariants as stop
@@ -31,6 +33,10 @@ pub reported_is : (Is : Answer → Type 0) (answer : Answer) (result : Result Re
 reported_is Is answer (Ok report) is h only = record { reported = (answer, is, h); stopped = tt; only = only }
 reported_is Is answer (Err s) is h only = record { reported = tt; stopped = h; only = only }
 
+-- where there was no memory to ask, each answer is reported but for want of memory
+pub Reports-memory : (Is : Answer → Type 0) → Reports Is (Err stop.Memory)
+Reports-memory Is = record { reported = tt; stopped = refl; only = λ answer is. GivesReport-memory answer }
+
 -- ---- of a signature file
 
 same_or_memory : (a b : Result Accepted CheckError) → IsSameUnlessMemory a b → WantsMemory (OfSignature a) ⊎ (WantsMemory (OfSignature b) ⊎ (a ≡ b))
@@ -47,16 +53,16 @@ given_signature a b result h same other = elim (same_or_memory a b same) [
   ]
 ]
 
-given_each : (judge : Judge) (octets hash : List ℕ) (a : Result Accepted CheckError) (result : Result Report Stop) → IsReported (OfSignature a) result
-    → ((b : Result Accepted CheckError) → IsBasicAnswer judge octets hash b → IsSameUnlessMemory a b)
-    → (b : Answer) → IsSignatureAnswer judge octets hash b → GivesReport b result
-given_each judge octets hash a result h only (OfSignature b) is = given_signature a b result h (only b is)
-given_each judge octets hash a result h only (OfChain b) is = absurd is
+given_each : (judge : Judge) (policy : Policy) (octets : List ℕ) (a : Result Accepted CheckError) (result : Result Report Stop) → IsReported (OfSignature a) result
+    → ((b : Result Accepted CheckError) → IsAnswer judge policy octets b → IsSameUnlessMemory a b)
+    → (b : Answer) → IsSignatureAnswer judge policy octets b → GivesReport b result
+given_each judge policy octets a result h only (OfSignature b) is = given_signature a b result h (only b is.is)
+given_each judge policy octets a result h only (OfChain b) is = absurd is
 
-pub signature_reported : (judge : Judge) (octets hash : List ℕ) (a : Result Accepted CheckError) (result : Result Report Stop)
-    → IsBasicAnswer judge octets hash a
-    → ((b : Result Accepted CheckError) → IsBasicAnswer judge octets hash b → IsSameUnlessMemory a b)
+pub signature_reported : (judge : Judge) (policy : Policy) (octets : List ℕ) (a : Result Accepted CheckError) (result : Result Report Stop)
+    → IsAnswer judge policy octets a
+    → ((b : Result Accepted CheckError) → IsAnswer judge policy octets b → IsSameUnlessMemory a b)
     → IsReported (OfSignature a) result
-    → Reports (IsSignatureAnswer judge octets hash) result
-signature_reported judge octets hash a result is only h =
-    reported_is (IsSignatureAnswer judge octets hash) (OfSignature a) result is h (given_each judge octets hash a result h only)
+    → Reports (IsSignatureAnswer judge policy octets) result
+signature_reported judge policy octets a result is only h =
+    reported_is (IsSignatureAnswer judge policy octets) (OfSignature a) result (record { is = is }) h (given_each judge policy octets a result h only)

@@ -208,7 +208,9 @@ module _ (words : List (List ℕ)) (shelf shelf_now : ShelfState) (settled : Ask
         too_long = λ e. absurd (omega (arith, low_status));
         too_long_always = λ job some long. absurd (no_long ((asked job some).too_long long));
         nothing_written = λ two five. absurd (omega (arith, low_status));
-        answered = λ job answer some q t a told. inl (inl (is ∙ (given job answer some q t a told).status));
+        answered = λ job answer some q t a told.
+            let told_of = given job answer some q t a told in
+            inl (inl (is ∙ told_of.status, subst (λ (line : List ℕ). Appends out.held line out_now.held) told_of.line all));
       }
 
       IsRun-cut : (status : ℕ) → status ≡ 5 → HasRisen out.faults out_now.faults

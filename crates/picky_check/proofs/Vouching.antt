@@ -1,76 +1,94 @@
 -- What is accepted is vouched for.
 use Rattle.std.proofs.Common.{◌≡◌, ◌⊎◌, List, [], ◌∷◌, ℕ, Option, Result, Ok, Err, inl, inr, arith}
 use Rattle.asn1_types.specs.declared.generalized_time.GeneralizedTime.{GeneralizedTime}
+use Rattle.cms_types.specs.SignedDataElements.{SignedDataElements}
 use Rattle.sig_core.specs.declared.verdict_row.VerdictRow.{VerdictRow}
 use Rattle.sig_core.specs.VerdictTable.{IsTable, verdict_of}
+use Rattle.authenticode_core.specs.Basic.{HasSignedData}
 use Rattle.authenticode_core.specs.declared.accepted.Accepted.{Accepted}
 use Rattle.authenticode_core.specs.declared.error.CheckError.{CheckError}
 use Rattle.x509_core.specs.declared.error.CertError.{CertError}
-use Rattle.picky_check.specs.Headline.{IsVouchedFor}
+use Rattle.picky_check.specs.declared.options.CheckOptions.{CheckOptions}
+use Rattle.picky_check.specs.Headline.{IsVouchedFor, IsVouchedSignature}
 use Rattle.picky_check.specs.Answer.{IsAnswered, IsAnswerTo, table_in}
 use Rattle.picky_check.specs.ChainHeadline.{IsVouchedChain}
 use Rattle.picky_check.specs.Limits.{AreWholeFiles}
-use Rattle.picky_check.specs.Report.{Answer, OfSignature, OfChain, status_of}
+use Rattle.picky_check.specs.Report.{Answer, OfSignature, OfChain, accepted_line, line_of, status_of}
 use Rattle.picky_check.specs.Run.{Answers}
 use Rattle.picky_check.specs.Shelf.{Files}
-use Rattle.picky_check.specs.Words.{Job, Basic, Chain, AsksFor, files_of}
+use Rattle.picky_check.specs.Sink.{Appends}
+use Rattle.picky_check.specs.Words.{Job, Basic, Check, Chain, AsksFor, files_of}
 use Rattle.picky_check.proofs.VouchedChains.{vouched_chain}
+use Rattle.picky_check.proofs.VouchedSignatures.{vouched_basic, vouched_check}
 
-module _ (words : List (List ℕ)) (files : Option Files) where
-  vouched_signature : (signature table hash : List ℕ) (contents : List (List ℕ)) (rows : List VerdictRow) (a : Accepted)
+module _ (one_signed_data : (octets : List ℕ) (f g : SignedDataElements) → HasSignedData octets f → HasSignedData octets g → f ≡ g)
+    (words : List (List ℕ)) (files : Option Files) (held held_now : Option (List ℕ)) where
+  -- one of the commands vouches for what it accepted
+  abbrev IsVouched : Type 0
+  IsVouched = IsVouchedFor words files ⊎ (IsVouchedSignature words files held held_now ⊎ IsVouchedChain words files)
+
+  of_basic : (signature table hash : List ℕ) (contents : List (List ℕ)) (rows : List VerdictRow) (a : Accepted)
       → AsksFor words (Basic signature table hash) → AreWholeFiles files (files_of (Basic signature table hash)) contents
       → IsTable (table_in (Basic signature table hash) contents) rows
       → IsAnswerTo (verdict_of rows) (Basic signature table hash) contents (OfSignature (Ok a)) → IsVouchedFor words files
-  vouched_signature signature table hash [] rows a asked are is_table is_answer = absurd are
-  vouched_signature signature table hash (octets ∷ []) rows a asked are is_table is_answer = absurd are.1
-  vouched_signature signature table hash (octets ∷ text ∷ more ∷ others) rows a asked are is_table is_answer = absurd are.1.1
-  vouched_signature signature table hash (octets ∷ text ∷ []) rows a asked are is_table is_answer =
-      record {
-        signature = signature;
-        table = table;
-        hash = hash;
-        asked = asked;
-        octets = octets;
-        text = text;
-        rows = rows;
-        signed_data = is_answer.0;
-        place = is_answer.1;
-        signature_file = are.0;
-        table_file = are.1.0;
-        is_table = is_table;
-        holds = is_answer.2;
-        vouches = is_answer.3;
-      }
+  of_basic signature table hash [] rows a asked are is_table is_answer = absurd are
+  of_basic signature table hash (octets ∷ []) rows a asked are is_table is_answer = absurd are.1
+  of_basic signature table hash (octets ∷ text ∷ more ∷ others) rows a asked are is_table is_answer = absurd are.1.1
+  of_basic signature table hash (octets ∷ text ∷ []) rows a asked are is_table is_answer =
+      vouched_basic words files signature table hash octets text rows are.0 are.1.0 is_table a asked is_answer.is
 
-  vouched_certificates : (table : List ℕ) (date : GeneralizedTime) (names contents : List (List ℕ)) (rows : List VerdictRow) (count : ℕ)
+  of_check : (signature table hash : List ℕ) (date : GeneralizedTime) (options : CheckOptions) (contents : List (List ℕ)) (rows : List VerdictRow) (a : Accepted)
+      → AsksFor words (Check signature table hash date options) → AreWholeFiles files (files_of (Check signature table hash date options)) contents
+      → IsTable (table_in (Check signature table hash date options) contents) rows
+      → IsAnswerTo (verdict_of rows) (Check signature table hash date options) contents (OfSignature (Ok a))
+      → Appends held (accepted_line a) held_now → IsVouchedSignature words files held held_now
+  of_check signature table hash date options [] rows a asked are is_table is_answer written = absurd are
+  of_check signature table hash date options (octets ∷ []) rows a asked are is_table is_answer written = absurd are.1
+  of_check signature table hash date options (octets ∷ text ∷ more ∷ others) rows a asked are is_table is_answer written = absurd are.1.1
+  of_check signature table hash date options (octets ∷ text ∷ []) rows a asked are is_table is_answer written =
+      vouched_check words files signature table hash octets text rows are.0 are.1.0 is_table a one_signed_data held held_now written date options asked is_answer.is
+
+  of_chain : (table : List ℕ) (date : GeneralizedTime) (names contents : List (List ℕ)) (rows : List VerdictRow) (count : ℕ)
       → AsksFor words (Chain table date names) → AreWholeFiles files (files_of (Chain table date names)) contents
       → IsTable (table_in (Chain table date names) contents) rows
       → IsAnswerTo (verdict_of rows) (Chain table date names) contents (OfChain (Ok count)) → IsVouchedChain words files
-  vouched_certificates table date names [] rows count asked are is_table is_answer = absurd are
-  vouched_certificates table date names (text ∷ octets) rows count asked are is_table is_answer =
+  of_chain table date names [] rows count asked are is_table is_answer = absurd are
+  of_chain table date names (text ∷ octets) rows count asked are is_table is_answer =
       vouched_chain words files table date names asked text rows octets are.0 are.1 is_table count is_answer
 
-  -- an answer to one job is none to the other
-  other_answer : (signature table hash : List ℕ) (contents : List (List ℕ)) (rows : List VerdictRow) (given : Result ℕ CertError)
+  -- an answer to one job is none to another
+  no_chain_for_basic : (signature table hash : List ℕ) (contents : List (List ℕ)) (rows : List VerdictRow) (given : Result ℕ CertError)
       → IsAnswerTo (verdict_of rows) (Basic signature table hash) contents (OfChain given) → ⊥
-  other_answer signature table hash [] rows given is_answer = is_answer
-  other_answer signature table hash (octets ∷ others) rows given is_answer = is_answer
+  no_chain_for_basic signature table hash [] rows given is_answer = is_answer
+  no_chain_for_basic signature table hash (octets ∷ others) rows given is_answer = is_answer
 
-  other_signature : (table : List ℕ) (date : GeneralizedTime) (names contents : List (List ℕ)) (rows : List VerdictRow) (given : Result Accepted CheckError)
+  no_chain_for_check : (signature table hash : List ℕ) (date : GeneralizedTime) (options : CheckOptions) (contents : List (List ℕ)) (rows : List VerdictRow)
+      (given : Result ℕ CertError) → IsAnswerTo (verdict_of rows) (Check signature table hash date options) contents (OfChain given) → ⊥
+  no_chain_for_check signature table hash date options [] rows given is_answer = is_answer
+  no_chain_for_check signature table hash date options (octets ∷ others) rows given is_answer = is_answer
+
+  no_signature_for_chain : (table : List ℕ) (date : GeneralizedTime) (names contents : List (List ℕ)) (rows : List VerdictRow) (given : Result Accepted CheckError)
       → IsAnswerTo (verdict_of rows) (Chain table date names) contents (OfSignature given) → ⊥
-  other_signature table date names [] rows given is_answer = is_answer
-  other_signature table date names (text ∷ octets) rows given is_answer = is_answer
+  no_signature_for_chain table date names [] rows given is_answer = is_answer
+  no_signature_for_chain table date names (text ∷ octets) rows given is_answer = is_answer
 
   vouched_for_job : (job : Job) (answer : Answer) → AsksFor words job → IsAnswered files job answer → status_of answer ≡ 0
-      → IsVouchedFor words files ⊎ IsVouchedChain words files
-  vouched_for_job (Basic signature table hash) (OfSignature (Ok a)) asked h zero =
-      inl (vouched_signature signature table hash h.contents h.rows a asked h.are_files h.is_table h.is_answer)
-  vouched_for_job (Basic signature table hash) (OfSignature (Err e)) asked h zero = absurd (omega arith)
-  vouched_for_job (Basic signature table hash) (OfChain given) asked h zero = absurd (other_answer signature table hash h.contents h.rows given h.is_answer)
-  vouched_for_job (Chain table date names) (OfChain (Ok count)) asked h zero =
-      inr (vouched_certificates table date names h.contents h.rows count asked h.are_files h.is_table h.is_answer)
-  vouched_for_job (Chain table date names) (OfChain (Err e)) asked h zero = absurd (omega arith)
-  vouched_for_job (Chain table date names) (OfSignature given) asked h zero = absurd (other_signature table date names h.contents h.rows given h.is_answer)
+      → Appends held (line_of answer) held_now → IsVouched
+  vouched_for_job (Basic signature table hash) (OfSignature (Ok a)) asked h zero written =
+      inl (of_basic signature table hash h.contents h.rows a asked h.are_files h.is_table h.is_answer)
+  vouched_for_job (Basic signature table hash) (OfSignature (Err e)) asked h zero written = absurd (omega arith)
+  vouched_for_job (Basic signature table hash) (OfChain given) asked h zero written = absurd (no_chain_for_basic signature table hash h.contents h.rows given h.is_answer)
+  vouched_for_job (Check signature table hash date options) (OfSignature (Ok a)) asked h zero written =
+      inr (inl (of_check signature table hash date options h.contents h.rows a asked h.are_files h.is_table h.is_answer written))
+  vouched_for_job (Check signature table hash date options) (OfSignature (Err e)) asked h zero written = absurd (omega arith)
+  vouched_for_job (Check signature table hash date options) (OfChain given) asked h zero written =
+      absurd (no_chain_for_check signature table hash date options h.contents h.rows given h.is_answer)
+  vouched_for_job (Chain table date names) (OfChain (Ok count)) asked h zero written =
+      inr (inr (of_chain table date names h.contents h.rows count asked h.are_files h.is_table h.is_answer))
+  vouched_for_job (Chain table date names) (OfChain (Err e)) asked h zero written = absurd (omega arith)
+  vouched_for_job (Chain table date names) (OfSignature given) asked h zero written =
+      absurd (no_signature_for_chain table date names h.contents h.rows given h.is_answer)
 
-  pub vouched_for : (answer : Answer) → Answers words files answer → status_of answer ≡ 0 → IsVouchedFor words files ⊎ IsVouchedChain words files
-  vouched_for answer h zero = vouched_for_job h.job answer h.asked h.is_answered zero
+  pub vouched_for : (answer : Answer) → Answers words files answer → status_of answer ≡ 0 → Appends held (line_of answer) held_now
+      → IsVouchedFor words files ⊎ (IsVouchedSignature words files held held_now ⊎ IsVouchedChain words files)
+  vouched_for answer h zero written = vouched_for_job h.job answer h.asked h.is_answered zero written

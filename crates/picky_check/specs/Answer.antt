@@ -1,26 +1,35 @@
 -- What the files say that a job names: the answer, or that the table is none.
-use Rattle.std.specs.Prelude.{ℕ, List, [], ◌∷◌, Option}
+use Rattle.std.specs.Prelude.{ℕ, List, [], ◌∷◌, Option, Result}
 use Rattle.asn1_types.specs.declared.generalized_time.GeneralizedTime.{GeneralizedTime}
 use Rattle.sig_core.specs.declared.verdict_row.VerdictRow.{VerdictRow}
 use Rattle.sig_core.specs.VerdictTable.{IsTable, IsFirstBadLine, verdict_of}
 use Rattle.key_core.specs.Verifying.{Judge}
-use Rattle.authenticode_core.specs.Basic.{IsBasicAnswer}
+use Rattle.authenticode_core.specs.Trusted.{IsAnswer}
+use Rattle.authenticode_core.specs.declared.accepted.Accepted.{Accepted}
+use Rattle.authenticode_core.specs.declared.error.CheckError.{CheckError}
+use Rattle.authenticode_core.specs.declared.policy.Policy.{Policy}
 use Rattle.picky_check.specs.ChainAnswer.{IsChainAnswer}
 use Rattle.picky_check.specs.Limits.{AreWholeFiles}
+use Rattle.picky_check.specs.Policies.{basic_policy, check_policy}
 use Rattle.picky_check.specs.Report.{Answer, OfSignature, OfChain}
 use Rattle.picky_check.specs.Shelf.{Files}
-use Rattle.picky_check.specs.Words.{Job, Basic, Chain, files_of}
+use Rattle.picky_check.specs.Words.{Job, Basic, Check, Chain, files_of}
 
 -- the text of the table, among the contents of the files
 abbrev pub table_in : Job → List (List ℕ) → List ℕ
 table_in (Basic signature table hash) (octets ∷ text ∷ others) = text
+table_in (Check signature table hash date options) (octets ∷ text ∷ others) = text
 table_in (Chain table date certificates) (text ∷ others) = text
 table_in job contents = []
 
+-- An answer of the check of a signature file, under what is asked of it.
+pub record IsCheckAnswer (judge : Judge) (policy : Policy) (octets : List ℕ) (given : Result Accepted CheckError) : Type 0 where
+  pub is : IsAnswer judge policy octets given
+
 -- an answer about the octets of a signature file
-abbrev pub IsSignatureAnswer : Judge → (octets hash : List ℕ) → Answer → Type 0
-IsSignatureAnswer judge octets hash (OfSignature given) = IsBasicAnswer judge octets hash given
-IsSignatureAnswer judge octets hash (OfChain given) = ⊥
+abbrev pub IsSignatureAnswer : Judge → Policy → (octets : List ℕ) → Answer → Type 0
+IsSignatureAnswer judge policy octets (OfSignature given) = IsCheckAnswer judge policy octets given
+IsSignatureAnswer judge policy octets (OfChain given) = ⊥
 
 -- an answer about the octets of certificates
 abbrev pub IsCertificateAnswer : Judge → GeneralizedTime → List (List ℕ) → Answer → Type 0
@@ -29,7 +38,8 @@ IsCertificateAnswer judge date octets (OfChain given) = IsChainAnswer judge date
 
 -- The answer to a job about the contents of its files, where these are the verdicts of its table.
 abbrev pub IsAnswerTo : Judge → Job → List (List ℕ) → Answer → Type 0
-IsAnswerTo judge (Basic signature table hash) (octets ∷ others) answer = IsSignatureAnswer judge octets hash answer
+IsAnswerTo judge (Basic signature table hash) (octets ∷ others) answer = IsSignatureAnswer judge (basic_policy hash) octets answer
+IsAnswerTo judge (Check signature table hash date options) (octets ∷ others) answer = IsSignatureAnswer judge (check_policy hash date options) octets answer
 IsAnswerTo judge (Chain table date certificates) (text ∷ octets) answer = IsCertificateAnswer judge date octets answer
 IsAnswerTo judge job contents answer = ⊥
 

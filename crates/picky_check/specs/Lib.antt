@@ -7,7 +7,9 @@ pub mod Stored
 pub mod Memory
 pub mod Opened
 pub mod DateWord
+pub mod Options
 pub mod Words
+pub mod Policies
 pub mod Jobs
 pub mod Report
 pub mod ChainAnswer

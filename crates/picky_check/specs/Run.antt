@@ -79,9 +79,9 @@ pub record IsRun (words : List (List ℕ)) (shelf shelf_now : ShelfState) (out o
       → ((status ≡ 6) ⊎ (status ≡ 7)) ⊎ (status ≡ 4)
   -- without a report nothing is written
   pub nothing_written : 2 ≤ status → status ≢ 5 → Keeps out.held out_now.held
-  -- Where a quiet shelf tells its files, the answer about them is reported, unless memory runs out,
-  -- or the sink fails that tells no room for the line.
+  -- Where a quiet shelf tells its files, the answer about them is reported by its line, unless memory
+  -- runs out, or the sink fails that tells no room for the line.
   pub answered : (job : Job) (answer : Answer) → AsksFor words job → shelf.is_quiet → IsSome shelf.files
       → IsAnswered shelf.files job answer → (WantsMemory answer → ⊥)
-      → ((status ≡ status_of answer) ⊎ (status ≡ 7))
+      → (((status ≡ status_of answer) × Appends out.held (line_of answer) out_now.held) ⊎ (status ≡ 7))
       ⊎ ((status ≡ 5) × HasRisen out.faults out_now.faults × LacksRoom out answer)

@@ -3,18 +3,23 @@ use Rattle.std.specs.Prelude.{◌≡◌, ◌≤◌, ℕ, List, [], ◌∷◌, le
 use Rattle.hex.specs.Hex.{decode_of}
 use Rattle.hex.specs.declared.error.FromHexError.{FromHexError}
 use Rattle.asn1_types.specs.declared.generalized_time.GeneralizedTime.{GeneralizedTime}
+use Rattle.picky_check.specs.declared.options.CheckOptions.{CheckOptions}
 use Rattle.picky_check.specs.DateWord.{IsDateWord}
+use Rattle.picky_check.specs.Options.{AreOptions}
 
 -- what is asked for
 pub data Job : Type 0 where
   -- the form of the file SIG, its digest, which is HASH, and its signature, which TABLE accepts
   Basic : (signature table hash : List ℕ) → Job
+  -- the same, and the certificate of its signer over those of its issuers, at DATE, but for what the options leave out
+  Check : (signature table hash : List ℕ) → (date : GeneralizedTime) → (options : CheckOptions) → Job
   -- the first of the files CERT over the others, its parents, at DATE, by the signatures that TABLE accepts
   Chain : (table : List ℕ) → (date : GeneralizedTime) → (certificates : List (List ℕ)) → Job
 
 -- the names of its files, in the order in which they are read
 abbrev pub files_of : Job → List (List ℕ)
 files_of (Basic signature table hash) = signature ∷ table ∷ []
+files_of (Check signature table hash date options) = signature ∷ table ∷ []
 files_of (Chain table date certificates) = table ∷ certificates
 
 -- these octets, where there are 1 to 64
@@ -33,6 +38,16 @@ pub record IsBasic (words : List (List ℕ)) (signature table hash : List ℕ) :
   pub words_are : words ≡ codes "basic" ∷ signature ∷ table ∷ word ∷ []
   pub hash_is : hash_of word ≡ Some hash
 
+-- check SIG TABLE HASH DATE, then options
+pub record IsCheck (words : List (List ℕ)) (signature table hash : List ℕ) (date : GeneralizedTime) (options : CheckOptions) : Type 0 where
+  pub word : List ℕ
+  pub date_word : List ℕ
+  pub option_words : List (List ℕ)
+  pub words_are : words ≡ codes "check" ∷ signature ∷ table ∷ word ∷ date_word ∷ option_words
+  pub hash_is : hash_of word ≡ Some hash
+  pub date_is : IsDateWord date_word date
+  pub options_are : AreOptions option_words options
+
 -- chain TABLE DATE CERT .., with 1 to 32 files CERT
 pub record IsChain (words : List (List ℕ)) (table : List ℕ) (date : GeneralizedTime) (certificates : List (List ℕ)) : Type 0 where
   pub word : List ℕ
@@ -44,6 +59,7 @@ pub record IsChain (words : List (List ℕ)) (table : List ℕ) (date : Generali
 -- The table of the commands: the words ask for this job.
 abbrev pub AsksFor : List (List ℕ) → Job → Type 0
 AsksFor words (Basic signature table hash) = IsBasic words signature table hash
+AsksFor words (Check signature table hash date options) = IsCheck words signature table hash date options
 AsksFor words (Chain table date certificates) = IsChain words table date certificates
 
 -- the words are of no command

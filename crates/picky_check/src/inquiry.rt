@@ -6,16 +6,19 @@ ghost use Rattle.sig_core.specs.VerdictTable.{IsTable, IsFirstBadLine, verdict_o
 ghost use Rattle.picky_check.specs.Answer.{IsAnswerTo, IsCertificateAnswer, IsSignatureAnswer, table_in};
 ghost use Rattle.picky_check.specs.Inquiry.{IsReportOf, GivesReport, GivesStop, StopsForText, IsInquiry, Inquires, Reports};
 ghost use Rattle.picky_check.specs.Jobs.{contents_held, job_held};
+ghost use Rattle.picky_check.specs.Policies.{basic_policy, check_policy};
 ghost use Rattle.picky_check.specs.Report.{Answer};
 ghost use Rattle.picky_check.specs.Words.{AsksFor, AsksForNothing, Job as AskedJob};
 
 use crate::Shelf;
 use crate::chain::check_chain;
 use crate::files::{Contents, read_files};
+use crate::options::CheckOptions;
+use crate::policies::{basic_policy, check_policy};
 use crate::report::{Report, chain_report_of, report_of};
 use crate::stop::Stop;
 use crate::words::{Job, job_of};
-use authenticode_core::check_basic;
+use authenticode_core::{Policy, check_wincert};
 use names_core::UtcDate;
 use sig_core::{Scheme, VerdictTable};
 use std::alloc::Global;
@@ -73,7 +76,7 @@ impl Job<'_> {
         ensures { result.now ≡ table_in (job_held self.now) (contents_held read.now) }
     {
         match self {
-            Job::Basic { .. } => &read.second,
+            Job::Basic { .. } | Job::Check { .. } => &read.second,
             Job::Chain { .. } => &read.first,
         }
     }
@@ -89,23 +92,62 @@ fn judge_by<S: Scheme>(
     ensures { Reports (IsAnswerTo (S.judge scheme.now) (job_held asked.now) (contents_held read.now)) result }
 {
     match asked {
-        Job::Basic { hash, .. } => judge_signature(alloc, &read.first, hash, scheme),
+        Job::Basic { hash, .. } => judge_basic(alloc, &read.first, hash, scheme),
+        Job::Check {
+            hash,
+            date,
+            options,
+            ..
+        } => judge_signer(alloc, &read.first, hash, *date, *options, scheme),
         Job::Chain { date, .. } => judge_chain(alloc, &read.second, &read.others, date, scheme),
     }
 }
 
-/// The report of the octets of a signature file, judged by a scheme.
-fn judge_signature<S: Scheme>(
+/// The report of the octets of a signature file, judged by a scheme as `basic` asks.
+fn judge_basic<S: Scheme>(
     alloc: Global,
     octets: &[u8],
     hash: &[u8],
     scheme: &S,
 ) -> Result<Report, Stop>
-    ensures { Reports (IsSignatureAnswer (S.judge scheme.now) octets.now hash.now) result }
+    ensures { Reports (IsSignatureAnswer (S.judge scheme.now) (basic_policy hash.now) octets.now) result }
 {
-    let answer = check_basic(alloc, octets, hash, scheme);
-    report_of(alloc, &answer)
+    let policy = basic_policy(alloc, hash)?;
+    judge_signature(alloc, octets, &policy, scheme)
 }
+
+/// The same as `check` asks.
+fn judge_signer<S: Scheme>(
+    alloc: Global,
+    octets: &[u8],
+    hash: &[u8],
+    date: UtcDate,
+    options: CheckOptions,
+    scheme: &S,
+) -> Result<Report, Stop>
+    ensures { Reports (IsSignatureAnswer (S.judge scheme.now) (check_policy hash.now date options) octets.now) result }
+{
+    let policy = check_policy(alloc, hash, date, options)?;
+    judge_signature(alloc, octets, &policy, scheme)
+}
+
+/// The report of the octets of a signature file, judged by a scheme under a policy.
+fn judge_signature<S: Scheme>(
+    alloc: Global,
+    octets: &[u8],
+    policy: &Policy,
+    scheme: &S,
+) -> Result<Report, Stop>
+    ensures { Reports (IsSignatureAnswer (S.judge scheme.now) policy.now octets.now) result }
+{
+    let answer = check_wincert(alloc, octets, policy, scheme);
+    let report = report_of(alloc, &answer);
+    let_go(answer);
+    report
+}
+
+/// Lets a value go. What that takes is proved once for any type, and not for each error in an answer.
+fn let_go<T: Drop>(_value: T) {}
 
 /// The report of the octets of a certificate and its parents, judged by a scheme at a date.
 fn judge_chain<S: Scheme>(

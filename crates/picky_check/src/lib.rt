@@ -8,6 +8,8 @@ mod error;
 mod files;
 mod inquiry;
 mod memory;
+mod options;
+mod policies;
 mod program;
 mod report;
 mod shelf;

@@ -4,7 +4,7 @@ ghost use Rattle.std.specs.Prelude.{◌≡◌, ◌⊎◌, map, string_bytes};
 ghost use Rattle.std.specs.IoError.{error_kind};
 ghost use Rattle.picky_check.specs.Counts.{HasRisen};
 ghost use Rattle.picky_check.specs.ChainHeadline.{IsVouchedChain};
-ghost use Rattle.picky_check.specs.Headline.{IsVouchedFor};
+ghost use Rattle.picky_check.specs.Headline.{IsVouchedFor, IsVouchedSignature};
 ghost use Rattle.picky_check.specs.Run.{IsRun};
 ghost use Rattle.picky_check.specs.Sink.{Appends, IsCutShort};
 
@@ -12,6 +12,7 @@ use crate::inquiry::inquire;
 use crate::report::Report;
 use crate::stop::{OUT_OF_MEMORY, SINK_FAILED, USAGE};
 use crate::{Shelf, Sink, write_report};
+use authenticode_core::one_signed_data;
 use std::alloc::Global;
 use std::io::{Error, ErrorKind};
 
@@ -21,11 +22,14 @@ pub fn run<F: Shelf, O: Sink>(alloc: Global, words: &[String], shelf: &mut F, ou
     // Acceptance means vouched for.
     ensures vouched_for { result ≡ 0
         → IsVouchedFor (map string_bytes words.now) (F.state shelf.old).files
-        ⊎ IsVouchedChain (map string_bytes words.now) (F.state shelf.old).files }
+        ⊎ (IsVouchedSignature (map string_bytes words.now) (F.state shelf.old).files
+        (O.state out.old).held (O.state out.new).held
+        ⊎ IsVouchedChain (map string_bytes words.now) (F.state shelf.old).files) }
     // What each status tells, and when it comes.
     ensures ends { IsRun (map string_bytes words.now) (F.state shelf.old) (F.state shelf.new)
         (O.state out.old) (O.state out.new) result }
 {
+    one_signed_data();
     match inquire(alloc, words, shelf) {
         Ok(report) => deliver(out, &report),
         Err(stop) => stop.status(),

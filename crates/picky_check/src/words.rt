@@ -6,6 +6,7 @@ ghost use Rattle.picky_check.specs.Words.{AsksFor, AsksForNothing, Job as AskedJ
 
 use crate::dates::date_of;
 use crate::files::Names;
+use crate::options::{CheckOptions, options_of};
 use names_core::UtcDate;
 use std::alloc::{AllocError, Global};
 
@@ -24,6 +25,14 @@ pub(crate) enum Job<'a> {
         table: &'a str,
         hash: Vec<u8>,
     },
+    /// The same, and the signer's certificate over those of its issuers, from a date on.
+    Check {
+        signature: &'a str,
+        table: &'a str,
+        hash: Vec<u8>,
+        date: UtcDate,
+        options: CheckOptions,
+    },
     /// A certificate over its parents, at a date.
     Chain {
         table: &'a str,
@@ -40,6 +49,11 @@ impl Job<'_> {
     {
         match self {
             Job::Basic {
+                signature,
+                table,
+                ..
+            }
+            | Job::Check {
                 signature,
                 table,
                 ..
@@ -75,13 +89,12 @@ pub(crate) fn job_of(alloc: Global, words: &[String]) -> Result<Option<Job<'_>>,
     let [command, words @ ..] = words else {
         return Ok(None);
     };
-    if command.as_str() == "basic" {
-        return basic_of(alloc, words);
+    match command.as_str() {
+        "basic" => basic_of(alloc, words),
+        "check" => check_of(alloc, words),
+        "chain" => Ok(chain_of(words)),
+        _ => Ok(None),
     }
-    if command.as_str() == "chain" {
-        return Ok(chain_of(words));
-    }
-    Ok(None)
 }
 
 /// The job of the words behind `basic`.
@@ -104,6 +117,37 @@ fn basic_of(alloc: Global, words: &[String]) -> Result<Option<Job<'_>>, AllocErr
         signature: signature.as_str(),
         table: table.as_str(),
         hash,
+    }))
+}
+
+/// The job of the words behind `check`.
+fn check_of(alloc: Global, words: &[String]) -> Result<Option<Job<'_>>, AllocError>
+    ensures asked { IfOk result (λ asked. MatchOption asked
+        (AsksForNothing (codes "check" ∷ map string_bytes words.now))
+        (λ held. AsksFor (codes "check" ∷ map string_bytes words.now) (job_held held))) }
+    ensures only { (asked : AskedJob) → AsksFor (codes "check" ∷ map string_bytes words.now) asked
+        → IfOk result (λ held. option_map job_held held ≡ Some asked) }
+    ensures memory { IsErr result → (asked : AskedJob)
+        × AsksFor (codes "check" ∷ map string_bytes words.now) asked }
+{
+    let [signature, table, hash, date, options @ ..] = words else {
+        return Ok(None);
+    };
+    let Some(date) = date_of(date.as_str()) else {
+        return Ok(None);
+    };
+    let Some(options) = options_of(options) else {
+        return Ok(None);
+    };
+    let Some(hash) = hash_of(alloc, hash.as_str())? else {
+        return Ok(None);
+    };
+    Ok(Some(Job::Check {
+        signature: signature.as_str(),
+        table: table.as_str(),
+        hash,
+        date,
+        options,
     }))
 }
 

@@ -1,4 +1,5 @@
-//! Which words ask for a job, on an empty signature file `s` and an empty table `t`.
+//! Which words ask for a job, on an empty signature file `s`, another named `--until`, and an empty
+//! table `t`.
 
 use picky_check::{MemShelf, MemSink, REFUSED, USAGE, run};
 use std::alloc::{AllocError, Global};
@@ -11,12 +12,12 @@ const OCTETS_65: &str = "000102030405060708090a0b0c0d0e0f101112131415161718191a1
 
 // Words, and whether they ask for a job.
 #[rattlefmt::skip]
-const WORDS: [(&str, &[&str], bool); 24] = [
+const WORDS: [(&str, &[&str], bool); 52] = [
     ("no words",            &[],                              false),
     ("a command alone",     &["basic"],                       false),
     ("a word too few",      &["basic", "s", "t"],             false),
     ("a word too many",     &["basic", "s", "t", "00", "00"], false),
-    ("another command",     &["check", "s", "t", "00"],       false),
+    ("another command",     &["checks", "s", "t", "00", "2025-01-31"], false),
     ("another case",        &["Basic", "s", "t", "00"],       false),
     ("a hash of 0 octets",  &["basic", "s", "t", ""],         false),
     ("of 1",                &["basic", "s", "t", "00"],       true),
@@ -36,6 +37,34 @@ const WORDS: [(&str, &[&str], bool); 24] = [
     ("no such hour",        &["chain", "t", "2025-01-31T24:00:00", "s"], false),
     ("a hash for a date",   &["chain", "t", "00", "s"],       false),
     ("a date for a hash",   &["basic", "s", "t", "2025-01-31"], false),
+    ("a check at a day",    &["check", "s", "t", "00", "2025-01-31"],          true),
+    ("at a moment",         &["check", "s", "t", "00", "2024-02-29T23:59:59"], true),
+    ("without a date",      &["check", "s", "t", "00"],                        false),
+    ("at no such day",      &["check", "s", "t", "00", "2023-02-29"],          false),
+    ("by no hash",          &["check", "s", "t", "0", "2025-01-31"],           false),
+    ("a name like an option", &["check", "--until", "t", "00", "2025-01-31"],  true),
+    ("up to a day",         &["check", "s", "t", "00", "2025-01-31", "--until", "2025-02-01"], true),
+    ("to a moment",         &["check", "s", "t", "00", "2025-01-31", "--until", "2025-02-01T00:00:01"], true),
+    ("to an earlier day",   &["check", "s", "t", "00", "2025-01-31", "--until", "2024-02-01"], true),
+    ("to no such day",      &["check", "s", "t", "00", "2025-01-31", "--until", "2025-02-30"], false),
+    ("to no day",           &["check", "s", "t", "00", "2025-01-31", "--until"], false),
+    ("an option for a day", &["check", "s", "t", "00", "2025-01-31", "--until", "--no-chain"], false),
+    ("a day in one word",   &["check", "s", "t", "00", "2025-01-31", "--until=2025-02-01"], false),
+    ("not already",         &["check", "s", "t", "00", "2025-01-31", "--no-before"], true),
+    ("not still",           &["check", "s", "t", "00", "2025-01-31", "--no-after"], true),
+    ("no chain",            &["check", "s", "t", "00", "2025-01-31", "--no-chain"], true),
+    ("each option",         &["check", "s", "t", "00", "2025-01-31", "--no-chain", "--until", "2025-02-01", "--no-after", "--no-before"], true),
+    ("in another order",    &["check", "s", "t", "00", "2025-01-31", "--no-before", "--no-after", "--no-chain", "--until", "2025-02-01"], true),
+    ("two days",            &["check", "s", "t", "00", "2025-01-31", "--until", "2025-02-01", "--until", "2025-02-01"], false),
+    ("not already, twice",  &["check", "s", "t", "00", "2025-01-31", "--no-before", "--no-before"], false),
+    ("not still, twice",    &["check", "s", "t", "00", "2025-01-31", "--no-after", "--no-chain", "--no-after"], false),
+    ("no chain, twice",     &["check", "s", "t", "00", "2025-01-31", "--no-chain", "--no-chain"], false),
+    ("ahead of the date",   &["check", "s", "t", "00", "--no-chain", "2025-01-31"], false),
+    ("ahead of the files",  &["check", "--no-chain", "s", "t", "00", "2025-01-31"], false),
+    ("a word between",      &["check", "s", "t", "00", "2025-01-31", "--no-after", "s", "--no-chain"], false),
+    ("another option",      &["check", "s", "t", "00", "2025-01-31", "--help"], false),
+    ("in another case",     &["check", "s", "t", "00", "2025-01-31", "--No-Chain"], false),
+    ("an option of none",   &["basic", "s", "t", "00", "--no-chain"], false),
 ];
 
 #[test]
@@ -51,6 +80,7 @@ fn status_of(alloc: Global, words: &[&str]) -> Result<u8, AllocError> {
     let words = owned(alloc, words)?;
     let mut shelf = MemShelf::new(alloc);
     shelf.add("s", b"")?;
+    shelf.add("--until", b"")?;
     shelf.add("t", b"")?;
     let mut sink = MemSink::with_room(alloc, 99)?;
     Ok(run(alloc, &words, &mut shelf, &mut sink))

@@ -1,0 +1,58 @@
+//! What the commands ask of a signature file.
+
+ghost use Rattle.std.specs.Prelude.{◌≡◌, IfOk};
+ghost use Rattle.picky_check.specs.Policies.{basic_policy, check_policy, moments};
+
+use crate::options::CheckOptions;
+use authenticode_core::{DateCheck, Policy};
+use der_core::Octets;
+use names_core::UtcDate;
+use std::alloc::{AllocError, Global};
+
+/// What `basic` asks: nothing of the signer's certificate.
+pub(crate) fn basic_policy(alloc: Global, hash: &[u8]) -> Result<Policy, AllocError>
+    ensures { IfOk result (λ policy. policy ≡ basic_policy hash.now) }
+{
+    Ok(Policy {
+        basic: true,
+        file_hash: Some(Octets::from_slice(alloc, hash)?),
+        signing: false,
+        not_before: false,
+        not_after: false,
+        chain: false,
+        date: DateCheck::Absent,
+    })
+}
+
+/// What `check` asks, by its options.
+pub(crate) fn check_policy(
+    alloc: Global,
+    hash: &[u8],
+    date: UtcDate,
+    options: CheckOptions,
+) -> Result<Policy, AllocError>
+    ensures { IfOk result (λ policy. policy ≡ check_policy hash.now date options) }
+{
+    Ok(Policy {
+        basic: true,
+        file_hash: Some(Octets::from_slice(alloc, hash)?),
+        signing: true,
+        not_before: !options.no_before,
+        not_after: !options.no_after,
+        chain: !options.no_chain,
+        date: moments(date, options.until),
+    })
+}
+
+/// The moment, or those from it to another one.
+fn moments(date: UtcDate, until: Option<UtcDate>) -> DateCheck
+    ensures { result ≡ moments date until }
+{
+    match until {
+        Some(other) => DateCheck::Interval {
+            lower: date,
+            upper: other,
+        },
+        None => DateCheck::Exact(date),
+    }
+}
