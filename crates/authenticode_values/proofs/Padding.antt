@@ -1,16 +1,12 @@
 -- Octets are signed data with zeros after it, or they aren't, for one cause.
-use Rattle.std.proofs.Common.{◌≡◌, ℕ, List, length, take, drop, refl, sym, ap, subst, ◌∙◌, inl, inr}
-use Rattle.std.specs.Prelude.{replicate, [], MatchResult, Result, Ok, Err}
-use Rattle.std.proofs.lemmas.List.{drop_at, take_at}
+use Rattle.std.proofs.Common.{◌≡◌, ℕ, List, length, drop, refl, sym, ap, subst, ◌∙◌, inl, inr}
+use Rattle.std.specs.Prelude.{replicate, MatchResult, Result, Ok, Err}
+use Rattle.std.proofs.lemmas.List.{drop_at}
 use Rattle.der_core.specs.DerElement.{DerElement}
 use Rattle.der_core.specs.Encoding.{encoding, IsPaddedEncoding}
-use Rattle.der_core.specs.Fault.{IsFirstFault, Outermost}
-use Rattle.der_core.specs.Head.{head_at}
-use Rattle.der_core.specs.Reading.{IsFirst}
 use Rattle.der_core.specs.Refusals.{RefusesShape}
 use Rattle.der_core.specs.declared.error.DerError.{DerError}
 use Rattle.der_core.specs.declared.error.DerError.TheVariants as der
-use Rattle.der_core.specs.declared.fault.DerFault.TheVariants.{Truncated}
 use Rattle.der_core.specs.declared.fault.Malformed.{Malformed}
 use Rattle.der_core.proofs.Elements.{first_once}
 use Rattle.der_core.proofs.Exact.{no_fault_where_first}

@@ -1,7 +1,14 @@
 pub mod Unread
 pub mod Pkcs7
 pub mod Refusals
-pub mod ErrorText
 pub mod SigningCertificate
 pub mod SignedFields
 pub mod Walk
+pub mod CertificatesAlone
+pub mod TimestampRequest
+pub mod Counts
+pub mod Timestamper
+pub mod Stamping
+pub mod RequestRefusals
+pub mod TokenStamp
+pub mod Facts

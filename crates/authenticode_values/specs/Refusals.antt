@@ -3,12 +3,11 @@ use Rattle.std.specs.Prelude.{◌≡◌}
 use Rattle.der_core.specs.declared.error.DerError.{DerError}
 use Rattle.der_core.specs.declared.error.DerError.TheVariants as der
 use Rattle.key_core.specs.declared.element.Element.TheVariants as structures
-use Rattle.x509_core.specs.declared.error.CertError.{CertError}
 use Rattle.x509_core.specs.declared.error.CertError.TheVariants as certs
 use Rattle.authenticode_core.specs.declared.error.AuthenticodeError.{AuthenticodeError}
 use Rattle.authenticode_core.specs.declared.error.AuthenticodeError.TheVariants as authenticode
-use Rattle.authenticode_values.specs.declared.pkcs7_error.Pkcs7Error.{Pkcs7Error}
-use Rattle.authenticode_values.specs.declared.pkcs7_error.Pkcs7Error.TheVariants as errors
+use Rattle.authenticode_core.specs.declared.pkcs7_error.Pkcs7Error.{Pkcs7Error}
+use Rattle.authenticode_core.specs.declared.pkcs7_error.Pkcs7Error.TheVariants as errors
 
 -- want of memory is told as such, any other cause by the structure and the cause
 abbrev pub unread : DerError → Pkcs7Error
@@ -24,11 +23,6 @@ unwritten (der.Malformed m) = errors.Cert (certs.Asn1Serialization structures.Pk
 unwritten der.Shape = errors.Cert (certs.Asn1Serialization structures.Pkcs7 der.Shape)
 unwritten der.TooDeep = errors.Cert (certs.Asn1Serialization structures.Pkcs7 der.TooDeep)
 unwritten der.TooLong = errors.Cert (certs.Asn1Serialization structures.Pkcs7 der.TooLong)
-
--- an error of certificates as one of signed data
-abbrev pub of_certificates : CertError → Pkcs7Error
-of_certificates certs.Memory = errors.Memory
-of_certificates e = errors.Cert e
 
 -- an error of signed data as one of signatures
 abbrev pub of_signed_data : Pkcs7Error → AuthenticodeError

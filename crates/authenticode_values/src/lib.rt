@@ -1,16 +1,25 @@
 //! Signed data and Authenticode signatures that a caller keeps: read from octets and written as
-//! octets, asked for their certificates, the signer's among them, and for what is signed.
+//! octets, asked for their certificates, the signer's among them, and for what is signed, and stamped.
 #![tactic(auto)]
 
+mod alone;
 mod bag;
+mod carrying;
 mod certificates;
 mod padded;
 mod pkcs7;
-mod pkcs7_error;
+mod refusing;
 mod signature;
 mod signing_certificate;
+mod stamping;
+mod timestamp_request;
+mod timestamper;
+mod token_timestamper;
 
+pub use authenticode_core::Pkcs7Error;
 pub use certificates::SignatureCertificatesIterator;
 pub use pkcs7::Pkcs7;
-pub use pkcs7_error::Pkcs7Error;
 pub use signature::AuthenticodeSignature;
+pub use timestamp_request::TimestampRequest;
+pub use timestamper::Timestamper;
+pub use token_timestamper::TokenTimestamper;

@@ -1,6 +1,6 @@
 //! Signed data that is kept.
 
-ghost use Rattle.std.specs.Prelude.{◌≡◌, ◌≢◌, ◌∷◌, [], ℕ, IfOk, Err, MatchResult};
+ghost use Rattle.std.specs.Prelude.{◌≡◌, ◌≢◌, ◌∷◌, [], ℕ, IfOk, Err, MatchResult, map};
 ghost use Rattle.der_core.specs.DerElement.{DerElement};
 ghost use Rattle.der_core.specs.Encoding.{encoding, IsDer};
 ghost use Rattle.der_core.specs.Reading.{IsExactFault};
@@ -10,12 +10,17 @@ ghost use Rattle.der_core.specs.declared.error.DerError.TheVariants as der_error
 ghost use Rattle.der_core.specs.declared.fault.DerFault.{DerFault};
 ghost use Rattle.cms_types.specs.Pkcs7.{pkcs7};
 ghost use Rattle.cms_types.specs.declared.pkcs7.Pkcs7Certificate.{Pkcs7Certificate};
+ghost use Rattle.x509_types.specs.CertificateElements.{certificate_of};
 ghost use Rattle.authenticode_core.specs.CertificateBag.{IsBag, members_of};
+ghost use Rattle.authenticode_core.specs.declared.pkcs7_error.Pkcs7Error.TheVariants as errors;
+ghost use Rattle.authenticode_values.specs.CertificatesAlone.{certificates_alone};
 ghost use Rattle.authenticode_values.specs.Pkcs7.{IsPkcs7Of, elements_of, fields_of, written};
 ghost use Rattle.authenticode_values.specs.Refusals.{IsUnread, IsUnwritten, unread};
 
+use crate::alone::without_signers;
 use crate::bag::certificates_of;
-use crate::pkcs7_error::Pkcs7Error;
+use crate::refusing::{unread, unwritten};
+use authenticode_core::Pkcs7Error;
 use cms_types::{EncapsulatedContentInfo, Pkcs7Certificate, SignedView, SignerInfo};
 use der_core::{DerError, Structure, exact_elem};
 use key_types::AlgorithmIdentifier;
@@ -25,7 +30,7 @@ use x509_core::Cert;
 /// Signed data with its type (RFC 2315 7, 9.1; RFC 5652 3, 5.1), as a caller keeps it.
 #[derive(Debug, Drop)]
 pub struct Pkcs7 {
-    signed: Pkcs7Certificate,
+    pub(crate) signed: Pkcs7Certificate,
 }
 
 impl Pkcs7 {
@@ -44,8 +49,20 @@ impl Pkcs7 {
     {
         match read(alloc, der) {
             Ok(signed) => Ok(Pkcs7 { signed }),
-            Err(source) => Err(Pkcs7Error::unread(source)),
+            Err(source) => Err(unread(source)),
         }
+    }
+
+    /// Signed data that signs nothing, and carries the certificates as they are, in order. It is refused
+    /// for want of memory alone.
+    pub fn of_certificates(alloc: Global, certificates: &[Cert]) -> Result<Pkcs7, Pkcs7Error>
+        ensures { MatchResult result
+            (λ p. fields_of p ≡ certificates_alone (map certificate_of (elements_of certificates.now)))
+            (λ e. e ≡ errors.Memory) }
+    {
+        Ok(Pkcs7 {
+            signed: without_signers(alloc, certificates)?,
+        })
     }
 
     /// The octets that are written for it. It is refused as `Asn1Serialization` exactly where
@@ -57,7 +74,7 @@ impl Pkcs7 {
     {
         match self.signed.to_der(alloc) {
             Ok(octets) => Ok(octets),
-            Err(source) => Err(Pkcs7Error::unwritten(source)),
+            Err(source) => Err(unwritten(source)),
         }
     }
 

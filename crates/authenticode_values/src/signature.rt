@@ -21,7 +21,7 @@ ghost use Rattle.authenticode_values.specs.Unread.{RefusesPadded};
 
 use crate::padded::read_padded;
 use crate::pkcs7::Pkcs7;
-use crate::pkcs7_error::Pkcs7Error;
+use crate::refusing::{of_signature, unread};
 use crate::signing_certificate::signing_certificate_of;
 use authenticode_core::AuthenticodeError;
 use cms_types::{ContentValue, UnsignedAttribute};
@@ -52,7 +52,7 @@ impl AuthenticodeSignature {
     {
         match Pkcs7::from_der(alloc, der) {
             Ok(signed) => Ok(AuthenticodeSignature(signed)),
-            Err(error) => Err(error.of_signature()),
+            Err(error) => Err(of_signature(error)),
         }
     }
 
@@ -65,7 +65,7 @@ impl AuthenticodeSignature {
     {
         match self.0.to_der(alloc) {
             Ok(octets) => Ok(octets),
-            Err(error) => Err(error.of_signature()),
+            Err(error) => Err(of_signature(error)),
         }
     }
 
@@ -83,7 +83,7 @@ impl AuthenticodeSignature {
     {
         match read_padded(alloc, cert.get_certificate()) {
             Ok(signed) => Ok(AuthenticodeSignature(Pkcs7::from(signed))),
-            Err(source) => Err(Pkcs7Error::unread(source).of_signature()),
+            Err(source) => Err(of_signature(unread(source))),
         }
     }
 

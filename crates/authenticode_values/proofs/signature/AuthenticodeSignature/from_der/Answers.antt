@@ -1,7 +1,7 @@
 use Rattle.std.proofs.Common.{◌≡◌, Result, Ok, Err, ap, ◌∙◌}
 use Rattle.authenticode_values.specs.Refusals.{of_signed_data}
 use Rattle.authenticode_values.specs.declared.pkcs7.Pkcs7.{Pkcs7}
-use Rattle.authenticode_values.specs.declared.pkcs7_error.Pkcs7Error.{Pkcs7Error}
+use Rattle.authenticode_core.specs.declared.pkcs7_error.Pkcs7Error.{Pkcs7Error}
 use Rattle.authenticode_values.proofs.signature.AuthenticodeSignature.from_der.Goals as goal
 
 source_is : (x y : Pkcs7Error) → ◌≡◌ {A = Result Pkcs7 Pkcs7Error} (Err x) (Err y) → x ≡ y

@@ -1,0 +1,2 @@
+-- Lemmas that facts of values rest on. Nothing in this folder needs reading: no public clause cites it.
+pub mod TokenStamps

@@ -1,0 +1,33 @@
+-- What is kept of a request for a timestamp (Windows Authenticode Portable Executable Signature Format; RFC 5652 4, 5.2).
+use Rattle.std.specs.Prelude.{◌≡◌, ℕ, List, [], ◌∷◌, Option, Some, None}
+use Rattle.der_core.specs.DerElement.{DerElement, Primitive}
+use Rattle.der_core.specs.Elements.{octet_string, sequence}
+use Rattle.asn1_types.specs.declared.oids.TheConstants.{DATA, SPC_TIME_STAMP_REQUEST}
+use Rattle.content_types.specs.ContentInfoElements.{content_info_of}
+use Rattle.content_types.specs.TimestampRequest.{timestamp_request}
+use Rattle.content_types.specs.declared.content_value.ContentValue.{ContentValue}
+use Rattle.content_types.specs.declared.content_value.ContentValue.TheVariants as contents
+use Rattle.content_types.specs.declared.timestamp_request.TimestampRequest.{TimestampRequest}
+use Rattle.authenticode_values.specs.declared.timestamp_request.TimestampRequest.{TimestampRequest as Request}
+
+-- the element is that of the value
+abbrev pub IsRequestOf : DerElement → TimestampRequest → Type 0
+IsRequestOf element value = element ≡ timestamp_request value
+
+-- the element that is written
+abbrev pub requested : Request → DerElement
+requested r = timestamp_request r.request
+
+-- the request for octets: their type is data
+abbrev pub asking_for : List ℕ → DerElement
+asking_for octets = sequence (Primitive 0x06 SPC_TIME_STAMP_REQUEST.now ∷ content_info_of (Primitive 0x06 DATA.now) (Some (octet_string octets)) ∷ [])
+
+-- the octets of a content of type data
+abbrev pub data_of : ContentValue → Option (List ℕ)
+data_of (contents.Data octets) = Some octets
+data_of _ = None
+
+-- and none where the content is left out
+abbrev pub data_in : Option ContentValue → Option (List ℕ)
+data_in None = None
+data_in (Some content) = data_of content
