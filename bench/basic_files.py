@@ -1,4 +1,4 @@
-"""The signature files of `basic.py`: long ones by `tools/basic_making.py`, and one that osslsigncode wrote."""
+"""The signature files of `basic.py` and `check.py`: long ones by `tools/basic_making.py`, and those that osslsigncode wrote."""
 
 import subprocess
 import sys
@@ -12,6 +12,7 @@ import signed_program
 import verdict_table
 from basic_making import Signed, certificate, extension, named, rsa_key, rsa_octets
 from first_path import FILE_HASH, attribute, bit_string, integer, octet_string, sequence
+from order_bag import with_ordered_bag
 from signature_making import portable_executable
 
 MIB = 1 << 20
@@ -127,6 +128,11 @@ CERTIFICATES = [
     ("root", "above", None), ("policy", "above", "root"), ("authority", "above", "policy"), ("leaf", "leaf", "authority"),
     ("stamps", "above", "root"), ("stamp", "stamp", "stamps"),
 ]
+# For `check.py`: a signer below its authority, and a stamp below three.
+CHECKED = [
+    ("root", "above", None), ("authority", "above", "root"), ("leaf", "leaf", "authority"),
+    ("policy", "above", "root"), ("stamps", "above", "policy"), ("stamp", "stamp", "stamps"),
+]
 
 
 def run(folder, *words):
@@ -145,17 +151,36 @@ def joined(folder, name, *names):
     folder.joinpath(f"{name}.pem").write_text("".join(folder.joinpath(f"{one}.pem").read_text() for one in names))
 
 
-def signed_case(folder):
-    """The signature of a program that osslsigncode signed, as a case; the program and its root stay in the folder."""
+def signed_by_leaf(folder, certificates, above, stamps):
+    """A program that osslsigncode signed, with these certificates beside the signer's, and those of the token."""
     folder.joinpath("config").write_text(CONFIG)
-    for one in CERTIFICATES:
+    for one in certificates:
         certified(folder, *one)
-    joined(folder, "above", "authority", "policy", "root")
-    joined(folder, "stamp_chain", "stamp", "stamps", "root")
+    joined(folder, "above", *above)
+    joined(folder, "stamp_chain", *stamps)
     folder.joinpath("program.exe").write_bytes(portable_executable())
     run(folder, "osslsigncode", "sign", "-certs", "leaf.pem", "-key", "leaf.key", "-ac", "above.pem", "-h", "sha256",
         "-TSA-certs", "stamp_chain.pem", "-TSA-key", "stamp.key", "-in", "program.exe", "-out", "signed.exe")
-    program = folder.joinpath("signed.exe").read_bytes()
+    return folder.joinpath("signed.exe").read_bytes()
+
+
+def signed_case(folder):
+    """The signature of a program that osslsigncode signed, as a case; the program and its root stay in the folder."""
+    program = signed_by_leaf(folder, CERTIFICATES, ("authority", "policy", "root"), ("stamp", "stamps", "root"))
+    return case_of(folder, program)
+
+
+def checked_case(folder):
+    """A program with three certificates, signer, authority and one of another subject, in this order, and a token with four."""
+    program = signed_by_leaf(folder, CHECKED, ("authority", "policy"), ("stamp", "stamps", "policy", "root"))
+    entry = signed_program.signature(program)
+    program = program.replace(entry, with_ordered_bag(entry))
+    folder.joinpath("signed.exe").write_bytes(program)
+    return case_of(folder, program)._replace(answer=b"accepted signer=0 path=1 excuse=none\n")
+
+
+def case_of(folder, program):
+    """The signature of a program as a case."""
     entry = signed_program.signature(program)
     lines, _ = verdict_table.table(entry)
     files = folder / "signature.bin", folder / "table.txt"

@@ -18,8 +18,8 @@ The answer is the first refusal, in this order:
                data, `NoSpcIndirectDataContent`;
   5, 6         the digest algorithm of the content, and that of the signer, are
                that one: `DigestAlgorithmMismatch`;
-  7            the digest in the content is the one that is asked for:
-               `FileHashMismatch`;
+  7            a digest is asked for, `MissingExpectedFileHash`, and it is the one
+               in the content: `FileHashMismatch`;
   8            the signer is named by issuer and serial number,
                `IncorrectSignerIdentifier`, and a certificate has both:
                `NoCertificatesAssociatedWithIssuerAndSerialNumber`;
@@ -68,7 +68,8 @@ class Refused(Exception):
     """Why the file is refused: the name and the fields."""
 
     def __init__(self, *words):
-        super().__init__(" ".join(map(str, words)))
+        self.words = tuple(map(str, words))
+        super().__init__(" ".join(self.words))
 
 
 def refuse_unless(holds, *words):
@@ -85,8 +86,9 @@ def taken(fields, tag):
 
 @dataclass
 class Certificate:
-    """The fields of a certificate that basic validation looks at."""
+    """The fields of a certificate that basic validation looks at, and the element that has them."""
 
+    element: Constructed
     serial: bytes
     issuer: Constructed
     subject: Constructed
@@ -104,10 +106,10 @@ class Certificate:
             for one in extensions
             if dotted(one.kids[0].contents) == EXTENDED_KEY_USAGE
         ]
-        return cls(serial.contents, issuer, subject, key, purposes)
+        return cls(element, serial.contents, issuer, subject, key, purposes)
 
-    def names_code_signing(self):
-        return any(CODE_SIGNING in usage for usage in self.purposes)
+    def names(self, purpose):
+        return any(purpose in usage for usage in self.purposes)
 
     def key_kind(self):
         return dotted(self.key.kids[0].kids[0].contents)
@@ -153,6 +155,8 @@ class Signer:
         attributes = taken(fields, 0xA0)
         self.attributes = attributes.kids if attributes else ()
         self.signature = fields[1].contents
+        unsigned = taken(fields[2:], 0xA1)
+        self.unsigned = unsigned.kids if unsigned else ()
 
     def message(self):
         return write(Constructed(0x31, self.attributes))
@@ -218,10 +222,11 @@ def indirect_data_in(signed):
 
 
 def check_file(content, signer, digest_algorithm, file_hash):
-    """Steps 5 to 7."""
+    """Steps 5 to 7; None where no digest is asked for."""
     of_content, digest = content.kids[1].kids
     refuse_unless(of_content == digest_algorithm, "DigestAlgorithmMismatch")
     refuse_unless(signer.digest_algorithm == digest_algorithm, "DigestAlgorithmMismatch")
+    refuse_unless(file_hash is not None, "MissingExpectedFileHash")
     refuse_unless(digest.contents == file_hash, "FileHashMismatch", word(digest.contents), word(file_hash))
 
 
@@ -269,12 +274,11 @@ def issuer_walk(bag, one):
 def check_usage(bag, one):
     """Step 13."""
     asked = any(member.purposes for member in issuer_walk(bag, one))
-    refuse_unless(not asked or one.names_code_signing(), "NoEKUCodeSigning")
+    refuse_unless(not asked or one.names(CODE_SIGNING), "NoEKUCodeSigning")
 
 
-def accepted(octets, file_hash, table):
-    """The place of the signer's certificate, or the first refusal."""
-    signed = signed_data_in(certificate_in(octets))
+def check_basic(signed, file_hash, table):
+    """Steps 1 to 13: the signer's certificate, or the first refusal."""
     signer, digest_algorithm = one_of_each(signed)
     content = indirect_data_in(signed)
     check_file(content, signer, digest_algorithm, file_hash)
@@ -282,7 +286,17 @@ def accepted(octets, file_hash, table):
     digest = check_signature(signer, one, table)
     check_message_digest(signer, content, digest)
     check_usage(signed.bag, one)
-    return next(place for place, member in enumerate(signed.bag) if member is one)
+    return one
+
+
+def place_of(one, bag):
+    return next(place for place, member in enumerate(bag) if member is one)
+
+
+def accepted(octets, file_hash, table):
+    """The place of the signer's certificate, or the first refusal."""
+    signed = signed_data_in(certificate_in(octets))
+    return place_of(check_basic(signed, file_hash, table), signed.bag)
 
 
 def answer(octets, file_hash, table):

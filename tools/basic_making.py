@@ -113,6 +113,7 @@ class Signed:
     attributes: tuple | None = None
     attributed: bool = True
     signed_by: bytes = algorithm(RSA_ENCRYPTION)
+    signature: bytes = b"\xAA"
     unsigned: tuple | None = None
     accepted: bytes | None = rsa_octets(0x11)
     row: str | None = None
@@ -144,12 +145,16 @@ class Signed:
             *(attribute(MESSAGE_DIGEST, *map(octet_string, values)) for values in digests),
         ))
 
+    def message(self):
+        """The attributes as a SET."""
+        return set_of(self.attribute_kids() if self.attributed else b"")
+
     def signer(self):
         attributes = (context(0, self.attribute_kids()),) if self.attributed else ()
         unsigned = () if self.unsigned is None else (context(1, *self.unsigned),)
         return sequence(
             integer(self.signer_version), self.named, self.of_signer or digest_algorithm(self.digest), *attributes,
-            self.signed_by, octet_string(b"\xAA"), *unsigned,
+            self.signed_by, octet_string(self.signature), *unsigned,
         )
 
     def certificates(self):
@@ -175,6 +180,6 @@ class Signed:
     def table(self):
         if self.accepted is None:
             return ""
-        message = set_of(self.attribute_kids() if self.attributed else b"") if self.over is None else self.over
-        parts = (sha256(part).hexdigest() for part in (self.accepted, message, b"\xAA"))
+        message = self.message() if self.over is None else self.over
+        parts = (sha256(part).hexdigest() for part in (self.accepted, message, self.signature))
         return " ".join((self.row or f"rsa-{self.digest if self.digest in DIGESTS else 'sha256'}", *parts)) + "\n"

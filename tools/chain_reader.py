@@ -12,7 +12,7 @@ from der_reader import Malformed, read_exact, write
 from value_reader import Shape, certificate, dotted, inner
 from verdict_table import ED25519, NAMES, RSA, SIGNATURES, Certificate
 
-BASIC_CONSTRAINTS, SUBJECT_KEY, AUTHORITY_KEY = "2.5.29.19", "2.5.29.14", "2.5.29.35"
+ASKED = BASIC_CONSTRAINTS, SUBJECT_KEY, AUTHORITY_KEY = "2.5.29.19", "2.5.29.14", "2.5.29.35"
 
 
 class Refused(Exception):
@@ -57,7 +57,9 @@ class Read:
         held = [field for field in fields if field.tag == 0xA3]
         values = {}
         for one in held[0].kids[0].kids if held else ():
-            values.setdefault(dotted(one.kids[0].contents), inner(one.kids[-1].contents))
+            oid = dotted(one.kids[0].contents)
+            if oid in ASKED:
+                values.setdefault(oid, inner(one.kids[-1].contents))
         return cls(
             Certificate.of(element), begins, ends, limits_of(values.get(BASIC_CONSTRAINTS)),
             values[SUBJECT_KEY].contents if SUBJECT_KEY in values else None, named_key(values.get(AUTHORITY_KEY)),
@@ -110,7 +112,8 @@ def expect_signed(parent, child, rows):
     name = {RSA: f"rsa-{digest}", ED25519: "ed25519"}.get(algorithm, f"{curve}-{digest}")
     octets = parent.parts.key_octets(), child.parts.tbs, child.parts.signature
     row = " ".join([name, *(sha256(part).hexdigest() for part in octets)])
-    if kind != algorithm or name not in NAMES or row not in rows:
+    short = algorithm == ED25519 and len(parent.parts.key_octets()) != 32
+    if kind != algorithm or short or name not in NAMES or row not in rows:
         raise Refused("InvalidCertificate:Signature")
 
 

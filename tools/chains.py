@@ -252,14 +252,15 @@ commonName = supplied
 """
 
 
-def make(label, kind, folder):
-    """The certificate of a kind, in a file of its label."""
+def make(label, kind, folder, kinds=None):
+    """The certificate of a kind among others, in a file of its label."""
+    kinds = kinds or KINDS
     request, form, extensions, key = (folder / f"{label}.{end}" for end in ("csr", "cnf", "ext", "key"))
     options = (word for option in kind.key[1:] for word in ("-pkeyopt", option))
     openssl("genpkey", "-algorithm", kind.key[0], *options, "-out", key)
     openssl("req", "-new", "-key", key, "-subj", f"/CN={kind.subject}", "-out", request)
     signer = kind.signer or kind.issuer
-    digest = "null" if KINDS[signer].key in (ED25519, ED448) else kind.digest
+    digest = "null" if kinds[signer].key in (ED25519, ED448) else kind.digest
     form.write_text(AUTHORITY_FORM.format(folder=folder, digest="default" if digest == "null" else digest), encoding="ascii")
     (folder / "index.txt").write_text("")
     extensions.write_text(kind.extensions, encoding="ascii")
@@ -268,16 +269,16 @@ def make(label, kind, folder):
         by = ("-cert", folder / f"{kind.issuer}.pem", "-keyfile", folder / f"{signer}.key")
     if kind.signer:
         # openssl asks that certificate and key go together: the name is the issuer's, and the key another's.
-        by = ("-cert", stand_in(kind, folder), "-keyfile", folder / f"{signer}.key")
+        by = ("-cert", stand_in(kind, folder, kinds), "-keyfile", folder / f"{signer}.key")
     openssl("ca", "-batch", "-notext", "-config", form, *by, "-in", request, "-extfile", extensions, *kind.options,
             "-startdate", kind.begins + "Z", "-enddate", kind.ends + "Z", "-out", folder / f"{label}.pem")
     return openssl("x509", "-in", folder / f"{label}.pem", "-outform", "DER")
 
 
-def stand_in(kind, folder):
+def stand_in(kind, folder, kinds):
     """A certificate with the name of the issuer and the key of the signer."""
     file = folder / "stand-in.pem"
-    openssl("req", "-x509", "-new", "-key", folder / f"{kind.signer}.key", "-subj", f"/CN={KINDS[kind.issuer].subject}",
+    openssl("req", "-x509", "-new", "-key", folder / f"{kind.signer}.key", "-subj", f"/CN={kinds[kind.issuer].subject}",
             "-days", "3650", "-out", file)
     return file
 

@@ -64,10 +64,10 @@ def key_of(kind):
     return b"\4" + 2 * secret_of(kind)
 
 
-def signature_of(name, key):
-    """The signature of the message."""
+def signature_of(name, key, message=MESSAGE):
+    """The signature of a message."""
     return hashlib.sha256(
-        name.encode() + b"\0" + hashlib.sha256(key).digest() + MESSAGE).digest()
+        name.encode() + b"\0" + hashlib.sha256(key).digest() + message).digest()
 
 
 def rows():

@@ -20,7 +20,10 @@ tables of openssl's arithmetic (`basic_world.py`), and from the rows of every
 refusal (`basic_steps.py`); the answers from the tables of statuses and of
 refusals in README.md.  The certificates of `chain` are those of `chains.py`,
 which openssl made, and the answers to them are those of the reader in
-`chain_reader.py`.  Exit status 1 says that a row differs.
+`chain_reader.py`, and those of `issuing_chains.py`, with answers by hand.  The
+files of `check` are those of `check_rows.py`, whose answers stand there, and
+programs that osslsigncode signed (`signed_programs.py`), whose answers are
+those of `check_judge.py`.  Exit status 1 says that a row differs.
 """
 
 import os
@@ -35,6 +38,10 @@ from pathlib import Path
 import basic_steps
 import basic_world
 import chains
+import check_judge
+import check_rows
+import issuing_chains as issued
+import signed_programs
 import world_signatures
 from first_path import FILE_HASH, signature_file, verdict_line
 
@@ -207,7 +214,7 @@ USAGE_ROWS = [
     Row("a word too few", ("basic", "s", "t"), 2),
     Row("a word too many", (*BASIC, "s"), 2),
     Row("an empty word too many", (*BASIC, ""), 2),
-    Row("another command", ("check", "s", "t", HASH), 2),
+    Row("another command", ("sign", "s", "t", HASH), 2),
     Row("a command that begins like another", ("basics", "s", "t", HASH), 2),
     Row("the command in another case", ("BASIC", "s", "t", HASH), 2),
     Row("an empty hash", ("basic", "s", "t", ""), 2),
@@ -370,6 +377,186 @@ CHAIN_ROWS = [
     Row("a closed output for a refused chain", CHAIN, 5, files={"t": b"", **PARENTS}, output="closed"),
 ]
 
+# Signers and those who vouch for them.
+
+CHECKED = check_rows.CHAIN
+CHECK = ("check", "s", "t", HASH)
+BEGINS, ENDS, BEFORE, AFTER = "2020-01-01", "2030-01-01", "2019-01-01", "2031-01-01"
+WITH_PATH, WITHOUT_PATH = (f"{check_rows.accepted(0, path)}\n" for path in ("1,2", ""))
+LATE, EARLY = refused("InvalidCertificate:CertificateExpired"), refused("InvalidCertificate:CertificateNotYetValid")
+UNTIL = ("--until", "2026-01-01")
+OPTIONS = (*UNTIL, "--no-before", "--no-after", "--no-chain")
+
+
+def of_check(why, words, status, line="", made=CHECKED, **others):
+    """A row with these words behind HASH, on a file of `check_rows`."""
+    return Row(f"check: {why}", (*CHECK, *words), status, line, {"s": made.octets, "t": made.table.encode("ascii"), **others})
+
+
+def refused_words(why, *words):
+    """A row with words that aren't in the table."""
+    return of_check(why, words, 2)
+
+
+def day_of(digits):
+    """The word DATE of fourteen digits."""
+    day = f"{digits[:4]}-{digits[4:6]}-{digits[6:8]}"
+    return day if digits.endswith("000000") else f"{day}T{digits[8:10]}:{digits[10:12]}:{digits[12:]}"
+
+
+def words_of(policy):
+    """The words behind HASH for a policy, None where there are none."""
+    if not (policy.basic and policy.signing and policy.file_hash and policy.lower):
+        return None
+    options = [f"--no-{word}" for word, is_on in (("before", policy.not_before), ("after", policy.not_after), ("chain", policy.chain)) if not is_on]
+    until = ["--until", day_of(policy.upper)] if policy.upper else []
+    return (day_of(policy.lower), *options, *until)
+
+
+def line_of(said):
+    """The line of an answer of the judge, without the text of a refusal."""
+    return f"{said}\n" if said.startswith("accepted") else refused(said.split()[1])
+
+
+def of_each_answer():
+    """The first row of `check_rows` for each name, and for each excuse and each option."""
+    known = set()
+    for row in check_rows.rows():
+        words = words_of(row.policy)
+        line = line_of(row.said)
+        kind = line if line.startswith("refused") else (line.split("excuse=")[1], words and words[1:])
+        if words and kind not in known and row.policy.file_hash == FILE_HASH:
+            known.add(kind)
+            yield of_check(row.why, words, 1 if line.startswith("refused") else 0, line, row.file)
+
+
+def of_program(label, date, *options, in_order=True):
+    """A program that osslsigncode signed at a date, its certificates in order."""
+    made = signed_programs.stored()[label]
+    file = (made.in_order() if in_order else made).file()
+    words = (date, *options)
+    flags = {name: f"--no-{name.removeprefix('not_')}" not in options for name in ("not_before", "not_after", "chain")}
+    moment = check_rows.digits(date)
+    policy = check_judge.Policy(True, True, file_hash=file.file_hash, lower=moment, **flags)
+    line = line_of(check_judge.answer(file.octets, policy, file.table))
+    files = {"s": file.octets, "t": file.table.encode("ascii")}
+    why = f"{label} at {' '.join(words)}, {'' if in_order else 'not '}in order"
+    return Row(f"check: {why}", ("check", "s", "t", file.file_hash.hex(), *words), 0 if line.startswith("accepted") else 1, line, files)
+
+
+CHECK_ROWS = [
+    # dates
+    of_check("a day", (DAY,), 0, WITH_PATH),
+    of_check("a moment", ("2025-01-31T23:59:59",), 0, WITH_PATH),
+    of_check("the first second", (BEGINS,), 0, WITH_PATH),
+    of_check("a second before it", ("2019-12-31T23:59:59",), 1, EARLY),
+    of_check("the last second", (ENDS,), 0, WITH_PATH),
+    of_check("a second after it", ("2030-01-01T00:00:01",), 1, LATE),
+    *(refused_words(f"the date {date!r}", date) for date in (
+        "2023-02-29", "2025-13-01", "2025-04-31", "2025-01-01T24:00:00", "2025-01-01T00:00:60", "2025-1-1", "20250101", "2025-01-01Z", "")),
+    *(refused_words(f"until {date!r}", DAY, "--until", date) for date in ("2023-02-29", "2025-00-01", "2025-01-01T12", "20250101", "")),
+    # options
+    of_check("until", (DAY, *UNTIL), 0, WITH_PATH),
+    of_check("until a moment", (BEFORE, "--until", "2020-01-01T00:00:00"), 0, WITH_PATH),
+    of_check("until before the first second", (BEFORE, "--until", "2019-12-31T23:59:59"), 1, EARLY),
+    of_check("from the last second on", (ENDS, "--until", AFTER), 0, WITH_PATH),
+    of_check("from after the last second on", ("2030-01-01T00:00:01", "--until", AFTER), 1, LATE),
+    of_check("until an earlier date", (ENDS, "--until", BEGINS), 0, WITH_PATH),
+    of_check("the same date twice", (AFTER, "--until", AFTER), 1, LATE),
+    of_check("the first end left out, before", (BEFORE, "--no-before"), 0, WITH_PATH),
+    of_check("the first end left out, after", (AFTER, "--no-before"), 1, LATE),
+    of_check("the last end left out, after", (AFTER, "--no-after"), 0, WITH_PATH),
+    of_check("the last end left out, before", (BEFORE, "--no-after"), 1, EARLY),
+    of_check("no chain", (DAY, "--no-chain"), 0, WITHOUT_PATH),
+    of_check("no chain, after", (AFTER, "--no-chain"), 1, LATE),
+    of_check("all options", (AFTER, *OPTIONS), 0, WITHOUT_PATH),
+    of_check("all options from the last to the first", (BEFORE, *OPTIONS[:1:-1], *UNTIL), 0, WITHOUT_PATH),
+    of_check("until between others", (BEFORE, "--no-chain", "--until", DAY, "--no-after"), 0, WITHOUT_PATH),
+    *(refused_words(f"{option[0]} twice", DAY, *option, *option) for option in (UNTIL, *((one,) for one in OPTIONS[2:]))),
+    refused_words("until two dates", DAY, "--until", DAY, "--until", AFTER),
+    refused_words("one of all twice, in front and behind", DAY, "--no-chain", *UNTIL, "--no-before", "--no-chain"),
+    refused_words("until nothing", DAY, "--until"),
+    refused_words("until nothing, behind others", DAY, "--no-chain", "--until"),
+    refused_words("until an option", DAY, "--until", "--no-chain"),
+    refused_words("an option in the place of the date", "--no-chain", DAY),
+    refused_words("until in the place of the date", "--until", DAY),
+    refused_words("two dates", DAY, AFTER),
+    refused_words("a word too many", DAY, "s"),
+    refused_words("a word behind the options", DAY, *OPTIONS, "s"),
+    refused_words("an empty word too many", DAY, ""),
+    *(refused_words(f"the word {word!r}", DAY, word) for word in (
+        "--no-date", "--No-chain", "--no-chain ", "-no-chain", "no-chain", "--no_chain", "--no-chain=", "--no", "--until=2026-01-01", "--", "-", "--help", "--after", "--no-signing")),
+    refused_words("a list", DAY, "--list", "l", "1"),
+    refused_words("an option that isn't UTF-8", DAY, b"--no-chain\xff"),
+    refused_words("no date"),
+    *(Row(f"check: {why}", words, 2) for why, words in (
+        ("the command alone", ("check",)),
+        ("a signature alone", ("check", "s")),
+        ("no hash", ("check", "s", "t")),
+        ("an option in front", ("check", "--no-chain", "s", "t", HASH, DAY)),
+        ("an option before the hash", ("check", "s", "t", "--no-chain", HASH, DAY)),
+        ("an odd digit of the hash", ("check", "s", "t", HASH[:-1], DAY)),
+        ("a hash of 65 octets", ("check", "s", "t", "00" * 65, DAY)),
+        ("an empty hash", ("check", "s", "t", "", DAY)),
+        ("the command in another case", ("Check", "s", "t", HASH, DAY)),
+        ("an option of `check` for `basic`", (*BASIC, "--no-chain")),
+    )),
+    Row("check: an option of `check` for `chain` is a file", ("chain", "t", DAY, "--no-chain"), 4, files={"t": CHAIN_TABLE}),
+    Row("check: names like options", ("check", "--until", "--no-chain", HASH, DAY, "--no-chain"), 0, WITHOUT_PATH,
+        {"--until": CHECKED.octets, "--no-chain": CHECKED.table.encode("ascii")}),
+    Row("check: upper-case digits", ("check", "s", "t", HASH.upper(), DAY), 0, WITH_PATH, {"s": CHECKED.octets, "t": CHECKED.table.encode("ascii")}),
+    Row("check: another hash", ("check", "s", "t", OTHER_HASH, DAY), 1, refused("FileHashMismatch"), {"s": CHECKED.octets, "t": CHECKED.table.encode("ascii")}),
+    Row("check: a signature from a pipe", ("check", PIPE, "t", HASH, DAY), 0, WITH_PATH, {"t": CHECKED.table.encode("ascii")}, given=CHECKED.octets),
+    Row("check: a table from a pipe", ("check", "s", PIPE, HASH, DAY), 0, WITH_PATH, {"s": CHECKED.octets}, given=CHECKED.table.encode("ascii")),
+    # answers
+    *of_each_answer(),
+    *(of_program(label, date) for label in ("three", "stamped, three", "stamped by openssl", "lifetime, stamped", "alone", "server", "by other")
+      for date in ("2021-06-01", "2023-06-01", "2036-06-01")),
+    of_program("three", "2023-06-01", in_order=False),
+    of_program("stamped", "2031-01-01", in_order=False),
+    of_program("stamped", "2031-01-01", "--no-after"),
+    of_program("stamped", "2031-01-01", "--no-chain"),
+    of_program("three", "2021-06-01", "--no-before"),
+    # tables and files
+    of_check("a table without rows", (DAY,), 1, refused("SignatureError"), t=b""),
+    of_check("a bad line", (DAY,), 3, t=CHECKED.table.encode("ascii") + BAD_TABLE),
+    of_check("a bad line before what is no signature", (DAY,), 3, s=b"", t=BAD_TABLE),
+    of_check("words before a bad line", (DAY, DAY), 2, t=BAD_TABLE),
+    of_check("no octets", (DAY,), 1, refused("WrongLength"), s=b""),
+    Row("check: no signature file", (*CHECK, DAY), 4, files={"t": TABLE}),
+    Row("check: no table", (*CHECK, DAY), 4, files={"s": SIGNATURE}),
+    Row("check: no signature file, and a bad table", (*CHECK, DAY), 4, files={"t": BAD_TABLE}),
+    Row("check: a folder for the table", (*CHECK, DAY), 4, files={"s": SIGNATURE, "t": Folder()}),
+    Row("check: the longest signature file", (*CHECK, DAY), 1, refused("CertificateDataIsEmpty"), {"s": Zeros(LONGEST_FILE), "t": TABLE}),
+    Row("check: a signature file of an octet more", (*CHECK, DAY), 6, files={"s": Zeros(LONGEST_FILE + 1), "t": TABLE}),
+    Row("check: a table of an octet more", (*CHECK, DAY), 6, files={"s": SIGNATURE, "t": Zeros(LONGEST_FILE + 1)}),
+    Row("check: a full device", (*CHECK, DAY), 5, files={"s": SIGNATURE, "t": TABLE}, output="full"),
+    Row("check: a closed output for a refusal", (*CHECK, AFTER), 5, files={"s": SIGNATURE, "t": TABLE}, output="closed"),
+    Row("check: nothing to write to a closed output", CHECK, 2, output="closed"),
+]
+
+
+def of_issued(why, certificates, date, status, line):
+    """A row with certificates of the demonstration scheme, and the table of the signatures that it accepts."""
+    names = tuple("lar"[:len(certificates)])
+    table = bytes.fromhex(issued.table_by_demo(certificates).word)
+    return Row(f"issued: {why}", ("chain", "t", date, *names), status, line, {"t": table, **dict(zip(names, certificates))})
+
+
+FUTURE = issued.FUTURE_LEAF, issued.FUTURE_INT, issued.FUTURE_ROOT
+
+ISSUED_ROWS = [
+    of_issued("no root", FUTURE[:2], "2069-10-01", 1, refused("InvalidChain:NoRoot")),
+    of_issued("a root", FUTURE, "2069-10-01", 0, TWO_PARENTS),
+    of_issued("another key signed", (FUTURE[0], issued.FUTURE_INT_BY_ANOTHER, FUTURE[2]), "2069-10-01", 1, refused("InvalidCertificate:Signature")),
+    of_issued("the authority expired", FUTURE, "2071-06-01", 1, EXPIRED),
+    of_issued("the path length of the root is 0", (issued.FUTURE_LEAF_0, FUTURE[1], issued.FUTURE_ROOT_0), "2069-10-01", 1, refused("InvalidChain:TooDeep")),
+    of_issued("that of the root is 1", (issued.FUTURE_LEAF_0, *FUTURE[1:]), "2069-10-01", 0, TWO_PARENTS),
+    of_issued("TRUE in another octet", (issued.ODD_LEAF, issued.ODD), "2025-01-01", 0, ONE_PARENT),
+    of_issued("all dates hold", issued.MY_CHAIN, "2020-12-20", 0, TWO_PARENTS),
+    of_issued("the leaf expired", issued.MY_CHAIN, "2021-01-02", 1, EXPIRED),
+]
+
 ROWS = [
     *ACCEPTED_ROWS,
     *REFUSED_ROWS,
@@ -381,6 +568,8 @@ ROWS = [
     *SINK_ROWS,
     *LENGTH_ROWS,
     *CHAIN_ROWS,
+    *CHECK_ROWS,
+    *ISSUED_ROWS,
 ]
 
 

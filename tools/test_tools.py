@@ -19,16 +19,22 @@ import basic_answers
 import basic_rows
 import basic_world
 import chains
+import check_answers
+import check_judge
+import check_rows
 import compare_basic
+import compare_check
 import compare_readers
 import der_reader
 import demo_signatures
 import kept_certificates
 import oid_table
+import order_bag
 import path_answers
 import reader_stand_in
 import run_program
 import signed_program
+import signed_programs
 import verdict_table
 import world_certificates
 import world_signatures
@@ -225,6 +231,51 @@ class BasicAnswersTest(unittest.TestCase):
     def test_stored_files(self):
         for path, octets in basic_answers.stored_files().items():
             self.assertEqual((CRATES / "basic_answers" / path).read_bytes(), octets, path)
+
+
+class CheckAnswersTest(unittest.TestCase):
+
+    def test_answers_are_those_by_hand(self):
+        self.assertEqual(list(check_answers.unlike()), [])
+
+    def test_every_refusal_and_excuse_has_a_row(self):
+        said = [row.said.split() for row in check_rows.rows()]
+        self.assertEqual({words[1] for words in said if words[0] == "refused"} - {said.split()[0] for *_, said in basic_answers.rows()}, {
+            "MissingExpectedFileHash", "MissingBuilderArgument", "InvalidCertificate:CertificateNotYetValid", "InvalidCertificate:CertificateExpired",
+            "InvalidChain:IssuerIsNotCA", "InvalidChain:TooDeep", "InvalidCertificate:ExtensionNotFound", "InvalidCertificate:InvalidChain:AuthorityKeyIdMismatch",
+            "InvalidCertificate:InvalidChain:IssuerNameMismatch", "Signature", "InvalidCertificate:Signature", "InvalidTimestampCert",
+        })
+        self.assertEqual({words[-1] for words in said if words[0] == "accepted"}, {"excuse=none", "excuse=bag", "excuse=token"})
+
+    def test_stored_files(self):
+        for path, octets in check_answers.stored_files().items():
+            self.assertEqual((CRATES / "check_answers" / path).read_bytes(), octets, path)
+
+
+class SignedProgramsTest(unittest.TestCase):
+
+    def test_beside_osslsigncode(self):
+        with patch("builtins.print"):
+            self.assertEqual(signed_programs.check(), 0)
+
+    def test_tables(self):
+        for label, program in signed_programs.stored().items():
+            lines, _ = verdict_table.table(program.file().octets)
+            self.assertEqual(program.table.splitlines(), lines, label)
+
+    def test_certificates_in_order(self):
+        for label, program in signed_programs.stored().items():
+            ordered = program.in_order().file()
+            self.assertEqual(sorted(ordered.octets), sorted(program.file().octets))
+            self.assertEqual(order_bag.with_ordered_bag(ordered.octets), ordered.octets)
+            self.assertEqual(set(verdict_table.table(ordered.octets)[0]), set(program.table.splitlines()), label)
+
+    def test_each_signature_of_an_issuer_is_asked_for(self):
+        # Those of the token too, in which osslsigncode puts the certificate that stamps twice.
+        program = signed_programs.stored()["stamped, three"].in_order().file()
+        asked = [one.what for one in verdict_table.asked_of(program.octets)]
+        places = [f"certificate {place} of the {where}" for where, many in (("signed data", 3), ("token", 4)) for place in range(many)]
+        self.assertEqual(asked, ["the signer", *places])
 
 
 class PathAnswersTest(unittest.TestCase):
@@ -651,6 +702,23 @@ for line in open(sys.argv[1]):
         self.assertNotIn(" 0 not", line)
 
 
+class CompareCheckTest(unittest.TestCase):
+
+    def compared(self, judge):
+        """The status and the last line of a comparison with a judge in the place of the program."""
+        lines = lambda _, made: [judge(*one) for one in made]
+        with patch("sys.argv", ["", "--count", "50", "program"]), patch("compare_check.printed", lines), patch("builtins.print") as printed:
+            return compare_check.main(), printed.call_args.args[0]
+
+    def test_the_judge(self):
+        self.assertEqual(self.compared(check_judge.answer), (0, "signature files: 50 as the judge says, 0 not"))
+
+    def test_another_answer(self):
+        status, line = self.compared(lambda octets, policy, table: check_judge.answer(octets, policy._replace(chain=True), table))
+        self.assertEqual(status, 1)
+        self.assertNotIn(" 0 not", line)
+
+
 class SignedProgramTest(unittest.TestCase):
     SIGNED = {label: octets for label, _, octets in world_signatures.stored()}
 
@@ -688,6 +756,9 @@ class RunsTest(unittest.TestCase):
         self.assertEqual({row.status for row in run_program.ROWS}, set(range(7)))
         names = {row.line.split()[1] for row in run_program.ROWS if row.status == 1 and row.words[0] == "basic"}
         self.assertEqual(names, {said.split()[0] for *_, said in basic_answers.rows()} - {"accepted"})
+        checked = {row.line for row in run_program.CHECK_ROWS}
+        lines = (run_program.line_of(row.said) for row in check_rows.rows() if run_program.words_of(row.policy))
+        self.assertEqual({line for line in lines if line.startswith("refused")} - checked, set())
         reasons = [row.why for row in run_program.ROWS]
         self.assertEqual(len(reasons), len(set(reasons)))
 

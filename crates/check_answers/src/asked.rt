@@ -1,0 +1,78 @@
+//! What is asked of a file: five words with commas between.
+
+use anyhow::{Context, Result, bail};
+use asn1_types::GeneralizedTime;
+use authenticode_core::Policy;
+use der_core::Octets;
+use names_core::UtcDate;
+use row_answers::octets_of;
+use std::alloc::Global;
+use x509_core::DateCheck;
+
+/// What is asked, and the change of the file, `-` for none.
+#[derive(Drop)]
+pub struct Asked<'a> {
+    pub policy: Policy,
+    pub change: &'a str,
+}
+
+pub fn asked_of(alloc: Global, text: &str) -> Result<Asked<'_>> {
+    let mut words = text.split(',');
+    let (Some(flags), Some(hash), Some(lower), Some(upper), Some(change)) = (
+        words.next(),
+        words.next(),
+        words.next(),
+        words.next(),
+        words.next(),
+    ) else {
+        bail!("what is asked has five words");
+    };
+    let date = dates_of(lower, upper)?;
+    let file_hash = hash_of(alloc, hash)?;
+    Ok(Asked {
+        policy: policy_of(flags.as_bytes(), file_hash, date),
+        change,
+    })
+}
+
+/// A flag is on where its letter stands there.
+fn policy_of(flags: &[u8], file_hash: Option<Octets>, date: DateCheck) -> Policy {
+    Policy {
+        basic: flags.contains(&b'b'),
+        file_hash,
+        signing: flags.contains(&b's'),
+        not_before: flags.contains(&b'f'),
+        not_after: flags.contains(&b'l'),
+        chain: flags.contains(&b'c'),
+        date,
+    }
+}
+
+fn hash_of(alloc: Global, word: &str) -> Result<Option<Octets>> {
+    if word == "-" {
+        return Ok(None);
+    }
+    let octets = octets_of(alloc, word)?;
+    Ok(Some(Octets::from_slice(alloc, &octets)?))
+}
+
+/// One date where no upper end is given.
+fn dates_of(lower: &str, upper: &str) -> Result<DateCheck> {
+    if lower == "-" {
+        return Ok(DateCheck::Absent);
+    }
+    let first = moment_of(lower)?;
+    if upper == "-" {
+        return Ok(DateCheck::Exact(first));
+    }
+    let last = moment_of(upper)?;
+    Ok(DateCheck::Interval {
+        lower: first,
+        upper: last,
+    })
+}
+
+fn moment_of(word: &str) -> Result<UtcDate> {
+    let time = GeneralizedTime::from_content(word.as_bytes()).context("reading a moment")?;
+    Ok(UtcDate::from(time))
+}
