@@ -5,3 +5,4 @@ pub mod Walks
 pub mod CarriedCertificates
 pub mod Requests
 pub mod Stamps
+pub mod Verdicts

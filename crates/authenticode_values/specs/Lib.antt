@@ -12,3 +12,4 @@ pub mod Stamping
 pub mod RequestRefusals
 pub mod TokenStamp
 pub mod Facts
+pub mod Validator

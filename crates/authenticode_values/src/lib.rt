@@ -15,6 +15,7 @@ mod stamping;
 mod timestamp_request;
 mod timestamper;
 mod token_timestamper;
+mod validator;
 
 pub use authenticode_core::Pkcs7Error;
 pub use certificates::SignatureCertificatesIterator;
@@ -23,3 +24,4 @@ pub use signature::AuthenticodeSignature;
 pub use timestamp_request::TimestampRequest;
 pub use timestamper::Timestamper;
 pub use token_timestamper::TokenTimestamper;
+pub use validator::AuthenticodeValidator;

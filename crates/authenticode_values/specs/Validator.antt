@@ -1,0 +1,62 @@
+-- What is asked of a signature that is kept, as it is set, and what is answered.
+use Rattle.std.specs.Prelude.{◌≡◌, ◌⊎◌, Bool, ℕ, List, ◌∷◌, Some, None, Result, Ok, Err, MatchResult, true, false}
+use Rattle.cms_types.specs.SignedDataElements.{SignedDataElements}
+use Rattle.der_core.specs.DerElement.{DerElement}
+use Rattle.der_core.specs.Encoding.{IsDer}
+use Rattle.der_core.specs.declared.error.DerError.{DerError}
+use Rattle.key_core.specs.KeyRefusals.{CantBeWritten}
+use Rattle.key_core.specs.Verifying.{Judge}
+use Rattle.x509_core.specs.Rules.{Rule}
+use Rattle.x509_core.specs.declared.window.DateCheck.{DateCheck}
+use Rattle.authenticode_core.specs.SigningRules.{RefusesBy}
+use Rattle.authenticode_core.specs.Trusted.{IsTrusted, policy_rules}
+use Rattle.authenticode_core.specs.declared.accepted.Accepted.{Accepted}
+use Rattle.authenticode_core.specs.declared.error.AuthenticodeError.{AuthenticodeError}
+use Rattle.authenticode_core.specs.declared.error.AuthenticodeError.TheVariants as errors
+use Rattle.authenticode_core.specs.declared.policy.Policy.{Policy}
+
+-- each with one part changed
+abbrev pub at_dates : DateCheck → Policy → Policy
+at_dates date policy = record policy { date = date }
+
+abbrev pub with_not_before : Bool → Policy → Policy
+with_not_before asked policy = record policy { not_before = asked }
+
+abbrev pub with_not_after : Bool → Policy → Policy
+with_not_after asked policy = record policy { not_after = asked }
+
+abbrev pub with_chain : Bool → Policy → Policy
+with_chain asked policy = record policy { chain = asked }
+
+abbrev pub with_signing : Bool → Policy → Policy
+with_signing asked policy = record policy { signing = asked }
+
+-- basic validation is asked for, of this digest
+abbrev pub with_basic : List ℕ → Policy → Policy
+with_basic file_hash policy = record policy { basic = true; file_hash = Some file_hash }
+
+-- it isn't, and there is no digest
+abbrev pub without_basic : Policy → Policy
+without_basic policy = record policy { basic = false; file_hash = None }
+
+-- ---- answers
+
+-- the value has no encoding, for the cause that the error tells
+abbrev pub HasNoEncoding : DerElement → Rule AuthenticodeError
+HasNoEncoding element e = (source : DerError) × CantBeWritten element source × (e ≡ errors.Asn1DerError source)
+
+-- The rules of a value with this element and these fields, in their order: that it has an encoding, then those of the policy.
+abbrev pub kept_rules : Judge → Policy → DerElement → SignedDataElements → List (Rule AuthenticodeError)
+kept_rules judge policy element f = HasNoEncoding element ∷ policy_rules judge policy f
+
+-- The value has an encoding, and is trusted under the policy.
+abbrev pub IsKeptTrusted : Judge → Policy → DerElement → SignedDataElements → Accepted → Type 0
+IsKeptTrusted judge policy element f accepted = IsDer element × IsTrusted judge policy f accepted
+
+-- The answer: that it is trusted; the first rule that is broken; want of memory.
+abbrev pub IsVerdict : Judge → Policy → DerElement → SignedDataElements → Result Accepted AuthenticodeError → Type 0
+IsVerdict judge policy element f r = MatchResult r (IsKeptTrusted judge policy element f) (RefusesBy (kept_rules judge policy element f))
+
+-- Two answers are one, but where one of them is want of memory.
+abbrev pub AreOneUnlessMemory : Result Accepted AuthenticodeError → Result Accepted AuthenticodeError → Type 0
+AreOneUnlessMemory a b = (a ≡ b) ⊎ ((a ≡ Err errors.Memory) ⊎ (b ≡ Err errors.Memory))
