@@ -1,0 +1,4 @@
+pub mod CarriedCertificates
+pub mod SortedCertificates
+pub mod KeptAttributes
+pub mod KeptNames

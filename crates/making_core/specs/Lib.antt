@@ -1,0 +1,5 @@
+pub mod Carried
+pub mod MadeSignature
+pub mod MadeContent
+pub mod MadeAttributes
+pub mod SignedProgram

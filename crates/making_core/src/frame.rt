@@ -1,0 +1,117 @@
+//! Signed data of one signer, of its parts.
+
+ghost use Rattle.std.specs.Prelude.{◌≡◌, ◌∷◌, [], Some, IfOk};
+ghost use Rattle.std.specs.Option.{option_map};
+ghost use Rattle.cms_types.specs.CertificateChoices.{certificate_choice};
+ghost use Rattle.cms_types.specs.DigestAlgorithm.{digest_algorithm};
+ghost use Rattle.cms_types.specs.SignedAttributesElement.{signed_attributes};
+ghost use Rattle.cms_types.specs.SignedData.{signed_data_elements};
+ghost use Rattle.cms_types.specs.SignerIdentifier.{signer_identifier};
+ghost use Rattle.cms_types.specs.SignerInfo.{signer_elements, signer_info};
+ghost use Rattle.cms_types.specs.UnsignedAttribute.{unsigned_attribute};
+ghost use Rattle.content_types.specs.ContentInfo.{content_info};
+ghost use Rattle.der_core.specs.DerElement.{Constructed, row};
+ghost use Rattle.der_core.specs.Each.{list_element};
+ghost use Rattle.der_core.specs.Elements.{octet_string, set};
+ghost use Rattle.key_types.specs.AlgorithmIdentifier.{algorithm_identifier};
+ghost use Rattle.making_core.specs.SignedProgram.{name_of};
+ghost use Rattle.making_core.specs.MadeSignature.{rsa_encryption as rsa_element, version_one};
+
+use asn1_types::ObjectIdentifier;
+use asn1_types::oids::RSA_ENCRYPTION;
+use cms_types::{
+    CertificateSet, CmsVersion, EncapsulatedContentInfo, IssuerAndSerialNumber, Pkcs7Certificate,
+    SignedAttributes, SignedData, SignerIdentifier, SignerInfo, UnsignedAttributeList, new_sha,
+};
+use der_core::{ListOf, Octets};
+use key_types::AlgorithmIdentifier;
+use sig_core::ShaVariant;
+use std::alloc::{AllocError, Global};
+use x501_types::Name;
+use x509_core::Cert;
+
+/// What names a certificate: its issuer and its serial number (RFC 5652 10.2.4).
+pub fn named_by(alloc: Global, certificate: &Cert) -> Result<SignerIdentifier, AllocError>
+    ensures { IfOk result (λ sid. signer_identifier sid ≡ name_of certificate.now.elements) }
+{
+    let issuer = Name::from(certificate.issuer_name(alloc)?);
+    let serial_number = certificate.serial_number().try_clone(alloc)?;
+    Ok(SignerIdentifier::IssuerAndSerialNumber(IssuerAndSerialNumber {
+        issuer,
+        serial_number,
+    }))
+}
+
+/// The algorithm of keys of RSA (RFC 8017 C).
+fn rsa_encryption(alloc: Global) -> Result<AlgorithmIdentifier, AllocError>
+    ensures { IfOk result (λ algorithm. algorithm_identifier algorithm ≡ rsa_element) }
+{
+    let oid = ObjectIdentifier::from_known(alloc, RSA_ENCRYPTION)?;
+    let algorithm = AlgorithmIdentifier::with_null(alloc, oid)?;
+    Ok(algorithm)
+}
+
+/// The signer that signs so.
+pub fn signer_of(
+    alloc: Global,
+    sid: SignerIdentifier,
+    hash: ShaVariant,
+    attributes: SignedAttributes,
+    signature: Octets,
+    unsigned_attrs: Option<UnsignedAttributeList>,
+) -> Result<SignerInfo, AllocError>
+    ensures { IfOk result (λ signer. signer_elements signer ≡ record {
+      version = version_one;
+      sid = signer_identifier sid;
+      digest_algorithm = digest_algorithm hash;
+      signed_attrs = Some (signed_attributes attributes);
+      signature_algorithm = rsa_element;
+      signature = octet_string signature;
+      unsigned_attrs = option_map (list_element 0xA1 unsigned_attribute) unsigned_attrs;
+    }) }
+{
+    let digest_algorithm = new_sha(alloc, hash)?;
+    let signature_algorithm = rsa_encryption(alloc)?;
+    Ok(SignerInfo {
+        version: CmsVersion::V1,
+        sid,
+        digest_algorithm,
+        signed_attrs: Some(attributes),
+        signature_algorithm,
+        signature,
+        unsigned_attrs,
+    })
+}
+
+/// Signed data of the one signer.
+pub fn framed(
+    alloc: Global,
+    hash: ShaVariant,
+    content: EncapsulatedContentInfo,
+    certificates: CertificateSet,
+    signer: SignerInfo,
+) -> Result<Pkcs7Certificate, AllocError>
+    ensures { IfOk result (λ value. signed_data_elements value.signed_data ≡ record {
+      version = version_one;
+      digest_algorithms = set (digest_algorithm hash ∷ []);
+      content_info = content_info content;
+      certificates = Some (list_element 0xA0 certificate_choice certificates);
+      crls = Some (Constructed 0xA1 (row []));
+      signers_infos = set (signer_info signer ∷ []);
+    }) }
+{
+    let mut digest_algorithms = ListOf::new(alloc);
+    digest_algorithms.push(new_sha(alloc, hash)?)?;
+    let mut signers_infos = ListOf::new(alloc);
+    signers_infos.push(signer)?;
+    Ok(Pkcs7Certificate {
+        signed_data: SignedData {
+            version: CmsVersion::V1,
+            digest_algorithms,
+            content_info: content,
+            certificates: Some(certificates),
+            crls: Some(ListOf::new(alloc)),
+            signers_infos,
+        },
+    })
+}
