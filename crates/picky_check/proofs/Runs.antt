@@ -228,6 +228,7 @@ module _ (words : List (List ℕ)) (shelf shelf_now : ShelfState) (settled : Ask
         sink_failed = λ e. record {
           answer = the_answer.0;
           is_answer = the_answer.2;
+          told = the_answer.1.told;
           cut_short = cut_line the_answer.0 report out out_now the_answer.1 cut;
           has_risen = rose;
         };

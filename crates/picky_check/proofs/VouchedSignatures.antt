@@ -119,30 +119,39 @@ stands judge hash date options f bag signer path excuses.Token h =
 
 module _ (words : List (List ℕ)) (files : Option Files) (signature table hash : List ℕ) (octets text : List ℕ) (rows : List VerdictRow)
     (signature_file : IsWholeFile files signature octets) (table_file : IsWholeFile files table text) (is_table : IsTable text rows) (told : Accepted) where
-  pub vouched_basic : AsksFor words (Basic signature table hash) → IsAnswer (verdict_of rows) (basic_policy hash) octets (Ok told) → IsVouchedFor words files
-  vouched_basic asked answer =
-      let h = answer.2.basic refl in record {
-        signature = signature;
-        table = table;
-        hash = hash;
-        asked = asked;
-        octets = octets;
-        text = text;
-        rows = rows;
-        signed_data = answer.0;
-        place = h.place;
-        signature_file = signature_file;
-        table_file = table_file;
-        is_table = is_table;
-        holds = answer.1;
-        vouches = of_hash (verdict_of rows) answer.0 hash told h;
-      }
-
   module _ (one_signed_data : (o : List ℕ) (f g : SignedDataElements) → HasSignedData o f → HasSignedData o g → f ≡ g)
-      (held held_now : Option (List ℕ)) (written : Appends held (accepted_line told) held_now) (date : GeneralizedTime) (options : CheckOptions) where
-    pub vouched_check : AsksFor words (Check signature table hash date options) → IsAnswer (verdict_of rows) (check_policy hash date options) octets (Ok told)
+      (held held_now : Option (List ℕ)) (written : Appends held (accepted_line told) held_now) where
+    pub vouched_basic : AsksFor words (Basic signature table hash) → IsAnswer (verdict_of rows) (basic_policy hash) octets (Ok told)
+        → IsVouchedFor words files held held_now
+    vouched_basic asked answer =
+        let h = answer.2.basic refl in
+        let nothing_more = answer.2.pathless refl in record {
+          signature = signature;
+          table = table;
+          hash = hash;
+          asked = asked;
+          octets = octets;
+          text = text;
+          rows = rows;
+          signature_file = signature_file;
+          table_file = table_file;
+          is_table = is_table;
+          signed_data = answer.0;
+          holds = answer.1;
+          one = λ other has. one_signed_data octets other answer.0 has answer.1;
+          told = told;
+          written = written;
+          pathless = nothing_more.0;
+          unexcused = nothing_more.1;
+          place = h.place;
+          place_told = h.told;
+          vouches = of_hash (verdict_of rows) answer.0 hash told h;
+        }
+
+    pub vouched_check : (date : GeneralizedTime) (options : CheckOptions) → AsksFor words (Check signature table hash date options)
+        → IsAnswer (verdict_of rows) (check_policy hash date options) octets (Ok told)
         → IsVouchedSignature words files held held_now
-    vouched_check asked answer =
+    vouched_check date options asked answer =
         let basic = answer.2.basic refl in
         let signing = answer.2.signing refl in
         let s = stands (verdict_of rows) hash date options answer.0 signing.bag signing.signer told.path told.excuse signing.stands in record {

@@ -25,17 +25,18 @@ module _ (one_signed_data : (octets : List ℕ) (f g : SignedDataElements) → H
     (words : List (List ℕ)) (files : Option Files) (held held_now : Option (List ℕ)) where
   -- one of the commands vouches for what it accepted
   abbrev IsVouched : Type 0
-  IsVouched = IsVouchedFor words files ⊎ (IsVouchedSignature words files held held_now ⊎ IsVouchedChain words files)
+  IsVouched = IsVouchedFor words files held held_now ⊎ (IsVouchedSignature words files held held_now ⊎ IsVouchedChain words files)
 
   of_basic : (signature table hash : List ℕ) (contents : List (List ℕ)) (rows : List VerdictRow) (a : Accepted)
       → AsksFor words (Basic signature table hash) → AreWholeFiles files (files_of (Basic signature table hash)) contents
       → IsTable (table_in (Basic signature table hash) contents) rows
-      → IsAnswerTo (verdict_of rows) (Basic signature table hash) contents (OfSignature (Ok a)) → IsVouchedFor words files
-  of_basic signature table hash [] rows a asked are is_table is_answer = absurd are
-  of_basic signature table hash (octets ∷ []) rows a asked are is_table is_answer = absurd are.1
-  of_basic signature table hash (octets ∷ text ∷ more ∷ others) rows a asked are is_table is_answer = absurd are.1.1
-  of_basic signature table hash (octets ∷ text ∷ []) rows a asked are is_table is_answer =
-      vouched_basic words files signature table hash octets text rows are.0 are.1.0 is_table a asked is_answer.is
+      → IsAnswerTo (verdict_of rows) (Basic signature table hash) contents (OfSignature (Ok a))
+      → Appends held (accepted_line a) held_now → IsVouchedFor words files held held_now
+  of_basic signature table hash [] rows a asked are is_table is_answer written = absurd are
+  of_basic signature table hash (octets ∷ []) rows a asked are is_table is_answer written = absurd are.1
+  of_basic signature table hash (octets ∷ text ∷ more ∷ others) rows a asked are is_table is_answer written = absurd are.1.1
+  of_basic signature table hash (octets ∷ text ∷ []) rows a asked are is_table is_answer written =
+      vouched_basic words files signature table hash octets text rows are.0 are.1.0 is_table a one_signed_data held held_now written asked is_answer.is
 
   of_check : (signature table hash : List ℕ) (date : GeneralizedTime) (options : CheckOptions) (contents : List (List ℕ)) (rows : List VerdictRow) (a : Accepted)
       → AsksFor words (Check signature table hash date options) → AreWholeFiles files (files_of (Check signature table hash date options)) contents
@@ -75,7 +76,7 @@ module _ (one_signed_data : (octets : List ℕ) (f g : SignedDataElements) → H
   vouched_for_job : (job : Job) (answer : Answer) → AsksFor words job → IsAnswered files job answer → status_of answer ≡ 0
       → Appends held (line_of answer) held_now → IsVouched
   vouched_for_job (Basic signature table hash) (OfSignature (Ok a)) asked h zero written =
-      inl (of_basic signature table hash h.contents h.rows a asked h.are_files h.is_table h.is_answer)
+      inl (of_basic signature table hash h.contents h.rows a asked h.are_files h.is_table h.is_answer written)
   vouched_for_job (Basic signature table hash) (OfSignature (Err e)) asked h zero written = absurd (omega arith)
   vouched_for_job (Basic signature table hash) (OfChain given) asked h zero written = absurd (no_chain_for_basic signature table hash h.contents h.rows given h.is_answer)
   vouched_for_job (Check signature table hash date options) (OfSignature (Ok a)) asked h zero written =
@@ -90,5 +91,5 @@ module _ (one_signed_data : (octets : List ℕ) (f g : SignedDataElements) → H
       absurd (no_signature_for_chain table date names h.contents h.rows given h.is_answer)
 
   pub vouched_for : (answer : Answer) → Answers words files answer → status_of answer ≡ 0 → Appends held (line_of answer) held_now
-      → IsVouchedFor words files ⊎ (IsVouchedSignature words files held held_now ⊎ IsVouchedChain words files)
+      → IsVouchedFor words files held held_now ⊎ (IsVouchedSignature words files held held_now ⊎ IsVouchedChain words files)
   vouched_for answer h zero written = vouched_for_job h.job answer h.asked h.is_answered zero written

@@ -24,24 +24,34 @@ use Rattle.picky_check.specs.Shelf.{Files}
 use Rattle.picky_check.specs.Sink.{Appends}
 use Rattle.picky_check.specs.Words.{Basic, Check, AsksFor}
 
--- The words are basic SIG TABLE HASH. There are octets that hold signed data, and a text that is a
--- table, and by the verdicts of the table the signed data vouches for the digest HASH, with the
--- certificate of its signer at some place. The octets are the file SIG, and the text is the file
--- TABLE, as far as the shelf tells its files.
-pub record IsVouchedFor (words : List (List ℕ)) (files : Option Files) : Type 0 where
+-- The words are basic SIG TABLE HASH. The octets of the file SIG hold one signed data, and the text
+-- of the file TABLE is a table, as far as the shelf tells its files. By the verdicts of the table
+-- the signed data vouches for the digest HASH, under the key of the signer's certificate. What is
+-- told is the line that the sink has more: the place of that certificate, no path and no excuse.
+pub record IsVouchedFor (words : List (List ℕ)) (files : Option Files) (held held_now : Option (List ℕ)) : Type 0 where
   pub signature : List ℕ
   pub table : List ℕ
   pub hash : List ℕ
   pub asked : AsksFor words (Basic signature table hash)
+  -- the files
   pub octets : List ℕ
   pub text : List ℕ
   pub rows : List VerdictRow
-  pub signed_data : SignedDataElements
-  pub place : ℕ
   pub signature_file : IsWholeFile files signature octets
   pub table_file : IsWholeFile files table text
   pub is_table : IsTable text rows
+  -- the one signed data
+  pub signed_data : SignedDataElements
   pub holds : HasSignedData octets signed_data
+  pub one : (other : SignedDataElements) → HasSignedData octets other → other ≡ signed_data
+  -- the line
+  pub told : Accepted
+  pub written : Appends held (accepted_line told) held_now
+  pub pathless : told.path ≡ []
+  pub unexcused : told.excuse ≡ excuses.None
+  -- the signature, under the key of the certificate at the place that is told
+  pub place : ℕ
+  pub place_told : told.signer ≡ Some place
   pub vouches : Vouches (verdict_of rows) signed_data hash place
 
 -- when certificates have to be valid: already, and still, at DATE or at some moment between it and the other, but for what the options leave out

@@ -43,6 +43,7 @@ pub record IsLost (words : List (List ℕ)) (files : Option Files) (out out_now 
     : Type 0 where
   pub answer : Answer
   pub is_answer : Answers words files answer
+  pub told : WantsMemory answer → ⊥
   pub cut_short : IsCutShort (line_of answer) out out_now
   pub has_risen : HasRisen out.faults out_now.faults
 

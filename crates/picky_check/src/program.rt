@@ -22,6 +22,7 @@ pub fn run<F: Shelf, O: Sink>(alloc: Global, words: &[String], shelf: &mut F, ou
     // Acceptance means vouched for.
     ensures vouched_for { result ≡ 0
         → IsVouchedFor (map string_bytes words.now) (F.state shelf.old).files
+        (O.state out.old).held (O.state out.new).held
         ⊎ (IsVouchedSignature (map string_bytes words.now) (F.state shelf.old).files
         (O.state out.old).held (O.state out.new).held
         ⊎ IsVouchedChain (map string_bytes words.now) (F.state shelf.old).files) }
