@@ -15,6 +15,8 @@ pub mod FirstAttributes
 pub mod DigestNames
 pub mod SignedMessages
 pub mod WalkedPlaces
+pub mod PassedPlaces
+pub mod NamedMembers
 pub mod OneSigning
 pub mod SigningOrder
 pub mod NamedCertificates

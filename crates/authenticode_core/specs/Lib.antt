@@ -27,4 +27,5 @@ pub mod WalkCursor
 pub mod OthersCursor
 pub mod Linking
 pub mod Wanted
+pub mod Naming
 pub mod Form

@@ -14,6 +14,7 @@ mod form;
 mod issuer_walk;
 mod laws;
 mod linking;
+mod naming;
 mod others;
 mod pkcs7_error;
 mod policy;
