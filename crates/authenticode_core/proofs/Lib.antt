@@ -17,6 +17,9 @@ pub mod SignedMessages
 pub mod WalkedPlaces
 pub mod PassedPlaces
 pub mod NamedMembers
+pub mod PlainShape
+pub mod PlainCertificate
+pub mod PlainVouched
 pub mod OneSigning
 pub mod SigningOrder
 pub mod NamedCertificates

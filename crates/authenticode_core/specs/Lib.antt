@@ -8,6 +8,7 @@ pub mod IssuerWalk
 pub mod SignedFields
 pub mod FormRules
 pub mod SigningRules
+pub mod PlainFields
 pub mod SigningSteps
 pub mod Basic
 pub mod Policy

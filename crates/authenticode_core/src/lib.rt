@@ -31,7 +31,7 @@ pub use accepted::{Accepted, Excuse, Places};
 pub use bag::{Bag, BagCertificate};
 pub use error::{AuthenticodeError, CheckError};
 pub use issuer_walk::{IssuerWalk, is_on_path};
-pub use laws::{one_acceptance, one_bag, one_issuer_walk, one_signed_data};
+pub use laws::{one_acceptance, one_bag, one_issuer_walk, one_signed_data, plain_form_is_judged};
 pub use pkcs7_error::Pkcs7Error;
 pub use policy::Policy;
 pub use signer::{certificate_bag, issuer_walk_of, signer_of};
