@@ -14,7 +14,7 @@ use Rattle.authenticode_core.proofs.OneCertificate.{one_certificate}
 
 -- ---- a member that is passed over
 
-no_member : (member : DerElement) → ((c : Certificate) → IsCertificate member c → ⊥) → (c : CertificateElements) → IsMember member c → ⊥
+pub no_member : (member : DerElement) → ((c : Certificate) → IsCertificate member c → ⊥) → (c : CertificateElements) → IsMember member c → ⊥
 no_member member refused c m = refused m.fits.0 (record { elements = c; is = m.is; spelled = m.fits.1 })
 
 passed_over : (member : DerElement) (left : List DerElement) (bag : List CertificateElements) → ((c : CertificateElements) → IsMember member c → ⊥) → IsBag (member ∷ left) bag → IsBag left bag

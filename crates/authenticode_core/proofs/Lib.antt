@@ -15,6 +15,11 @@ pub mod FirstAttributes
 pub mod DigestNames
 pub mod SignedMessages
 pub mod WalkedPlaces
+pub mod PassedPlaces
+pub mod NamedMembers
+pub mod PlainShape
+pub mod PlainCertificate
+pub mod PlainVouched
 pub mod OneSigning
 pub mod SigningOrder
 pub mod NamedCertificates

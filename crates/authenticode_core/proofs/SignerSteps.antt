@@ -48,10 +48,10 @@ pub no_name : (signers left : List DerElement) (first : DerElement) (view : Sign
     → ((value : IssuerAndSerialNumber) → (signer_elements_at view).sid ≡ issuer_and_serial_number value → ⊥) → (c : CertificateElements) → IsNamed signers c → ⊥
 no_name signers left first view e is none c n = none n.value (named_sid signers left first view c e is n)
 
-two : (a b x y : DerElement) → sequence (a ∷ x ∷ []) ≡ sequence (b ∷ y ∷ []) → (a ≡ b) × (x ≡ y)
+pub two : (a b x y : DerElement) → sequence (a ∷ x ∷ []) ≡ sequence (b ∷ y ∷ []) → (a ≡ b) × (x ≡ y)
 two a b x y e = (cc, cc)
 
-contents : (s t : List ℕ) → Primitive 0x02 s ≡ Primitive 0x02 t → s ≡ t
+pub contents : (s t : List ℕ) → Primitive 0x02 s ≡ Primitive 0x02 t → s ≡ t
 contents s t e = cc
 
 is_named : (signers left : List DerElement) (first : DerElement) (view : SignerView) (issuer serial : List ℕ) (c : CertificateElements) → signers ≡ first ∷ left → (is : IsSignerView first view)

@@ -1,6 +1,7 @@
 -- An issuer walk that is read to its end, and whether a certificate of it has an extended key usage.
-use Rattle.std.proofs.Common.{◌≡◌, ◌↔◌, ◌⊎◌, ◌<◌, IsTrue, Bool, true, false, ℕ, zero, suc, List, [], ◌∷◌, ◌++◌, inl, inr, refl, sym, subst, append_assoc, arith}
+use Rattle.std.proofs.Common.{◌≡◌, ◌↔◌, ◌⊎◌, ◌<◌, ◌≤◌, IsTrue, Bool, true, false, ℕ, zero, suc, List, [], ◌∷◌, ◌++◌, inl, inr, sym, subst, append_assoc, arith}
 use Rattle.std.specs.Prelude.{Contains, slice_index_or}
+use Rattle.std.proofs.lemmas.Bool.{cases_lt}
 use Rattle.std.proofs.lemmas.List.{append-nil}
 use Rattle.std.proofs.lemmas.List.Elements.{Contains-append_left, Contains-append_cases, Contains-push}
 use Rattle.der_core.specs.DerElement.{DerElement}
@@ -8,9 +9,10 @@ use Rattle.x509_types.specs.CertificateElements.{CertificateElements}
 use Rattle.x509_types.specs.Purposes.{HasPurposes}
 use Rattle.authenticode_core.specs.IssuerWalk.{IsIssuerWalk, IsWalkFrom}
 use Rattle.authenticode_core.specs.Names.{HasSubject}
+use Rattle.authenticode_core.specs.Naming.{AsksNext}
 use Rattle.authenticode_core.specs.Places.{IsLeastPlace, StandsAt}
 use Rattle.authenticode_core.specs.SigningRules.{AsksForPurposes}
-use Rattle.authenticode_core.specs.WalkCursor.{LooksFrom}
+use Rattle.authenticode_core.specs.WalkCursor.{LooksFrom, GoesPast}
 use Rattle.authenticode_core.specs.declared.issuer_walk.IssuerWalk.{IssuerWalk}
 use Rattle.authenticode_core.proofs.WalkSteps.{one_walk, same_certificate}
 
@@ -65,42 +67,75 @@ is_last_at place other (suc k) lt e = absurd (omega (arith, lt))
 is_last : (place other : ℕ) → Contains (place ∷ []) other → place ≡ other
 is_last place other last = is_last_at place other last.0 (omega (arith, last.1)) last.2
 
-before_last : (bag : List CertificateElements) (places : List ℕ) (place : ℕ) (c : CertificateElements) → StandsAt bag place c → (HasPurposes c → ⊥) → (h : HasPurposesAmong bag (places ++ place ∷ []))
-    → Contains places h.place ⊎ Contains (place ∷ []) h.place → HasPurposesAmong bag places
-before_last bag places place c stands none h (inl among) = record { place = h.place; among = among; c = h.c; stands = h.stands; purposes = h.purposes }
-before_last bag places place c stands none h (inr last) =
-    absurd (none (subst HasPurposes (same_certificate bag place h.place c h.c (is_last place h.place last) stands h.stands) h.purposes))
+-- what is told of one more place
+told_more : (bag : List CertificateElements) (places : List ℕ) (place : ℕ) (c : CertificateElements) (asks : Bool) → StandsAt bag place c → (IsTrue asks → HasPurposesAmong bag places) → IsTrue asks ⊎ HasPurposes c
+    → HasPurposesAmong bag (places ++ place ∷ [])
+told_more bag places place c asks stands told (inl t) = still_among bag places place (told t)
+told_more bag places place c asks stands told (inr purposes) = now_among bag places place c stands purposes
 
-pub walked_asking : (bag : List CertificateElements) (subject : DerElement) (walk next : IssuerWalk) (asks : Bool) (place : ℕ) (c : CertificateElements) → HasPurposes c
-    → ((from : ℕ) (x : DerElement) → LooksFrom walk bag from x → IsLeastPlace bag (HasSubject x) from place c × LooksFrom next bag (suc place) c.tbs.issuer)
-    → Walked bag subject walk asks → Walked bag subject next true
-walked_asking bag subject walk next asks place c purposes moves w =
-    let moved = moves w.from w.next w.looks in
-    record {
-      places = w.places ++ place ∷ [];
-      from = suc place;
-      next = c.tbs.issuer;
-      looks = moved.1;
-      joined = joined_more bag subject w.next w.places w.from place c moved.0 w.joined;
-      told = (λ t. now_among bag w.places place c moved.0.stands purposes, λ h. refl);
-    }
+told_back : (bag : List CertificateElements) (places : List ℕ) (place : ℕ) (c : CertificateElements) (asks : Bool) → StandsAt bag place c → (HasPurposesAmong bag places → IsTrue asks) → (h : HasPurposesAmong bag (places ++ place ∷ []))
+    → Contains places h.place ⊎ Contains (place ∷ []) h.place → IsTrue asks ⊎ HasPurposes c
+told_back bag places place c asks stands told h (inl among) = inl (told (record { place = h.place; among = among; c = h.c; stands = h.stands; purposes = h.purposes }))
+told_back bag places place c asks stands told h (inr last) =
+    inr (subst HasPurposes (same_certificate bag place h.place c h.c (is_last place h.place last) stands h.stands) h.purposes)
 
-pub walked_on : (bag : List CertificateElements) (subject : DerElement) (walk next : IssuerWalk) (asks : Bool) (place : ℕ) (c : CertificateElements) → (HasPurposes c → ⊥)
-    → ((from : ℕ) (x : DerElement) → LooksFrom walk bag from x → IsLeastPlace bag (HasSubject x) from place c × LooksFrom next bag (suc place) c.tbs.issuer)
-    → Walked bag subject walk asks → Walked bag subject next asks
-walked_on bag subject walk next asks place c none moves w =
-    let moved = moves w.from w.next w.looks in
-    record {
-      places = w.places ++ place ∷ [];
-      from = suc place;
-      next = c.tbs.issuer;
-      looks = moved.1;
-      joined = joined_more bag subject w.next w.places w.from place c moved.0 w.joined;
-      told = (
-        λ t. still_among bag w.places place (w.told.0 t),
-        λ h. w.told.1 (before_last bag w.places place c moved.0.stands none h (Contains-append_cases w.places (place ∷ []) h.place h.among)),
-      );
-    }
+least_here : (bag : List CertificateElements) (holds : CertificateElements → Type 0) (place : ℕ) (c : CertificateElements) → StandsAt bag place c → holds c → IsLeastPlace bag holds place place c
+least_here bag holds place c stands fits =
+    record { later = omega arith; stands = stands; fits = fits; least = λ other d later before at is. absurd (omega (arith, later, before)) }
+
+-- the certificate at the place is the next one of the walk
+walked_more : (bag : List CertificateElements) (subject : DerElement) (walk next : IssuerWalk) (asks asks' : Bool) (c : CertificateElements) (w : Walked bag subject walk asks) → StandsAt bag w.from c → HasSubject w.next c
+    → LooksFrom next bag (suc w.from) c.tbs.issuer → IsTrue asks' ↔ (IsTrue asks ⊎ HasPurposes c) → Walked bag subject next asks'
+walked_more bag subject walk next asks asks' c w stands fits looks asked = record {
+  places = w.places ++ w.from ∷ [];
+  from = suc w.from;
+  next = c.tbs.issuer;
+  looks = looks;
+  joined = joined_more bag subject w.next w.places w.from w.from c (least_here bag (HasSubject w.next) w.from c stands fits) w.joined;
+  told = (
+    λ t. told_more bag w.places w.from c asks stands w.told.0 (asked.0 t),
+    λ h. asked.1 (told_back bag w.places w.from c asks stands w.told.1 h (Contains-append_cases w.places (w.from ∷ []) h.place h.among)),
+  );
+}
+
+-- ---- a place that is passed over
+
+apart : (bag : List CertificateElements) (subject : DerElement) (from place : ℕ) (c d : CertificateElements) → StandsAt bag from c → (HasSubject subject c → ⊥) → from ≤ place → StandsAt bag place d → HasSubject subject d
+    → (from < place) ⊎ (place ≤ from) → suc from ≤ place
+apart bag subject from place c d stands other later at fits (inl less) = omega (arith, less)
+apart bag subject from place c d stands other later at fits (inr more) =
+    let same : from ≡ place = omega (arith, later, more) in
+    absurd (other (subst (HasSubject subject) (same_certificate bag from place c d same stands at) fits))
+
+behind : (bag : List CertificateElements) (subject : DerElement) (from : ℕ) (c : CertificateElements) (rest : List ℕ) → StandsAt bag from c → (HasSubject subject c → ⊥) → IsWalkFrom bag (suc from) subject rest → IsWalkFrom bag from subject rest
+behind bag subject from c [] stands other none =
+    λ place d later at fits. none place d (apart bag subject from place c d stands other later at fits (cases_lt from place)) at fits
+behind bag subject from c (place ∷ places) stands other w = (
+  w.0,
+  record {
+    later = omega (arith, w.1.later);
+    stands = w.1.stands;
+    fits = w.1.fits;
+    least = λ p d later before at fits. w.1.least p d (apart bag subject from p c d stands other later at fits (cases_lt from p)) before at fits;
+  },
+  w.2,
+)
+
+walked_past : (bag : List CertificateElements) (subject : DerElement) (walk next : IssuerWalk) (asks asks' : Bool) (c : CertificateElements) (w : Walked bag subject walk asks) → StandsAt bag w.from c → (HasSubject w.next c → ⊥)
+    → LooksFrom next bag (suc w.from) w.next → asks' ≡ asks → Walked bag subject next asks'
+walked_past bag subject walk next asks asks' c w stands other looks same = record {
+  places = w.places;
+  from = suc w.from;
+  next = w.next;
+  looks = looks;
+  joined = λ rest further. w.joined rest (behind bag w.next w.from c rest stands other further);
+  told = subst (λ (b : Bool). IsTrue b ↔ HasPurposesAmong bag w.places) (sym same) w.told;
+}
+
+pub walked_step : (bag : List CertificateElements) (subject : DerElement) (walk next : IssuerWalk) (asks asks' on_walk : Bool) (c : CertificateElements) (w : Walked bag subject walk asks) → StandsAt bag w.from c
+    → GoesPast next bag w.from w.next c on_walk → AsksNext asks on_walk c asks' → Walked bag subject next asks'
+walked_step bag subject walk next asks asks' true c w stands goes asked = walked_more bag subject walk next asks asks' c w stands goes.0 goes.1 asked
+walked_step bag subject walk next asks asks' false c w stands goes same = walked_past bag subject walk next asks asks' c w stands goes.0 goes.1 same
 
 -- ---- the end
 

@@ -8,6 +8,7 @@ pub mod IssuerWalk
 pub mod SignedFields
 pub mod FormRules
 pub mod SigningRules
+pub mod PlainFields
 pub mod SigningSteps
 pub mod Basic
 pub mod Policy
@@ -27,4 +28,5 @@ pub mod WalkCursor
 pub mod OthersCursor
 pub mod Linking
 pub mod Wanted
+pub mod Naming
 pub mod Form

@@ -1,5 +1,5 @@
 -- What the steps of the signing rules answer, each by itself.
-use Rattle.std.specs.Prelude.{◌≡◌, ◌≢◌, ℕ, List, [], ◌∷◌}
+use Rattle.std.specs.Prelude.{◌≡◌, ◌≢◌, ◌↔◌, ℕ, List, [], ◌∷◌, IsTrue}
 use Rattle.asn1_types.specs.Values.{integer_contents}
 use Rattle.asn1_types.specs.declared.integer.IntegerAsn1.{IntegerAsn1}
 use Rattle.asn1_types.specs.declared.oids.TheConstants.{KP_CODE_SIGNING}
@@ -17,15 +17,22 @@ use Rattle.sig_core.specs.declared.hash.HashAlgorithm.TheVariants.{SHA2_224}
 use Rattle.x501_types.specs.Name.{name}
 use Rattle.x509_core.specs.Rules.{Rule}
 use Rattle.x509_types.specs.CertificateElements.{CertificateElements}
+use Rattle.x509_types.specs.CertificateView.{view_elements}
 use Rattle.x509_types.specs.Purposes.{NamesPurpose}
 use Rattle.authenticode_core.specs.SignedFields.{HasMessageDigest, IndirectData}
 use Rattle.authenticode_core.specs.SigningRules.{AsksForPurposes, DigestDiffers, HasNoMessageDigest, IsBagOf, IsSignerOf, IsUnsupportedDigest, digested_octets}
 use Rattle.authenticode_core.specs.declared.error.AuthenticodeError.{AuthenticodeError}
 use Rattle.authenticode_core.specs.declared.error.AuthenticodeError.TheVariants as errors
+use Rattle.authenticode_core.specs.declared.naming.Named.{Named}
 
 -- the certificate of the first signer stands at this place of the bag
 abbrev pub HasSigner : SignedDataElements → ℕ → CertificateElements → Type 0
 HasSigner f place c = (bag : List CertificateElements) × IsBagOf f bag × IsSignerOf f bag place c
+
+-- The certificate of the first signer stands there, and what its issuer walk asks for is known.
+pub record NamesSigner (f : SignedDataElements) (named : Named) : Type 0 where
+  pub has : HasSigner f named.certificate.place (view_elements named.certificate.certificate)
+  pub asks : IsTrue named.asks_for_purposes ↔ AsksForPurposes has.0 (view_elements named.certificate.certificate)
 
 -- The error tells of these octets of an issuer and these contents octets of a serial number.
 pub record TellsName (issuer serial_number : List ℕ) (e : AuthenticodeError) : Type 0 where

@@ -1,9 +1,11 @@
 -- An issuer walk that is under way.
-use Rattle.std.specs.Prelude.{◌≡◌, ℕ, List}
+use Rattle.std.specs.Prelude.{◌≡◌, Bool, true, false, ℕ, suc, List}
 use Rattle.der_core.specs.DerElement.{DerElement}
 use Rattle.der_core.specs.Encoding.{encoding}
 use Rattle.x509_types.specs.CertificateElements.{CertificateElements}
 use Rattle.authenticode_core.specs.BagCursor.{StandsIn}
+use Rattle.authenticode_core.specs.Names.{HasSubject}
+use Rattle.authenticode_core.specs.Places.{StandsAt}
 use Rattle.authenticode_core.specs.declared.issuer_walk.IssuerWalk.{IssuerWalk}
 
 -- The walk looks for a subject from a place of the bag on.
@@ -11,3 +13,14 @@ pub record LooksFrom (walk : IssuerWalk) (bag : List CertificateElements) (from 
   pub stands : StandsIn walk.bag bag
   pub place : walk.bag.place ≡ from
   pub octets : walk.subject.now ≡ encoding subject
+
+-- The certificate at the place is one of the walk, which looks for its issuer behind it, or it isn't, and the walk looks on for the subject.
+abbrev pub GoesPast : IssuerWalk → List CertificateElements → ℕ → DerElement → CertificateElements → Bool → Type 0
+GoesPast walk bag from subject c true = HasSubject subject c × LooksFrom walk bag (suc from) c.tbs.issuer
+GoesPast walk bag from subject c false = (HasSubject subject c → ⊥) × LooksFrom walk bag (suc from) subject
+
+-- The next certificate of the bag stands where the walk looks from.
+pub record StepsTo (walk : IssuerWalk) (bag : List CertificateElements) (from : ℕ) (subject : DerElement) (place : ℕ) (c : CertificateElements) (on_walk : Bool) : Type 0 where
+  pub placed : place ≡ from
+  pub stands : StandsAt bag from c
+  pub goes : GoesPast walk bag from subject c on_walk

@@ -52,6 +52,9 @@ impl<'a> Bag<'a> {
     pub fn next(&mut self) -> Option<BagCertificate<'a>>
         ensures fewer { IfSome result (λ _. length (left_members self.new.members) < length (left_members self.old.members)) }
         ensures place { IfSome result (λ next. (next.place ≡ self.old.place) × (self.new.place ≡ suc next.place)) }
+        ensures begins { MatchOption result
+            (IsBag (left_members self.old.members) [])
+            (λ next. BeginsBag (left_members self.old.members) (view_elements next.certificate) (left_members self.new.members)) }
         ensures stands { (bag : List CertificateElements) → StandsIn self.old bag → StandsIn self.new bag }
         ensures next { (bag : List CertificateElements) → StandsIn self.old bag → MatchOption result
             (length bag ≡ self.old.place)

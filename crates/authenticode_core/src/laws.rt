@@ -1,13 +1,15 @@
 //! Laws on signed data, and on the certificates that it carries.
 
-ghost use Rattle.std.specs.Prelude.{◌≡◌, ℕ, List};
+ghost use Rattle.std.specs.Prelude.{◌≡◌, ◌↔◌, ℕ, List};
 ghost use Rattle.cms_types.specs.SignedDataElements.{SignedDataElements};
 ghost use Rattle.der_core.specs.DerElement.{DerElement};
 ghost use Rattle.x509_types.specs.CertificateElements.{CertificateElements};
-ghost use Rattle.authenticode_core.specs.Basic.{HasSignedData};
+ghost use Rattle.authenticode_core.specs.Basic.{HasSignedData, IsVouchedFor};
 ghost use Rattle.authenticode_core.specs.CertificateBag.{IsBag};
 ghost use Rattle.key_core.specs.Verifying.{Judge};
 ghost use Rattle.authenticode_core.specs.IssuerWalk.{IsIssuerWalk, IsIssuerPath};
+ghost use Rattle.authenticode_core.specs.PlainFields.{HasPlainFields, IsPlainlyAccepted, plain_elements};
+ghost use Rattle.authenticode_core.specs.PlainForm.{IsPlainForm, SignatureParts};
 ghost use Rattle.authenticode_core.specs.Trusted.{IsTrusted};
 ghost use Rattle.authenticode_core.specs.declared.accepted.Accepted.{Accepted};
 ghost use Rattle.authenticode_core.specs.declared.policy.Policy.{Policy};
@@ -33,4 +35,15 @@ pub fn one_bag()
 pub fn one_issuer_walk()
     ensures walk { (bag : List CertificateElements) (signer : CertificateElements) (a b : List ℕ) → IsIssuerWalk bag signer a → IsIssuerWalk bag signer b → a ≡ b }
     ensures path { (bag : List CertificateElements) (signer : CertificateElements) (a b : List ℕ) → IsIssuerPath bag signer a → IsIssuerPath bag signer b → a ≡ b }
+{}
+
+/// Signed data of the plain form has the shape, with the fields of the form; its form is the one that is
+/// asked for, and its attributes hold the digest of its content. It is vouched for exactly where the
+/// digest of the file is the one that is asked for and the scheme accepts the signature, with the only
+/// certificate as the signer's.
+pub fn plain_form_is_judged()
+    ensures shape { (octets : List ℕ) (p : SignatureParts) → IsPlainForm octets p → HasSignedData octets (plain_elements p) }
+    ensures form { (octets : List ℕ) (p : SignatureParts) → IsPlainForm octets p → HasPlainFields p }
+    ensures vouched { (judge : Judge) (octets : List ℕ) (p : SignatureParts) (file_hash : List ℕ) (place : ℕ) → IsPlainForm octets p
+        → IsVouchedFor judge (plain_elements p) file_hash place ↔ ((place ≡ 0) × IsPlainlyAccepted judge p file_hash) }
 {}

@@ -41,8 +41,9 @@ pub fn signer_of<'a>(signed_data: &SignedView<'a>) -> Option<BagCertificate<'a>>
 
 /// The issuer walk of a certificate over the bag of signed data. It takes no memory.
 pub fn issuer_walk_of<'a>(signed_data: &SignedView<'a>, signer: &CertView<'a>) -> IssuerWalk<'a>
-    ensures { (bag : List CertificateElements) → IsBag (members_of (data_elements signed_data.now).certificates) bag
+    ensures looks { (bag : List CertificateElements) → IsBag (members_of (data_elements signed_data.now).certificates) bag
         → LooksFrom result bag 0 (view_elements signer.now).tbs.subject }
+    ensures members { left_members result.bag.members ≡ members_of (data_elements signed_data.now).certificates }
 {
     IssuerWalk::new(certificate_bag(signed_data), signer)
 }

@@ -52,8 +52,15 @@ pub(crate) fn expect_signer<S: Scheme>(
     let named = expect_certificate(alloc, signed_data, &first)?;
     let checks = policy.checks();
     checks.expect_date()?;
-    let signer = kept(alloc, &named)?;
-    expect_standing(alloc, signed_data, &named, signer, policy, scheme)
+    let signer = kept(alloc, &named.certificate)?;
+    expect_standing(
+        alloc,
+        signed_data,
+        &named.certificate,
+        signer,
+        policy,
+        scheme,
+    )
 }
 
 /// The first of the signers.

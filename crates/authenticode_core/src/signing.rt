@@ -9,15 +9,14 @@ ghost use Rattle.x509_core.specs.Link.{HasKey};
 ghost use Rattle.x509_types.specs.CertificateView.{view_elements};
 ghost use Rattle.authenticode_core.specs.SignedFields.{IndirectData, IsFirstSigner, indirect_kids};
 ghost use Rattle.authenticode_core.specs.SigningRules.{HasNoCertificate, HasUnknownDigest, IsNamedByKey, IsRefusedUnder, IsSigned, IsSignedBy, NamesDigest, RefusesBy, digested_octets, signing_rules};
-ghost use Rattle.authenticode_core.specs.SigningSteps.{HasSigner, IsBoundBy, TellsName, digest_rules, signature_refusal};
+ghost use Rattle.authenticode_core.specs.SigningSteps.{IsBoundBy, NamesSigner, TellsName, digest_rules, signature_refusal};
 ghost use Rattle.authenticode_core.specs.declared.error.AuthenticodeError.TheVariants as errors;
 
 use crate::attributes::{message_digest_of, signed_message_of};
-use crate::bag::BagCertificate;
 use crate::code_signing::expect_code_signing;
 use crate::digests::digest_named;
 use crate::error::AuthenticodeError;
-use crate::signer::{certificate_bag, signer_of};
+use crate::naming::{Named, named_certificate};
 use asn1_types::IntegerAsn1;
 use cms_types::{SignedView, SignerView};
 use der_core::{Elem, Octets, Structure, is_same};
@@ -48,10 +47,10 @@ pub(crate) fn expect_signed<'a, S: Scheme>(
 {
     let named = expect_certificate(alloc, signed_data, signer)?;
     let hash = expect_known_digest(signer)?;
-    expect_signature(alloc, signer, hash, &named.certificate, scheme)?;
+    expect_signature(alloc, signer, hash, &named.certificate.certificate, scheme)?;
     expect_message_digest(alloc, signer, hash, content.content)?;
-    expect_code_signing(signed_data, &named.certificate)?;
-    Ok(named.place)
+    expect_code_signing(&named)?;
+    Ok(named.certificate.place)
 }
 
 /// The certificate that the first signer names by its issuer and its serial number.
@@ -59,18 +58,16 @@ pub(crate) fn expect_certificate<'a>(
     alloc: Global,
     signed_data: &SignedView<'a>,
     signer: &SignerView<'a>,
-) -> Result<BagCertificate<'a>, AuthenticodeError>
+) -> Result<Named<'a>, AuthenticodeError>
     requires { IsFirstSigner (data_elements signed_data.now) (signer_elements_at signer.now) }
     ensures { MatchResult result
-        (λ named. HasSigner (data_elements signed_data.now) named.place (view_elements named.certificate))
+        (NamesSigner (data_elements signed_data.now))
         (RefusesBy (IsNamedByKey (signer_elements_at signer.now) ∷ HasNoCertificate (data_elements signed_data.now) (signer_elements_at signer.now) ∷ [])) }
 {
     let Some((issuer, serial_number)) = signer.issuer_and_serial() else {
         return Err(AuthenticodeError::IncorrectSignerIdentifier);
     };
-    // The bag is read to its end, so that it is known whose place is answered.
-    let _certificates = certificate_bag(signed_data).count();
-    match signer_of(signed_data) {
+    match named_certificate(signed_data, issuer, serial_number) {
         Some(named) => Ok(named),
         None => Err(no_certificate(alloc, issuer, serial_number)),
     }

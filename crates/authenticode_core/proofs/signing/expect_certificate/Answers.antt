@@ -1,18 +1,20 @@
 use Rattle.cms_types.specs.SignedView.{view_elements}
-use Rattle.authenticode_core.proofs.NamedCertificates.{named_by_key, no_certificate, bag_of}
+use Rattle.cms_types.specs.SignerView.{signer_elements_at}
+use Rattle.authenticode_core.proofs.NamedCertificates.{named_by_key, no_certificate}
+use Rattle.authenticode_core.proofs.NamedMembers.{named_or_not, least_as, none_as}
 use Rattle.authenticode_core.proofs.signing.expect_certificate.Goals as goal
 
 pub returns-in_default : goal.returns-in_default
 returns-in_default c = named_by_key _ _ c.requires c.in_default.ensures
 
-pub returns-in-Some-signer_of : goal.returns-in-Some-signer_of
-returns-in-Some-signer_of c =
-    let counted = c.count-certificates.ensures in
-    let is = bag_of (view_elements c.args.signed_data.now) _ counted.0 c.certificate_bag.ensures.members counted.1 in
-    (counted.0, is, c.in-Some-signer_of.ensures counted.0 is)
+pub returns-in-Some-named_certificate : goal.returns-in-Some-named_certificate
+returns-in-Some-named_certificate c =
+    let found = c.in-Some-named_certificate.ensures in
+    let same = named_or_not (view_elements c.args.signed_data.now) (signer_elements_at c.args.signer.now) _ _ c.requires c.in-Some.ensures in
+    record { has = (found.0, found.1, least_as found.0 _ _ _ _ same found.2.least); asks = found.2.asks }
 
 pub returns-in-None : goal.returns-in-None
 returns-in-None c =
-    let counted = c.count-certificates.ensures in
-    let is = bag_of (view_elements c.args.signed_data.now) _ counted.0 c.certificate_bag.ensures.members counted.1 in
-    no_certificate _ _ counted.0 _ _ _ c.requires is (c.in-None.ensures counted.0 is) c.in-Some.ensures c.no_certificate.ensures
+    let found = c.in-None.ensures in
+    let same = named_or_not (view_elements c.args.signed_data.now) (signer_elements_at c.args.signer.now) _ _ c.requires c.in-Some.ensures in
+    no_certificate _ _ found.0 _ _ _ c.requires found.1 (none_as found.0 _ _ same found.2) c.in-Some.ensures c.no_certificate.ensures
