@@ -31,7 +31,10 @@ pub(crate) fn kept(alloc: Global, named: &BagCertificate<'_>) -> Result<Cert, Al
 {
     match Cert::from_der(alloc, named.elem.whole) {
         Ok(cert) => Ok(cert),
-        Err(_) => Err(AllocError),
+        Err(error) => {
+            let_go(error);
+            Err(AllocError)
+        }
     }
 }
 
@@ -48,7 +51,9 @@ pub(crate) fn linked_path<S: Scheme>(
         (λ e. ((path : List ℕ) × IsIssuerPath bag signer.elements path × IsUnlinkedAt (S.judge scheme.now) window.now bag signer path e) ⊎ (e ≡ errors.Memory)) }
 {
     let issuers = Others::on_path(certificate_bag(signed_data), &signer.view());
-    linked_places(alloc, &signer, issuers, window, scheme)
+    let path = linked_places(alloc, &signer, issuers, window, scheme);
+    let_go(signer);
+    path
 }
 
 /// The first certificate of a token's bag is linked to the others with another subject, in order, at
@@ -56,15 +61,15 @@ pub(crate) fn linked_path<S: Scheme>(
 pub(crate) fn expect_linked_token<S: Scheme>(
     alloc: Global,
     token: &SignedView<'_>,
-    first: Cert,
+    first: &Cert,
     scheme: &S,
 ) -> Result<(), CertError>
-    ensures { (bag : List CertificateElements) → IsBagOf (data_elements token.now) bag → StandsAt bag 0 first.elements → MatchResult result
+    ensures { (bag : List CertificateElements) → IsBagOf (data_elements token.now) bag → StandsAt bag 0 first.now.elements → MatchResult result
         (λ _. IsLinkedToken (S.judge scheme.now) bag)
         (λ e. IsUnlinkedToken (S.judge scheme.now) bag e ⊎ (e ≡ errors.Memory)) }
 {
     let others = Others::in_bag(certificate_bag(token), &first.view());
-    linked_places(alloc, &first, others, &any_time(), scheme)?;
+    linked_places(alloc, first, others, &any_time(), scheme)?;
     Ok(())
 }
 
@@ -83,7 +88,13 @@ fn linked_places<S: Scheme>(
 {
     let mut linking = Linking::new(alloc);
     while let Some(next) = parents.next() {
-        linking.go_on(alloc, checked, &next, window, scheme)?;
+        match linking.go_on(alloc, checked, &next, window, scheme) {
+            Ok(()) => {}
+            Err(error) => {
+                let_go(linking);
+                return Err(error);
+            }
+        }
     }
     Ok(linking.into_places())
 }
@@ -113,7 +124,8 @@ impl Linking {
     fn into_places(self) -> Places
         ensures { result ≡ self.places }
     {
-        let Linking { places, .. } = self;
+        let Linking { places, last, .. } = self;
+        let_go(last);
         places
     }
 
@@ -139,10 +151,10 @@ impl Linking {
             window,
             scheme,
         )?;
+        let last = self.last.replace(parent);
+        let_go(last);
+        self.number = self.number.saturating_add(1);
         self.places.push(next.place)?;
-        let number = self.number.saturating_add(1);
-        self.last = Some(parent);
-        self.number = number;
         Ok(())
     }
 }
@@ -161,8 +173,13 @@ fn linked_parent<S: Scheme>(
         (λ e. IsNoLink (S.judge scheme.now) window.now count child.now (view_elements next.now.certificate) e ⊎ (e ≡ errors.Memory)) }
 {
     let parent = kept(alloc, next)?;
-    parent.expect_link(alloc, child, number, window, scheme)?;
-    Ok(parent)
+    match parent.expect_link(alloc, child, number, window, scheme) {
+        Ok(()) => Ok(parent),
+        Err(error) => {
+            let_go(parent);
+            Err(error)
+        }
+    }
 }
 
 /// The last parent so far, or the checked certificate.
@@ -185,3 +202,6 @@ fn any_time() -> Window
         not_after: false,
     }
 }
+
+/// What is done with a value that isn't needed any more.
+pub(crate) fn let_go<T: Drop>(_value: T) {}
