@@ -1,9 +1,10 @@
 //! A case, and what is answered to it.
 
 use crate::asked::asked_of;
-use crate::line::{accepted_line, refused_line};
+use crate::kept::kept_line;
+use crate::line::{let_go, told};
 use anyhow::{Result, bail};
-use authenticode_core::{Accepted, CheckError, Policy, check_wincert};
+use authenticode_core::{Policy, check_wincert};
 use row_answers::octets_of;
 use sig_core::VerdictTable;
 use std::alloc::Global;
@@ -44,23 +45,22 @@ pub fn answer(alloc: Global, case: &Case, text: &str) -> Result<String> {
     line_of(alloc, &file, &asked.policy, &case.table)
 }
 
+/// The line for what is answered, after `differs` where the signature, as it is kept, is answered
+/// otherwise.
 fn line_of(alloc: Global, file: &[u8], policy: &Policy, table: &VerdictTable) -> Result<String> {
+    let line = file_line(alloc, file, policy, table)?;
+    match kept_line(alloc, file, policy, table)? {
+        Some(kept) if kept != line => Ok(format!(in alloc; "differs {line} from {kept}")?),
+        _ => Ok(line),
+    }
+}
+
+fn file_line(alloc: Global, file: &[u8], policy: &Policy, table: &VerdictTable) -> Result<String> {
     let answer = check_wincert(alloc, file, policy, table);
     let line = told(alloc, &answer);
     let_go(answer);
     line
 }
-
-/// The line for an answer.
-fn told(alloc: Global, answer: &Result<Accepted, CheckError>) -> Result<String> {
-    match answer {
-        Ok(accepted) => accepted_line(alloc, accepted),
-        Err(error) => refused_line(alloc, error),
-    }
-}
-
-/// Lets a value go. What that takes is proved once for any type, and not for each error in an answer.
-fn let_go<T: Drop>(_value: T) {}
 
 /// A copy of a file in which another octet stands at the place that a change names.
 fn changed(alloc: Global, file: &[u8], change: &[u8]) -> Result<Vec<u8>> {

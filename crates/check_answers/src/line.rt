@@ -4,7 +4,18 @@ use anyhow::Result;
 use authenticode_core::{Accepted, CheckError, Excuse};
 use std::alloc::{AllocError, Global};
 
-pub fn accepted_line(alloc: Global, accepted: &Accepted) -> Result<String> {
+/// The line for an answer.
+pub fn told(alloc: Global, answer: &Result<Accepted, CheckError>) -> Result<String> {
+    match answer {
+        Ok(accepted) => accepted_line(alloc, accepted),
+        Err(error) => refused_line(alloc, error),
+    }
+}
+
+/// Lets a value go. What that takes is proved once for any type, and not for each error in an answer.
+pub fn let_go<T: Drop>(_value: T) {}
+
+fn accepted_line(alloc: Global, accepted: &Accepted) -> Result<String> {
     let mut line = String::from_str(alloc, "accepted signer=")?;
     if let Some(place) = accepted.signer {
         write!(line, "{place}")?;
@@ -35,7 +46,7 @@ fn excuse_word(excuse: Excuse) -> &'static str {
     }
 }
 
-pub fn refused_line(alloc: Global, error: &CheckError) -> Result<String> {
+fn refused_line(alloc: Global, error: &CheckError) -> Result<String> {
     let name = error.name(alloc)?;
     Ok(format!(in alloc; "refused {name} {error}")?)
 }

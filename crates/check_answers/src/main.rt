@@ -1,4 +1,5 @@
-//! What `check_wincert` answers to many signature files under many policies.
+//! What `check_wincert` answers to many signature files under many policies, and whether the validator
+//! of the signature in each, as it is kept, answers the same.
 //!
 //! ```text
 //! check_answers FILE
@@ -6,7 +7,7 @@
 //!
 //! Each line of FILE is a case: a signature file in hexadecimal digits; a verdict table with `:` for
 //! each space and `;` for each newline; and what is asked, any number of times. A line is printed for
-//! each of these.
+//! each of these, with `differs` before it where the validator answers otherwise.
 //!
 //! What is asked are five words with commas between: a letter for each flag that is on, `b` for basic,
 //! `s` for signing, `f` and `l` for the first and the last end of validities, `c` for the chain; the
@@ -17,6 +18,7 @@
 
 mod asked;
 mod case;
+mod kept;
 mod line;
 
 use crate::case::{answer, case_of};

@@ -1,0 +1,155 @@
+//! The same asked of the signature in a file, as it is kept.
+
+use crate::line::{let_go, told};
+use anyhow::Result;
+use authenticode_core::{Accepted, CheckError, DateCheck, Policy};
+use authenticode_values::{AuthenticodeSignature, AuthenticodeValidator};
+use der_core::Octets;
+use sig_core::VerdictTable;
+use std::alloc::{AllocError, Global};
+use wincert_core::WinCertificate;
+
+/// The line for what the validator of the signature in a file answers, None where no signature is
+/// read of it.
+pub fn kept_line(
+    alloc: Global,
+    file: &[u8],
+    policy: &Policy,
+    table: &VerdictTable,
+) -> Result<Option<String>> {
+    let Some(signature) = signature_in(alloc, file) else {
+        return Ok(None);
+    };
+    let hash = copy_of(alloc, &policy.file_hash)?;
+    let answer = verified(alloc, &signature, policy, hash, table);
+    let line = told(alloc, &answer);
+    let_go(answer);
+    Ok(Some(line?))
+}
+
+fn signature_in(alloc: Global, file: &[u8]) -> Option<AuthenticodeSignature> {
+    let read = WinCertificate::decode(alloc, file);
+    let signature = match &read {
+        Ok(certificate) => kept_of(alloc, certificate),
+        Err(_) => None,
+    };
+    let_go(read);
+    signature
+}
+
+fn kept_of(alloc: Global, certificate: &WinCertificate) -> Option<AuthenticodeSignature> {
+    match AuthenticodeSignature::from_wincert(alloc, certificate) {
+        Ok(signature) => Some(signature),
+        Err(error) => {
+            let_go(error);
+            None
+        }
+    }
+}
+
+fn copy_of(alloc: Global, hash: &Option<Octets>) -> Result<Option<Octets>, AllocError> {
+    match hash {
+        Some(octets) => Ok(Some(Octets::from_slice(alloc, octets.as_slice())?)),
+        None => Ok(None),
+    }
+}
+
+/// What the validator answers that is set as a policy says.
+fn verified(
+    alloc: Global,
+    signature: &AuthenticodeSignature,
+    policy: &Policy,
+    hash: Option<Octets>,
+    table: &VerdictTable,
+) -> Result<Accepted, CheckError> {
+    let verifier = signature.authenticode_verifier(alloc);
+    let verifier = with_basic(verifier, policy.basic, hash);
+    let verifier = with_signing(verifier, policy.signing);
+    let verifier = with_chain(verifier, policy.chain);
+    let verifier = with_not_before(verifier, policy.not_before);
+    let verifier = with_not_after(verifier, policy.not_after);
+    let verifier = with_dates(verifier, policy.date);
+    verified_by(alloc, &verifier, table)
+}
+
+fn verified_by(
+    alloc: Global,
+    verifier: &AuthenticodeValidator<'_>,
+    table: &VerdictTable,
+) -> Result<Accepted, CheckError> {
+    match verifier.verify(alloc, table) {
+        Ok(accepted) => Ok(accepted),
+        Err(error) => Err(CheckError::from(error)),
+    }
+}
+
+/// Basic validation without a digest is what a validator begins with.
+fn with_basic<'a>(
+    verifier: AuthenticodeValidator<'a>,
+    asked: bool,
+    hash: Option<Octets>,
+) -> AuthenticodeValidator<'a> {
+    match (asked, hash) {
+        (true, Some(hash)) => verifier
+            .ignore_basic_authenticode_validation()
+            .require_basic_authenticode_validation(hash),
+        (true, None) => verifier,
+        (false, _) => verifier.ignore_basic_authenticode_validation(),
+    }
+}
+
+fn with_signing<'a>(verifier: AuthenticodeValidator<'a>, asked: bool) -> AuthenticodeValidator<'a> {
+    let verifier = verifier.ignore_signing_certificate_check();
+    if asked {
+        verifier.require_signing_certificate_check()
+    } else {
+        verifier
+    }
+}
+
+fn with_chain<'a>(verifier: AuthenticodeValidator<'a>, asked: bool) -> AuthenticodeValidator<'a> {
+    let verifier = verifier.ignore_chain_check();
+    if asked {
+        verifier.require_chain_check()
+    } else {
+        verifier
+    }
+}
+
+fn with_not_before<'a>(
+    verifier: AuthenticodeValidator<'a>,
+    asked: bool,
+) -> AuthenticodeValidator<'a> {
+    let verifier = verifier.ignore_not_before_check();
+    if asked {
+        verifier.require_not_before_check()
+    } else {
+        verifier
+    }
+}
+
+fn with_not_after<'a>(
+    verifier: AuthenticodeValidator<'a>,
+    asked: bool,
+) -> AuthenticodeValidator<'a> {
+    let verifier = verifier.ignore_not_after_check();
+    if asked {
+        verifier.require_not_after_check()
+    } else {
+        verifier
+    }
+}
+
+/// An interval takes the place of a date.
+fn with_dates<'a>(
+    verifier: AuthenticodeValidator<'a>,
+    dates: DateCheck,
+) -> AuthenticodeValidator<'a> {
+    match dates {
+        DateCheck::Absent => verifier,
+        DateCheck::Exact(exact) => verifier.exact_date(exact),
+        DateCheck::Interval { lower, upper } => {
+            verifier.exact_date(upper).interval_date(lower, upper)
+        }
+    }
+}
