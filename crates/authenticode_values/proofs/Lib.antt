@@ -2,7 +2,13 @@ pub mod Members
 pub mod Namings
 pub mod Padding
 pub mod Walks
-pub mod CarriedCertificates
+pub mod TakenSteps
+pub mod WalkPurposes
+pub mod MadeSteps
+pub mod CarriedWalks
+pub mod MadeFiles
+pub mod CheckedFiles
+pub mod ReadFiles
 pub mod Requests
 pub mod Stamps
 pub mod Verdicts

@@ -31,7 +31,7 @@ further_least c bag holds from place d is = record {
   least = further_before c bag holds from place is.least;
 }
 
-further : (c : CertificateElements) (bag : List CertificateElements) (from : ℕ) (subject : DerElement) (places : List ℕ) → IsWalkFrom bag from subject places → IsWalkFrom (c ∷ bag) (suc from) subject (map (λ n. suc n) places)
+pub further : (c : CertificateElements) (bag : List CertificateElements) (from : ℕ) (subject : DerElement) (places : List ℕ) → IsWalkFrom bag from subject places → IsWalkFrom (c ∷ bag) (suc from) subject (map (λ n. suc n) places)
 further c bag from subject [] none = further_none c bag (HasSubject subject) from none
 further c bag from subject (place ∷ places) w =
     (w.0, further_least c bag (HasSubject subject) from place w.0 w.1, further c bag (suc place) w.0.tbs.issuer places w.2)
@@ -55,7 +55,7 @@ before_first : (c : CertificateElements) (bag : List CertificateElements) (holds
 before_first c bag holds to fails none zero d later before stands fits = is_first c d holds fails stands fits
 before_first c bag holds to fails none (suc place) d later before stands fits = none (suc place) d (omega arith) before stands fits
 
-passed : (c : CertificateElements) (bag : List CertificateElements) (subject : DerElement) (places : List ℕ) → (HasSubject subject c → ⊥) → IsWalkFrom (c ∷ bag) 1 subject places → IsWalkFrom (c ∷ bag) 0 subject places
+pub passed : (c : CertificateElements) (bag : List CertificateElements) (subject : DerElement) (places : List ℕ) → (HasSubject subject c → ⊥) → IsWalkFrom (c ∷ bag) 1 subject places → IsWalkFrom (c ∷ bag) 0 subject places
 passed c bag subject [] fails none = from_first c bag (HasSubject subject) fails none
 passed c bag subject (place ∷ places) fails w = (
   w.0,
@@ -68,7 +68,7 @@ passed c bag subject (place ∷ places) fails w = (
 none_before : (c : CertificateElements) (bag : List CertificateElements) (holds : CertificateElements → Type 0) → HoldsOfNone (c ∷ bag) holds 0 0
 none_before c bag holds place d later before stands fits = omega (arith, before)
 
-begun : (c : CertificateElements) (bag : List CertificateElements) (subject : DerElement) (places : List ℕ) → HasSubject subject c → IsWalkFrom bag 0 c.tbs.issuer places → IsWalkFrom (c ∷ bag) 0 subject (0 ∷ map (λ n. suc n) places)
+pub begun : (c : CertificateElements) (bag : List CertificateElements) (subject : DerElement) (places : List ℕ) → HasSubject subject c → IsWalkFrom bag 0 c.tbs.issuer places → IsWalkFrom (c ∷ bag) 0 subject (0 ∷ map (λ n. suc n) places)
 begun c bag subject places has w = (
   c,
   record { later = omega arith; stands = refl; fits = has; least = none_before c bag (HasSubject subject) },

@@ -11,5 +11,10 @@ pub mod Timestamper
 pub mod Stamping
 pub mod RequestRefusals
 pub mod TokenStamp
+pub mod Steps
+pub mod Making
+pub mod MadeProgram
+pub mod MadeFile
+pub mod FileRefusals
 pub mod Facts
 pub mod Validator

@@ -1,7 +1,8 @@
 -- The certificates of the issuer walk among certificates that are kept (RFC 5280 6.1).
-use Rattle.std.specs.Prelude.{◌≡◌, ℕ, List, [], ◌∷◌, Some, if◌then◌else◌, bytes_eq, slice_get}
+use Rattle.std.specs.Prelude.{◌≡◌, ◌⊎◌, ℕ, List, [], ◌∷◌, Some, if◌then◌else◌, bytes_eq, slice_get}
 use Rattle.der_core.specs.Encoding.{encoding}
 use Rattle.x509_core.specs.KeptCertificate.{KeptCertificate}
+use Rattle.x509_types.specs.Purposes.{HasPurposes}
 use Rattle.authenticode_core.specs.IssuerWalk.{IsIssuerWalk}
 use Rattle.authenticode_values.specs.Pkcs7.{elements_of}
 use Rattle.authenticode_values.specs.declared.certificates.SignatureCertificatesIterator.{SignatureCertificatesIterator}
@@ -28,3 +29,8 @@ walked subject (c ∷ certificates) =
 -- the items that are left
 abbrev pub items_left : SignatureCertificatesIterator → List KeptCertificate
 items_left walk = walked walk.subject.now walk.rest.now
+
+-- some of the items has an extended key usage
+abbrev pub SomeHasPurposes : List KeptCertificate → Type 0
+SomeHasPurposes [] = ⊥
+SomeHasPurposes (c ∷ items) = HasPurposes c.elements ⊎ SomeHasPurposes items

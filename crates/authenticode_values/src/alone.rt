@@ -10,11 +10,11 @@ ghost use Rattle.x509_types.specs.CertificateElements.{certificate_of};
 ghost use Rattle.authenticode_values.specs.CertificatesAlone.{certificates_alone};
 ghost use Rattle.authenticode_values.specs.Pkcs7.{elements_of};
 
-use crate::carrying::kept_certificates;
 use asn1_types::ObjectIdentifier;
 use asn1_types::oids::DATA;
 use cms_types::{CmsVersion, EncapsulatedContentInfo, Pkcs7Certificate, SignedData};
 use der_core::ListOf;
+use making_core::kept_certificates;
 use std::alloc::{AllocError, Global};
 use x509_core::Cert;
 

@@ -4,8 +4,9 @@
 
 mod alone;
 mod bag;
-mod carrying;
 mod certificates;
+mod made_files;
+mod making;
 mod padded;
 mod pkcs7;
 mod refusing;
@@ -19,6 +20,7 @@ mod validator;
 
 pub use authenticode_core::Pkcs7Error;
 pub use certificates::SignatureCertificatesIterator;
+pub use made_files::{check_made, decode_signature, encode_signature};
 pub use pkcs7::Pkcs7;
 pub use signature::AuthenticodeSignature;
 pub use timestamp_request::TimestampRequest;

@@ -1,0 +1,20 @@
+-- Steps in a row: the first that can't be taken is that of the first part, or all of that part are taken.
+use Rattle.std.proofs.Common.{List, [], ◌∷◌, ◌++◌, inl, inr}
+use Rattle.authenticode_values.specs.Steps.{Step, IsFirstUntaken, AreTaken, RefusesBySteps}
+
+pub untaken_before : {E : Type 0} (a b : List (Step E)) (e : E) → IsFirstUntaken a e → IsFirstUntaken (a ++ b) e
+untaken_before [] b e first = absurd first
+untaken_before (step ∷ a) b e (inl refused) = inl refused
+untaken_before (step ∷ a) b e (inr (taken, first)) = inr (taken, untaken_before a b e first)
+
+pub untaken_behind : {E : Type 0} (a b : List (Step E)) (e : E) → AreTaken a → IsFirstUntaken b e → IsFirstUntaken (a ++ b) e
+untaken_behind [] b e taken first = first
+untaken_behind (step ∷ a) b e taken first = inr (taken.0, untaken_behind a b e taken.1 first)
+
+pub refused_before : {E : Type 0} (memory : E) (a b : List (Step E)) (e : E) → RefusesBySteps memory a e → RefusesBySteps memory (a ++ b) e
+refused_before memory a b e (inl first) = inl (untaken_before a b e first)
+refused_before memory a b e (inr out) = inr out
+
+pub refused_behind : {E : Type 0} (memory : E) (a b : List (Step E)) (e : E) → AreTaken a → RefusesBySteps memory b e → RefusesBySteps memory (a ++ b) e
+refused_behind memory a b e taken (inl first) = inl (untaken_behind a b e taken first)
+refused_behind memory a b e taken (inr out) = inr out

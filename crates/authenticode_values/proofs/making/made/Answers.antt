@@ -1,0 +1,42 @@
+use Rattle.std.proofs.Common.{List, sym, subst}
+use Rattle.std.proofs.lemmas.Result.{err_from_is_err_and}
+use Rattle.std.specs.Option.{option_copied}
+use Rattle.cms_types.specs.OpusInfo.{opus_info}
+use Rattle.x509_core.specs.KeptCertificate.{KeptCertificate}
+use Rattle.authenticode_core.specs.SigningRules.{IsBagOf}
+use Rattle.making_core.specs.SignedProgram.{program_of}
+use Rattle.authenticode_values.specs.Making.{HasNoFirstSigner}
+use Rattle.authenticode_values.specs.Pkcs7.{elements_of, fields_of}
+use Rattle.authenticode_values.proofs.MadeSteps.{no_hash, no_name, no_signer, not_signed_as}
+use Rattle.authenticode_values.proofs.making.made.Goals as goal
+
+pub returns-in_err-opus : goal.returns-in_err-opus
+returns-in_err-opus g c =
+    let p = err_from_is_err_and c.from_residual.result c.from_residual.ensures.1 in
+    let name = option_copied c.args.program_name in
+    rw (p.1, p.2) (no_name (g.S.Scheme.signs c.args.scheme.now) (fields_of c.args.pkcs7.now) name (program_of c.args.hash_algo c.args.file_hash.now name) c.args.private_key.now c.in_err-opus.field-0.0 c.in_err-opus.ensures)
+
+pub returns-in_err-algorithm : goal.returns-in_err-algorithm
+returns-in_err-algorithm g c =
+    let p = err_from_is_err_and c.from_residual-in_err-algorithm.result c.from_residual-in_err-algorithm.ensures.1 in
+    let name = option_copied c.args.program_name in
+    rw (p.1, p.2) (no_hash (g.S.Scheme.signs c.args.scheme.now) (fields_of c.args.pkcs7.now) name (program_of c.args.hash_algo c.args.file_hash.now name) c.args.private_key.now c.in_err-algorithm.field-0.0
+    c.in_ok-opus.ensures.1 c.in_err-algorithm.ensures)
+
+pub returns-in_err-first : goal.returns-in_err-first
+returns-in_err-first g c =
+    let p = err_from_is_err_and c.from_residual-in_err-first.result c.from_residual-in_err-first.ensures.1 in
+    let name = option_copied c.args.program_name in
+    rw (p.1, p.2) (no_signer (g.S.Scheme.signs c.args.scheme.now) (fields_of c.args.pkcs7.now) name (program_of c.args.hash_algo c.args.file_hash.now name) c.args.private_key.now c.in_err-first.field-0.0
+    (elements_of c.in_ok-bag.bag.items) c.in_ok-opus.ensures.1 c.in_ok-algorithm.ensures.1 c.in_ok-bag.ensures
+    (subst (λ (ks : List KeptCertificate). HasNoFirstSigner (elements_of ks) c.in_err-first.field-0.0) c.deref.ensures.value c.in_err-first.ensures))
+
+pub returns-in_err-made : goal.returns-in_err-made
+returns-in_err-made g c =
+    let p = err_from_is_err_and c.from_residual-in_err-made.result c.from_residual-in_err-made.ensures.1 in
+    let name = option_copied c.args.program_name in
+    let list = c.deref.ensures.value in
+    rw (p.1, p.2) (not_signed_as (g.S.Scheme.signs c.args.scheme.now) (fields_of c.args.pkcs7.now) name c.args.hash_algo c.args.file_hash.now (opus_info c.in_ok-opus.opus) c.args.private_key.now c.in_err-made.field-0.0
+    (elements_of c.deref.result.now) c.in_ok-first.first.now.elements c.in_ok-opus.ensures.0 c.in_ok-opus.ensures.1 c.in_ok-algorithm.ensures.1
+    (subst (λ (ks : List KeptCertificate). IsBagOf (fields_of c.args.pkcs7.now) (elements_of ks)) (sym list) c.in_ok-bag.ensures) c.in_ok-first.ensures
+    c.in_err-made.ensures)

@@ -1,0 +1,44 @@
+-- Why a signature has no signature file, or a file no header.
+use Rattle.std.specs.Prelude.{◌≡◌, ◌⊎◌, ℕ, List, [], ◌∷◌, Result, Ok, Err, MatchResult, Vec}
+use Rattle.std.specs.declared.alloc.Global.{Global}
+use Rattle.der_core.specs.DerElement.{DerElement}
+use Rattle.der_core.specs.Encoding.{encoding, IsDer, IsPaddedEncoding}
+use Rattle.der_core.specs.Refusals.{RefusesInner}
+use Rattle.wincert_core.specs.Refusal.{contents_in, current, encoded}
+use Rattle.wincert_core.specs.declared.error.WinCertificateError.{WinCertificateError}
+use Rattle.wincert_core.specs.declared.error.WinCertificateError.TheVariants as headers
+use Rattle.wincert_core.specs.declared.kinds.CertificateType.{CertificateType}
+use Rattle.authenticode_core.specs.Basic.{RefusesValue}
+use Rattle.authenticode_core.specs.ContentRefusal.{told_of_content}
+use Rattle.authenticode_core.specs.declared.error.AuthenticodeError.{AuthenticodeError}
+use Rattle.authenticode_core.specs.declared.error.CheckError.{CheckError}
+use Rattle.authenticode_core.specs.declared.error.CheckError.TheVariants.{Win, Memory}
+use Rattle.authenticode_values.specs.MadeFile.{IsSpelledWhole, wrapped}
+use Rattle.authenticode_values.specs.Pkcs7.{written}
+use Rattle.authenticode_values.specs.Refusals.{IsUnwritten, Tells}
+use Rattle.authenticode_values.specs.declared.signature.AuthenticodeSignature.{AuthenticodeSignature}
+
+-- an error of a header: want of memory is told as such
+abbrev pub told_of_header : WinCertificateError → CheckError
+told_of_header headers.Memory = Memory
+told_of_header e = Win e
+
+-- it tells why what is asked for isn't there, unless memory ran out
+abbrev pub RefusesHeader : {A : Type 0} → Result A WinCertificateError → CheckError → Type 0
+RefusesHeader asked e = ((source : WinCertificateError) × (e ≡ told_of_header source) × (asked ≡ Err source)) ⊎ (e ≡ Memory)
+
+-- the element can't be written, or it is too long for a WIN_CERTIFICATE, or for one with its padding
+abbrev pub RefusesFile : DerElement → CertificateType → CheckError → Type 0
+RefusesFile element kind e =
+    ((source : AuthenticodeError) × (e ≡ told_of_content source) × Tells (IsUnwritten (RefusesInner (element ∷ []))) source)
+    ⊎ (IsDer element × (RefusesHeader (current (encoding element) kind) e ⊎ RefusesHeader (encoded (wrapped kind (encoding element))) e))
+
+-- What is answered for the element of a signature: the file that has it.
+abbrev pub GivesFile : DerElement → CertificateType → Result (Vec ℕ Global) CheckError → Type 0
+GivesFile element kind result = MatchResult result (λ octets. IsSpelledWhole octets.items (wrapped kind (encoding element)) × IsDer element) (RefusesFile element kind)
+
+-- What is answered for octets: the signature that the file has, or why it has none.
+abbrev pub GivesSignature : List ℕ → Result AuthenticodeSignature CheckError → Type 0
+GivesSignature octets result = MatchResult result
+    (λ s. (certificate : List ℕ) × (contents_in octets ≡ Ok certificate) × IsPaddedEncoding certificate (written s.0))
+    (λ e. RefusesValue octets e ⊎ (e ≡ Memory))

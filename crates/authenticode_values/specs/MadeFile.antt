@@ -1,0 +1,85 @@
+-- A signature file as it is made.
+use Rattle.std.specs.Prelude.{◌≡◌, ◌≢◌, ⊤, ℕ, List, [], ◌∷◌, Option, Some, true, false}
+use Rattle.cms_types.specs.Pkcs7.{pkcs7}
+use Rattle.cms_types.specs.SignedData.{signed_data_elements}
+use Rattle.cms_types.specs.declared.pkcs7.Pkcs7Certificate.{Pkcs7Certificate}
+use Rattle.der_core.specs.Encoding.{encoding, IsDer}
+use Rattle.der_core.specs.Structure.{Fits}
+use Rattle.key_core.specs.Verifying.{Judge, Accepts}
+use Rattle.key_types.specs.declared.key_info.SubjectPublicKeyInfo.{SubjectPublicKeyInfo}
+use Rattle.sig_core.specs.ShaVariant.{hash_of}
+use Rattle.sig_core.specs.declared.hash.HashAlgorithm.TheVariants.{SHA2_224}
+use Rattle.sig_core.specs.declared.sha_variant.ShaVariant.{ShaVariant}
+use Rattle.wincert_core.specs.WinCert.{FitsHeader, WinCert, spelling, with_padding}
+use Rattle.wincert_core.specs.declared.kinds.CertificateType.{CertificateType}
+use Rattle.wincert_core.specs.declared.kinds.RevisionType.TheVariants.{WinCertificateRevision20}
+use Rattle.x509_core.specs.Link.{HasKey}
+use Rattle.x509_types.specs.CertificateElements.{CertificateElements, AreCertificateFields}
+use Rattle.authenticode_core.specs.SigningRules.{IsForCodeSigning}
+use Rattle.authenticode_core.specs.declared.accepted.Accepted.{Accepted}
+use Rattle.authenticode_core.specs.declared.accepted.Excuse.TheVariants as excuses
+use Rattle.authenticode_core.specs.declared.policy.Policy.{Policy}
+use Rattle.making_core.specs.Carried.{IsRoot}
+use Rattle.making_core.specs.MadeSignature.{signature_made}
+use Rattle.making_core.specs.SignedProgram.{IsBasicName, Program, algorithm_for, message_for, parts_for, program_of}
+
+-- none of the certificates is a root's
+abbrev pub NoneIsRoot : List CertificateElements → Type 0
+NoneIsRoot [] = ⊤
+NoneIsRoot (c ∷ others) = (IsRoot c → ⊥) × NoneIsRoot others
+
+-- none of them is, unless it stands alone
+abbrev pub IsAloneOrNoRoot : List CertificateElements → Type 0
+IsAloneOrNoRoot [] = ⊤
+IsAloneOrNoRoot (c ∷ []) = ⊤
+IsAloneOrNoRoot (c ∷ d ∷ others) = NoneIsRoot (c ∷ d ∷ others)
+
+-- each has the shape of a certificate
+abbrev pub AreCertificates : List CertificateElements → Type 0
+AreCertificates [] = ⊤
+AreCertificates (c ∷ others) = Fits AreCertificateFields c × AreCertificates others
+
+-- a certificate wrapped in the current revision
+abbrev pub wrapped : CertificateType → List ℕ → WinCert
+wrapped kind octets = record { revision = WinCertificateRevision20; certificate_type = kind; certificate = octets }
+
+-- The octets spell it, with zeros up to a multiple of eight, which the length counts.
+pub record IsSpelledWhole (octets : List ℕ) (w : WinCert) : Type 0 where
+  pub fits : FitsHeader (with_padding w).certificate
+  pub spelled : octets ≡ spelling (with_padding w)
+
+-- The signed data is a signature of the program by the first of these certificates, which it carries: it may sign code, and its key accepts the signature.
+pub record IsMadeFor (judge : Judge) (p : Program) (value : Pkcs7Certificate) : Type 0 where
+  pub supported : hash_of p.hash ≢ SHA2_224
+  pub first : CertificateElements
+  pub others : List CertificateElements
+  pub are : AreCertificates (first ∷ others)
+  pub rootless : IsAloneOrNoRoot (first ∷ others)
+  pub code_signing : IsForCodeSigning (first ∷ others) first
+  pub signature : List ℕ
+  pub fields : signed_data_elements value.signed_data ≡ signature_made (parts_for p first (first ∷ others) signature)
+  pub info : SubjectPublicKeyInfo
+  pub key : HasKey first info
+  pub accepted : Accepts judge (algorithm_for p) info (message_for p) signature
+
+-- The octets are a signature file as it is made for the digest of a file: of revision 2.0 and of any type, with signed data of the form in which a program of some
+-- name, or of none, is signed.
+pub record IsMadeSignature (judge : Judge) (octets : List ℕ) (file_hash : List ℕ) : Type 0 where
+  pub kind : CertificateType
+  pub value : Pkcs7Certificate
+  pub der : IsDer (pkcs7 value)
+  pub file : IsSpelledWhole octets (wrapped kind (encoding (pkcs7 value)))
+  pub hash : ShaVariant
+  pub name : Option (List ℕ)
+  pub basic : IsBasicName name
+  pub made : IsMadeFor judge (program_of hash file_hash name) value
+
+-- The policy asks for basic validation alone, with this digest of the file.
+pub record IsBasicAlone (policy : Policy) (file_hash : List ℕ) : Type 0 where
+  pub basic : policy.basic ≡ true
+  pub given : policy.file_hash ≡ Some file_hash
+  pub signing : policy.signing ≡ false
+
+-- the first certificate is the signer's, and no path and no excuse are told
+abbrev pub by_the_first : Accepted
+by_the_first = record { signer = Some 0; path = []; excuse = excuses.None }

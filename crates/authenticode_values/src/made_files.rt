@@ -1,0 +1,108 @@
+//! Signature files as they are made: written, read again, and checked.
+
+ghost use Rattle.std.specs.Prelude.{◌≡◌, List, Ok, ℕ, MatchResult};
+ghost use Rattle.der_core.specs.Encoding.{encoding, IsDer};
+ghost use Rattle.wincert_core.specs.Refusal.{contents_in, current, encoded};
+ghost use Rattle.wincert_core.specs.declared.kinds.CertificateType.{CertificateType};
+ghost use Rattle.authenticode_core.specs.Trusted.{IsAnswer};
+ghost use Rattle.authenticode_core.specs.declared.error.CheckError.TheVariants.{Memory};
+ghost use Rattle.authenticode_values.specs.FileRefusals.{GivesFile, GivesSignature, RefusesHeader, told_of_header};
+ghost use Rattle.authenticode_values.specs.MadeFile.{IsBasicAlone, IsMadeSignature, IsSpelledWhole, by_the_first, wrapped};
+ghost use Rattle.authenticode_values.specs.Pkcs7.{written};
+ghost use Rattle.authenticode_values.specs.declared.pkcs7.Pkcs7.{Pkcs7};
+
+use crate::signature::AuthenticodeSignature;
+use authenticode_core::{Accepted, CheckError, Policy, check_wincert};
+use sig_core::Scheme;
+use std::alloc::Global;
+use wincert_core::{CertificateType, WinCertificate, WinCertificateError};
+
+/// The octets of the signature file that has the signature: it is written, and wrapped in the current
+/// revision of WIN_CERTIFICATE. It is refused as `to_der`, `from_certificate` and `encode` refuse.
+pub fn encode_signature(
+    alloc: Global,
+    signature: &AuthenticodeSignature,
+    certificate_type: CertificateType,
+) -> Result<Vec<u8>, CheckError>
+    ensures { GivesFile (written signature.now.0) certificate_type result }
+{
+    let der = signature.to_der(alloc)?;
+    let wrapped = wrap(alloc, &der, certificate_type)?;
+    spell(alloc, wrapped)
+}
+
+/// The signature in a signature file. It is refused as `decode` and `from_wincert` refuse.
+pub fn decode_signature(alloc: Global, octets: &[u8]) -> Result<AuthenticodeSignature, CheckError>
+    ensures answer { GivesSignature octets.now result }
+    // What was made is read as it was made.
+    ensures made { (p : Pkcs7) (certificate_type : CertificateType) → IsDer (written p) → IsSpelledWhole octets.now (wrapped certificate_type (encoding (written p)))
+        → MatchResult result (λ s. s.0 ≡ p) (λ e. e ≡ Memory) }
+{
+    read_file(alloc, octets)
+}
+
+/// The check of a signature file. One that is made is accepted under basic validation alone with its
+/// own digest, unless memory runs out.
+pub fn check_made<S: Scheme>(
+    alloc: Global,
+    octets: &[u8],
+    policy: &Policy,
+    scheme: &S,
+) -> Result<Accepted, CheckError>
+    ensures answer { IsAnswer (S.judge scheme.now) policy.now octets.now result }
+    ensures made { (file_hash : List ℕ) → IsBasicAlone policy.now file_hash → IsMadeSignature (S.judge scheme.now) octets.now file_hash
+        → MatchResult result (λ a. a ≡ by_the_first) (λ e. e ≡ Memory) }
+{
+    check_wincert(alloc, octets, policy, scheme)
+}
+
+fn read_file(alloc: Global, octets: &[u8]) -> Result<AuthenticodeSignature, CheckError>
+    ensures { GivesSignature octets.now result }
+{
+    let wrapped = unwrap(alloc, octets)?;
+    let signature = AuthenticodeSignature::from_wincert(alloc, &wrapped)?;
+    Ok(signature)
+}
+
+// ---- headers
+
+fn wrap(
+    alloc: Global,
+    der: &[u8],
+    certificate_type: CertificateType,
+) -> Result<WinCertificate, CheckError>
+    ensures { MatchResult result (λ w. current der.now certificate_type ≡ Ok w) (RefusesHeader (current der.now certificate_type)) }
+{
+    match WinCertificate::from_certificate(alloc, der, certificate_type) {
+        Ok(wrapped) => Ok(wrapped),
+        Err(source) => Err(told(source)),
+    }
+}
+
+fn spell(alloc: Global, wrapped: WinCertificate) -> Result<Vec<u8>, CheckError>
+    ensures { MatchResult result (λ octets. encoded wrapped ≡ Ok octets.items) (RefusesHeader (encoded wrapped)) }
+{
+    match wrapped.encode(alloc) {
+        Ok(octets) => Ok(octets),
+        Err(source) => Err(told(source)),
+    }
+}
+
+fn unwrap(alloc: Global, octets: &[u8]) -> Result<WinCertificate, CheckError>
+    ensures { MatchResult result (λ w. contents_in octets.now ≡ Ok w.certificate) (RefusesHeader (contents_in octets.now)) }
+{
+    match WinCertificate::decode(alloc, octets) {
+        Ok(wrapped) => Ok(wrapped),
+        Err(source) => Err(told(source)),
+    }
+}
+
+/// The error of a header: want of memory is told as such.
+fn told(source: WinCertificateError) -> CheckError
+    ensures { result ≡ told_of_header source }
+{
+    match source {
+        WinCertificateError::Memory => CheckError::Memory,
+        source => CheckError::Win(source),
+    }
+}
