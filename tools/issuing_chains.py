@@ -1,4 +1,4 @@
-"""Rows on certificates over their parents, each with the reason why it is there.
+"""Rows of `issuing_answers` on certificates over their parents, each with the reason why it is there.
 
 The certificates are made by `issuing_maker`, or put together by hand where it makes none of the kind; their
 signatures are those of the demonstration scheme.  The lines come from `issuing_judge`.
@@ -8,9 +8,9 @@ from hashlib import sha256
 
 import signature_rows as signatures
 from der_reader import Constructed, Primitive, read_exact, write
-from issuing_judge import Read, chain_line
+from issuing_judge import Read, chain_line, parent_line_by_name
 from issuing_maker import CALLED, WRITTEN, Table, bits, built, extension, generated, moment, oid, public_half, sequence, unsigned
-from issuing_rows import DEMO, EMPTY, name
+from issuing_rows import DEMO, EMPTY, OWN, name
 from signature_rows import ED25519
 
 K11, K12, K13, K14 = (signatures.rsa(number) for number in ("11", "12", "13", "14"))
@@ -213,6 +213,29 @@ def table_by_demo(certificates):
 def row(scheme, certificates, lower, upper, named):
     words = scheme.word, "chain", ",".join(octets.hex() for octets in certificates), f"{lower}Z,{upper}Z", *named
     return " ".join(words), chain_line(certificates, lower, upper, named, scheme)
+
+
+SIGNER = built(1, K11, OWN, DEMO)
+SIGNER_OTHERWISE = built(1, K11, [OWN[0], ("self_signed", name("Other"))], DEMO)
+ANOTHER_SIGNER, ANOTHER = (built(1, K12, [OWN[0], ("self_signed", name(text))], DEMO) for text in ("Signer", "Other"))
+
+PARENTS = [
+    (SIGNER, SIGNER, "its own parent"),
+    (SIGNER, SIGNER_OTHERWISE, "of its key, under another name"),
+    (SIGNER_OTHERWISE, SIGNER, "the other way around"),
+    (SIGNER, ANOTHER_SIGNER, "of another key, under its name"),
+    (SIGNER, ANOTHER, "of another key, under another name"),
+    (MY_INT, MY_LEAF, "by a request"),
+    (MY_ROOT, MY_LEAF, "not by the root"),
+    (SIGNER[:-1], SIGNER, "the last octet is missing"),
+    (SIGNER + b"\0", SIGNER, "an octet behind it"),
+    (b"", SIGNER, "no octets"),
+]
+
+
+def parent_rows():
+    for parent, child, _ in PARENTS:
+        yield f"demo parent {parent.hex() or '-'} {child.hex()}", parent_line_by_name(parent, child)
 
 
 def chain_rows():

@@ -6,7 +6,7 @@ The rules are those of RFC 2986 4.2 and RFC 5280, signatures are judged by the s
 
 from der_reader import read_exact, write
 from issuing_maker import CALLED, Refused, key_in, request_verdict
-from kept_certificates import fields_of, first, kind, parent_line
+from kept_certificates import fields_of, first, kind, parent_line, refusal
 from value_reader import basic_constraints, dotted, name_text, request, unread
 
 
@@ -21,14 +21,14 @@ UNLIKE = {
 # ---- requests
 
 def request_line(octets, scheme):
-    """Whether the octets come back, as they were kept and as they are written; the verdict, the key and the subject."""
+    """Whether the octets come back, as they were kept and as they are written; the key, the subject and the verdict."""
     return unread("certification request", octets, lambda element: kept_line(octets, request(element), scheme))
 
 
 def kept_line(octets, line, scheme):
     _, subject, key, *_ = read_exact(octets).kids[0].kids
-    same = str(line.split()[-1] == octets.hex()).lower()
-    return f"{same} {request_verdict(octets, scheme)}; {write(key).hex()} {name_text(subject)}"
+    same = "same" if line.split()[-1] == octets.hex() else "changed"
+    return f"{same} {write(key).hex()} {name_text(subject)} {request_verdict(octets, scheme)}"
 
 
 # ---- certificates over their parents
@@ -123,6 +123,18 @@ def expect_parent(parent, child):
     for text, cause in UNLIKE.items():
         if text in told:
             raise Refused(f"InvalidCertificate:{cause}", told)
+
+
+def parent_line_by_name(parent, child):
+    """Whether one is the parent of the other by names and key identifiers; of octets that are no certificate, that."""
+    unreadable = refusal(parent)
+    if unreadable is not None:
+        return f"Asn1Deserialization: {unreadable}"
+    try:
+        expect_parent(Read(parent), Read(child))
+    except Refused as refused:
+        return str(refused)
+    return "parent"
 
 
 def expect_signed(parent, child, scheme):

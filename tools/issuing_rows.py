@@ -1,4 +1,4 @@
-"""Rows on certificates that are built and on requests, each with the reason why it is there.
+"""Rows of `issuing_answers` on certificates that are built and on requests, each with the reason why it is there.
 
 The lines come from `issuing_maker` and `issuing_judge`.
 """
@@ -11,9 +11,10 @@ import world_requests
 from der_reader import Constructed, Primitive, read_exact, write
 from first_path import name as name_octets
 from issuing_judge import request_line
-from issuing_maker import CALLED, Demo, Refused, Table, bits, built, extension, generated, key_in, oid, pkcs8, public_half, sequence
+from issuing_maker import CALLED, Demo, Refused, Table, bits, built, extension, generated, key_in, oid, pkcs8, public_half, request_verdict, sequence
+from kept_certificates import fields_of
 from signature_rows import DIGESTS, ED25519, K256, MLDSA, P256, P384, P521, X25519, X448
-from value_reader import word
+from value_reader import name_text, word
 
 
 def name(text):
@@ -280,9 +281,15 @@ def build_row(scheme, number, key, settings):
     words = (f"{setter}={value_word(value)}" for setter, value in settings)
     row = " ".join((scheme.word, "build", str(number), pkcs8(key).hex(), *words))
     try:
-        return row, built(number, key, settings, scheme).hex()
+        return row, built_line(built(number, key, settings, scheme))
     except Refused as refusal:
         return row, str(refusal)
+
+
+def built_line(octets):
+    """The octets, that they come back, the subject and the issuer."""
+    *_, issuer, _, subject, _, _ = fields_of(read_exact(octets))
+    return " ".join((octets.hex(), "same", name_text(subject), name_text(issuer)))
 
 
 def built_rows():
@@ -322,8 +329,32 @@ def request_rows():
         yield f"demo request {word(octets)}", request_line(octets, DEMO)
 
 
+# In their order: what keeps a request from being generated.
+REQUEST_FAULTS = ["no half", "deep info", "unsigned", "deep request"]
+
+
+def faulty_request(faults):
+    """The case with these faults, None where they can't stand together."""
+    if {"deep info", "deep request"} <= set(faults):
+        return None
+    levels = 64 if "deep info" in faults else 63 if "deep request" in faults else None
+    subject = SIGNER if levels is None else deep_name(levels)
+    key = signatures.on(K256, point=False) if "no half" in faults else ON_P256
+    return EMPTY if "unsigned" in faults else DEMO, "ecdsa:SHA-256", key, subject, None
+
+
+def faulty_requests():
+    """One fault and two of these, and what they make."""
+    for count in (1, 2):
+        for faults in combinations(REQUEST_FAULTS, count):
+            case = faulty_request(faults)
+            if case is not None:
+                yield faults, case
+
+
 def generated_cases():
     """The scheme, the algorithm, the key, the subject and the attributes, None by the call without."""
+    yield from (case for _, case in faulty_requests())
     for algorithm, key in signatures.FITTING:
         yield DEMO, algorithm, key, SIGNER, None
     for attributes in ([asking([AUTHORITY_ASKED, extension(17, HOST)])], [PASSWORD, asking([])], [PASSWORD, PASSWORD], [asking()]):
@@ -349,9 +380,10 @@ def generated_row(scheme, algorithm, key, subject, attributes):
     words = () if attributes is None else (",".join(write(one).hex() for one in attributes),)
     row = " ".join((scheme.word, "generate", algorithm, pkcs8(key).hex(), write(subject).hex(), *words))
     try:
-        return row, generated(algorithm, key, subject, attributes or (), scheme).hex()
+        octets = generated(algorithm, key, subject, attributes or (), scheme)
     except Refused as refusal:
         return row, refusal.text
+    return row, f"{octets.hex()} same {request_verdict(octets, scheme)}"
 
 
 def generated_rows():

@@ -1,4 +1,4 @@
-"""Tests of what the maker and the judge of what is issued find: against lines by hand, and openssl.
+"""Tests of what the maker and the judge of `issuing_answers` find: against lines by hand, and openssl.
 
     python3 -m unittest discover -s tools
 """
@@ -6,7 +6,9 @@
 import unittest
 from shutil import which
 
+import issuing_answers
 import issuing_chains as chains
+import issuing_check
 import issuing_rows as rows
 import world_requests
 from der_reader import read_exact, write
@@ -26,8 +28,47 @@ def told(make, *arguments):
     return "made"
 
 
+def key_identifiers(octets):
+    """The extensions that identify the certificate's own key."""
+    return [one for one in read_exact(octets).kids[0].kids[-1].kids[0].kids if one.kids[0] == rows.oid("2.5.29.14")]
+
+
 def settled(settings, scheme=rows.DEMO, key=rows.K11):
     return told(built, 1, key, settings, scheme)
+
+
+class StoredRunTest(unittest.TestCase):
+
+    def test_stored_files(self):
+        for path, octets in issuing_answers.stored_files().items():
+            self.assertEqual((issuing_answers.FOLDER / path).read_bytes(), octets, path)
+
+    @unittest.skipUnless(which("openssl"), "openssl isn't there")
+    def test_openssl_reads_some(self):
+        read = [row for row in issuing_answers.stored() if " build " in row[0] or " generate " in row[0]]
+        self.assertEqual(issuing_check.check(read[::12]), 0)
+
+    @unittest.skipUnless(which("openssl"), "openssl isn't there")
+    def test_openssl_says_another_field(self):
+        row, line = next(iter(issuing_answers.stored()))
+        octets = bytes.fromhex(line.split(" ")[0])
+        for asked, other in (("=20200101", "=20200102"), ("build 0", "build 2"), ("5369676e6572", "5369676e6573")):
+            self.assertIn(asked, row)
+            with self.assertRaises(issuing_check.Differs):
+                issuing_check.certificate_check(row.replace(asked, other).split(" ")[2:], octets)
+
+    @unittest.skipUnless(which("openssl"), "openssl isn't there")
+    def test_openssl_says_another_extension(self):
+        row, line = rows.build_row(rows.DEMO, 1, rows.K11, [*rows.EVERYTHING, *rows.OWN])
+        octets = bytes.fromhex(line.split(" ")[0])
+        issuing_check.certificate_check(row.split(" ")[2:], octets)
+        for asked, other in (
+            ("ca=true", "ca=false"), ("pathlen=3", "pathlen=4"), ("key_usage=33", "key_usage=32"), ("05050703", "05050704"), ("6c6f63616c", "6c6f63616d"),
+            ("leftmost:SHA-1", "leftmost:SHA-256"), ("issuer_alt_name=", "subject_alt_name="),
+        ):
+            self.assertIn(asked, row)
+            with self.assertRaises(issuing_check.Differs):
+                issuing_check.extensions_check(issuing_check.Asked(row.replace(asked, other).split(" ")[2:]), octets)
 
 
 class BuiltTest(unittest.TestCase):
@@ -83,8 +124,16 @@ class RequestsTest(unittest.TestCase):
         octets = generated("rsa:SHA-256", rows.K13, rows.SIGNER, (), rows.DEMO)
         _, name, key, attributes = read_exact(octets).kids[0].kids
         self.assertEqual(write(attributes).hex(), "a000")
-        self.assertEqual(request_line(octets, rows.DEMO), f"true accepted; {write(key).hex()} CN=Signer")
-        self.assertTrue(request_line(rows.changed(octets), rows.DEMO).startswith("true signature error: invalid signature;"))
+        self.assertEqual(request_line(octets, rows.DEMO), f"same {write(key).hex()} CN=Signer accepted")
+        self.assertTrue(request_line(rows.changed(octets), rows.DEMO).endswith(" CN=Signer signature error: invalid signature"))
+
+    def test_the_earlier_of_two_faults(self):
+        found = {faults: told(generated, *case, (), scheme) for faults, (scheme, *case, _) in rows.faulty_requests()}
+        both = [faults for faults in found if len(faults) == 2]
+        self.assertEqual(len(both), 5)
+        self.assertEqual(len({found[fault] for fault in found if len(fault) == 1}), 4)
+        for faults in both:
+            self.assertEqual(found[faults], found[faults[:1]], faults)
 
     @unittest.skipUnless(which("openssl"), "openssl isn't there")
     def test_requests_of_openssl(self):
@@ -117,6 +166,18 @@ class ChainsTest(unittest.TestCase):
         for scheme in (rows.DEMO, chains.table_for(self.FUTURE)):
             self.assertEqual(self.line(self.FUTURE, "20691001", scheme=scheme), "accepted")
             self.assertEqual(self.line(self.FUTURE[:2], "20691001", scheme=scheme), "InvalidChain:NoRoot: CA chain error: chain is missing a root certificate")
+
+    def test_parents(self):
+        lines = [line for _, line in chains.parent_rows()]
+        keys = [one.kids[-1].contents.hex()[4:] for own in (chains.SIGNER, chains.ANOTHER) for one in key_identifiers(own)]
+        mismatch = f"authority key id doesn't match (expected: {keys[1]}, got: {keys[0]})"
+        for line, wanted in zip(lines, (
+            "parent", "InvalidCertificate:InvalidChain:IssuerNameMismatch: invalid certificate 'CN=Other': CA chain error: issuer name doesn't match (expected: CN=Other, got: CN=Signer)",
+            "InvalidCertificate:InvalidChain:IssuerNameMismatch: invalid certificate 'CN=Signer': CA chain error: issuer name doesn't match (expected: CN=Signer, got: CN=Other)",
+            f"InvalidCertificate:InvalidChain:AuthorityKeyIdMismatch: invalid certificate 'CN=Signer': CA chain error: {mismatch}",
+            f"InvalidCertificate:InvalidChain:AuthorityKeyIdMismatch: invalid certificate 'CN=Other': CA chain error: {mismatch}", "parent",
+        )):
+            self.assertEqual(line, wanted)
 
     def test_keys_and_spelling(self):
         another = chains.FUTURE_LEAF, chains.FUTURE_INT_BY_ANOTHER, chains.FUTURE_ROOT

@@ -1,0 +1,90 @@
+//! What is answered to rows of a file on certificates that are built, requests, and certificates over
+//! their parents.
+//!
+//! ```text
+//! issuing_answers FILE
+//! issuing_answers FILE TIMES
+//! ```
+//!
+//! A row has words, a space between. The first is the scheme: `demo`, or the text of a verdict table.
+//! Behind it stands one of these:
+//!
+//! ```text
+//! build WORD KEY SETTER=VALUE ..
+//! request OCTETS
+//! generate ALGORITHM KEY SUBJECT [ATTRIBUTES]
+//! chain CERTIFICATE,PARENT,.. LOWER,UPPER SETTER ..
+//! parent PARENT CERTIFICATE
+//! ```
+//!
+//! Octets stand in hexadecimal digits, `-` for none. KEY is a private key in PKCS #8, a date is the
+//! contents of a GeneralizedTime. A line is printed for each row. `tools/issuing_answers.py` makes
+//! rows and lines.
+//!
+//! With TIMES the file has certificates, a comma between, the first issued by the second and so on, a
+//! date, and the key of the second. The chain is judged and the first is built so many times, for
+//! `bench/issuing.py`.
+#![tactic(auto)]
+
+mod building;
+mod chains;
+mod line;
+mod measure;
+mod requests;
+mod settings;
+mod words;
+
+use anyhow::{Context, Result, bail};
+use sig_core::{DemoScheme, Scheme};
+use std::alloc::Global;
+use std::io::{BufWriter, Write};
+use std::{env, fs, io};
+
+fn main(rt: HostRuntime) -> Result<()> {
+    let words: Vec<String> = env::args(&rt)?.skip(1).collect(rt.alloc())?;
+    let mut out = BufWriter::new(rt.alloc(), io::writer(&rt))?;
+    match words.as_slice() {
+        [path] => {
+            let rows = fs::read_to_string(&rt, path.as_str())?;
+            print_answers(rt.alloc(), &rows, &mut out)?;
+        }
+        [path, times] => {
+            let row = fs::read_to_string(&rt, path.as_str())?;
+            measure::print_times(rt.alloc(), &rt, row.trim_end(), times.parse()?, &mut out)?;
+        }
+        _ => bail!("usage: issuing_answers FILE [TIMES]"),
+    }
+    out.flush()?;
+    Ok(())
+}
+
+fn print_answers(alloc: Global, rows: &str, out: &mut impl Write) -> Result<()> {
+    for row in rows.lines() {
+        let mut line = String::new(alloc);
+        answer(alloc, row, &mut line)?;
+        writeln!(out, "{line}")?;
+    }
+    Ok(())
+}
+
+/// The line for a row: its scheme, and what is called.
+fn answer(alloc: Global, row: &str, line: &mut String) -> Result<()> {
+    let (scheme, call) = row.split_once(' ').context("a row has words")?;
+    if scheme == "demo" {
+        return answer_under(alloc, call, &DemoScheme::new(), line);
+    }
+    let table = words::table_of(alloc, scheme)?;
+    answer_under(alloc, call, &table, line)
+}
+
+fn answer_under<S: Scheme>(alloc: Global, call: &str, scheme: &S, line: &mut String) -> Result<()> {
+    let (name, words) = call.split_once(' ').context("a call has words")?;
+    match name {
+        "build" => building::print(alloc, words, scheme, line),
+        "request" => requests::print(alloc, words, scheme, line),
+        "generate" => requests::generate(alloc, words, scheme, line),
+        "chain" => chains::print(alloc, words, scheme, line),
+        "parent" => chains::print_parent(alloc, words, line),
+        _ => bail!("no call has such a row"),
+    }
+}
