@@ -69,6 +69,15 @@ impl TokenTimestamper {
         let request = TimestampRequest::new(alloc, digest)?;
         written(alloc, &request)
     }
+
+    /// A copy of the value.
+    pub fn try_clone(&self, alloc: Global) -> Result<TokenTimestamper, AllocError>
+        ensures { IfOk result (λ copy. copy ≡ self.now) }
+    {
+        Ok(TokenTimestamper {
+            token: self.token.try_clone(alloc)?,
+        })
+    }
 }
 
 /// The octets of the request.
