@@ -13,7 +13,7 @@ ghost use Rattle.authenticode_core.specs.declared.error.AuthenticodeError.TheVar
 use crate::accepted::Excuse;
 use crate::bag::BagCertificate;
 use crate::error::AuthenticodeError;
-use crate::linking::{expect_linked_token, kept, let_go};
+use crate::linking::{expect_linked_token, kept};
 use crate::signer::certificate_bag;
 use crate::token::token_of;
 use crate::wanted::Wanted;
@@ -90,15 +90,15 @@ fn expect_linked<S: Scheme>(
     let first = kept(alloc, first)?;
     match expect_linked_token(alloc, token, &first, scheme) {
         Ok(()) => {
-            let_go(first);
+            drop(first);
             Ok(())
         }
         Err(CertError::Memory) => {
-            let_go(first);
+            drop(first);
             Err(AuthenticodeError::Memory)
         }
         Err(cause) => {
-            let_go(first);
+            drop(first);
             Err(AuthenticodeError::InvalidTimestampCert(cause))
         }
     }

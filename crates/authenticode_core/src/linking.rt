@@ -32,7 +32,7 @@ pub(crate) fn kept(alloc: Global, named: &BagCertificate<'_>) -> Result<Cert, Al
     match Cert::from_der(alloc, named.elem.whole) {
         Ok(cert) => Ok(cert),
         Err(error) => {
-            let_go(error);
+            drop(error);
             Err(AllocError)
         }
     }
@@ -52,7 +52,7 @@ pub(crate) fn linked_path<S: Scheme>(
 {
     let issuers = Others::on_path(certificate_bag(signed_data), &signer.view());
     let path = linked_places(alloc, &signer, issuers, window, scheme);
-    let_go(signer);
+    drop(signer);
     path
 }
 
@@ -91,7 +91,7 @@ fn linked_places<S: Scheme>(
         match linking.go_on(alloc, checked, &next, window, scheme) {
             Ok(()) => {}
             Err(error) => {
-                let_go(linking);
+                drop(linking);
                 return Err(error);
             }
         }
@@ -125,7 +125,7 @@ impl Linking {
         ensures { result ≡ self.places }
     {
         let Linking { places, last, .. } = self;
-        let_go(last);
+        drop(last);
         places
     }
 
@@ -152,7 +152,7 @@ impl Linking {
             scheme,
         )?;
         let last = self.last.replace(parent);
-        let_go(last);
+        drop(last);
         self.number = self.number.saturating_add(1);
         self.places.push(next.place)?;
         Ok(())
@@ -176,7 +176,7 @@ fn linked_parent<S: Scheme>(
     match parent.expect_link(alloc, child, number, window, scheme) {
         Ok(()) => Ok(parent),
         Err(error) => {
-            let_go(parent);
+            drop(parent);
             Err(error)
         }
     }
@@ -202,6 +202,3 @@ fn any_time() -> Window
         not_after: false,
     }
 }
-
-/// What is done with a value that isn't needed any more.
-pub(crate) fn let_go<T: Drop>(_value: T) {}

@@ -23,7 +23,7 @@ use crate::accepted::{Accepted, Excuse, Places};
 use crate::bag::BagCertificate;
 use crate::error::AuthenticodeError;
 use crate::excuse::excuse_of;
-use crate::linking::{kept, let_go, linked_path};
+use crate::linking::{kept, linked_path};
 use crate::policy::Policy;
 use crate::signing::expect_certificate;
 use crate::token::first_signer_of;
@@ -102,7 +102,7 @@ fn expect_standing<S: Scheme>(
             })
         }
         Err(error) => {
-            let_go(signer);
+            drop(signer);
             let excuse = expect_excuse(alloc, signed_data, &named.certificate, error, scheme)?;
             Ok(Accepted {
                 signer: Some(named.place),
@@ -126,7 +126,7 @@ fn asked_path<S: Scheme>(
         (λ e. (IsTrue policy.now.chain × IsUnlinkedPath (S.judge scheme.now) (window_of policy.now) bag signer e) ⊎ (e ≡ cert_errors.Memory)) }
 {
     if !policy.chain {
-        let_go(signer);
+        drop(signer);
         return Ok(Places::new(alloc));
     }
     let checks = policy.checks();
@@ -153,13 +153,13 @@ fn expect_excuse<S: Scheme>(
     let found = match excuse_of(alloc, signed_data, signer, scheme) {
         Ok(found) => found,
         Err(refused) => {
-            let_go(error);
+            drop(error);
             return Err(refused);
         }
     };
     match found {
         Some(excuse) => {
-            let_go(error);
+            drop(error);
             Ok(excuse)
         }
         None => Err(AuthenticodeError::from(error)),

@@ -49,7 +49,7 @@ fn table_of(alloc: Global, word: &str) -> Result<VerdictTable> {
 pub fn answer(alloc: Global, case: &Case, file: &[u8]) -> Result<String> {
     let answer = check_wincert(alloc, file, &case.policy, &case.table);
     let line = told(alloc, &answer);
-    let_go(answer);
+    drop(answer);
     line
 }
 
@@ -60,9 +60,6 @@ fn told(alloc: Global, answer: &Result<Accepted, CheckError>) -> Result<String> 
         Err(error) => refused_line(alloc, error),
     }
 }
-
-/// Lets a value go. What that takes is proved once for any type, and not for each error in an answer.
-fn let_go<T: Drop>(_value: T) {}
 
 /// The line for what the file is answered with a change.
 pub fn answer_to_change(alloc: Global, case: &Case, change: &str) -> Result<String> {

@@ -2,7 +2,7 @@
 
 use crate::asked::asked_of;
 use crate::kept::kept_line;
-use crate::line::{let_go, told};
+use crate::line::told;
 use anyhow::{Result, bail};
 use authenticode_core::{Policy, check_wincert};
 use row_answers::octets_of;
@@ -58,7 +58,7 @@ fn line_of(alloc: Global, file: &[u8], policy: &Policy, table: &VerdictTable) ->
 fn file_line(alloc: Global, file: &[u8], policy: &Policy, table: &VerdictTable) -> Result<String> {
     let answer = check_wincert(alloc, file, policy, table);
     let line = told(alloc, &answer);
-    let_go(answer);
+    drop(answer);
     line
 }
 

@@ -1,6 +1,6 @@
 //! The same asked of the signature in a file, as it is kept.
 
-use crate::line::{let_go, told};
+use crate::line::told;
 use anyhow::Result;
 use authenticode_core::{Accepted, CheckError, DateCheck, Policy};
 use authenticode_values::{AuthenticodeSignature, AuthenticodeValidator};
@@ -23,7 +23,7 @@ pub fn kept_line(
     let hash = copy_of(alloc, &policy.file_hash)?;
     let answer = verified(alloc, &signature, policy, hash, table);
     let line = told(alloc, &answer);
-    let_go(answer);
+    drop(answer);
     Ok(Some(line?))
 }
 
@@ -33,7 +33,7 @@ fn signature_in(alloc: Global, file: &[u8]) -> Option<AuthenticodeSignature> {
         Ok(certificate) => kept_of(alloc, certificate),
         Err(_) => None,
     };
-    let_go(read);
+    drop(read);
     signature
 }
 
@@ -41,7 +41,7 @@ fn kept_of(alloc: Global, certificate: &WinCertificate) -> Option<AuthenticodeSi
     match AuthenticodeSignature::from_wincert(alloc, certificate) {
         Ok(signature) => Some(signature),
         Err(error) => {
-            let_go(error);
+            drop(error);
             None
         }
     }

@@ -12,9 +12,6 @@ pub fn told(alloc: Global, answer: &Result<Accepted, CheckError>) -> Result<Stri
     }
 }
 
-/// Lets a value go. What that takes is proved once for any type, and not for each error in an answer.
-pub fn let_go<T: Drop>(_value: T) {}
-
 fn accepted_line(alloc: Global, accepted: &Accepted) -> Result<String> {
     let mut line = String::from_str(alloc, "accepted signer=")?;
     if let Some(place) = accepted.signer {

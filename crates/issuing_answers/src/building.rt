@@ -72,12 +72,9 @@ fn print_built<S: Scheme>(
 ) -> Result<(), AllocError> {
     let made = builder.build(alloc, word, scheme);
     let printed = print_made(alloc, &made, out);
-    let_go(made);
+    drop(made);
     printed
 }
-
-/// Lets a value go. What that takes is proved once for any type, and not for each error in an answer.
-pub fn let_go<T: Drop>(_value: T) {}
 
 fn print_made(
     alloc: Global,

@@ -1,6 +1,5 @@
 //! Certificates over their parents.
 
-use crate::building::let_go;
 use crate::line::{push, push_refused};
 use crate::words::{certificate_of, date_of, two_of};
 use anyhow::{Context, Result, bail};
@@ -158,7 +157,7 @@ fn print_parent_in(
 ) -> Result<(), AllocError> {
     let parent = Cert::from_der(alloc, octets);
     let printed = print_parent_read(alloc, &parent, child, out);
-    let_go(parent);
+    drop(parent);
     printed
 }
 

@@ -2,7 +2,6 @@
 
 ghost use Rattle.sig_core.specs.declared.scheme.Verdict.TheVariants.{Accept};
 
-use crate::building::let_go;
 use crate::chains::certificates_of;
 use crate::settings::issued_under;
 use crate::words::{date_of, key_of};
@@ -218,7 +217,7 @@ fn length_under<S: Scheme>(
 ) -> Option<usize> {
     let made = builder.build(alloc, 7, scheme);
     let length = length_of(&made);
-    let_go(made);
+    drop(made);
     length
 }
 

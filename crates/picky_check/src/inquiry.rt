@@ -142,12 +142,9 @@ fn judge_signature<S: Scheme>(
 {
     let answer = check_wincert(alloc, octets, policy, scheme);
     let report = report_of(alloc, &answer);
-    let_go(answer);
+    drop(answer);
     report
 }
-
-/// Lets a value go. What that takes is proved once for any type, and not for each error in an answer.
-fn let_go<T: Drop>(_value: T) {}
 
 /// The report of the octets of a certificate and its parents, judged by a scheme at a date.
 fn judge_chain<S: Scheme>(

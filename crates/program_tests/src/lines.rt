@@ -94,12 +94,9 @@ fn is_header_line(
 ) -> Result<bool, AllocError> {
     let error = CheckError::Win(error);
     let told = is_line(alloc, &error, want);
-    let_go(error);
+    drop(error);
     told
 }
-
-/// Lets a value go. What that takes is proved once for any type, and not for each error within.
-fn let_go<T: Drop>(_value: T) {}
 
 fn is_line(alloc: Global, error: &CheckError, want: &str) -> Result<bool, AllocError> {
     Ok(refused_line(alloc, error)?.as_str() == want)
