@@ -92,6 +92,7 @@ impl AuthenticodeSignature {
     }
 }
 
+/// The signature, or why it isn't made.
 fn made<S: Scheme>(
     alloc: Global,
     pkcs7: &Pkcs7,
