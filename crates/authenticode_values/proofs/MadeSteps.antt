@@ -32,7 +32,7 @@ use Rattle.making_core.specs.Carried.{AreCarried}
 use Rattle.making_core.specs.MadeContent.{attributes_message, content_digest, data_element, opus_element, program_attributes}
 use Rattle.making_core.specs.MadeSignature.{attributes_element, signature_made}
 use Rattle.making_core.specs.SignedProgram.{IsBasicName, IsSignature, IsSignedProgram, Program, algorithm_for, attributes_for, message_for, name_of, program_of}
-use Rattle.authenticode_values.specs.Making.{HasNoFirstSigner, IsFirstSigner, IsMadeOf, attributes_written, certificates_step, code_signing_step, hash_step, making_steps, name_step, signature_step, signing_steps, writing_step}
+use Rattle.authenticode_values.specs.Making.{HasNoFirstSigner, HasSigner, IsFirstSigner, IsMadeOf, attributes_written, certificates_step, code_signing_step, hash_step, making_steps, name_step, signature_step, signing_steps, writing_step}
 use Rattle.authenticode_values.specs.Steps.{AreTaken, RefusesBySteps}
 use Rattle.authenticode_values.proofs.TakenSteps.{refused_before, refused_behind}
 
@@ -69,15 +69,20 @@ module _ (signs : Signs) (f : SignedDataElements) (name : Option (List ℕ)) (p 
       refused_behind errors.Memory (name_step name ∷ hash_step (hash_of p.hash) ∷ certificates_step f ∷ code_signing_step f ∷ []) (signing_steps signs p key) e (has_signer bag first basic known is signer) refused
 
 pub made_of : (judge : Judge) (signs : Signs) (pair : Pair) (f : SignedDataElements) (hash : ShaVariant) (file_hash : List ℕ) (name : Option (List ℕ)) (key : PrivateKey) (bag : List CertificateElements) (first : CertificateElements) (made : SignedDataElements)
-    → IsBasicName name → hash_of hash ≢ SHA2_224 → IsBagOf f bag → IsFirstSigner bag first → IsSignedProgram judge signs pair bag first (program_of hash file_hash name) key made → IsMadeOf judge signs pair f hash file_hash name key made
-made_of judge signs pair f hash file_hash name key bag first made basic known is (others, are, may) signed = record {
-  basic = basic;
-  supported = known;
-  first = first;
-  others = others;
-  signer = record { bag = subst (IsBagOf f) are is; code_signing = subst (λ (b : List CertificateElements). IsForCodeSigning b first) are may };
-  program = subst (λ (b : List CertificateElements). IsSignedProgram judge signs pair b first (program_of hash file_hash name) key made) are signed;
-}
+    → IsBasicName name → hash_of hash ≢ SHA2_224 → IsBagOf f bag → IsFirstSigner bag first → IsSignedProgram judge signs pair bag first (program_of hash file_hash name) key made
+    → AreTaken (signing_steps signs (program_of hash file_hash name) key) → IsMadeOf judge signs pair f hash file_hash name key made
+made_of judge signs pair f hash file_hash name key bag first made basic known is (others, are, may) signed taken =
+    let of : IsBagOf f (first ∷ others) = subst (IsBagOf f) are is in
+    let signer : HasSigner f first others = record { bag = of; code_signing = subst (λ (b : List CertificateElements). IsForCodeSigning b first) are may } in
+    record {
+      basic = basic;
+      supported = known;
+      first = first;
+      others = others;
+      signer = signer;
+      program = subst (λ (b : List CertificateElements). IsSignedProgram judge signs pair b first (program_of hash file_hash name) key made) are signed;
+      taken = (basic, (known, ((first, others, of), ((first, others, signer), taken))));
+    }
 
 -- ---- the steps behind
 
@@ -193,6 +198,11 @@ sealed_program judge signs pair bag first p key made content attributes signatur
     signed_program judge signs pair bag first p key made content attributes signature d is
     (subst (λ (h : HashAlgorithm). IsSignature judge signs pair (RsaPkcs1v15 h) key (message_for p) signature) known (signed (attributes_for p) is)) carried are fields
 
+pub sealed_taken : (judge : Judge) (signs : Signs) (pair : Pair) (bag : List CertificateElements) (first : CertificateElements) (p : Program) (key : PrivateKey) (made : SignedDataElements) (digest : List ℕ) → digest ≡ content_digest p.hash p.file_hash
+    → IsDer (data_element p.hash p.file_hash) → AreDer (p.opus ∷ attributes_element (program_attributes p.opus digest) ∷ []) → IsSignedProgram judge signs pair bag first p key made → AreTaken (signing_steps signs p key)
+sealed_taken judge signs pair bag first p key made digest same der bounded signed =
+    ((der, tt), (subst (λ (d : List ℕ). AreDer (p.opus ∷ attributes_element (program_attributes p.opus d) ∷ [])) same bounded, (signed.is_signature.signed, tt)))
+
 -- ---- what is said of the program by its name
 
 pub not_signed_as : (signs : Signs) (f : SignedDataElements) (name : Option (List ℕ)) (hash : ShaVariant) (file_hash : List ℕ) (opus : DerElement) (key : PrivateKey) (e : AuthenticodeError) (bag : List CertificateElements) (first : CertificateElements)
@@ -203,8 +213,10 @@ not_signed_as signs f name hash file_hash opus key e bag first said basic known 
     (subst (λ (o : DerElement). RefusesBySteps errors.Memory (signing_steps signs (record { hash = hash; file_hash = file_hash; opus = o }) key) e) said refused)
 
 pub made_as : (judge : Judge) (signs : Signs) (pair : Pair) (f : SignedDataElements) (name : Option (List ℕ)) (hash : ShaVariant) (file_hash : List ℕ) (opus : DerElement) (key : PrivateKey) (bag : List CertificateElements) (first : CertificateElements) (made : SignedDataElements)
-    → opus ≡ opus_element name → IsBasicName name → hash_of hash ≢ SHA2_224 → IsBagOf f bag → IsFirstSigner bag first → IsSignedProgram judge signs pair bag first (record { hash = hash; file_hash = file_hash; opus = opus }) key made
+    → opus ≡ opus_element name → IsBasicName name → hash_of hash ≢ SHA2_224 → IsBagOf f bag → IsFirstSigner bag first
+    → IsSignedProgram judge signs pair bag first (record { hash = hash; file_hash = file_hash; opus = opus }) key made → AreTaken (signing_steps signs (record { hash = hash; file_hash = file_hash; opus = opus }) key)
     → IsMadeOf judge signs pair f hash file_hash name key made
-made_as judge signs pair f name hash file_hash opus key bag first made said basic known is signer signed =
+made_as judge signs pair f name hash file_hash opus key bag first made said basic known is signer signed taken =
     made_of judge signs pair f hash file_hash name key bag first made basic known is signer
     (subst (λ (o : DerElement). IsSignedProgram judge signs pair bag first (record { hash = hash; file_hash = file_hash; opus = o }) key made) said signed)
+    (subst (λ (o : DerElement). AreTaken (signing_steps signs (record { hash = hash; file_hash = file_hash; opus = o }) key)) said taken)

@@ -21,22 +21,12 @@ use Rattle.authenticode_core.specs.declared.error.AuthenticodeError.TheVariants 
 use Rattle.making_core.specs.MadeContent.{data_element}
 use Rattle.making_core.specs.MadeSignature.{attributes_element}
 use Rattle.making_core.specs.SignedProgram.{IsBasicName, IsSignedProgram, Program, algorithm_for, attributes_for, message_for, program_of}
-use Rattle.authenticode_values.specs.Steps.{Step}
+use Rattle.authenticode_values.specs.Steps.{Step, AreTaken}
 
 -- The first certificate of the signed data, the signer's, may sign code.
 pub record HasSigner (f : SignedDataElements) (first : CertificateElements) (others : List CertificateElements) : Type 0 where
   pub bag : IsBagOf f (first ∷ others)
   pub code_signing : IsForCodeSigning (first ∷ others) first
-
--- The signed data is the signature of a program by the first certificate of others, which may sign code: the program is given by the algorithm and the digest of the
--- file, and its name, if it has one.
-pub record IsMadeOf (judge : Judge) (signs : Signs) (pair : Pair) (f : SignedDataElements) (hash : ShaVariant) (file_hash : List ℕ) (name : Option (List ℕ)) (key : PrivateKey) (made : SignedDataElements) : Type 0 where
-  pub basic : IsBasicName name
-  pub supported : hash_of hash ≢ SHA2_224
-  pub first : CertificateElements
-  pub others : List CertificateElements
-  pub signer : HasSigner f first others
-  pub program : IsSignedProgram judge signs pair (first ∷ others) first (program_of hash file_hash name) key made
 
 -- ---- steps
 
@@ -109,3 +99,16 @@ signing_steps signs p key =
 -- The steps, in their order.
 abbrev pub making_steps : Signs → SignedDataElements → Option (List ℕ) → Program → PrivateKey → List (Step AuthenticodeError)
 making_steps signs f name p key = name_step name ∷ hash_step (hash_of p.hash) ∷ certificates_step f ∷ code_signing_step f ∷ signing_steps signs p key
+
+-- ---- what is made
+
+-- The signed data is the signature of a program by the first certificate of others, which may sign code: the program is given by the algorithm and the digest of the
+-- file, and its name, if it has one. No step was refused.
+pub record IsMadeOf (judge : Judge) (signs : Signs) (pair : Pair) (f : SignedDataElements) (hash : ShaVariant) (file_hash : List ℕ) (name : Option (List ℕ)) (key : PrivateKey) (made : SignedDataElements) : Type 0 where
+  pub basic : IsBasicName name
+  pub supported : hash_of hash ≢ SHA2_224
+  pub first : CertificateElements
+  pub others : List CertificateElements
+  pub signer : HasSigner f first others
+  pub program : IsSignedProgram judge signs pair (first ∷ others) first (program_of hash file_hash name) key made
+  pub taken : AreTaken (making_steps signs f name (program_of hash file_hash name) key)

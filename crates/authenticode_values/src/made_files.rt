@@ -56,6 +56,7 @@ pub fn check_made<S: Scheme>(
     check_wincert(alloc, octets, policy, scheme)
 }
 
+/// The signature in a file.
 fn read_file(alloc: Global, octets: &[u8]) -> Result<AuthenticodeSignature, CheckError>
     ensures { GivesSignature octets.now result }
 {
@@ -64,8 +65,7 @@ fn read_file(alloc: Global, octets: &[u8]) -> Result<AuthenticodeSignature, Chec
     Ok(signature)
 }
 
-// ---- headers
-
+/// Octets in a WIN_CERTIFICATE of the current revision.
 fn wrap(
     alloc: Global,
     der: &[u8],
@@ -79,6 +79,7 @@ fn wrap(
     }
 }
 
+/// The octets of a WIN_CERTIFICATE.
 fn spell(alloc: Global, wrapped: WinCertificate) -> Result<Vec<u8>, CheckError>
     ensures { MatchResult result (λ octets. encoded wrapped ≡ Ok octets.items) (RefusesHeader (encoded wrapped)) }
 {
@@ -88,6 +89,7 @@ fn spell(alloc: Global, wrapped: WinCertificate) -> Result<Vec<u8>, CheckError>
     }
 }
 
+/// The WIN_CERTIFICATE that octets begin with.
 fn unwrap(alloc: Global, octets: &[u8]) -> Result<WinCertificate, CheckError>
     ensures { MatchResult result (λ w. contents_in octets.now ≡ Ok w.certificate) (RefusesHeader (contents_in octets.now)) }
 {

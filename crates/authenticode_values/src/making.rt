@@ -24,7 +24,7 @@ ghost use Rattle.authenticode_values.specs.Making.{IsMadeOf, hash_step, making_s
 ghost use Rattle.authenticode_values.specs.MadeFile.{IsMadeSignature, IsSpelledWhole, wrapped};
 ghost use Rattle.authenticode_values.specs.MadeProgram.{program_for};
 ghost use Rattle.authenticode_values.specs.Pkcs7.{elements_of, fields_of, written};
-ghost use Rattle.authenticode_values.specs.Steps.{RefusesBySteps};
+ghost use Rattle.authenticode_values.specs.Steps.{AreTaken, RefusesBySteps};
 
 mod signer;
 
@@ -92,6 +92,7 @@ impl AuthenticodeSignature {
     }
 }
 
+/// The signature, or why it isn't made.
 fn made<S: Scheme>(
     alloc: Global,
     pkcs7: &Pkcs7,
@@ -208,7 +209,8 @@ fn signed<S: Scheme>(
 ) -> Result<Pkcs7, AuthenticodeError>
     requires { program.now.algorithm ≡ hash_of program.now.hash }
     ensures { let p = program_for program.now in MatchResult result
-        (λ made. IsSignedProgram (S.judge scheme.now) (S.signs scheme.now) (S.pair scheme.now) (elements_of bag.now) first.now.elements p private_key.now (fields_of made))
+        (λ made. IsSignedProgram (S.judge scheme.now) (S.signs scheme.now) (S.pair scheme.now) (elements_of bag.now) first.now.elements p private_key.now (fields_of made)
+        × AreTaken (signing_steps (S.signs scheme.now) p private_key.now))
         (RefusesBySteps errors.Memory (signing_steps (S.signs scheme.now) p private_key.now)) }
 {
     let (indirect, digest) = content_for(alloc, program)?;

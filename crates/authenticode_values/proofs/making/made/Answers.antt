@@ -1,13 +1,13 @@
-use Rattle.std.proofs.Common.{List, sym, subst}
+use Rattle.std.proofs.Common.{List, sym, subst, ◌∙◌}
 use Rattle.std.proofs.lemmas.Result.{err_from_is_err_and}
 use Rattle.std.specs.Option.{option_copied}
 use Rattle.cms_types.specs.OpusInfo.{opus_info}
 use Rattle.x509_core.specs.KeptCertificate.{KeptCertificate}
 use Rattle.authenticode_core.specs.SigningRules.{IsBagOf}
 use Rattle.making_core.specs.SignedProgram.{program_of}
-use Rattle.authenticode_values.specs.Making.{HasNoFirstSigner}
+use Rattle.authenticode_values.specs.Making.{HasNoFirstSigner, IsFirstSigner}
 use Rattle.authenticode_values.specs.Pkcs7.{elements_of, fields_of}
-use Rattle.authenticode_values.proofs.MadeSteps.{no_hash, no_name, no_signer, not_signed_as}
+use Rattle.authenticode_values.proofs.MadeSteps.{made_as, no_hash, no_name, no_signer, not_signed_as}
 use Rattle.authenticode_values.proofs.making.made.Goals as goal
 
 pub returns-in_err-opus : goal.returns-in_err-opus
@@ -40,3 +40,12 @@ returns-in_err-made g c =
     (elements_of c.deref.result.now) c.in_ok-first.first.now.elements c.in_ok-opus.ensures.0 c.in_ok-opus.ensures.1 c.in_ok-algorithm.ensures.1
     (subst (λ (ks : List KeptCertificate). IsBagOf (fields_of c.args.pkcs7.now) (elements_of ks)) (sym list) c.in_ok-bag.ensures) c.in_ok-first.ensures
     c.in_err-made.ensures)
+
+pub returns : goal.returns
+returns g c =
+    let list = c.deref.ensures.value in
+    let other = c.deref-2.ensures.value in
+    made_as (g.S.Scheme.judge c.args.scheme.now) (g.S.Scheme.signs c.args.scheme.now) (g.S.Scheme.pair c.args.scheme.now) (fields_of c.args.pkcs7.now) (option_copied c.args.program_name) c.args.hash_algo c.args.file_hash.now (opus_info c.in_ok-opus.opus)
+    c.args.private_key.now (elements_of c.deref-2.result.now) c.in_ok-first.first.now.elements (fields_of c.in_ok-made.made) c.in_ok-opus.ensures.0 c.in_ok-opus.ensures.1 c.in_ok-algorithm.ensures.1
+    (subst (λ (ks : List KeptCertificate). IsBagOf (fields_of c.args.pkcs7.now) (elements_of ks)) (sym other) c.in_ok-bag.ensures)
+    (subst (λ (ks : List KeptCertificate). IsFirstSigner (elements_of ks) c.in_ok-first.first.now.elements) (list ∙ sym other) c.in_ok-first.ensures) c.in_ok-made.ensures.0 c.in_ok-made.ensures.1

@@ -6,7 +6,7 @@ use Rattle.cms_types.specs.declared.pkcs7.Pkcs7Certificate.{Pkcs7Certificate}
 use Rattle.content_types.specs.IndirectData.{indirect_data_content}
 use Rattle.authenticode_values.specs.MadeProgram.{program_for}
 use Rattle.authenticode_values.specs.Pkcs7.{elements_of}
-use Rattle.authenticode_values.proofs.MadeSteps.{no_attributes_of, no_content, sealed_program, unsealed}
+use Rattle.authenticode_values.proofs.MadeSteps.{no_attributes_of, no_content, sealed_program, sealed_taken, unsealed}
 use Rattle.authenticode_values.proofs.making.signed.Goals as goal
 
 pub returns-in_err-indirect : goal.returns-in_err-indirect
@@ -33,6 +33,10 @@ returns g c =
     let made = c.in_ok-indirect.ensures in
     let kept = c.in_ok-attributes.ensures in
     let whole = c.in_ok-made.ensures in
-    sealed_program (g.S.Scheme.judge c.args.scheme.now) (g.S.Scheme.signs c.args.scheme.now) (g.S.Scheme.pair c.args.scheme.now) (elements_of c.args.bag.now) c.args.first.now.elements (program_for c.args.program.now) c.args.private_key.now
+    let program = sealed_program (g.S.Scheme.judge c.args.scheme.now) (g.S.Scheme.signs c.args.scheme.now) (g.S.Scheme.pair c.args.scheme.now) (elements_of c.args.bag.now) c.args.first.now.elements (program_for c.args.program.now) c.args.private_key.now
     (signed_data_elements c.from.result.signed.signed_data) (indirect_data_content c.in_ok-indirect.indirect) (signed_attributes c.in_ok-attributes.attributes) c.in_ok-signature.signature c.args.program.now.algorithm c.deref.result.now
-    c.requires (c.deref.ensures.value ∙ made.1) made.0 kept.0 c.in_ok-signature.ensures whole.0 whole.1 (ap (λ (v : Pkcs7Certificate). signed_data_elements v.signed_data) c.from.ensures ∙ whole.2)
+    c.requires (c.deref.ensures.value ∙ made.1) made.0 kept.0 c.in_ok-signature.ensures whole.0 whole.1 (ap (λ (v : Pkcs7Certificate). signed_data_elements v.signed_data) c.from.ensures ∙ whole.2) in (
+      program,
+      sealed_taken (g.S.Scheme.judge c.args.scheme.now) (g.S.Scheme.signs c.args.scheme.now) (g.S.Scheme.pair c.args.scheme.now) (elements_of c.args.bag.now) c.args.first.now.elements (program_for c.args.program.now) c.args.private_key.now
+          (signed_data_elements c.from.result.signed.signed_data) c.deref.result.now (c.deref.ensures.value ∙ made.1) made.2 kept.1 program,
+    )
