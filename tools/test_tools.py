@@ -27,6 +27,7 @@ import compare_check
 import compare_readers
 import der_reader
 import demo_signatures
+import kept_answers
 import kept_certificates
 import oid_table
 import order_bag
@@ -287,6 +288,17 @@ class PathAnswersTest(unittest.TestCase):
     def test_stored_files(self):
         for path, octets in path_answers.stored_files().items():
             self.assertEqual((CRATES / "path_answers" / path).read_bytes(), octets, path)
+
+
+class KeptAnswersTest(unittest.TestCase):
+
+    def test_answers_are_those_by_hand(self):
+        for label, octets, said in kept_answers.CASES:
+            self.assertEqual(kept_answers.answer(octets), said, label)
+
+    def test_stored_files(self):
+        for path, octets in kept_answers.stored_files().items():
+            self.assertEqual((CRATES / "kept_answers" / path).read_bytes(), octets, path)
 
 
 class ComparisonTest(unittest.TestCase):
