@@ -43,7 +43,7 @@ struct Sample<'a> {
 }
 
 /// What comes of making a signature by the first of the certificates that octets carry.
-fn outcome(alloc: Global, octets: &[u8], variant: ShaVariant, sample: &Sample<'_>) -> Outcome {
+fn outcome_by(alloc: Global, octets: &[u8], variant: ShaVariant, sample: &Sample<'_>) -> Outcome {
     match signed_data(alloc, octets) {
         Some(signed) => {
             let outcome = outcome_of(alloc, &signed, variant, sample);
@@ -106,7 +106,7 @@ fn outcome_of_octets(alloc: Global, file: &[u8], sample: &Sample<'_>) -> Outcome
 fn is_read(alloc: Global, file: &[u8]) -> bool {
     match decode_signature(alloc, file) {
         Ok(signature) => {
-            let read = is_spelled(alloc, &signature, &file[8..]);
+            let read = is_behind_header(alloc, &signature, file);
             drop(signature);
             read
         }
@@ -114,6 +114,13 @@ fn is_read(alloc: Global, file: &[u8]) -> bool {
             drop(error);
             false
         }
+    }
+}
+
+fn is_behind_header(alloc: Global, signature: &AuthenticodeSignature, file: &[u8]) -> bool {
+    match file.split_at_checked(8) {
+        Some((_header, der)) => is_spelled(alloc, signature, der),
+        None => false,
     }
 }
 
@@ -187,7 +194,7 @@ fn is_each(alloc: Global, sample: &Sample<'_>) -> Result<bool, Fail> {
     let mut each = true;
     for (carried, variant, wanted) in &CASES {
         let octets = hex::decode(alloc, carried)?;
-        each = each && outcome(alloc, &octets, *variant, sample) == *wanted;
+        each = each && outcome_by(alloc, &octets, *variant, sample) == *wanted;
     }
     Ok(each)
 }

@@ -21,7 +21,7 @@ enum Outcome {
 }
 
 /// What comes of stamping the signature that octets are by a token.
-fn outcome(alloc: Global, octets: &[u8], token: &[u8]) -> Outcome {
+fn outcome_by(alloc: Global, octets: &[u8], token: &[u8]) -> Outcome {
     match signature(alloc, octets) {
         Some(mut signature) => {
             let outcome = outcome_of(alloc, &mut signature, octets, token);
@@ -135,7 +135,7 @@ fn signatures_are_stamped(rt: HostRuntime) -> Result<(), Fail> {
     for (signature, token, wanted) in &STAMPS {
         let signature = hex::decode(rt.alloc(), signature)?;
         let token = hex::decode(rt.alloc(), token)?;
-        assert_eq!(rt; outcome(rt.alloc(), &signature, &token), *wanted);
+        assert_eq!(rt; outcome_by(rt.alloc(), &signature, &token), *wanted);
     }
     Ok(())
 }
