@@ -1,0 +1,53 @@
+//! Signed data of certificates alone.
+
+use crate::samples::{EMPTY, ONE, is_written, signed_data};
+use authenticode_values::Pkcs7;
+use std::alloc::Global;
+use std::test::Fail;
+use x509_core::Cert;
+
+/// Whether octets are written for signed data of the certificates that they carry.
+fn is_made_again(alloc: Global, octets: &[u8]) -> bool {
+    match signed_data(alloc, octets) {
+        Some(signed) => {
+            let made = is_made_of_its_own(alloc, &signed, octets);
+            drop(signed);
+            made
+        }
+        None => false,
+    }
+}
+
+fn is_made_of_its_own(alloc: Global, signed: &Pkcs7, octets: &[u8]) -> bool {
+    match signed.decode_certificates(alloc) {
+        Ok(certificates) => {
+            let made = is_made_of(alloc, &certificates, octets);
+            drop(certificates);
+            made
+        }
+        Err(_) => false,
+    }
+}
+
+fn is_made_of(alloc: Global, certificates: &[Cert], octets: &[u8]) -> bool {
+    match Pkcs7::of_certificates(alloc, certificates) {
+        Ok(signed) => {
+            let written = is_written(alloc, &signed, octets);
+            drop(signed);
+            written
+        }
+        Err(error) => {
+            drop(error);
+            false
+        }
+    }
+}
+
+#[test]
+fn certificates_are_carried(rt: HostRuntime) -> Result<(), Fail> {
+    for text in [ONE, EMPTY] {
+        let octets = hex::decode(rt.alloc(), text)?;
+        assert!(rt; is_made_again(rt.alloc(), &octets), "{text}");
+    }
+    Ok(())
+}

@@ -1,0 +1,130 @@
+//! Signed data without certificates and signers.
+
+use crate::samples::{EMPTY, is_spelled, is_written, signature, signed_data};
+use authenticode_core::AuthenticodeError;
+use authenticode_values::{AuthenticodeSignature, Pkcs7};
+use cms_types::Pkcs7Certificate;
+use std::alloc::Global;
+use std::test::Fail;
+use x509_core::Cert;
+
+/// Whether octets are signed data with nothing in its fields.
+fn is_empty(alloc: Global, octets: &[u8]) -> bool {
+    match signed_data(alloc, octets) {
+        Some(signed) => {
+            let empty = has_nothing(&signed) && has_no_certificates(alloc, &signed);
+            drop(signed);
+            empty
+        }
+        None => false,
+    }
+}
+
+fn has_nothing(signed: &Pkcs7) -> bool {
+    signed.digest_algorithms().is_empty()
+        && signed.signer_infos().is_empty()
+        && signed.encapsulated_content_info().content.is_none()
+}
+
+fn has_no_certificates(alloc: Global, signed: &Pkcs7) -> bool {
+    match signed.decode_certificates(alloc) {
+        Ok(certificates) => {
+            let none = certificates.is_empty();
+            drop(certificates);
+            none
+        }
+        Err(_) => false,
+    }
+}
+
+/// Whether octets are a signature by nobody of nothing.
+fn is_unsigned(alloc: Global, octets: &[u8]) -> bool {
+    match signature(alloc, octets) {
+        Some(signature) => {
+            let unsigned = signs_nothing(alloc, &signature) && has_no_signer(alloc, &signature);
+            drop(signature);
+            unsigned
+        }
+        None => false,
+    }
+}
+
+fn signs_nothing(alloc: Global, signature: &AuthenticodeSignature) -> bool {
+    let attributes = signature.authenticated_attributes().is_none()
+        && signature.unauthenticated_attributes().is_none();
+    match signature.file_hash(alloc) {
+        Ok(None) => attributes,
+        _ => false,
+    }
+}
+
+fn has_no_signer(alloc: Global, signature: &AuthenticodeSignature) -> bool {
+    let answer = signature.signing_certificate(alloc, &[]);
+    let refused = is_of_no_signer(&answer);
+    drop(answer);
+    refused
+}
+
+fn is_of_no_signer(answer: &Result<&Cert, AuthenticodeError>) -> bool {
+    match answer {
+        Err(AuthenticodeError::MultipleSignerInfo { count }) => *count == 0,
+        _ => false,
+    }
+}
+
+/// Whether a copy and every conversion of the signed data that octets are is written so.
+fn is_kept(alloc: Global, octets: &[u8]) -> bool {
+    match signed_data(alloc, octets) {
+        Some(signed) => {
+            let kept = is_copied(alloc, &signed, octets);
+            drop(signed);
+            kept
+        }
+        None => false,
+    }
+}
+
+fn is_copied(alloc: Global, signed: &Pkcs7, octets: &[u8]) -> bool {
+    match signed.try_clone(alloc) {
+        Ok(copy) => is_converted(alloc, signature_of(copy), octets),
+        Err(_) => false,
+    }
+}
+
+fn signature_of(signed: Pkcs7) -> AuthenticodeSignature {
+    let value = Pkcs7Certificate::from(signed);
+    AuthenticodeSignature::from(Pkcs7::from(value))
+}
+
+fn is_converted(alloc: Global, signature: AuthenticodeSignature, octets: &[u8]) -> bool {
+    let kept = is_spelled(alloc, &signature, octets) && has_such_a_copy(alloc, &signature, octets);
+    drop(signature);
+    kept
+}
+
+fn has_such_a_copy(alloc: Global, signature: &AuthenticodeSignature, octets: &[u8]) -> bool {
+    match signature.try_clone(alloc) {
+        Ok(copy) => {
+            let signed = Pkcs7::from(copy);
+            let written = is_written(alloc, &signed, octets);
+            drop(signed);
+            written
+        }
+        Err(_) => false,
+    }
+}
+
+#[test]
+fn empty_signed_data(rt: HostRuntime) -> Result<(), Fail> {
+    let octets = hex::decode(rt.alloc(), EMPTY)?;
+    assert!(rt; is_empty(rt.alloc(), &octets));
+    assert!(rt; is_unsigned(rt.alloc(), &octets));
+    Ok(())
+}
+
+#[test]
+fn conversions_and_copies(rt: HostRuntime) -> Result<(), Fail> {
+    let octets = hex::decode(rt.alloc(), EMPTY)?;
+    assert!(rt; is_kept(rt.alloc(), &octets));
+    Ok(())
+}

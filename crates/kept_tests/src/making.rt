@@ -1,0 +1,207 @@
+//! Signatures that are made, and their files, under the demonstration scheme.
+
+use crate::samples::{EMPTY, FILE_HASH, ONE, is_spelled, signed_data};
+use authenticode_core::{AuthenticodeError, Policy};
+use authenticode_values::{
+    AuthenticodeSignature, Pkcs7, check_made, decode_signature, encode_signature,
+};
+use der_core::Octets;
+use key_core::PrivateKey;
+use sig_core::{DemoScheme, ShaVariant};
+use std::alloc::{AllocError, Global};
+use std::test::Fail;
+use wincert_core::CertificateType;
+
+/// The key of the certificate: a PrivateKeyInfo (RFC 5208 5) of RSA with the modulus 17 and the
+/// exponent 3.
+const KEY: &str =
+    "3031020100300d06092a864886f70d0101010500041d301b02010002011102010302010502010702010b020101020102020104";
+
+/// The file of the signature that is made by it for the digest of `abc`, as its parts are put together
+/// with Python's standard library.
+#[rattlefmt::skip]
+const FILE: &str = "dd01000000020200308201d106092a864886f70d010702a08201c2308201be020101310f300d06096086480165030402010500305c060a2b060104018237020104a04e304c3017060a2b06010401823702010f3009030100a004a20280003031300d060960864801650304020105000420ba7816bf8f01cfea414140de5dae2223b00361a396177a9cb410ff61f20015ada08187308184306fa003020102020101300d06092a864886f70d01010b0500300c310a300806035504030c0141301e170d3230303130313030303030305a170d3330303130313030303030305a300c310a300806035504030c0141301a300d06092a864886f70d01010105000309003006020111020103300d06092a864886f70d01010b0500030200bba1003181bd3081ba0201013011300c310a300806035504030c0141020101300d06096086480165030402010500a062301906092a864886f70d010903310c060a2b0601040182370201043014060a2b06010401823702010c31063004a1028000302f06092a864886f70d010904312204206b00646e9ba32b38bcdfe80a0e22b4671c4d01316d815cc7bb60626b24aa2832300d06092a864886f70d010101050004202d3291d33cb93090395555c7137cbb6733ad1f545926acfd517bc977076f6588";
+
+/// What comes of making a signature.
+#[derive(Clone, Copy, Debug, PartialEq, Eq)]
+enum Outcome {
+    /// Its file is as given, is read again, and is accepted.
+    Made,
+    /// Refused for want of certificates.
+    NoCertificates,
+    /// Refused for the algorithm of digests.
+    UnsupportedHash,
+    Other,
+}
+
+/// A private key, a digest, and the file of the signature that is made of them.
+#[derive(Clone, Copy)]
+struct Sample<'a> {
+    key: &'a PrivateKey,
+    hash: &'a [u8],
+    file: &'a [u8],
+}
+
+/// What comes of making a signature by the first of the certificates that octets carry.
+fn outcome_by(alloc: Global, octets: &[u8], variant: ShaVariant, sample: &Sample<'_>) -> Outcome {
+    match signed_data(alloc, octets) {
+        Some(signed) => {
+            let outcome = outcome_of(alloc, &signed, variant, sample);
+            drop(signed);
+            outcome
+        }
+        None => Outcome::Other,
+    }
+}
+
+fn outcome_of(alloc: Global, signed: &Pkcs7, variant: ShaVariant, sample: &Sample<'_>) -> Outcome {
+    let scheme = DemoScheme::new();
+    let key = sample.key;
+    match AuthenticodeSignature::new(alloc, signed, sample.hash, variant, key, None, &scheme) {
+        Ok(signature) => {
+            let outcome = outcome_of_file(alloc, &signature, sample);
+            drop(signature);
+            outcome
+        }
+        Err(error) => {
+            let refused = refusal(&error);
+            drop(error);
+            refused
+        }
+    }
+}
+
+fn refusal(error: &AuthenticodeError) -> Outcome {
+    match error {
+        AuthenticodeError::NoCertificates => Outcome::NoCertificates,
+        AuthenticodeError::UnsupportedHashAlgorithmError(_) => Outcome::UnsupportedHash,
+        _ => Outcome::Other,
+    }
+}
+
+fn outcome_of_file(
+    alloc: Global,
+    signature: &AuthenticodeSignature,
+    sample: &Sample<'_>,
+) -> Outcome {
+    let pkcs = CertificateType::WinCertTypePkcsSignedData;
+    match encode_signature(alloc, signature, pkcs) {
+        Ok(file) => outcome_of_octets(alloc, &file, sample),
+        Err(error) => {
+            drop(error);
+            Outcome::Other
+        }
+    }
+}
+
+fn outcome_of_octets(alloc: Global, file: &[u8], sample: &Sample<'_>) -> Outcome {
+    if file == sample.file && is_read(alloc, file) && is_accepted(alloc, file, sample.hash) {
+        Outcome::Made
+    } else {
+        Outcome::Other
+    }
+}
+
+/// Whether a signature is read of the file, that is written as what is behind the header.
+fn is_read(alloc: Global, file: &[u8]) -> bool {
+    match decode_signature(alloc, file) {
+        Ok(signature) => {
+            let read = is_behind_header(alloc, &signature, file);
+            drop(signature);
+            read
+        }
+        Err(error) => {
+            drop(error);
+            false
+        }
+    }
+}
+
+fn is_behind_header(alloc: Global, signature: &AuthenticodeSignature, file: &[u8]) -> bool {
+    match file.split_at_checked(8) {
+        Some((_header, der)) => is_spelled(alloc, signature, der),
+        None => false,
+    }
+}
+
+/// Whether the file is accepted under basic validation alone with the digest.
+fn is_accepted(alloc: Global, file: &[u8], hash: &[u8]) -> bool {
+    match basic_policy(alloc, hash) {
+        Ok(policy) => {
+            let accepted = is_accepted_under(alloc, file, &policy);
+            drop(policy);
+            accepted
+        }
+        Err(_) => false,
+    }
+}
+
+fn basic_policy(alloc: Global, hash: &[u8]) -> Result<Policy, AllocError> {
+    let mut policy = Policy::new(alloc);
+    policy.file_hash = Some(Octets::from_slice(alloc, hash)?);
+    policy.signing = false;
+    Ok(policy)
+}
+
+fn is_accepted_under(alloc: Global, file: &[u8], policy: &Policy) -> bool {
+    match check_made(alloc, file, policy, &DemoScheme::new()) {
+        Ok(accepted) => {
+            let by_the_first = accepted.signer == Some(0);
+            drop(accepted);
+            by_the_first
+        }
+        Err(error) => {
+            drop(error);
+            false
+        }
+    }
+}
+
+/// Certificates, an algorithm of digests, and what comes of them.
+const CASES: [(&str, ShaVariant, Outcome); 3] = [
+    (ONE, ShaVariant::SHA2_256, Outcome::Made),
+    (EMPTY, ShaVariant::SHA2_256, Outcome::NoCertificates),
+    (ONE, ShaVariant::SHA2_224, Outcome::UnsupportedHash),
+];
+
+/// Whether each case comes out as wanted by the private key that octets are.
+fn is_each_by(alloc: Global, octets: &[u8]) -> Result<bool, Fail> {
+    match PrivateKey::from_pkcs8(alloc, octets, &DemoScheme::new()) {
+        Ok(key) => {
+            let each = is_each_with(alloc, &key);
+            drop(key);
+            each
+        }
+        Err(error) => {
+            drop(error);
+            Ok(false)
+        }
+    }
+}
+
+fn is_each_with(alloc: Global, key: &PrivateKey) -> Result<bool, Fail> {
+    let hash = hex::decode(alloc, FILE_HASH)?;
+    let file = hex::decode(alloc, FILE)?;
+    let sample = Sample {
+        key,
+        hash: &hash,
+        file: &file,
+    };
+    is_each(alloc, &sample)
+}
+
+fn is_each(alloc: Global, sample: &Sample<'_>) -> Result<bool, Fail> {
+    let mut each = true;
+    for (carried, variant, wanted) in &CASES {
+        let octets = hex::decode(alloc, carried)?;
+        each = each && outcome_by(alloc, &octets, *variant, sample) == *wanted;
+    }
+    Ok(each)
+}
+
+#[test]
+fn signatures_are_made(rt: HostRuntime) -> Result<(), Fail> {
+    let octets = hex::decode(rt.alloc(), KEY)?;
+    assert!(rt; is_each_by(rt.alloc(), &octets)?);
+    Ok(())
+}

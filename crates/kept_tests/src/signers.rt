@@ -1,0 +1,75 @@
+//! What a signature says of its signer and of what is signed.
+
+use crate::samples::{FILE_HASH, SIGNATURE, signature};
+use authenticode_values::AuthenticodeSignature;
+use std::alloc::Global;
+use std::test::Fail;
+use x509_core::Cert;
+
+/// Whether octets are a signature of the digest, by its one certificate.
+fn is_told(alloc: Global, octets: &[u8], hash: &[u8]) -> bool {
+    match signature(alloc, octets) {
+        Some(signature) => {
+            let told = signs(alloc, &signature, hash) && is_by_its_own(alloc, &signature);
+            drop(signature);
+            told
+        }
+        None => false,
+    }
+}
+
+/// Whether the digest is signed, with three attributes, and nothing is added.
+fn signs(alloc: Global, signature: &AuthenticodeSignature, hash: &[u8]) -> bool {
+    let signed = match signature.authenticated_attributes() {
+        Some(attributes) => attributes.len() == 3,
+        None => false,
+    };
+    signed && signature.unauthenticated_attributes().is_none() && is_of(alloc, signature, hash)
+}
+
+fn is_of(alloc: Global, signature: &AuthenticodeSignature, hash: &[u8]) -> bool {
+    match signature.file_hash(alloc) {
+        Ok(Some(digest)) => digest.as_slice() == hash,
+        _ => false,
+    }
+}
+
+fn is_by_its_own(alloc: Global, signature: &AuthenticodeSignature) -> bool {
+    match signature.0.decode_certificates(alloc) {
+        Ok(certificates) => {
+            let own = is_by_the_first(alloc, signature, &certificates);
+            drop(certificates);
+            own
+        }
+        Err(_) => false,
+    }
+}
+
+fn is_by_the_first(
+    alloc: Global,
+    signature: &AuthenticodeSignature,
+    certificates: &[Cert],
+) -> bool {
+    match signature.signing_certificate(alloc, certificates) {
+        Ok(signer) => is_the_one(signer, certificates),
+        Err(error) => {
+            drop(error);
+            false
+        }
+    }
+}
+
+fn is_the_one(signer: &Cert, certificates: &[Cert]) -> bool {
+    match certificates {
+        [first] => *signer == *first,
+        _ => false,
+    }
+}
+
+#[test]
+fn the_signer_and_the_digest(rt: HostRuntime) -> Result<(), Fail> {
+    let octets = hex::decode(rt.alloc(), SIGNATURE)?;
+    let hash = hex::decode(rt.alloc(), FILE_HASH)?;
+    assert!(rt; is_told(rt.alloc(), &octets, &hash));
+    Ok(())
+}

@@ -1,0 +1,141 @@
+//! Signatures that are stamped by tokens at hand.
+
+use crate::samples::{EMPTY, SIGNATURE, is_spelled, signature, timestamper};
+use authenticode_core::{AuthenticodeError, TimestampError};
+use authenticode_values::{AuthenticodeSignature, TokenTimestamper};
+use cms_types::UnsignedAttribute;
+use sig_core::HashAlgorithm;
+use std::alloc::Global;
+use std::test::Fail;
+
+/// What comes of stamping.
+#[derive(Clone, Copy, Debug, PartialEq, Eq)]
+enum Outcome {
+    /// One certificate more, and a counter-signature where there was no unsigned attribute.
+    Stamped,
+    /// Refused as a token without signers, and nothing changed.
+    EmptyToken,
+    /// Refused as a signature without signers, and nothing changed.
+    NoSigner,
+    Other,
+}
+
+/// What comes of stamping the signature that octets are by a token.
+fn outcome_by(alloc: Global, octets: &[u8], token: &[u8]) -> Outcome {
+    match signature(alloc, octets) {
+        Some(mut signature) => {
+            let outcome = outcome_of(alloc, &mut signature, octets, token);
+            drop(signature);
+            outcome
+        }
+        None => Outcome::Other,
+    }
+}
+
+fn outcome_of(
+    alloc: Global,
+    signature: &mut AuthenticodeSignature,
+    octets: &[u8],
+    token: &[u8],
+) -> Outcome {
+    let before = counts(alloc, signature);
+    let answer = stamped(alloc, signature, token);
+    let as_told = match answer {
+        Outcome::Stamped => before == (1, 0) && counts(alloc, signature) == (2, 1),
+        _ => is_spelled(alloc, signature, octets),
+    };
+    if as_told { answer } else { Outcome::Other }
+}
+
+/// How many certificates a signature has, and how many counter-signatures; 9 for what it hasn't.
+fn counts(alloc: Global, signature: &AuthenticodeSignature) -> (usize, usize) {
+    (certificate_count(alloc, signature), stamp_count(signature))
+}
+
+fn certificate_count(alloc: Global, signature: &AuthenticodeSignature) -> usize {
+    match signature.0.decode_certificates(alloc) {
+        Ok(certificates) => {
+            let count = certificates.len();
+            drop(certificates);
+            count
+        }
+        Err(_) => 9,
+    }
+}
+
+fn stamp_count(signature: &AuthenticodeSignature) -> usize {
+    match signature.unauthenticated_attributes() {
+        None => 0,
+        Some([UnsignedAttribute::CounterSign(values)]) => values.as_slice().len(),
+        Some(_) => 9,
+    }
+}
+
+/// What is answered where the signature is stamped by a copy of a timestamper with the token.
+fn stamped(alloc: Global, signature: &mut AuthenticodeSignature, token: &[u8]) -> Outcome {
+    match timestamper(alloc, token) {
+        Some(timestamper) => {
+            let answer = stamped_by_copy(alloc, signature, &timestamper);
+            drop(timestamper);
+            answer
+        }
+        None => Outcome::Other,
+    }
+}
+
+fn stamped_by_copy(
+    alloc: Global,
+    signature: &mut AuthenticodeSignature,
+    timestamper: &TokenTimestamper,
+) -> Outcome {
+    match timestamper.try_clone(alloc) {
+        Ok(mut copy) => {
+            let answer = stamped_by(alloc, signature, &mut copy);
+            drop(copy);
+            answer
+        }
+        Err(_) => Outcome::Other,
+    }
+}
+
+fn stamped_by(
+    alloc: Global,
+    signature: &mut AuthenticodeSignature,
+    timestamper: &mut TokenTimestamper,
+) -> Outcome {
+    match signature.timestamp(alloc, timestamper, HashAlgorithm::SHA2_256) {
+        Ok(()) => Outcome::Stamped,
+        Err(error) => {
+            let refused = refusal(&error);
+            drop(error);
+            refused
+        }
+    }
+}
+
+fn refusal(error: &AuthenticodeError) -> Outcome {
+    match error {
+        AuthenticodeError::TimestampError(TimestampError::TimestampTokenEmpty) => {
+            Outcome::EmptyToken
+        }
+        AuthenticodeError::MultipleSignerInfo { count: 0 } => Outcome::NoSigner,
+        _ => Outcome::Other,
+    }
+}
+
+/// A signature, a token, and what comes of stamping the one by the other.
+const STAMPS: [(&str, &str, Outcome); 3] = [
+    (SIGNATURE, SIGNATURE, Outcome::Stamped),
+    (SIGNATURE, EMPTY, Outcome::EmptyToken),
+    (EMPTY, SIGNATURE, Outcome::NoSigner),
+];
+
+#[test]
+fn signatures_are_stamped(rt: HostRuntime) -> Result<(), Fail> {
+    for (signature, token, wanted) in &STAMPS {
+        let signature = hex::decode(rt.alloc(), signature)?;
+        let token = hex::decode(rt.alloc(), token)?;
+        assert_eq!(rt; outcome_by(rt.alloc(), &signature, &token), *wanted);
+    }
+    Ok(())
+}

@@ -1,0 +1,35 @@
+//! Texts of errors.
+
+use authenticode_values::{Pkcs7, Pkcs7Error};
+use std::alloc::Global;
+use std::test::Fail;
+
+/// Whether octets are refused with a text that begins so.
+fn is_refused_so(alloc: Global, octets: &[u8], text: &str) -> bool {
+    match Pkcs7::from_der(alloc, octets) {
+        Ok(signed) => {
+            drop(signed);
+            false
+        }
+        Err(error) => {
+            let told = begins_so(alloc, &error, text);
+            drop(error);
+            told
+        }
+    }
+}
+
+fn begins_so(alloc: Global, error: &Pkcs7Error, text: &str) -> bool {
+    match format!(in alloc; "{error}") {
+        Ok(told) => told.as_str().starts_with(text),
+        Err(_) => false,
+    }
+}
+
+#[test]
+fn texts(rt: HostRuntime) -> Result<(), Fail> {
+    let unread = "(ASN1) couldn't deserialize pkcs7 certificate: ";
+    assert!(rt; is_refused_so(rt.alloc(), &[0x30], unread));
+    assert!(rt; begins_so(rt.alloc(), &Pkcs7Error::Memory, "out of memory"));
+    Ok(())
+}
