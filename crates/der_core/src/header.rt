@@ -1,6 +1,6 @@
 //! Identifier and length, before any contents are copied.
 
-ghost use Rattle.std.specs.Prelude.{◌≡◌, ◌≤◌, ◌↔◌, length, IsTrue, IfSome, MatchResult};
+ghost use Rattle.std.specs.Prelude.{◌≡◌, ◌<◌, ◌≤◌, ◌↔◌, ℕ, ◌∷◌, length, Ok, Err, IsTrue, IfSome, MatchOption, MatchResult};
 ghost use Rattle.der_core.specs.Encoding.{form_bit};
 ghost use Rattle.der_core.specs.Head.{past_bound, number_from, long_length_at, length_at, contents_at, head_at, HasHead};
 
@@ -39,25 +39,64 @@ pub fn head_of(octets: &[u8], at: usize, levels: u8) -> Result<Head<'_>, Malform
         × HasHead levels octets.now head.tag head.contents.now head.rest.now)
         (λ m. (m.at ≡ at) × (head_at levels octets.now ≡ Err m.fault)) }
 {
-    if let Some(head) = short_head(octets, levels) {
-        return Ok(head);
-    }
     match tested_head(octets, levels) {
         Ok(head) => Ok(head),
         Err(fault) => Err(Malformed { at, fault }),
     }
 }
 
-/// The head, where no test of it fails and its length is one octet, as that of most elements is.
-#[tactic(auto, unfolding(crate::specs::Head::head_at, crate::specs::Head::contents_at, crate::specs::Head::length_at))]
-fn short_head(octets: &[u8], levels: u8) -> Option<Head<'_>>
-    ensures { IfSome result (λ head. head_at levels octets.now ≡ Ok (head.tag, head.contents.now, head.rest.now)) }
+/// The head that octets begin with, `None` exactly where a test of it fails. Which one is what
+/// `head_of` says. The octets end where the element has to end at the latest.
+pub fn sound_head(octets: &[u8], levels: u8) -> Option<Head<'_>>
+    ensures { MatchOption result
+        ((fault : DerFault) × (head_at levels octets.now ≡ Err fault))
+        (λ head. (head_at levels octets.now ≡ Ok (head.tag, head.contents.now, head.rest.now))
+        × HasHead levels octets.now head.tag head.contents.now head.rest.now) }
 {
-    let [tag, length @ 0..=0x7F, after @ ..] = octets else {
+    match quick_head(octets, levels) {
+        Some(head) => Some(head),
+        None => other_head(octets, levels),
+    }
+}
+
+/// The head, where no test of it fails, though `quick_head` finds none.
+#[cold]
+#[inline(never)]
+fn other_head(octets: &[u8], levels: u8) -> Option<Head<'_>>
+    ensures { MatchOption result
+        ((fault : DerFault) × (head_at levels octets.now ≡ Err fault))
+        (λ head. (head_at levels octets.now ≡ Ok (head.tag, head.contents.now, head.rest.now))
+        × HasHead levels octets.now head.tag head.contents.now head.rest.now) }
+{
+    match tested_head(octets, levels) {
+        Ok(head) => Some(head),
+        Err(_) => None,
+    }
+}
+
+/// The head that octets begin with, where no test of it fails: as `sound_head`, without the part that
+/// only a fault needs.
+#[inline(always)]
+pub fn quick_head(octets: &[u8], levels: u8) -> Option<Head<'_>>
+    ensures { IfSome result (λ head. (head_at levels octets.now ≡ Ok (head.tag, head.contents.now, head.rest.now))
+        × HasHead levels octets.now head.tag head.contents.now head.rest.now) }
+{
+    let head = head_in(octets)?;
+    if levels == 0 {
         return None;
-    };
-    let length = usize::from(*length);
-    if *tag == 0 || *tag & 0x1F == 0x1F || levels == 0 || after.len() < length {
+    }
+    Some(head)
+}
+
+/// The head, where a level is left for its element and no other test of it fails.
+#[tactic(auto, unfolding(crate::specs::Head::head_at, crate::specs::Head::contents_at))]
+#[inline(always)]
+fn head_in(octets: &[u8]) -> Option<Head<'_>>
+    ensures { IfSome result (λ head. (levels : ℕ) → 0 < levels → head_at levels octets.now ≡ Ok (head.tag, head.contents.now, head.rest.now)) }
+{
+    let (tag, after) = octets.split_first()?;
+    let (length, after) = quick_length(after)?;
+    if *tag == 0 || *tag & 0x1F == 0x1F || after.len() < length {
         return None;
     }
     let (contents, rest) = after.split_at(length);
@@ -66,6 +105,43 @@ fn short_head(octets: &[u8], levels: u8) -> Option<Head<'_>>
         contents,
         rest,
     })
+}
+
+/// The length that octets begin with, and the octets after it, where no test of it fails (X.690 8.1.3).
+#[tactic(auto, unfolding(crate::specs::Head::length_at))]
+#[inline(always)]
+fn quick_length(octets: &[u8]) -> Option<(usize, &[u8])>
+    ensures { IfSome result (λ n. (past : DerFault) → length_at past octets.now ≡ Ok (n.0, n.1.now)) }
+{
+    let (first, rest) = octets.split_first()?;
+    if *first < 0x80 {
+        return Some((usize::from(*first), rest));
+    }
+    quick_long_length(*first, rest)
+}
+
+/// A length in several octets after the first, where no test of it fails (X.690 8.1.3.5, 10.1).
+#[tactic(auto, unfolding(crate::specs::Head::length_at, crate::specs::Head::long_length_at))]
+#[inline(always)]
+fn quick_long_length(first: u8, octets: &[u8]) -> Option<(usize, &[u8])>
+    ensures { IfSome result (λ n. (past : DerFault) → length_at past (first ∷ octets.now) ≡ Ok (n.0, n.1.now)) }
+{
+    match (first, octets) {
+        (0x81, [low @ 0x80..=0xFF, rest @ ..]) => Some((usize::from(*low), rest)),
+        (0x82, [high @ 1..=0xFF, low, rest @ ..]) => {
+            Some((usize::from(*high) * 0x100 + usize::from(*low), rest))
+        }
+        (0x83, [high @ 1..=0xFF, middle, low, rest @ ..]) => {
+            let high = usize::from(*high) * 0x100 + usize::from(*middle);
+            Some((high * 0x100 + usize::from(*low), rest))
+        }
+        (0x84, [high @ 1..=0xFF, second, third, low, rest @ ..]) => {
+            let high = usize::from(*high) * 0x100 + usize::from(*second);
+            let high = high * 0x100 + usize::from(*third);
+            Some((high * 0x100 + usize::from(*low), rest))
+        }
+        _ => None,
+    }
 }
 
 #[tactic(auto, unfolding(crate::specs::Head::head_at))]

@@ -11,7 +11,7 @@ ghost use Rattle.der_core.specs.Placed.{HasElems};
 ghost use Rattle.der_core.specs.Facts.Placed.{HasElems-prop};
 
 use crate::elem::Elem;
-use crate::header::{head_of, is_constructed};
+use crate::header::{is_constructed, sound_head};
 use crate::leaves::boolean_at;
 use crate::structure::Structure;
 use crate::tag::BOOLEAN;
@@ -52,9 +52,10 @@ impl<'a> Kids<'a> {
             ((self.old.are.0 ≡ []) × (self.new.are.0 ≡ []))
             (λ elem. self.old.are.0 ≡ elem.is.0 ∷ self.new.are.0) }
     {
-        let Ok(head) = head_of(self.rest, 0, MAX_NESTING) else {
+        if self.is_empty() {
             return None;
-        };
+        }
+        let head = sound_head(self.rest, MAX_NESTING)?;
         let (whole, _) = self.rest.split_at(self.rest.len() - head.rest.len());
         self.rest = head.rest;
         Some(Elem {

@@ -1,6 +1,6 @@
 //! Octets tested for elements where they lie, without memory.
 
-ghost use Rattle.std.specs.Prelude.{◌≡◌, ◌+◌, ◌^◌, ◌<◌, ◌++◌, length, MatchOption, MatchResult};
+ghost use Rattle.std.specs.Prelude.{◌≡◌, ◌+◌, ◌^◌, ◌<◌, ◌++◌, length, IfSome, IsTrue, MatchOption, MatchResult};
 ghost use Rattle.der_core.specs.DerElement.{DerElement};
 ghost use Rattle.der_core.specs.Encoding.{encoding, IsDer, IsDerWithin};
 ghost use Rattle.der_core.specs.Fault.{IsFirstFault};
@@ -10,7 +10,7 @@ ghost use Rattle.der_core.specs.Reading.{HasElements, IsFirst, IsExactFault, IsF
 
 use crate::elem::Elem;
 use crate::fault::{DerFault, Malformed};
-use crate::header::head_of;
+use crate::header::{head_of, quick_head, sound_head};
 use crate::kids::Kids;
 use crate::tree::MAX_NESTING;
 
@@ -30,7 +30,7 @@ pub(crate) fn first_from(bytes: &[u8], at: usize) -> Result<Elem<'_>, Malformed>
         (λ elem. IsFirst bytes.now elem.is.0 (length elem.whole.now))
         (IsFaultFrom at (IsFirstFault bytes.now)) }
 {
-    let rest = after_element(bytes, at, MAX_NESTING)?;
+    let rest = after_first(bytes, at)?;
     let (whole, _) = bytes.split_at(bytes.len() - rest.len());
     let mut one = Kids { rest: whole };
     match one.next() {
@@ -66,6 +66,60 @@ pub fn whole_element(octets: &[u8]) -> Option<Elem<'_>>
         Ok(elem) => Some(elem),
         Err(_) => None,
     }
+}
+
+/// The octets after the element that octets at a place begin with, or their first fault.
+fn after_first(bytes: &[u8], at: usize) -> Result<&[u8], Malformed>
+    requires { at + length bytes.now < 2 ^ 64 }
+    ensures { MatchResult result
+        (λ rest. (t : DerElement) × IsDer t × (bytes.now ≡ encoding t ++ rest.now))
+        (IsFaultFrom at (ElementFault 64 bytes.now)) }
+{
+    match after_sound(bytes) {
+        Some(rest) => Ok(rest),
+        None => after_element(bytes, at, MAX_NESTING),
+    }
+}
+
+/// The octets after the element that octets begin with, where they begin with one. No place is kept
+/// for a fault, which makes it twice as fast.
+fn after_sound(bytes: &[u8]) -> Option<&[u8]>
+    ensures { IfSome result (λ rest. (t : DerElement) × IsDer t × (bytes.now ≡ encoding t ++ rest.now)) }
+{
+    let head = sound_head(bytes, MAX_NESTING)?;
+    if !head.is_constructed() {
+        return Some(head.rest);
+    }
+    if are_elements(head.contents, MAX_NESTING - 1) {
+        Some(head.rest)
+    } else {
+        None
+    }
+}
+
+/// Whether octets are elements, each of at most `levels` levels.
+fn are_elements(octets: &[u8], levels: u8) -> bool
+    ensures { IsTrue result → HasElements levels octets.now }
+{
+    let mut rest = octets;
+    let mut left = levels;
+    while !rest.is_empty() {
+        let Some(head) = quick_head(rest, left) else {
+            return false;
+        };
+        if !head.is_constructed() {
+            rest = head.rest;
+        } else if head.rest.is_empty() {
+            // The last of them: what it holds is all that is left.
+            rest = head.contents;
+            left -= 1;
+        } else if are_elements(head.contents, left - 1) {
+            rest = head.rest;
+        } else {
+            return false;
+        }
+    }
+    true
 }
 
 /// The octets after the element that octets at a place begin with, of at most `levels` levels.

@@ -2,11 +2,6 @@ use Rattle.std.proofs.Common.{arith}
 use Rattle.der_core.proofs.Heads.{head_taken}
 use Rattle.der_core.proofs.header.head_of.Goals as goal
 
-pub returns-in-Some : goal.returns-in-Some
-returns-in-Some c =
-    let head = c.in-Some.head in
-    (c.in-Some.ensures, head_taken c.args.levels c.args.octets.now head.tag head.contents.now head.rest.now (λ i. omega (arith, c.type_inv.octets i)) c.in-Some.ensures)
-
 pub returns-in-Ok : goal.returns-in-Ok
 returns-in-Ok c =
     let head = c.in-Ok.head in
