@@ -1,7 +1,7 @@
 //! How long signed data takes to be read, for `bench/signed_data.py`.
 
 use anyhow::Result;
-use cms_types::{Pkcs7Certificate, SignedView, SignerView};
+use cms_types::{Pkcs7Certificate, SignedView};
 use der_core::{Cursor, Structure};
 use std::alloc::Global;
 use std::io::Write;
@@ -73,12 +73,9 @@ fn kept(alloc: Global, octets: &[u8]) -> Option<usize> {
     Some(value.signed_data.signers_infos.len())
 }
 
-/// How many octets the fields of the first signer have.
+/// How many octets the signers take.
 fn lent(octets: &[u8]) -> Option<usize> {
     let mut cursor = Cursor::new(octets);
     let view = SignedView::read(cursor.next().ok()??)?;
-    let mut signers = view.signers();
-    let signer = SignerView::read(signers.next().ok()??)?;
-    let signed = signer.signed_attributes()?.whole.len();
-    Some(signed.wrapping_add(signer.signature().len()))
+    Some(view.signers_infos().whole.len())
 }

@@ -16,7 +16,7 @@ use Rattle.cms_types.specs.Levels.{IsSignerOf, IsSignedDataOf, IsUnsignedOf}
 use Rattle.cms_types.specs.Signers.{IsSignerInfo, Bare, WithUnsigned, IsUnsignedAttribute, Counter, MsCounter, Any, IsSignedData, Signed, IsPkcs7, Pkcs7, AreSignerInfos, NoSigners, MoreSigners, AreUnsignedAttributes, NoUnsigned, MoreUnsigned, ArePkcs7s, NoPkcs7s, MorePkcs7s}
 use Rattle.cms_types.specs.Facts.SignerElements.{told_fields, told_data, same_signer, same_data}
 
-same_row : (tag : ℕ) (a b : List DerElement) → Constructed tag (row a) ≡ Constructed tag (row b) → a ≡ b
+pub same_row : (tag : ℕ) (a b : List DerElement) → Constructed tag (row a) ≡ Constructed tag (row b) → a ≡ b
 same_row tag a b e = same_kids (Constructed tag (row a)) tag tag a b refl e
 
 -- ---- several

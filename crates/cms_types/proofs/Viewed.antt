@@ -5,13 +5,15 @@ use Rattle.std.proofs.Props.{props}
 use Rattle.der_core.specs.DerElement.{DerElement, tag_of}
 use Rattle.der_core.specs.Elements.{octet_string}
 use Rattle.der_core.specs.Encoding.{form_bit, IsDer}
+use Rattle.der_core.specs.Structure.{Fits}
 use Rattle.content_types.specs.ContentInfo.{content_info}
 use Rattle.content_types.specs.declared.content_info.EncapsulatedContentInfo.{EncapsulatedContentInfo}
 use Rattle.cms_types.specs.CmsVersion.{cms_version}
 use Rattle.cms_types.specs.SignerElements.{SignerElements, signer_of}
 use Rattle.cms_types.specs.SignedDataElements.{SignedDataElements, signed_data_of}
 use Rattle.cms_types.specs.Levels.{OfOption, IsConstructed, AreSignerFields, IsSignerOf, AreSignedDataFields, IsSignedDataOf}
-use Rattle.cms_types.specs.Signers.{IsSignerInfo, IsSignedData}
+use Rattle.cms_types.specs.Signers.{IsSignerInfo, IsSignedData, Signed}
+use Rattle.cms_types.specs.SignerSet.{IsSetOfSigners}
 use Rattle.cms_types.specs.declared.version.CmsVersion.{CmsVersion}
 use Rattle.cms_types.specs.Pkcs7Elements.{pkcs7_of}
 use Rattle.cms_types.specs.Pkcs7.{pkcs7}
@@ -19,6 +21,7 @@ use Rattle.cms_types.specs.SignedData.{signed_data_elements, signed_data}
 use Rattle.cms_types.specs.SignerInfo.{signer_elements, signer_info}
 use Rattle.cms_types.specs.declared.pkcs7.Pkcs7Certificate.{Pkcs7Certificate}
 use Rattle.cms_types.specs.declared.signer_info.SignerInfo.{SignerInfo}
+use Rattle.cms_types.proofs.Signers.{data_signers}
 use Rattle.cms_types.proofs.SignerLaws.{level_of_data, data_of_value, value_of_data, level_of_signer, signer_of_value, no_value}
 
 -- ---- signed data
@@ -72,8 +75,15 @@ inside_of e inner p is spelled = pkcs7_once inner (signed_data p.signed_data) (s
 pub no_data_fields : (e inner : DerElement) (p : Pkcs7Certificate) → e ≡ pkcs7_of inner → e ≡ pkcs7 p → ((f : SignedDataElements) → IsSignedDataOf inner f → ⊥) → ⊥
 no_data_fields e inner p is spelled none = none (signed_data_elements p.signed_data) (level_of_data inner p.signed_data (inside_of e inner p is spelled))
 
-pub not_data : (e inner : DerElement) (p : Pkcs7Certificate) → e ≡ pkcs7_of inner → e ≡ pkcs7 p → (IsSignedData inner → ⊥) → ⊥
-not_data e inner p is spelled none = no_value (data_of_value inner p.signed_data (inside_of e inner p is spelled)) none
+pub not_signers : (e inner : DerElement) (f : SignedDataElements) (p : Pkcs7Certificate) → e ≡ pkcs7_of inner → e ≡ pkcs7 p → IsSignedDataOf inner f
+    → ((signers : List DerElement) → IsSetOfSigners f.signers_infos signers → ⊥) → ⊥
+not_signers e inner f p is spelled of none =
+    let set_of = of.fields.signers_infos in
+    no_value (data_of_value inner p.signed_data (inside_of e inner p is spelled)) (λ held. none set_of.0 (set_of.1, data_signers inner f set_of.0 held of set_of.1))
+
+-- the level and its signers make signed data
+pub data_held : (inner : DerElement) (f : SignedDataElements) → IsSignedDataOf inner f → Fits IsSetOfSigners f.signers_infos → IsSignedData inner
+data_held inner f of held = Signed of held.1.0 held.1.1
 
 pub viewed_value : (inner : DerElement) (f : SignedDataElements) → IsSignedDataOf inner f → IsSignedData inner → AreSignedDataFields f × IsSignedData (signed_data_of f)
 viewed_value inner f of held = (of.fields, subst IsSignedData of.is held)

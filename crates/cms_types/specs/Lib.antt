@@ -15,6 +15,7 @@ pub mod Pkcs7Elements
 pub mod UnsignedKind
 pub mod Levels
 pub mod Signers
+pub mod SignerSet
 pub mod Lent
 pub mod Members
 pub mod UnsignedElement

@@ -1,6 +1,9 @@
 //! Whether elements are signers, unsigned attributes or signed data, which hold one another.
 
-ghost use Rattle.std.specs.Prelude.{◌≡◌, false, IsTrue};
+ghost use Rattle.std.specs.Prelude.{◌≡◌, false, IsTrue, List};
+ghost use Rattle.der_core.specs.DerElement.{DerElement};
+ghost use Rattle.der_core.specs.Structure.{Fits};
+ghost use Rattle.cms_types.specs.SignerSet.{IsSetOfSigners};
 ghost use Rattle.cms_types.specs.Signers.{IsSignerInfo, IsUnsignedAttribute, IsSignedData, IsPkcs7, AreSignerInfos, AreUnsignedAttributes, ArePkcs7s};
 
 use crate::levels::{UnsignedFields, signed_data_in};
@@ -111,4 +114,15 @@ pub(crate) fn are_pkcs7s(mut kids: Kids<'_>) -> bool
         }
     }
     true
+}
+
+/// Whether the element is a set of signers.
+pub(crate) fn has_signers(elem: Elem<'_>) -> bool
+    ensures fits { IsTrue result → Fits IsSetOfSigners elem.entry.is.0 }
+    ensures unfit { (signers : List DerElement) → result ≡ false → IsSetOfSigners elem.entry.is.0 signers → ⊥ }
+{
+    match Kids::of(elem, SET) {
+        Some(kids) => are_signer_infos(kids),
+        None => false,
+    }
 }

@@ -10,7 +10,7 @@ ghost use Rattle.der_core.specs.DerElement.{tag_of};
 ghost use Rattle.der_core.specs.Encoding.{form_bit};
 
 use crate::levels::signed_data_in;
-use crate::shapes::is_signed_data;
+use crate::shapes::has_signers;
 use crate::signed_data_fields::SignedDataFields;
 use crate::version::CmsVersion;
 use content_types::ContentView;
@@ -41,7 +41,7 @@ impl<'a> SignedView<'a> {
     {
         let signed_data = signed_data_in(elem)?;
         let fields = SignedDataFields::of(signed_data)?;
-        if !is_signed_data(signed_data) {
+        if !has_signers(fields.signers_infos) {
             return None;
         }
         Some(SignedView { fields })
