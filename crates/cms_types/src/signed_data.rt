@@ -53,10 +53,11 @@ impl SignedDataFields<'_> {
         Ok(SignedData {
             version: CmsVersion::read_at(alloc, self.version)?,
             digest_algorithms: read_list(alloc, self.digest_algorithms, SET)?,
-            content_info: EncapsulatedContentInfo::read_at(alloc, self.content_info)?,
             certificates: read_list_option(alloc, self.certificates, CERTIFICATES)?,
             crls: read_list_option(alloc, self.crls, REVOCATION_LISTS)?,
             signers_infos: read_list(alloc, self.signers_infos, SET)?,
+            // Last, since of all fields it takes most to let go where another fails.
+            content_info: EncapsulatedContentInfo::read_at(alloc, self.content_info)?,
         })
     }
 }
@@ -151,10 +152,10 @@ impl Structure for SignedData {
         Ok(SignedData {
             version: self.version,
             digest_algorithms: copy_each(alloc, &self.digest_algorithms)?,
-            content_info: self.content_info.try_clone(alloc)?,
             certificates: copy_list(alloc, &self.certificates)?,
             crls: copy_list(alloc, &self.crls)?,
             signers_infos: copy_each(alloc, &self.signers_infos)?,
+            content_info: self.content_info.try_clone(alloc)?,
         })
     }
 

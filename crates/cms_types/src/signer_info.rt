@@ -40,12 +40,13 @@ impl SignerFields<'_> {
     {
         Ok(SignerInfo {
             version: CmsVersion::read_at(alloc, self.version)?,
-            sid: SignerIdentifier::read_at(alloc, self.sid)?,
-            digest_algorithm: AlgorithmIdentifier::read_at(alloc, self.digest_algorithm)?,
-            signed_attrs: read_option(alloc, self.signed_attrs)?,
-            signature_algorithm: AlgorithmIdentifier::read_at(alloc, self.signature_algorithm)?,
             signature: Octets::read_at(alloc, self.signature)?,
+            signed_attrs: read_option(alloc, self.signed_attrs)?,
             unsigned_attrs: read_list_option(alloc, self.unsigned_attrs, UNSIGNED_ATTRIBUTES)?,
+            digest_algorithm: AlgorithmIdentifier::read_at(alloc, self.digest_algorithm)?,
+            signature_algorithm: AlgorithmIdentifier::read_at(alloc, self.signature_algorithm)?,
+            // Last, since of all fields it takes most to let go where another fails.
+            sid: SignerIdentifier::read_at(alloc, self.sid)?,
         })
     }
 }
@@ -129,12 +130,12 @@ impl Structure for SignerInfo {
     fn try_clone(&self, alloc: Global) -> Result<SignerInfo, AllocError> {
         Ok(SignerInfo {
             version: self.version,
-            sid: self.sid.try_clone(alloc)?,
-            digest_algorithm: self.digest_algorithm.try_clone(alloc)?,
-            signed_attrs: copy_option(alloc, &self.signed_attrs)?,
-            signature_algorithm: self.signature_algorithm.try_clone(alloc)?,
             signature: self.signature.try_clone(alloc)?,
+            signed_attrs: copy_option(alloc, &self.signed_attrs)?,
             unsigned_attrs: copy_list(alloc, &self.unsigned_attrs)?,
+            digest_algorithm: self.digest_algorithm.try_clone(alloc)?,
+            signature_algorithm: self.signature_algorithm.try_clone(alloc)?,
+            sid: self.sid.try_clone(alloc)?,
         })
     }
 
