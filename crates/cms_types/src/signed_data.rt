@@ -3,7 +3,7 @@
 ghost use Rattle.std.specs.Prelude.{◌≡◌, ◌↔◌, IsTrue};
 
 use crate::certificate_choices::CertificateChoices;
-use crate::list_fields::{copy_list, push_list, read_list_option};
+use crate::list_fields::{copy_list, push_list, push_value, read_list_option};
 use crate::raw_unsigned::RawList;
 use crate::shapes::is_signed_data;
 use crate::signed_data_fields::{CERTIFICATES, REVOCATION_LISTS, SignedDataFields};
@@ -139,9 +139,9 @@ impl Structure for SignedData {
 
     fn write(&self, alloc: Global) -> Result<Tree, DerError> {
         let mut kids = NewKids::new(alloc);
-        kids.push(self.version.write(alloc)?)?;
+        push_value(alloc, &mut kids, &self.version)?;
         kids.push(write_list(alloc, &self.digest_algorithms, SET)?)?;
-        kids.push(self.content_info.write(alloc)?)?;
+        push_value(alloc, &mut kids, &self.content_info)?;
         push_list(alloc, &mut kids, CERTIFICATES, &self.certificates)?;
         push_list(alloc, &mut kids, REVOCATION_LISTS, &self.crls)?;
         kids.push(write_list(alloc, &self.signers_infos, SET)?)?;

@@ -2,7 +2,7 @@
 
 ghost use Rattle.std.specs.Prelude.{◌≡◌, ◌↔◌, IsTrue};
 
-use crate::list_fields::{copy_list, push_list, read_list_option};
+use crate::list_fields::{copy_list, push_list, push_value, read_list_option};
 use crate::shapes::is_signer_info;
 use crate::signed_attributes::SignedAttributes;
 use crate::signer_fields::{SignerFields, UNSIGNED_ATTRIBUTES};
@@ -115,14 +115,14 @@ impl Structure for SignerInfo {
 
     fn write(&self, alloc: Global) -> Result<Tree, DerError> {
         let mut kids = NewKids::new(alloc);
-        kids.push(self.version.write(alloc)?)?;
-        kids.push(self.sid.write(alloc)?)?;
-        kids.push(self.digest_algorithm.write(alloc)?)?;
+        push_value(alloc, &mut kids, &self.version)?;
+        push_value(alloc, &mut kids, &self.sid)?;
+        push_value(alloc, &mut kids, &self.digest_algorithm)?;
         if let Some(attributes) = &self.signed_attrs {
-            kids.push(attributes.write(alloc)?)?;
+            push_value(alloc, &mut kids, attributes)?;
         }
-        kids.push(self.signature_algorithm.write(alloc)?)?;
-        kids.push(self.signature.write(alloc)?)?;
+        push_value(alloc, &mut kids, &self.signature_algorithm)?;
+        push_value(alloc, &mut kids, &self.signature)?;
         push_list(alloc, &mut kids, UNSIGNED_ATTRIBUTES, &self.unsigned_attrs)?;
         Ok(kids.into_branch(SEQUENCE))
     }
