@@ -1,6 +1,6 @@
-//! Fields that hold several values, and may be left out.
+//! Fields that hold a value, or several, and may be left out.
 
-ghost use Rattle.std.specs.Prelude.{◌≡◌, ◌++◌, IfOk, MatchResult, flat_map, option_to_list};
+ghost use Rattle.std.specs.Prelude.{◌≡◌, ◌++◌, ◌∷◌, [], IfOk, MatchResult, flat_map, option_to_list};
 ghost use Rattle.std.specs.Option.{option_map};
 ghost use Rattle.der_core.specs.Each.{IsListOf, list_element};
 ghost use Rattle.der_core.specs.Encoding.{IsTag, form_bit};
@@ -27,6 +27,19 @@ pub(crate) fn read_list_option<T: Structure>(
         Some(elem) => Ok(Some(read_list(alloc, elem, tag)?)),
         None => Ok(None),
     }
+}
+
+/// Appends the element of the value.
+pub(crate) fn push_value<T: Structure>(
+    alloc: Global,
+    kids: &mut NewKids,
+    value: &T,
+) -> Result<(), DerError>
+    ensures { MatchResult result
+        (λ _. (kids.new.kids ≡ kids.old.kids ++ T.written value.now ∷ []) × AreDer (T.inner value.now))
+        (RefusesInner (T.inner value.now)) }
+{
+    Ok(kids.push(value.write(alloc)?)?)
 }
 
 /// Appends the element of the values, where they aren't left out.

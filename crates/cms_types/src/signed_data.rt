@@ -3,7 +3,7 @@
 ghost use Rattle.std.specs.Prelude.{◌≡◌, ◌↔◌, IsTrue};
 
 use crate::certificate_choices::CertificateChoices;
-use crate::list_fields::{copy_list, push_list, read_list_option};
+use crate::list_fields::{copy_list, push_list, push_value, read_list_option};
 use crate::raw_unsigned::RawList;
 use crate::shapes::is_signed_data;
 use crate::signed_data_fields::{CERTIFICATES, REVOCATION_LISTS, SignedDataFields};
@@ -53,10 +53,11 @@ impl SignedDataFields<'_> {
         Ok(SignedData {
             version: CmsVersion::read_at(alloc, self.version)?,
             digest_algorithms: read_list(alloc, self.digest_algorithms, SET)?,
-            content_info: EncapsulatedContentInfo::read_at(alloc, self.content_info)?,
             certificates: read_list_option(alloc, self.certificates, CERTIFICATES)?,
             crls: read_list_option(alloc, self.crls, REVOCATION_LISTS)?,
             signers_infos: read_list(alloc, self.signers_infos, SET)?,
+            // Last, since of all fields it takes most to let go where another fails.
+            content_info: EncapsulatedContentInfo::read_at(alloc, self.content_info)?,
         })
     }
 }
@@ -138,9 +139,9 @@ impl Structure for SignedData {
 
     fn write(&self, alloc: Global) -> Result<Tree, DerError> {
         let mut kids = NewKids::new(alloc);
-        kids.push(self.version.write(alloc)?)?;
+        push_value(alloc, &mut kids, &self.version)?;
         kids.push(write_list(alloc, &self.digest_algorithms, SET)?)?;
-        kids.push(self.content_info.write(alloc)?)?;
+        push_value(alloc, &mut kids, &self.content_info)?;
         push_list(alloc, &mut kids, CERTIFICATES, &self.certificates)?;
         push_list(alloc, &mut kids, REVOCATION_LISTS, &self.crls)?;
         kids.push(write_list(alloc, &self.signers_infos, SET)?)?;
@@ -151,10 +152,10 @@ impl Structure for SignedData {
         Ok(SignedData {
             version: self.version,
             digest_algorithms: copy_each(alloc, &self.digest_algorithms)?,
-            content_info: self.content_info.try_clone(alloc)?,
             certificates: copy_list(alloc, &self.certificates)?,
             crls: copy_list(alloc, &self.crls)?,
             signers_infos: copy_each(alloc, &self.signers_infos)?,
+            content_info: self.content_info.try_clone(alloc)?,
         })
     }
 

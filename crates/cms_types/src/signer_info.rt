@@ -2,7 +2,7 @@
 
 ghost use Rattle.std.specs.Prelude.{◌≡◌, ◌↔◌, IsTrue};
 
-use crate::list_fields::{copy_list, push_list, read_list_option};
+use crate::list_fields::{copy_list, push_list, push_value, read_list_option};
 use crate::shapes::is_signer_info;
 use crate::signed_attributes::SignedAttributes;
 use crate::signer_fields::{SignerFields, UNSIGNED_ATTRIBUTES};
@@ -40,12 +40,13 @@ impl SignerFields<'_> {
     {
         Ok(SignerInfo {
             version: CmsVersion::read_at(alloc, self.version)?,
-            sid: SignerIdentifier::read_at(alloc, self.sid)?,
-            digest_algorithm: AlgorithmIdentifier::read_at(alloc, self.digest_algorithm)?,
-            signed_attrs: read_option(alloc, self.signed_attrs)?,
-            signature_algorithm: AlgorithmIdentifier::read_at(alloc, self.signature_algorithm)?,
             signature: Octets::read_at(alloc, self.signature)?,
+            signed_attrs: read_option(alloc, self.signed_attrs)?,
             unsigned_attrs: read_list_option(alloc, self.unsigned_attrs, UNSIGNED_ATTRIBUTES)?,
+            digest_algorithm: AlgorithmIdentifier::read_at(alloc, self.digest_algorithm)?,
+            signature_algorithm: AlgorithmIdentifier::read_at(alloc, self.signature_algorithm)?,
+            // Last, since of all fields it takes most to let go where another fails.
+            sid: SignerIdentifier::read_at(alloc, self.sid)?,
         })
     }
 }
@@ -114,14 +115,14 @@ impl Structure for SignerInfo {
 
     fn write(&self, alloc: Global) -> Result<Tree, DerError> {
         let mut kids = NewKids::new(alloc);
-        kids.push(self.version.write(alloc)?)?;
-        kids.push(self.sid.write(alloc)?)?;
-        kids.push(self.digest_algorithm.write(alloc)?)?;
+        push_value(alloc, &mut kids, &self.version)?;
+        push_value(alloc, &mut kids, &self.sid)?;
+        push_value(alloc, &mut kids, &self.digest_algorithm)?;
         if let Some(attributes) = &self.signed_attrs {
-            kids.push(attributes.write(alloc)?)?;
+            push_value(alloc, &mut kids, attributes)?;
         }
-        kids.push(self.signature_algorithm.write(alloc)?)?;
-        kids.push(self.signature.write(alloc)?)?;
+        push_value(alloc, &mut kids, &self.signature_algorithm)?;
+        push_value(alloc, &mut kids, &self.signature)?;
         push_list(alloc, &mut kids, UNSIGNED_ATTRIBUTES, &self.unsigned_attrs)?;
         Ok(kids.into_branch(SEQUENCE))
     }
@@ -129,12 +130,12 @@ impl Structure for SignerInfo {
     fn try_clone(&self, alloc: Global) -> Result<SignerInfo, AllocError> {
         Ok(SignerInfo {
             version: self.version,
-            sid: self.sid.try_clone(alloc)?,
-            digest_algorithm: self.digest_algorithm.try_clone(alloc)?,
-            signed_attrs: copy_option(alloc, &self.signed_attrs)?,
-            signature_algorithm: self.signature_algorithm.try_clone(alloc)?,
             signature: self.signature.try_clone(alloc)?,
+            signed_attrs: copy_option(alloc, &self.signed_attrs)?,
             unsigned_attrs: copy_list(alloc, &self.unsigned_attrs)?,
+            digest_algorithm: self.digest_algorithm.try_clone(alloc)?,
+            signature_algorithm: self.signature_algorithm.try_clone(alloc)?,
+            sid: self.sid.try_clone(alloc)?,
         })
     }
 

@@ -1,8 +1,8 @@
 //! Private keys of RSA.
 
-ghost use Rattle.std.specs.Prelude.{◌≡◌, ◌≢◌, ◌↔◌, IsTrue, IfOk, MatchOption, MatchResult};
+ghost use Rattle.std.specs.Prelude.{◌≡◌, ◌≢◌, ◌↔◌, ◌++◌, ◌∷◌, [], IsTrue, IfOk, MatchOption, MatchResult};
 ghost use Rattle.asn1_types.specs.Elements.{integer};
-ghost use Rattle.der_core.specs.Refusals.{RefusesShape};
+ghost use Rattle.der_core.specs.Refusals.{RefusesShape, RefusesInner};
 ghost use Rattle.private_key_types.specs.RsaPrivateKey.{two_prime, rsa_private_key, rsa_private_key_of};
 ghost use Rattle.der_core.specs.Structure.{Fits};
 
@@ -201,6 +201,15 @@ fn of_numbers(
     }
 }
 
+/// Appends the element of a number.
+fn push_number(alloc: Global, kids: &mut NewKids, number: &IntegerAsn1) -> Result<(), DerError>
+    ensures { MatchResult result
+        (λ _. kids.new.kids ≡ kids.old.kids ++ integer number.now ∷ [])
+        (RefusesInner []) }
+{
+    Ok(kids.push(number.write(alloc)?)?)
+}
+
 impl Structure for RsaPrivateKey {
     ghost use Rattle.private_key_types.specs.Facts.RsaPrivateKeys.{rsa_private_keys};
 
@@ -226,14 +235,14 @@ impl Structure for RsaPrivateKey {
     fn write(&self, alloc: Global) -> Result<Tree, DerError> {
         let mut kids = NewKids::new(alloc);
         kids.push(leaf(alloc, INTEGER, &[0])?)?;
-        kids.push(self.n.write(alloc)?)?;
-        kids.push(self.e.write(alloc)?)?;
-        kids.push(self.d.write(alloc)?)?;
-        kids.push(self.p.write(alloc)?)?;
-        kids.push(self.q.write(alloc)?)?;
-        kids.push(self.dp.write(alloc)?)?;
-        kids.push(self.dq.write(alloc)?)?;
-        kids.push(self.qinv.write(alloc)?)?;
+        push_number(alloc, &mut kids, &self.n)?;
+        push_number(alloc, &mut kids, &self.e)?;
+        push_number(alloc, &mut kids, &self.d)?;
+        push_number(alloc, &mut kids, &self.p)?;
+        push_number(alloc, &mut kids, &self.q)?;
+        push_number(alloc, &mut kids, &self.dp)?;
+        push_number(alloc, &mut kids, &self.dq)?;
+        push_number(alloc, &mut kids, &self.qinv)?;
         Ok(kids.into_branch(SEQUENCE))
     }
 

@@ -57,9 +57,10 @@ impl Structure for CertificationRequest {
         let Some((info, algorithm, value)) = three_kids(elem, SEQUENCE) else {
             return Err(DerError::Shape);
         };
-        let certification_request_info = CertificationRequestInfo::read_at(alloc, info)?;
-        let signature_algorithm = AlgorithmIdentifier::read_at(alloc, algorithm)?;
         let signature = BitString::read_at(alloc, value)?;
+        let signature_algorithm = AlgorithmIdentifier::read_at(alloc, algorithm)?;
+        // Last, since of all it takes most to let go where another fails.
+        let certification_request_info = CertificationRequestInfo::read_at(alloc, info)?;
         Ok(CertificationRequest {
             certification_request_info,
             signature_algorithm,
@@ -77,9 +78,9 @@ impl Structure for CertificationRequest {
 
     fn try_clone(&self, alloc: Global) -> Result<CertificationRequest, AllocError> {
         Ok(CertificationRequest {
-            certification_request_info: self.certification_request_info.try_clone(alloc)?,
-            signature_algorithm: self.signature_algorithm.try_clone(alloc)?,
             signature: self.signature.try_clone(alloc)?,
+            signature_algorithm: self.signature_algorithm.try_clone(alloc)?,
+            certification_request_info: self.certification_request_info.try_clone(alloc)?,
         })
     }
 

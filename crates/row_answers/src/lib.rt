@@ -2,8 +2,10 @@
 //! as they were read.
 #![tactic(auto)]
 
+mod line;
 mod values;
 mod words;
 
+pub use line::Line;
 pub use values::{are_equal, comes_back, shown_shape, value_of};
-pub use words::{octets_of, text_of, word_of};
+pub use words::{octets_of, octets_of_words, text_of, word_of};

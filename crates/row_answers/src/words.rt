@@ -11,6 +11,18 @@ pub fn octets_of(alloc: Global, word: &str) -> Result<Vec<u8>> {
     hex::decode(alloc, word).context("reading octets")
 }
 
+/// The octets of each word, none where it isn't one of hexadecimal digits.
+pub fn octets_of_words(alloc: Global, words: &[&str]) -> Result<Vec<Vec<u8>>, AllocError> {
+    let mut all = Vec::new(alloc);
+    for word in words {
+        match hex::decode(alloc, word) {
+            Ok(octets) => all.push(octets)?,
+            Err(_) => all.push(Vec::new(alloc))?,
+        }
+    }
+    Ok(all)
+}
+
 /// The text of octets.
 pub fn text_of(octets: &[u8]) -> Result<&str> {
     str::from_utf8(octets).context("reading a text")

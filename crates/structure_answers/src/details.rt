@@ -4,8 +4,8 @@ use asn1_types::{BitString, Ia5String, IntegerAsn1, ObjectIdentifier};
 use key_core::{PrivateKeyInfo, PrivateKeyValue};
 use names_core::DirectoryName;
 use private_key_types::{ECPrivateKey, RsaPrivateKey};
-use row_answers::word_of;
-use std::alloc::{AllocError, Global};
+use row_answers::Line;
+use std::alloc::Global;
 use x509_types::{
     AlgorithmIdentifier, AttributeTypeAndValue, AttributeValue, DirectoryString,
     RelativeDistinguishedName, RsaPublicKey, SubjectKey, SubjectPublicKeyInfo,
@@ -13,175 +13,166 @@ use x509_types::{
 
 /// A value of which details are printed.
 pub trait Details {
-    fn details(&self, alloc: Global) -> Result<String, AllocError>;
+    fn print(&self, alloc: Global, line: &mut Line);
 }
 
 impl Details for IntegerAsn1 {
-    fn details(&self, alloc: Global) -> Result<String, AllocError> {
-        word_of(alloc, self.as_signed_bytes_be())
+    fn print(&self, _alloc: Global, line: &mut Line) {
+        line.octets(self.as_signed_bytes_be());
     }
 }
 
 impl Details for BitString {
-    fn details(&self, alloc: Global) -> Result<String, AllocError> {
-        let (unused, payload) = (self.unused(), word_of(alloc, self.payload_view())?);
-        format!(in alloc; "{unused} {payload}")
+    fn print(&self, _alloc: Global, line: &mut Line) {
+        line.shown(&self.unused());
+        line.octets(self.payload_view());
     }
 }
 
 impl Details for ObjectIdentifier {
-    fn details(&self, alloc: Global) -> Result<String, AllocError> {
-        self.to_text(alloc)
+    fn print(&self, _alloc: Global, line: &mut Line) {
+        line.shown(self);
     }
 }
 
 impl Details for Ia5String {
-    fn details(&self, alloc: Global) -> Result<String, AllocError> {
-        word_of(alloc, self.as_str().as_bytes())
+    fn print(&self, _alloc: Global, line: &mut Line) {
+        line.octets(self.as_str().as_bytes());
     }
 }
 
 impl Details for AlgorithmIdentifier {
-    fn details(&self, alloc: Global) -> Result<String, AllocError> {
-        let oid = self.oid();
-        let parameters = match self.parameters() {
-            Some(parameters) => word_of(alloc, parameters.as_bytes())?,
-            None => String::from_str(alloc, "none")?,
-        };
-        format!(in alloc; "{oid} {parameters}")
+    fn print(&self, _alloc: Global, line: &mut Line) {
+        line.shown(self.oid());
+        match self.parameters() {
+            Some(parameters) => line.octets(parameters.as_bytes()),
+            None => line.word("none"),
+        }
     }
 }
 
 impl Details for RsaPrivateKey {
-    fn details(&self, alloc: Global) -> Result<String, AllocError> {
+    fn print(&self, _alloc: Global, line: &mut Line) {
         let numbers = [
             &self.n, &self.e, &self.d, &self.p, &self.q, &self.dp, &self.dq, &self.qinv,
         ];
-        let mut line = String::new(alloc);
         for number in numbers {
-            if !line.is_empty() {
-                line.push(' ')?;
-            }
-            line.push_str(&word_of(alloc, number.as_signed_bytes_be())?)?;
+            line.octets(number.as_signed_bytes_be());
         }
-        Ok(line)
     }
 }
 
 impl Details for ECPrivateKey {
-    fn details(&self, alloc: Global) -> Result<String, AllocError> {
-        let private_key = word_of(alloc, self.private_key.as_slice())?;
-        let parameters = option_details(alloc, &self.parameters)?;
-        let public_key = option_details(alloc, &self.public_key)?;
-        format!(in alloc; "{private_key} {parameters} {public_key}")
+    fn print(&self, alloc: Global, line: &mut Line) {
+        line.octets(self.private_key.as_slice());
+        print_option(alloc, &self.parameters, line);
+        print_option(alloc, &self.public_key, line);
     }
 }
 
 impl Details for PrivateKeyInfo {
-    fn details(&self, alloc: Global) -> Result<String, AllocError> {
-        let (version, kind) = (self.version, self.private_key.kind());
-        let algorithm = self.private_key_algorithm.details(alloc)?;
-        let key = self.private_key.details(alloc)?;
-        let attributes = match &self.attributes {
-            Some(attributes) => word_of(alloc, attributes.as_bytes())?,
-            None => String::from_str(alloc, "none")?,
-        };
-        let public_key = option_details(alloc, &self.public_key)?;
-        format!(in alloc; "{version:?} {algorithm} {kind:?} {key} {attributes} {public_key}")
+    fn print(&self, alloc: Global, line: &mut Line) {
+        line.named(&self.version);
+        self.private_key_algorithm.print(alloc, line);
+        line.named(&self.private_key.kind());
+        self.private_key.print(alloc, line);
+        match &self.attributes {
+            Some(attributes) => line.octets(attributes.as_bytes()),
+            None => line.word("none"),
+        }
+        print_option(alloc, &self.public_key, line);
     }
 }
 
 impl Details for PrivateKeyValue {
-    fn details(&self, alloc: Global) -> Result<String, AllocError> {
+    fn print(&self, alloc: Global, line: &mut Line) {
         match self {
-            PrivateKeyValue::Rsa(key) => key.details(alloc),
-            PrivateKeyValue::Ec(key) => key.details(alloc),
-            PrivateKeyValue::Ed(octets) => word_of(alloc, octets.as_slice()),
+            PrivateKeyValue::Rsa(key) => key.print(alloc, line),
+            PrivateKeyValue::Ec(key) => key.print(alloc, line),
+            PrivateKeyValue::Ed(octets) => line.octets(octets.as_slice()),
         }
     }
 }
 
 /// The details of a value that may be left out.
-fn option_details<T: Details>(alloc: Global, value: &Option<T>) -> Result<String, AllocError> {
+fn print_option<T: Details>(alloc: Global, value: &Option<T>, line: &mut Line) {
     match value {
-        Some(value) => value.details(alloc),
-        None => String::from_str(alloc, "none"),
+        Some(value) => value.print(alloc, line),
+        None => line.word("none"),
     }
 }
 
 impl Details for RsaPublicKey {
-    fn details(&self, alloc: Global) -> Result<String, AllocError> {
-        let modulus = word_of(alloc, self.modulus.as_unsigned_bytes_be())?;
-        let exponent = word_of(alloc, self.public_exponent.as_unsigned_bytes_be())?;
-        format!(in alloc; "{modulus} {exponent}")
+    fn print(&self, _alloc: Global, line: &mut Line) {
+        line.octets(self.modulus.as_unsigned_bytes_be());
+        line.octets(self.public_exponent.as_unsigned_bytes_be());
     }
 }
 
 impl Details for SubjectPublicKeyInfo {
-    fn details(&self, alloc: Global) -> Result<String, AllocError> {
-        let kind = self.subject_public_key.kind();
-        let algorithm = self.algorithm.details(alloc)?;
-        let key = match &self.subject_public_key {
-            SubjectKey::Rsa(key) => key.details(alloc)?,
+    fn print(&self, alloc: Global, line: &mut Line) {
+        line.named(&self.subject_public_key.kind());
+        self.algorithm.print(alloc, line);
+        match &self.subject_public_key {
+            SubjectKey::Rsa(key) => key.print(alloc, line),
             SubjectKey::Ec(bits) | SubjectKey::Ed(bits) | SubjectKey::Mldsa(bits) => {
-                bits.details(alloc)?
+                bits.print(alloc, line);
             }
-        };
-        format!(in alloc; "{kind:?} {algorithm} {key}")
+        }
     }
 }
 
 impl Details for DirectoryString {
-    fn details(&self, alloc: Global) -> Result<String, AllocError> {
+    fn print(&self, _alloc: Global, line: &mut Line) {
         let (name, octets) = match self {
             DirectoryString::PrintableString(octets) => ("PrintableString", octets),
             DirectoryString::Utf8String(octets) => ("Utf8String", octets),
             DirectoryString::TeletexString(octets) => ("TeletexString", octets),
             DirectoryString::BmpString(octets) => ("BmpString", octets),
         };
-        let octets = word_of(alloc, octets.as_slice())?;
-        let text = word_of(alloc, self.to_utf8_lossy(alloc)?.as_bytes())?;
-        format!(in alloc; "{name} {octets} {text}")
+        line.word(name);
+        line.octets(octets.as_slice());
+        line.text(self);
     }
 }
 
 impl Details for AttributeValue {
-    fn details(&self, alloc: Global) -> Result<String, AllocError> {
-        let text = word_of(alloc, self.to_string(alloc)?.as_bytes())?;
+    fn print(&self, alloc: Global, line: &mut Line) {
         match self {
-            AttributeValue::DirectoryString(string) => string.details(alloc),
+            AttributeValue::DirectoryString(string) => string.print(alloc, line),
             AttributeValue::Ia5String(string) => {
-                let octets = word_of(alloc, string.as_str().as_bytes())?;
-                format!(in alloc; "Ia5String {octets} {text}")
+                line.word("Ia5String");
+                line.octets(string.as_str().as_bytes());
+                line.text(self);
             }
             AttributeValue::Other(other) => {
-                let octets = word_of(alloc, other.element().as_bytes())?;
-                format!(in alloc; "Other {octets} {text}")
+                line.word("Other");
+                line.octets(other.element().as_bytes());
+                line.text(self);
             }
         }
     }
 }
 
 impl Details for AttributeTypeAndValue {
-    fn details(&self, alloc: Global) -> Result<String, AllocError> {
-        let (ty, value) = (&self.ty, self.value.details(alloc)?);
-        format!(in alloc; "{ty} {value}")
+    fn print(&self, alloc: Global, line: &mut Line) {
+        line.shown(&self.ty);
+        self.value.print(alloc, line);
     }
 }
 
 impl Details for RelativeDistinguishedName {
-    fn details(&self, alloc: Global) -> Result<String, AllocError> {
-        format!(in alloc; "{}", self.as_slice().len())
+    fn print(&self, _alloc: Global, line: &mut Line) {
+        line.shown(&self.as_slice().len());
     }
 }
 
 impl Details for DirectoryName {
-    fn details(&self, alloc: Global) -> Result<String, AllocError> {
-        let text = word_of(alloc, self.to_string(alloc)?.as_bytes())?;
-        let common_name = match self.find_common_name() {
-            Some(string) => string.details(alloc)?,
-            None => String::from_str(alloc, "none")?,
-        };
-        format!(in alloc; "{text} {common_name}")
+    fn print(&self, alloc: Global, line: &mut Line) {
+        line.text(self);
+        match self.find_common_name() {
+            Some(string) => string.print(alloc, line),
+            None => line.word("none"),
+        }
     }
 }

@@ -1,109 +1,148 @@
 //! Values that are put together of parts, and written.
 
 use crate::details::Details;
-use anyhow::{Context, Result, bail};
-use asn1_types::{BitString, Ia5String, ObjectIdentifier, oids};
-use der_core::{DerError, Raw, Structure, read_exact, write};
+use crate::row::Args;
+use asn1_types::{BitString, CharSetError, Ia5String, ObjectIdentifier, oids};
+use der_core::{DerError, Raw, Structure, read_exact};
 use names_core::DirectoryName;
-use row_answers::{octets_of, text_of, word_of};
-use std::alloc::Global;
+use row_answers::Line;
+use std::alloc::{AllocError, Global};
 use x509_types::{AlgorithmIdentifier, NameAttr, SubjectKey, SubjectPublicKeyInfo};
 
-/// The octets of what is put together, None where there is no such call.
-pub fn answer(alloc: Global, call: &str, args: &[&str]) -> Result<Option<String>> {
-    let answer = match (call, args) {
-        ("algorithm", [oid]) => algorithm(alloc, oid, None)?,
-        ("algorithm", [oid, parameters]) => algorithm(alloc, oid, Some(parameters))?,
-        ("algorithm_null", [oid]) => algorithm_null(alloc, oid)?,
-        ("ed25519_key", [bits]) => ed25519_key(alloc, bits)?,
-        ("public_key", [kind, algorithm, bits]) => public_key(alloc, kind, algorithm, bits)?,
-        ("common_name", [text]) => common_name(alloc, text)?,
-        ("name", attributes) => name(alloc, attributes)?,
-        _ => return Ok(None),
-    };
-    Ok(Some(answer))
+/// Whether there is such a call; the octets of what is put together are printed, and its details.
+pub fn print(alloc: Global, call: &str, args: Args<'_>, line: &mut Line) -> bool {
+    match (call, args.octets) {
+        ("algorithm", [oid]) => print_made(alloc, algorithm(alloc, oid, None), line),
+        ("algorithm", [oid, parameters]) => {
+            print_made(alloc, algorithm(alloc, oid, Some(parameters)), line);
+        }
+        ("algorithm_null", [oid]) => print_made(alloc, algorithm_null(alloc, oid), line),
+        ("ed25519_key", [bits]) => print_made(alloc, ed25519_key(alloc, bits), line),
+        ("public_key", [_, algorithm, bits]) => {
+            print_public_key(alloc, args.words, (algorithm, bits), line);
+        }
+        ("common_name", [text]) => print_made(alloc, common_name(alloc, text), line),
+        ("name", _) => print_made(alloc, name(alloc, args.words), line),
+        _ => return false,
+    }
+    true
 }
 
-fn algorithm(alloc: Global, oid: &str, parameters: Option<&&str>) -> Result<String> {
+/// The octets that are written for a value, and its details; or why there is none.
+fn print_made<T: Structure + Details>(alloc: Global, value: Result<T, DerError>, line: &mut Line) {
+    match value {
+        Ok(value) => print_value(alloc, &value, line),
+        Err(error) => line.shown(&error),
+    }
+}
+
+fn print_value<T: Structure + Details>(alloc: Global, value: &T, line: &mut Line) {
+    line.made(value.to_der(alloc));
+    value.print(alloc, line);
+}
+
+fn algorithm(
+    alloc: Global,
+    oid: &[u8],
+    parameters: Option<&[u8]>,
+) -> Result<AlgorithmIdentifier, DerError> {
     let parameters = match parameters {
-        Some(word) => Some(kept(alloc, &octets_of(alloc, word)?)?),
+        Some(octets) => Some(kept(alloc, octets)?),
         None => None,
     };
-    let oid = ObjectIdentifier::from_content(alloc, &octets_of(alloc, oid)?)?;
-    Ok(shown(alloc, &AlgorithmIdentifier::new(oid, parameters))?)
+    let oid = ObjectIdentifier::from_content(alloc, oid)?;
+    Ok(AlgorithmIdentifier::new(oid, parameters))
 }
 
 fn kept(alloc: Global, element: &[u8]) -> Result<Raw, DerError> {
     Raw::from_tree(alloc, &read_exact(alloc, element)?)
 }
 
-fn algorithm_null(alloc: Global, oid: &str) -> Result<String> {
-    let oid = ObjectIdentifier::from_content(alloc, &octets_of(alloc, oid)?)?;
-    Ok(shown(alloc, &AlgorithmIdentifier::with_null(alloc, oid)?)?)
+fn algorithm_null(alloc: Global, oid: &[u8]) -> Result<AlgorithmIdentifier, DerError> {
+    let oid = ObjectIdentifier::from_content(alloc, oid)?;
+    Ok(AlgorithmIdentifier::with_null(alloc, oid)?)
 }
 
-fn ed25519_key(alloc: Global, bits: &str) -> Result<String> {
-    let bits = BitString::with_bytes(alloc, &octets_of(alloc, bits)?)?;
+fn ed25519_key(alloc: Global, bits: &[u8]) -> Result<SubjectPublicKeyInfo, DerError> {
+    let bits = BitString::with_bytes(alloc, bits)?;
     let oid = ObjectIdentifier::from_known(alloc, oids::ED25519)?;
-    let key = SubjectPublicKeyInfo {
+    Ok(SubjectPublicKeyInfo {
         algorithm: AlgorithmIdentifier::new(oid, None),
         subject_public_key: SubjectKey::Ed(bits),
-    };
-    Ok(shown(alloc, &key)?)
+    })
 }
 
 /// A key of bits with an algorithm, `None` where the algorithm isn't one for keys of its kind.
-fn public_key(alloc: Global, kind: &str, algorithm: &str, bits: &str) -> Result<String> {
-    let algorithm = AlgorithmIdentifier::from_der(alloc, &octets_of(alloc, algorithm)?)?;
-    let key = key_of_bits(
-        kind,
-        BitString::with_bytes(alloc, &octets_of(alloc, bits)?)?,
-    )?;
-    match SubjectPublicKeyInfo::new(algorithm, key) {
-        Some(key) => Ok(shown(alloc, &key)?),
-        None => Ok(String::from_str(alloc, "None")?),
+fn print_public_key(
+    alloc: Global,
+    words: &[&str],
+    (algorithm, bits): (&[u8], &[u8]),
+    line: &mut Line,
+) {
+    match public_key(alloc, words, algorithm, bits) {
+        Ok(Some(key)) => print_value(alloc, &key, line),
+        Ok(None) => line.word("None"),
+        Err(error) => line.shown(&error),
     }
 }
 
-fn key_of_bits(kind: &str, bits: BitString) -> Result<SubjectKey> {
-    match kind {
-        "Ec" => Ok(SubjectKey::Ec(bits)),
-        "Ed" => Ok(SubjectKey::Ed(bits)),
-        "Mldsa" => Ok(SubjectKey::Mldsa(bits)),
-        _ => bail!("no key of bits has the kind {kind}"),
-    }
+fn public_key(
+    alloc: Global,
+    words: &[&str],
+    algorithm: &[u8],
+    bits: &[u8],
+) -> Result<Option<SubjectPublicKeyInfo>, DerError> {
+    let algorithm = AlgorithmIdentifier::from_der(alloc, algorithm)?;
+    let bits = BitString::with_bytes(alloc, bits)?;
+    Ok(match words {
+        ["Ec", ..] => SubjectPublicKeyInfo::new(algorithm, SubjectKey::Ec(bits)),
+        ["Ed", ..] => SubjectPublicKeyInfo::new(algorithm, SubjectKey::Ed(bits)),
+        ["Mldsa", ..] => SubjectPublicKeyInfo::new(algorithm, SubjectKey::Mldsa(bits)),
+        _ => None,
+    })
 }
 
-fn common_name(alloc: Global, text: &str) -> Result<String> {
-    let text = octets_of(alloc, text)?;
-    let name = DirectoryName::new_common_name(alloc, text_of(&text)?)?;
-    Ok(shown(alloc, &name)?)
+/// The text of octets, none where they have none.
+fn text_of(octets: &[u8]) -> &str {
+    str::from_utf8(octets).unwrap_or("")
+}
+
+fn common_name(alloc: Global, text: &[u8]) -> Result<DirectoryName, DerError> {
+    Ok(DirectoryName::new_common_name(alloc, text_of(text))?)
 }
 
 /// A name of attributes, each a type by its contents octets, `=`, and a text.
-fn name(alloc: Global, attributes: &[&str]) -> Result<String> {
+fn name(alloc: Global, attributes: &[&str]) -> Result<DirectoryName, DerError> {
     let mut name = DirectoryName::new(alloc);
     for word in attributes {
-        add_attribute(alloc, &mut name, word)?;
+        if let Some((ty, text)) = word.split_once('=') {
+            add_attribute(alloc, &mut name, &decoded(alloc, ty), &decoded(alloc, text))?;
+        }
     }
-    Ok(shown(alloc, &name)?)
+    Ok(name)
+}
+
+/// The octets of a word of hexadecimal digits, none where it isn't one.
+fn decoded(alloc: Global, word: &str) -> Vec<u8> {
+    match row_answers::octets_of(alloc, word) {
+        Ok(octets) => octets,
+        Err(_) => Vec::new(alloc),
+    }
 }
 
 /// Adds an attribute, an email address where the type is none of `NameAttr`.
-fn add_attribute(alloc: Global, name: &mut DirectoryName, word: &str) -> Result<()> {
-    let (ty, text) = word.split_once('=').context("an attribute has a type")?;
-    let octets = octets_of(alloc, text)?;
-    let text = text_of(&octets)?;
-    match NameAttr::from_contents(&octets_of(alloc, ty)?) {
-        Some(attr) => name.add_attr(attr, text)?,
-        None => name.add_email(Ia5String::from_string(alloc, text)?)?,
+fn add_attribute(
+    alloc: Global,
+    name: &mut DirectoryName,
+    ty: &[u8],
+    text: &[u8],
+) -> Result<(), AllocError> {
+    match NameAttr::from_contents(ty) {
+        Some(attr) => name.add_attr(attr, text_of(text)),
+        None => match Ia5String::from_string(alloc, text_of(text)) {
+            Ok(address) => name.add_email(address),
+            Err(CharSetError::Memory) => Err(AllocError),
+            Err(CharSetError::CharSet) => Ok(()),
+        },
     }
-    Ok(())
-}
-
-/// The octets that are written for a value, and its details.
-fn shown<T: Structure + Details>(alloc: Global, value: &T) -> Result<String, DerError> {
-    let octets = write(alloc, &value.write(alloc)?)?;
-    let (octets, details) = (word_of(alloc, &octets)?, value.details(alloc)?);
-    Ok(format!(in alloc; "{octets} {details}")?)
 }

@@ -1,48 +1,58 @@
 //! Curves and algorithms on the curve 25519 by their identifiers, and points by their coordinates.
 
-use crate::keys::shown;
-use anyhow::{Context, Result};
+use crate::keys::print_made;
+use asn1_types::ObjectIdentifier;
 use key_core::{EcCurve, EdAlgorithm, PublicKey};
-use row_answers::{octets_of, word_of};
-use std::alloc::Global;
+use row_answers::Line;
+use std::alloc::{AllocError, Global};
 
-/// What a curve, an algorithm or a point is, None where there is no such call.
-pub fn answer(alloc: Global, call: &str, args: &[&str]) -> Result<Option<String>> {
-    let answer = match (call, args) {
-        ("curve", [oid]) => curve(alloc, oid)?,
-        ("algorithm", [oid]) => algorithm(alloc, oid)?,
-        ("coordinates", [oid, x, y]) => coordinates(alloc, oid, x, y)?,
-        _ => return Ok(None),
-    };
-    Ok(Some(answer))
+/// Whether there is such a call; what a curve, an algorithm or a point is, is printed.
+pub fn print(alloc: Global, call: &str, args: &[Vec<u8>], line: &mut Line) -> bool {
+    match (call, args) {
+        ("curve", [oid]) => print_curve(alloc, oid, line),
+        ("algorithm", [oid]) => print_algorithm(alloc, oid, line),
+        ("coordinates", [oid, x, y]) => print_point(alloc, oid, (x, y), line),
+        _ => return false,
+    }
+    true
 }
 
 /// The name of the curve that an identifier names, and the identifier that is written for it.
-fn curve(alloc: Global, oid: &str) -> Result<String> {
-    match EcCurve::named(&octets_of(alloc, oid)?) {
+fn print_curve(alloc: Global, oid: &[u8], line: &mut Line) {
+    match EcCurve::named(oid) {
         Some(curve) => {
-            let oid = word_of(alloc, curve.to_oid(alloc)?.as_bytes())?;
-            Ok(format!(in alloc; "{curve} {oid}")?)
+            line.shown(&curve);
+            print_contents(curve.to_oid(alloc), line);
         }
-        None => Ok(String::from_str(alloc, "none")?),
+        None => line.word("none"),
     }
 }
 
 /// The name of the algorithm that an identifier names, and the identifier that is written for it.
-fn algorithm(alloc: Global, oid: &str) -> Result<String> {
-    match EdAlgorithm::named(&octets_of(alloc, oid)?) {
+fn print_algorithm(alloc: Global, oid: &[u8], line: &mut Line) {
+    match EdAlgorithm::named(oid) {
         Some(algorithm) => {
-            let oid = word_of(alloc, algorithm.to_oid(alloc)?.as_bytes())?;
-            Ok(format!(in alloc; "{algorithm} {oid}")?)
+            line.shown(&algorithm);
+            print_contents(algorithm.to_oid(alloc), line);
         }
-        None => Ok(String::from_str(alloc, "none")?),
+        None => line.word("none"),
+    }
+}
+
+fn print_contents(oid: Result<ObjectIdentifier, AllocError>, line: &mut Line) {
+    match oid {
+        Ok(oid) => line.octets(oid.as_bytes()),
+        Err(error) => line.shown(&error),
     }
 }
 
 /// The point of these coordinates on the curve that the identifier names.
-fn coordinates(alloc: Global, oid: &str, x: &str, y: &str) -> Result<String> {
-    let curve = EcCurve::named(&octets_of(alloc, oid)?).context("a point lies on a curve")?;
-    let (x, y) = (octets_of(alloc, x)?, octets_of(alloc, y)?);
-    let key = PublicKey::from_ec_components(alloc, curve, &x, &y);
-    shown(alloc, key)
+fn print_point(alloc: Global, oid: &[u8], (x, y): (&[u8], &[u8]), line: &mut Line) {
+    match EcCurve::named(oid) {
+        Some(curve) => {
+            let key = PublicKey::from_ec_components(alloc, curve, x, y);
+            print_made(alloc, &key, line);
+        }
+        None => line.word("no curve"),
+    }
 }

@@ -1,142 +1,200 @@
 //! Private keys that are read or put together, under the demonstration scheme, and their public
 //! keys.
 
-use anyhow::{Result, bail};
+use crate::row::Args;
 use asn1_types::ObjectIdentifier;
 use key_core::{EcCurve, KeyError, KeyKind, PrivateKey};
-use row_answers::{octets_of, word_of};
-use sig_core::{DemoScheme, VerdictTable};
+use row_answers::Line;
+use sig_core::{DemoScheme, Scheme, VerdictTable};
 use std::alloc::Global;
 
-/// What is read or made, None where there is no such call.
-pub fn answer(alloc: Global, call: &str, args: &[&str]) -> Result<Option<String>> {
-    match key_of(alloc, call, args)? {
-        Some(key) => Ok(Some(shown(alloc, key)?)),
-        None => Ok(None),
+/// Why no key is read or made.
+#[derive(Clone, Copy)]
+pub enum NoKey {
+    Refused(KeyError),
+    NoSuchCall,
+}
+
+/// Whether there is such a call; what is read or made is printed.
+pub fn print(alloc: Global, call: &str, args: Args<'_>, line: &mut Line) -> bool {
+    match key_of(alloc, call, args) {
+        Ok(key) => {
+            print_key(alloc, &key, line);
+            true
+        }
+        Err(why) => print_refusal(why, line),
     }
 }
 
-/// The key that is read or made, or why there is none; None where there is no such call.
-pub fn key_of(
+/// Whether there is such a call; the text of the refusal is printed.
+pub fn print_refusal(why: NoKey, line: &mut Line) -> bool {
+    match why {
+        NoKey::Refused(error) => {
+            line.shown(&error);
+            true
+        }
+        NoKey::NoSuchCall => false,
+    }
+}
+
+/// The key that is read or made.
+pub fn key_of(alloc: Global, call: &str, args: Args<'_>) -> Result<PrivateKey, NoKey> {
+    match (call, args.octets) {
+        ("pkcs8", [octets]) => told(PrivateKey::from_pkcs8(alloc, octets, &DemoScheme::new())),
+        ("pkcs1", [octets]) => told(PrivateKey::from_pkcs1(alloc, octets)),
+        ("sec1", [octets]) => told(PrivateKey::from_ec_der(alloc, octets, &DemoScheme::new())),
+        (_, [curve, octets]) => on_curve(alloc, call, curve, octets),
+        (_, [id, secret, rest @ ..]) => of_parts(alloc, call, (id, secret), rest, args.words),
+        _ => Err(NoKey::NoSuchCall),
+    }
+}
+
+fn told(key: Result<PrivateKey, KeyError>) -> Result<PrivateKey, NoKey> {
+    match key {
+        Ok(key) => Ok(key),
+        Err(error) => Err(NoKey::Refused(error)),
+    }
+}
+
+/// The key of octets in SEC 1 on a curve that is given.
+fn on_curve(alloc: Global, call: &str, curve: &[u8], octets: &[u8]) -> Result<PrivateKey, NoKey> {
+    match call {
+        "sec1_on" => {
+            let curve = oid_of(alloc, curve)?;
+            let scheme = DemoScheme::new();
+            told(PrivateKey::from_ec_der_with_curve_oid(alloc, octets, curve, &scheme))
+        }
+        "sec1_on_known" => on_known_curve(alloc, curve, octets, &DemoScheme::new()),
+        "refused" => refused(alloc, curve, octets),
+        _ => Err(NoKey::NoSuchCall),
+    }
+}
+
+fn on_known_curve<S: Scheme>(
     alloc: Global,
-    call: &str,
-    args: &[&str],
-) -> Result<Option<Result<PrivateKey, KeyError>>> {
-    let scheme = DemoScheme::new();
-    let key = match (call, args) {
-        ("pkcs8", [octets]) => PrivateKey::from_pkcs8(alloc, &octets_of(alloc, octets)?, &scheme),
-        ("pkcs1", [octets]) => PrivateKey::from_pkcs1(alloc, &octets_of(alloc, octets)?),
-        ("sec1", [octets]) => PrivateKey::from_ec_der(alloc, &octets_of(alloc, octets)?, &scheme),
-        ("sec1_on", [curve, octets]) => {
-            let (curve, octets) = (oid_of(alloc, curve)?, octets_of(alloc, octets)?);
-            PrivateKey::from_ec_der_with_curve_oid(alloc, &octets, curve, &scheme)
-        }
-        ("sec1_on_known", [curve, octets]) => {
-            let (curve, octets) = (known_curve(alloc, curve)?, octets_of(alloc, octets)?);
-            PrivateKey::from_ec_der_with_curve(alloc, &octets, curve, &scheme)
-        }
-        ("refused", [curve, octets]) => refused(alloc, curve, octets)?,
-        ("coordinates", [curve, secret, x, y]) => coordinates(alloc, curve, secret, (x, y))?,
-        ("ec_encoded", [curve, secret, point]) => ec_encoded(alloc, curve, secret, point)?,
-        ("ed_encoded", [oid, secret, public_key]) => ed_encoded(alloc, oid, secret, public_key)?,
-        _ => return Ok(None),
-    };
-    Ok(Some(key))
+    curve: &[u8],
+    octets: &[u8],
+    scheme: &S,
+) -> Result<PrivateKey, NoKey> {
+    let curve = known_curve(curve)?;
+    told(PrivateKey::from_ec_der_with_curve(alloc, octets, curve, scheme))
 }
 
 /// The key on a known curve under a scheme that derives nothing.
-fn refused(alloc: Global, curve: &str, octets: &str) -> Result<Result<PrivateKey, KeyError>> {
-    let table = VerdictTable::parse(alloc, &[])?;
-    let (curve, octets) = (known_curve(alloc, curve)?, octets_of(alloc, octets)?);
-    Ok(PrivateKey::from_ec_der_with_curve(alloc, &octets, curve, &table))
+fn refused(alloc: Global, curve: &[u8], octets: &[u8]) -> Result<PrivateKey, NoKey> {
+    match VerdictTable::parse(alloc, &[]) {
+        Ok(table) => on_known_curve(alloc, curve, octets, &table),
+        Err(_) => Err(NoKey::Refused(KeyError::Memory)),
+    }
 }
 
-fn coordinates(
+/// The key of an identifier, a secret and what is given of its public key.
+fn of_parts(
     alloc: Global,
-    curve: &str,
-    secret: &str,
-    (x, y): (&str, &str),
-) -> Result<Result<PrivateKey, KeyError>> {
-    let (curve, secret) = (known_curve(alloc, curve)?, octets_of(alloc, secret)?);
-    let (x, y) = (octets_of(alloc, x)?, octets_of(alloc, y)?);
-    Ok(PrivateKey::from_ec_components(alloc, curve, &secret, &x, &y))
+    call: &str,
+    (id, secret): (&[u8], &[u8]),
+    rest: &[Vec<u8>],
+    words: &[&str],
+) -> Result<PrivateKey, NoKey> {
+    match (call, rest) {
+        ("coordinates", [x, y]) => {
+            let curve = known_curve(id)?;
+            told(PrivateKey::from_ec_components(alloc, curve, secret, x, y))
+        }
+        ("ec_encoded", [point]) => ec_encoded(alloc, id, secret, given(words, point)),
+        ("ed_encoded", [key]) => ed_encoded(alloc, id, secret, given(words, key)),
+        _ => Err(NoKey::NoSuchCall),
+    }
+}
+
+/// The octets of the third word, none where it is `none`.
+fn given<'a>(words: &[&str], octets: &'a [u8]) -> Option<&'a [u8]> {
+    match words {
+        [_, _, "none"] => None,
+        _ => Some(octets),
+    }
 }
 
 fn ec_encoded(
     alloc: Global,
-    curve: &str,
-    secret: &str,
-    point: &str,
-) -> Result<Result<PrivateKey, KeyError>> {
-    let (curve, secret) = (oid_of(alloc, curve)?, octets_of(alloc, secret)?);
-    if point == "none" {
-        return Ok(Ok(PrivateKey::from_ec_encoded_components(alloc, curve, &secret, None)?));
+    curve: &[u8],
+    secret: &[u8],
+    point: Option<&[u8]>,
+) -> Result<PrivateKey, NoKey> {
+    let curve = oid_of(alloc, curve)?;
+    match PrivateKey::from_ec_encoded_components(alloc, curve, secret, point) {
+        Ok(key) => Ok(key),
+        Err(error) => Err(NoKey::Refused(KeyError::from(error))),
     }
-    let point = octets_of(alloc, point)?;
-    Ok(Ok(PrivateKey::from_ec_encoded_components(alloc, curve, &secret, Some(&point))?))
 }
 
 fn ed_encoded(
     alloc: Global,
-    oid: &str,
-    secret: &str,
-    public_key: &str,
-) -> Result<Result<PrivateKey, KeyError>> {
-    let (oid, secret) = (oid_of(alloc, oid)?, octets_of(alloc, secret)?);
+    oid: &[u8],
+    secret: &[u8],
+    public_key: Option<&[u8]>,
+) -> Result<PrivateKey, NoKey> {
+    let oid = oid_of(alloc, oid)?;
     if !KeyKind::Ed.is_named(oid.as_bytes()) {
-        bail!("the identifier names no curve 25519 or 448");
+        return Err(NoKey::NoSuchCall);
     }
-    if public_key == "none" {
-        return Ok(Ok(PrivateKey::from_ed_encoded_components(alloc, oid, &secret, None)?));
+    match PrivateKey::from_ed_encoded_components(alloc, oid, secret, public_key) {
+        Ok(key) => Ok(key),
+        Err(error) => Err(NoKey::Refused(KeyError::from(error))),
     }
-    let public_key = octets_of(alloc, public_key)?;
-    Ok(Ok(PrivateKey::from_ed_encoded_components(alloc, oid, &secret, Some(&public_key))?))
 }
 
-fn oid_of(alloc: Global, word: &str) -> Result<ObjectIdentifier> {
-    Ok(ObjectIdentifier::from_content(alloc, &octets_of(alloc, word)?)?)
+fn oid_of(alloc: Global, contents: &[u8]) -> Result<ObjectIdentifier, NoKey> {
+    match ObjectIdentifier::from_content(alloc, contents) {
+        Ok(oid) => Ok(oid),
+        Err(_) => Err(NoKey::NoSuchCall),
+    }
 }
 
-fn known_curve(alloc: Global, word: &str) -> Result<EcCurve> {
-    match EcCurve::named(&octets_of(alloc, word)?) {
+fn known_curve(contents: &[u8]) -> Result<EcCurve, NoKey> {
+    match EcCurve::named(contents) {
         Some(curve) => Ok(curve),
-        None => bail!("no known curve has the identifier {word}"),
+        None => Err(NoKey::NoSuchCall),
     }
 }
 
-/// The kind of a key, its octets in PKCS #8, whether it is equal to what is read of these and to a
-/// copy, and its public key; or the text of the refusal.
-fn shown(alloc: Global, key: Result<PrivateKey, KeyError>) -> Result<String> {
-    match key {
-        Ok(key) => shown_key(alloc, &key),
-        Err(error) => Ok(format!(in alloc; "{error}")?),
+/// The kind of a key, its octets in PKCS #8, whether it is equal to a copy and to what is read of
+/// these, its octets in PKCS #1, and its public key.
+fn print_key(alloc: Global, key: &PrivateKey, line: &mut Line) {
+    line.named(&key.kind());
+    match key.to_pkcs8(alloc) {
+        Ok(octets) => print_octets(alloc, key, &octets, line),
+        Err(error) => line.shown(&error),
+    }
+    line.made(key.to_pkcs1(alloc));
+    line.mark(";");
+    print_public_half(alloc, key, line);
+}
+
+fn print_octets(alloc: Global, key: &PrivateKey, octets: &[u8], line: &mut Line) {
+    line.octets(octets);
+    line.shown(&is_copied(alloc, key));
+    line.shown(&is_read_of(alloc, key, octets));
+}
+
+fn is_copied(alloc: Global, key: &PrivateKey) -> bool {
+    match key.try_clone(alloc) {
+        Ok(copy) => copy == *key,
+        Err(_) => false,
     }
 }
 
-fn shown_key(alloc: Global, key: &PrivateKey) -> Result<String> {
-    let (kind, octets) = (key.kind(), key.to_pkcs8(alloc)?);
-    let copied = key.try_clone(alloc)? == *key;
-    let again = match PrivateKey::from_pkcs8(alloc, &octets, &DemoScheme::new()) {
+fn is_read_of(alloc: Global, key: &PrivateKey, octets: &[u8]) -> bool {
+    match PrivateKey::from_pkcs8(alloc, octets, &DemoScheme::new()) {
         Ok(again) => again == *key,
         Err(_) => false,
-    };
-    let (word, public_key) = (word_of(alloc, &octets)?, public_half(alloc, key)?);
-    let pkcs1 = pkcs1(alloc, key)?;
-    Ok(format!(in alloc; "{kind:?} {word} {copied} {again} {pkcs1}; {public_key}")?)
+    }
 }
 
 /// The octets of the public key, or why there is none.
-fn public_half(alloc: Global, key: &PrivateKey) -> Result<String> {
+fn print_public_half(alloc: Global, key: &PrivateKey, line: &mut Line) {
     match key.to_public_key(alloc) {
-        Ok(key) => Ok(word_of(alloc, &key.to_der(alloc)?)?),
-        Err(error) => Ok(format!(in alloc; "{error}")?),
-    }
-}
-
-/// The octets in PKCS #1, or why there are none.
-fn pkcs1(alloc: Global, key: &PrivateKey) -> Result<String> {
-    match key.to_pkcs1(alloc) {
-        Ok(octets) => Ok(word_of(alloc, &octets)?),
-        Err(error) => Ok(format!(in alloc; "{error}")?),
+        Ok(key) => line.made(key.to_der(alloc)),
+        Err(error) => line.shown(&error),
     }
 }

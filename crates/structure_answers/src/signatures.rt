@@ -2,180 +2,265 @@
 //! signatures, and identifiers of keys.
 
 use crate::private_keys;
-use anyhow::{Context, Result, bail};
+use crate::row::Args;
 use asn1_types::BitString;
-use der_core::Structure;
+use der_core::{DerError, Structure};
 use key_core::{
-    AlgorithmIdentifier, KeyIdGenMethod, PrivateKey, PublicKey, SignatureAlgorithm, SubjectKey,
-    SubjectPublicKeyInfo,
+    AlgorithmIdentifier, KeyError, KeyIdGenMethod, PrivateKey, PublicKey, SignatureAlgorithm,
+    SubjectKey, SubjectPublicKeyInfo,
 };
-use row_answers::{octets_of, word_of};
+use row_answers::Line;
 use sig_core::{DemoScheme, HashAlgorithm, Scheme, VerdictTable};
 use std::alloc::Global;
 
-/// What is answered, None where there is no such call.
-pub fn answer(alloc: Global, call: &str, args: &[&str]) -> Result<Option<String>> {
-    let answer = match (call, args) {
-        ("named", [id]) => named(alloc, id)?,
-        ("written", [algorithm]) => written(alloc, algorithm_of(algorithm)?)?,
-        ("key_id", [method, hash, key @ ..]) => key_id(alloc, method, hash, key)?,
-        ("sign", [algorithm, message, key @ ..]) => sign(alloc, algorithm, message, key)?,
-        ("verify", [algorithm, key, message, signature]) => {
-            verify(alloc, algorithm, key, (message, signature))?
+/// Whether there is such a call; what is answered is printed.
+pub fn print(alloc: Global, call: &str, args: Args<'_>, line: &mut Line) -> bool {
+    match (call, args.words) {
+        ("named", _) => print_named(alloc, args.octets, line),
+        ("key_id", [method, hash, ..]) => print_key_id(alloc, (method, hash), args.octets, line),
+        ("written", [algorithm]) => match algorithm_of(algorithm) {
+            Some(algorithm) => print_written(alloc, algorithm, line),
+            None => return false,
+        },
+        (_, [algorithm, ..]) => match algorithm_of(algorithm) {
+            Some(algorithm) => return print_use(alloc, call, algorithm, args, line),
+            None => return false,
+        },
+        _ => return false,
+    }
+    true
+}
+
+/// Whether there is such a call; what is signed, or told of a signature, is printed.
+fn print_use(
+    alloc: Global,
+    call: &str,
+    algorithm: SignatureAlgorithm,
+    args: Args<'_>,
+    line: &mut Line,
+) -> bool {
+    match (call, args.words, args.octets) {
+        ("sign", [_, _, call, words @ ..], [_, message, _, octets @ ..]) => {
+            print_sign(
+                alloc,
+                algorithm,
+                message,
+                call,
+                Args { words, octets },
+                line,
+            )
         }
-        _ => return Ok(None),
-    };
-    Ok(Some(answer))
+        ("verify", _, [_, key, message, signature]) => {
+            print_verify(alloc, algorithm, key, (message, signature), line);
+            true
+        }
+        _ => false,
+    }
 }
 
 /// The algorithm and its digest by an identifier, and the identifier that is written for it; or the
 /// text of the refusal.
-fn named(alloc: Global, id: &str) -> Result<String> {
-    let id = AlgorithmIdentifier::from_der(alloc, &octets_of(alloc, id)?)?;
-    match SignatureAlgorithm::from_algorithm_identifier(alloc, &id) {
+fn print_named(alloc: Global, octets: &[Vec<u8>], line: &mut Line) {
+    let [octets] = octets else {
+        return;
+    };
+    match AlgorithmIdentifier::from_der(alloc, octets) {
+        Ok(id) => print_identified(alloc, &id, line),
+        Err(error) => line.shown(&error),
+    }
+}
+
+fn print_identified(alloc: Global, id: &AlgorithmIdentifier, line: &mut Line) {
+    match SignatureAlgorithm::from_algorithm_identifier(alloc, id) {
         Ok(algorithm) => {
-            let (hash, id) = (
-                algorithm.hash_algorithm().name(),
-                written(alloc, algorithm)?,
-            );
-            Ok(format!(in alloc; "{algorithm:?} {hash} {id}")?)
+            line.named(&algorithm);
+            line.word(algorithm.hash_algorithm().name());
+            print_written(alloc, algorithm, line);
         }
-        Err(error) => Ok(format!(in alloc; "{error}")?),
+        Err(error) => line.shown(&error),
     }
 }
 
 /// The octets of the identifier of an algorithm, or the text of the refusal.
-fn written(alloc: Global, algorithm: SignatureAlgorithm) -> Result<String> {
+fn print_written(alloc: Global, algorithm: SignatureAlgorithm, line: &mut Line) {
     match algorithm.to_algorithm_identifier(alloc) {
-        Ok(id) => Ok(word_of(alloc, &id.to_der(alloc)?)?),
-        Err(error) => Ok(format!(in alloc; "{error}")?),
+        Ok(id) => line.made(id.to_der(alloc)),
+        Err(error) => line.shown(&error),
     }
 }
 
 /// The identifier of a key, or the text of the refusal.
-fn key_id(alloc: Global, method: &str, hash: &str, key: &[&str]) -> Result<String> {
-    let hash = hash_of(hash)?;
-    let method = match method {
-        "whole" => KeyIdGenMethod::SPKFullDER(hash),
-        "leftmost" => KeyIdGenMethod::SPKValueHashedLeftmost160(hash),
-        _ => bail!("no identifier of a key is made by {method}"),
+fn print_key_id(alloc: Global, (method, hash): (&str, &str), octets: &[Vec<u8>], line: &mut Line) {
+    let Some(hash) = hash_of(hash) else {
+        return;
     };
-    let key = public_key(alloc, key)?;
-    match method.generate_from(alloc, &key) {
-        Ok(id) => Ok(word_of(alloc, &id)?),
-        Err(error) => Ok(format!(in alloc; "{error}")?),
+    match method {
+        "whole" => print_id(alloc, KeyIdGenMethod::SPKFullDER(hash), octets, line),
+        "leftmost" => {
+            let method = KeyIdGenMethod::SPKValueHashedLeftmost160(hash);
+            print_id(alloc, method, octets, line);
+        }
+        _ => {}
+    }
+}
+
+fn print_id(alloc: Global, method: KeyIdGenMethod, octets: &[Vec<u8>], line: &mut Line) {
+    match public_key(alloc, octets) {
+        Ok(Some(key)) => line.made(method.generate_from(alloc, &key)),
+        Ok(None) => line.word("no key"),
+        Err(error) => line.shown(&error),
     }
 }
 
 /// The key of these octets; or of the octets of its algorithm, on a curve 25519 or 448, and of its
 /// bits, which can also be one that isn't written.
-fn public_key(alloc: Global, words: &[&str]) -> Result<PublicKey> {
-    match words {
-        [octets] => Ok(PublicKey::from_der(alloc, &octets_of(alloc, octets)?)?),
-        [algorithm, octets] => {
-            let algorithm = AlgorithmIdentifier::from_der(alloc, &octets_of(alloc, algorithm)?)?;
-            let bits = BitString::with_bytes(alloc, &octets_of(alloc, octets)?)?;
-            let info = SubjectPublicKeyInfo::new(algorithm, SubjectKey::Ed(bits));
-            Ok(PublicKey::from(info.context("the algorithm is of another kind")?))
-        }
-        _ => bail!("a key is read of its octets or made of two parts"),
+fn public_key(alloc: Global, octets: &[Vec<u8>]) -> Result<Option<PublicKey>, KeyError> {
+    match octets {
+        [_, _, octets] => Ok(Some(PublicKey::from_der(alloc, octets)?)),
+        [_, _, algorithm, bits] => match key_of_bits(alloc, algorithm, bits) {
+            Ok(key) => Ok(key),
+            Err(_) => Ok(None),
+        },
+        _ => Ok(None),
     }
 }
 
-/// What the key signs under the demonstration scheme, and what is told under a table of no rows.
-fn sign(alloc: Global, algorithm: &str, message: &str, key: &[&str]) -> Result<String> {
-    let algorithm = algorithm_of(algorithm)?;
-    let message = octets_of(alloc, message)?;
-    let key = private_key(alloc, key)?;
-    let demo = signed(alloc, algorithm, &message, &key, &DemoScheme::new())?;
-    let table = signed(
-        alloc,
-        algorithm,
-        &message,
-        &key,
-        &VerdictTable::parse(alloc, &[])?,
-    )?;
-    Ok(format!(in alloc; "{demo}; {table}")?)
+fn key_of_bits(
+    alloc: Global,
+    algorithm: &[u8],
+    bits: &[u8],
+) -> Result<Option<PublicKey>, DerError> {
+    let algorithm = AlgorithmIdentifier::from_der(alloc, algorithm)?;
+    let bits = BitString::with_bytes(alloc, bits)?;
+    Ok(SubjectPublicKeyInfo::new(algorithm, SubjectKey::Ed(bits)).map(PublicKey::from))
 }
 
-/// The key that a call of `private_keys` reads or makes.
-fn private_key(alloc: Global, words: &[&str]) -> Result<PrivateKey> {
-    let (call, args) = words.split_first().context("a key is read or made")?;
-    let key = private_keys::key_of(alloc, call, args)?;
-    Ok(key.context("no such call")??)
+/// What the key signs under the demonstration scheme, and what is told under a table of no rows;
+/// whether there is a call that reads or makes such a key.
+fn print_sign(
+    alloc: Global,
+    algorithm: SignatureAlgorithm,
+    message: &[u8],
+    call: &str,
+    args: Args<'_>,
+    line: &mut Line,
+) -> bool {
+    match private_keys::key_of(alloc, call, args) {
+        Ok(key) => {
+            print_signatures(alloc, algorithm, message, &key, line);
+            true
+        }
+        Err(why) => private_keys::print_refusal(why, line),
+    }
+}
+
+fn print_signatures(
+    alloc: Global,
+    algorithm: SignatureAlgorithm,
+    message: &[u8],
+    key: &PrivateKey,
+    line: &mut Line,
+) {
+    print_signed(alloc, algorithm, message, key, &DemoScheme::new(), line);
+    line.mark(";");
+    match VerdictTable::parse(alloc, &[]) {
+        Ok(table) => print_signed(alloc, algorithm, message, key, &table, line),
+        Err(error) => line.shown(&error),
+    }
 }
 
 /// The signature, and what is told of it under the public key; or the text of the refusal.
-fn signed<S: Scheme>(
+fn print_signed<S: Scheme>(
     alloc: Global,
     algorithm: SignatureAlgorithm,
     message: &[u8],
     key: &PrivateKey,
     scheme: &S,
-) -> Result<String> {
-    let signature = match algorithm.sign(alloc, message, key, scheme) {
-        Ok(signature) => signature,
-        Err(error) => return Ok(format!(in alloc; "{error}")?),
-    };
-    let word = word_of(alloc, &signature)?;
-    let told = match key.to_public_key(alloc) {
-        Ok(key) => told(alloc, algorithm, &key, (message, &signature), scheme)?,
-        Err(error) => format!(in alloc; "{error}")?,
-    };
-    Ok(format!(in alloc; "{word} {told}")?)
+    line: &mut Line,
+) {
+    match algorithm.sign(alloc, message, key, scheme) {
+        Ok(signature) => {
+            line.octets(&signature);
+            print_own(alloc, algorithm, key, (message, &signature), scheme, line);
+        }
+        Err(error) => line.shown(&error),
+    }
+}
+
+/// What is told of a signature under the public key of its private one.
+fn print_own<S: Scheme>(
+    alloc: Global,
+    algorithm: SignatureAlgorithm,
+    key: &PrivateKey,
+    signed: (&[u8], &[u8]),
+    scheme: &S,
+    line: &mut Line,
+) {
+    match key.to_public_key(alloc) {
+        Ok(key) => print_told(alloc, algorithm, &key, signed, scheme, line),
+        Err(error) => line.shown(&error),
+    }
 }
 
 /// What is told of a signature under the demonstration scheme, and under a table of no rows.
-fn verify(
+fn print_verify(
     alloc: Global,
-    algorithm: &str,
-    key: &str,
-    (message, signature): (&str, &str),
-) -> Result<String> {
-    let algorithm = algorithm_of(algorithm)?;
-    let key = PublicKey::from_der(alloc, &octets_of(alloc, key)?)?;
-    let (message, signature) = (octets_of(alloc, message)?, octets_of(alloc, signature)?);
-    let signed = (message.as_slice(), signature.as_slice());
-    let demo = told(alloc, algorithm, &key, signed, &DemoScheme::new())?;
-    let table = told(
-        alloc,
-        algorithm,
-        &key,
-        signed,
-        &VerdictTable::parse(alloc, &[])?,
-    )?;
-    Ok(format!(in alloc; "{demo}; {table}")?)
+    algorithm: SignatureAlgorithm,
+    key: &[u8],
+    signed: (&[u8], &[u8]),
+    line: &mut Line,
+) {
+    match PublicKey::from_der(alloc, key) {
+        Ok(key) => print_verdicts(alloc, algorithm, &key, signed, line),
+        Err(error) => line.shown(&error),
+    }
+}
+
+fn print_verdicts(
+    alloc: Global,
+    algorithm: SignatureAlgorithm,
+    key: &PublicKey,
+    signed: (&[u8], &[u8]),
+    line: &mut Line,
+) {
+    print_told(alloc, algorithm, key, signed, &DemoScheme::new(), line);
+    line.mark(";");
+    match VerdictTable::parse(alloc, &[]) {
+        Ok(table) => print_told(alloc, algorithm, key, signed, &table, line),
+        Err(error) => line.shown(&error),
+    }
 }
 
 /// `accepted`, or the text of the refusal.
-fn told<S: Scheme>(
+fn print_told<S: Scheme>(
     alloc: Global,
     algorithm: SignatureAlgorithm,
     key: &PublicKey,
     (message, signature): (&[u8], &[u8]),
     scheme: &S,
-) -> Result<String> {
+    line: &mut Line,
+) {
     match algorithm.verify(alloc, key, message, signature, scheme) {
-        Ok(()) => Ok(String::from_str(alloc, "accepted")?),
-        Err(error) => Ok(format!(in alloc; "{error}")?),
+        Ok(()) => line.word("accepted"),
+        Err(error) => line.shown(&error),
     }
 }
 
 /// An algorithm by `rsa` or `ecdsa`, a colon and its digest, or by `ed25519`.
-fn algorithm_of(word: &str) -> Result<SignatureAlgorithm> {
+fn algorithm_of(word: &str) -> Option<SignatureAlgorithm> {
     match word.split_once(':') {
-        Some(("rsa", hash)) => Ok(SignatureAlgorithm::RsaPkcs1v15(hash_of(hash)?)),
-        Some(("ecdsa", hash)) => Ok(SignatureAlgorithm::Ecdsa(hash_of(hash)?)),
-        None => Ok(SignatureAlgorithm::Ed25519),
-        Some(_) => bail!("no algorithm of signatures is called {word}"),
+        Some(("rsa", hash)) => Some(SignatureAlgorithm::RsaPkcs1v15(hash_of(hash)?)),
+        Some(("ecdsa", hash)) => Some(SignatureAlgorithm::Ecdsa(hash_of(hash)?)),
+        None => Some(SignatureAlgorithm::Ed25519),
+        Some(_) => None,
     }
 }
 
-fn hash_of(name: &str) -> Result<HashAlgorithm> {
+fn hash_of(name: &str) -> Option<HashAlgorithm> {
     for hash in HashAlgorithm::ALL {
         if hash.name() == name {
-            return Ok(hash);
+            return Some(hash);
         }
     }
-    bail!("no digest algorithm is called {name}")
+    None
 }

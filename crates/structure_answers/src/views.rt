@@ -1,98 +1,120 @@
 //! What is lent of keys of curves.
 
 use crate::private_keys;
-use anyhow::{Context, Result};
+use crate::row::Args;
+use asn1_types::ObjectIdentifier;
 use key_core::{
     EcdsaKeypair, EcdsaPublicKey, EdKeypair, EdPublicKey, KeyError, NamedEcCurve, NamedEdAlgorithm,
     PrivateKey, PublicKey,
 };
-use row_answers::{octets_of, word_of};
-use std::alloc::Global;
+use row_answers::Line;
+use std::alloc::{AllocError, Global};
 
-/// What is lent of a key as one of an elliptic curve, and as one of a curve 25519 or 448; None where
-/// there is no such call.
-pub fn answer(alloc: Global, call: &str, args: &[&str]) -> Result<Option<String>> {
-    match (call, args) {
-        ("public", [octets]) => {
-            let key = PublicKey::from_der(alloc, &octets_of(alloc, octets)?)?;
-            Ok(Some(of_public(alloc, &key)?))
+/// Whether there is such a call; what is lent of a key as one of an elliptic curve, and as one of a
+/// curve 25519 or 448, is printed.
+pub fn print(alloc: Global, call: &str, args: Args<'_>, line: &mut Line) -> bool {
+    match (call, args.words, args.octets) {
+        ("public", _, [octets]) => print_public(alloc, octets, line),
+        ("private", [call, words @ ..], [_, octets @ ..]) => {
+            return print_private(alloc, call, Args { words, octets }, line);
         }
-        ("private", [call, args @ ..]) => {
-            let key = private_keys::key_of(alloc, call, args)?;
-            Ok(Some(of_private(alloc, &key.context("no such call")??)?))
+        _ => return false,
+    }
+    true
+}
+
+fn print_public(alloc: Global, octets: &[u8], line: &mut Line) {
+    match PublicKey::from_der(alloc, octets) {
+        Ok(key) => {
+            print_ec(alloc, EcdsaPublicKey::try_from(&key), line);
+            line.mark(";");
+            print_ed(alloc, EdPublicKey::try_from(&key), line);
         }
-        _ => Ok(None),
+        Err(error) => line.shown(&error),
     }
 }
 
-fn of_public(alloc: Global, key: &PublicKey) -> Result<String> {
-    let ec = ec_public(alloc, EcdsaPublicKey::try_from(key))?;
-    let ed = ed_public(alloc, EdPublicKey::try_from(key))?;
-    Ok(format!(in alloc; "{ec}; {ed}")?)
+/// Whether there is such a call.
+fn print_private(alloc: Global, call: &str, args: Args<'_>, line: &mut Line) -> bool {
+    match private_keys::key_of(alloc, call, args) {
+        Ok(key) => {
+            print_pair(alloc, &key, line);
+            true
+        }
+        Err(why) => private_keys::print_refusal(why, line),
+    }
 }
 
 /// What is lent of a private key, and how it is shown.
-fn of_private(alloc: Global, key: &PrivateKey) -> Result<String> {
-    let ec = ec_pair(alloc, EcdsaKeypair::try_from(key))?;
-    let ed = ed_pair(alloc, EdKeypair::try_from(key))?;
-    Ok(format!(in alloc; "{key:?}; {ec}; {ed}")?)
+fn print_pair(alloc: Global, key: &PrivateKey, line: &mut Line) {
+    line.named(key);
+    line.mark(";");
+    print_ec_pair(alloc, EcdsaKeypair::try_from(key), line);
+    line.mark(";");
+    print_ed_pair(alloc, EdKeypair::try_from(key), line);
 }
 
 /// The curve, the secret and the public key of a pair; or the text of the refusal.
-fn ec_pair(alloc: Global, pair: Result<EcdsaKeypair<'_>, KeyError>) -> Result<String> {
-    let pair = match pair {
-        Ok(pair) => pair,
-        Err(error) => return Ok(format!(in alloc; "{error}")?),
-    };
-    let (curve, secret) = (curve(alloc, pair.curve())?, word_of(alloc, pair.secret())?);
-    let public_key = ec_public(alloc, EcdsaPublicKey::try_from(&pair))?;
-    Ok(format!(in alloc; "{curve} {secret} {public_key}")?)
+fn print_ec_pair(alloc: Global, pair: Result<EcdsaKeypair<'_>, KeyError>, line: &mut Line) {
+    match pair {
+        Ok(pair) => {
+            print_curve(alloc, pair.curve(), line);
+            line.octets(pair.secret());
+            print_ec(alloc, EcdsaPublicKey::try_from(&pair), line);
+        }
+        Err(error) => line.shown(&error),
+    }
 }
 
 /// The curve and the point; or the text of the refusal.
-fn ec_public(alloc: Global, key: Result<EcdsaPublicKey<'_>, KeyError>) -> Result<String> {
+fn print_ec(alloc: Global, key: Result<EcdsaPublicKey<'_>, KeyError>, line: &mut Line) {
     match key {
         Ok(key) => {
-            let (curve, point) = (curve(alloc, key.curve())?, key.encoded_point());
-            let point = word_of(alloc, point)?;
-            Ok(format!(in alloc; "{curve} {point}")?)
+            print_curve(alloc, key.curve(), line);
+            line.octets(key.encoded_point());
         }
-        Err(error) => Ok(format!(in alloc; "{error}")?),
+        Err(error) => line.shown(&error),
     }
 }
 
 /// The algorithm, the secret and the public key of a pair; or the text of the refusal.
-fn ed_pair(alloc: Global, pair: Result<EdKeypair<'_>, KeyError>) -> Result<String> {
-    let pair = match pair {
-        Ok(pair) => pair,
-        Err(error) => return Ok(format!(in alloc; "{error}")?),
-    };
-    let algorithm = algorithm(alloc, pair.algorithm())?;
-    let secret = word_of(alloc, pair.secret())?;
-    let public_key = ed_public(alloc, EdPublicKey::try_from(&pair))?;
-    Ok(format!(in alloc; "{algorithm} {secret} {public_key}")?)
+fn print_ed_pair(alloc: Global, pair: Result<EdKeypair<'_>, KeyError>, line: &mut Line) {
+    match pair {
+        Ok(pair) => {
+            print_algorithm(alloc, pair.algorithm(), line);
+            line.octets(pair.secret());
+            print_ed(alloc, EdPublicKey::try_from(&pair), line);
+        }
+        Err(error) => line.shown(&error),
+    }
 }
 
 /// The algorithm and the octets of the key; or the text of the refusal.
-fn ed_public(alloc: Global, key: Result<EdPublicKey<'_>, KeyError>) -> Result<String> {
+fn print_ed(alloc: Global, key: Result<EdPublicKey<'_>, KeyError>, line: &mut Line) {
     match key {
         Ok(key) => {
-            let algorithm = algorithm(alloc, key.algorithm())?;
-            let octets = word_of(alloc, key.key_bytes())?;
-            Ok(format!(in alloc; "{algorithm} {octets}")?)
+            print_algorithm(alloc, key.algorithm(), line);
+            line.octets(key.key_bytes());
         }
-        Err(error) => Ok(format!(in alloc; "{error}")?),
+        Err(error) => line.shown(&error),
     }
 }
 
 /// What a curve is called, and its identifier.
-fn curve(alloc: Global, named: NamedEcCurve<'_>) -> Result<String> {
-    let oid = named.to_oid(alloc)?;
-    Ok(format!(in alloc; "{named} {oid}")?)
+fn print_curve(alloc: Global, named: NamedEcCurve<'_>, line: &mut Line) {
+    line.shown(&named);
+    print_oid(named.to_oid(alloc), line);
 }
 
 /// What an algorithm is called, and its identifier.
-fn algorithm(alloc: Global, named: NamedEdAlgorithm<'_>) -> Result<String> {
-    let oid = named.to_oid(alloc)?;
-    Ok(format!(in alloc; "{named} {oid}")?)
+fn print_algorithm(alloc: Global, named: NamedEdAlgorithm<'_>, line: &mut Line) {
+    line.shown(&named);
+    print_oid(named.to_oid(alloc), line);
+}
+
+fn print_oid(oid: Result<ObjectIdentifier, AllocError>, line: &mut Line) {
+    match oid {
+        Ok(oid) => line.shown(&oid),
+        Err(error) => line.shown(&error),
+    }
 }

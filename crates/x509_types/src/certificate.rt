@@ -38,9 +38,10 @@ impl Structure for Certificate {
         let Some((tbs, algorithm, value)) = three_kids(elem, SEQUENCE) else {
             return Err(DerError::Shape);
         };
-        let tbs_certificate = TbsCertificate::read_at(alloc, tbs)?;
-        let signature_algorithm = AlgorithmIdentifier::read_at(alloc, algorithm)?;
         let signature_value = BitString::read_at(alloc, value)?;
+        let signature_algorithm = AlgorithmIdentifier::read_at(alloc, algorithm)?;
+        // Last, since of all it takes most to let go where another fails.
+        let tbs_certificate = TbsCertificate::read_at(alloc, tbs)?;
         Ok(Certificate {
             tbs_certificate,
             signature_algorithm,
@@ -58,9 +59,9 @@ impl Structure for Certificate {
 
     fn try_clone(&self, alloc: Global) -> Result<Certificate, AllocError> {
         Ok(Certificate {
-            tbs_certificate: self.tbs_certificate.try_clone(alloc)?,
-            signature_algorithm: self.signature_algorithm.try_clone(alloc)?,
             signature_value: self.signature_value.try_clone(alloc)?,
+            signature_algorithm: self.signature_algorithm.try_clone(alloc)?,
+            tbs_certificate: self.tbs_certificate.try_clone(alloc)?,
         })
     }
 

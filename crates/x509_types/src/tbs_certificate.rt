@@ -1,6 +1,8 @@
 //! What is signed of a certificate.
 
-ghost use Rattle.std.specs.Prelude.{◌≡◌, ◌↔◌, IsTrue};
+ghost use Rattle.std.specs.Prelude.{◌≡◌, ◌↔◌, ◌++◌, ◌∷◌, [], IsTrue, MatchResult};
+ghost use Rattle.der_core.specs.Placed.{AreDer};
+ghost use Rattle.der_core.specs.Refusals.{RefusesInner};
 
 use crate::tbs_fields::{EXTENSIONS, ISSUER_UNIQUE_ID, SUBJECT_UNIQUE_ID, TbsFields, VERSION};
 use crate::tbs_parts::{AddedFields, IssuedBy, IssuedTo, join};
@@ -62,6 +64,15 @@ fn are_same_extensions(a: &Option<Extensions>, b: &Option<Extensions>) -> bool
     a == b
 }
 
+/// Appends the element of the value.
+fn push_value<T: Structure>(alloc: Global, kids: &mut NewKids, value: &T) -> Result<(), DerError>
+    ensures { MatchResult result
+        (λ _. (kids.new.kids ≡ kids.old.kids ++ T.written value.now ∷ []) × AreDer (T.inner value.now))
+        (RefusesInner (T.inner value.now)) }
+{
+    Ok(kids.push(value.write(alloc)?)?)
+}
+
 impl Structure for TbsCertificate {
     ghost use Rattle.x509_types.specs.TbsCertificate.{tbs_certificate, inner_tbs, IsTbsCertificate};
     ghost use Rattle.x509_types.specs.Facts.TbsCertificates.{tbs_certificates};
@@ -89,12 +100,12 @@ impl Structure for TbsCertificate {
     fn write(&self, alloc: Global) -> Result<Tree, DerError> {
         let mut kids = NewKids::new(alloc);
         push_explicit(alloc, &mut kids, VERSION, &self.version)?;
-        kids.push(self.serial_number.write(alloc)?)?;
-        kids.push(self.signature.write(alloc)?)?;
-        kids.push(self.issuer.write(alloc)?)?;
-        kids.push(self.validity.write(alloc)?)?;
-        kids.push(self.subject.write(alloc)?)?;
-        kids.push(self.subject_public_key_info.write(alloc)?)?;
+        push_value(alloc, &mut kids, &self.serial_number)?;
+        push_value(alloc, &mut kids, &self.signature)?;
+        push_value(alloc, &mut kids, &self.issuer)?;
+        push_value(alloc, &mut kids, &self.validity)?;
+        push_value(alloc, &mut kids, &self.subject)?;
+        push_value(alloc, &mut kids, &self.subject_public_key_info)?;
         push_leaf(alloc, &mut kids, ISSUER_UNIQUE_ID, &self.issuer_unique_id)?;
         push_leaf(alloc, &mut kids, SUBJECT_UNIQUE_ID, &self.subject_unique_id)?;
         push_explicit(alloc, &mut kids, EXTENSIONS, &self.extensions)?;
@@ -119,7 +130,6 @@ impl PartialEq for TbsCertificate {
     ghost use Rattle.std.specs.Cmp.{on_per, partial_equiv_from_equiv};
     ghost use Rattle.std.specs.Prelude.{bytes_eq};
     ghost use Rattle.der_core.specs.Equality.{same_octets};
-    ghost use Rattle.der_core.specs.Placed.{AreDer};
     ghost use Rattle.x509_types.specs.TbsCertificate.{tbs_certificate, inner_tbs, tbs_octets};
 
     ghost eq = { on (λ value. tbs_octets value) bytes_eq };
