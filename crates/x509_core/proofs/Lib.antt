@@ -19,3 +19,4 @@ pub mod Verdicts
 pub mod Walks
 pub mod OneLink
 pub mod OneChain
+pub mod SameChains

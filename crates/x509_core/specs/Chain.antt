@@ -14,6 +14,7 @@ use Rattle.x509_core.specs.declared.error.CaChainError.TheVariants as chain_erro
 use Rattle.x509_core.specs.declared.error.CertError.{CertError}
 use Rattle.x509_core.specs.declared.error.CertError.TheVariants as errors
 use Rattle.x509_core.specs.declared.validator.ChainChecks.{ChainChecks}
+use Rattle.x509_core.specs.declared.viewed.ViewedCert.{ViewedCert}
 use Rattle.x509_core.specs.declared.window.DateCheck.TheVariants as dates
 use Rattle.x509_core.specs.declared.window.Window.{Window}
 
@@ -102,9 +103,9 @@ abbrev pub lent : Bor KeptCertificate → KeptCertificate
 lent certificate = certificate.now
 
 -- the last parent so far, or the checked certificate
-abbrev pub nearest : KeptCertificate → Option (Bor KeptCertificate) → KeptCertificate
+abbrev pub nearest : KeptCertificate → Option ViewedCert → KeptCertificate
 nearest checked None = checked
-nearest checked (Some parent) = parent.now
+nearest checked (Some parent) = parent.cert.now
 
 -- where there is an iterator, it gives these and no others
 abbrev pub Gives : {S : Type 0} → (S → Option (Bor KeptCertificate) → S → Type 0) → Option S → Option (List KeptCertificate) → Type 0

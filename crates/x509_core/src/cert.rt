@@ -14,7 +14,7 @@ ghost use Rattle.key_core.specs.declared.element.Element.TheVariants as elements
 ghost use Rattle.names_core.specs.UtcDate.{fields_of};
 ghost use Rattle.x509_types.specs.Certificate.{IsCertificate};
 ghost use Rattle.x509_types.specs.CertificateElements.{certificate_of};
-ghost use Rattle.x509_types.specs.CertificateView.{IsCertView, view_elements};
+ghost use Rattle.x509_types.specs.CertificateView.{IsKnownView, view_elements};
 ghost use Rattle.x509_types.specs.FirstOfValue.{extensions_in};
 ghost use Rattle.x509_types.specs.declared.certificate.Certificate.{Certificate};
 ghost use Rattle.x509_core.specs.KeptCertificate.{HasFields, kept_octets, written_elements, written_octets};
@@ -164,15 +164,12 @@ impl Cert {
         rest.join(public_key)
     }
 
-    /// The certificate where its octets lie. It takes no memory.
+    /// The certificate where its octets lie. It takes no memory, and reads heads alone.
     pub fn view(&self) -> CertView<'_>
-        ensures is { IsCertView (certificate_of self.now.elements) result }
+        ensures is { IsKnownView (certificate_of self.now.elements) result }
         ensures elements { view_elements result ≡ self.now.elements }
     {
-        match CertView::read(self.kept.elem()) {
-            Some(view) => view,
-            None => unreachable!(),
-        }
+        CertView::of_known(self.kept.elem())
     }
 
     /// The number that the issuer gave it (RFC 5280 4.1.2.2).

@@ -5,6 +5,7 @@ ghost use Rattle.x509_core.specs.CertType.{IsOfType, IsAuthorityOf};
 
 use crate::cert::Cert;
 use crate::parent::names_agree;
+use crate::viewed::ViewedCert;
 use x509_types::CertView;
 
 /// What kind of certificate one is, by what it says of itself (RFC 5280 3.2, 4.2.1.9). Whether it is
@@ -51,5 +52,14 @@ impl Cert {
         ensures { IsOfType self.now.elements result }
     {
         CertType::of(self.view())
+    }
+}
+
+impl ViewedCert<'_> {
+    /// The kind of the certificate.
+    pub fn ty(&self) -> CertType
+        ensures { IsOfType self.now.cert.now.elements result }
+    {
+        CertType::of(self.view)
     }
 }

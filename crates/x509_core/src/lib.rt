@@ -15,6 +15,7 @@ mod laws;
 mod link;
 mod parent;
 mod validator;
+mod viewed;
 mod window;
 
 pub use cert::Cert;

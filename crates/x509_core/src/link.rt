@@ -13,6 +13,7 @@ ghost use Rattle.x509_core.specs.declared.error.CertError.TheVariants as errors;
 
 use crate::cert::Cert;
 use crate::error::{CaChainError, CertCause, CertError};
+use crate::viewed::ViewedCert;
 use crate::window::Window;
 use key_core::{SignatureAlgorithm, SignatureError};
 use sig_core::Scheme;
@@ -38,31 +39,20 @@ impl Cert {
             (λ _. IsLink (S.judge scheme.now) window.now count self.now.elements other.now.elements)
             (RefusesBy (link_rules (S.judge scheme.now) window.now count self.now other.now)) }
     {
-        self.expect_authority(alloc)?;
-        self.expect_deep_enough(alloc, number)?;
-        self.expect_valid(alloc, window)?;
-        self.is_parent_of(alloc, other)?;
-        other.expect_signed_by(alloc, self, scheme)
+        let (parent, child) = (self.viewed(), other.viewed());
+        parent.expect_link(alloc, &child, number, window, scheme)
     }
 
-    /// The certificate is that of an authority (RFC 5280 4.2.1.9).
-    fn expect_authority(&self, alloc: Global) -> Result<(), CertError>
-        ensures { MatchResult result (λ _. HasCa self.now.elements true) (Breaks (IsNoAuthority self.now)) }
+    /// The certificate is valid (RFC 5280 6.1.3 (a) (2)), else `InvalidCertificate` of it with the
+    /// cause that the window tells (`Window::expect_valid`).
+    pub fn expect_valid(&self, alloc: Global, window: &Window) -> Result<(), CertError>
+        ensures answer { MatchResult result
+            (λ _. IsWithinWindow window.now self.now.elements)
+            (Breaks (IsOutside window.now self.now)) }
+        // What is valid is so whatever memory there is.
+        ensures valid { OnErr result (IsWithinWindow window.now self.now.elements → ⊥) }
     {
-        if self.is_authority() {
-            return Ok(());
-        }
-        Err(self.no_authority(alloc))
-    }
-
-    /// Whether the CA flag is true.
-    fn is_authority(&self) -> bool
-        ensures { IsTrue result ↔ HasCa self.now.elements true }
-    {
-        match self.view().ca() {
-            Some(ca) => ca,
-            None => false,
-        }
+        self.viewed().expect_valid(alloc, window)
     }
 
     /// The certificate is none of an authority.
@@ -78,22 +68,6 @@ impl Cert {
         }
     }
 
-    /// No more certificates stand between it and the end of the path than the path length allows
-    /// (RFC 5280 4.2.1.9).
-    fn expect_deep_enough(&self, alloc: Global, number: u16) -> Result<(), CertError>
-        ensures { (count : ℕ) → IsStandingFor number count → MatchResult result
-            (λ _. IsDeepEnough count self.now.elements)
-            (Breaks (IsTooDeep count self.now)) }
-    {
-        let Some(pathlen) = self.view().path_length() else {
-            return Ok(());
-        };
-        if number <= u16::from(pathlen) {
-            return Ok(());
-        }
-        Err(self.too_deep(alloc, pathlen))
-    }
-
     /// More certificates stand between it and the end of the path than the path length allows.
     fn too_deep(&self, alloc: Global, pathlen: u8) -> CertError
         requires { HasPathLength self.now.elements pathlen }
@@ -107,18 +81,86 @@ impl Cert {
         }
     }
 
-    /// The certificate is valid (RFC 5280 6.1.3 (a) (2)), else `InvalidCertificate` of it with the
-    /// cause that the window tells (`Window::expect_valid`).
+    /// The signature of the certificate is refused.
+    fn badly_signed(&self, alloc: Global, source: SignatureError) -> CertError
+        ensures memory { source ≡ signature_errors.Memory → result ≡ errors.Memory }
+        ensures told { IsInvalid self.now (causes.Signature source) result }
+    {
+        match source {
+            SignatureError::Memory => CertError::Memory,
+            source => self.invalid(alloc, CertCause::Signature { source }),
+        }
+    }
+}
+
+/// The rules of a link, each asked of the views of its two certificates.
+impl ViewedCert<'_> {
+    /// Whether this certificate may have issued the child (`Cert::expect_link`).
+    pub fn expect_link<S: Scheme>(
+        &self,
+        alloc: Global,
+        child: &ViewedCert<'_>,
+        number: u16,
+        window: &Window,
+        scheme: &S,
+    ) -> Result<(), CertError>
+        ensures { (count : ℕ) → IsStandingFor number count → MatchResult result
+            (λ _. IsLink (S.judge scheme.now) window.now count self.now.cert.now.elements child.now.cert.now.elements)
+            (RefusesBy (link_rules (S.judge scheme.now) window.now count self.now.cert.now child.now.cert.now)) }
+    {
+        self.expect_authority(alloc)?;
+        self.expect_deep_enough(alloc, number)?;
+        self.expect_valid(alloc, window)?;
+        self.is_parent_of(alloc, child)?;
+        child.expect_signed_by(alloc, self.cert, scheme)
+    }
+
+    /// The certificate is that of an authority (RFC 5280 4.2.1.9).
+    fn expect_authority(&self, alloc: Global) -> Result<(), CertError>
+        ensures { MatchResult result (λ _. HasCa self.now.cert.now.elements true) (Breaks (IsNoAuthority self.now.cert.now)) }
+    {
+        if self.is_authority() {
+            return Ok(());
+        }
+        Err(self.cert.no_authority(alloc))
+    }
+
+    /// Whether the CA flag is true.
+    fn is_authority(&self) -> bool
+        ensures { IsTrue result ↔ HasCa self.now.cert.now.elements true }
+    {
+        match self.view.ca() {
+            Some(ca) => ca,
+            None => false,
+        }
+    }
+
+    /// No more certificates stand between it and the end of the path than the path length allows
+    /// (RFC 5280 4.2.1.9).
+    fn expect_deep_enough(&self, alloc: Global, number: u16) -> Result<(), CertError>
+        ensures { (count : ℕ) → IsStandingFor number count → MatchResult result
+            (λ _. IsDeepEnough count self.now.cert.now.elements)
+            (Breaks (IsTooDeep count self.now.cert.now)) }
+    {
+        let Some(pathlen) = self.view.path_length() else {
+            return Ok(());
+        };
+        if number <= u16::from(pathlen) {
+            return Ok(());
+        }
+        Err(self.cert.too_deep(alloc, pathlen))
+    }
+
+    /// The certificate is valid (`Cert::expect_valid`).
     pub fn expect_valid(&self, alloc: Global, window: &Window) -> Result<(), CertError>
         ensures answer { MatchResult result
-            (λ _. IsWithinWindow window.now self.now.elements)
-            (Breaks (IsOutside window.now self.now)) }
-        // What is valid is so whatever memory there is.
-        ensures valid { OnErr result (IsWithinWindow window.now self.now.elements → ⊥) }
+            (λ _. IsWithinWindow window.now self.now.cert.now.elements)
+            (Breaks (IsOutside window.now self.now.cert.now)) }
+        ensures valid { OnErr result (IsWithinWindow window.now self.now.cert.now.elements → ⊥) }
     {
-        match window.expect_valid(self.view()) {
+        match window.expect_valid(self.view) {
             Ok(()) => Ok(()),
-            Err(cause) => Err(self.invalid(alloc, cause)),
+            Err(cause) => Err(self.cert.invalid(alloc, cause)),
         }
     }
 
@@ -130,10 +172,10 @@ impl Cert {
         scheme: &S,
     ) -> Result<(), CertError>
         ensures { MatchResult result
-            (λ _. IsSignedBy (S.judge scheme.now) parent.now.elements self.now.elements)
-            (RefusesBy (signing_rules (S.judge scheme.now) parent.now self.now)) }
+            (λ _. IsSignedBy (S.judge scheme.now) parent.now.elements self.now.cert.now.elements)
+            (RefusesBy (signing_rules (S.judge scheme.now) parent.now self.now.cert.now)) }
     {
-        match SignatureAlgorithm::from_algorithm_identifier(alloc, self.outer_algorithm()) {
+        match SignatureAlgorithm::from_algorithm_identifier(alloc, self.cert.outer_algorithm()) {
             Ok(algorithm) => self.expect_accepted(alloc, algorithm, parent, scheme),
             Err(source) => Err(signature_refusal(source)),
         }
@@ -148,32 +190,20 @@ impl Cert {
         parent: &Cert,
         scheme: &S,
     ) -> Result<(), CertError>
-        requires { NamesSignature self.now.certificate.signature_algorithm algorithm }
+        requires { NamesSignature self.now.cert.now.certificate.signature_algorithm algorithm }
         ensures { MatchResult result
-            (λ _. IsSignedBy (S.judge scheme.now) parent.now.elements self.now.elements)
-            (Breaks (IsToldOf self.now (IsBadlySigned (S.judge scheme.now) parent.now.elements self.now.elements))) }
+            (λ _. IsSignedBy (S.judge scheme.now) parent.now.elements self.now.cert.now.elements)
+            (Breaks (IsToldOf self.now.cert.now (IsBadlySigned (S.judge scheme.now) parent.now.elements self.now.cert.now.elements))) }
     {
-        let view = self.view();
         match algorithm.verify(
             alloc,
             parent.public_key(),
-            view.tbs(),
-            view.signature(),
+            self.view.tbs(),
+            self.view.signature(),
             scheme,
         ) {
             Ok(()) => Ok(()),
-            Err(source) => Err(self.badly_signed(alloc, source)),
-        }
-    }
-
-    /// The signature of the certificate is refused.
-    fn badly_signed(&self, alloc: Global, source: SignatureError) -> CertError
-        ensures memory { source ≡ signature_errors.Memory → result ≡ errors.Memory }
-        ensures told { IsInvalid self.now (causes.Signature source) result }
-    {
-        match source {
-            SignatureError::Memory => CertError::Memory,
-            source => self.invalid(alloc, CertCause::Signature { source }),
+            Err(source) => Err(self.cert.badly_signed(alloc, source)),
         }
     }
 }

@@ -7,6 +7,7 @@ ghost use Rattle.x509_core.specs.Parent.{AgreeByKey, AgreeByName, AgreeByKeyAndN
 use crate::cert::Cert;
 use crate::error::{CaChainError, CertCause, CertError, ExtName};
 use crate::key_link::{KeyLink, key_link};
+use crate::viewed::ViewedCert;
 use der_core::{Octets, is_same};
 use std::alloc::Global;
 use x509_types::CertView;
@@ -32,17 +33,8 @@ impl Cert {
         // Whatever memory there is.
         ensures accepted { AgreeByKeyAndName self.now.elements other.now.elements → result ≡ Ok tt }
     {
-        let (parent, child) = (self.view(), other.view());
-        match key_link(parent, child) {
-            KeyLink::Agree => self.expect_issuer_of(alloc, other, names_agree(parent, child)),
-            KeyLink::Missing => {
-                let name = ExtName::SubjectKeyIdentifier;
-                Err(self.invalid(alloc, CertCause::ExtensionNotFound { name }))
-            }
-            KeyLink::Differ { expected, actual } => {
-                Err(other.other_key(alloc, expected, actual))
-            }
-        }
+        let (parent, child) = (self.viewed(), other.viewed());
+        parent.is_parent_of(alloc, &child)
     }
 
     /// The issuer of the other certificate is the subject of this one, by whether their names agree.
@@ -84,6 +76,34 @@ impl Cert {
         match self.subject_name(alloc) {
             Ok(id) => CertError::InvalidCertificate { id, source },
             Err(_) => CertError::Memory,
+        }
+    }
+}
+
+impl ViewedCert<'_> {
+    /// Whether the names and key identifiers are those of a parent and its child
+    /// (`Cert::is_parent_of`).
+    pub fn is_parent_of(&self, alloc: Global, child: &ViewedCert<'_>) -> Result<(), CertError>
+        ensures answer { MatchResult result
+            (λ _. AgreeByKeyAndName self.now.cert.now.elements child.now.cert.now.elements)
+            (RefusesParent self.now.cert.now child.now.cert.now) }
+        ensures accepted { AgreeByKeyAndName self.now.cert.now.elements child.now.cert.now.elements → result ≡ Ok tt }
+    {
+        match key_link(self.view, child.view) {
+            KeyLink::Agree => {
+                let agree = names_agree(self.view, child.view);
+                self.cert.expect_issuer_of(alloc, child.cert, agree)
+            }
+            KeyLink::Missing => {
+                let name = ExtName::SubjectKeyIdentifier;
+                Err(
+                    self.cert
+                        .invalid(alloc, CertCause::ExtensionNotFound { name }),
+                )
+            }
+            KeyLink::Differ { expected, actual } => {
+                Err(child.cert.other_key(alloc, expected, actual))
+            }
         }
     }
 }

@@ -7,6 +7,7 @@ ghost use Rattle.x509_core.specs.CertType.{IsOfType};
 ghost use Rattle.x509_core.specs.Chain.{Gives, IsAccepted, WasAccepted, WasRefused, AsksForMemory, IsLinkedChain, IsFirstUnlinked, AsksForDate, IsDated, LacksDate, chain_rules, last_of, lent, nearest};
 ghost use Rattle.x509_core.specs.Checks.{checks_at, first_checks, with_not_before, with_not_after, with_chain, with_root};
 ghost use Rattle.x509_core.specs.KeptCertificate.{KeptCertificate};
+ghost use Rattle.x509_core.specs.Link.{IsLink, IsStandingFor, link_rules};
 ghost use Rattle.x509_core.specs.Rules.{RefusesBy};
 ghost use Rattle.x509_core.specs.declared.cert_type.CertType.TheVariants as types;
 ghost use Rattle.x509_core.specs.declared.error.Arg.TheVariants as arguments;
@@ -17,6 +18,7 @@ ghost use Rattle.x509_core.specs.declared.window.DateCheck.TheVariants as dates;
 use crate::cert::Cert;
 use crate::cert_type::CertType;
 use crate::error::{Arg, CaChainError, CertError};
+use crate::viewed::ViewedCert;
 use crate::window::{DateCheck, Window};
 use names_core::UtcDate;
 use sig_core::Scheme;
@@ -211,14 +213,15 @@ impl<'a, 'b, Chain: Iterator<Item = &'b Cert> + Drop> CertValidator<'a, 'b, Chai
             ..
         } = self;
         checks.expect_date()?;
-        cert.expect_valid(alloc, &checks.window)?;
+        let checked = cert.viewed();
+        checked.expect_valid(alloc, &checks.window)?;
         if !checks.chain {
             return Ok(());
         }
         let Some(chain) = chain else {
             return Err(CertError::MissingBuilderArgument { arg: Arg::Chain });
         };
-        let last = last_type(alloc, cert, chain, &checks.window, scheme)?;
+        let last = last_type(alloc, checked, chain, &checks.window, scheme)?;
         checks.expect_root(last)
     }
 }
@@ -289,7 +292,7 @@ impl ChainChecks {
 /// The kind of the last certificate, where each parent may have issued the certificate before it.
 fn last_type<'b, Chain: Iterator<Item = &'b Cert> + Drop, S: Scheme>(
     alloc: Global,
-    checked: &Cert,
+    checked: ViewedCert<'_>,
     chain: Chain,
     window: &Window,
     scheme: &S,
@@ -297,25 +300,46 @@ fn last_type<'b, Chain: Iterator<Item = &'b Cert> + Drop, S: Scheme>(
     requires can { Chain.can_next chain }
     requires ends { IsFinite (Chain.remaining chain) }
     ensures { MatchResult result
-        (λ last. (xs : List (Bor KeptCertificate)) × Drains Chain.next_gives chain xs × IsLinkedChain (S.judge scheme.now) window.now checked.now (map lent xs) × IsOfType (last_of checked.now (map lent xs)).elements last)
-        (λ e. (e ≡ errors.Memory) ⊎ ((xs : List (Bor KeptCertificate)) × (rest : Chain) × Yields Chain.next_gives chain xs rest × IsFirstUnlinked (S.judge scheme.now) window.now checked.now (map lent xs) e)) }
+        (λ last. (xs : List (Bor KeptCertificate)) × Drains Chain.next_gives chain xs × IsLinkedChain (S.judge scheme.now) window.now checked.entry.cert.now (map lent xs) × IsOfType (last_of checked.entry.cert.now (map lent xs)).elements last)
+        (λ e. (e ≡ errors.Memory) ⊎ ((xs : List (Bor KeptCertificate)) × (rest : Chain) × Yields Chain.next_gives chain xs rest × IsFirstUnlinked (S.judge scheme.now) window.now checked.entry.cert.now (map lent xs) e)) }
 {
-    let mut last: Option<&'b Cert> = None;
+    let mut last: Option<ViewedCert<'b>> = None;
     let mut number: u16 = 0;
     for parent in chain {
-        parent.expect_link(alloc, nearest(checked, last), number, window, scheme)?;
-        last = Some(parent);
+        let above = parent.viewed();
+        expect_next(alloc, &checked, &last, &above, number, window, scheme)?;
+        last = Some(above);
         number = number.saturating_add(1);
     }
-    Ok(nearest(checked, last).ty())
+    Ok(type_so_far(&checked, &last))
 }
 
-/// The last parent so far, or the checked certificate.
-fn nearest<'x>(checked: &'x Cert, last: Option<&'x Cert>) -> &'x Cert
-    ensures { result.now ≡ nearest checked.now last.entry }
+/// The certificate may have issued the last parent so far, or the checked certificate.
+fn expect_next<S: Scheme>(
+    alloc: Global,
+    checked: &ViewedCert<'_>,
+    last: &Option<ViewedCert<'_>>,
+    above: &ViewedCert<'_>,
+    number: u16,
+    window: &Window,
+    scheme: &S,
+) -> Result<(), CertError>
+    ensures { (count : ℕ) → IsStandingFor number count → MatchResult result
+        (λ _. IsLink (S.judge scheme.now) window.now count above.now.cert.now.elements (nearest checked.now.cert.now last.now).elements)
+        (RefusesBy (link_rules (S.judge scheme.now) window.now count above.now.cert.now (nearest checked.now.cert.now last.now))) }
 {
     match last {
-        Some(parent) => parent,
-        None => checked,
+        Some(child) => above.expect_link(alloc, child, number, window, scheme),
+        None => above.expect_link(alloc, checked, number, window, scheme),
+    }
+}
+
+/// The kind of the last parent so far, or of the checked certificate.
+fn type_so_far(checked: &ViewedCert<'_>, last: &Option<ViewedCert<'_>>) -> CertType
+    ensures { IsOfType (nearest checked.now.cert.now last.now).elements result }
+{
+    match last {
+        Some(parent) => parent.ty(),
+        None => checked.ty(),
     }
 }

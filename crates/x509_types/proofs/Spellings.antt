@@ -15,7 +15,7 @@ use Rattle.x509_values.specs.BasicConstraints.{basic_constraints, IsBasicConstra
 use Rattle.x509_values.specs.Facts.Constraints.{boolean_stands, constraints_spelled}
 use Rattle.x509_values.specs.declared.basic_constraints.BasicConstraints.{BasicConstraints}
 use Rattle.x509_types.specs.ExtensionView.{value_octets, IsValueIn}
-use Rattle.x509_types.specs.Extension.{extension, IsExtension}
+use Rattle.x509_types.specs.Extension.{IsExtension}
 use Rattle.x509_types.specs.ExtensionSpellings.{HasOtherFlag, HasOtherConstraints, IsSpelling}
 use Rattle.x509_types.specs.TbsCertificate.{IsExtensions}
 use Rattle.x509_types.specs.AttributeValues.{AreAttributeValues}

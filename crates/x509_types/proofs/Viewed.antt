@@ -1,5 +1,7 @@
 -- What is known of a certificate where it lies.
-use Rattle.std.proofs.Common.{◌≡◌, ℕ, List, [], ◌∷◌, refl, ap, ◌∙◌}
+use Rattle.std.proofs.Common.{◌≡◌, ℕ, List, [], ◌∷◌, length, refl, sym, ap, ◌∙◌, arith}
+use Rattle.std.proofs.Math.Logic.{∥∥₁_elim}
+use Rattle.std.proofs.lemmas.Grind.{merely}
 use Rattle.der_core.specs.DerElement.{DerElement, Primitive}
 use Rattle.der_core.specs.Elements.{sequence}
 use Rattle.der_core.specs.Structure.{Fits}
@@ -11,6 +13,7 @@ use Rattle.x509_types.specs.TbsElements.{tbs_of}
 use Rattle.x509_types.specs.TbsCertificate.{AreTbsFields}
 use Rattle.x509_types.specs.Certificate.{IsCertificate}
 use Rattle.x509_types.specs.CertificateElements.{CertificateElements, certificate_of, AreCertificateFields}
+use Rattle.x509_types.specs.Facts.Certificates.{same_three}
 use Rattle.x509_types.specs.declared.certificate.Certificate.{Certificate}
 use Rattle.x509_types.proofs.Signed.{by_three}
 use Rattle.x509_types.proofs.Spelled.{by_fields}
@@ -34,3 +37,18 @@ pub by_certificate : (element : DerElement) (f : CertificateElements) (c : Certi
 by_certificate element f c is spelled =
     let three = by_three element (tbs_of f.tbs) f.algorithm (Primitive 0x03 (f.unused ∷ f.signature)) c is spelled in
     record { tbs = by_fields (tbs_of f.tbs) f.tbs c.tbs_certificate refl three.0; algorithm = three.1; signature = same_bits (Primitive 0x03 (f.unused ∷ f.signature)) f.unused f.signature c.signature_value refl three.2 }
+
+-- the three elements in one that stands around fields
+pub three_parts : (element tbs algorithm value : DerElement) (f : CertificateElements) → element ≡ sequence (tbs ∷ algorithm ∷ value ∷ []) → element ≡ certificate_of f
+    → (tbs ≡ tbs_of f.tbs) × (algorithm ≡ f.algorithm) × (value ≡ Primitive 0x03 (f.unused ∷ f.signature))
+three_parts element tbs algorithm value f is around = same_three tbs algorithm value (tbs_of f.tbs) f.algorithm (Primitive 0x03 (f.unused ∷ f.signature)) (sym is ∙ around)
+
+same_contents : (value : DerElement) (a b : List ℕ) → value ≡ Primitive 0x03 a → value ≡ Primitive 0x03 b → a ≡ b
+same_contents value a b p q = cc
+
+pub no_bits : (value : DerElement) (contents : List ℕ) (unused : ℕ) (payload : List ℕ) → length contents ≡ 0 → value ≡ Primitive 0x03 contents → value ≡ Primitive 0x03 (unused ∷ payload) → ⊥
+no_bits value contents unused payload empty p q = omega (arith, empty, ap length (same_contents value contents (unused ∷ payload) p q))
+
+-- what is known of an element is known of the fields that it stands around
+pub known_fits : (element : DerElement) (f : CertificateElements) → element ≡ certificate_of f → ∥ Fits IsCertificate element ∥₁ → ∥ Fits AreCertificateFields f ∥₁
+known_fits element f is known = ∥∥₁_elim known (λ a b. squash₁ a b) (λ fit. merely (fit.0, by_certificate element f fit.0 is fit.1))

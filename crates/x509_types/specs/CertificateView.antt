@@ -8,9 +8,14 @@ use Rattle.x509_types.specs.declared.cert_view.CertView.{CertView}
 
 -- the elements that lie there
 abbrev pub view_elements : CertView → CertificateElements
-view_elements view = lent_elements view.fields view.algorithm.is.0 view.unused view.signature.now
+view_elements view = lent_elements view.parts
 
 -- The view is one of this element: its elements are those of the fields, and spell those of a certificate.
 pub record IsCertView (element : DerElement) (view : CertView) : Type 0 where
   pub is : element ≡ certificate_of (view_elements view)
   pub fits : Fits AreCertificateFields (view_elements view)
+
+-- The same of an element that is known to spell a certificate, which isn't named.
+pub record IsKnownView (element : DerElement) (view : CertView) : Type 0 where
+  pub is : element ≡ certificate_of (view_elements view)
+  pub fits : ∥ Fits AreCertificateFields (view_elements view) ∥₁

@@ -2,30 +2,18 @@
 
 ghost use Rattle.der_core.specs.Structure.{Fits};
 ghost use Rattle.x509_types.specs.CertificateElements.{AreCertificateFields};
-ghost use Rattle.std.specs.Prelude.{◌≡◌};
-ghost use Rattle.std.specs.Coded.{Coded-set};
-ghost use Rattle.der_core.specs.Facts.Codes.{coded_element};
 ghost use Rattle.x509_types.specs.LentCertificate.{lent_elements};
-ghost use Rattle.x509_types.specs.LentTbs.{elements_at};
-ghost use Rattle.x509_types.specs.TbsElements.{tbs_of};
 
-use crate::inner_fields::{key_parts, times_at};
-use crate::tbs_fields::TbsFields;
-use crate::{AlgorithmIdentifier, Time};
-use asn1_types::BitString;
-use der_core::tag::{BIT_STRING, SEQUENCE};
-use der_core::{Elem, expect, leaf_at, three_kids};
+use crate::Time;
+use crate::cert_parts::CertParts;
+use crate::inner_fields::{first_time, key_parts, second_time};
+use der_core::Elem;
 
 /// A certificate where its octets lie (RFC 5280 4.1). It takes no memory.
 #[derive(Clone, Copy)]
 pub struct CertView<'a> {
-    tbs: Elem<'a>,
-    fields: TbsFields<'a>,
-    algorithm: Elem<'a>,
-    unused: u8,
-    signature: &'a [u8],
-    ghost signed: { tbs.is.0 ≡ tbs_of (elements_at fields) } by { Coded-set coded_element tbs.is.0 (tbs_of (elements_at fields)) },
-    ghost fits: { ∥ Fits AreCertificateFields (lent_elements fields algorithm.is.0 unused signature.now) ∥₁ },
+    parts: CertParts<'a>,
+    ghost fits: { ∥ Fits AreCertificateFields (lent_elements parts) ∥₁ },
 }
 
 impl<'a> CertView<'a> {
@@ -36,7 +24,8 @@ impl<'a> CertView<'a> {
     ghost use Rattle.x509_values.specs.Validity.{time};
     ghost use Rattle.x509_types.specs.Certificate.{IsCertificate};
     ghost use Rattle.x509_types.specs.CertificateFields.{not_before_of, not_after_of, key_algorithm_of, key_octets_of};
-    ghost use Rattle.x509_types.specs.CertificateView.{IsCertView, view_elements};
+    ghost use Rattle.x509_types.specs.CertificateView.{IsCertView, IsKnownView, view_elements};
+    ghost use Rattle.x509_types.specs.TbsElements.{tbs_of};
     ghost use Rattle.x509_types.specs.declared.certificate.Certificate.{Certificate};
 
     /// The certificate that an element spells.
@@ -45,57 +34,56 @@ impl<'a> CertView<'a> {
             ((c : Certificate) → IsCertificate elem.entry.is.0 c → ⊥)
             (IsCertView elem.entry.is.0) }
     {
-        let Some((tbs, algorithm, value)) = three_kids(elem, SEQUENCE) else {
-            return None;
-        };
-        let fields = TbsFields::of(tbs)?;
-        fields.expect_shapes()?;
-        expect::<AlgorithmIdentifier>(algorithm)?;
-        expect::<BitString>(value)?;
-        let contents = leaf_at(value, BIT_STRING)?;
-        let (unused, signature) = contents.split_first()?;
-        Some(CertView {
-            tbs,
-            fields,
-            algorithm,
-            unused: *unused,
-            signature,
-        })
+        let parts = CertParts::of(elem)?;
+        parts.expect_shapes()?;
+        Some(CertView { parts })
+    }
+
+    /// The certificate that an element spells, where it is known to spell one. Heads alone are read,
+    /// and no shape is tested again.
+    pub fn of_known(elem: Elem<'a>) -> CertView<'a>
+        requires { ∥ Fits IsCertificate elem.is.0 ∥₁ }
+        ensures { IsKnownView elem.entry.is.0 result }
+    {
+        match CertParts::of(elem) {
+            Some(parts) => CertView { parts },
+            None => unreachable!(),
+        }
     }
 
     /// The encoding of the TBSCertificate, which is what is signed (RFC 5280 4.1.1.1).
     pub fn tbs(&self) -> &'a [u8]
         ensures { result.now ≡ encoding (tbs_of (view_elements self.now).tbs) }
     {
-        self.tbs.whole
+        self.parts.tbs.whole
     }
 
     /// The encoding of the Name of the issuer (RFC 5280 4.1.2.4).
     pub fn issuer(&self) -> &'a [u8]
         ensures { result.now ≡ encoding (view_elements self.now).tbs.issuer }
     {
-        self.fields.issuer.whole
+        self.parts.fields.issuer.whole
     }
 
     /// The encoding of the Name of the subject (RFC 5280 4.1.2.6).
     pub fn subject(&self) -> &'a [u8]
         ensures { result.now ≡ encoding (view_elements self.now).tbs.subject }
     {
-        self.fields.subject.whole
+        self.parts.fields.subject.whole
     }
 
     /// The contents octets of the serial number, an INTEGER (RFC 5280 4.1.2.2).
     pub fn serial(&self) -> &'a [u8]
         ensures { result.now ≡ (view_elements self.now).tbs.serial_number }
     {
-        self.fields.serial_number
+        self.parts.fields.serial_number
     }
 
     /// The INTEGER of the version, where it is given (RFC 5280 4.1.2.1).
     pub fn version(&self) -> Option<Elem<'a>>
         ensures { at_option result ≡ (view_elements self.now).tbs.version }
     {
-        self.fields.version
+        self.parts.fields.version
     }
 
     /// The encoding of the AlgorithmIdentifier of the signature that stands in what is signed (RFC 5280
@@ -103,48 +91,48 @@ impl<'a> CertView<'a> {
     pub fn inner_algorithm(&self) -> &'a [u8]
         ensures { result.now ≡ encoding (view_elements self.now).tbs.signature }
     {
-        self.fields.signature.whole
+        self.parts.fields.signature.whole
     }
 
     /// The element of the Validity, the times between which the certificate is valid (RFC 5280 4.1.2.5).
     pub fn validity(&self) -> Elem<'a>
         ensures { result.is.0 ≡ (view_elements self.now).tbs.validity }
     {
-        self.fields.validity
+        self.parts.fields.validity
     }
 
     /// The time from which on the certificate is valid (RFC 5280 4.1.2.5).
     pub fn not_before(&self) -> Time
         ensures { not_before_of (view_elements self.now) ≡ Some (time result) }
     {
-        let Some(times) = times_at(self.fields.validity) else {
+        let Some(not_before) = first_time(self.parts.fields.validity) else {
             unreachable!();
         };
-        times.0
+        not_before
     }
 
     /// The time up to which the certificate is valid (RFC 5280 4.1.2.5).
     pub fn not_after(&self) -> Time
         ensures { not_after_of (view_elements self.now) ≡ Some (time result) }
     {
-        let Some(times) = times_at(self.fields.validity) else {
+        let Some(not_after) = second_time(self.parts.fields.validity) else {
             unreachable!();
         };
-        times.1
+        not_after
     }
 
     /// The element of the SubjectPublicKeyInfo (RFC 5280 4.1.2.7).
     pub fn subject_public_key_info(&self) -> Elem<'a>
         ensures { result.is.0 ≡ (view_elements self.now).tbs.subject_public_key_info }
     {
-        self.fields.subject_public_key_info
+        self.parts.fields.subject_public_key_info
     }
 
     /// The encoding of the AlgorithmIdentifier of the key (RFC 5280 4.1.2.7).
     pub fn key_algorithm(&self) -> &'a [u8]
         ensures { option_map encoding (key_algorithm_of (view_elements self.now)) ≡ Some result.now }
     {
-        match key_parts(self.fields.subject_public_key_info) {
+        match key_parts(self.parts.fields.subject_public_key_info) {
             Some((algorithm, _octets)) => algorithm.whole,
             None => unreachable!(),
         }
@@ -154,7 +142,7 @@ impl<'a> CertView<'a> {
     pub fn key(&self) -> &'a [u8]
         ensures { key_octets_of (view_elements self.now) ≡ Some result.now }
     {
-        match key_parts(self.fields.subject_public_key_info) {
+        match key_parts(self.parts.fields.subject_public_key_info) {
             Some((_algorithm, octets)) => octets,
             None => unreachable!(),
         }
@@ -165,7 +153,7 @@ impl<'a> CertView<'a> {
     pub fn issuer_unique_id(&self) -> Option<&'a [u8]>
         ensures { option_copied result ≡ (view_elements self.now).tbs.issuer_unique_id }
     {
-        self.fields.issuer_unique_id
+        self.parts.fields.issuer_unique_id
     }
 
     /// The contents octets of the unique identifier of the subject, a BIT STRING, where it is given (RFC
@@ -173,7 +161,7 @@ impl<'a> CertView<'a> {
     pub fn subject_unique_id(&self) -> Option<&'a [u8]>
         ensures { option_copied result ≡ (view_elements self.now).tbs.subject_unique_id }
     {
-        self.fields.subject_unique_id
+        self.parts.fields.subject_unique_id
     }
 
     /// The element of the Extensions, without the explicit tag around it, where they are given (RFC 5280
@@ -181,7 +169,7 @@ impl<'a> CertView<'a> {
     pub fn extensions(&self) -> Option<Elem<'a>>
         ensures { at_option result ≡ (view_elements self.now).tbs.extensions }
     {
-        self.fields.extensions
+        self.parts.fields.extensions
     }
 
     /// The encoding of the AlgorithmIdentifier of the signature that stands beside what is signed (RFC
@@ -189,7 +177,7 @@ impl<'a> CertView<'a> {
     pub fn algorithm(&self) -> &'a [u8]
         ensures { result.now ≡ encoding (view_elements self.now).algorithm }
     {
-        self.algorithm.whole
+        self.parts.algorithm.whole
     }
 
     /// The octets that hold the bits of the signature (RFC 5280 4.1.1.3), without the octet that counts
@@ -197,6 +185,6 @@ impl<'a> CertView<'a> {
     pub fn signature(&self) -> &'a [u8]
         ensures { result.now ≡ (view_elements self.now).signature }
     {
-        self.signature
+        self.parts.signature
     }
 }

@@ -13,16 +13,26 @@ use der_core::tag::{BIT_STRING, GENERALIZED_TIME, SEQUENCE, UTC_TIME};
 use der_core::{Elem, leaf_at, two_kids};
 use x509_values::Time;
 
-/// Both times of a validity.
-pub(crate) fn times_at(elem: Elem<'_>) -> Option<(Time, Time)>
+/// The first time of a validity.
+pub(crate) fn first_time(elem: Elem<'_>) -> Option<Time>
     ensures { MatchOption result
         ((value : Validity) → elem.entry.is.0 ≢ validity value)
-        (λ times. (kid 0 elem.entry.is.0 ≡ Some (time times.0)) × (kid 1 elem.entry.is.0 ≡ Some (time times.1))) }
+        (λ not_before. kid 0 elem.entry.is.0 ≡ Some (time not_before)) }
 {
-    let (first, second) = two_kids(elem, SEQUENCE)?;
+    let (first, _second) = two_kids(elem, SEQUENCE)?;
     let not_before = time_at(first)?;
+    Some(not_before)
+}
+
+/// The second time of a validity.
+pub(crate) fn second_time(elem: Elem<'_>) -> Option<Time>
+    ensures { MatchOption result
+        ((value : Validity) → elem.entry.is.0 ≢ validity value)
+        (λ not_after. kid 1 elem.entry.is.0 ≡ Some (time not_after)) }
+{
+    let (_first, second) = two_kids(elem, SEQUENCE)?;
     let not_after = time_at(second)?;
-    Some((not_before, not_after))
+    Some(not_after)
 }
 
 /// The time that an element spells, which takes no memory.

@@ -5,6 +5,7 @@
 mod attribute;
 mod attribute_kind;
 mod attribute_values;
+mod cert_parts;
 mod cert_view;
 mod certificate;
 mod extension;

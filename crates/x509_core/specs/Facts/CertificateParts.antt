@@ -4,7 +4,7 @@ use Rattle.std.proofs.Common.{◌≡◌, ◌∷◌, refl}
 use Rattle.std.proofs.Math.Logic.{∥∥₁_elim}
 use Rattle.std.specs.Coded.{Coded, Coded-set}
 use Rattle.der_core.specs.DerElement.{DerElement, Primitive}
-use Rattle.der_core.specs.Facts.Codes.{octets_code}
+use Rattle.der_core.specs.Facts.Codes.{octets_code, stored, stored_inj}
 use Rattle.x509_types.specs.TbsElements.{tbs_of}
 use Rattle.x509_types.specs.Certificate.{IsCertificate, certificate_octets}
 use Rattle.x509_types.specs.CertificateElements.{CertificateElements, certificate_of, AreCertificateFields}
@@ -26,6 +26,9 @@ pub parts_once : (f g : CertificateElements) → certificate_of f ≡ certificat
 parts_once f g e =
     let same = same_three (tbs_of f.tbs) f.algorithm (Primitive 0x03 (f.unused ∷ f.signature)) (tbs_of g.tbs) g.algorithm (Primitive 0x03 (g.unused ∷ g.signature)) e in
     same_parts f g (same_elements f.tbs g.tbs same.0) same.1 (same_unused f.unused g.unused f.signature g.signature same.2) (same_payload f.unused g.unused f.signature g.signature same.2)
+
+abbrev pub coded_elements : Coded CertificateElements
+coded_elements = record { code = λ f. stored (certificate_of f); inj = λ a b e. parts_once a b (stored_inj (certificate_of a) (certificate_of b) e) }
 
 -- the element around the fields of a certificate spells it
 pub spelled_by : (f : CertificateElements) (c : Certificate) → AreCertificateFields f c → IsCertificate (certificate_of f) c

@@ -2,9 +2,11 @@ use Rattle.std.proofs.Common.{◌≡◌, ◌⊎◌, List, [], ◌∷◌, ◌++�
 use Rattle.std.proofs.lemmas.Result.{err_from_is_err_and}
 use Rattle.std.proofs.iter.Next.{Yields-more}
 use Rattle.std.specs.Iterator.{Yields}
-use Rattle.x509_core.specs.Chain.{lent}
+use Rattle.x509_core.specs.Chain.{lent, nearest}
 use Rattle.x509_core.specs.CertType.{IsOfType}
 use Rattle.x509_core.specs.KeptCertificate.{KeptCertificate}
+use Rattle.x509_core.specs.Link.{IsLink, link_rules}
+use Rattle.x509_core.specs.Rules.{RefusesBy}
 use Rattle.x509_core.proofs.ChainSteps.{linked_none_of, grown_chain, grown_place, grown_count, unlinked}
 use Rattle.x509_core.proofs.validator.last_type.Goals as goal
 
@@ -13,25 +15,34 @@ with_run xs rest run (inl memory) = inl memory
 with_run xs rest run (inr first) = inr (xs, rest, run, first)
 
 pub loop-parent-init : goal.loop-parent-init
-loop-parent-init g c = record { linked = linked_none_of (g.S.Scheme.judge c.args.scheme.now) c.args.window.now c.args.checked.now; at = refl; counted = refl }
+loop-parent-init g c = record { linked = linked_none_of (g.S.Scheme.judge c.args.scheme.now) c.args.window.now c.args.checked.cert.now; at = refl; counted = refl }
 
-pub returns-in_err-expect_link : goal.returns-in_err-expect_link
-returns-in_err-expect_link g c =
+pub returns-in_err-expect_next : goal.returns-in_err-expect_next
+returns-in_err-expect_next g c =
     let p = err_from_is_err_and c.from_residual.result c.from_residual.ensures.1 in
+    let judge = g.S.Scheme.judge c.args.scheme.now in
+    let w = c.args.window.now in
+    let checked = c.args.checked.cert.now in
     let xs = c.loop-parent.yielded in
     let more = Yields-more g.Chain.Iterator.next_gives _ xs c.loop-parent.parent-iterator c.in-Some.parent c.next.new.self c.loop-parent.yielded_by c.in-Some.ensures.steps in
     let so_far = c.loop-parent.invariant in
+    let e = c.in_err-expect_next.field-0.0 in
+    let broken = subst (λ (parent : KeptCertificate). RefusesBy (link_rules judge w (length (map lent xs)) parent (nearest checked c.loop-parent.last)) e) c.viewed-above.ensures (c.in_err-expect_next.ensures (length (map lent xs)) so_far.counted) in
     rw (p.1, p.2) (with_run _ _ (subst (λ (s : _). Yields g.Chain.Iterator.next_gives s (xs ++ c.in-Some.parent ∷ []) c.next.new.self) c.into_iter-parent-iterator.ensures.into_iter_gives more)
-    (unlinked (g.S.Scheme.judge c.args.scheme.now) c.args.window.now c.args.checked.now xs c.in-Some.parent _ c.in_err-expect_link.field-0.0 so_far.linked (c.nearest.ensures ∙ so_far.at) (c.in_err-expect_link.ensures (length (map lent xs)) so_far.counted)))
+    (unlinked judge w checked xs c.in-Some.parent _ e so_far.linked so_far.at broken))
 
 pub loop-parent-preserved : goal.loop-parent-preserved
 loop-parent-preserved g c =
+    let judge = g.S.Scheme.judge c.args.scheme.now in
+    let w = c.args.window.now in
+    let checked = c.args.checked.cert.now in
     let xs = c.loop-parent.yielded in
     let x = c.in-Some.parent in
     let so_far = c.loop-parent.invariant in
+    let link = subst (λ (parent : KeptCertificate). IsLink judge w (length (map lent xs)) parent.elements (nearest checked c.loop-parent.last).elements) c.viewed-above.ensures (c.in_ok-expect_next.ensures (length (map lent xs)) so_far.counted) in
     record {
-      linked = grown_chain (g.S.Scheme.judge c.args.scheme.now) c.args.window.now c.args.checked.now xs x _ so_far.linked (c.nearest.ensures ∙ so_far.at) (c.in_ok-expect_link.ensures (length (map lent xs)) so_far.counted);
-      at = grown_place c.args.checked.now xs x;
+      linked = grown_chain judge w checked xs x _ so_far.linked so_far.at link;
+      at = c.viewed-above.ensures ∙ grown_place checked xs x;
       counted = grown_count xs x _ _ so_far.counted c.saturating_add-number.ensures;
     }
 
@@ -40,4 +51,5 @@ returns g c =
     let xs = c.loop-parent.yielded in
     let so_far = c.loop-parent.invariant in
     let ran = subst (λ (s : _). Yields g.Chain.Iterator.next_gives s xs c.loop-parent.parent-iterator) c.into_iter-parent-iterator.ensures.into_iter_gives c.loop-parent.yielded_by in
-    (xs, (c.next.new.self, (c.loop-parent.parent-iterator, ran, c.in-None.ensures.steps)), so_far.linked, subst (λ (k : KeptCertificate). IsOfType k.elements c.ty.result) (c.nearest-2.ensures ∙ so_far.at) c.ty.ensures)
+    let last = subst (λ (kept : KeptCertificate). IsOfType kept.elements c.type_so_far.result) so_far.at c.type_so_far.ensures in
+    (xs, (c.next.new.self, (c.loop-parent.parent-iterator, ran, c.in-None.ensures.steps)), so_far.linked, last)

@@ -1,6 +1,6 @@
 use Rattle.std.proofs.lemmas.Result.{err_from_is_err_and}
 use Rattle.x509_types.specs.LentTbs.{elements_at}
-use Rattle.x509_types.proofs.Spelled.{parts_join, no_issued_by, no_issued_to, none_added}
+use Rattle.x509_types.proofs.Spelled.{no_issued_by, no_issued_to, none_added}
 use Rattle.x509_types.proofs.tbs_fields.TbsFields.read.Goals as goal
 
 pub returns-in_err-by : goal.returns-in_err-by

@@ -2,26 +2,26 @@ use Rattle.std.proofs.Common.{ap, ◌∙◌}
 use Rattle.x509_types.specs.CertificateElements.{CertificateElements}
 use Rattle.x509_core.specs.Link.{signed_octets}
 use Rattle.x509_core.proofs.SignedParts.{signed_with, signed_by, badly_signed}
-use Rattle.x509_core.proofs.cert.Cert.expect_accepted.Goals as goal
+use Rattle.x509_core.proofs.viewed.ViewedCert.expect_accepted.Goals as goal
 
 pub returns-in-Ok : goal.returns-in-Ok
 returns-in-Ok g c =
     let parent = c.args.parent.now in
-    let child = c.args.self.now in
+    let child = c.args.self.now.cert.now in
     let info = c.public_key.result.now.info in
     signed_by (g.S.Scheme.judge c.args.scheme.now) parent child c.args.algorithm info c.tbs.result.now c.signature.result.now
     (signed_with parent child c.args.algorithm info c.public_key.ensures c.requires)
-    (c.tbs.ensures ∙ ap signed_octets c.view-view.ensures.elements)
-    (c.signature.ensures ∙ ap (λ (f : CertificateElements). f.signature) c.view-view.ensures.elements)
+    (c.tbs.ensures ∙ ap signed_octets c.args.self.now.same)
+    (c.signature.ensures ∙ ap (λ (f : CertificateElements). f.signature) c.args.self.now.same)
     c.in-Ok.ensures.answer
 
 pub returns-in-Err : goal.returns-in-Err
 returns-in-Err g c =
     let parent = c.args.parent.now in
-    let child = c.args.self.now in
+    let child = c.args.self.now.cert.now in
     let info = c.public_key.result.now.info in
     badly_signed (g.S.Scheme.judge c.args.scheme.now) parent child c.args.algorithm info c.tbs.result.now c.signature.result.now c.in-Err.source c.badly_signed.result
     (signed_with parent child c.args.algorithm info c.public_key.ensures c.requires)
-    (c.tbs.ensures ∙ ap signed_octets c.view-view.ensures.elements)
-    (c.signature.ensures ∙ ap (λ (f : CertificateElements). f.signature) c.view-view.ensures.elements)
+    (c.tbs.ensures ∙ ap signed_octets c.args.self.now.same)
+    (c.signature.ensures ∙ ap (λ (f : CertificateElements). f.signature) c.args.self.now.same)
     c.in-Err.ensures.answer c.badly_signed.ensures.memory c.badly_signed.ensures.told

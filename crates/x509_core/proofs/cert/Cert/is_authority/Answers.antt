@@ -1,8 +1,0 @@
-use Rattle.x509_core.proofs.Depths.{flag_is, no_flag}
-use Rattle.x509_core.proofs.cert.Cert.is_authority.Goals as goal
-
-pub returns-in-Some : goal.returns-in-Some
-returns-in-Some c = flag_is _ _ c.in-Some.ca c.view.ensures.elements c.in-Some.ensures
-
-pub returns-in-None : goal.returns-in-None
-returns-in-None c = no_flag _ _ c.view.ensures.elements c.in-None.ensures

@@ -1,0 +1,8 @@
+use Rattle.x509_core.proofs.Depths.{flag_is, no_flag}
+use Rattle.x509_core.proofs.viewed.ViewedCert.is_authority.Goals as goal
+
+pub returns-in-Some : goal.returns-in-Some
+returns-in-Some c = flag_is _ _ c.in-Some.ca c.args.self.now.same c.in-Some.ensures
+
+pub returns-in-None : goal.returns-in-None
+returns-in-None c = no_flag _ _ c.args.self.now.same c.in-None.ensures

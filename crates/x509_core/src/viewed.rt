@@ -1,0 +1,30 @@
+//! A certificate that is kept, with its view. What is asked of one certificate several times is asked
+//! of one view.
+
+ghost use Rattle.std.specs.Prelude.{◌≡◌};
+ghost use Rattle.std.specs.Coded.{Coded-set};
+ghost use Rattle.x509_types.specs.CertificateView.{view_elements};
+ghost use Rattle.x509_core.specs.Facts.CertificateParts.{coded_elements};
+
+use crate::cert::Cert;
+use x509_types::CertView;
+
+/// A certificate, and where the octets of its fields lie.
+#[derive(Clone, Copy)]
+pub(crate) struct ViewedCert<'a> {
+    pub cert: &'a Cert,
+    pub view: CertView<'a>,
+    pub ghost same: { view_elements view ≡ cert.now.elements } by { Coded-set coded_elements (view_elements view) cert.now.elements },
+}
+
+impl Cert {
+    /// The certificate with its view. It takes no memory.
+    pub(crate) fn viewed(&self) -> ViewedCert<'_>
+        ensures { result.cert.now ≡ self.now }
+    {
+        ViewedCert {
+            cert: self,
+            view: self.view(),
+        }
+    }
+}
