@@ -1,4 +1,5 @@
 pub mod Keyless
+pub mod KeylessParts
 pub mod KeptCertificate
 pub mod FirstValue
 pub mod SaidValues

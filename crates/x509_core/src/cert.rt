@@ -99,8 +99,8 @@ impl Cert {
             (λ cert. IsCertificate elem.entry.is.0 cert.certificate)
             (RefusesShape (IsCertificate elem.entry.is.0)) }
     {
-        let certificate = Certificate::read_at(alloc, elem)?;
         let kept = Raw::from_elem(alloc, elem)?;
+        let certificate = Certificate::read_at(alloc, elem)?;
         Ok(Cert::keep(kept, certificate))
     }
 
@@ -251,8 +251,8 @@ impl Cert {
         ensures { IfOk result (λ copy. copy ≡ self.now) }
     {
         let kept = self.kept.try_clone(alloc)?;
-        let rest = self.rest.try_clone(alloc)?;
         let public_key = self.public_key.try_clone(alloc)?;
+        let rest = self.rest.try_clone(alloc)?;
         Ok(Cert::of_parts(kept, rest, public_key))
     }
 }

@@ -1,10 +1,10 @@
 //! Why a certificate isn't read, written or made, lacks an extension, isn't valid, or isn't one of a
 //! chain.
 
-ghost use Rattle.std.specs.Prelude.{◌≡◌, Some};
+ghost use Rattle.std.specs.Prelude.{◌≡◌, ◌++◌, Some, codes};
 ghost use Rattle.std.specs.Fmt.{WritesOnOk};
 ghost use Rattle.x501_types.specs.NameText.{hexadecimal};
-ghost use Rattle.x509_core.specs.ErrorText.{argument_text, extension_text, chain_error_text, cause_text, cert_error_text, key_mismatch_text};
+ghost use Rattle.x509_core.specs.ErrorText.{argument_text, extension_text, chain_error_text, cause_text, cert_error_text, expired_text, key_mismatch_text, not_yet_valid_text};
 ghost use Rattle.x509_core.specs.CertRefusals.{unread, unwritten};
 ghost use Rattle.x509_core.specs.declared.error.CertError.TheVariants.{Memory};
 
@@ -256,6 +256,48 @@ fn write_hexadecimal<W: fmt::Write>(octets: &[u8], f: &mut fmt::Formatter<W>) ->
     Ok(())
 }
 
+/// The text of certificates that are no chain.
+fn write_chain<W: fmt::Write>(source: &CaChainError, f: &mut fmt::Formatter<W>) -> fmt::Result
+    ensures { WritesOnOk W.write_str_gives f.old result (codes "CA chain error: " ++ chain_error_text source.now) f.new }
+{
+    write!(f, "CA chain error: {source}")
+}
+
+/// The text of an extension that isn't there.
+fn write_not_found<W: fmt::Write>(name: ExtName, f: &mut fmt::Formatter<W>) -> fmt::Result
+    ensures { WritesOnOk W.write_str_gives f.old result (codes "extension not found: " ++ extension_text name) f.new }
+{
+    write!(f, "extension not found: {name}")
+}
+
+/// The text of a validity that hasn't begun.
+fn write_not_yet_valid<W: fmt::Write>(
+    not_before: &UtcDate,
+    now: &UtcDate,
+    f: &mut fmt::Formatter<W>,
+) -> fmt::Result
+    ensures { WritesOnOk W.write_str_gives f.old result (not_yet_valid_text not_before.now now.now) f.new }
+{
+    write!(
+        f,
+        "certificate is not yet valid (not before: {not_before}, now: {now})"
+    )
+}
+
+/// The text of a validity that has ended.
+fn write_expired<W: fmt::Write>(
+    not_after: &UtcDate,
+    now: &UtcDate,
+    f: &mut fmt::Formatter<W>,
+) -> fmt::Result
+    ensures { WritesOnOk W.write_str_gives f.old result (expired_text not_after.now now.now) f.new }
+{
+    write!(
+        f,
+        "certificate expired (not after: {not_after}, now: {now})"
+    )
+}
+
 impl fmt::Display for CertCause {
     ghost output = { cause_text };
 
@@ -267,16 +309,12 @@ impl fmt::Display for CertCause {
             ),
             CertCause::Signature { source } => write!(f, "signature error: {source}"),
             CertCause::KeyIdGen { source } => write!(f, "key id generation error: {source}"),
-            CertCause::InvalidChain { source } => write!(f, "CA chain error: {source}"),
-            CertCause::ExtensionNotFound { name } => write!(f, "extension not found: {name}"),
-            CertCause::CertificateNotYetValid { not_before, now } => write!(
-                f,
-                "certificate is not yet valid (not before: {not_before}, now: {now})"
-            ),
-            CertCause::CertificateExpired { not_after, now } => write!(
-                f,
-                "certificate expired (not after: {not_after}, now: {now})"
-            ),
+            CertCause::InvalidChain { source } => write_chain(source, f),
+            CertCause::ExtensionNotFound { name } => write_not_found(*name, f),
+            CertCause::CertificateNotYetValid { not_before, now } => {
+                write_not_yet_valid(not_before, now, f)
+            }
+            CertCause::CertificateExpired { not_after, now } => write_expired(not_after, now, f),
         }
     }
 }
@@ -302,20 +340,16 @@ impl fmt::Display for CertError {
             ),
             CertError::Signature { source } => write!(f, "signature error: {source}"),
             CertError::KeyIdGen { source } => write!(f, "key id generation error: {source}"),
-            CertError::InvalidChain { source } => write!(f, "CA chain error: {source}"),
+            CertError::InvalidChain { source } => write_chain(source, f),
             CertError::InvalidCsr { source } => write!(f, "CSR error: {source}"),
-            CertError::ExtensionNotFound { name } => write!(f, "extension not found: {name}"),
+            CertError::ExtensionNotFound { name } => write_not_found(*name, f),
             CertError::MissingBuilderArgument { arg } => {
                 write!(f, "missing required builder argument `{arg}`")
             }
-            CertError::CertificateNotYetValid { not_before, now } => write!(
-                f,
-                "certificate is not yet valid (not before: {not_before}, now: {now})"
-            ),
-            CertError::CertificateExpired { not_after, now } => write!(
-                f,
-                "certificate expired (not after: {not_after}, now: {now})"
-            ),
+            CertError::CertificateNotYetValid { not_before, now } => {
+                write_not_yet_valid(not_before, now, f)
+            }
+            CertError::CertificateExpired { not_after, now } => write_expired(not_after, now, f),
             CertError::PrivateKeyToPublicKey { source } => write!(
                 f,
                 "failed to get public key from private key: {source}"

@@ -3,8 +3,9 @@
 ghost use Rattle.std.specs.Prelude.{◌≡◌, IfOk};
 ghost use Rattle.x509_core.specs.Keyless.{joined};
 
+use crate::keyless_parts::{IssuedFields, LaterFields, join};
 use asn1_types::{BitString, IntegerAsn1};
-use der_core::{Octets, Structure};
+use der_core::Octets;
 use key_core::PublicKey;
 use std::alloc::{AllocError, Global};
 use x509_types::{
@@ -106,28 +107,8 @@ impl Keyless {
     pub fn try_clone(&self, alloc: Global) -> Result<Keyless, AllocError>
         ensures { IfOk result (λ copy. copy ≡ self.now) }
     {
-        Ok(Keyless {
-            version: self.version,
-            serial_number: self.serial_number.try_clone(alloc)?,
-            signature: self.signature.try_clone(alloc)?,
-            issuer: self.issuer.try_clone(alloc)?,
-            validity: self.validity.try_clone(alloc)?,
-            subject: self.subject.try_clone(alloc)?,
-            issuer_unique_id: copy_optional(alloc, &self.issuer_unique_id)?,
-            subject_unique_id: copy_optional(alloc, &self.subject_unique_id)?,
-            extensions: copy_optional(alloc, &self.extensions)?,
-            signature_algorithm: self.signature_algorithm.try_clone(alloc)?,
-            signature_value: self.signature_value.try_clone(alloc)?,
-        })
-    }
-}
-
-/// A copy of the value, where there is one.
-fn copy_optional<T: Structure>(alloc: Global, value: &Option<T>) -> Result<Option<T>, AllocError>
-    ensures { IfOk result (λ copy. copy ≡ value.now) }
-{
-    match value {
-        Some(value) => Ok(Some(value.try_clone(alloc)?)),
-        None => Ok(None),
+        let issued = IssuedFields::copy(alloc, self)?;
+        let later = LaterFields::copy(alloc, self)?;
+        Ok(join(issued, later))
     }
 }

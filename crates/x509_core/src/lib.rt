@@ -11,6 +11,7 @@ mod error;
 mod error_name;
 mod key_link;
 mod keyless;
+mod keyless_parts;
 mod laws;
 mod link;
 mod parent;
