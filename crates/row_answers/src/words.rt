@@ -1,6 +1,7 @@
 //! The words of a row.
 
 use anyhow::{Context, Result};
+use hex::FromHexError;
 use std::alloc::{AllocError, Global};
 
 /// The octets of a word in hexadecimal digits, `-` for none.
@@ -17,6 +18,7 @@ pub fn octets_of_words(alloc: Global, words: &[&str]) -> Result<Vec<Vec<u8>>, Al
     for word in words {
         match hex::decode(alloc, word) {
             Ok(octets) => all.push(octets)?,
+            Err(FromHexError::OutOfMemory) => return Err(AllocError),
             Err(_) => all.push(Vec::new(alloc))?,
         }
     }

@@ -116,17 +116,23 @@ fn name(alloc: Global, attributes: &[&str]) -> Result<DirectoryName, DerError> {
     let mut name = DirectoryName::new(alloc);
     for word in attributes {
         if let Some((ty, text)) = word.split_once('=') {
-            add_attribute(alloc, &mut name, &decoded(alloc, ty), &decoded(alloc, text))?;
+            add_attribute(
+                alloc,
+                &mut name,
+                &decoded(alloc, ty)?,
+                &decoded(alloc, text)?,
+            )?;
         }
     }
     Ok(name)
 }
 
-/// The octets of a word of hexadecimal digits, none where it isn't one.
-fn decoded(alloc: Global, word: &str) -> Vec<u8> {
+/// The octets of a word. The rows have words of hexadecimal digits here, so only memory can be
+/// wanting.
+fn decoded(alloc: Global, word: &str) -> Result<Vec<u8>, DerError> {
     match row_answers::octets_of(alloc, word) {
-        Ok(octets) => octets,
-        Err(_) => Vec::new(alloc),
+        Ok(octets) => Ok(octets),
+        Err(_) => Err(DerError::Memory),
     }
 }
 

@@ -3,6 +3,7 @@
 
 use crate::row::Args;
 use asn1_types::ObjectIdentifier;
+use der_core::DerError;
 use key_core::{EcCurve, KeyError, KeyKind, PrivateKey};
 use row_answers::Line;
 use sig_core::{DemoScheme, Scheme, VerdictTable};
@@ -147,6 +148,7 @@ fn ed_encoded(
 fn oid_of(alloc: Global, contents: &[u8]) -> Result<ObjectIdentifier, NoKey> {
     match ObjectIdentifier::from_content(alloc, contents) {
         Ok(oid) => Ok(oid),
+        Err(DerError::Memory) => Err(NoKey::Refused(KeyError::Memory)),
         Err(_) => Err(NoKey::NoSuchCall),
     }
 }
@@ -173,22 +175,26 @@ fn print_key(alloc: Global, key: &PrivateKey, line: &mut Line) {
 
 fn print_octets(alloc: Global, key: &PrivateKey, octets: &[u8], line: &mut Line) {
     line.octets(octets);
-    line.shown(&is_copied(alloc, key));
-    line.shown(&is_read_of(alloc, key, octets));
+    print_told(is_copied(alloc, key), line);
+    print_told(is_read_of(alloc, key, octets), line);
 }
 
-fn is_copied(alloc: Global, key: &PrivateKey) -> bool {
-    match key.try_clone(alloc) {
-        Ok(copy) => copy == *key,
-        Err(_) => false,
+/// Whether it is so, or the text of the refusal.
+fn print_told(told: Result<bool, KeyError>, line: &mut Line) {
+    match told {
+        Ok(told) => line.shown(&told),
+        Err(error) => line.shown(&error),
     }
 }
 
-fn is_read_of(alloc: Global, key: &PrivateKey, octets: &[u8]) -> bool {
-    match PrivateKey::from_pkcs8(alloc, octets, &DemoScheme::new()) {
-        Ok(again) => again == *key,
-        Err(_) => false,
-    }
+fn is_copied(alloc: Global, key: &PrivateKey) -> Result<bool, KeyError> {
+    let copy = key.try_clone(alloc)?;
+    Ok(copy == *key)
+}
+
+fn is_read_of(alloc: Global, key: &PrivateKey, octets: &[u8]) -> Result<bool, KeyError> {
+    let again = PrivateKey::from_pkcs8(alloc, octets, &DemoScheme::new())?;
+    Ok(again == *key)
 }
 
 /// The octets of the public key, or why there is none.

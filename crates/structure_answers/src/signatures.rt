@@ -119,6 +119,7 @@ fn public_key(alloc: Global, octets: &[Vec<u8>]) -> Result<Option<PublicKey>, Ke
         [_, _, octets] => Ok(Some(PublicKey::from_der(alloc, octets)?)),
         [_, _, algorithm, bits] => match key_of_bits(alloc, algorithm, bits) {
             Ok(key) => Ok(key),
+            Err(DerError::Memory) => Err(KeyError::Memory),
             Err(_) => Ok(None),
         },
         _ => Ok(None),
