@@ -27,10 +27,22 @@ fn print_asked<S: Scheme>(
     scheme: &S,
     out: &mut String,
 ) -> Result<()> {
-    let key = key_of(alloc, key)?;
+    let word = word.parse()?;
     let settings = settings_of(alloc, settings)?;
-    let builder = builder_of(alloc, settings, &key)?;
-    Ok(print_built(alloc, builder, word.parse()?, scheme, out)?)
+    let key = key_of(alloc, key)?;
+    Ok(print_by(alloc, word, settings, &key, scheme, out)?)
+}
+
+fn print_by<S: Scheme>(
+    alloc: Global,
+    word: u32,
+    settings: Vec<Setting>,
+    key: &PrivateKey,
+    scheme: &S,
+    out: &mut String,
+) -> Result<(), AllocError> {
+    let builder = builder_of(alloc, settings, key)?;
+    print_built(alloc, builder, word, scheme, out)
 }
 
 /// A builder with these settings, of which the first is the last of the list; the key is the issuer's.
