@@ -244,3 +244,10 @@ ed_sized now info bits is of (Err e) sized =
 pub ed_unknown : (info : SubjectPublicKeyInfo) (bits : BitString) → info.subject_public_key ≡ keys.Ed bits → ((algorithm : EdAlgorithm) → IsOfEd info algorithm → ⊥)
     → IsFirstBroken (key_rules Ed25519 info) (errors.Key (key_errors.ED key_contexts.UnsupportedEd))
 ed_unknown info bits is none = inr (λ other broken. broken.0 (ap kind_of is), inr (λ other broken. none ed.X25519 broken.0, inl (none ed.Ed25519, refl)))
+
+-- of a key of RSA the octets that are lent are its own
+pub lent_rsa : (key : SubjectKey) (octets : List ℕ) → ((k : RsaPublicKey) → key ≡ keys.Rsa k → IsPkcs1Of (keys.Rsa k) octets) → kind_of key ≡ kinds.Rsa → IsPkcs1Of key octets
+lent_rsa (keys.Rsa k) octets lent kind = lent k refl
+lent_rsa (keys.Ec bits) octets lent kind = absurd cc
+lent_rsa (keys.Ed bits) octets lent kind = absurd cc
+lent_rsa (keys.Mldsa bits) octets lent kind = absurd cc

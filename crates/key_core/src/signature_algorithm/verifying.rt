@@ -1,10 +1,15 @@
 //! Verification of signatures.
 
-ghost use Rattle.std.specs.Prelude.{◌≡◌, ◌≢◌, [], ◌∷◌, ◌++◌, length, Some, Err, MatchOption, MatchResult};
+ghost use Rattle.std.specs.Prelude.{◌≡◌, ◌≢◌, ℕ, List, [], ◌∷◌, ◌++◌, length, Some, Err, MatchOption, MatchResult};
+ghost use Rattle.key_types.specs.SubjectKey.{kind_of};
+ghost use Rattle.key_types.specs.declared.key_info.SubjectPublicKeyInfo.{SubjectPublicKeyInfo};
+ghost use Rattle.key_types.specs.declared.key_kind.KeyKind.TheVariants as kinds;
+ghost use Rattle.key_types.specs.declared.public_key.RsaPublicKey.{RsaPublicKey};
+ghost use Rattle.key_types.specs.declared.subject_key.SubjectKey.TheVariants as keys;
 ghost use Rattle.key_core.specs.Pkcs1.{IsPkcs1Of};
 ghost use Rattle.key_core.specs.SchemeNames.{curve_for, ecdsa_alg};
 ghost use Rattle.key_core.specs.SignatureRules.{IsFirstBroken, RefusesBy};
-ghost use Rattle.key_core.specs.Verifying.{Accepts, FitsKey, IsJudged, NamesCurve, IsOnCurve, IsEd25519Key, NotRsa, Unwritable, UnknownCurve, UnknownHash, Unpaired, key_rules, verify_rules, malformed};
+ghost use Rattle.key_core.specs.Verifying.{Accepts, Judge, FitsKey, IsJudged, NamesCurve, IsOnCurve, IsEd25519Key, NotRsa, Unwritable, UnknownCurve, UnknownHash, Unpaired, key_rules, verify_rules, malformed};
 ghost use Rattle.key_core.specs.declared.ec_curve.EcCurve.{EcCurve};
 ghost use Rattle.key_core.specs.declared.signature_algorithm.SignatureAlgorithm.TheVariants as algorithms;
 ghost use Rattle.key_core.specs.declared.signature_error.SigContext.TheVariants as contexts;
@@ -47,11 +52,51 @@ impl SignatureAlgorithm {
         ensures refused { (e : SignatureError) → IsFirstBroken (key_rules self public_key.now.info) e → result ≡ Err e }
     {
         let verdict = self.verdict(alloc, public_key, msg, signature, scheme)?;
-        match verdict {
-            Verdict::Accept => Ok(()),
-            Verdict::Reject => Err(SignatureError::BadSignature),
-            Verdict::Malformed => Err(self.malformed()),
-        }
+        self.told(verdict)
+    }
+
+    /// The same, where the caller has the octets of the key: of a key of RSA those that `to_pkcs1`
+    /// gives. They are lent to the scheme, and of no key an encoding is made.
+    pub fn verify_by<S: Scheme>(
+        self,
+        alloc: Global,
+        public_key: &PublicKey,
+        octets: &[u8],
+        msg: &[u8],
+        signature: &[u8],
+        scheme: &S,
+    ) -> Result<(), SignatureError>
+        requires { (key : RsaPublicKey) → public_key.now.info.subject_public_key ≡ keys.Rsa key → IsPkcs1Of (keys.Rsa key) octets.now }
+        ensures answer { MatchResult result
+            (λ _. Accepts (S.judge scheme.now) self public_key.now.info msg.now signature.now)
+            (RefusesBy (verify_rules (S.judge scheme.now) self public_key.now.info msg.now signature.now)) }
+        ensures refused { (e : SignatureError) → IsFirstBroken (key_rules self public_key.now.info) e → result ≡ Err e }
+    {
+        let verdict = self.verdict_by(alloc, public_key, octets, msg, signature, scheme)?;
+        self.told(verdict)
+    }
+
+    /// The verdict of the scheme, where the key is one for the algorithm, whose octets are lent.
+    fn verdict_by<S: Scheme>(
+        self,
+        alloc: Global,
+        public_key: &PublicKey,
+        octets: &[u8],
+        msg: &[u8],
+        signature: &[u8],
+        scheme: &S,
+    ) -> Result<Verdict, SignatureError>
+        requires { (key : RsaPublicKey) → public_key.now.info.subject_public_key ≡ keys.Rsa key → IsPkcs1Of (keys.Rsa key) octets.now }
+        ensures answer { MatchResult result
+            (IsJudged (S.judge scheme.now) self public_key.now.info msg.now signature.now)
+            (RefusesBy (key_rules self public_key.now.info ++ Unwritable public_key.now.info ∷ [])) }
+        ensures refused { (e : SignatureError) → IsFirstBroken (key_rules self public_key.now.info) e → result ≡ Err e }
+    {
+        let SignatureAlgorithm::RsaPkcs1v15(hash) = self else {
+            return self.verdict(alloc, public_key, msg, signature, scheme);
+        };
+        expect_rsa(public_key)?;
+        Ok(scheme.verify(alloc, rsa_alg(hash), octets, msg, signature)?)
     }
 
     /// The verdict of the scheme, where the key is one for the algorithm.
@@ -84,6 +129,19 @@ impl SignatureAlgorithm {
         }
     }
 
+    /// What is told of a verdict.
+    fn told(self, verdict: Verdict) -> Result<(), SignatureError>
+        ensures { (judge : Judge) (info : SubjectPublicKeyInfo) (msg sig : List ℕ) → IsJudged judge self info msg sig verdict → MatchResult result
+            (λ _. Accepts judge self info msg sig)
+            (RefusesBy (verify_rules judge self info msg sig)) }
+    {
+        match verdict {
+            Verdict::Accept => Ok(()),
+            Verdict::Reject => Err(SignatureError::BadSignature),
+            Verdict::Malformed => Err(self.malformed()),
+        }
+    }
+
     /// What is told of a signature that has no form.
     fn malformed(self) -> SignatureError
         ensures { result ≡ malformed self }
@@ -104,13 +162,23 @@ fn rsa_bytes(alloc: Global, public_key: &PublicKey) -> Result<Vec<u8>, Signature
         (RefusesBy (NotRsa public_key.now.info ∷ Unwritable public_key.now.info ∷ [])) }
     ensures refused { (e : SignatureError) → NotRsa public_key.now.info e → result ≡ Err e }
 {
-    let kind = public_key.kind();
-    if kind != KeyKind::Rsa {
-        return Err(SignatureError::Key {
-            source: KeyError::UnsupportedAlgorithm { algorithm: kind },
-        });
-    }
+    expect_rsa(public_key)?;
     Ok(public_key.to_pkcs1(alloc)?)
+}
+
+/// The key is one of RSA.
+fn expect_rsa(public_key: &PublicKey) -> Result<(), SignatureError>
+    ensures { MatchResult result
+        (λ _. kind_of public_key.now.info.subject_public_key ≡ kinds.Rsa)
+        (NotRsa public_key.now.info) }
+{
+    let kind = public_key.kind();
+    if kind == KeyKind::Rsa {
+        return Ok(());
+    }
+    Err(SignatureError::Key {
+        source: KeyError::UnsupportedAlgorithm { algorithm: kind },
+    })
 }
 
 /// A point on the curve whose keys sign the digest, with what a scheme calls the algorithm.

@@ -7,6 +7,6 @@ use Rattle.key_core.proofs.signature_algorithm.verifying.rsa_bytes.Goals as goal
 
 pub returns-in_err-to_pkcs1-clause-answer : goal.returns-in_err-to_pkcs1-clause-answer
 returns-in_err-to_pkcs1-clause-answer c =
-    let p = err_from_is_err_and c.from_residual.result c.from_residual.ensures.1 in
-    let kind : kind_of c.args.public_key.now.info.subject_public_key ≡ kinds.Rsa = search rules in
+    let p = err_from_is_err_and c.from_residual-in_err-to_pkcs1.result c.from_residual-in_err-to_pkcs1.ensures.1 in
+    let kind : kind_of c.args.public_key.now.info.subject_public_key ≡ kinds.Rsa = c.in_ok-expect_rsa.ensures in
     rw (p.1, p.2) (rsa_refused c.args.public_key.now.info c.in_err-to_pkcs1.field-0.0 kind c.in_err-to_pkcs1.ensures.answer)
