@@ -5,6 +5,8 @@ ghost use Rattle.std.specs.Prelude.{◌≡◌, ◌⊎◌, [], ◌∷◌, IfOk, M
 ghost use Rattle.cms_types.specs.SignedView.{view_elements as data_elements};
 ghost use Rattle.cms_types.specs.SignerView.{signer_elements_at};
 ghost use Rattle.der_core.specs.Elements.{sequence};
+ghost use Rattle.der_core.specs.Placed.{AreDer};
+ghost use Rattle.key_types.specs.PublicKeyInfo.{inner_key};
 ghost use Rattle.x509_core.specs.Link.{HasKey};
 ghost use Rattle.x509_types.specs.CertificateView.{view_elements};
 ghost use Rattle.authenticode_core.specs.SignedFields.{IndirectData, IsFirstSigner, indirect_kids};
@@ -119,7 +121,14 @@ fn expect_signature<S: Scheme>(
     let key = key_of(alloc, certificate)?;
     let message = signed_message_of(alloc, signer)?;
     let algorithm = SignatureAlgorithm::RsaPkcs1v15(hash);
-    match algorithm.verify(alloc, &key, &message, signer.signature(), scheme) {
+    match algorithm.verify_by(
+        alloc,
+        &key,
+        certificate.key(),
+        &message,
+        signer.signature(),
+        scheme,
+    ) {
         Ok(()) => Ok(()),
         Err(source) => Err(signature_refusal(source)),
     }
@@ -127,7 +136,7 @@ fn expect_signature<S: Scheme>(
 
 /// The key of a certificate (RFC 5280 4.1.2.7).
 fn key_of(alloc: Global, certificate: &CertView<'_>) -> Result<PublicKey, AllocError>
-    ensures { IfOk result (λ key. HasKey (view_elements certificate.now) key.info) }
+    ensures { IfOk result (λ key. HasKey (view_elements certificate.now) key.info × AreDer (inner_key key.info.subject_public_key)) }
 {
     match SubjectPublicKeyInfo::read_at(alloc, certificate.subject_public_key_info()) {
         Ok(info) => Ok(PublicKey::from(info)),

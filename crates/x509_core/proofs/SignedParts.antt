@@ -1,14 +1,19 @@
 -- The algorithm and the key of a certificate that is kept, and what is answered to its signature.
-use Rattle.std.proofs.Common.{◌≡◌, ◌⊎◌, ℕ, List, [], ◌∷◌, Result, Ok, Err, MatchResult, inl, inr, refl, sym, ap, subst, ◌∙◌}
+use Rattle.std.proofs.Common.{◌≡◌, ◌⊎◌, ℕ, List, [], ◌∷◌, Option, Some, Result, Ok, Err, MatchResult, inl, inr, refl, sym, ap, subst, ◌∙◌}
 use Rattle.std.proofs.Math.Logic.{∥∥₁_elim}
 use Rattle.std.specs.Coded.{Coded-set}
+use Rattle.der_core.specs.Placed.{AreDer}
 use Rattle.der_core.specs.Facts.Codes.{coded_element}
+use Rattle.der_core.specs.Facts.Placed.{AreDer-prop}
 use Rattle.key_types.specs.AlgorithmIdentifier.{algorithm_identifier}
 use Rattle.key_types.specs.Facts.Algorithms.{algorithms}
 use Rattle.key_types.specs.Facts.Keys.{infos_once}
-use Rattle.key_types.specs.PublicKeyInfo.{public_key_info}
+use Rattle.key_types.specs.PublicKeyInfo.{public_key_info, inner_key}
 use Rattle.key_types.specs.declared.algorithm.AlgorithmIdentifier.{AlgorithmIdentifier}
 use Rattle.key_types.specs.declared.key_info.SubjectPublicKeyInfo.{SubjectPublicKeyInfo}
+use Rattle.key_types.specs.declared.public_key.RsaPublicKey.{RsaPublicKey}
+use Rattle.key_types.specs.declared.subject_key.SubjectKey.TheVariants as keys
+use Rattle.key_core.specs.Pkcs1.{IsPkcs1Of}
 use Rattle.key_core.specs.SignatureAlgorithm.{NamesSignature, IsUnnamed}
 use Rattle.key_core.specs.SignatureRules.{RefusesBy as RefusesSignatureBy, IsFirstBroken as IsFirstBrokenOfSignature}
 use Rattle.key_core.specs.Verifying.{Judge, Accepts, verify_rules}
@@ -16,6 +21,8 @@ use Rattle.key_core.specs.declared.signature_algorithm.SignatureAlgorithm.{Signa
 use Rattle.key_core.specs.declared.signature_error.SignatureError.{SignatureError}
 use Rattle.key_core.specs.declared.signature_error.SignatureError.TheVariants as signature_errors
 use Rattle.x509_types.specs.CertificateElements.{CertificateElements}
+use Rattle.x509_types.specs.CertificateFields.{key_octets_of}
+use Rattle.x509_core.specs.Facts.LentKeys.{lent_key}
 use Rattle.x509_core.specs.KeptCertificate.{KeptCertificate}
 use Rattle.x509_core.specs.Link.{HasAlgorithm, HasKey, IsSignedWith, IsSignedBy, IsBadlySigned, IsUnsupported, IsToldOf, signed_octets, signature_refusal, signing_rules}
 use Rattle.x509_core.specs.Parent.{IsInvalid}
@@ -44,6 +51,18 @@ pub told_of : (kept : KeptCertificate) (rule : Rule CertCause) (cause : CertCaus
 told_of kept rule cause (errors.InvalidCertificate id source) broken is = inl (record { cause = cause; id = id; broken = broken; name = is.0; told = ap (errors.InvalidCertificate id) is.1 })
 told_of kept rule cause errors.Memory broken is = inr refl
 told_of kept rule cause e broken is = absurd is
+
+-- ---- the key
+
+in_bounds : (kept : KeptCertificate) → AreDer (inner_key kept.certificate.tbs_certificate.subject_public_key_info.subject_public_key)
+in_bounds kept = ∥∥₁_elim kept.spelled (AreDer-prop (inner_key kept.certificate.tbs_certificate.subject_public_key_info.subject_public_key)) (λ are. are.tbs.subject_public_key_info.1)
+
+-- the octets that are lent of a key of RSA are the encoding of its RSAPublicKey
+pub kept_key : (kept : KeptCertificate) (f : CertificateElements) (info : SubjectPublicKeyInfo) (octets : List ℕ) → f ≡ kept.elements → info ≡ kept.certificate.tbs_certificate.subject_public_key_info
+    → key_octets_of f ≡ Some octets → (key : RsaPublicKey) → info.subject_public_key ≡ keys.Rsa key → IsPkcs1Of (keys.Rsa key) octets
+kept_key kept f info octets same own lent = λ key rsa.
+    let kept_info = kept.certificate.tbs_certificate.subject_public_key_info in
+    lent_key kept.elements kept_info octets (key_of kept) (in_bounds kept) (ap key_octets_of (sym same) ∙ lent) key (ap (λ (i : SubjectPublicKeyInfo). i.subject_public_key) (sym own) ∙ rsa)
 
 -- ---- the algorithm
 

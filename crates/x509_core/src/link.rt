@@ -112,7 +112,7 @@ impl ViewedCert<'_> {
         self.expect_deep_enough(alloc, number)?;
         self.expect_valid(alloc, window)?;
         self.is_parent_of(alloc, child)?;
-        child.expect_signed_by(alloc, self.cert, scheme)
+        child.expect_signed_by(alloc, self, scheme)
     }
 
     /// The certificate is that of an authority (RFC 5280 4.2.1.9).
@@ -168,12 +168,12 @@ impl ViewedCert<'_> {
     fn expect_signed_by<S: Scheme>(
         &self,
         alloc: Global,
-        parent: &Cert,
+        parent: &ViewedCert<'_>,
         scheme: &S,
     ) -> Result<(), CertError>
         ensures { MatchResult result
-            (λ _. IsSignedBy (S.judge scheme.now) parent.now.elements self.now.cert.now.elements)
-            (RefusesBy (signing_rules (S.judge scheme.now) parent.now self.now.cert.now)) }
+            (λ _. IsSignedBy (S.judge scheme.now) parent.now.cert.now.elements self.now.cert.now.elements)
+            (RefusesBy (signing_rules (S.judge scheme.now) parent.now.cert.now self.now.cert.now)) }
     {
         match SignatureAlgorithm::from_algorithm_identifier(alloc, self.cert.outer_algorithm()) {
             Ok(algorithm) => self.expect_accepted(alloc, algorithm, parent, scheme),
@@ -187,17 +187,18 @@ impl ViewedCert<'_> {
         &self,
         alloc: Global,
         algorithm: SignatureAlgorithm,
-        parent: &Cert,
+        parent: &ViewedCert<'_>,
         scheme: &S,
     ) -> Result<(), CertError>
         requires { NamesSignature self.now.cert.now.certificate.signature_algorithm algorithm }
         ensures { MatchResult result
-            (λ _. IsSignedBy (S.judge scheme.now) parent.now.elements self.now.cert.now.elements)
-            (Breaks (IsToldOf self.now.cert.now (IsBadlySigned (S.judge scheme.now) parent.now.elements self.now.cert.now.elements))) }
+            (λ _. IsSignedBy (S.judge scheme.now) parent.now.cert.now.elements self.now.cert.now.elements)
+            (Breaks (IsToldOf self.now.cert.now (IsBadlySigned (S.judge scheme.now) parent.now.cert.now.elements self.now.cert.now.elements))) }
     {
-        match algorithm.verify(
+        match algorithm.verify_by(
             alloc,
-            parent.public_key(),
+            parent.cert.public_key(),
+            parent.view.key(),
             self.view.tbs(),
             self.view.signature(),
             scheme,
