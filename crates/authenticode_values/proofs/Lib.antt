@@ -9,6 +9,7 @@ pub mod CarriedWalks
 pub mod MadeFiles
 pub mod CheckedFiles
 pub mod ReadFiles
+pub mod BuilderSteps
 pub mod Requests
 pub mod Stamps
 pub mod Verdicts

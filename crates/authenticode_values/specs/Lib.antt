@@ -16,5 +16,8 @@ pub mod Making
 pub mod MadeProgram
 pub mod MadeFile
 pub mod FileRefusals
+pub mod BuilderError
+pub mod Building
+pub mod BuilderParts
 pub mod Facts
 pub mod Validator

@@ -4,6 +4,8 @@
 
 mod alone;
 mod bag;
+mod builder;
+mod builder_error;
 mod certificates;
 mod made_files;
 mod making;
@@ -19,6 +21,8 @@ mod token_timestamper;
 mod validator;
 
 pub use authenticode_core::Pkcs7Error;
+pub use builder::AuthenticodeSignatureBuilder;
+pub use builder_error::AuthenticodeSignatureBuilderError;
 pub use certificates::SignatureCertificatesIterator;
 pub use made_files::{check_made, decode_signature, encode_signature};
 pub use pkcs7::Pkcs7;

@@ -26,7 +26,7 @@ ghost use Rattle.authenticode_values.specs.MadeProgram.{program_for};
 ghost use Rattle.authenticode_values.specs.Pkcs7.{elements_of, fields_of, written};
 ghost use Rattle.authenticode_values.specs.Steps.{AreTaken, RefusesBySteps};
 
-mod signer;
+pub(crate) mod signer;
 
 use crate::pkcs7::Pkcs7;
 use crate::signature::AuthenticodeSignature;

@@ -51,7 +51,7 @@ fn named_by_first(signers: &[SignerInfo]) -> Result<&IssuerAndSerialNumber, Auth
 }
 
 /// The first of the certificates with the issuer and the serial number.
-fn first_named<'a>(
+pub(crate) fn first_named<'a>(
     alloc: Global,
     certificates: &'a [Cert],
     named: &IssuerAndSerialNumber,
@@ -87,7 +87,10 @@ fn is_named(
 }
 
 /// The error that no certificate has the issuer and the serial number.
-fn none_named(alloc: Global, named: &IssuerAndSerialNumber) -> Result<AuthenticodeError, AllocError>
+pub(crate) fn none_named(
+    alloc: Global,
+    named: &IssuerAndSerialNumber,
+) -> Result<AuthenticodeError, AllocError>
     ensures { IfOk result (λ e. e ≡ errors.NoCertificatesAssociatedWithIssuerAndSerialNumber (record { name = named.now.issuer }) named.now.serial_number) }
 {
     let issuer = DirectoryName::from(named.issuer.try_clone(alloc)?);

@@ -29,7 +29,7 @@ pub(super) fn first_signer(bag: &[Cert]) -> Result<&Cert, AuthenticodeError>
 
 /// Whether a certificate names code signing, where one of its issuer walk among others has an extended
 /// key usage (RFC 5280 4.2.1.12).
-pub(super) fn may_sign_code(signer: &Cert, certificates: &[Cert]) -> bool
+pub(crate) fn may_sign_code(signer: &Cert, certificates: &[Cert]) -> bool
     ensures { IsTrue result ↔ IsForCodeSigning (elements_of certificates.now) signer.now.elements }
 {
     if signer.view().names(KP_CODE_SIGNING) {

@@ -1,0 +1,29 @@
+-- The errors of builders of signatures, and their texts.
+use Rattle.std.specs.Prelude.{ℕ, List, codes, Option, Some, None}
+use Rattle.der_core.specs.declared.error.DerError.{DerError}
+use Rattle.der_core.specs.declared.error.DerError.TheVariants as der
+use Rattle.authenticode_core.specs.ErrorText.{content_error_text}
+use Rattle.authenticode_core.specs.declared.error.AuthenticodeError.{AuthenticodeError}
+use Rattle.authenticode_core.specs.declared.error.AuthenticodeError.TheVariants as signatures
+use Rattle.authenticode_values.specs.declared.builder_error.AuthenticodeSignatureBuilderError.{AuthenticodeSignatureBuilderError}
+use Rattle.authenticode_values.specs.declared.builder_error.AuthenticodeSignatureBuilderError.TheVariants as errors
+
+-- an error of signatures, of an encoding: want of memory is told as such
+abbrev pub builder_refusal : AuthenticodeError → AuthenticodeSignatureBuilderError
+builder_refusal signatures.Memory = errors.Memory
+builder_refusal e = errors.AuthenticodeError e
+
+abbrev pub unwritten_in_builder : DerError → AuthenticodeSignatureBuilderError
+unwritten_in_builder der.Memory = errors.Memory
+unwritten_in_builder e = errors.Asn1DerError e
+
+-- what is told. Of an element that isn't written no contract says what is told
+abbrev pub builder_error_text : AuthenticodeSignatureBuilderError → Option (List ℕ)
+builder_error_text errors.MissingDigestAlgorithm = Some (codes "no digest algorithm is given")
+builder_error_text errors.MissingContentInfo = Some (codes "no content is given")
+builder_error_text errors.MissingSigningKey = Some (codes "no private key is given")
+builder_error_text errors.MissingIssuerAndSerialNumber = Some (codes "no issuer and no serial number are given")
+builder_error_text errors.MissingCertificatesRequired = Some (codes "no certificates are given")
+builder_error_text (errors.AuthenticodeError e) = content_error_text e
+builder_error_text (errors.Asn1DerError e) = None
+builder_error_text errors.Memory = Some (codes "out of memory")

@@ -1,0 +1,7 @@
+-- What is given to a builder, where it lies.
+use Rattle.authenticode_values.specs.Building.{Given}
+use Rattle.authenticode_values.specs.Pkcs7.{elements_of}
+use Rattle.authenticode_values.specs.declared.builder.building.Parts.{Parts}
+
+abbrev pub given_of : Parts → Given
+given_of parts = record { hash = parts.hash; content = parts.content.now; key = parts.key.now; named = parts.named.now; bag = elements_of parts.certificates.now }
