@@ -109,6 +109,10 @@ impl<'a> AuthenticodeSignatureBuilder<'a> {
 
 /// A builder of which nothing is asked yet.
 impl Default for AuthenticodeSignatureBuilder<'_> {
+    ghost use Rattle.authenticode_values.specs.Building.{no_parts};
+
+    ghost is_default = { λ builder. builder ≡ no_parts };
+
     fn default() -> Self {
         AuthenticodeSignatureBuilder::new()
     }
