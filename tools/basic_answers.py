@@ -12,8 +12,8 @@ change is a place in two octets and the octet that stands there instead, and eac
 is made of the file alone: so a case is answered by a line for the file as it is,
 and one for each change.
 
-The cases are the rows of `basic_rows` and `basic_steps`, whose answers stand
-there, and the signatures of `basic_world`, whose answers `basic_judge` finds.
+The cases are the rows of `basic_rows` and `basic_steps`, and those of
+`made_signatures` on signatures that are made, whose answers stand there, and the signatures of `basic_world`, whose answers `basic_judge` finds.
 What it finds of the rows has to be what stands there, and nothing is taken from
 what the program printed.
 """
@@ -23,6 +23,7 @@ import sys
 import basic_rows
 import basic_steps
 import basic_world
+import made_signatures
 from basic_judge import answer
 from stored_run import write_stored_run
 from value_reader import word
@@ -32,6 +33,7 @@ def rows():
     """What each file is, its octets, the digest that is asked for, a table, and what is answered."""
     yield from basic_rows.rows()
     yield from basic_steps.rows()
+    yield from made_signatures.judged_rows()
 
 
 def cases():

@@ -15,11 +15,13 @@ have to be what stands there.
 
 A row of `STAMPS` has two words, signed data and a token.  What is answered is
 the signed data stamped by the token, put together of its elements (RFC 5652
-11.4), or why it isn't.
+11.4), or why it isn't.  The rows on signatures that are made, and on signed data
+of certificates alone, are those of `made_signatures`.
 """
 
 import sys
 
+import made_signatures
 from cms_reader import pkcs7
 from der_reader import Constructed, Malformed, Primitive, encoding, read_exact
 from first_path import (
@@ -77,6 +79,8 @@ CASES = [
     ("unsigned attributes", signed_data([with_attributes(None, [ONE])], S), "1 0: (0) hash=- signed=- unsigned=1"),
     ("both", signed_data([with_attributes([ONE], [TWO, ONE, TWO])], S), "1 0: (0) hash=- signed=1 unsigned=3"),
     ("those of the first signer", signed_data([signer(sequence(name(b"A"), integer(b"\x01"))), with_attributes([ONE], [ONE])], S), "1 0: (0) hash=- signed=- unsigned=-"),
+    ("no certificates and no signer", made_signatures.alone(), "0 hash=- signed=- unsigned=-"),
+    ("a signature that is made", made_signatures.S0.value(), f"1 0: (0) hash={made_signatures.FILE_HASH.hex()} signed=3 unsigned=-"),
     ("a time stamp that isn't", signed_data([with_attributes([], [attribute("1.3.6.1.4.1.311.3.3.1", sequence())])], S), "no signed data"),
 ]
 
@@ -98,6 +102,10 @@ STAMPS = [
     ("no signer", signed_data([], S), signed_data(BY_A, S)),
     ("a token without a signer", signed_data(BY_A, S), signed_data([], S)),
     ("no signer, and a token without one", signed_data([], S), signed_data([], S)),
+    ("a signature that is made, by itself", made_signatures.S0.value(), made_signatures.S0.value()),
+    ("one with more certificates, by it", made_signatures.CHAIN.value(), made_signatures.S0.value()),
+    ("one that is made, by certificates alone", made_signatures.S0.value(), made_signatures.alone()),
+    ("certificates alone, by one that is made", made_signatures.alone(), made_signatures.S0.value()),
 ]
 
 
@@ -167,6 +175,9 @@ def stored_files():
     rows += [octets for _, kind, octets in stored() if kind == "pkcs7"]
     lines = [octets.hex() for octets in rows] + [f"{octets.hex()} {token.hex()}" for _, octets, token in STAMPS]
     answers = [answer(octets) for octets in rows] + [stamped(octets, token) for _, octets, token in STAMPS]
+    made = [*made_signatures.alone_rows(), *made_signatures.made_rows(), *made_signatures.built_rows()]
+    lines += [words for words, _ in made]
+    answers += [said for _, said in made]
     return {name: "".join(f"{line}\n" for line in many).encode("ascii") for name, many in (("data/rows", lines), ("stdout", answers))}
 
 

@@ -101,14 +101,23 @@ def members(lines, pattern):
     return "none" if is_absent(lines) else str(sum(1 for line in lines if re.match(pattern, line)))
 
 
+# The words of a command that prints fields, and how a certificate and a revocation list begin there.
+PKCS7 = ("pkcs7",), r" {8}cert_info:", r" {8}crl:"
+CMS = ("cms", "-cmsout"), r" {6}d\.", r" {6}d\."
+
+
 def said(octets):
     """How the line of `cms_reader` begins and ends, by what openssl says."""
     try:
-        text = openssl("pkcs7", "-inform", "DER", "-noout", "-print", given=octets)
-        certificate, revoked = r" {8}cert_info:", r" {8}crl:"
+        return said_by(PKCS7, octets)
     except OpensslError:
-        text = openssl("cms", "-cmsout", "-inform", "DER", "-noout", "-print", given=octets)
-        certificate, revoked = r" {6}d\.", r" {6}d\."
+        return said_by(CMS, octets)
+
+
+def said_by(command, octets):
+    """The same by one of its commands."""
+    words, certificate, revoked = command
+    text = openssl(*words, "-inform", "DER", "-noout", "-print", given=octets)
     fields = sections(text.decode("latin-1").splitlines(), 4, TOP)
     [ty] = oids(fields["content"], 6, "(?:type|eContentType)")
     begins = f"same {fields['version'][0]} {len(oids(fields['digests'], 8, 'algorithm'))} {ty} "
@@ -116,6 +125,12 @@ def said(octets):
         begins += f"data {dump(fields['content'])} " if ty == "1.2.840.113549.1.7.1" else ""
     signers = " ".join(("[", *map(signer_words, each_signer(fields["signers"])), "]"))
     return begins, f" {members(fields['certificates'], certificate)} {members(fields['lists'], revoked)} {signers}"
+
+
+def is_said(kind, octets, begins, ends):
+    """Whether the line of `cms_reader` begins and ends so."""
+    here = cms_line(kind, octets)
+    return here.startswith(begins) and here.endswith(ends)
 
 
 def check(rows):
@@ -130,9 +145,8 @@ def check(rows):
             continue
         compared += 1
         begins, ends = said(octets)
-        here = cms_line(kind, octets)
-        if not (here.startswith(begins) and here.endswith(ends)):
+        if not is_said(kind, octets, begins, ends):
             differing += 1
-            print(f"{label}:\n  here    {here}\n  openssl {begins}..{ends}")
+            print(f"{label}:\n  here    {cms_line(kind, octets)}\n  openssl {begins}..{ends}")
     print(f"{compared} compared with openssl, {differing} differing")
     return 1 if differing else 0

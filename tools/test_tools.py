@@ -29,6 +29,8 @@ import der_reader
 import demo_signatures
 import kept_answers
 import kept_certificates
+import made_check
+import made_signatures
 import oid_table
 import order_bag
 import path_answers
@@ -299,6 +301,39 @@ class KeptAnswersTest(unittest.TestCase):
     def test_stored_files(self):
         for path, octets in kept_answers.stored_files().items():
             self.assertEqual((CRATES / "kept_answers" / path).read_bytes(), octets, path)
+
+
+class MadeSignaturesTest(unittest.TestCase):
+
+    def test_files_of_tests(self):
+        for path, program in (("kept_tests/src/making.rt", made_signatures.SAMPLE),):
+            source = (CRATES / path).read_text(encoding="utf-8")
+            self.assertIn(f'"{made_signatures.padded(program.value()).hex()}"', source)
+
+    def test_every_refusal_has_a_row(self):
+        for rows, count in (made_signatures.made_rows(), 6), (made_signatures.built_rows(), 11):
+            self.assertEqual(len({said for _, said in rows if said.startswith("refused")}), count)
+
+
+@unittest.skipUnless(which("openssl") and which("osslsigncode"), "openssl or osslsigncode isn't there")
+class MadeCheckTest(unittest.TestCase):
+
+    def status(self, answers):
+        with patch("builtins.print") as told:
+            return made_check.check(answers), [str(call.args[0]) for call in told.call_args_list]
+
+    def test_what_is_expected(self):
+        status, told = self.status(lambda rows, asked: [case.line() for case in asked])
+        self.assertEqual((status, told), (0, ["12 compared with openssl, 0 differing", "12 signatures, 0 complaints"]))
+
+    def test_another_answer(self):
+        status, told = self.status(lambda rows, asked: [asked[0].line()[:-2], *(case.line() for case in asked[1:])])
+        self.assertEqual((status, told[-1]), (1, "12 signatures, 1 complaints"))
+
+    def test_another_signature(self):
+        with patch.object(made_check.Signers, "sign", lambda self, digest, message: bytes(256)):
+            status, told = self.status(lambda rows, asked: [case.line() for case in asked])
+        self.assertEqual((status, told[-1]), (1, "12 signatures, 12 complaints"))
 
 
 class ComparisonTest(unittest.TestCase):

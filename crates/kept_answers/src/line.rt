@@ -175,6 +175,25 @@ fn print_written(
 }
 
 /// The octets of a signature.
-pub fn written(alloc: Global, signature: &AuthenticodeSignature) -> Result<Vec<u8>> {
+fn written(alloc: Global, signature: &AuthenticodeSignature) -> Result<Vec<u8>> {
     Ok(signature.to_der(alloc)?)
+}
+
+/// The octets of a signature behind a word.
+pub fn print_signature_octets(
+    alloc: Global,
+    word: &str,
+    signature: &AuthenticodeSignature,
+    line: &mut String,
+) -> Result<()> {
+    let octets = written(alloc, signature)?;
+    Ok(print_octets(alloc, word, &octets, line)?)
+}
+
+/// Why there is no signature. Want of memory ends the run.
+pub fn print_refused(error: &AuthenticodeError, line: &mut String) -> Result<(), AllocError> {
+    match error {
+        AuthenticodeError::Memory => Err(AllocError),
+        _ => write!(line, "refused {error}"),
+    }
 }

@@ -1,11 +1,11 @@
 //! The line for a signature into which a token is put.
 
-use crate::line::{print_octets, written};
+use crate::line::{print_refused, print_signature_octets};
 use anyhow::Result;
 use authenticode_core::AuthenticodeError;
 use authenticode_values::{AuthenticodeSignature, TokenTimestamper};
 use sig_core::HashAlgorithm;
-use std::alloc::{AllocError, Global};
+use std::alloc::Global;
 
 /// What is made of the signature that octets are by a token.
 pub fn print_stamped(alloc: Global, octets: &[u8], token: &[u8], line: &mut String) -> Result<()> {
@@ -42,24 +42,7 @@ fn print_answered(
     line: &mut String,
 ) -> Result<()> {
     match answer {
-        Ok(()) => print_written(alloc, signature, line),
+        Ok(()) => print_signature_octets(alloc, "stamped ", signature, line),
         Err(error) => Ok(print_refused(error, line)?),
-    }
-}
-
-fn print_written(
-    alloc: Global,
-    signature: &AuthenticodeSignature,
-    line: &mut String,
-) -> Result<()> {
-    let octets = written(alloc, signature)?;
-    Ok(print_octets(alloc, "stamped ", &octets, line)?)
-}
-
-/// Want of memory ends the run.
-fn print_refused(error: &AuthenticodeError, line: &mut String) -> Result<(), AllocError> {
-    match error {
-        AuthenticodeError::Memory => Err(AllocError),
-        _ => write!(line, "refused {error}"),
     }
 }

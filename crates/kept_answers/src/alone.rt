@@ -1,0 +1,15 @@
+//! The line for certificates alone.
+
+use crate::line::print_octets;
+use crate::words::certificates_of;
+use anyhow::Result;
+use authenticode_values::Pkcs7;
+use std::alloc::Global;
+
+/// Signed data that has the certificates of signed data, and nothing else.
+pub fn print_alone(alloc: Global, signed_data: &str, line: &mut String) -> Result<()> {
+    let certificates = certificates_of(alloc, signed_data)?;
+    let alone = Pkcs7::of_certificates(alloc, &certificates)?;
+    let octets = alone.to_der(alloc)?;
+    Ok(print_octets(alloc, "alone ", &octets, line)?)
+}

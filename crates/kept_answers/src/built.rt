@@ -1,0 +1,90 @@
+//! The line for a signature that is built.
+
+use crate::line::print_signature_octets;
+use crate::settings::{Setting, settings_of};
+use crate::words::key_of;
+use anyhow::{Result, bail};
+use authenticode_values::{
+    AuthenticodeSignature, AuthenticodeSignatureBuilder, AuthenticodeSignatureBuilderError,
+};
+use key_core::PrivateKey;
+use sig_core::Scheme;
+use std::alloc::{AllocError, Global};
+
+/// The signature that is built with a private key and what is set.
+pub fn print_built<S: Scheme>(
+    alloc: Global,
+    words: &str,
+    scheme: &S,
+    line: &mut String,
+) -> Result<()> {
+    let words: Vec<&str> = words.split(' ').collect(alloc)?;
+    let [key, settings @ ..] = words.as_slice() else {
+        bail!("a key is given");
+    };
+    print_asked(alloc, key, settings, scheme, line)
+}
+
+fn print_asked<S: Scheme>(
+    alloc: Global,
+    key: &str,
+    settings: &[&str],
+    scheme: &S,
+    line: &mut String,
+) -> Result<()> {
+    let key = key_of(alloc, key)?;
+    let settings = settings_of(alloc, settings)?;
+    let builder = builder_of(settings, &key);
+    print_signature(alloc, builder, scheme, line)
+}
+
+/// A builder with these settings, of which the first is the last of the list.
+fn builder_of(mut settings: Vec<Setting>, key: &PrivateKey) -> AuthenticodeSignatureBuilder<'_> {
+    let mut builder = empty(key);
+    for _ in 0..settings.len() {
+        builder = with(builder, settings.pop(), key);
+    }
+    builder
+}
+
+/// A builder of which nothing is asked, and to which the key may be lent.
+fn empty(_key: &PrivateKey) -> AuthenticodeSignatureBuilder<'_> {
+    AuthenticodeSignatureBuilder::new()
+}
+
+/// The builder with what is set, where something is.
+fn with<'a>(
+    builder: AuthenticodeSignatureBuilder<'a>,
+    setting: Option<Setting>,
+    key: &'a PrivateKey,
+) -> AuthenticodeSignatureBuilder<'a> {
+    match setting {
+        Some(setting) => setting.set(builder, key),
+        None => builder,
+    }
+}
+
+fn print_signature<S: Scheme>(
+    alloc: Global,
+    builder: AuthenticodeSignatureBuilder<'_>,
+    scheme: &S,
+    line: &mut String,
+) -> Result<()> {
+    let built = builder.build(alloc, scheme);
+    let printed = print_answered(alloc, &built, line);
+    drop(built);
+    printed
+}
+
+/// The octets that are written for the signature, or why it isn't built.
+fn print_answered(
+    alloc: Global,
+    built: &Result<AuthenticodeSignature, AuthenticodeSignatureBuilderError>,
+    line: &mut String,
+) -> Result<()> {
+    match built {
+        Ok(signature) => print_signature_octets(alloc, "built ", signature, line),
+        Err(AuthenticodeSignatureBuilderError::Memory) => Err(AllocError.into()),
+        Err(error) => Ok(write!(line, "refused {error}")?),
+    }
+}
