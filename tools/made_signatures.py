@@ -347,7 +347,7 @@ BUILT = [
     ("a root alone is left out", Built(certs=(TOP,), named=named_by(TOP)), ()),
     ("a root signs, and is left out", Built(certs=(TOP, MIDDLE), named=named_by(TOP)), (MIDDLE,)),
     ("two of one issuer and serial number: the first may sign code", Built(certs=(SIGNER, certificate(b"Other", b"Middle", purposes(TIME_STAMPING))), named=named_by(SIGNER)), (SIGNER, certificate(b"Other", b"Middle", purposes(TIME_STAMPING)))),
-    ("the same number spelled with a zero in front", Built(certs=(UNNAMED, MIDDLE), named=named_by(UNNAMED)), (UNNAMED, MIDDLE)),
+    ("a serial number with a zero in front", Built(certs=(UNNAMED, MIDDLE), named=named_by(UNNAMED)), (UNNAMED, MIDDLE)),
 ]
 MISSING = [
     ("digest", "no digest algorithm is given"), ("content", "no content is given"), ("key", "no private key is given"),
