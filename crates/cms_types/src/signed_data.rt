@@ -56,7 +56,7 @@ impl SignedDataFields<'_> {
             certificates: read_list_option(alloc, self.certificates, CERTIFICATES)?,
             crls: read_list_option(alloc, self.crls, REVOCATION_LISTS)?,
             signers_infos: read_list(alloc, self.signers_infos, SET)?,
-            // Last, since of all fields it takes most to let go where another fails.
+            // Last, so that nothing of it has to be freed where another fails.
             content_info: EncapsulatedContentInfo::read_at(alloc, self.content_info)?,
         })
     }

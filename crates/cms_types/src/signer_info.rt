@@ -45,7 +45,7 @@ impl SignerFields<'_> {
             unsigned_attrs: read_list_option(alloc, self.unsigned_attrs, UNSIGNED_ATTRIBUTES)?,
             digest_algorithm: AlgorithmIdentifier::read_at(alloc, self.digest_algorithm)?,
             signature_algorithm: AlgorithmIdentifier::read_at(alloc, self.signature_algorithm)?,
-            // Last, since of all fields it takes most to let go where another fails.
+            // Last, so that nothing of it has to be freed where another fails.
             sid: SignerIdentifier::read_at(alloc, self.sid)?,
         })
     }

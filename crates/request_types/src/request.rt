@@ -59,7 +59,7 @@ impl Structure for CertificationRequest {
         };
         let signature = BitString::read_at(alloc, value)?;
         let signature_algorithm = AlgorithmIdentifier::read_at(alloc, algorithm)?;
-        // Last, since of all it takes most to let go where another fails.
+        // Last, so that nothing of it has to be freed where another fails.
         let certification_request_info = CertificationRequestInfo::read_at(alloc, info)?;
         Ok(CertificationRequest {
             certification_request_info,

@@ -40,7 +40,7 @@ impl Structure for Certificate {
         };
         let signature_value = BitString::read_at(alloc, value)?;
         let signature_algorithm = AlgorithmIdentifier::read_at(alloc, algorithm)?;
-        // Last, since of all it takes most to let go where another fails.
+        // Last, so that nothing of it has to be freed where another fails.
         let tbs_certificate = TbsCertificate::read_at(alloc, tbs)?;
         Ok(Certificate {
             tbs_certificate,
