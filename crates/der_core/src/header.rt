@@ -47,7 +47,6 @@ pub fn head_of(octets: &[u8], at: usize, levels: u8) -> Result<Head<'_>, Malform
 
 /// The head that octets begin with, `None` exactly where a test of it fails. Which one is what
 /// `head_of` says. The octets end where the element has to end at the latest.
-#[inline(always)]
 pub fn sound_head(octets: &[u8], levels: u8) -> Option<Head<'_>>
     ensures { MatchOption result
         ((fault : DerFault) × (head_at levels octets.now ≡ Err fault))
