@@ -13,7 +13,7 @@ import issuing_rows as rows
 import world_requests
 from der_reader import read_exact, write
 from issuing_judge import chain_line, request_line
-from issuing_maker import Refused, built, generated, pkcs8
+from issuing_maker import Refused, built, generated
 
 LEFTMOST = "couldn't generate certificate: key id generation error: invalid key: unsupported algorithm: RSA"
 MISMATCH = "invalid certificate 'CN=L': CA chain error: authority key id doesn't match (expected: aabb, got: 01)"
@@ -116,18 +116,6 @@ class BuiltTest(unittest.TestCase):
         made = built(1, rows.K11, [*rows.ISSUED, ("subject_from_csr", csr), ("inherit", True)], rows.DEMO).hex()
         self.assertEqual((made.count("0603551d13"), made.count("0603551d130405300301" + "0100")), (1, 1))
         self.assertEqual(made.count("0603551d11040d300b82096c6f63616c686f7374"), 1)
-
-
-    def test_authority_of_the_callers(self):
-        """What stands in the crate `usage_tests`."""
-        source = (issuing_answers.FOLDER.parent / "usage_tests/src/authorities.rt").read_text(encoding="utf-8")
-        authority = built(1, rows.K11, [rows.DAYS, ("self_signed", rows.AUTHORITY), ("ca", True)], rows.DEMO)
-        asked = rows.asking([rows.AUTHORITY_ASKED, rows.extension(17, rows.HOST)])
-        request = rows.asked(asked, subject=rows.name("www.example.org"))
-        year = "validity", ("20250101000000", "20260101000000")
-        issued = built(7, rows.K11, [year, ("issuer_cert", authority), ("subject_from_csr", request), ("inherit", True)], rows.DEMO)
-        for octets in (pkcs8(rows.K11), authority, request, issued):
-            self.assertIn(f'"{octets.hex()}"', source)
 
 
 class RequestsTest(unittest.TestCase):

@@ -1,11 +1,9 @@
 //! The callers of `docs/USING.md`, with tests. What they are to give comes from OpenSSL, and the
-//! signature file from `tools/first_path.py`, and what an authority issues from `tools/issuing_maker.py`.
+//! signature file from `tools/first_path.py`.
 #![tactic(auto)]
 
 #[cfg(test)]
 mod algorithms;
-#[cfg(test)]
-mod authorities;
 #[cfg(test)]
 mod certificates;
 #[cfg(test)]
