@@ -3,11 +3,11 @@ use Rattle.std.proofs.Common.{◌≡◌, ℕ, suc, ◌%◌, ◌^◌, ◌<◌, �
 use Rattle.std.proofs.lemmas.Bool.{ltb-false, le-ltb, eqb-false, ne_eqb}
 use Rattle.std.proofs.lemmas.List.{take_at, drop_at, take-append-drop, length-append, length-take-le}
 use Rattle.der_core.specs.declared.fault.DerFault.{DerFault}
-use Rattle.der_core.specs.declared.fault.DerFault.TheVariants.{ReservedTag, HighTag, TooDeep}
+use Rattle.der_core.specs.declared.fault.DerFault.TheVariants.{Truncated, ReservedTag, HighTag, TooDeep}
 use Rattle.der_core.specs.DerElement.{DerElement, Primitive, Constructed, tag_of}
 use Rattle.der_core.specs.Encoding.{length_octets, framed, encoding, encodings, IsTag, IsDerWithin}
 use Rattle.der_core.specs.Facts.Fronts.{ok_is, length_again}
-use Rattle.der_core.specs.Head.{IsOctets, ◌>>=◌, past_bound, length_at, contents_at, head_at, HasHead}
+use Rattle.der_core.specs.Head.{IsOctets, ◌>>=◌, past_bound, length_at, contents_at, head_at, BeginsWithHead, BeginsWithLength, HasHead}
 use Rattle.der_core.proofs.Lengths.{bind_ok, guard_ok, HasLength, length_taken}
 
 -- ---- what was written is read again
@@ -80,3 +80,56 @@ head_taken levels (first ∷ octets) tag contents rest fits e =
       short = c.short;
       some = omega arith;
     })
+
+-- ---- a head of which no test fails
+
+-- the length in such a head, and what is read by it
+pub record IsKnownHead (octets : List ℕ) (tag : ℕ) (after : List ℕ) (n : ℕ) (rest : List ℕ) : Type 0 where
+  pub length_is : length_at Truncated after ≡ Ok (n, rest)
+  pub enough : n ≤ length rest
+  pub read : head_at 64 octets ≡ Ok (tag, take n rest, drop n rest)
+
+known_contents : (past : DerFault) (octets : List ℕ) (c : List ℕ × List ℕ) → contents_at past octets ≡ Ok c → (n : ℕ) × (rest : List ℕ) × (length_at past octets ≡ Ok (n, rest)) × (n ≤ length rest) × ((take n rest, drop n rest) ≡ c)
+unfolding contents_at
+known_contents past octets c e =
+    let b = bind_ok (length_at past octets) (λ n. cond (ltb (length n.1) n.0) (Err past) (Ok (take n.0 n.1, drop n.0 n.1))) c e in
+    let g = guard_ok (ltb (length b.0.1) b.0.0) past (Ok (take b.0.0 b.0.1, drop b.0.0 b.0.1)) c b.2 in
+    (b.0.0, b.0.1, b.1, ltb-false _ _ g.0, ok_is (take b.0.0 b.0.1, drop b.0.0 b.0.1) c g.1)
+
+known_head_at : (tag : ℕ) (after : List ℕ) → BeginsWithHead (tag ∷ after) → (n : ℕ) × (rest : List ℕ) × IsKnownHead (tag ∷ after) tag after n rest
+unfolding head_at
+known_head_at tag after begins =
+    let found : ℕ × List ℕ × List ℕ = (begins.0, begins.1, begins.2) in
+    let last : Result (ℕ × List ℕ × List ℕ) DerFault = contents_at Truncated after >>= λ c. Ok (tag, c.0, c.1) in
+    let z = guard_ok (eqb tag 0) ReservedTag (cond (eqb (tag % 32) 31) (Err HighTag) last) found begins.3 in
+    let h = guard_ok (eqb (tag % 32) 31) HighTag last found z.1 in
+    let b = bind_ok (contents_at Truncated after) (λ c. Ok (tag, c.0, c.1)) found h.1 in
+    let c = known_contents Truncated after b.0 b.1 in (
+      c.0,
+      c.1,
+      record {
+        length_is = c.2;
+        enough = c.3;
+        read = begins.3 ∙ sym b.2 ∙ sym (ap (λ (p : List ℕ × List ℕ). Ok (tag, p.0, p.1)) c.4);
+      },
+    )
+
+known_there : (octets : List ℕ) (tag : ℕ) (after : List ℕ) → octets ≡ tag ∷ after → BeginsWithHead octets → (n : ℕ) × (rest : List ℕ) × IsKnownHead octets tag after n rest
+known_there octets tag after are begins = rw are (known_head_at tag after (rw are at begins))
+
+pub known_length_there : (octets : List ℕ) (tag : ℕ) (after : List ℕ) → octets ≡ tag ∷ after → BeginsWithHead octets → BeginsWithLength after
+known_length_there octets tag after are begins = let k = known_there octets tag after are begins in (k.0, k.1, k.2.length_is)
+
+-- what is read by a length that was read
+pub known_head_is : (octets : List ℕ) (tag : ℕ) (after : List ℕ) (n : ℕ) (rest : List ℕ) → octets ≡ tag ∷ after → BeginsWithHead octets → length_at Truncated after ≡ Ok (n, rest) → IsKnownHead octets tag after n rest
+known_head_is octets tag after n rest are begins e =
+    let k = known_there octets tag after are begins in
+    subst (λ (p : ℕ × List ℕ). IsKnownHead octets tag after p.0 p.1) (ok_is (k.0, k.1) (n, rest) (sym k.2.length_is ∙ e)) k.2
+
+no_head_at : (h : ℕ × List ℕ × List ℕ) → head_at 64 [] ≡ Ok h → ⊥
+unfolding head_at
+no_head_at h e = absurd cc
+
+-- nothing begins with no octets
+pub none_begins : (octets : List ℕ) → octets ≡ [] → BeginsWithHead octets → ⊥
+none_begins octets none begins = no_head_at (begins.0, begins.1, begins.2) (rw none at begins.3)

@@ -1,13 +1,12 @@
 -- Elements where they lie in octets: their kids, and the first of several.
-use Rattle.std.proofs.Common.{◌≡◌, ℕ, ◌-◌, List, [], ◌∷◌, ◌++◌, length, take, Some, None, Ok, Err, refl, sym, ap, subst, ◌∙◌, arith}
+use Rattle.std.proofs.Common.{◌≡◌, ℕ, ◌-◌, List, [], ◌∷◌, ◌++◌, length, take, Some, None, Ok, refl, sym, ap, subst, ◌∙◌, arith}
 use Rattle.std.proofs.lemmas.List.{append-nil, length-append, take_at}
-use Rattle.der_core.specs.declared.fault.DerFault.{DerFault}
 use Rattle.der_core.specs.DerElement.{DerElement, Primitive, Constructed, Nil, Cons, row, listed, tag_of, kids_of}
 use Rattle.der_core.specs.Facts.Rows.{row-listed}
 use Rattle.der_core.specs.Encoding.{encoding, encodings, form_bit, IsDer, IsDerWithin}
 use Rattle.der_core.specs.Facts.Fronts.{ok_is, some_octets}
 use Rattle.der_core.specs.Reading.{HasElements, IsFirst}
-use Rattle.der_core.specs.Head.{head_at}
+use Rattle.der_core.specs.Head.{head_at, BeginsWithHead}
 use Rattle.der_core.specs.Placed.{contents_octets, IsElem, HasElem, AreElems, HasElems}
 use Rattle.der_core.specs.Facts.Placed.{HasElem-prop, HasElems-prop, same_elements, kids_in_bounds}
 use Rattle.der_core.specs.Kept.{IsKept, Kept}
@@ -50,15 +49,15 @@ none_left octets k e = no_octets k.0 (sym k.1.1 ∙ e)
 pub some_left : (octets : List ℕ) (k : HasElems octets) → k.0 ≡ [] → octets ≡ []
 some_left octets k e = k.1.1 ∙ ap (λ elements. encodings (row elements)) e
 
--- where the first tests of octets fail there are no elements
-no_head_left' : (octets : List ℕ) (elements : List DerElement) (fault : DerFault) → AreElems octets elements → head_at 64 octets ≡ Err fault → elements ≡ []
-no_head_left' octets [] fault are failed = refl
-no_head_left' octets (a ∷ elements) fault are failed =
-    let again : head_at 64 octets ≡ Ok (tag_of a, contents_of a, encodings (row elements)) = ap (head_at 64) are.1 ∙ head_again 64 a (encodings (row elements)) are.0.0 in
-    absurd cc
+-- where there are elements the octets begin with the head of one
+head_left' : (octets : List ℕ) (elements : List DerElement) → AreElems octets elements → (elements ≡ [] → ⊥) → BeginsWithHead octets
+head_left' octets [] are some = absurd (some refl)
+head_left' octets (a ∷ elements) are some =
+    let rest = encodings (row elements) in
+    (tag_of a, contents_of a, rest, ap (head_at 64) are.1 ∙ head_again 64 a rest are.0.0)
 
-pub no_head_left : (octets : List ℕ) (k : HasElems octets) (fault : DerFault) → head_at 64 octets ≡ Err fault → k.0 ≡ []
-no_head_left octets k fault failed = no_head_left' octets k.0 fault k.1 failed
+pub head_left : (octets : List ℕ) (k : HasElems octets) → (k.0 ≡ [] → ⊥) → BeginsWithHead octets
+head_left octets k some = head_left' octets k.0 k.1 some
 
 no_head_of_none : (tag : ℕ) (contents after : List ℕ) → head_at 64 [] ≡ Ok (tag, contents, after) → ⊥
 unfolding head_at

@@ -1,12 +1,12 @@
 -- A length that is read is spelled as it is written.
-use Rattle.std.proofs.Common.{◌≡◌, ℕ, suc, ◌/◌, ◌%◌, ◌^◌, ◌<◌, ◌≤◌, Bool, true, false, cond, ltb, eqb, List, [], ◌∷◌, ◌++◌, length, take, drop, Result, Ok, Err, refl, sym, ap, ◌∙◌, arith, inl, inr, ◌⊎◌}
+use Rattle.std.proofs.Common.{◌≡◌, ℕ, suc, ◌+◌, ◌-◌, ◌/◌, ◌%◌, ◌^◌, ◌<◌, ◌≤◌, Bool, true, false, cond, ltb, eqb, List, [], ◌∷◌, ◌++◌, length, take, drop, Result, Ok, Err, refl, sym, ap, ◌∙◌, arith, inl, inr, ◌⊎◌}
 use Rattle.std.proofs.lemmas.Bool.{cases_lt, cases_Bool, ltb-true, ltb-false, lt-ltb, le-ltb, eqb-true}
 use Rattle.std.proofs.lemmas.List.{take-append-drop, length-take-le, get_or_append_left, get_or_past}
 use Rattle.der_core.specs.declared.fault.DerFault.{DerFault}
-use Rattle.der_core.specs.declared.fault.DerFault.TheVariants.{NotShortest}
+use Rattle.der_core.specs.declared.fault.DerFault.TheVariants.{NotShortest, Truncated}
 use Rattle.der_core.specs.Encoding.{length_octets}
 use Rattle.der_core.specs.Facts.Fronts.{done, ok_is}
-use Rattle.der_core.specs.Head.{IsOctets, ◌>>=◌, number_from, long_length_at, length_at}
+use Rattle.der_core.specs.Head.{IsOctets, ◌>>=◌, number_from, long_length_at, length_at, BeginsWithLength}
 
 -- which way a test went
 pub chosen : {A : Type 0} (b : Bool) (x y z : A) → cond b x y ≡ z → ((b ≡ true) × (x ≡ z)) ⊎ ((b ≡ false) × (y ≡ z))
@@ -174,3 +174,63 @@ length_taken past (first ∷ octets) n rest fits e =
                 ]
           ]
     ]
+
+-- ---- a length of the long form
+
+-- its first octet tells how many write it
+pub record IsLongForm (first : ℕ) (rest : List ℕ) (n : ℕ) (after : List ℕ) : Type 0 where
+  pub few : first - 128 ≤ 4
+  pub there : first - 128 ≤ length rest
+  pub value : number_from 0 (take (first - 128) rest) ≡ n
+  pub left : drop (first - 128) rest ≡ after
+
+long_form : (count least first : ℕ) (past : DerFault) (rest : List ℕ) (n : ℕ) (after : List ℕ) → count ≤ 4 → first ≡ 128 + count → long_length_at count least past rest ≡ Ok (n, after) → IsLongForm first rest n after
+unfolding long_length_at
+long_form count least first past rest n after few same e =
+    let there = guard_ok (ltb (length rest) count) past (cond (ltb (number_from 0 (take count rest)) least) (Err NotShortest) (Ok (number_from 0 (take count rest), drop count rest))) (n, after) e in
+    let shortest = guard_ok (ltb (number_from 0 (take count rest)) least) NotShortest (Ok (number_from 0 (take count rest), drop count rest)) (n, after) there.1 in
+    let both = ok_is (number_from 0 (take count rest), drop count rest) (n, after) shortest.1 in
+    let many : first - 128 ≡ count = omega arith in
+    record {
+      few = omega arith;
+      there = rw many (ltb-false _ _ there.0);
+      value = rw many (ap (λ (p : ℕ × List ℕ). p.0) both);
+      left = rw many (ap (λ (p : ℕ × List ℕ). p.1) both);
+    }
+
+pub long_there : (past : DerFault) (first : ℕ) (rest : List ℕ) (n : ℕ) (after : List ℕ) → 128 ≤ first → length_at past (first ∷ rest) ≡ Ok (n, after) → IsLongForm first rest n after
+unfolding length_at
+long_there past first rest n after long e =
+    let f7 : ltb first (2 ^ 7) ≡ false = le-ltb _ _ long in
+    let e7 = rw f7 at e in
+    elim (cases_Bool (eqb first 128)) [
+      | inl t ↦ let none = rw t at e7 in absurd cc
+      | inr f ↦ let e0 = rw f at e7 in
+          elim (cases_Bool (eqb first 129)) [
+            | inl t ↦ long_form 1 (2 ^ 7) first past rest n after (omega arith) (eqb-true _ _ t) (rw t at e0)
+            | inr f ↦ let e1 = rw f at e0 in
+                elim (cases_Bool (eqb first 130)) [
+                  | inl t ↦ long_form 2 (2 ^ 8) first past rest n after (omega arith) (eqb-true _ _ t) (rw t at e1)
+                  | inr f ↦ let e2 = rw f at e1 in
+                      elim (cases_Bool (eqb first 131)) [
+                        | inl t ↦ long_form 3 (2 ^ 16) first past rest n after (omega arith) (eqb-true _ _ t) (rw t at e2)
+                        | inr f ↦ let e3 = rw f at e2 in
+                            elim (cases_Bool (eqb first 132)) [
+                              | inl t ↦ long_form 4 (2 ^ 24) first past rest n after (omega arith) (eqb-true _ _ t) (rw t at e3)
+                              | inr f ↦ let none = rw f at e3 in absurd cc
+                            ]
+                      ]
+                ]
+          ]
+    ]
+
+-- where a length is known, and how it goes on where it is of the long form
+pub long_known : (octets : List ℕ) (first : ℕ) (rest : List ℕ) → octets ≡ first ∷ rest → 128 ≤ first → BeginsWithLength octets → IsLongForm first rest (number_from 0 (take (first - 128) rest)) (drop (first - 128) rest)
+long_known octets first rest are long begins =
+    let form = long_there Truncated first rest begins.0 begins.1 long (rw are at begins.2) in
+    record { few = form.few; there = form.there; value = refl; left = refl }
+
+pub long_read : (octets : List ℕ) (first : ℕ) (rest : List ℕ) → octets ≡ first ∷ rest → 128 ≤ first → BeginsWithLength octets → length_at Truncated octets ≡ Ok (number_from 0 (take (first - 128) rest), drop (first - 128) rest)
+long_read octets first rest are long begins =
+    let form = long_there Truncated first rest begins.0 begins.1 long (rw are at begins.2) in
+    rw (form.value, form.left) begins.2

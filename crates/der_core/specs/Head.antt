@@ -57,6 +57,14 @@ head_at levels (tag ∷ octets) =
     else (if levels == 0 then Err TooDeep
     else (contents_at (past_bound levels) octets >>= λ c. Ok (tag, c.0, c.1))))
 
+-- Octets begin with a length of which no test fails.
+abbrev pub BeginsWithLength : List ℕ → Type 0
+BeginsWithLength octets = (n : ℕ) × (rest : List ℕ) × (length_at Truncated octets ≡ Ok (n, rest))
+
+-- Octets begin with a head of which no test fails.
+abbrev pub BeginsWithHead : List ℕ → Type 0
+BeginsWithHead octets = (tag : ℕ) × (contents : List ℕ) × (rest : List ℕ) × (head_at 64 octets ≡ Ok (tag, contents, rest))
+
 -- Octets begin with a tag, the shortest length of contents and these, where a level is left.
 pub record HasHead (levels : ℕ) (octets : List ℕ) (tag : ℕ) (contents rest : List ℕ) : Type 0 where
   pub parts : octets ≡ framed tag contents ++ rest

@@ -1,8 +1,9 @@
 //! Identifier and length, before any contents are copied.
 
-ghost use Rattle.std.specs.Prelude.{◌≡◌, ◌<◌, ◌≤◌, ◌↔◌, ℕ, ◌∷◌, length, Ok, Err, IsTrue, IfSome, MatchOption, MatchResult};
+ghost use Rattle.std.specs.Prelude.{◌≡◌, ◌<◌, ◌≤◌, ◌↔◌, ℕ, length, Ok, Err, IsTrue, MatchOption, MatchResult};
 ghost use Rattle.der_core.specs.Encoding.{form_bit};
-ghost use Rattle.der_core.specs.Head.{past_bound, number_from, long_length_at, length_at, contents_at, head_at, HasHead};
+ghost use Rattle.der_core.specs.Head.{past_bound, number_from, long_length_at, length_at, contents_at, head_at, BeginsWithHead, BeginsWithLength, HasHead};
+ghost use Rattle.der_core.specs.declared.fault.DerFault.TheVariants.{Truncated};
 
 use crate::fault::{DerFault, Malformed};
 use crate::tree::MAX_NESTING;
@@ -47,22 +48,8 @@ pub fn head_of(octets: &[u8], at: usize, levels: u8) -> Result<Head<'_>, Malform
 
 /// The head that octets begin with, `None` exactly where a test of it fails. Which one is what
 /// `head_of` says. The octets end where the element has to end at the latest.
+#[inline(always)]
 pub fn sound_head(octets: &[u8], levels: u8) -> Option<Head<'_>>
-    ensures { MatchOption result
-        ((fault : DerFault) × (head_at levels octets.now ≡ Err fault))
-        (λ head. (head_at levels octets.now ≡ Ok (head.tag, head.contents.now, head.rest.now))
-        × HasHead levels octets.now head.tag head.contents.now head.rest.now) }
-{
-    match quick_head(octets, levels) {
-        Some(head) => Some(head),
-        None => other_head(octets, levels),
-    }
-}
-
-/// The head, where no test of it fails, though `quick_head` finds none.
-#[cold]
-#[inline(never)]
-fn other_head(octets: &[u8], levels: u8) -> Option<Head<'_>>
     ensures { MatchOption result
         ((fault : DerFault) × (head_at levels octets.now ≡ Err fault))
         (λ head. (head_at levels octets.now ≡ Ok (head.tag, head.contents.now, head.rest.now))
@@ -74,77 +61,53 @@ fn other_head(octets: &[u8], levels: u8) -> Option<Head<'_>>
     }
 }
 
-/// The head that octets begin with, where no test of it fails: as `sound_head`, without the part that
-/// only a fault needs.
+/// The head of the element that octets are known to begin with: no test of it is made again.
 #[inline(always)]
-pub fn quick_head(octets: &[u8], levels: u8) -> Option<Head<'_>>
-    ensures { IfSome result (λ head. (head_at levels octets.now ≡ Ok (head.tag, head.contents.now, head.rest.now))
-        × HasHead levels octets.now head.tag head.contents.now head.rest.now) }
+pub fn known_head(octets: &[u8]) -> Head<'_>
+    requires { BeginsWithHead octets.now }
+    ensures { (head_at 64 octets.now ≡ Ok (result.tag, result.contents.now, result.rest.now))
+        × HasHead 64 octets.now result.tag result.contents.now result.rest.now }
 {
-    let head = head_in(octets)?;
-    if levels == 0 {
-        return None;
-    }
-    Some(head)
-}
-
-/// The head, where a level is left for its element and no other test of it fails.
-#[tactic(auto, unfolding(crate::specs::Head::head_at, crate::specs::Head::contents_at))]
-#[inline(always)]
-fn head_in(octets: &[u8]) -> Option<Head<'_>>
-    ensures { IfSome result (λ head. (levels : ℕ) → 0 < levels → head_at levels octets.now ≡ Ok (head.tag, head.contents.now, head.rest.now)) }
-{
-    let (tag, after) = octets.split_first()?;
-    let (length, after) = quick_length(after)?;
-    if *tag == 0 || *tag & 0x1F == 0x1F || after.len() < length {
-        return None;
-    }
+    let Some((tag, after)) = octets.split_first() else {
+        unreachable!();
+    };
+    let (length, after) = known_length(after);
     let (contents, rest) = after.split_at(length);
-    Some(Head {
+    Head {
         tag: *tag,
         contents,
         rest,
-    })
+    }
 }
 
-/// The length that octets begin with, and the octets after it, where no test of it fails (X.690 8.1.3).
+/// The length that octets are known to begin with, and the octets after it (X.690 8.1.3).
 #[tactic(auto, unfolding(crate::specs::Head::length_at))]
 #[inline(always)]
-fn quick_length(octets: &[u8]) -> Option<(usize, &[u8])>
-    ensures { IfSome result (λ n. (past : DerFault) → length_at past octets.now ≡ Ok (n.0, n.1.now)) }
+fn known_length(octets: &[u8]) -> (usize, &[u8])
+    requires { BeginsWithLength octets.now }
+    ensures { length_at Truncated octets.now ≡ Ok (result.0, result.1.now) }
 {
-    let (first, rest) = octets.split_first()?;
+    let Some((first, rest)) = octets.split_first() else {
+        unreachable!();
+    };
     if *first < 0x80 {
-        return Some((usize::from(*first), rest));
+        return (usize::from(*first), rest);
     }
-    quick_long_length(*first, rest)
+    let (digits, rest) = rest.split_at(usize::from(*first) - 0x80);
+    (long_length(digits), rest)
 }
 
-/// A length in several octets after the first, where no test of it fails (X.690 8.1.3.5, 10.1).
-#[tactic(auto, unfolding(crate::specs::Head::length_at, crate::specs::Head::long_length_at))]
-#[inline(always)]
-fn quick_long_length(first: u8, octets: &[u8]) -> Option<(usize, &[u8])>
-    ensures { IfSome result (λ n. (past : DerFault) → length_at past (first ∷ octets.now) ≡ Ok (n.0, n.1.now)) }
+/// The length that the octets of its long form write (X.690 8.1.3.5).
+#[inline(never)]
+fn long_length(digits: &[u8]) -> usize
+    requires { length digits.now ≤ 4 }
+    ensures { result ≡ number_from 0 digits.now }
 {
-    match (first, octets) {
-        (0x81, [low @ 0x80..=0xFF, rest @ ..]) => Some((usize::from(*low), rest)),
-        (0x82, [high @ 1..=0xFF, low, rest @ ..]) => {
-            Some((usize::from(*high) * 0x100 + usize::from(*low), rest))
-        }
-        (0x83, [high @ 1..=0xFF, middle, low, rest @ ..]) => {
-            let high = usize::from(*high) * 0x100 + usize::from(*middle);
-            Some((high * 0x100 + usize::from(*low), rest))
-        }
-        (0x84, [high @ 1..=0xFF, second, third, low, rest @ ..]) => {
-            let high = usize::from(*high) * 0x100 + usize::from(*second);
-            let high = high * 0x100 + usize::from(*third);
-            Some((high * 0x100 + usize::from(*low), rest))
-        }
-        _ => None,
-    }
+    number_of(digits)
 }
 
 #[tactic(auto, unfolding(crate::specs::Head::head_at))]
+#[inline(always)]
 fn tested_head(octets: &[u8], levels: u8) -> Result<Head<'_>, DerFault>
     ensures { MatchResult result
         (λ head. head_at levels octets.now ≡ Ok (head.tag, head.contents.now, head.rest.now))
@@ -173,6 +136,7 @@ fn tested_head(octets: &[u8], levels: u8) -> Result<Head<'_>, DerFault>
 }
 
 /// What octets past the bound are a fault of.
+#[inline(always)]
 fn past_bound_of(levels: u8) -> DerFault
     ensures { result ≡ past_bound levels }
 {
@@ -185,6 +149,7 @@ fn past_bound_of(levels: u8) -> DerFault
 
 /// The length that octets begin with, contents of that length, and the octets after them.
 #[tactic(auto, unfolding(crate::specs::Head::contents_at))]
+#[inline(always)]
 fn contents_of(octets: &[u8], past: DerFault) -> Result<(&[u8], &[u8]), DerFault>
     ensures { MatchResult result
         (λ c. contents_at past octets.now ≡ Ok (c.0.now, c.1.now))
@@ -199,6 +164,7 @@ fn contents_of(octets: &[u8], past: DerFault) -> Result<(&[u8], &[u8]), DerFault
 
 /// The length that octets begin with, and the octets after it (X.690 8.1.3).
 #[tactic(auto, unfolding(crate::specs::Head::length_at))]
+#[inline(always)]
 fn length_of(octets: &[u8], past: DerFault) -> Result<(usize, &[u8]), DerFault>
     ensures { MatchResult result
         (λ n. length_at past octets.now ≡ Ok (n.0, n.1.now))
@@ -220,6 +186,7 @@ fn length_of(octets: &[u8], past: DerFault) -> Result<(usize, &[u8]), DerFault>
 
 /// A length in `count` octets, which has to be at least the one that needs so many (X.690 10.1).
 #[tactic(auto, unfolding(crate::specs::Head::long_length_at))]
+#[inline(always)]
 fn long_length_of(
     octets: &[u8],
     past: DerFault,
@@ -243,6 +210,7 @@ fn long_length_of(
 }
 
 /// The number that a few octets write, the most significant first.
+#[inline(always)]
 fn number_of(digits: &[u8]) -> usize
     requires { length digits.now ≤ 4 }
     ensures { result ≡ number_from 0 digits.now }

@@ -11,12 +11,11 @@ ghost use Rattle.der_core.specs.Placed.{HasElems};
 ghost use Rattle.der_core.specs.Facts.Placed.{HasElems-prop};
 
 use crate::elem::Elem;
-use crate::header::{is_constructed, sound_head};
+use crate::header::{is_constructed, known_head};
 use crate::leaves::boolean_at;
 use crate::structure::Structure;
 use crate::tag::BOOLEAN;
 use crate::tagging::explicit_at;
-use crate::tree::MAX_NESTING;
 
 /// Elements in bounds, one after another, that aren't read yet.
 #[derive(Clone, Copy)]
@@ -47,6 +46,7 @@ impl<'a> Kids<'a> {
     }
 
     /// The next element. Its head alone is read.
+    #[inline(always)]
     pub fn next(&mut self) -> Option<Elem<'a>>
         ensures { MatchOption result
             ((self.old.are.0 ≡ []) × (self.new.are.0 ≡ []))
@@ -55,7 +55,7 @@ impl<'a> Kids<'a> {
         if self.is_empty() {
             return None;
         }
-        let head = sound_head(self.rest, MAX_NESTING)?;
+        let head = known_head(self.rest);
         let (whole, _) = self.rest.split_at(self.rest.len() - head.rest.len());
         self.rest = head.rest;
         Some(Elem {
@@ -78,6 +78,7 @@ impl<'a> Kids<'a> {
     }
 
     /// The next element, where it has this tag. One of another tag is left.
+    #[inline(always)]
     pub fn next_tagged(&mut self, tag: u8) -> Option<Elem<'a>>
         ensures { MatchOption result
             ((self.new.are.0 ≡ self.old.are.0) × BeginsOtherwise tag self.old.are.0)
@@ -93,6 +94,7 @@ impl<'a> Kids<'a> {
     }
 
     /// The next element, where it has the shape of a structure. One of another shape is left.
+    #[inline(always)]
     pub fn next_as<T: Structure>(&mut self) -> Option<Elem<'a>>
         ensures { MatchOption result
             ((self.new.are.0 ≡ self.old.are.0) × BeginsUnfit T.spells self.old.are.0)
@@ -160,6 +162,7 @@ impl<'a> Kids<'a> {
 }
 
 /// The elements in a constructed element of this tag that holds two.
+#[inline(always)]
 pub fn two_kids<'a>(elem: Elem<'a>, tag: u8) -> Option<(Elem<'a>, Elem<'a>)>
     ensures { MatchOption result
         ((first second : DerElement) → elem.entry.is.0 ≢ Constructed tag (row (first ∷ second ∷ [])))
@@ -173,6 +176,7 @@ pub fn two_kids<'a>(elem: Elem<'a>, tag: u8) -> Option<(Elem<'a>, Elem<'a>)>
 }
 
 /// The elements in a constructed element of this tag that holds three.
+#[inline(always)]
 pub fn three_kids<'a>(elem: Elem<'a>, tag: u8) -> Option<(Elem<'a>, Elem<'a>, Elem<'a>)>
     ensures { MatchOption result
         ((first second third : DerElement) → elem.entry.is.0 ≢ Constructed tag (row (first ∷ second ∷ third ∷ [])))

@@ -10,7 +10,7 @@ ghost use Rattle.der_core.specs.Reading.{HasElements, IsFirst, IsExactFault, IsF
 
 use crate::elem::Elem;
 use crate::fault::{DerFault, Malformed};
-use crate::header::{head_of, quick_head, sound_head};
+use crate::header::{head_of, sound_head};
 use crate::kids::Kids;
 use crate::tree::MAX_NESTING;
 
@@ -104,7 +104,7 @@ fn are_elements(octets: &[u8], levels: u8) -> bool
     let mut rest = octets;
     let mut left = levels;
     while !rest.is_empty() {
-        let Some(head) = quick_head(rest, left) else {
+        let Some(head) = sound_head(rest, left) else {
             return false;
         };
         if !head.is_constructed() {

@@ -1,6 +1,6 @@
 use Rattle.std.proofs.Common.{arith}
 use Rattle.der_core.proofs.Heads.{head_taken}
-use Rattle.der_core.proofs.header.other_head.Goals as goal
+use Rattle.der_core.proofs.header.sound_head.Goals as goal
 
 pub returns-in-Ok : goal.returns-in-Ok
 returns-in-Ok c =
