@@ -1,5 +1,5 @@
 -- What is accepted of certificates is vouched for.
-use Rattle.std.proofs.Common.{◌≡◌, List, [], ◌∷◌, ℕ, Option, Some, Ok, inl, inr, refl, subst}
+use Rattle.std.proofs.Common.{◌≡◌, List, [], ◌∷◌, length, ℕ, Option, Some, Ok, inl, inr, refl, subst}
 use Rattle.asn1_types.specs.declared.generalized_time.GeneralizedTime.{GeneralizedTime}
 use Rattle.sig_core.specs.declared.verdict_row.VerdictRow.{VerdictRow}
 use Rattle.sig_core.specs.VerdictTable.{IsTable, verdict_of}
@@ -11,7 +11,9 @@ use Rattle.x509_core.specs.declared.cert_type.CertType.TheVariants as types
 use Rattle.picky_check.specs.ChainAnswer.{AreCertificates, IsChainAnswer, IsJudged, all_checks}
 use Rattle.picky_check.specs.ChainHeadline.{IsVouchedChain, window_at}
 use Rattle.picky_check.specs.Limits.{IsWholeFile, AreWholeFiles}
+use Rattle.picky_check.specs.Report.{parents_line}
 use Rattle.picky_check.specs.Shelf.{Files}
+use Rattle.picky_check.specs.Sink.{Appends}
 use Rattle.picky_check.specs.Words.{Chain, AsksFor}
 
 -- the path of an accepted certificate is the one that was given
@@ -24,13 +26,13 @@ the_path judge date checked parents path =
       subst (λ (ps : List KeptCertificate). IsOfType (last_of checked ps).elements types.Root) same (path.rooted refl),
     )
 
-module _ (words : List (List ℕ)) (files : Option Files) (table : List ℕ) (date : GeneralizedTime) (names : List (List ℕ))
+module _ (words : List (List ℕ)) (files : Option Files) (held held_now : Option (List ℕ)) (table : List ℕ) (date : GeneralizedTime) (names : List (List ℕ))
     (asked : AsksFor words (Chain table date names)) (text : List ℕ) (rows : List VerdictRow) (octets : List (List ℕ))
     (table_file : IsWholeFile files table text) (certificate_files : AreWholeFiles files names octets) (is_table : IsTable text rows) where
   of_certificates : (count : ℕ) (certificates : List KeptCertificate) → AreCertificates octets certificates
-      → IsJudged (verdict_of rows) date certificates (Ok count) → IsVouchedChain words files
-  of_certificates count [] are judged = absurd judged
-  of_certificates count (checked ∷ parents) are judged =
+      → IsJudged (verdict_of rows) date certificates (Ok count) → Appends held (parents_line count) held_now → IsVouchedChain words files held held_now
+  of_certificates count [] are judged written = absurd judged
+  of_certificates count (checked ∷ parents) are judged written =
       let path = the_path (verdict_of rows) date checked parents (judged.1.chained refl) in record {
         table = table;
         date = date;
@@ -45,11 +47,12 @@ module _ (words : List (List ℕ)) (files : Option Files) (table : List ℕ) (da
         certificate_files = certificate_files;
         is_table = is_table;
         are_certificates = are;
+        written = subst (λ (n : ℕ). Appends held (parents_line n) held_now) judged.0 written;
         valid = judged.1.valid;
         linked = path.0;
         rooted = path.1;
       }
 
-  pub vouched_chain : (count : ℕ) → IsChainAnswer (verdict_of rows) date octets (Ok count) → IsVouchedChain words files
-  vouched_chain count (inl unread) = absurd unread
-  vouched_chain count (inr judged) = of_certificates count judged.0 judged.1 judged.2
+  pub vouched_chain : (count : ℕ) → IsChainAnswer (verdict_of rows) date octets (Ok count) → Appends held (parents_line count) held_now → IsVouchedChain words files held held_now
+  vouched_chain count (inl unread) written = absurd unread
+  vouched_chain count (inr judged) written = of_certificates count judged.0 judged.1 judged.2 written

@@ -13,7 +13,7 @@ use Rattle.picky_check.specs.Headline.{IsVouchedFor, IsVouchedSignature}
 use Rattle.picky_check.specs.Answer.{IsAnswered, IsAnswerTo, table_in}
 use Rattle.picky_check.specs.ChainHeadline.{IsVouchedChain}
 use Rattle.picky_check.specs.Limits.{AreWholeFiles}
-use Rattle.picky_check.specs.Report.{Answer, OfSignature, OfChain, accepted_line, line_of, status_of}
+use Rattle.picky_check.specs.Report.{Answer, OfSignature, OfChain, accepted_line, parents_line, line_of, status_of}
 use Rattle.picky_check.specs.Run.{Answers}
 use Rattle.picky_check.specs.Shelf.{Files}
 use Rattle.picky_check.specs.Sink.{Appends}
@@ -25,7 +25,7 @@ module _ (one_signed_data : (octets : List ℕ) (f g : SignedDataElements) → H
     (words : List (List ℕ)) (files : Option Files) (held held_now : Option (List ℕ)) where
   -- one of the commands vouches for what it accepted
   abbrev IsVouched : Type 0
-  IsVouched = IsVouchedFor words files held held_now ⊎ (IsVouchedSignature words files held held_now ⊎ IsVouchedChain words files)
+  IsVouched = IsVouchedFor words files held held_now ⊎ (IsVouchedSignature words files held held_now ⊎ IsVouchedChain words files held held_now)
 
   of_basic : (signature table hash : List ℕ) (contents : List (List ℕ)) (rows : List VerdictRow) (a : Accepted)
       → AsksFor words (Basic signature table hash) → AreWholeFiles files (files_of (Basic signature table hash)) contents
@@ -52,10 +52,11 @@ module _ (one_signed_data : (octets : List ℕ) (f g : SignedDataElements) → H
   of_chain : (table : List ℕ) (date : GeneralizedTime) (names contents : List (List ℕ)) (rows : List VerdictRow) (count : ℕ)
       → AsksFor words (Chain table date names) → AreWholeFiles files (files_of (Chain table date names)) contents
       → IsTable (table_in (Chain table date names) contents) rows
-      → IsAnswerTo (verdict_of rows) (Chain table date names) contents (OfChain (Ok count)) → IsVouchedChain words files
-  of_chain table date names [] rows count asked are is_table is_answer = absurd are
-  of_chain table date names (text ∷ octets) rows count asked are is_table is_answer =
-      vouched_chain words files table date names asked text rows octets are.0 are.1 is_table count is_answer
+      → IsAnswerTo (verdict_of rows) (Chain table date names) contents (OfChain (Ok count))
+      → Appends held (parents_line count) held_now → IsVouchedChain words files held held_now
+  of_chain table date names [] rows count asked are is_table is_answer written = absurd are
+  of_chain table date names (text ∷ octets) rows count asked are is_table is_answer written =
+      vouched_chain words files held held_now table date names asked text rows octets are.0 are.1 is_table count is_answer written
 
   -- an answer to one job is none to another
   no_chain_for_basic : (signature table hash : List ℕ) (contents : List (List ℕ)) (rows : List VerdictRow) (given : Result ℕ CertError)
@@ -85,11 +86,11 @@ module _ (one_signed_data : (octets : List ℕ) (f g : SignedDataElements) → H
   vouched_for_job (Check signature table hash date options) (OfChain given) asked h zero written =
       absurd (no_chain_for_check signature table hash date options h.contents h.rows given h.is_answer)
   vouched_for_job (Chain table date names) (OfChain (Ok count)) asked h zero written =
-      inr (inr (of_chain table date names h.contents h.rows count asked h.are_files h.is_table h.is_answer))
+      inr (inr (of_chain table date names h.contents h.rows count asked h.are_files h.is_table h.is_answer written))
   vouched_for_job (Chain table date names) (OfChain (Err e)) asked h zero written = absurd (omega arith)
   vouched_for_job (Chain table date names) (OfSignature given) asked h zero written =
       absurd (no_signature_for_chain table date names h.contents h.rows given h.is_answer)
 
   pub vouched_for : (answer : Answer) → Answers words files answer → status_of answer ≡ 0 → Appends held (line_of answer) held_now
-      → IsVouchedFor words files held held_now ⊎ (IsVouchedSignature words files held held_now ⊎ IsVouchedChain words files)
+      → IsVouchedFor words files held held_now ⊎ (IsVouchedSignature words files held held_now ⊎ IsVouchedChain words files held held_now)
   vouched_for answer h zero written = vouched_for_job h.job answer h.asked h.is_answered zero written

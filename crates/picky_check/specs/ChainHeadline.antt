@@ -1,5 +1,5 @@
 -- Acceptance means vouched for: a certificate over its parents.
-use Rattle.std.specs.Prelude.{List, ◌∷◌, ℕ, Option, true}
+use Rattle.std.specs.Prelude.{List, ◌∷◌, length, ℕ, Option, true}
 use Rattle.asn1_types.specs.declared.generalized_time.GeneralizedTime.{GeneralizedTime}
 use Rattle.sig_core.specs.declared.verdict_row.VerdictRow.{VerdictRow}
 use Rattle.sig_core.specs.VerdictTable.{IsTable, verdict_of}
@@ -12,7 +12,9 @@ use Rattle.x509_core.specs.declared.window.DateCheck.TheVariants as dates
 use Rattle.x509_core.specs.declared.window.Window.{Window}
 use Rattle.picky_check.specs.ChainAnswer.{AreCertificates}
 use Rattle.picky_check.specs.Limits.{IsWholeFile, AreWholeFiles}
+use Rattle.picky_check.specs.Report.{parents_line}
 use Rattle.picky_check.specs.Shelf.{Files}
+use Rattle.picky_check.specs.Sink.{Appends}
 use Rattle.picky_check.specs.Words.{Chain, AsksFor}
 
 -- a certificate has to be valid at this moment: already, and still
@@ -23,8 +25,9 @@ window_at date = record { date = dates.Exact date; not_before = true; not_after 
 -- of the file TABLE is a table, as far as the shelf tells its files. The first certificate is valid
 -- at DATE. Each of the others is, and may have issued the one before it: it is an authority's, its
 -- path length allows those between, names and key identifiers agree, and the table accepts the
--- signature over the octets that the file holds. The last is a root.
-pub record IsVouchedChain (words : List (List ℕ)) (files : Option Files) : Type 0 where
+-- signature over the octets that the file holds. The last is a root. What is told is the line that
+-- the sink has more: how many these others are.
+pub record IsVouchedChain (words : List (List ℕ)) (files : Option Files) (held held_now : Option (List ℕ)) : Type 0 where
   pub table : List ℕ
   pub date : GeneralizedTime
   pub names : List (List ℕ)
@@ -38,6 +41,7 @@ pub record IsVouchedChain (words : List (List ℕ)) (files : Option Files) : Typ
   pub certificate_files : AreWholeFiles files names octets
   pub is_table : IsTable text rows
   pub are_certificates : AreCertificates octets (checked ∷ parents)
+  pub written : Appends held (parents_line (length parents)) held_now
   pub valid : IsWithinWindow (window_at date) checked.elements
   pub linked : IsLinkedChain (verdict_of rows) (window_at date) checked parents
   pub rooted : IsOfType (last_of checked parents).elements types.Root

@@ -25,7 +25,8 @@ pub fn run<F: Shelf, O: Sink>(alloc: Global, words: &[String], shelf: &mut F, ou
         (O.state out.old).held (O.state out.new).held
         ⊎ (IsVouchedSignature (map string_bytes words.now) (F.state shelf.old).files
         (O.state out.old).held (O.state out.new).held
-        ⊎ IsVouchedChain (map string_bytes words.now) (F.state shelf.old).files) }
+        ⊎ IsVouchedChain (map string_bytes words.now) (F.state shelf.old).files
+        (O.state out.old).held (O.state out.new).held) }
     // What each status tells, and when it comes.
     ensures ends { IsRun (map string_bytes words.now) (F.state shelf.old) (F.state shelf.new)
         (O.state out.old) (O.state out.new) result }
