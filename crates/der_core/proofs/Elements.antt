@@ -11,6 +11,10 @@ use Rattle.der_core.proofs.Heads.{contents_of, head_again}
 
 -- ---- what is read
 
+-- a head is one wherever a level is left
+pub at_level : {tag : ℕ} {octets contents rest : List ℕ} (levels : ℕ) → 0 < levels → HasHead 64 octets tag contents rest → HasHead levels octets tag contents rest
+at_level levels some head = record { parts = head.parts; is_tag = head.is_tag; short = head.short; some = some }
+
 pub leaf_read : {levels tag : ℕ} {octets content rest : List ℕ} → HasHead levels octets tag content rest → (form_bit tag ≡ 1 → ⊥) → IsDerWithin levels (Primitive tag content) × (octets ≡ encoding (Primitive tag content) ++ rest)
 leaf_read head bit = (record { formed = (head.is_tag, omega (arith, bit)); nested = head.some; short = head.short }, head.parts)
 

@@ -173,8 +173,10 @@ fn length_of(octets: &[u8], past: DerFault) -> Result<(usize, &[u8]), DerFault>
     let Some((first, octets)) = octets.split_first() else {
         return Err(past);
     };
+    if *first < 0x80 {
+        return Ok((usize::from(*first), octets));
+    }
     match *first {
-        0..=0x7F => Ok((usize::from(*first), octets)),
         0x80 => Err(DerFault::Indefinite),
         0x81 => long_length_of(octets, past, 1, 0x80),
         0x82 => long_length_of(octets, past, 2, 0x100),

@@ -101,15 +101,18 @@ fn after_sound(bytes: &[u8]) -> Option<&[u8]>
 fn are_elements(octets: &[u8], levels: u8) -> bool
     ensures { IsTrue result → HasElements levels octets.now }
 {
+    if levels == 0 {
+        return octets.is_empty();
+    }
     let mut rest = octets;
     let mut left = levels;
     while !rest.is_empty() {
-        let Some(head) = sound_head(rest, left) else {
+        let Some(head) = sound_head(rest, MAX_NESTING) else {
             return false;
         };
         if !head.is_constructed() {
             rest = head.rest;
-        } else if head.rest.is_empty() {
+        } else if head.rest.is_empty() && left > 1 {
             // The last of them: what it holds is all that is left.
             rest = head.contents;
             left -= 1;
