@@ -8,12 +8,13 @@ use Rattle.der_core.specs.Facts.Lists.{list_refused, printed_list, list_printed}
 use Rattle.der_core.specs.declared.error.DerError.{DerError}
 use Rattle.key_types.specs.AlgorithmIdentifier.{algorithm_identifier}
 use Rattle.cms_types.specs.CertificateChoices.{certificate_choice}
-use Rattle.cms_types.specs.Levels.{IsSignerOf, IsSignedDataOf}
+use Rattle.cms_types.specs.Levels.{IsVersion, IsSignerOf, IsSignedDataOf}
 use Rattle.cms_types.specs.Members.{element_of_kept}
 use Rattle.cms_types.specs.SignedAttributesElement.{signed_attributes}
 use Rattle.cms_types.specs.SignerElements.{SignerElements, signer_of}
 use Rattle.cms_types.specs.SignedDataElements.{SignedDataElements, signed_data_of}
 use Rattle.cms_types.specs.SignerInfo.{AreFieldsOf, signer_elements, signer_info}
+use Rattle.cms_types.specs.SignerParts.{AreSignatureFields, IsSignedBy, signature_fields, signed_by, signer_of_parts}
 use Rattle.cms_types.specs.SignedData.{AreDataFields, signed_data_elements, signed_data}
 use Rattle.cms_types.specs.UnsignedAttribute.{unsigned_attribute}
 use Rattle.cms_types.specs.Facts.SignerElements.{told_fields, told_data, same_signer, same_data}
@@ -21,6 +22,9 @@ use Rattle.cms_types.specs.Facts.SignerInfos.{told_signer}
 use Rattle.cms_types.specs.Facts.SignedDatas.{told_value}
 use Rattle.cms_types.specs.declared.signed_data.SignedData.{SignedData}
 use Rattle.cms_types.specs.declared.signer_info.SignerInfo.{SignerInfo}
+use Rattle.cms_types.specs.declared.signer_parts.SignatureFields.{SignatureFields}
+use Rattle.cms_types.specs.declared.signer_parts.SignedBy.{SignedBy}
+use Rattle.cms_types.specs.declared.version.CmsVersion.{CmsVersion}
 use Rattle.cms_types.proofs.ListFields.{list_option_printed, printed_list_option}
 use Rattle.der_core.specs.Facts.Optional.{printed_option, option_printed}
 
@@ -60,6 +64,25 @@ signer_by_fields e f s of is =
 pub signer_of_fields : (e : DerElement) (f : SignerElements) (r : Result SignerInfo DerError) → IsSignerOf e f → MatchResult r (AreFieldsOf f) (RefusesShape (AreFieldsOf f)) → MatchResult r (λ s. e ≡ signer_info s) (RefusesShape (λ (s : SignerInfo). e ≡ signer_info s))
 signer_of_fields e f (Ok s) of are = of.is ∙ ap signer_of (signer_same f s are)
 signer_of_fields e f (Err error) of refused = list_refused (AreFieldsOf f) (λ (s : SignerInfo). e ≡ signer_info s) error (λ s is. (s, signer_by_fields e f s of is)) refused
+
+-- what the parts of the fields spell is spelled by all
+pub parts_join : (f : SignerElements) (version : CmsVersion) (by : SignedBy) (signed : SignatureFields) → IsVersion f.version version → IsSignedBy f by → AreSignatureFields f signed → AreFieldsOf f (signer_of_parts version by signed)
+parts_join f version by signed v b s = record {
+  version = v;
+  sid = b.sid;
+  digest_algorithm = b.digest_algorithm;
+  signed_attrs = s.signed_attrs;
+  signature_algorithm = b.signature_algorithm;
+  signature = s.signature;
+  unsigned_attrs = s.unsigned_attrs;
+}
+
+-- where a part spells nothing, nothing is spelled by all
+pub no_signed_by : (f : SignerElements) (e : DerError) → RefusesShape (IsSignedBy f) e → RefusesShape (AreFieldsOf f) e
+no_signed_by f e = list_refused (IsSignedBy f) (AreFieldsOf f) e (λ s p. (signed_by s, record { sid = p.sid; digest_algorithm = p.digest_algorithm; signature_algorithm = p.signature_algorithm }))
+
+pub no_signature : (f : SignerElements) (e : DerError) → RefusesShape (AreSignatureFields f) e → RefusesShape (AreFieldsOf f) e
+no_signature f e = list_refused (AreSignatureFields f) (AreFieldsOf f) e (λ s p. (signature_fields s, record { signed_attrs = p.signed_attrs; signature = p.signature; unsigned_attrs = p.unsigned_attrs }))
 
 -- ---- signed data
 

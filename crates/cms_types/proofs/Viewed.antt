@@ -2,6 +2,7 @@
 use Rattle.std.proofs.Common.{◌≡◌, ◌≢◌, ℕ, List, Option, Some, refl, sym, ap, subst, ◌∙◌}
 use mathlib.Core.Logic.{∥∥₁_elim}
 use Rattle.std.proofs.Props.{props}
+use Rattle.std.proofs.lemmas.Grind.{merely}
 use Rattle.der_core.specs.DerElement.{DerElement, tag_of}
 use Rattle.der_core.specs.Elements.{octet_string}
 use Rattle.der_core.specs.Encoding.{form_bit, IsDer}
@@ -32,8 +33,8 @@ Viewed f = ∥ AreSignedDataFields f × IsSignedData (signed_data_of f) ∥₁
 pub data_has_version : (f : SignedDataElements) → Viewed f → ((v : CmsVersion) → f.version ≢ cms_version v) → ⊥
 data_has_version f fits none = ∥∥₁_elim fits (λ x y. absurd x) (λ h. none h.0.version.0 h.0.version.1)
 
-pub data_has_content : (f : SignedDataElements) → Viewed f → ((info : EncapsulatedContentInfo) → f.content_info ≢ content_info info) → ⊥
-data_has_content f fits none = ∥∥₁_elim fits (λ x y. absurd x) (λ h. none h.0.content_info.0 h.0.content_info.1)
+pub data_content : (f : SignedDataElements) → Viewed f → ∥ ((info : EncapsulatedContentInfo) × (f.content_info ≡ content_info info)) ∥₁
+data_content f fits = ∥∥₁_elim fits (λ x y. squash₁ x y) (λ h. merely h.0.content_info)
 
 bit_prop : (e : DerElement) → IsProp (form_bit (tag_of e) ≡ 1)
 bit_prop e = hlevel props

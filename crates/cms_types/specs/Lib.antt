@@ -21,6 +21,7 @@ pub mod Members
 pub mod UnsignedElement
 pub mod UnsignedAttribute
 pub mod SignerInfo
+pub mod SignerParts
 pub mod SignedData
 pub mod Pkcs7
 pub mod Lending

@@ -1,5 +1,6 @@
 //! Certificates by issuer and serial number.
 
+use crate::list_fields::push_value;
 use asn1_types::IntegerAsn1;
 use der_core::tag::SEQUENCE;
 use der_core::{DerError, Elem, NewKids, Structure, Tree, two_kids};
@@ -45,8 +46,8 @@ impl Structure for IssuerAndSerialNumber {
 
     fn write(&self, alloc: Global) -> Result<Tree, DerError> {
         let mut kids = NewKids::new(alloc);
-        kids.push(self.issuer.write(alloc)?)?;
-        kids.push(self.serial_number.write(alloc)?)?;
+        push_value(alloc, &mut kids, &self.issuer)?;
+        push_value(alloc, &mut kids, &self.serial_number)?;
         Ok(kids.into_branch(SEQUENCE))
     }
 

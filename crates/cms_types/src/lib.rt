@@ -23,6 +23,7 @@ mod signed_view;
 mod signer_fields;
 mod signer_identifier;
 mod signer_info;
+mod signer_parts;
 mod signer_values;
 mod signer_view;
 mod spc_link;

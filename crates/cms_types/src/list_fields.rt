@@ -42,6 +42,21 @@ pub(crate) fn push_value<T: Structure>(
     Ok(kids.push(value.write(alloc)?)?)
 }
 
+/// Appends the element of the values.
+pub(crate) fn push_values<T: Structure>(
+    alloc: Global,
+    kids: &mut NewKids,
+    tag: u8,
+    values: &ListOf<T>,
+) -> Result<(), DerError>
+    requires { IsTag tag × (form_bit tag ≡ 1) }
+    ensures { MatchResult result
+        (λ _. (kids.new.kids ≡ kids.old.kids ++ list_element tag T.written values.now ∷ []) × AreDer (flat_map T.inner values.now))
+        (RefusesInner (flat_map T.inner values.now)) }
+{
+    Ok(kids.push(write_list(alloc, values, tag)?)?)
+}
+
 /// Appends the element of the values, where they aren't left out.
 pub(crate) fn push_list<T: Structure>(
     alloc: Global,
@@ -54,10 +69,10 @@ pub(crate) fn push_list<T: Structure>(
         (λ _. (kids.new.kids ≡ kids.old.kids ++ option_to_list (option_map (list_element tag T.written) values.now)) × AreDer (inner_list T.inner values.now))
         (RefusesInner (inner_list T.inner values.now)) }
 {
-    if let Some(values) = values {
-        kids.push(write_list(alloc, values, tag)?)?;
+    match values {
+        Some(values) => push_values(alloc, kids, tag, values),
+        None => Ok(()),
     }
-    Ok(())
 }
 
 /// A copy of the values, where they aren't left out.

@@ -10,10 +10,11 @@ ghost use Rattle.cms_types.specs.UnsignedKind.{named_unsigned};
 ghost use Rattle.cms_types.specs.Facts.UnsignedKinds.{same_unsigned_kinds};
 ghost use Rattle.cms_types.specs.declared.unsigned_kind.UnsignedKind.TheVariants as kinds;
 
+use crate::list_fields::push_values;
 use crate::unsigned_kind::UnsignedKind;
 use asn1_types::ObjectIdentifier;
 use der_core::tag::{OBJECT_IDENTIFIER, SEQUENCE, SET};
-use der_core::{DerError, ListOf, NewKids, Raw, Tree, leaf, write_list};
+use der_core::{DerError, ListOf, NewKids, Raw, Tree, leaf};
 use std::alloc::{AllocError, Global};
 
 /// Elements in order, kept as they are.
@@ -75,6 +76,6 @@ pub(crate) fn write_attribute(alloc: Global, ty: &[u8], values: &RawList) -> Res
 {
     let mut kids = NewKids::new(alloc);
     kids.push(leaf(alloc, OBJECT_IDENTIFIER, ty)?)?;
-    kids.push(write_list(alloc, values, SET)?)?;
+    push_values(alloc, &mut kids, SET, values)?;
     Ok(kids.into_branch(SEQUENCE))
 }

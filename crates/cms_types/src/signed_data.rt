@@ -3,7 +3,7 @@
 ghost use Rattle.std.specs.Prelude.{◌≡◌, ◌↔◌, IsTrue};
 
 use crate::certificate_choices::CertificateChoices;
-use crate::list_fields::{copy_list, push_list, push_value, read_list_option};
+use crate::list_fields::{copy_list, push_list, push_value, push_values, read_list_option};
 use crate::raw_unsigned::RawList;
 use crate::shapes::is_signed_data;
 use crate::signed_data_fields::{CERTIFICATES, REVOCATION_LISTS, SignedDataFields};
@@ -11,9 +11,7 @@ use crate::signer_info::SignerInfo;
 use crate::version::CmsVersion;
 use content_types::EncapsulatedContentInfo;
 use der_core::tag::{SEQUENCE, SET};
-use der_core::{
-    DerError, Elem, ListOf, NewKids, Structure, Tree, copy_each, read_list, write_list,
-};
+use der_core::{DerError, Elem, ListOf, NewKids, Structure, Tree, copy_each, read_list};
 use key_types::AlgorithmIdentifier;
 use std::alloc::{AllocError, Global};
 
@@ -140,11 +138,11 @@ impl Structure for SignedData {
     fn write(&self, alloc: Global) -> Result<Tree, DerError> {
         let mut kids = NewKids::new(alloc);
         push_value(alloc, &mut kids, &self.version)?;
-        kids.push(write_list(alloc, &self.digest_algorithms, SET)?)?;
+        push_values(alloc, &mut kids, SET, &self.digest_algorithms)?;
         push_value(alloc, &mut kids, &self.content_info)?;
         push_list(alloc, &mut kids, CERTIFICATES, &self.certificates)?;
         push_list(alloc, &mut kids, REVOCATION_LISTS, &self.crls)?;
-        kids.push(write_list(alloc, &self.signers_infos, SET)?)?;
+        push_values(alloc, &mut kids, SET, &self.signers_infos)?;
         Ok(kids.into_branch(SEQUENCE))
     }
 

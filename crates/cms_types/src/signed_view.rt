@@ -68,20 +68,14 @@ impl<'a> SignedView<'a> {
     pub fn content_type(&self) -> &'a [u8]
         ensures { (content : Option DerElement) × ((view_elements self.now).content_info ≡ content_info_of (Primitive 0x06 result.now) content) }
     {
-        match ContentView::read(self.fields.content_info) {
-            Some(view) => view.content_type(),
-            None => unreachable!(),
-        }
+        ContentView::of_known(self.fields.content_info).content_type()
     }
 
     /// The content, where it isn't left out.
     pub fn content(&self) -> Option<Elem<'a>>
         ensures { (content_type : DerElement) × ((view_elements self.now).content_info ≡ content_info_of content_type (at_option result)) }
     {
-        match ContentView::read(self.fields.content_info) {
-            Some(view) => view.content(),
-            None => unreachable!(),
-        }
+        ContentView::of_known(self.fields.content_info).content()
     }
 
     /// The element of the certificates, where they aren't left out.

@@ -2,15 +2,16 @@
 
 ghost use Rattle.std.specs.Prelude.{◌≡◌, ◌↔◌, IsTrue};
 
-use crate::list_fields::{copy_list, push_list, push_value, read_list_option};
+use crate::list_fields::{push_list, push_value};
 use crate::shapes::is_signer_info;
 use crate::signed_attributes::SignedAttributes;
 use crate::signer_fields::{SignerFields, UNSIGNED_ATTRIBUTES};
 use crate::signer_identifier::SignerIdentifier;
+use crate::signer_parts::{SignatureFields, SignedBy, join};
 use crate::unsigned_attribute::UnsignedAttributeList;
 use crate::version::CmsVersion;
 use der_core::tag::SEQUENCE;
-use der_core::{DerError, Elem, NewKids, Octets, Structure, Tree, copy_option, read_option};
+use der_core::{DerError, Elem, NewKids, Octets, Structure, Tree};
 use key_types::AlgorithmIdentifier;
 use std::alloc::{AllocError, Global};
 
@@ -38,16 +39,10 @@ impl SignerFields<'_> {
             (AreFieldsOf (signer_at self.now))
             (RefusesShape (AreFieldsOf (signer_at self.now))) }
     {
-        Ok(SignerInfo {
-            version: CmsVersion::read_at(alloc, self.version)?,
-            signature: Octets::read_at(alloc, self.signature)?,
-            signed_attrs: read_option(alloc, self.signed_attrs)?,
-            unsigned_attrs: read_list_option(alloc, self.unsigned_attrs, UNSIGNED_ATTRIBUTES)?,
-            digest_algorithm: AlgorithmIdentifier::read_at(alloc, self.digest_algorithm)?,
-            signature_algorithm: AlgorithmIdentifier::read_at(alloc, self.signature_algorithm)?,
-            // Last, so that nothing of it has to be freed where another fails.
-            sid: SignerIdentifier::read_at(alloc, self.sid)?,
-        })
+        let version = CmsVersion::read_at(alloc, self.version)?;
+        let signed = SignatureFields::read(alloc, self)?;
+        let by = SignedBy::read(alloc, self)?;
+        Ok(join(version, by, signed))
     }
 }
 
@@ -128,15 +123,9 @@ impl Structure for SignerInfo {
     }
 
     fn try_clone(&self, alloc: Global) -> Result<SignerInfo, AllocError> {
-        Ok(SignerInfo {
-            version: self.version,
-            signature: self.signature.try_clone(alloc)?,
-            signed_attrs: copy_option(alloc, &self.signed_attrs)?,
-            unsigned_attrs: copy_list(alloc, &self.unsigned_attrs)?,
-            digest_algorithm: self.digest_algorithm.try_clone(alloc)?,
-            signature_algorithm: self.signature_algorithm.try_clone(alloc)?,
-            sid: self.sid.try_clone(alloc)?,
-        })
+        let signed = SignatureFields::copy(alloc, self)?;
+        let by = SignedBy::copy(alloc, self)?;
+        Ok(join(self.version, by, signed))
     }
 
     ghost grammar = { signer_infos };

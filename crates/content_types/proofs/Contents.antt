@@ -2,8 +2,10 @@
 use Rattle.std.proofs.Common.{◌≡◌, ◌↔◌, IsTrue, Bool, ℕ, List, Option, Some, ap, sym, subst, ◌∙◌}
 use Rattle.std.specs.Option.{option_map, option_eq}
 use Rattle.std.specs.Prelude.{bytes_eq}
+use Rattle.std.proofs.Math.Logic.{∥∥₁_elim}
+use Rattle.std.proofs.lemmas.Grind.{merely}
 use Rattle.std.proofs.lemmas.Slice.Eq.{bytes_eq-Decides}
-use Rattle.der_core.specs.DerElement.{DerElement}
+use Rattle.der_core.specs.DerElement.{DerElement, Primitive}
 use Rattle.der_core.specs.Elements.{octet_string}
 use Rattle.der_core.specs.Kept.{KeptElement}
 use Rattle.der_core.specs.Lent.{at_option}
@@ -18,6 +20,7 @@ use Rattle.content_types.specs.ContentKind.{named_content}
 use Rattle.content_types.specs.ContentValue.{kind_of_content, content_value, IsContentOf, HasKind, SpellsContent, content_octets}
 use Rattle.content_types.specs.ContentInfoElements.{content_info_of}
 use Rattle.content_types.specs.ContentInfo.{content_info}
+use Rattle.content_types.specs.LentContent.{lent_content, HasContent}
 use Rattle.content_types.specs.Facts.ContentInfos.{fields_once, same_info, values_by_octets}
 use Rattle.content_types.specs.declared.content_kind.ContentKind.{ContentKind}
 use Rattle.content_types.specs.declared.ctl.Ctl.{Ctl}
@@ -68,6 +71,16 @@ of_fields element ty content id kind value is named same spelled = (
 pub by_fields : (element : DerElement) (ty : DerElement) (content : Option DerElement) (info : EncapsulatedContentInfo) → element ≡ content_info_of ty content → element ≡ content_info info
     → (ty ≡ object_identifier info.content_type) × (content ≡ option_map content_value info.content)
 by_fields element ty content info is spelled = fields_once ty (object_identifier info.content_type) content (option_map content_value info.content) (sym is ∙ spelled)
+
+-- the view that is cut of an element lies there
+pub lies : (element ty : DerElement) (content : Option DerElement) (octets : List ℕ) → element ≡ content_info_of ty content → ty ≡ Primitive 0x06 octets → element ≡ lent_content octets content
+lies element ty content octets is named = is ∙ ap (λ (t : DerElement). content_info_of t content) named
+
+-- what is known of an element is known of the fields that stand in it
+pub known_fits : (element ty : DerElement) (content : Option DerElement) (octets : List ℕ) → element ≡ content_info_of ty content → ty ≡ Primitive 0x06 octets
+    → ∥ ((info : EncapsulatedContentInfo) × (element ≡ content_info info)) ∥₁ → ∥ HasContent octets content ∥₁
+known_fits element ty content octets is named known =
+    ∥∥₁_elim known (λ a b. squash₁ a b) (λ fit. merely (fit.0, sym (lies element ty content octets is named) ∙ fit.1))
 
 -- ---- equality
 

@@ -19,6 +19,7 @@ impl<'a> ContentView<'a> {
     ghost use Rattle.std.specs.Prelude.{◌≡◌, ◌≢◌, MatchOption};
     ghost use Rattle.content_types.specs.ContentInfo.{content_info};
     ghost use Rattle.content_types.specs.ContentView.{IsContentView};
+    ghost use Rattle.content_types.specs.LentContent.{lent_content};
     ghost use Rattle.content_types.specs.declared.content_info.EncapsulatedContentInfo.{EncapsulatedContentInfo};
 
     /// The content that an element spells.
@@ -36,6 +37,25 @@ impl<'a> ContentView<'a> {
             content_type,
             content: fields.content,
         })
+    }
+
+    /// The content that an element spells, where it is known to spell one. Heads alone are read, and no
+    /// shape is tested again.
+    pub fn of_known(elem: Elem<'a>) -> ContentView<'a>
+        requires { ∥ ((info : EncapsulatedContentInfo) × (elem.is.0 ≡ content_info info)) ∥₁ }
+        ensures { elem.entry.is.0 ≡ lent_content result.content_type.now (at_option result.content) }
+    {
+        let Some(fields) = Fields::of(elem) else {
+            unreachable!();
+        };
+        let Some(content_type) = leaf_at(fields.content_type, OBJECT_IDENTIFIER) else {
+            unreachable!();
+        };
+        let content = fields.content;
+        ContentView {
+            content_type,
+            content,
+        }
     }
 
     /// The contents octets of the identifier of the type.

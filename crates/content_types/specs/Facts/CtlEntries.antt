@@ -1,8 +1,7 @@
 -- Entries of a trust list: unlike ones have unlike elements, each well formed.
-use Rattle.std.proofs.Common.{◌≡◌, [], ◌∷◌, refl, arith}
-use Rattle.der_core.specs.DerElement.{DerElement}
+use Rattle.std.proofs.Common.{◌≡◌, [], refl, arith}
 use Rattle.der_core.specs.Each.{list_element}
-use Rattle.der_core.specs.Elements.{sequence, octet_string}
+use Rattle.der_core.specs.Elements.{octet_string}
 use Rattle.der_core.specs.Structure.{IsGrammar}
 use Rattle.der_core.specs.Facts.Grammars.{printed, list_once, each_formed}
 use Rattle.der_core.specs.Facts.OctetStrings.{octet_strings}

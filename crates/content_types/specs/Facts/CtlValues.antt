@@ -1,6 +1,6 @@
 -- Values of attributes of entries: unlike ones of a kind have unlike elements, each well formed.
 use Rattle.std.proofs.Common.{◌≡◌, ℕ, List, refl, ap, arith}
-use Rattle.der_core.specs.DerElement.{DerElement, Constructed, row}
+use Rattle.der_core.specs.DerElement.{DerElement}
 use Rattle.der_core.specs.Each.{list_element}
 use Rattle.der_core.specs.Elements.{octet_string}
 use Rattle.der_core.specs.Encoding.{IsWellFormed}

@@ -1,14 +1,13 @@
 -- Trust lists: unlike ones have unlike elements, each well formed.
-use Rattle.std.proofs.Common.{◌≡◌, ◌↔◌, IsTrue, Bool, ℕ, List, [], ◌∷◌, refl, ap, sym, subst, ◌∙◌, arith}
+use Rattle.std.proofs.Common.{◌≡◌, ◌↔◌, IsTrue, Bool, List, [], ◌∷◌, refl, ap, sym, subst, ◌∙◌, arith}
 use Rattle.std.specs.Prelude.{bytes_eq}
 use Rattle.std.specs.Cmp.Lexicographic.{pointwise}
 use Rattle.std.proofs.Props.{props}
 use mathlib.Core.Logic.{∥∥₁_elim, ∥∥₁_prop}
 use Rattle.der_core.specs.DerElement.{DerElement, tag_of}
-use Rattle.der_core.specs.Elements.{octet_string}
 use Rattle.der_core.specs.Encoding.{encoding}
 use Rattle.der_core.specs.Kept.{KeptElement}
-use Rattle.der_core.specs.Structure.{Fits, IsGrammar}
+use Rattle.der_core.specs.Structure.{IsGrammar}
 use Rattle.der_core.specs.Facts.Equality.{pointwise_same, octets_same}
 use Rattle.der_core.specs.Facts.Grammars.{printed, same_fields, list_once}
 use Rattle.der_core.specs.Facts.Kept.{same_kept}

@@ -7,7 +7,6 @@ use Rattle.std.proofs.lemmas.Slice.Eq.{bytes_eq-Decides}
 use mathlib.Core.Logic.{∥∥₁_elim, ∥∥₁_prop}
 use Rattle.der_core.specs.DerElement.{DerElement}
 use Rattle.der_core.specs.Each.{list_element}
-use Rattle.der_core.specs.Elements.{octet_string}
 use Rattle.der_core.specs.Structure.{IsGrammar}
 use Rattle.der_core.specs.Facts.Equality.{pointwise_same}
 use Rattle.der_core.specs.Facts.Grammars.{printed, lists}

@@ -2,7 +2,7 @@ use Rattle.std.proofs.lemmas.Result.{err_from_is_err_and}
 use Rattle.cms_types.proofs.Several.{none_refused}
 use Rattle.cms_types.proofs.raw_unsigned.write_attribute.Goals as goal
 
-pub returns-in_err-write_list : goal.returns-in_err-write_list
-returns-in_err-write_list c =
-    let p = err_from_is_err_and c.from_residual-in_err-write_list.result c.from_residual-in_err-write_list.ensures.1 in
-    rw (p.1, p.2) (none_refused c.args.values.now _ c.in_err-write_list.ensures)
+pub returns-in_err-push_values : goal.returns-in_err-push_values
+returns-in_err-push_values c =
+    let p = err_from_is_err_and c.from_residual-in_err-push_values.result c.from_residual-in_err-push_values.ensures.1 in
+    rw (p.1, p.2) (none_refused c.args.values.now _ c.in_err-push_values.ensures)
