@@ -32,7 +32,7 @@ use Rattle.authenticode_values.specs.Steps.{Step, AreTaken, IsFirstUntaken, Refu
 use Rattle.authenticode_values.specs.declared.builder.AuthenticodeSignatureBuilder.{AuthenticodeSignatureBuilder}
 use Rattle.authenticode_values.specs.declared.builder_error.AuthenticodeSignatureBuilderError.{AuthenticodeSignatureBuilderError}
 use Rattle.authenticode_values.specs.declared.builder_error.AuthenticodeSignatureBuilderError.TheVariants as errors
-use Rattle.authenticode_values.proofs.TakenSteps.{refused_before, refused_behind, untaken_behind}
+use Rattle.authenticode_values.proofs.TakenSteps.{refused_before, refused_behind, untaken_before, untaken_behind}
 
 -- ---- what has to be given
 
@@ -40,24 +40,24 @@ abbrev first_two : AuthenticodeSignatureBuilder → List (Step AuthenticodeSigna
 first_two b = given_step errors.MissingDigestAlgorithm b.digest_algorithm ∷ supported_step b.digest_algorithm ∷ []
 
 module _ (b : AuthenticodeSignatureBuilder) where
-  pub not_supported : (e : AuthenticodeSignatureBuilderError) → RefusesBySteps errors.Memory (first_two b) e → RefusesBySteps errors.Memory (given_steps b) e
+  pub not_supported : (e : AuthenticodeSignatureBuilderError) → IsFirstUntaken (first_two b) e → IsFirstUntaken (given_steps b) e
   not_supported e refused =
-      refused_before errors.Memory (first_two b)
+      untaken_before (first_two b)
       (given_step errors.MissingContentInfo b.content_info ∷ given_step errors.MissingSigningKey b.signing_key ∷ given_step errors.MissingIssuerAndSerialNumber b.named ∷ given_step errors.MissingCertificatesRequired b.certs ∷ []) e refused
 
-  pub no_content_given : AreTaken (first_two b) → b.content_info ≡ None → RefusesBySteps errors.Memory (given_steps b) errors.MissingContentInfo
-  no_content_given taken none = inl (inr (taken.0, inr (taken.1.0, inl (none, refl))))
+  pub no_content_given : AreTaken (first_two b) → b.content_info ≡ None → IsFirstUntaken (given_steps b) errors.MissingContentInfo
+  no_content_given taken none = inr (taken.0, inr (taken.1.0, inl (none, refl)))
 
-  pub no_key_given : (content : EncapsulatedContentInfo) → AreTaken (first_two b) → b.content_info ≡ Some content → b.signing_key ≡ None → RefusesBySteps errors.Memory (given_steps b) errors.MissingSigningKey
-  no_key_given content taken is none = inl (inr (taken.0, inr (taken.1.0, inr ((content, is), inl (none, refl)))))
+  pub no_key_given : (content : EncapsulatedContentInfo) → AreTaken (first_two b) → b.content_info ≡ Some content → b.signing_key ≡ None → IsFirstUntaken (given_steps b) errors.MissingSigningKey
+  no_key_given content taken is none = inr (taken.0, inr (taken.1.0, inr ((content, is), inl (none, refl))))
 
   pub no_name_given : (content : EncapsulatedContentInfo) (key : Bor PrivateKey) → AreTaken (first_two b) → b.content_info ≡ Some content → b.signing_key ≡ Some key → b.named ≡ None
-      → RefusesBySteps errors.Memory (given_steps b) errors.MissingIssuerAndSerialNumber
-  no_name_given content key taken is by none = inl (inr (taken.0, inr (taken.1.0, inr ((content, is), inr ((key, by), inl (none, refl))))))
+      → IsFirstUntaken (given_steps b) errors.MissingIssuerAndSerialNumber
+  no_name_given content key taken is by none = inr (taken.0, inr (taken.1.0, inr ((content, is), inr ((key, by), inl (none, refl)))))
 
   pub no_certificates_given : (content : EncapsulatedContentInfo) (key : Bor PrivateKey) (named : IssuerAndSerialNumber) → AreTaken (first_two b) → b.content_info ≡ Some content → b.signing_key ≡ Some key → b.named ≡ Some named → b.certs ≡ None
-      → RefusesBySteps errors.Memory (given_steps b) errors.MissingCertificatesRequired
-  no_certificates_given content key named taken is by of none = inl (inr (taken.0, inr (taken.1.0, inr ((content, is), inr ((key, by), inr ((named, of), inl (none, refl)))))))
+      → IsFirstUntaken (given_steps b) errors.MissingCertificatesRequired
+  no_certificates_given content key named taken is by of none = inr (taken.0, inr (taken.1.0, inr ((content, is), inr ((key, by), inr ((named, of), inl (none, refl))))))
 
   pub are_taken : (content : EncapsulatedContentInfo) (key : Bor PrivateKey) (named : IssuerAndSerialNumber) (certificates : Vec KeptCertificate Global) → AreTaken (first_two b) → b.content_info ≡ Some content → b.signing_key ≡ Some key → b.named ≡ Some named
       → b.certs ≡ Some certificates → AreTaken (given_steps b)
@@ -169,9 +169,8 @@ later_untaken signs b g e has (inr (named, inr (purpose, inr (content, inl refus
 later_untaken signs b g e has (inr (named, inr (purpose, inr (content, inr (attributes, inl refused))))) = inr ((g, has, named), inr ((g, has, purpose), inr ((g, has, content), inr (attributes, inl (g, has, refused)))))
 later_untaken signs b g e has (inr (named, inr (purpose, inr (content, inr (attributes, inr (key, none)))))) = absurd none
 
-pub not_given : (signs : Signs) (b : AuthenticodeSignatureBuilder) (e : AuthenticodeSignatureBuilderError) → RefusesBySteps errors.Memory (given_steps b) e → RefusesBySteps errors.Memory (building_steps signs b) e
-not_given signs b e refused = refused_before errors.Memory (given_steps b)
-    (later_steps signs b) e refused
+pub not_given : (signs : Signs) (b : AuthenticodeSignatureBuilder) (e : AuthenticodeSignatureBuilderError) → IsFirstUntaken (given_steps b) e → RefusesBySteps errors.Memory (building_steps signs b) e
+not_given signs b e refused = inl (untaken_before (given_steps b) (later_steps signs b) e refused)
 
 pub not_built : (signs : Signs) (b : AuthenticodeSignatureBuilder) (g : Given) (e : AuthenticodeSignatureBuilderError) → HasGiven b g → AreTaken (given_steps b) → RefusesBySteps errors.Memory (steps_of signs b g) e
     → RefusesBySteps errors.Memory (building_steps signs b) e

@@ -10,6 +10,7 @@ pub mod MadeFiles
 pub mod CheckedFiles
 pub mod ReadFiles
 pub mod BuilderSteps
+pub mod GivenErrors
 pub mod Requests
 pub mod Stamps
 pub mod Verdicts

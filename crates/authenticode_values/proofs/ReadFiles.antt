@@ -36,6 +36,19 @@ pub told_so : {A : Type 0} (asked : Result A WinCertificateError) (source : WinC
 told_so asked source e told (inl refused) = inl (source, told, refused)
 told_so asked source e told (inr out) = inr (told ∙ ap told_of_header out)
 
+-- one cause is told as one error
+err_is : {A : Type 0} (a b : WinCertificateError) → ◌≡◌ {A = Result A WinCertificateError} (Err a) (Err b) → a ≡ b
+err_is a b same = cc
+
+pub told_as : {A : Type 0} (a b : WinCertificateError) (e : CheckError) → ◌≡◌ {A = Result A WinCertificateError} (Err a) (Err b) → e ≡ told_of_header a → e ≡ told_of_header b
+told_as a b e same told = told ∙ ap told_of_header (err_is a b same)
+
+pub one_told : {A : Type 0} (a b : CheckError) → ◌≡◌ {A = Result A CheckError} (Err a) (Err b) → a ≡ b
+one_told a b same = cc
+
+pub ok_no_err : {A E : Type 0} (x : A) (e : E) → ◌≡◌ {A = Result A E} (Ok x) (Err e) → ⊥
+ok_no_err x e same = cc
+
 -- ---- a file
 
 ok_if : {A E : Type 0} (test : Bool) (x y : A) (error : E) → (if test then Ok x else Err error) ≡ Ok y → (test ≡ true) × (x ≡ y)

@@ -1,10 +1,12 @@
 //! Signature files as they are made: written, read again, and checked.
 
-ghost use Rattle.std.specs.Prelude.{◌≡◌, List, Ok, ℕ, MatchResult};
+ghost use Rattle.std.specs.Prelude.{◌≡◌, List, Ok, Err, ℕ, MatchResult};
 ghost use Rattle.der_core.specs.Encoding.{encoding, IsDer};
 ghost use Rattle.wincert_core.specs.Refusal.{contents_in, current, encoded};
+ghost use Rattle.wincert_core.specs.declared.error.WinCertificateError.{WinCertificateError};
 ghost use Rattle.wincert_core.specs.declared.kinds.CertificateType.{CertificateType};
-ghost use Rattle.authenticode_core.specs.Trusted.{IsAnswer};
+ghost use Rattle.authenticode_core.specs.Trusted.{IsAnswer, RefusesShape};
+ghost use Rattle.authenticode_core.specs.declared.error.CheckError.{CheckError};
 ghost use Rattle.authenticode_core.specs.declared.error.CheckError.TheVariants.{Memory};
 ghost use Rattle.authenticode_values.specs.FileRefusals.{GivesFile, GivesSignature, RefusesHeader, told_of_header};
 ghost use Rattle.authenticode_values.specs.MadeFile.{IsBasicAlone, IsMadeSignature, IsSpelledWhole, by_the_first, wrapped};
@@ -34,6 +36,8 @@ pub fn encode_signature(
 /// The signature in a signature file. It is refused as `decode` and `from_wincert` refuse.
 pub fn decode_signature(alloc: Global, octets: &[u8]) -> Result<AuthenticodeSignature, CheckError>
     ensures answer { GivesSignature octets.now result }
+    // A refusal of the header comes whatever memory there is.
+    ensures refused { (source : WinCertificateError) → contents_in octets.now ≡ Err source → result ≡ Err (told_of_header source) }
     // What was made is read as it was made.
     ensures made { (p : Pkcs7) (certificate_type : CertificateType) → IsDer (written p) → IsSpelledWhole octets.now (wrapped certificate_type (encoding (written p)))
         → MatchResult result (λ s. s.0 ≡ p) (λ e. e ≡ Memory) }
@@ -50,6 +54,9 @@ pub fn check_made<S: Scheme>(
     scheme: &S,
 ) -> Result<Accepted, CheckError>
     ensures answer { IsAnswer (S.judge scheme.now) policy.now octets.now result }
+    // A refusal of the header, of what the certificate is or of the form comes whatever memory there is.
+    ensures refused { (e : CheckError) → RefusesShape policy.now octets.now e → result ≡ Err e }
+    // What is made is accepted.
     ensures made { (file_hash : List ℕ) → IsBasicAlone policy.now file_hash → IsMadeSignature (S.judge scheme.now) octets.now file_hash
         → MatchResult result (λ a. a ≡ by_the_first) (λ e. e ≡ Memory) }
 {
@@ -58,7 +65,8 @@ pub fn check_made<S: Scheme>(
 
 /// The signature in a file.
 fn read_file(alloc: Global, octets: &[u8]) -> Result<AuthenticodeSignature, CheckError>
-    ensures { GivesSignature octets.now result }
+    ensures answer { GivesSignature octets.now result }
+    ensures refused { (source : WinCertificateError) → contents_in octets.now ≡ Err source → result ≡ Err (told_of_header source) }
 {
     let wrapped = unwrap(alloc, octets)?;
     let signature = AuthenticodeSignature::from_wincert(alloc, &wrapped)?;
@@ -91,7 +99,8 @@ fn spell(alloc: Global, wrapped: WinCertificate) -> Result<Vec<u8>, CheckError>
 
 /// The WIN_CERTIFICATE that octets begin with.
 fn unwrap(alloc: Global, octets: &[u8]) -> Result<WinCertificate, CheckError>
-    ensures { MatchResult result (λ w. contents_in octets.now ≡ Ok w.certificate) (RefusesHeader (contents_in octets.now)) }
+    ensures answer { MatchResult result (λ w. contents_in octets.now ≡ Ok w.certificate) (RefusesHeader (contents_in octets.now)) }
+    ensures refused { (source : WinCertificateError) → contents_in octets.now ≡ Err source → result ≡ Err (told_of_header source) }
 {
     match WinCertificate::decode(alloc, octets) {
         Ok(wrapped) => Ok(wrapped),

@@ -5,6 +5,8 @@
 #[cfg(test)]
 mod alone;
 #[cfg(test)]
+mod building;
+#[cfg(test)]
 mod empty;
 #[cfg(test)]
 mod making;

@@ -1,6 +1,6 @@
 //! Signatures that are made, and their files, under the demonstration scheme.
 
-use crate::samples::{EMPTY, FILE_HASH, ONE, is_spelled, signed_data};
+use crate::samples::{EMPTY, FILE_HASH, KEY, ONE, is_spelled, signed_data};
 use authenticode_core::{AuthenticodeError, Policy};
 use authenticode_values::{
     AuthenticodeSignature, Pkcs7, check_made, decode_signature, encode_signature,
@@ -11,11 +11,6 @@ use sig_core::{DemoScheme, ShaVariant};
 use std::alloc::{AllocError, Global};
 use std::test::Fail;
 use wincert_core::CertificateType;
-
-/// The key of the certificate: a PrivateKeyInfo (RFC 5208 5) of RSA with the modulus 17 and the
-/// exponent 3.
-const KEY: &str =
-    "3031020100300d06092a864886f70d0101010500041d301b02010002011102010302010502010702010b020101020102020104";
 
 /// The file of the signature that is made by it for the digest of `abc`, as its parts are put together
 /// with Python's standard library.

@@ -16,3 +16,5 @@ mod private_keys;
 mod schemes;
 #[cfg(test)]
 mod servers;
+#[cfg(test)]
+mod signing;

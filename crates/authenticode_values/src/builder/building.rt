@@ -1,6 +1,6 @@
 //! The signature that is built, step by step.
 
-ghost use Rattle.std.specs.Prelude.{◌≡◌, ◌∷◌, [], List, Some, IfOk, MatchResult, map};
+ghost use Rattle.std.specs.Prelude.{◌≡◌, ◌∷◌, [], List, Some, Err, IfOk, MatchResult, map};
 ghost use Rattle.std.specs.Option.{option_map};
 ghost use Rattle.cms_types.specs.SignedAttributesElement.{signed_attributes};
 ghost use Rattle.cms_types.specs.UnsignedAttribute.{unsigned_attribute};
@@ -19,7 +19,8 @@ ghost use Rattle.making_core.specs.Carried.{AreWithoutRoots};
 ghost use Rattle.making_core.specs.MadeSignature.{attributes_element, signature_made};
 ghost use Rattle.making_core.specs.SignedProgram.{IsSignature};
 ghost use Rattle.authenticode_values.specs.Pkcs7.{elements_of, fields_of};
-ghost use Rattle.authenticode_values.specs.Steps.{AreTaken, RefusesBySteps};
+ghost use Rattle.authenticode_values.specs.Steps.{AreTaken, IsFirstUntaken, RefusesBySteps};
+ghost use Rattle.authenticode_values.specs.declared.builder_error.AuthenticodeSignatureBuilderError.{AuthenticodeSignatureBuilderError};
 ghost use Rattle.authenticode_values.specs.declared.builder_error.AuthenticodeSignatureBuilderError.TheVariants as errors;
 
 use super::AuthenticodeSignatureBuilder;
@@ -66,9 +67,11 @@ impl AuthenticodeSignatureBuilder<'_> {
         alloc: Global,
         scheme: &S,
     ) -> Result<AuthenticodeSignature, AuthenticodeSignatureBuilderError>
-        ensures { MatchResult result
+        ensures answer { MatchResult result
             (λ s. IsBuilt (S.judge scheme.now) (S.signs scheme.now) (S.pair scheme.now) self.entry (fields_of s.0))
             (RefusesBySteps errors.Memory (building_steps (S.signs scheme.now) self.entry)) }
+        // What isn't given, and SHA-224, is told whatever memory there is.
+        ensures refused { (e : AuthenticodeSignatureBuilderError) → IsFirstUntaken (given_steps self.entry) e → result ≡ Err e }
     {
         self.signature(alloc, scheme)
     }
@@ -79,9 +82,10 @@ impl AuthenticodeSignatureBuilder<'_> {
         alloc: Global,
         scheme: &S,
     ) -> Result<AuthenticodeSignature, AuthenticodeSignatureBuilderError>
-        ensures { MatchResult result
+        ensures answer { MatchResult result
             (λ s. IsBuilt (S.judge scheme.now) (S.signs scheme.now) (S.pair scheme.now) self.now (fields_of s.0))
             (RefusesBySteps errors.Memory (building_steps (S.signs scheme.now) self.now)) }
+        ensures refused { (e : AuthenticodeSignatureBuilderError) → IsFirstUntaken (given_steps self.now) e → result ≡ Err e }
     {
         let given = self.given()?;
         let built = self.built(alloc, &given, scheme)?;
@@ -92,7 +96,7 @@ impl AuthenticodeSignatureBuilder<'_> {
     fn given(&self) -> Result<Parts<'_>, AuthenticodeSignatureBuilderError>
         ensures { MatchResult result
             (λ parts. HasGiven self.now (given_of parts) × AreTaken (given_steps self.now) × (hash_of parts.hash ≡ parts.algorithm))
-            (RefusesBySteps errors.Memory (given_steps self.now)) }
+            (IsFirstUntaken (given_steps self.now)) }
     {
         let (hash, algorithm) = self.supported()?;
         let Some(content) = &self.content_info else {
@@ -121,7 +125,7 @@ impl AuthenticodeSignatureBuilder<'_> {
     fn supported(&self) -> Result<(ShaVariant, HashAlgorithm), AuthenticodeSignatureBuilderError>
         ensures { let steps = given_step errors.MissingDigestAlgorithm self.now.digest_algorithm ∷ supported_step self.now.digest_algorithm ∷ [] in MatchResult result
             (λ known. (self.now.digest_algorithm ≡ Some known.1) × (hash_of known.0 ≡ known.1) × AreTaken steps)
-            (RefusesBySteps errors.Memory steps) }
+            (IsFirstUntaken steps) }
     {
         let Some(algorithm) = self.digest_algorithm else {
             return Err(AuthenticodeSignatureBuilderError::MissingDigestAlgorithm);
