@@ -8,23 +8,21 @@ use Rattle.der_core.specs.Facts.Lists.{list_refused, printed_list, list_printed}
 use Rattle.der_core.specs.declared.error.DerError.{DerError}
 use Rattle.key_types.specs.AlgorithmIdentifier.{algorithm_identifier}
 use Rattle.cms_types.specs.CertificateChoices.{certificate_choice}
-use Rattle.cms_types.specs.Levels.{IsVersion, IsSignerOf, IsSignedDataOf}
+use Rattle.cms_types.specs.Levels.{IsSignerOf, IsSignedDataOf}
 use Rattle.cms_types.specs.Members.{element_of_kept}
 use Rattle.cms_types.specs.SignedAttributesElement.{signed_attributes}
 use Rattle.cms_types.specs.SignerElements.{SignerElements, signer_of}
 use Rattle.cms_types.specs.SignedDataElements.{SignedDataElements, signed_data_of}
 use Rattle.cms_types.specs.SignerInfo.{AreFieldsOf, signer_elements, signer_info}
-use Rattle.cms_types.specs.SignerParts.{AreSignatureFields, IsSignedBy, signature_fields, signed_by, signer_of_parts}
+use Rattle.cms_types.specs.SignerParts.{AreSignatureFields, IsSignedBy, signature_fields, signed_by}
 use Rattle.cms_types.specs.SignedData.{AreDataFields, signed_data_elements, signed_data}
+use Rattle.cms_types.specs.SignedDataParts.{AreCarried, AreSigned, carried_of, signed_of}
 use Rattle.cms_types.specs.UnsignedAttribute.{unsigned_attribute}
 use Rattle.cms_types.specs.Facts.SignerElements.{told_fields, told_data, same_signer, same_data}
 use Rattle.cms_types.specs.Facts.SignerInfos.{told_signer}
 use Rattle.cms_types.specs.Facts.SignedDatas.{told_value}
 use Rattle.cms_types.specs.declared.signed_data.SignedData.{SignedData}
 use Rattle.cms_types.specs.declared.signer_info.SignerInfo.{SignerInfo}
-use Rattle.cms_types.specs.declared.signer_parts.SignatureFields.{SignatureFields}
-use Rattle.cms_types.specs.declared.signer_parts.SignedBy.{SignedBy}
-use Rattle.cms_types.specs.declared.version.CmsVersion.{CmsVersion}
 use Rattle.cms_types.proofs.ListFields.{list_option_printed, printed_list_option}
 use Rattle.der_core.specs.Facts.Optional.{printed_option, option_printed}
 
@@ -64,18 +62,6 @@ signer_by_fields e f s of is =
 pub signer_of_fields : (e : DerElement) (f : SignerElements) (r : Result SignerInfo DerError) → IsSignerOf e f → MatchResult r (AreFieldsOf f) (RefusesShape (AreFieldsOf f)) → MatchResult r (λ s. e ≡ signer_info s) (RefusesShape (λ (s : SignerInfo). e ≡ signer_info s))
 signer_of_fields e f (Ok s) of are = of.is ∙ ap signer_of (signer_same f s are)
 signer_of_fields e f (Err error) of refused = list_refused (AreFieldsOf f) (λ (s : SignerInfo). e ≡ signer_info s) error (λ s is. (s, signer_by_fields e f s of is)) refused
-
--- what the parts of the fields spell is spelled by all
-pub parts_join : (f : SignerElements) (version : CmsVersion) (by : SignedBy) (signed : SignatureFields) → IsVersion f.version version → IsSignedBy f by → AreSignatureFields f signed → AreFieldsOf f (signer_of_parts version by signed)
-parts_join f version by signed v b s = record {
-  version = v;
-  sid = b.sid;
-  digest_algorithm = b.digest_algorithm;
-  signed_attrs = s.signed_attrs;
-  signature_algorithm = b.signature_algorithm;
-  signature = s.signature;
-  unsigned_attrs = s.unsigned_attrs;
-}
 
 -- where a part spells nothing, nothing is spelled by all
 pub no_signed_by : (f : SignerElements) (e : DerError) → RefusesShape (IsSignedBy f) e → RefusesShape (AreFieldsOf f) e
@@ -120,3 +106,10 @@ data_by_fields e f d of is =
 pub data_of_fields : (e : DerElement) (f : SignedDataElements) (r : Result SignedData DerError) → IsSignedDataOf e f → MatchResult r (AreDataFields f) (RefusesShape (AreDataFields f)) → MatchResult r (λ d. e ≡ signed_data d) (RefusesShape (λ (d : SignedData). e ≡ signed_data d))
 data_of_fields e f (Ok d) of are = of.is ∙ ap signed_data_of (data_same f d are)
 data_of_fields e f (Err error) of refused = list_refused (AreDataFields f) (λ (d : SignedData). e ≡ signed_data d) error (λ d is. (d, data_by_fields e f d of is)) refused
+
+-- where a part spells nothing, nothing is spelled by all
+pub none_signed : (f : SignedDataElements) (e : DerError) → RefusesShape (AreSigned f) e → RefusesShape (AreDataFields f) e
+none_signed f e = list_refused (AreSigned f) (AreDataFields f) e (λ d p. (signed_of d, record { digest_algorithms = p.digest_algorithms; content_info = p.content_info; signers_infos = p.signers_infos }))
+
+pub none_carried : (f : SignedDataElements) (e : DerError) → RefusesShape (AreCarried f) e → RefusesShape (AreDataFields f) e
+none_carried f e = list_refused (AreCarried f) (AreDataFields f) e (λ d p. (carried_of d, record { certificates = p.certificates; crls = p.crls }))

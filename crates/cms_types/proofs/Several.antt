@@ -12,7 +12,7 @@ use Rattle.der_core.specs.Facts.Grammars.{AreDer-append}
 use Rattle.der_core.specs.Facts.Lists.{none_inner}
 use Rattle.cms_types.specs.Optional.{inner_list}
 use Rattle.der_core.specs.declared.error.DerError.{DerError}
-use Rattle.der_core.proofs.Inner.{refuses_among, refuses_alone, refuses_before, refuses_last}
+use Rattle.der_core.proofs.Inner.{refuses_among, refuses_alone, refuses_last}
 use Rattle.cms_types.specs.Members.{element_of_kept, elements_of_kept, all_inner}
 
 -- The first values are kept, and their elements are in bounds.
@@ -27,36 +27,31 @@ all_parts : {X : Type 0} (inner : X → List DerElement) (written : X → DerEle
 all_parts inner written all first rest value are =
     ap (all_inner inner written) are ∙ flat_map-append (λ v. inner v ++ written v ∷ []) first (value ∷ rest)
 
-refused_among : {X : Type 0} (inner : X → List DerElement) (written : X → DerElement) (all rest rest' : List X) (kept : List KeptElement) (value : X) (e : DerError) → AreKept inner written all rest kept → rest ≡ value ∷ rest'
+-- why one of the values isn't kept is why they aren't
+pub refused_among : {X : Type 0} (inner : X → List DerElement) (written : X → DerElement) (all rest rest' : List X) (kept : List KeptElement) (value : X) (e : DerError) → AreKept inner written all rest kept → rest ≡ value ∷ rest'
     → RefusesInner (inner value ++ written value ∷ []) e → RefusesInner (all_inner inner written all) e
 refused_among inner written all rest rest' kept value e so_far next refused =
     let first = so_far.first in
     let parts = all_parts inner written all first rest' value (so_far.are ∙ ap (λ r. first ++ r) next) in
     subst (λ i. RefusesInner i e) (sym parts) (refuses_among (all_inner inner written first) (inner value ++ written value ∷ []) (all_inner inner written rest') e so_far.bounded refused)
 
--- what is written into a string of the value can't be written
-pub not_inside : {X : Type 0} (inner : X → List DerElement) (written : X → DerElement) (all rest rest' : List X) (kept : List KeptElement) (value : X) (e : DerError) → AreKept inner written all rest kept → rest ≡ value ∷ rest'
-    → RefusesInner (inner value) e → RefusesInner (all_inner inner written all) e
-not_inside inner written all rest rest' kept value e so_far next refused =
-    refused_among inner written all rest rest' kept value e so_far next (refuses_before (inner value) (written value ∷ []) e refused)
+-- the element of the value is refused after those that are written into strings of it
+pub not_kept : (inner : List DerElement) (element tree : DerElement) (e : DerError) → tree ≡ element → AreDer inner → RefusesToWrite tree e → RefusesInner (inner ++ element ∷ []) e
+not_kept inner element tree e is der refused =
+    refuses_last inner (element ∷ []) e der (refuses_alone element e (subst (λ t. RefusesToWrite t e) is refused))
 
--- its own element can't be written
-pub not_kept : {X : Type 0} (inner : X → List DerElement) (written : X → DerElement) (all rest rest' : List X) (kept : List KeptElement) (value : X) (tree : DerElement) (e : DerError) → AreKept inner written all rest kept → rest ≡ value ∷ rest'
-    → tree ≡ written value → AreDer (inner value) → RefusesToWrite tree e → RefusesInner (all_inner inner written all) e
-not_kept inner written all rest rest' kept value tree e so_far next is der refused =
-    refused_among inner written all rest rest' kept value e so_far next
-    (refuses_last (inner value) (written value ∷ []) e der (refuses_alone (written value) e (subst (λ t. RefusesToWrite t e) is refused)))
+pub bounded_with : (inner : List DerElement) (element tree : DerElement) → tree ≡ element → AreDer inner → IsDer tree → AreDer (inner ++ element ∷ [])
+bounded_with inner element tree is der here = AreDer-append inner (element ∷ []) der (subst IsDer is here, tt)
 
 -- one more is kept
-pub kept_more : {X : Type 0} (inner : X → List DerElement) (written : X → DerElement) (all rest rest' : List X) (kept kept' : List KeptElement) (value : X) (tree : DerElement) (raw : KeptElement) → AreKept inner written all rest kept → rest ≡ value ∷ rest'
-    → tree ≡ written value → AreDer (inner value) → IsDer tree → raw.element ≡ tree → kept' ≡ kept ++ raw ∷ [] → AreKept inner written all rest' kept'
-kept_more inner written all rest rest' kept kept' value tree raw so_far next is der here raw_is pushed =
+pub kept_more : {X : Type 0} (inner : X → List DerElement) (written : X → DerElement) (all rest rest' : List X) (kept kept' : List KeptElement) (value : X) (raw : KeptElement) → AreKept inner written all rest kept → rest ≡ value ∷ rest'
+    → raw.element ≡ written value → AreDer (inner value ++ written value ∷ []) → kept' ≡ kept ++ raw ∷ [] → AreKept inner written all rest' kept'
+kept_more inner written all rest rest' kept kept' value raw so_far next is one pushed =
     let first = so_far.first in
-    let one : AreDer (inner value ++ written value ∷ []) = AreDer-append (inner value) (written value ∷ []) der (subst IsDer is here, tt) in
     record {
       first = first ++ value ∷ [];
       are = so_far.are ∙ ap (λ r. first ++ r) next ∙ sym (append_assoc first (value ∷ []) rest');
-      kept_are = ap elements_of_kept pushed ∙ map-append element_of_kept kept (raw ∷ []) ∙ ap (λ es. es ++ raw.element ∷ []) so_far.kept_are ∙ ap (λ e. map written first ++ e ∷ []) (raw_is ∙ is) ∙ sym (map-append written first (value ∷ []));
+      kept_are = ap elements_of_kept pushed ∙ map-append element_of_kept kept (raw ∷ []) ∙ ap (λ es. es ++ raw.element ∷ []) so_far.kept_are ∙ ap (λ e. map written first ++ e ∷ []) is ∙ sym (map-append written first (value ∷ []));
       bounded =
           subst AreDer (sym (flat_map-append (λ v. inner v ++ written v ∷ []) first (value ∷ []) ∙ ap (λ i. all_inner inner written first ++ i) (append-nil (inner value ++ written value ∷ []))))
           (AreDer-append (all_inner inner written first) (inner value ++ written value ∷ []) so_far.bounded one);

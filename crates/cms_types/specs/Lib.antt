@@ -23,6 +23,7 @@ pub mod UnsignedAttribute
 pub mod SignerInfo
 pub mod SignerParts
 pub mod SignedData
+pub mod SignedDataParts
 pub mod Pkcs7
 pub mod Lending
 pub mod SignedView

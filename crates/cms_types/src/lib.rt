@@ -19,6 +19,7 @@ mod shapes;
 mod signed_attributes;
 mod signed_data;
 mod signed_data_fields;
+mod signed_data_parts;
 mod signed_view;
 mod signer_fields;
 mod signer_identifier;

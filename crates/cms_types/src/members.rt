@@ -89,11 +89,20 @@ fn keep_each<T: Structure>(alloc: Global, values: &[T]) -> Result<RawList, DerEr
     let mut kept = ListOf::new(alloc);
     let mut rest = values;
     while let Some((value, others)) = rest.split_first() {
-        let tree = value.write(alloc)?;
-        kept.push(Raw::from_tree(alloc, &tree)?)?;
+        kept.push(kept_of(alloc, value)?)?;
         rest = others;
     }
     Ok(kept)
+}
+
+/// The element of the value, kept.
+fn kept_of<T: Structure>(alloc: Global, value: &T) -> Result<Raw, DerError>
+    ensures { MatchResult result
+        (λ kept. (kept.element ≡ T.written value.now) × AreDer (T.inner value.now ++ T.written value.now ∷ []))
+        (RefusesInner (T.inner value.now ++ T.written value.now ∷ [])) }
+{
+    let tree = value.write(alloc)?;
+    Ok(Raw::from_tree(alloc, &tree)?)
 }
 
 /// Why an element that spells a value isn't read: want of memory, and nothing else.

@@ -1,5 +1,11 @@
 //! Signed data with its type.
 
+ghost use Rattle.std.specs.Prelude.{◌≡◌, [], MatchResult};
+ghost use Rattle.der_core.specs.Elements.{explicit};
+ghost use Rattle.der_core.specs.Encoding.{IsWellFormed};
+ghost use Rattle.der_core.specs.Refusals.{RefusesInner};
+ghost use Rattle.cms_types.specs.SignedData.{signed_data};
+
 use crate::levels::{SIGNED, signed_data_in};
 use crate::shapes::is_pkcs7;
 use crate::signed_data::SignedData;
@@ -14,8 +20,16 @@ pub struct Pkcs7Certificate {
     pub signed_data: SignedData,
 }
 
+/// The element of the content, which is signed data.
+fn write_content(alloc: Global, value: &SignedData) -> Result<Tree, DerError>
+    ensures { MatchResult result
+        (λ tree. (tree ≡ explicit 0xA0 (signed_data value.now)) × IsWellFormed tree)
+        (RefusesInner []) }
+{
+    Ok(explicit(alloc, SIGNED, value.write(alloc)?)?)
+}
+
 impl Structure for Pkcs7Certificate {
-    ghost use Rattle.std.specs.Prelude.{◌≡◌};
     ghost use Rattle.cms_types.specs.Pkcs7.{pkcs7};
     ghost use Rattle.cms_types.specs.Facts.SignedDatas.{pkcs7s};
 
@@ -38,7 +52,7 @@ impl Structure for Pkcs7Certificate {
     fn write(&self, alloc: Global) -> Result<Tree, DerError> {
         let mut kids = NewKids::new(alloc);
         kids.push(leaf(alloc, OBJECT_IDENTIFIER, SIGNED_DATA)?)?;
-        kids.push(explicit(alloc, SIGNED, self.signed_data.write(alloc)?)?)?;
+        kids.push(write_content(alloc, &self.signed_data)?)?;
         Ok(kids.into_branch(SEQUENCE))
     }
 
@@ -53,7 +67,7 @@ impl Structure for Pkcs7Certificate {
 
 /// Values are equal exactly where they are written as the same element.
 impl PartialEq for Pkcs7Certificate {
-    ghost use Rattle.std.specs.Prelude.{◌≡◌, ◌↔◌, IsTrue};
+    ghost use Rattle.std.specs.Prelude.{◌↔◌, IsTrue};
     ghost use Rattle.der_core.specs.Equality.{same_octets, same_octets_per};
     ghost use Rattle.cms_types.specs.Pkcs7.{pkcs7};
 

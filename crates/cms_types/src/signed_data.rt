@@ -3,15 +3,16 @@
 ghost use Rattle.std.specs.Prelude.{◌≡◌, ◌↔◌, IsTrue};
 
 use crate::certificate_choices::CertificateChoices;
-use crate::list_fields::{copy_list, push_list, push_value, push_values, read_list_option};
+use crate::list_fields::{push_list, push_value, push_values};
 use crate::raw_unsigned::RawList;
 use crate::shapes::is_signed_data;
 use crate::signed_data_fields::{CERTIFICATES, REVOCATION_LISTS, SignedDataFields};
+use crate::signed_data_parts::{CarriedPart, SignedPart, join};
 use crate::signer_info::SignerInfo;
 use crate::version::CmsVersion;
 use content_types::EncapsulatedContentInfo;
 use der_core::tag::{SEQUENCE, SET};
-use der_core::{DerError, Elem, ListOf, NewKids, Structure, Tree, copy_each, read_list};
+use der_core::{DerError, Elem, ListOf, NewKids, Structure, Tree};
 use key_types::AlgorithmIdentifier;
 use std::alloc::{AllocError, Global};
 
@@ -48,15 +49,10 @@ impl SignedDataFields<'_> {
             (AreDataFields (signed_data_at self.now))
             (RefusesShape (AreDataFields (signed_data_at self.now))) }
     {
-        Ok(SignedData {
-            version: CmsVersion::read_at(alloc, self.version)?,
-            digest_algorithms: read_list(alloc, self.digest_algorithms, SET)?,
-            certificates: read_list_option(alloc, self.certificates, CERTIFICATES)?,
-            crls: read_list_option(alloc, self.crls, REVOCATION_LISTS)?,
-            signers_infos: read_list(alloc, self.signers_infos, SET)?,
-            // Last, so that nothing of it has to be freed where another fails.
-            content_info: EncapsulatedContentInfo::read_at(alloc, self.content_info)?,
-        })
+        let version = CmsVersion::read_at(alloc, self.version)?;
+        let carried = CarriedPart::read(alloc, self)?;
+        let signed = SignedPart::read(alloc, self)?;
+        Ok(join(version, signed, carried))
     }
 }
 
@@ -147,14 +143,9 @@ impl Structure for SignedData {
     }
 
     fn try_clone(&self, alloc: Global) -> Result<SignedData, AllocError> {
-        Ok(SignedData {
-            version: self.version,
-            digest_algorithms: copy_each(alloc, &self.digest_algorithms)?,
-            certificates: copy_list(alloc, &self.certificates)?,
-            crls: copy_list(alloc, &self.crls)?,
-            signers_infos: copy_each(alloc, &self.signers_infos)?,
-            content_info: self.content_info.try_clone(alloc)?,
-        })
+        let carried = CarriedPart::copy(alloc, self)?;
+        let signed = SignedPart::copy(alloc, self)?;
+        Ok(join(self.version, signed, carried))
     }
 
     ghost grammar = { all_signed_data };

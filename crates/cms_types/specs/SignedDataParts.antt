@@ -1,0 +1,44 @@
+-- The fields of signed data in two parts, which are read and copied one after another (RFC 5652 5.1).
+use Rattle.std.specs.Prelude.{◌≡◌}
+use Rattle.der_core.specs.DerElement.{DerElement}
+use Rattle.der_core.specs.Each.{IsListOf}
+use Rattle.der_core.specs.Kept.{KeptElement}
+use Rattle.der_core.specs.Optional.{SpellsOption}
+use Rattle.cms_types.specs.CertificateChoices.{certificate_choice}
+use Rattle.cms_types.specs.Levels.{IsAlgorithm, IsContentInfo}
+use Rattle.cms_types.specs.SignedDataElements.{SignedDataElements}
+use Rattle.cms_types.specs.SignerInfo.{signer_info}
+use Rattle.cms_types.specs.declared.certificate_choices.CertificateChoices.{CertificateChoices}
+use Rattle.cms_types.specs.declared.signed_data.SignedData.{SignedData}
+use Rattle.cms_types.specs.declared.signed_data_parts.CarriedPart.{CarriedPart}
+use Rattle.cms_types.specs.declared.signed_data_parts.SignedPart.{SignedPart}
+use Rattle.cms_types.specs.declared.signer_info.SignerInfo.{SignerInfo}
+use Rattle.cms_types.specs.declared.version.CmsVersion.{CmsVersion}
+
+-- Each element spells the field of the part that it stands for.
+pub record AreSigned (f : SignedDataElements) (part : SignedPart) : Type 0 where
+  pub digest_algorithms : IsListOf 0x31 IsAlgorithm f.digest_algorithms part.digest_algorithms
+  pub content_info : IsContentInfo f.content_info part.content_info
+  pub signers_infos : IsListOf 0x31 (λ (element : DerElement) (signer : SignerInfo). element ≡ signer_info signer) f.signers_infos part.signers_infos
+
+pub record AreCarried (f : SignedDataElements) (part : CarriedPart) : Type 0 where
+  pub certificates : SpellsOption (IsListOf 0xA0 (λ (element : DerElement) (choice : CertificateChoices). element ≡ certificate_choice choice)) f.certificates part.certificates
+  pub crls : SpellsOption (IsListOf 0xA1 (λ (element : DerElement) (kept : KeptElement). element ≡ kept.element)) f.crls part.crls
+
+-- the parts of signed data
+abbrev pub signed_of : SignedData → SignedPart
+signed_of value = record { digest_algorithms = value.digest_algorithms; content_info = value.content_info; signers_infos = value.signers_infos }
+
+abbrev pub carried_of : SignedData → CarriedPart
+carried_of value = record { certificates = value.certificates; crls = value.crls }
+
+-- the signed data of its version and its parts
+abbrev pub data_of_parts : CmsVersion → SignedPart → CarriedPart → SignedData
+data_of_parts version signed carried = record {
+  version = version;
+  digest_algorithms = signed.digest_algorithms;
+  content_info = signed.content_info;
+  certificates = carried.certificates;
+  crls = carried.crls;
+  signers_infos = signed.signers_infos;
+}
