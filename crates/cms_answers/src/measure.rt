@@ -70,7 +70,9 @@ fn print_way(
 
 fn kept(alloc: Global, octets: &[u8]) -> Option<usize> {
     let value = Pkcs7Certificate::from_der(alloc, octets).ok()?;
-    Some(value.signed_data.signers_infos.len())
+    let count = value.signed_data.signers_infos.len();
+    drop(value);
+    Some(count)
 }
 
 /// How many octets the signers take.

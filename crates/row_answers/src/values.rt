@@ -20,6 +20,27 @@ pub fn comes_back<T: Structure + PartialEq>(
     Ok(copy == *value && written.as_slice() == element && copied.as_slice() == element)
 }
 
+/// Whether a value is this one. It is let go here, for all types at once.
+pub fn equals<T: PartialEq + Drop>(given: T, value: &T) -> bool {
+    given == *value
+}
+
+/// Whether a call gave this value. What it gave is let go here.
+pub fn gives<T: PartialEq + Drop, E: Drop>(given: Result<T, E>, value: &T) -> bool {
+    match given {
+        Ok(given) => given == *value,
+        Err(_) => false,
+    }
+}
+
+/// Whether a call gave these octets.
+pub fn gives_octets<E: Drop>(given: Result<Vec<u8>, E>, octets: &[u8]) -> bool {
+    match given {
+        Ok(given) => given.as_slice() == octets,
+        Err(_) => false,
+    }
+}
+
 /// A refusal of the shape; another error ends the run.
 pub fn shown_shape(alloc: Global, error: DerError) -> Result<String, DerError> {
     match error {

@@ -5,11 +5,12 @@ use crate::row::Args;
 use asn1_types::{BitString, ObjectIdentifier};
 use der_core::{DerError, Octets, Raw, Structure, read_exact};
 use key_core::{
-    AlgorithmIdentifier, ECPrivateKey, KeyError, PrivateKeyInfo, PrivateKeyValue,
-    PrivateKeyVersion, PublicKey, RsaPrivateKey, SubjectPublicKeyInfo,
+    AlgorithmIdentifier, ECPrivateKey, PrivateKeyInfo, PrivateKeyValue, PrivateKeyVersion,
+    PublicKey, RsaPrivateKey, SubjectPublicKeyInfo,
 };
-use row_answers::Line;
+use row_answers::{Line, equals};
 use std::alloc::{AllocError, Global};
+use std::fmt;
 
 /// Whether there is such a call; what is made of the parts is printed.
 pub fn print(alloc: Global, call: &str, args: Args<'_>, line: &mut Line) -> bool {
@@ -17,10 +18,8 @@ pub fn print(alloc: Global, call: &str, args: Args<'_>, line: &mut Line) -> bool
         ("rsa_components", [modulus, exponent]) => print_rsa(alloc, modulus, exponent, line),
         ("ec_components", [curve, point]) => print_ec(alloc, curve, point, line),
         ("ed_components", [oid, octets]) => print_ed(alloc, oid, octets, line),
-        ("from_der", [octets]) => print_made(alloc, &PublicKey::from_der(alloc, octets), line),
-        ("from_pkcs1", [octets]) => {
-            print_made(alloc, &PublicKey::from_pkcs1(alloc, octets), line);
-        }
+        ("from_der", [octets]) => print_made(alloc, PublicKey::from_der(alloc, octets), line),
+        ("from_pkcs1", [octets]) => print_made(alloc, PublicKey::from_pkcs1(alloc, octets), line),
         ("to_pkcs1", [octets]) => print_pkcs1(alloc, octets, line),
         ("private_key", _) => print_private(alloc, args, line),
         _ => return false,
@@ -29,17 +28,18 @@ pub fn print(alloc: Global, call: &str, args: Args<'_>, line: &mut Line) -> bool
 }
 
 fn print_rsa(alloc: Global, modulus: &[u8], exponent: &[u8], line: &mut Line) {
-    match PublicKey::from_rsa_components(alloc, modulus, exponent) {
-        Ok(key) => print_key(alloc, &key, line),
-        Err(error) => line.shown(&error),
-    }
+    print_made(
+        alloc,
+        PublicKey::from_rsa_components(alloc, modulus, exponent),
+        line,
+    );
 }
 
 fn print_ec(alloc: Global, curve: &[u8], point: &[u8], line: &mut Line) {
     match ObjectIdentifier::from_content(alloc, curve) {
         Ok(curve) => {
             let key = PublicKey::from_ec_encoded_components(alloc, curve, point);
-            print_made(alloc, &key, line);
+            print_made(alloc, key, line);
         }
         Err(error) => line.shown(&error),
     }
@@ -49,7 +49,7 @@ fn print_ed(alloc: Global, oid: &[u8], octets: &[u8], line: &mut Line) {
     match ObjectIdentifier::from_content(alloc, oid) {
         Ok(oid) => {
             let key = PublicKey::from_ed_encoded_components(alloc, oid, octets);
-            print_made(alloc, &key, line);
+            print_made(alloc, key, line);
         }
         Err(error) => line.shown(&error),
     }
@@ -58,16 +58,26 @@ fn print_ed(alloc: Global, oid: &[u8], octets: &[u8], line: &mut Line) {
 /// The octets of a key of RSA without its algorithm, or the text of the refusal.
 fn print_pkcs1(alloc: Global, octets: &[u8], line: &mut Line) {
     match PublicKey::from_der(alloc, octets) {
-        Ok(key) => line.made(key.to_pkcs1(alloc)),
+        Ok(key) => {
+            line.made(key.to_pkcs1(alloc));
+            drop(key);
+        }
         Err(error) => line.shown(&error),
     }
 }
 
 /// The octets of a public key and its details, or the text of the refusal.
-pub fn print_made(alloc: Global, key: &Result<PublicKey, KeyError>, line: &mut Line) {
+pub fn print_made<E: fmt::Display + Drop>(
+    alloc: Global,
+    key: Result<PublicKey, E>,
+    line: &mut Line,
+) {
     match key {
-        Ok(key) => print_key(alloc, key, line),
-        Err(error) => line.shown(error),
+        Ok(key) => {
+            print_key(alloc, &key, line);
+            drop(key);
+        }
+        Err(error) => line.shown(&error),
     }
 }
 
@@ -84,7 +94,7 @@ fn print_key(alloc: Global, key: &PublicKey, line: &mut Line) {
 
 fn comes_back(alloc: Global, key: &PublicKey) -> Result<bool, AllocError> {
     let info = SubjectPublicKeyInfo::from(key.try_clone(alloc)?);
-    Ok(PublicKey::from(info) == *key)
+    Ok(equals(PublicKey::from(info), key))
 }
 
 /// The octets of a private key with an algorithm, and with attributes and a public key where these are
@@ -94,6 +104,7 @@ fn print_private(alloc: Global, args: Args<'_>, line: &mut Line) {
         Ok(Some(info)) => {
             line.made(info.to_der(alloc));
             info.print(alloc, line);
+            drop(info);
         }
         Ok(None) => line.word("None"),
         Err(error) => line.shown(&error),

@@ -80,7 +80,10 @@ fn print_public_key(
     line: &mut Line,
 ) {
     match public_key(alloc, words, algorithm, bits) {
-        Ok(Some(key)) => print_value(alloc, &key, line),
+        Ok(Some(key)) => {
+            print_value(alloc, &key, line);
+            drop(key);
+        }
         Ok(None) => line.word("None"),
         Err(error) => line.shown(&error),
     }

@@ -51,7 +51,7 @@ fn print_point(alloc: Global, oid: &[u8], (x, y): (&[u8], &[u8]), line: &mut Lin
     match EcCurve::named(oid) {
         Some(curve) => {
             let key = PublicKey::from_ec_components(alloc, curve, x, y);
-            print_made(alloc, &key, line);
+            print_made(alloc, key, line);
         }
         None => line.word("no curve"),
     }

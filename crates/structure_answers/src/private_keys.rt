@@ -5,7 +5,7 @@ use crate::row::Args;
 use asn1_types::ObjectIdentifier;
 use der_core::DerError;
 use key_core::{EcCurve, KeyError, KeyKind, PrivateKey};
-use row_answers::Line;
+use row_answers::{Line, equals};
 use sig_core::{DemoScheme, Scheme, VerdictTable};
 use std::alloc::Global;
 
@@ -21,6 +21,7 @@ pub fn print(alloc: Global, call: &str, args: Args<'_>, line: &mut Line) -> bool
     match key_of(alloc, call, args) {
         Ok(key) => {
             print_key(alloc, &key, line);
+            drop(key);
             true
         }
         Err(why) => print_refusal(why, line),
@@ -188,14 +189,13 @@ fn print_told(told: Result<bool, KeyError>, line: &mut Line) {
 }
 
 fn is_copied(alloc: Global, key: &PrivateKey) -> Result<bool, KeyError> {
-    let copy = key.try_clone(alloc)?;
-    Ok(copy == *key)
+    Ok(equals(key.try_clone(alloc)?, key))
 }
 
 /// Whether the octets are read as the key. Those of a key that is written without a test may be refused.
 fn is_read_of(alloc: Global, key: &PrivateKey, octets: &[u8]) -> Result<bool, KeyError> {
     match PrivateKey::from_pkcs8(alloc, octets, &DemoScheme::new()) {
-        Ok(again) => Ok(again == *key),
+        Ok(again) => Ok(equals(again, key)),
         Err(KeyError::Memory) => Err(KeyError::Memory),
         Err(_) => Ok(false),
     }
@@ -204,7 +204,10 @@ fn is_read_of(alloc: Global, key: &PrivateKey, octets: &[u8]) -> Result<bool, Ke
 /// The octets of the public key, or why there is none.
 fn print_public_half(alloc: Global, key: &PrivateKey, line: &mut Line) {
     match key.to_public_key(alloc) {
-        Ok(key) => line.made(key.to_der(alloc)),
+        Ok(key) => {
+            line.made(key.to_der(alloc));
+            drop(key);
+        }
         Err(error) => line.shown(&error),
     }
 }

@@ -106,7 +106,10 @@ fn print_key_id(alloc: Global, (method, hash): (&str, &str), octets: &[Vec<u8>],
 
 fn print_id(alloc: Global, method: KeyIdGenMethod, octets: &[Vec<u8>], line: &mut Line) {
     match public_key(alloc, octets) {
-        Ok(Some(key)) => line.made(method.generate_from(alloc, &key)),
+        Ok(Some(key)) => {
+            line.made(method.generate_from(alloc, &key));
+            drop(key);
+        }
         Ok(None) => line.word("no key"),
         Err(error) => line.shown(&error),
     }
@@ -149,6 +152,7 @@ fn print_sign(
     match private_keys::key_of(alloc, call, args) {
         Ok(key) => {
             print_signatures(alloc, algorithm, message, &key, line);
+            drop(key);
             true
         }
         Err(why) => private_keys::print_refusal(why, line),
@@ -198,7 +202,10 @@ fn print_own<S: Scheme>(
     line: &mut Line,
 ) {
     match key.to_public_key(alloc) {
-        Ok(key) => print_told(alloc, algorithm, &key, signed, scheme, line),
+        Ok(key) => {
+            print_told(alloc, algorithm, &key, signed, scheme, line);
+            drop(key);
+        }
         Err(error) => line.shown(&error),
     }
 }
@@ -212,7 +219,10 @@ fn print_verify(
     line: &mut Line,
 ) {
     match PublicKey::from_der(alloc, key) {
-        Ok(key) => print_verdicts(alloc, algorithm, &key, signed, line),
+        Ok(key) => {
+            print_verdicts(alloc, algorithm, &key, signed, line);
+            drop(key);
+        }
         Err(error) => line.shown(&error),
     }
 }

@@ -26,12 +26,17 @@ pub fn print(alloc: Global, call: &str, args: Args<'_>, line: &mut Line) -> bool
 fn print_public(alloc: Global, octets: &[u8], line: &mut Line) {
     match PublicKey::from_der(alloc, octets) {
         Ok(key) => {
-            print_ec(alloc, EcdsaPublicKey::try_from(&key), line);
-            line.mark(";");
-            print_ed(alloc, EdPublicKey::try_from(&key), line);
+            print_public_key(alloc, &key, line);
+            drop(key);
         }
         Err(error) => line.shown(&error),
     }
+}
+
+fn print_public_key(alloc: Global, key: &PublicKey, line: &mut Line) {
+    print_ec(alloc, EcdsaPublicKey::try_from(key), line);
+    line.mark(";");
+    print_ed(alloc, EdPublicKey::try_from(key), line);
 }
 
 /// Whether there is such a call.
@@ -39,6 +44,7 @@ fn print_private(alloc: Global, call: &str, args: Args<'_>, line: &mut Line) -> 
     match private_keys::key_of(alloc, call, args) {
         Ok(key) => {
             print_pair(alloc, &key, line);
+            drop(key);
             true
         }
         Err(why) => private_keys::print_refusal(why, line),
