@@ -6,9 +6,10 @@ use crate::words::key_of;
 use anyhow::{Result, bail};
 use issuing_core::CertificateBuilder;
 use key_core::PrivateKey;
+use row_answers::gives;
 use sig_core::Scheme;
 use std::alloc::{AllocError, Global};
-use x509_core::{Cert, CertError};
+use x509_core::Cert;
 
 /// The octets of the certificate, whether they come back, its subject and its issuer; or the name and
 /// the text of the refusal.
@@ -30,7 +31,9 @@ fn print_asked<S: Scheme>(
     let word = word.parse()?;
     let settings = settings_of(alloc, settings)?;
     let key = key_of(alloc, key)?;
-    Ok(print_by(alloc, word, settings, &key, scheme, out)?)
+    let printed = print_by(alloc, word, settings, &key, scheme, out);
+    drop(key);
+    Ok(printed?)
 }
 
 fn print_by<S: Scheme>(
@@ -82,19 +85,12 @@ fn print_built<S: Scheme>(
     scheme: &S,
     out: &mut String,
 ) -> Result<(), AllocError> {
-    let made = builder.build(alloc, word, scheme);
-    let printed = print_made(alloc, &made, out);
-    drop(made);
-    printed
-}
-
-fn print_made(
-    alloc: Global,
-    made: &Result<Cert, CertError>,
-    out: &mut String,
-) -> Result<(), AllocError> {
-    match made {
-        Ok(certificate) => print_certificate(alloc, certificate, out),
+    match builder.build(alloc, word, scheme) {
+        Ok(certificate) => {
+            let printed = print_certificate(alloc, &certificate, out);
+            drop(certificate);
+            printed
+        }
         Err(error) => push_refused(alloc, out, error),
     }
 }
@@ -115,17 +111,11 @@ fn print_certificate(
 
 /// Whether the certificate is read of its octets.
 fn is_read(alloc: Global, certificate: &Cert) -> bool {
-    match Cert::from_der(alloc, certificate.as_bytes()) {
-        Ok(read) => read == *certificate,
-        Err(_) => false,
-    }
+    gives(Cert::from_der(alloc, certificate.as_bytes()), certificate)
 }
 
 /// Whether the certificate is the one that is made of its value.
 fn is_made_anew(alloc: Global, certificate: &Cert) -> Result<bool, AllocError> {
     let value = certificate.try_clone(alloc)?.into_certificate();
-    match Cert::from_certificate(alloc, value) {
-        Ok(again) => Ok(again == *certificate),
-        Err(_) => Ok(false),
-    }
+    Ok(gives(Cert::from_certificate(alloc, value), certificate))
 }

@@ -8,7 +8,7 @@ use row_answers::octets_of;
 use sig_core::Scheme;
 use std::alloc::{AllocError, Global};
 use std::slice::Iter;
-use x509_core::{Cert, CertError, CertValidator};
+use x509_core::{Cert, CertValidator};
 
 type Validator<'a> = CertValidator<'a, 'a, Iter<'a, Cert>>;
 
@@ -133,7 +133,7 @@ fn print_verdict<S: Scheme>(
 ) -> Result<(), AllocError> {
     match validator.verify(alloc, scheme) {
         Ok(()) => push(out, "accepted"),
-        Err(error) => push_refused(alloc, out, &error),
+        Err(error) => push_refused(alloc, out, error),
     }
 }
 
@@ -155,20 +155,12 @@ fn print_parent_in(
     child: &Cert,
     out: &mut String,
 ) -> Result<(), AllocError> {
-    let parent = Cert::from_der(alloc, octets);
-    let printed = print_parent_read(alloc, &parent, child, out);
-    drop(parent);
-    printed
-}
-
-fn print_parent_read(
-    alloc: Global,
-    parent: &Result<Cert, CertError>,
-    child: &Cert,
-    out: &mut String,
-) -> Result<(), AllocError> {
-    match parent {
-        Ok(parent) => print_link(alloc, parent, child, out),
+    match Cert::from_der(alloc, octets) {
+        Ok(parent) => {
+            let printed = print_link(alloc, &parent, child, out);
+            drop(parent);
+            printed
+        }
         Err(error) => push_refused(alloc, out, error),
     }
 }
@@ -181,6 +173,6 @@ fn print_link(
 ) -> Result<(), AllocError> {
     match parent.is_parent_of(alloc, child) {
         Ok(()) => push(out, "parent"),
-        Err(error) => push_refused(alloc, out, &error),
+        Err(error) => push_refused(alloc, out, error),
     }
 }

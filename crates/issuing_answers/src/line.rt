@@ -29,8 +29,18 @@ pub fn push_name(alloc: Global, out: &mut String, name: &DirectoryName) -> Resul
     push(out, text.as_str())
 }
 
-/// The name and the text of an error. Want of memory ends the run.
-pub fn push_refused(alloc: Global, out: &mut String, error: &CertError) -> Result<(), AllocError> {
+/// The name and the text of an error, which is let go here alone. Want of memory ends the run.
+pub fn push_refused(alloc: Global, out: &mut String, error: CertError) -> Result<(), AllocError> {
+    let pushed = push_name_and_text(alloc, out, &error);
+    drop(error);
+    pushed
+}
+
+fn push_name_and_text(
+    alloc: Global,
+    out: &mut String,
+    error: &CertError,
+) -> Result<(), AllocError> {
     if let CertError::Memory = error {
         return Err(AllocError);
     }
@@ -39,8 +49,14 @@ pub fn push_refused(alloc: Global, out: &mut String, error: &CertError) -> Resul
     push(out, text.as_str())
 }
 
-/// The text of an error. Want of memory ends the run.
-pub fn push_told(alloc: Global, out: &mut String, error: &CsrError) -> Result<(), AllocError> {
+/// The text of an error, which is let go here alone. Want of memory ends the run.
+pub fn push_told(alloc: Global, out: &mut String, error: CsrError) -> Result<(), AllocError> {
+    let pushed = push_text(alloc, out, &error);
+    drop(error);
+    pushed
+}
+
+fn push_text(alloc: Global, out: &mut String, error: &CsrError) -> Result<(), AllocError> {
     if let CsrError::Memory = error {
         return Err(AllocError);
     }

@@ -13,7 +13,7 @@ use sig_core::{Scheme, SchemeError, SchemeKind, SigAlg, Verdict};
 use std::alloc::{AllocError, Global};
 use std::io::Write;
 use std::time::CpuClock;
-use x509_core::{Cert, CertError};
+use x509_core::Cert;
 use x509_types::KeyUsage;
 
 /// A scheme that answers at once: it accepts every signature, and makes each of the same octets.
@@ -116,8 +116,20 @@ pub fn print_times(
     out: &mut impl Write,
 ) -> Result<()> {
     let work = work_of(alloc, row)?;
+    let printed = print_jobs(alloc, clock, &work, times, out);
+    drop(work);
+    printed
+}
+
+fn print_jobs(
+    alloc: Global,
+    clock: &impl CpuClock,
+    work: &Work,
+    times: u32,
+    out: &mut impl Write,
+) -> Result<()> {
     for job in Job::ALL {
-        print_job(alloc, clock, &work, times, job, out)?;
+        print_job(alloc, clock, work, times, job, out)?;
     }
     Ok(())
 }
@@ -191,9 +203,9 @@ fn built(alloc: Global, work: &Work) -> Option<usize> {
 }
 
 fn builder_like<'a>(alloc: Global, like: &Cert) -> Option<CertificateBuilder<'a>> {
+    let usage = KeyUsage::new(alloc, 1).ok()?;
     let subject = like.subject_name(alloc).ok()?;
     let public_key = like.public_key().try_clone(alloc).ok()?;
-    let usage = KeyUsage::new(alloc, 1).ok()?;
     let builder = CertificateBuilder::new(alloc)
         .validity(like.valid_not_before(), like.valid_not_after())
         .subject(subject, public_key);
@@ -215,15 +227,8 @@ fn length_under<S: Scheme>(
     builder: CertificateBuilder<'_>,
     scheme: &S,
 ) -> Option<usize> {
-    let made = builder.build(alloc, 7, scheme);
-    let length = length_of(&made);
-    drop(made);
-    length
-}
-
-fn length_of(made: &Result<Cert, CertError>) -> Option<usize> {
-    match made {
-        Ok(certificate) => Some(certificate.as_bytes().len()),
-        Err(_) => None,
-    }
+    let certificate = builder.build(alloc, 7, scheme).ok()?;
+    let length = certificate.as_bytes().len();
+    drop(certificate);
+    Some(length)
 }

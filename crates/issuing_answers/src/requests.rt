@@ -8,7 +8,7 @@ use issuing_core::Csr;
 use key_core::{PrivateKey, PublicKey};
 use names_core::DirectoryName;
 use request_types::CertificationRequest;
-use row_answers::octets_of;
+use row_answers::{equals, gives, gives_octets, octets_of};
 use sig_core::Scheme;
 use std::alloc::{AllocError, Global};
 use x509_core::CsrError;
@@ -17,9 +17,22 @@ use x509_core::CsrError;
 /// of the refusal.
 pub fn print<S: Scheme>(alloc: Global, octets: &str, scheme: &S, out: &mut String) -> Result<()> {
     let octets = octets_of(alloc, octets)?;
-    match Csr::from_der(alloc, &octets) {
-        Ok(csr) => Ok(print_read(alloc, &csr, &octets, scheme, out)?),
-        Err(error) => Ok(push_told(alloc, out, &error)?),
+    Ok(print_request(alloc, &octets, scheme, out)?)
+}
+
+fn print_request<S: Scheme>(
+    alloc: Global,
+    octets: &[u8],
+    scheme: &S,
+    out: &mut String,
+) -> Result<(), AllocError> {
+    match Csr::from_der(alloc, octets) {
+        Ok(csr) => {
+            let printed = print_read(alloc, &csr, octets, scheme, out);
+            drop(csr);
+            printed
+        }
+        Err(error) => push_told(alloc, out, error),
     }
 }
 
@@ -39,35 +52,22 @@ fn print_read<S: Scheme>(
 /// Whether a request has these octets, is the one that is made of the structure, and says of its
 /// subject what a copy says.
 fn comes_back(alloc: Global, csr: &Csr, octets: &[u8]) -> Result<bool, AllocError> {
-    let has_octets = has_octets(alloc, csr, octets);
+    let has_octets = gives_octets(csr.to_der(alloc), octets);
     let is_made_anew = is_made_anew(alloc, csr, octets);
     Ok(has_octets && is_made_anew && has_subject(alloc, csr)?)
 }
 
-fn has_octets(alloc: Global, csr: &Csr, octets: &[u8]) -> bool {
-    match csr.to_der(alloc) {
-        Ok(kept) => kept.as_slice() == octets,
-        Err(_) => false,
-    }
-}
-
 fn is_made_anew(alloc: Global, csr: &Csr, octets: &[u8]) -> bool {
     match CertificationRequest::from_der(alloc, octets) {
-        Ok(request) => is_made_of(alloc, csr, request),
-        Err(_) => false,
-    }
-}
-
-fn is_made_of(alloc: Global, csr: &Csr, request: CertificationRequest) -> bool {
-    match Csr::from_certification_request(alloc, request) {
-        Ok(again) => again == *csr,
+        Ok(request) => gives(Csr::from_certification_request(alloc, request), csr),
         Err(_) => false,
     }
 }
 
 fn has_subject(alloc: Global, csr: &Csr) -> Result<bool, AllocError> {
+    let subject = csr.subject_name(alloc)?;
     let (name, key) = csr.try_clone(alloc)?.into_subject_infos();
-    Ok(key == *csr.public_key() && name == csr.subject_name(alloc)?)
+    Ok(equals(key, csr.public_key()) && name == subject)
 }
 
 fn print_key(alloc: Global, key: &PublicKey, out: &mut String) -> Result<(), AllocError> {
@@ -86,7 +86,7 @@ fn print_verdict<S: Scheme>(
 ) -> Result<(), AllocError> {
     match csr.verify(alloc, scheme) {
         Ok(()) => push(out, "accepted"),
-        Err(error) => push_told(alloc, out, &error),
+        Err(error) => push_told(alloc, out, error),
     }
 }
 
@@ -97,12 +97,14 @@ pub fn generate<S: Scheme>(alloc: Global, words: &str, scheme: &S, out: &mut Str
     let [algorithm, key, subject, attributes @ ..] = words.as_slice() else {
         bail!("an algorithm, a key and a name are given");
     };
-    let key = key_of(alloc, key)?;
     let subject = name_of(alloc, subject)?;
-    match attributes.first() {
+    let key = key_of(alloc, key)?;
+    let printed = match attributes.first() {
         None => print_plain(alloc, algorithm, &key, subject, scheme, out),
         Some(words) => print_with(alloc, (algorithm, words), &key, subject, scheme, out),
-    }
+    };
+    drop(key);
+    printed
 }
 
 fn print_plain<S: Scheme>(
@@ -139,8 +141,12 @@ fn print_made<S: Scheme>(
     out: &mut String,
 ) -> Result<(), AllocError> {
     match made {
-        Ok(csr) => print_generated(alloc, &csr, scheme, out),
-        Err(error) => push_told(alloc, out, &error),
+        Ok(csr) => {
+            let printed = print_generated(alloc, &csr, scheme, out);
+            drop(csr);
+            printed
+        }
+        Err(error) => push_told(alloc, out, error),
     }
 }
 
@@ -150,18 +156,10 @@ fn print_generated<S: Scheme>(
     scheme: &S,
     out: &mut String,
 ) -> Result<(), AllocError> {
-    let Ok(octets) = csr.to_der(alloc) else {
+    let Some(octets) = csr.to_der(alloc).ok() else {
         return Err(AllocError);
     };
     push_octets(alloc, out, &octets)?;
-    push_same(out, is_read(alloc, csr, &octets))?;
+    push_same(out, gives(Csr::from_der(alloc, &octets), csr))?;
     print_verdict(alloc, csr, scheme, out)
-}
-
-/// Whether the request is read of these octets.
-fn is_read(alloc: Global, csr: &Csr, octets: &[u8]) -> bool {
-    match Csr::from_der(alloc, octets) {
-        Ok(read) => read == *csr,
-        Err(_) => false,
-    }
 }

@@ -16,18 +16,36 @@ use x509_types::{ExtendedKeyUsage, KeyUsage};
 /// What a call sets. The key of an issuer is handed in where it is set.
 #[derive(Drop)]
 pub enum Setting {
+    Issuer(IssuerSetting),
+    Subject(SubjectSetting),
+    Field(FieldSetting),
+    Plain(PlainSetting),
+}
+
+/// Who issues the certificate.
+#[derive(Drop)]
+pub enum IssuerSetting {
     SelfSigned(DirectoryName),
-    Issuer(DirectoryName),
-    IssuerCert(Cert),
-    Subject(DirectoryName, PublicKey),
-    SubjectFromCsr(Csr),
+    Named(DirectoryName),
+    Cert(Cert),
+}
+
+/// Whose certificate it is.
+#[derive(Drop)]
+pub enum SubjectSetting {
+    Named(DirectoryName, PublicKey),
+    Request(Csr),
+}
+
+/// What stands in the certificate besides.
+#[derive(Drop)]
+pub enum FieldSetting {
     AuthorityKeyIdentifier(Octets),
     SerialNumber(Octets),
     KeyUsage(KeyUsage),
     ExtendedKeyUsage(ExtendedKeyUsage),
     SubjectAltName(GeneralNames),
     IssuerAltName(GeneralNames),
-    Plain(PlainSetting),
 }
 
 /// What takes no memory.
@@ -53,26 +71,54 @@ pub fn settings_of(alloc: Global, words: &[&str]) -> Result<Vec<Setting>> {
 
 fn setting_of(alloc: Global, setter: &str, value: &str) -> Result<Setting> {
     match setter {
-        "self_signed" => Ok(Setting::SelfSigned(name_of(alloc, value)?)),
-        "issuer" => Ok(Setting::Issuer(name_of(alloc, value)?)),
-        "issuer_cert" => Ok(Setting::IssuerCert(certificate_of(alloc, value)?)),
-        "subject" => subject_of(alloc, value),
-        "subject_from_csr" => request_of(alloc, value),
-        "authority_key_identifier" => Ok(Setting::AuthorityKeyIdentifier(kept_of(alloc, value)?)),
-        "serial_number" => Ok(Setting::SerialNumber(kept_of(alloc, value)?)),
-        _ => extension_of(alloc, setter, value),
+        "self_signed" | "issuer" | "issuer_cert" => {
+            Ok(Setting::Issuer(issuer_of(alloc, setter, value)?))
+        }
+        "subject" => Ok(Setting::Subject(subject_of(alloc, value)?)),
+        "subject_from_csr" => Ok(Setting::Subject(request_of(alloc, value)?)),
+        "authority_key_identifier" | "serial_number" => {
+            Ok(Setting::Field(octets_setting_of(alloc, setter, value)?))
+        }
+        "key_usage" | "extended_key_usage" => {
+            Ok(Setting::Field(usage_of(alloc, setter, value)?))
+        }
+        "subject_alt_name" | "subject_alt_directory" | "issuer_alt_name" => {
+            Ok(Setting::Field(alt_name_of(alloc, setter, value)?))
+        }
+        _ => Ok(Setting::Plain(plain_of(setter, value)?)),
     }
 }
 
-/// What an extension of its own holds.
-fn extension_of(alloc: Global, setter: &str, value: &str) -> Result<Setting> {
+fn issuer_of(alloc: Global, setter: &str, value: &str) -> Result<IssuerSetting> {
+    match setter {
+        "self_signed" => Ok(IssuerSetting::SelfSigned(name_of(alloc, value)?)),
+        "issuer" => Ok(IssuerSetting::Named(name_of(alloc, value)?)),
+        _ => Ok(IssuerSetting::Cert(certificate_of(alloc, value)?)),
+    }
+}
+
+fn octets_setting_of(alloc: Global, setter: &str, value: &str) -> Result<FieldSetting> {
+    let octets = kept_of(alloc, value)?;
+    Ok(match setter {
+        "serial_number" => FieldSetting::SerialNumber(octets),
+        _ => FieldSetting::AuthorityKeyIdentifier(octets),
+    })
+}
+
+/// What a key may be used for.
+fn usage_of(alloc: Global, setter: &str, value: &str) -> Result<FieldSetting> {
     match setter {
         "key_usage" => key_usage_of(alloc, value),
-        "extended_key_usage" => purposes_of(alloc, value),
-        "subject_alt_name" => Ok(Setting::SubjectAltName(names_of(alloc, value)?)),
+        _ => purposes_of(alloc, value),
+    }
+}
+
+/// Other names of the subject or the issuer.
+fn alt_name_of(alloc: Global, setter: &str, value: &str) -> Result<FieldSetting> {
+    match setter {
+        "subject_alt_name" => Ok(FieldSetting::SubjectAltName(names_of(alloc, value)?)),
         "subject_alt_directory" => directory_of(alloc, value),
-        "issuer_alt_name" => Ok(Setting::IssuerAltName(names_of(alloc, value)?)),
-        _ => Ok(Setting::Plain(plain_of(setter, value)?)),
+        _ => Ok(FieldSetting::IssuerAltName(names_of(alloc, value)?)),
     }
 }
 
@@ -94,31 +140,31 @@ fn validity_of(value: &str) -> Result<PlainSetting> {
 }
 
 /// The name and the public key, a comma between.
-fn subject_of(alloc: Global, value: &str) -> Result<Setting> {
+fn subject_of(alloc: Global, value: &str) -> Result<SubjectSetting> {
     let (name, key) = two_of(value)?;
     let octets = octets_of(alloc, key)?;
-    let key = PublicKey::from_der(alloc, &octets)?;
-    Ok(Setting::Subject(name_of(alloc, name)?, key))
+    let name = name_of(alloc, name)?;
+    Ok(SubjectSetting::Named(name, PublicKey::from_der(alloc, &octets)?))
 }
 
-fn request_of(alloc: Global, value: &str) -> Result<Setting> {
+fn request_of(alloc: Global, value: &str) -> Result<SubjectSetting> {
     let octets = octets_of(alloc, value)?;
-    Ok(Setting::SubjectFromCsr(Csr::from_der(alloc, &octets)?))
+    Ok(SubjectSetting::Request(Csr::from_der(alloc, &octets)?))
 }
 
-fn key_usage_of(alloc: Global, value: &str) -> Result<Setting> {
-    Ok(Setting::KeyUsage(KeyUsage::new(alloc, value.parse()?)?))
+fn key_usage_of(alloc: Global, value: &str) -> Result<FieldSetting> {
+    Ok(FieldSetting::KeyUsage(KeyUsage::new(alloc, value.parse()?)?))
 }
 
-fn purposes_of(alloc: Global, value: &str) -> Result<Setting> {
+fn purposes_of(alloc: Global, value: &str) -> Result<FieldSetting> {
     let octets = octets_of(alloc, value)?;
-    Ok(Setting::ExtendedKeyUsage(ExtendedKeyUsage::from_der(alloc, &octets)?))
+    Ok(FieldSetting::ExtendedKeyUsage(ExtendedKeyUsage::from_der(alloc, &octets)?))
 }
 
 /// One name of the directory.
-fn directory_of(alloc: Global, value: &str) -> Result<Setting> {
+fn directory_of(alloc: Global, value: &str) -> Result<FieldSetting> {
     let name = name_of(alloc, value)?;
-    Ok(Setting::SubjectAltName(GeneralNames::new_directory_name(alloc, name)?))
+    Ok(FieldSetting::SubjectAltName(GeneralNames::new_directory_name(alloc, name)?))
 }
 
 impl Setting {
@@ -129,18 +175,46 @@ impl Setting {
         key: &'a PrivateKey,
     ) -> Result<CertificateBuilder<'a>, AllocError> {
         match self {
-            Setting::SelfSigned(name) => Ok(builder.self_signed(name, key)),
-            Setting::Issuer(name) => Ok(builder.issuer(name, key)),
-            Setting::IssuerCert(certificate) => issued_under(builder, &certificate, key),
-            Setting::Subject(name, public_key) => Ok(builder.subject(name, public_key)),
-            Setting::SubjectFromCsr(csr) => Ok(builder.subject_from_csr(csr)),
-            Setting::AuthorityKeyIdentifier(key) => Ok(builder.authority_key_identifier(key)),
-            Setting::SerialNumber(octets) => Ok(builder.serial_number(octets)),
-            Setting::KeyUsage(usage) => Ok(builder.key_usage(usage)),
-            Setting::ExtendedKeyUsage(usage) => Ok(builder.extended_key_usage(usage)),
-            Setting::SubjectAltName(names) => Ok(builder.subject_alt_name(names)),
-            Setting::IssuerAltName(names) => Ok(builder.issuer_alt_name(names)),
+            Setting::Issuer(issuer) => issuer.set(builder, key),
+            Setting::Subject(subject) => Ok(subject.set(builder)),
+            Setting::Field(field) => Ok(field.set(builder)),
             Setting::Plain(plain) => Ok(plain.set(builder)),
+        }
+    }
+}
+
+impl IssuerSetting {
+    fn set<'a>(
+        self,
+        builder: CertificateBuilder<'a>,
+        key: &'a PrivateKey,
+    ) -> Result<CertificateBuilder<'a>, AllocError> {
+        match self {
+            IssuerSetting::SelfSigned(name) => Ok(builder.self_signed(name, key)),
+            IssuerSetting::Named(name) => Ok(builder.issuer(name, key)),
+            IssuerSetting::Cert(certificate) => issued_by(builder, certificate, key),
+        }
+    }
+}
+
+impl SubjectSetting {
+    fn set(self, builder: CertificateBuilder<'_>) -> CertificateBuilder<'_> {
+        match self {
+            SubjectSetting::Named(name, key) => builder.subject(name, key),
+            SubjectSetting::Request(csr) => builder.subject_from_csr(csr),
+        }
+    }
+}
+
+impl FieldSetting {
+    fn set(self, builder: CertificateBuilder<'_>) -> CertificateBuilder<'_> {
+        match self {
+            FieldSetting::AuthorityKeyIdentifier(key) => builder.authority_key_identifier(key),
+            FieldSetting::SerialNumber(octets) => builder.serial_number(octets),
+            FieldSetting::KeyUsage(usage) => builder.key_usage(usage),
+            FieldSetting::ExtendedKeyUsage(usage) => builder.extended_key_usage(usage),
+            FieldSetting::SubjectAltName(names) => builder.subject_alt_name(names),
+            FieldSetting::IssuerAltName(names) => builder.issuer_alt_name(names),
         }
     }
 }
@@ -160,12 +234,28 @@ impl PlainSetting {
     }
 }
 
+/// The builder under a certificate that is let go.
+fn issued_by<'a>(
+    builder: CertificateBuilder<'a>,
+    certificate: Cert,
+    key: &'a PrivateKey,
+) -> Result<CertificateBuilder<'a>, AllocError> {
+    let issued = issued_under(builder, &certificate, key);
+    drop(certificate);
+    issued
+}
+
 /// The builder under the certificate of an issuer.
 pub fn issued_under<'a>(
     mut builder: CertificateBuilder<'a>,
     certificate: &Cert,
     key: &'a PrivateKey,
 ) -> Result<CertificateBuilder<'a>, AllocError> {
-    builder.issuer_cert(certificate, key)?;
-    Ok(builder)
+    match builder.issuer_cert(certificate, key) {
+        Ok(()) => Ok(builder),
+        Err(refused) => {
+            drop(builder);
+            Err(refused)
+        }
+    }
 }
