@@ -16,5 +16,3 @@ mod private_keys;
 mod schemes;
 #[cfg(test)]
 mod servers;
-#[cfg(test)]
-mod signing;
