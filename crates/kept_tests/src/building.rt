@@ -116,10 +116,14 @@ fn outcome_over(alloc: Global, octets: &[u8], sample: &[u8], key: &PrivateKey) -
 fn is_each_with(alloc: Global, key: &PrivateKey) -> Result<bool, Fail> {
     let sample = hex::decode(alloc, ONE)?;
     let nested = hex::decode(alloc, NESTED)?;
-    Ok(
-        outcome_over(alloc, &nested[2..], &sample, key) == Outcome::Built
-            && outcome_over(alloc, &nested, &sample, key) == Outcome::TooDeep,
-    )
+    // The outermost sequence has its contents behind two octets.
+    match nested.get(2..) {
+        Some(inner) => Ok(
+            outcome_over(alloc, inner, &sample, key) == Outcome::Built
+                && outcome_over(alloc, &nested, &sample, key) == Outcome::TooDeep,
+        ),
+        None => Ok(false),
+    }
 }
 
 /// The same by the private key that octets are.
