@@ -38,7 +38,11 @@ pub fn repeated(
 /// Whether the certificate comes back as it was read, and the digest of its fields; or the refusal.
 fn print_owned(alloc: Global, octets: &[u8], out: &mut String) -> Result<(), DerError> {
     match Certificate::from_der(alloc, octets) {
-        Ok(certificate) => print_value(alloc, &certificate, octets, out),
+        Ok(certificate) => {
+            let printed = print_value(alloc, &certificate, octets, out);
+            drop(certificate);
+            printed
+        }
         Err(error) => print_refusal(alloc, error, out),
     }
 }
@@ -77,11 +81,22 @@ fn push_view(alloc: Global, view: &CertView<'_>, out: &mut String) -> Result<(),
 fn print_kept(alloc: Global, octets: &[u8], out: &mut String) -> Result<(), AllocError> {
     match Cert::from_der(alloc, octets) {
         Ok(cert) => {
-            push_kept(alloc, &cert, octets, out)?;
-            push_view(alloc, &cert.view(), out)
+            let printed = push_both(alloc, &cert, octets, out);
+            drop(cert);
+            printed
         }
-        Err(error) => kept::push_error(alloc, &error, out),
+        Err(error) => kept::push_error(alloc, error, out),
     }
+}
+
+fn push_both(
+    alloc: Global,
+    cert: &Cert,
+    octets: &[u8],
+    out: &mut String,
+) -> Result<(), AllocError> {
+    push_kept(alloc, cert, octets, out)?;
+    push_view(alloc, &cert.view(), out)
 }
 
 fn push_kept(

@@ -5,6 +5,7 @@ use crate::view::push_length;
 use der_core::{DerError, Raw, Structure, is_same};
 use key_core::PublicKey;
 use names_core::{DirectoryName, UtcDate};
+use row_answers::{equals, gives_octets};
 use std::alloc::{AllocError, Global};
 use x509_core::{Cert, CertError, CertType};
 use x509_types::{AlgorithmIdentifier, AuthorityKeyIdentifier, BasicConstraints, Certificate};
@@ -13,8 +14,12 @@ use x509_types::{AlgorithmIdentifier, AuthorityKeyIdentifier, BasicConstraints, 
 /// there is no certificate.
 pub fn answer(alloc: Global, octets: &[u8], out: &mut String) -> Result<(), AllocError> {
     match Cert::from_der(alloc, octets) {
-        Ok(cert) => print(alloc, &cert, octets, out),
-        Err(error) => push_error(alloc, &error, out),
+        Ok(cert) => {
+            let printed = print(alloc, &cert, octets, out);
+            drop(cert);
+            printed
+        }
+        Err(error) => push_error(alloc, error, out),
     }
 }
 
@@ -26,8 +31,12 @@ pub fn parent(
     out: &mut String,
 ) -> Result<(), AllocError> {
     match Cert::from_der(alloc, parent) {
-        Ok(parent) => parent_of(alloc, &parent, child, out),
-        Err(error) => push_error(alloc, &error, out),
+        Ok(parent) => {
+            let printed = parent_of(alloc, &parent, child, out);
+            drop(parent);
+            printed
+        }
+        Err(error) => push_error(alloc, error, out),
     }
 }
 
@@ -38,8 +47,12 @@ fn parent_of(
     out: &mut String,
 ) -> Result<(), AllocError> {
     match Cert::from_der(alloc, child) {
-        Ok(child) => print_link(alloc, parent, &child, out),
-        Err(error) => push_error(alloc, &error, out),
+        Ok(child) => {
+            let printed = print_link(alloc, parent, &child, out);
+            drop(child);
+            printed
+        }
+        Err(error) => push_error(alloc, error, out),
     }
 }
 
@@ -51,7 +64,7 @@ fn print_link(
 ) -> Result<(), AllocError> {
     match parent.is_parent_of(alloc, child) {
         Ok(()) => push(out, "parent"),
-        Err(error) => push_error(alloc, &error, out),
+        Err(error) => push_error(alloc, error, out),
     }
 }
 
@@ -62,11 +75,9 @@ pub fn written(
     algorithm: &[u8],
     out: &mut String,
 ) -> Result<(), DerError> {
+    let algorithm = AlgorithmIdentifier::from_der(alloc, algorithm)?;
     let certificate = Certificate::from_der(alloc, octets)?;
-    match AlgorithmIdentifier::from_der(alloc, algorithm) {
-        Ok(algorithm) => Ok(print_written(alloc, signed_by(certificate, algorithm), out)?),
-        Err(error) => Err(error),
-    }
+    Ok(print_written(alloc, signed_by(certificate, algorithm), out)?)
 }
 
 fn signed_by(certificate: Certificate, signature_algorithm: AlgorithmIdentifier) -> Certificate {
@@ -83,20 +94,30 @@ fn print_written(
     out: &mut String,
 ) -> Result<(), AllocError> {
     match Cert::from_certificate(alloc, certificate) {
-        Ok(cert) => print_octets(alloc, &cert, out),
-        Err(error) => push_error(alloc, &error, out),
+        Ok(cert) => {
+            let printed = print_octets(alloc, &cert, out);
+            drop(cert);
+            printed
+        }
+        Err(error) => push_error(alloc, error, out),
     }
 }
 
 fn print_octets(alloc: Global, cert: &Cert, out: &mut String) -> Result<(), AllocError> {
     match cert.to_der(alloc) {
         Ok(octets) => push_octets(alloc, out, &octets),
-        Err(error) => push_error(alloc, &error, out),
+        Err(error) => push_error(alloc, error, out),
     }
 }
 
-/// The text of an error. Want of memory ends the run.
-pub fn push_error(alloc: Global, error: &CertError, out: &mut String) -> Result<(), AllocError> {
+/// The text of an error, which is let go here alone. Want of memory ends the run.
+pub fn push_error(alloc: Global, error: CertError, out: &mut String) -> Result<(), AllocError> {
+    let pushed = push_text(alloc, &error, out);
+    drop(error);
+    pushed
+}
+
+fn push_text(alloc: Global, error: &CertError, out: &mut String) -> Result<(), AllocError> {
     if let CertError::Memory = error {
         return Err(AllocError);
     }
@@ -127,8 +148,8 @@ fn push_kept(
     out: &mut String,
 ) -> Result<(), AllocError> {
     let copy = cert.try_clone(alloc)?;
-    let same = copy == *cert && has_octets(alloc, &copy, octets);
-    push_same(out, same)
+    let has_octets = has_octets(alloc, &copy, octets);
+    push_same(out, equals(copy, cert) && has_octets)
 }
 
 /// Whether the octets that are written for the value are these, else why there are none.
@@ -140,17 +161,18 @@ fn push_anew(
 ) -> Result<(), AllocError> {
     let copy = cert.try_clone(alloc)?;
     match Cert::from_certificate(alloc, copy.into_certificate()) {
-        Ok(again) => push_same(out, has_octets(alloc, &again, octets)),
-        Err(error) => push_error(alloc, &error, out),
+        Ok(again) => {
+            let has_octets = has_octets(alloc, &again, octets);
+            drop(again);
+            push_same(out, has_octets)
+        }
+        Err(error) => push_error(alloc, error, out),
     }
 }
 
 /// Whether a certificate has these octets.
 fn has_octets(alloc: Global, cert: &Cert, octets: &[u8]) -> bool {
-    match cert.to_der(alloc) {
-        Ok(kept) => is_same(&kept, octets) && is_same(cert.as_bytes(), octets),
-        Err(_) => false,
-    }
+    gives_octets(cert.to_der(alloc), octets) && is_same(cert.as_bytes(), octets)
 }
 
 /// The kind, the dates, the names, the number and the algorithm.
@@ -204,14 +226,14 @@ fn print_said(alloc: Global, cert: &Cert, out: &mut String) -> Result<(), AllocE
 fn print_subject_key(alloc: Global, cert: &Cert, out: &mut String) -> Result<(), AllocError> {
     match cert.subject_key_identifier() {
         Ok(key) => push_octets(alloc, out, key),
-        Err(error) => push_error(alloc, &error, out),
+        Err(error) => push_error(alloc, error, out),
     }
 }
 
 fn print_authority_key(alloc: Global, cert: &Cert, out: &mut String) -> Result<(), AllocError> {
     match cert.authority_key_identifier() {
         Ok(key) => push_authority_key(alloc, key, out),
-        Err(error) => push_error(alloc, &error, out),
+        Err(error) => push_error(alloc, error, out),
     }
 }
 
@@ -228,7 +250,7 @@ fn push_authority_key(
 fn print_constraints(alloc: Global, cert: &Cert, out: &mut String) -> Result<(), AllocError> {
     match cert.basic_constraints() {
         Ok(constraints) => push_constraints(alloc, constraints, out),
-        Err(error) => push_error(alloc, &error, out),
+        Err(error) => push_error(alloc, error, out),
     }
 }
 

@@ -92,10 +92,10 @@ fn certificates_of<'a>(alloc: Global, file: &'a [u8]) -> Result<Vec<&'a [u8]>> {
 }
 
 fn kept(alloc: Global, octets: &[u8]) -> Option<usize> {
-    match Cert::from_der(alloc, octets) {
-        Ok(cert) => Some(cert.as_bytes().len()),
-        Err(_) => None,
-    }
+    let cert = Cert::from_der(alloc, octets).ok()?;
+    let length = cert.as_bytes().len();
+    drop(cert);
+    Some(length)
 }
 
 fn lent(octets: &[u8]) -> Option<usize> {

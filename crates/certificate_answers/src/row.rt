@@ -91,7 +91,11 @@ fn print_repeated(
 /// Whether the certificate comes back as it was read, and its fields; or that there is none.
 fn print_structure(alloc: Global, element: &[u8], out: &mut String) -> Result<(), DerError> {
     match value_of::<Certificate>(alloc, element) {
-        Ok(certificate) => print_certificate(alloc, &certificate, element, out),
+        Ok(certificate) => {
+            let printed = print_certificate(alloc, &certificate, element, out);
+            drop(certificate);
+            printed
+        }
         Err(DerError::Shape) => Ok(push(out, "Shape")?),
         Err(error) => Err(error),
     }
