@@ -20,11 +20,22 @@ pub fn kept_line(
     let Some(signature) = signature_in(alloc, file) else {
         return Ok(None);
     };
+    let line = line_of(alloc, &signature, policy, table);
+    drop(signature);
+    Ok(Some(line?))
+}
+
+fn line_of(
+    alloc: Global,
+    signature: &AuthenticodeSignature,
+    policy: &Policy,
+    table: &VerdictTable,
+) -> Result<String> {
     let hash = copy_of(alloc, &policy.file_hash)?;
-    let answer = verified(alloc, &signature, policy, hash, table);
+    let answer = verified(alloc, signature, policy, hash, table);
     let line = told(alloc, &answer);
     drop(answer);
-    Ok(Some(line?))
+    line
 }
 
 fn signature_in(alloc: Global, file: &[u8]) -> Option<AuthenticodeSignature> {

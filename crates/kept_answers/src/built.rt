@@ -32,9 +32,21 @@ fn print_asked<S: Scheme>(
     scheme: &S,
     line: &mut String,
 ) -> Result<()> {
-    let key = key_of(alloc, key)?;
     let settings = settings_of(alloc, settings)?;
-    let builder = builder_of(settings, &key);
+    let key = key_of(alloc, key)?;
+    let printed = print_by(alloc, &key, settings, scheme, line);
+    drop(key);
+    printed
+}
+
+fn print_by<S: Scheme>(
+    alloc: Global,
+    key: &PrivateKey,
+    settings: Vec<Setting>,
+    scheme: &S,
+    line: &mut String,
+) -> Result<()> {
+    let builder = builder_of(settings, key);
     print_signature(alloc, builder, scheme, line)
 }
 

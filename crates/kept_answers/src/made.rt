@@ -78,9 +78,24 @@ fn print_signed<S: Scheme>(
     scheme: &S,
     line: &mut String,
 ) -> Result<()> {
-    let key = key_of(alloc, key)?;
     let signed = signed_data_of(alloc, certificates)?;
-    print_signature(alloc, &signed, &key, program, scheme, line)
+    let printed = print_by(alloc, &signed, key, program, scheme, line);
+    drop(signed);
+    printed
+}
+
+fn print_by<S: Scheme>(
+    alloc: Global,
+    signed: &Pkcs7,
+    key: &str,
+    program: &Program<'_>,
+    scheme: &S,
+    line: &mut String,
+) -> Result<()> {
+    let key = key_of(alloc, key)?;
+    let printed = print_signature(alloc, signed, &key, program, scheme, line);
+    drop(key);
+    printed
 }
 
 fn print_signature<S: Scheme>(

@@ -9,9 +9,22 @@ use std::alloc::Global;
 
 /// What is made of the signature that octets are by a token.
 pub fn print_stamped(alloc: Global, octets: &[u8], token: &[u8], line: &mut String) -> Result<()> {
-    let mut timestamper = timestamper_of(alloc, token)?;
     let mut signature = signature_of(alloc, octets)?;
-    print_stamp(alloc, &mut signature, &mut timestamper, line)
+    let printed = print_stamped_by(alloc, &mut signature, token, line);
+    drop(signature);
+    printed
+}
+
+fn print_stamped_by(
+    alloc: Global,
+    signature: &mut AuthenticodeSignature,
+    token: &[u8],
+    line: &mut String,
+) -> Result<()> {
+    let mut timestamper = timestamper_of(alloc, token)?;
+    let printed = print_stamp(alloc, signature, &mut timestamper, line);
+    drop(timestamper);
+    printed
 }
 
 fn timestamper_of(alloc: Global, token: &[u8]) -> Result<TokenTimestamper> {

@@ -25,7 +25,9 @@ pub fn signed_data_of(alloc: Global, word: &str) -> Result<Pkcs7> {
 /// The certificates of signed data.
 pub fn certificates_of(alloc: Global, word: &str) -> Result<Vec<Cert>> {
     let signed = signed_data_of(alloc, word)?;
-    Ok(signed.decode_certificates(alloc)?)
+    let certificates = signed.decode_certificates(alloc);
+    drop(signed);
+    Ok(certificates?)
 }
 
 pub fn content_of(alloc: Global, word: &str) -> Result<EncapsulatedContentInfo> {
