@@ -9,20 +9,27 @@ use x509_types::{Attribute, Extensions};
 
 /// The details of the attribute, or that there is none.
 pub fn answer(alloc: Global, call: &str, args: &[&str]) -> Result<String> {
-    let made = match (call, args) {
-        ("extension_request", [extensions]) => Some(extension_request(alloc, extensions)?),
-        ("new", [ty, element]) => with_values_of(alloc, ty, element)?,
-        _ => bail!("no call makes an attribute {call}"),
-    };
-    let Some(attribute) = made else {
-        return Ok(String::from_str(alloc, "None")?);
-    };
-    Ok(attribute.details(alloc)?)
+    match made(alloc, call, args)? {
+        Some(attribute) => {
+            let details = attribute.details(alloc);
+            drop(attribute);
+            Ok(details?)
+        }
+        None => Ok(String::from_str(alloc, "None")?),
+    }
 }
 
-fn extension_request(alloc: Global, extensions: &str) -> Result<Attribute> {
+fn made(alloc: Global, call: &str, args: &[&str]) -> Result<Option<Attribute>> {
+    match (call, args) {
+        ("extension_request", [extensions]) => extension_request(alloc, extensions),
+        ("new", [ty, element]) => with_values_of(alloc, ty, element),
+        _ => bail!("no call makes an attribute {call}"),
+    }
+}
+
+fn extension_request(alloc: Global, extensions: &str) -> Result<Option<Attribute>> {
     let extensions = value_of::<Extensions>(alloc, &octets_of(alloc, extensions)?)?;
-    Ok(Attribute::new_extension_request(alloc, extensions)?)
+    Ok(Some(Attribute::new_extension_request(alloc, extensions)?))
 }
 
 /// The attribute of an identifier and the values of another attribute.

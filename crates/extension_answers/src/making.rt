@@ -10,24 +10,27 @@ use x509_types::{ExtendedKeyUsage, Extension, KeyUsage, OidList, RawGeneralNames
 
 /// The octets of the extension, and its details; or that there is none.
 pub fn answer(alloc: Global, call: &str, args: &[&str]) -> Result<String> {
-    let made = match (call, args) {
-        ("basic_constraints", [ca, pathlen]) => basic_constraints(alloc, ca, pathlen)?,
-        ("key_usage", [flags]) => key_usage(alloc, flags)?,
-        ("critical_key_usage", [flags]) => critical_key_usage(alloc, flags)?,
-        ("non_critical", [octets]) => non_critical(alloc, octets)?,
-        ("extended_key_usage", purposes) => extended_key_usage(alloc, purposes)?,
-        ("subject_alt_name", [names]) => subject_alt_name(alloc, names)?,
-        ("issuer_alt_name", [names]) => issuer_alt_name(alloc, names)?,
-        ("subject_key", [key]) => subject_key(alloc, key)?,
-        ("authority_key", [key]) => authority_key(alloc, key)?,
-        ("raw", [oid, octets]) => raw(alloc, oid, octets)?,
-        _ => bail!("no call makes an extension {call}"),
-    };
-    Ok(shown(alloc, made)?)
+    Ok(shown(alloc, made(alloc, call, args)?)?)
 }
 
 /// An extension, or why there is none.
 type Made = Result<Extension, DerError>;
+
+fn made(alloc: Global, call: &str, args: &[&str]) -> Result<Made> {
+    match (call, args) {
+        ("basic_constraints", [ca, pathlen]) => basic_constraints(alloc, ca, pathlen),
+        ("key_usage", [flags]) => key_usage(alloc, flags),
+        ("critical_key_usage", [flags]) => critical_key_usage(alloc, flags),
+        ("non_critical", [octets]) => non_critical(alloc, octets),
+        ("extended_key_usage", purposes) => extended_key_usage(alloc, purposes),
+        ("subject_alt_name", [names]) => subject_alt_name(alloc, names),
+        ("issuer_alt_name", [names]) => issuer_alt_name(alloc, names),
+        ("subject_key", [key]) => subject_key(alloc, key),
+        ("authority_key", [key]) => authority_key(alloc, key),
+        ("raw", [oid, octets]) => raw(alloc, oid, octets),
+        _ => bail!("no call makes an extension {call}"),
+    }
+}
 
 fn basic_constraints(alloc: Global, ca: &str, pathlen: &str) -> Result<Made> {
     let pathlen = match pathlen {
@@ -87,10 +90,18 @@ fn identifier(alloc: Global, oid: &str) -> Result<ObjectIdentifier> {
 }
 
 fn shown(alloc: Global, made: Made) -> Result<String, DerError> {
-    let extension = match made {
-        Ok(extension) => extension,
-        Err(error) => return shown_shape(alloc, error),
-    };
+    match made {
+        Ok(extension) => {
+            let line = line_of(alloc, &extension);
+            drop(extension);
+            line
+        }
+        Err(error) => shown_shape(alloc, error),
+    }
+}
+
+/// The octets of an extension, and its details.
+fn line_of(alloc: Global, extension: &Extension) -> Result<String, DerError> {
     let octets = word_of(alloc, &extension.to_der(alloc)?)?;
     let details = extension.details(alloc)?;
     Ok(format!(in alloc; "{octets} {details}")?)
