@@ -69,14 +69,22 @@ const ROWS: [Row; 7] = [
     (HashAlgorithm::SHA2_256, OTHER, "message", "good", "invalid signature", "another key"),
 ];
 
+/// Whether what is answered to a row is what the row says.
+fn is_as_told(alloc: Global, row: Row, rows: &ThreeRows) -> Result<bool, Fail> {
+    let (hash, key, message, signature, want, _why) = row;
+    let key = public_key(alloc, key)?;
+    let signed = (message.as_bytes(), signature.as_bytes());
+    let told = is_told(alloc, hash, &key, signed, rows, want);
+    drop(key);
+    told
+}
+
 #[test]
 fn verdicts(rt: HostRuntime) -> Result<(), Fail> {
     let rows = rows(rt.alloc())?;
-    for (hash, key, message, signature, want, why) in ROWS {
-        let key = public_key(rt.alloc(), key)?;
-        let signed = (message.as_bytes(), signature.as_bytes());
-        let told = is_told(rt.alloc(), hash, &key, signed, &rows, want)?;
-        assert!(rt; told, "{why}");
+    for row in ROWS {
+        let told = is_as_told(rt.alloc(), row, &rows)?;
+        assert!(rt; told, "{}", row.5);
     }
     Ok(())
 }
@@ -92,7 +100,9 @@ fn signed<S: Scheme>(
         return Err(SignatureError::Memory);
     };
     let key = PrivateKey::from_pkcs1(alloc, &octets)?;
-    rsa(hash).sign(alloc, message, &key, scheme)
+    let made = rsa(hash).sign(alloc, message, &key, scheme);
+    drop(key);
+    made
 }
 
 /// Whether the scheme refuses to sign.
