@@ -2,7 +2,7 @@
 use Rattle.std.proofs.Common.{◌≡◌, ◌≢◌, ◌⊎◌, IsTrue, false, List, [], ◌∷◌, map, Option, Some, None, Result, Ok, Err, MatchResult, inl, inr, refl, sym, subst, ◌∙◌}
 use Rattle.std.proofs.lemmas.Bool.{false≢true}
 use Rattle.std.specs.Borrow.{Bor}
-use Rattle.std.specs.Prelude.{IsSome, IfErr}
+use Rattle.std.specs.Prelude.{IfErr}
 use Rattle.std.specs.Iterator.{Yields, Drains}
 use Rattle.key_core.specs.Verifying.{Judge}
 use Rattle.x509_core.specs.CertType.{IsOfType}
@@ -31,8 +31,10 @@ pub where_asked : {X P : Type 0} (r : Result X CertError) → P → IfErr r (λ 
 where_asked (Ok v) p = tt
 where_asked (Err e) p = λ none. p
 
-pub is_given : {S : Type 0} (chain : Option S) (iterator : S) → chain ≡ Some iterator → IsSome chain
-is_given chain iterator is = subst (λ (c : Option _). IsSome c) (sym is) refl
+-- no refusal for a root that is missing is want of memory
+pub unrooted_is_told : {X : Type 0} (P Q R N : Type 0) (r : Result X CertError) → MatchResult r (λ _. P) (λ e. Q × R × (e ≡ errors.InvalidChain chain_errors.NoRoot)) → IfErr r (λ e. e ≡ errors.Memory → N)
+unrooted_is_told P Q R N (Ok v) h = tt
+unrooted_is_told P Q R N (Err e) h = λ none. let other = h.2 in absurd cc
 
 -- ---- no link tells of a root that is missing
 

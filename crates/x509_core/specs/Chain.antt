@@ -1,5 +1,5 @@
 -- When certificates are a chain (RFC 5280 6.1), and what is answered where they aren't.
-use Rattle.std.specs.Prelude.{◌≡◌, ◌≢◌, ◌⊎◌, ⊤, ℕ, List, [], ◌∷◌, ◌++◌, map, length, Option, Some, None, IsSome, IsTrue}
+use Rattle.std.specs.Prelude.{◌≡◌, ◌≢◌, ◌⊎◌, ⊤, ℕ, List, [], ◌∷◌, ◌++◌, map, length, Option, Some, None, IsTrue}
 use Rattle.std.specs.Borrow.{Bor}
 use Rattle.std.specs.Iterator.{AlwaysYields, Yields, Drains}
 use Rattle.key_core.specs.Verifying.{Judge}
@@ -52,10 +52,6 @@ pub record IsAccepted (judge : Judge) (checks : ChainChecks) (checked : KeptCert
   pub dated : IsDated checks
   pub valid : IsWithinWindow checks.window checked.elements
   pub chained : IsTrue checks.chain → IsPath judge checks checked given
-
--- Memory is asked for: a date is given where one is asked for, and the certificate isn't valid, which its name tells of, or parents are looked at.
-abbrev pub AsksForMemory : {S : Type 0} → ChainChecks → KeptCertificate → Option S → Type 0
-AsksForMemory checks checked chain = IsDated checks × ((IsWithinWindow checks.window checked.elements → ⊥) ⊎ (IsTrue checks.chain × IsSome chain))
 
 -- ---- rules, by what breaks them
 
@@ -141,3 +137,20 @@ pub record WasRefused {S : Type 0} (judge : Judge) (steps : S → Option (Bor Ke
   pub came : GaveSoFar steps chain given
   pub ended : e ≡ errors.InvalidChain chain_errors.NoRoot → IsWalked steps chain given
   pub broken : IsFirstBroken (chain_rules judge checks checked given) e
+
+-- the iterator may give a parent at once
+pub record GivesParent {S : Type 0} (steps : S → Option (Bor KeptCertificate) → S → Type 0) (iterator : S) : Type 0 where
+  pub parent : Bor KeptCertificate
+  pub rest : S
+  pub given : steps iterator (Some parent) rest
+
+-- A chain is asked for and given, and gives a parent.
+pub record HasParent {S : Type 0} (steps : S → Option (Bor KeptCertificate) → S → Type 0) (checks : ChainChecks) (chain : Option S) : Type 0 where
+  pub asked : IsTrue checks.chain
+  pub iterator : S
+  pub is : chain ≡ Some iterator
+  pub gives : GivesParent steps iterator
+
+-- Memory is asked for: a date is given where one is asked for, and the certificate isn't valid, which its name tells of, or there is a parent to look at.
+abbrev pub AsksForMemory : {S : Type 0} → (S → Option (Bor KeptCertificate) → S → Type 0) → ChainChecks → KeptCertificate → Option S → Type 0
+AsksForMemory steps checks checked chain = IsDated checks × ((IsWithinWindow checks.window checked.elements → ⊥) ⊎ HasParent steps checks chain)

@@ -4,7 +4,7 @@ ghost use Rattle.std.specs.Prelude.{◌≡◌, ◌≢◌, ◌↔◌, ◌⊎◌, 
 ghost use Rattle.std.specs.Borrow.{Bor};
 ghost use Rattle.std.specs.Iterator.{IsFinite, Drains, Yields};
 ghost use Rattle.x509_core.specs.CertType.{IsOfType};
-ghost use Rattle.x509_core.specs.Chain.{Gives, IsAccepted, WasAccepted, WasRefused, AsksForMemory, IsLinkedChain, IsFirstUnlinked, AsksForDate, IsDated, LacksDate, chain_rules, last_of, lent, nearest};
+ghost use Rattle.x509_core.specs.Chain.{Gives, IsAccepted, WasAccepted, WasRefused, AsksForMemory, GivesParent, IsLinkedChain, IsFirstUnlinked, AsksForDate, IsDated, LacksDate, chain_rules, last_of, lent, nearest};
 ghost use Rattle.x509_core.specs.Checks.{checks_at, first_checks, with_not_before, with_not_after, with_chain, with_root};
 ghost use Rattle.x509_core.specs.KeptCertificate.{KeptCertificate};
 ghost use Rattle.x509_core.specs.Link.{IsLink, IsStandingFor, link_rules};
@@ -204,7 +204,8 @@ impl<'a, 'b, Chain: Iterator<Item = &'b Cert> + Drop> CertValidator<'a, 'b, Chai
         ensures walked { MatchResult result
             (λ _. WasAccepted (S.judge scheme.now) Chain.next_gives self.entry.checks self.entry.cert.now self.entry.chain)
             (λ e. WasRefused (S.judge scheme.now) Chain.next_gives self.entry.checks self.entry.cert.now self.entry.chain e ⊎ (e ≡ errors.Memory)) }
-        ensures memory { IfErr result (λ e. e ≡ errors.Memory → AsksForMemory self.entry.checks self.entry.cert.now self.entry.chain) }
+        // Memory is asked for by the scheme, and for an error that keeps a name or an identifier.
+        ensures memory { IfErr result (λ e. e ≡ errors.Memory → AsksForMemory Chain.next_gives self.entry.checks self.entry.cert.now self.entry.chain) }
     {
         let CertValidator {
             cert,
@@ -299,9 +300,10 @@ fn last_type<'b, Chain: Iterator<Item = &'b Cert> + Drop, S: Scheme>(
 ) -> Result<CertType, CertError>
     requires can { Chain.can_next chain }
     requires ends { IsFinite (Chain.remaining chain) }
-    ensures { MatchResult result
+    ensures answer { MatchResult result
         (λ last. (xs : List (Bor KeptCertificate)) × Drains Chain.next_gives chain xs × IsLinkedChain (S.judge scheme.now) window.now checked.entry.cert.now (map lent xs) × IsOfType (last_of checked.entry.cert.now (map lent xs)).elements last)
         (λ e. (e ≡ errors.Memory) ⊎ ((xs : List (Bor KeptCertificate)) × (rest : Chain) × Yields Chain.next_gives chain xs rest × IsFirstUnlinked (S.judge scheme.now) window.now checked.entry.cert.now (map lent xs) e)) }
+    ensures memory { IfErr result (λ e. e ≡ errors.Memory → GivesParent Chain.next_gives chain) }
 {
     let mut last: Option<ViewedCert<'b>> = None;
     let mut number: u16 = 0;

@@ -7,7 +7,7 @@ use Rattle.x509_core.specs.Rules.{Breaks}
 use Rattle.x509_core.specs.Window.{IsWithinWindow}
 use Rattle.x509_core.proofs.SameChains.{same_valid, same_refusal, same_chain, same_kind}
 use Rattle.x509_core.proofs.Verdicts.{outside, unasked, no_chain, refused_chain, verdict}
-use Rattle.x509_core.proofs.Walks.{undated_is_told, where_asked, is_given, undated, invalid, unlooked, chainless, refused_walk, walk}
+use Rattle.x509_core.proofs.Walks.{undated_is_told, where_asked, unrooted_is_told, undated, invalid, unlooked, chainless, refused_walk, walk}
 use Rattle.x509_core.proofs.validator.CertValidator.verify.Goals as goal
 
 pub returns-in_err-expect_date : goal.returns-in_err-expect_date
@@ -59,7 +59,7 @@ returns-in_err-last g c =
     let p = err_from_is_err_and c.from_residual-in_err-last.result c.from_residual-in_err-last.ensures.1 in
     let asked : IsTrue c.args.self.checks.chain = search rules in
     let valid = same_valid _ _ _ c.viewed-checked.ensures c.in_ok-expect_valid.ensures.answer in
-    let refused = same_refusal (g.S.Scheme.judge c.args.scheme.now) g.Chain.Iterator.next_gives _ _ _ c.in-Some.chain c.in_err-last.field-0.0 c.viewed-checked.ensures c.in_err-last.ensures in
+    let refused = same_refusal (g.S.Scheme.judge c.args.scheme.now) g.Chain.Iterator.next_gives _ _ _ c.in-Some.chain c.in_err-last.field-0.0 c.viewed-checked.ensures c.in_err-last.ensures.answer in
     record {
       answer = λ given gives.
           let by = subst (λ (chain : Option _). Gives g.Chain.Iterator.next_gives chain given) c.in-Some.is (gives asked) in
@@ -68,14 +68,17 @@ returns-in_err-last g c =
       walked =
           rw (p.1, p.2) (refused_walk (g.S.Scheme.judge c.args.scheme.now) g.Chain.Iterator.next_gives c.args.self.checks c.args.self.cert.now c.in_ok-expect_date.ensures valid asked
           c.args.self.chain c.in-Some.chain c.in-Some.is c.in_err-last.field-0.0 refused);
-      memory = where_asked c.from_residual-in_err-last.result (c.in_ok-expect_date.ensures, inr (asked, is_given c.args.self.chain c.in-Some.chain c.in-Some.is));
+      memory = rw (p.1, p.2) (λ none. (
+        c.in_ok-expect_date.ensures,
+        inr (record { asked = asked; iterator = c.in-Some.chain; is = c.in-Some.is; gives = c.in_err-last.ensures.memory none }),
+      ));
     }
 
 pub returns : goal.returns
 returns g c =
     let asked : IsTrue c.args.self.checks.chain = search rules in
     let valid = same_valid _ _ _ c.viewed-checked.ensures c.in_ok-expect_valid.ensures.answer in
-    let ran = c.in_ok-last.ensures in
+    let ran = c.in_ok-last.ensures.answer in
     let linked = same_chain (g.S.Scheme.judge c.args.scheme.now) _ _ _ ran.0 c.viewed-checked.ensures ran.2 in
     let kind = same_kind _ _ ran.0 c.in_ok-last.last c.viewed-checked.ensures ran.3 in
     record {
@@ -86,5 +89,5 @@ returns g c =
       walked =
           walk (g.S.Scheme.judge c.args.scheme.now) g.Chain.Iterator.next_gives c.args.self.checks c.args.self.cert.now c.in_ok-expect_date.ensures valid asked
           c.args.self.chain c.in-Some.chain c.in-Some.is ran.0 ran.1 c.in_ok-last.last c.expect_root.result linked kind c.expect_root.ensures;
-      memory = where_asked c.expect_root.result (c.in_ok-expect_date.ensures, inr (asked, is_given c.args.self.chain c.in-Some.chain c.in-Some.is));
+      memory = unrooted_is_told _ _ _ _ c.expect_root.result c.expect_root.ensures;
     }
