@@ -1,6 +1,6 @@
 //! Identifier and length, before any contents are copied.
 
-ghost use Rattle.std.specs.Prelude.{◌≡◌, ◌<◌, ◌≤◌, ◌↔◌, ℕ, length, Ok, Err, IsTrue, MatchOption, MatchResult};
+ghost use Rattle.std.specs.Prelude.{◌≡◌, ◌<◌, ◌≤◌, ◌↔◌, ℕ, length, Ok, Err, IsTrue, IfSome, MatchResult};
 ghost use Rattle.der_core.specs.Encoding.{form_bit};
 ghost use Rattle.der_core.specs.Head.{past_bound, number_from, long_length_at, length_at, contents_at, head_at, BeginsWithHead, BeginsWithLength, HasHead};
 ghost use Rattle.der_core.specs.declared.fault.DerFault.TheVariants.{Truncated};
@@ -46,18 +46,27 @@ pub fn head_of(octets: &[u8], at: usize, levels: u8) -> Result<Head<'_>, Malform
     }
 }
 
-/// The head that octets begin with, `None` exactly where a test of it fails. Which one is what
-/// `head_of` says. The octets end where the element has to end at the latest.
+/// The head that octets begin with, with all levels left, where no test of it fails. Which one fails
+/// is what `head_of` says. The octets end where the element has to end at the latest.
 #[inline(always)]
-pub fn sound_head(octets: &[u8], levels: u8) -> Option<Head<'_>>
-    ensures { MatchOption result
-        ((fault : DerFault) × (head_at levels octets.now ≡ Err fault))
-        (λ head. (head_at levels octets.now ≡ Ok (head.tag, head.contents.now, head.rest.now))
-        × HasHead levels octets.now head.tag head.contents.now head.rest.now) }
+pub fn sound_head(octets: &[u8]) -> Option<Head<'_>>
+    ensures { IfSome result (λ head. HasHead 64 octets.now head.tag head.contents.now head.rest.now) }
 {
-    match tested_head(octets, levels) {
+    match tested_head(octets, MAX_NESTING) {
         Ok(head) => Some(head),
         Err(_) => None,
+    }
+}
+
+/// The same of a primitive element of the universal class with a length of one octet, as most are,
+/// and of no other: fewer tests tell one.
+#[inline(always)]
+pub fn short_leaf(octets: &[u8]) -> Option<Head<'_>>
+    ensures { IfSome result (λ head. HasHead 64 octets.now head.tag head.contents.now head.rest.now × (form_bit head.tag ≡ 0)) }
+{
+    match tested_leaf(octets) {
+        Some(leaf) => Some(leaf),
+        None => None,
     }
 }
 
@@ -97,9 +106,23 @@ fn known_length(octets: &[u8]) -> (usize, &[u8])
     (long_length(digits), rest)
 }
 
-/// The length that the octets of its long form write (X.690 8.1.3.5).
-#[inline(never)]
+/// The length that the octets of its long form write (X.690 8.1.3.5), most often one or two.
+#[inline(always)]
 fn long_length(digits: &[u8]) -> usize
+    requires { length digits.now ≤ 4 }
+    ensures { result ≡ number_from 0 digits.now }
+{
+    match digits {
+        [digit] => usize::from(*digit),
+        [high, low] => usize::from(*high) * 256 + usize::from(*low),
+        _ => rare_length(digits),
+    }
+}
+
+/// The same of any few, apart from where heads are read.
+#[cold]
+#[inline(never)]
+fn rare_length(digits: &[u8]) -> usize
     requires { length digits.now ≤ 4 }
     ensures { result ≡ number_from 0 digits.now }
 {
@@ -129,6 +152,28 @@ fn tested_head(octets: &[u8], levels: u8) -> Result<Head<'_>, DerFault>
     }
     let (contents, rest) = contents_of(octets, past)?;
     Ok(Head {
+        tag,
+        contents,
+        rest,
+    })
+}
+
+/// The tests of `short_leaf`, each one of `head_at`.
+#[tactic(auto, unfolding(crate::specs::Head::head_at, crate::specs::Head::contents_at, crate::specs::Head::length_at))]
+#[inline(always)]
+fn tested_leaf(octets: &[u8]) -> Option<Head<'_>>
+    ensures { IfSome result (λ head. (head_at 64 octets.now ≡ Ok (head.tag, head.contents.now, head.rest.now)) × (form_bit head.tag ≡ 0)) }
+{
+    let [tag, length, after @ ..] = octets else {
+        return None;
+    };
+    let (tag, length) = (*tag, usize::from(*length));
+    // Tags 01 to 1E are those of the universal class, of the low form.
+    if tag.wrapping_sub(1) >= 0x1E || length >= 0x80 || after.len() < length {
+        return None;
+    }
+    let (contents, rest) = after.split_at(length);
+    Some(Head {
         tag,
         contents,
         rest,

@@ -10,7 +10,7 @@ ghost use Rattle.der_core.specs.Reading.{HasElements, IsFirst, IsExactFault, IsF
 
 use crate::elem::Elem;
 use crate::fault::{DerFault, Malformed};
-use crate::header::{head_of, sound_head};
+use crate::header::{head_of, short_leaf, sound_head};
 use crate::kids::Kids;
 use crate::tree::MAX_NESTING;
 
@@ -86,7 +86,7 @@ fn after_first(bytes: &[u8], at: usize) -> Result<&[u8], Malformed>
 fn after_sound(bytes: &[u8]) -> Option<&[u8]>
     ensures { IfSome result (λ rest. (t : DerElement) × IsDer t × (bytes.now ≡ encoding t ++ rest.now)) }
 {
-    let head = sound_head(bytes, MAX_NESTING)?;
+    let head = sound_head(bytes)?;
     if !head.is_constructed() {
         return Some(head.rest);
     }
@@ -97,7 +97,8 @@ fn after_sound(bytes: &[u8]) -> Option<&[u8]>
     }
 }
 
-/// Whether octets are elements, each of at most `levels` levels.
+/// Whether octets are elements, each of at most `levels` levels. Octets of which it says no are looked
+/// at again, for their first fault.
 fn are_elements(octets: &[u8], levels: u8) -> bool
     ensures { IsTrue result → HasElements levels octets.now }
 {
@@ -106,23 +107,28 @@ fn are_elements(octets: &[u8], levels: u8) -> bool
     }
     let mut rest = octets;
     let mut left = levels;
-    while !rest.is_empty() {
-        let Some(head) = sound_head(rest, MAX_NESTING) else {
-            return false;
-        };
-        if !head.is_constructed() {
-            rest = head.rest;
-        } else if head.rest.is_empty() && left > 1 {
-            // The last of them: what it holds is all that is left.
-            rest = head.contents;
-            left -= 1;
-        } else if are_elements(head.contents, left - 1) {
-            rest = head.rest;
+    // An element has two octets at least, its identifier and its length.
+    while rest.len() >= 2 {
+        if let Some(leaf) = short_leaf(rest) {
+            rest = leaf.rest;
         } else {
-            return false;
+            let Some(head) = sound_head(rest) else {
+                return false;
+            };
+            if !head.is_constructed() {
+                rest = head.rest;
+            } else if head.rest.is_empty() && left > 1 {
+                // The last of them: what it holds is all that is left.
+                rest = head.contents;
+                left -= 1;
+            } else if are_elements(head.contents, left - 1) {
+                rest = head.rest;
+            } else {
+                return false;
+            }
         }
     }
-    true
+    rest.is_empty()
 }
 
 /// The octets after the element that octets at a place begin with, of at most `levels` levels.
