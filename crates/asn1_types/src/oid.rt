@@ -16,7 +16,7 @@ use arcs::{arcs_of, root_of};
 use der_core::{DerError, Octets};
 pub use lent::LentIdentifier;
 use std::alloc::{AllocError, Global};
-use subidentifier::{split_subidentifier, subidentifiers};
+use subidentifier::{after_subidentifier, subidentifiers};
 
 /// An OBJECT IDENTIFIER as its contents octets, the subidentifiers of its arcs (X.690 8.19). Each
 /// subidentifier is below 2^128.
@@ -43,7 +43,7 @@ impl ObjectIdentifier {
         ensures formed { IsTrue result ↔ IsIdentifier bytes.now }
     {
         let mut rest = bytes;
-        while let Some((_, after)) = split_subidentifier(rest) {
+        while let Some(after) = after_subidentifier(rest) {
             rest = after;
         }
         rest.is_empty() && !bytes.is_empty()

@@ -2,7 +2,7 @@
 
 ghost use Rattle.std.specs.Prelude.{◌≡◌, List, ℕ, [], ◌∷◌, ◌++◌, IfOk, OnOk, MatchOption};
 ghost use Rattle.std.specs.List.{flat_map};
-ghost use Rattle.asn1_types.specs.Subidentifier.{IsSubidentifier, leading_octets, subidentifier, BeginsWithNoSubidentifier};
+ghost use Rattle.asn1_types.specs.Subidentifier.{IsSubidentifier, leading_octets, subidentifier, BeginsWithSubidentifier, BeginsWithNoSubidentifier};
 
 use std::alloc::{AllocError, Global};
 
@@ -31,6 +31,25 @@ pub fn split_subidentifier(octets: &[u8]) -> Option<(u128, &[u8])>
         rest = after;
     }
     None
+}
+
+/// The octets after the subidentifier that begins the octets.
+#[inline(always)]
+pub fn after_subidentifier(octets: &[u8]) -> Option<&[u8]>
+    ensures { MatchOption result (BeginsWithNoSubidentifier octets.now) (λ after. BeginsWithSubidentifier octets.now after.now) }
+{
+    match octets {
+        // Most are of one to three octets, and their number isn't asked for.
+        [last, after @ ..] if *last < 0x80 => Some(after),
+        [first, last, after @ ..] if *first > 0x80 && *last < 0x80 => Some(after),
+        [first, next, last, after @ ..] if *first > 0x80 && *next >= 0x80 && *last < 0x80 => {
+            Some(after)
+        }
+        _ => {
+            let (_, after) = split_subidentifier(octets)?;
+            Some(after)
+        }
+    }
 }
 
 /// The subidentifiers of these numbers, one after another.

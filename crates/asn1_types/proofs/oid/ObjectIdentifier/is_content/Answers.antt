@@ -6,11 +6,11 @@ use Rattle.asn1_types.proofs.Identifiers.{all_read, some_left}
 use Rattle.asn1_types.proofs.oid.ObjectIdentifier.is_content.Goals as goal
 
 pub loop-after-smaller : goal.loop-after-smaller
-loop-after-smaller c = after_shorter c.loop-after.rest.now c.in-Some.after.now _ c.in-Some.ensures.1
+loop-after-smaller c = after_shorter c.loop-after.rest.now c.in-Some.after.now _ c.in-Some.ensures.spelled
 
 pub loop-after-preserved : goal.loop-after-preserved
 loop-after-preserved c =
-    let step = are_where_rest c.loop-after.rest.now c.in-Some.after.now _ c.in-Some.ensures.0 c.in-Some.ensures.1 in
+    let step = are_where_rest c.loop-after.rest.now c.in-Some.after.now _ c.in-Some.ensures.bounded c.in-Some.ensures.spelled in
     (λ are. step.0 (c.loop-after.invariant.0 are), λ are. c.loop-after.invariant.1 (step.1 are))
 
 pub returns-then-is_empty : goal.returns-then-is_empty
