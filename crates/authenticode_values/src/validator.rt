@@ -51,8 +51,8 @@ impl<'a> AuthenticodeValidator<'a> {
         self.at(DateCheck::Exact(exact))
     }
 
-    /// The interval at some moment of which certificates have to be valid. It takes the place of a
-    /// date.
+    /// The interval: certificates have to be valid already at its upper end and still at its lower
+    /// one. It takes the place of a date.
     pub fn interval_date(self, lower: UtcDate, upper: UtcDate) -> Self
         ensures policy { result.policy ≡ at_dates (dates.Interval lower upper) self.entry.policy }
         ensures signature { result.signature.now ≡ self.entry.signature.now }

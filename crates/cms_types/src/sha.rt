@@ -8,8 +8,8 @@ use key_types::AlgorithmIdentifier;
 use sig_core::ShaVariant;
 use std::alloc::{AllocError, Global};
 
-/// The identifier of a digest algorithm, with NULL parameters, as PKCS #7 has it (RFC 2315 6.3,
-/// RFC 3370 2.1).
+/// The identifier of a digest algorithm (RFC 2315 6.3), with NULL parameters, as signed programs have
+/// it. A reader accepts NULL and none (RFC 3370 2.1, RFC 5754 2, by which a writer is to write none).
 pub fn new_sha(alloc: Global, hash: ShaVariant) -> Result<AlgorithmIdentifier, AllocError>
     ensures { IfOk result (λ algorithm. algorithm_identifier algorithm ≡ digest_algorithm hash) }
 {

@@ -54,7 +54,7 @@ pub record IsVouchedFor (words : List (List ℕ)) (files : Option Files) (held h
   pub place_told : told.signer ≡ Some place
   pub vouches : Vouches (verdict_of rows) signed_data hash place
 
--- when certificates have to be valid: already, and still, at DATE or at some moment between it and the other, but for what the options leave out
+-- when certificates have to be valid, but for what the options leave out: already and still at DATE, or already at the date of --until and still at DATE
 abbrev pub asked_window : (date : GeneralizedTime) → CheckOptions → Window
 asked_window date options = record { date = moments date options.until; not_before = not options.no_before; not_after = not options.no_after }
 

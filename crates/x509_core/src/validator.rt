@@ -82,8 +82,8 @@ impl<'a, 'b, Chain: Iterator<Item = &'b Cert> + Drop> CertValidator<'a, 'b, Chai
         self.at(DateCheck::Exact(*exact))
     }
 
-    /// The interval at some moment of which certificates have to be valid. It takes the place of a
-    /// date.
+    /// The interval: certificates have to be valid already at its upper end and still at its lower
+    /// one. It takes the place of a date.
     pub fn interval_date(mut self, lower: &'a UtcDate, upper: &'a UtcDate) -> Self
         ensures checks { result.checks ≡ checks_at (dates.Interval lower.now upper.now) self.entry.checks }
         ensures rest { (result.chain ≡ self.entry.chain) × (result.cert.now ≡ self.entry.cert.now) }
