@@ -21,22 +21,31 @@ pub enum Element {
     RsaPublicKey,
 }
 
+impl Element {
+    /// What the structure is called.
+    fn name(self) -> &'static str
+        ensures { result.now ≡ element_text self }
+    {
+        match self {
+            Element::Certificate => "x509 certificate",
+            Element::TbsCertificate => "tbs certificate",
+            Element::Request => "certification request",
+            Element::RequestInfo => "certification request info",
+            Element::Pkcs7 => "pkcs7 certificate",
+            Element::TimestampRequest => "TimestampRequest",
+            Element::PrivateKeyInfo => "private key info (pkcs8)",
+            Element::RsaPrivateKey => "rsa private key",
+            Element::EcPrivateKey => "ec private key",
+            Element::SubjectPublicKeyInfo => "subject public key info",
+            Element::RsaPublicKey => "rsa public key",
+        }
+    }
+}
+
 impl fmt::Display for Element {
     ghost output = { λ element. Some (element_text element) };
 
     fn fmt<W: fmt::Write>(&self, f: &mut fmt::Formatter<W>) -> fmt::Result {
-        match self {
-            Element::Certificate => write!(f, "x509 certificate"),
-            Element::TbsCertificate => write!(f, "tbs certificate"),
-            Element::Request => write!(f, "certification request"),
-            Element::RequestInfo => write!(f, "certification request info"),
-            Element::Pkcs7 => write!(f, "pkcs7 certificate"),
-            Element::TimestampRequest => write!(f, "TimestampRequest"),
-            Element::PrivateKeyInfo => write!(f, "private key info (pkcs8)"),
-            Element::RsaPrivateKey => write!(f, "rsa private key"),
-            Element::EcPrivateKey => write!(f, "ec private key"),
-            Element::SubjectPublicKeyInfo => write!(f, "subject public key info"),
-            Element::RsaPublicKey => write!(f, "rsa public key"),
-        }
+        f.write_str(self.name())
     }
 }

@@ -1,6 +1,7 @@
 //! Why a key isn't read, made or written.
 
-ghost use Rattle.std.specs.Prelude.{◌≡◌, Some};
+ghost use Rattle.std.specs.Prelude.{◌≡◌, ◌++◌, Some};
+ghost use Rattle.std.specs.Fmt.{WritesOnOk};
 ghost use Rattle.key_core.specs.ErrorText.{context_text, kind_text, key_error_text};
 ghost use Rattle.key_core.specs.KeyRefusals.{unread, unwritten};
 ghost use Rattle.key_core.specs.declared.error.KeyError.TheVariants.{Memory};
@@ -93,39 +94,59 @@ fn kind_name(kind: KeyKind) -> &'static str
     }
 }
 
+impl KeyContext {
+    /// Why the key can't be had, in words.
+    fn text(self) -> &'static str
+        ensures { result.now ≡ context_text self }
+    {
+        match self {
+            KeyContext::NotRsa => "the key is of another kind than RSA",
+            KeyContext::NotEc => "the key is of another kind than one of an elliptic curve",
+            KeyContext::NotEd => "the key is of another kind than one of a curve 25519 or 448",
+            KeyContext::CurveParameters => "the parameters name no curve",
+            KeyContext::CurveMissing => "no curve stands in the key",
+            KeyContext::CoordinateSize => {
+                "a coordinate hasn't as many octets as the field of the curve"
+            }
+            KeyContext::SecretSize => {
+                "the secret hasn't as many octets as its curve or algorithm asks for"
+            }
+            KeyContext::UnsupportedCurve => "the curve isn't supported",
+            KeyContext::UnsupportedEd => "the algorithm on a curve 25519 or 448 isn't supported",
+            KeyContext::PublicKeyMissing => "the private key has no public key",
+            KeyContext::SchemeRefused => "the signature scheme derives no public key",
+        }
+    }
+}
+
 impl fmt::Display for KeyContext {
     ghost output = { λ context. Some (context_text context) };
 
     fn fmt<W: fmt::Write>(&self, f: &mut fmt::Formatter<W>) -> fmt::Result {
-        match self {
-            KeyContext::NotRsa => write!(f, "the key is of another kind than RSA"),
-            KeyContext::NotEc => write!(
-                f,
-                "the key is of another kind than one of an elliptic curve"
-            ),
-            KeyContext::NotEd => write!(
-                f,
-                "the key is of another kind than one of a curve 25519 or 448"
-            ),
-            KeyContext::CurveParameters => write!(f, "the parameters name no curve"),
-            KeyContext::CurveMissing => write!(f, "no curve stands in the key"),
-            KeyContext::CoordinateSize => write!(
-                f,
-                "a coordinate hasn't as many octets as the field of the curve"
-            ),
-            KeyContext::SecretSize => write!(
-                f,
-                "the secret hasn't as many octets as its curve or algorithm asks for"
-            ),
-            KeyContext::UnsupportedCurve => write!(f, "the curve isn't supported"),
-            KeyContext::UnsupportedEd => write!(
-                f,
-                "the algorithm on a curve 25519 or 448 isn't supported"
-            ),
-            KeyContext::PublicKeyMissing => write!(f, "the private key has no public key"),
-            KeyContext::SchemeRefused => write!(f, "the signature scheme derives no public key"),
-        }
+        f.write_str(self.text())
     }
+}
+
+/// The text of an error that has two parts.
+pub(crate) fn write_parts<W: fmt::Write>(
+    head: &str,
+    rest: &str,
+    f: &mut fmt::Formatter<W>,
+) -> fmt::Result
+    ensures { WritesOnOk W.write_str_gives f.old result (head.now ++ rest.now) f.new }
+{
+    f.write_str(head)?;
+    f.write_str(rest)
+}
+
+/// The text of an element that isn't read or written, and why.
+pub(crate) fn write_element<W: fmt::Write>(
+    head: &str,
+    element: Element,
+    source: &DerError,
+    f: &mut fmt::Formatter<W>,
+) -> fmt::Result {
+    write!(f, "{head} {element}: {source}")
 }
 
 impl fmt::Display for KeyError {
@@ -133,21 +154,19 @@ impl fmt::Display for KeyError {
 
     fn fmt<W: fmt::Write>(&self, f: &mut fmt::Formatter<W>) -> fmt::Result {
         match self {
-            KeyError::Asn1Serialization { element, source } => write!(
-                f,
-                "(ASN1) couldn't serialize {element}: {source}"
-            ),
-            KeyError::Asn1Deserialization { element, source } => write!(
-                f,
-                "(ASN1) couldn't deserialize {element}: {source}"
-            ),
-            KeyError::Rsa { context } => write!(f, "RSA error: {context}"),
-            KeyError::EC { context } => write!(f, "EC error: {context}"),
-            KeyError::ED { context } => write!(f, "ED error: {context}"),
-            KeyError::UnsupportedAlgorithm { algorithm } => {
-                write!(f, "unsupported algorithm: {}", kind_name(*algorithm))
+            KeyError::Asn1Serialization { element, source } => {
+                write_element("(ASN1) couldn't serialize", *element, source, f)
             }
-            KeyError::Memory => write!(f, "out of memory"),
+            KeyError::Asn1Deserialization { element, source } => {
+                write_element("(ASN1) couldn't deserialize", *element, source, f)
+            }
+            KeyError::Rsa { context } => write_parts("RSA error: ", context.text(), f),
+            KeyError::EC { context } => write_parts("EC error: ", context.text(), f),
+            KeyError::ED { context } => write_parts("ED error: ", context.text(), f),
+            KeyError::UnsupportedAlgorithm { algorithm } => {
+                write_parts("unsupported algorithm: ", kind_name(*algorithm), f)
+            }
+            KeyError::Memory => f.write_str("out of memory"),
         }
     }
 }

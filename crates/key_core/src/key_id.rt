@@ -13,7 +13,7 @@ ghost use Rattle.key_core.specs.declared.key_id.KeyIdGenError.TheVariants as err
 ghost use Rattle.key_core.specs.declared.key_id.KeyIdGenMethod.TheVariants as methods;
 
 use crate::element::Element;
-use crate::error::KeyError;
+use crate::error::{KeyError, write_element};
 use crate::public_key::PublicKey;
 use der_core::{DerError, Structure};
 use key_types::{RsaPublicKey, SubjectKey};
@@ -153,11 +153,10 @@ impl fmt::Display for KeyIdGenError {
     fn fmt<W: fmt::Write>(&self, f: &mut fmt::Formatter<W>) -> fmt::Result {
         match self {
             KeyIdGenError::InvalidKey { source } => write!(f, "invalid key: {source}"),
-            KeyIdGenError::Asn1Serialization { element, source } => write!(
-                f,
-                "(asn1) couldn't serialize {element}: {source}"
-            ),
-            KeyIdGenError::Memory => write!(f, "out of memory"),
+            KeyIdGenError::Asn1Serialization { element, source } => {
+                write_element("(asn1) couldn't serialize", *element, source, f)
+            }
+            KeyIdGenError::Memory => f.write_str("out of memory"),
         }
     }
 }

@@ -6,7 +6,7 @@ ghost use Rattle.key_core.specs.SignatureRules.{key_refusal};
 ghost use Rattle.key_core.specs.declared.signature_error.SignatureError.TheVariants.{Memory};
 
 use crate::ec_curve::EcCurve;
-use crate::error::KeyError;
+use crate::error::{KeyError, write_parts};
 use asn1_types::ObjectIdentifier;
 use sig_core::HashAlgorithm;
 use std::alloc::{AllocError, AllocFailed};
@@ -58,17 +58,26 @@ pub enum Unsupported {
     Pairing(EcCurve, HashAlgorithm),
 }
 
+impl SigContext {
+    /// What keeps a signature from being made or judged, in words.
+    fn text(self) -> &'static str
+        ensures { result.now ≡ sig_context_text self }
+    {
+        match self {
+            SigContext::SchemeRefused => "the signature scheme refused",
+            SigContext::Malformed => "the signature is malformed",
+            SigContext::HashNotSupported => "the digest algorithm isn't supported",
+            SigContext::KeySize => "the key hasn't 32 octets",
+            SigContext::NotForSigning => "the key isn't one for signatures",
+        }
+    }
+}
+
 impl fmt::Display for SigContext {
     ghost output = { λ context. Some (sig_context_text context) };
 
     fn fmt<W: fmt::Write>(&self, f: &mut fmt::Formatter<W>) -> fmt::Result {
-        match self {
-            SigContext::SchemeRefused => write!(f, "the signature scheme refused"),
-            SigContext::Malformed => write!(f, "the signature is malformed"),
-            SigContext::HashNotSupported => write!(f, "the digest algorithm isn't supported"),
-            SigContext::KeySize => write!(f, "the key hasn't 32 octets"),
-            SigContext::NotForSigning => write!(f, "the key isn't one for signatures"),
-        }
+        f.write_str(self.text())
     }
 }
 
@@ -78,7 +87,7 @@ impl fmt::Display for Unsupported {
     fn fmt<W: fmt::Write>(&self, f: &mut fmt::Formatter<W>) -> fmt::Result {
         match self {
             Unsupported::Oid(oid) => write!(f, "{oid}"),
-            Unsupported::Hash(hash) => write!(f, "{}", hash.name()),
+            Unsupported::Hash(hash) => f.write_str(hash.name()),
             Unsupported::Pairing(curve, hash) => write!(f, "{curve} with {}", hash.name()),
         }
     }
@@ -90,14 +99,14 @@ impl fmt::Display for SignatureError {
     fn fmt<W: fmt::Write>(&self, f: &mut fmt::Formatter<W>) -> fmt::Result {
         match self {
             SignatureError::Key { source } => write!(f, "Key error: {source}"),
-            SignatureError::Rsa { context } => write!(f, "RSA error: {context}"),
-            SignatureError::Ec { context } => write!(f, "EC error: {context}"),
-            SignatureError::Ed { context } => write!(f, "ED error: {context}"),
-            SignatureError::BadSignature => write!(f, "invalid signature"),
+            SignatureError::Rsa { context } => write_parts("RSA error: ", context.text(), f),
+            SignatureError::Ec { context } => write_parts("EC error: ", context.text(), f),
+            SignatureError::Ed { context } => write_parts("ED error: ", context.text(), f),
+            SignatureError::BadSignature => f.write_str("invalid signature"),
             SignatureError::UnsupportedAlgorithm { algorithm } => {
                 write!(f, "unsupported algorithm: {algorithm}")
             }
-            SignatureError::Memory => write!(f, "out of memory"),
+            SignatureError::Memory => f.write_str("out of memory"),
         }
     }
 }
