@@ -1,16 +1,19 @@
 //! Private keys with their algorithms.
 
-ghost use Rattle.std.specs.Prelude.{◌≡◌, ◌≢◌, ◌∷◌, [], ◌↔◌, false, Option, IfOk, IsTrue, MatchOption, MatchResult};
+ghost use Rattle.std.specs.Prelude.{◌≡◌, ◌≢◌, ◌∷◌, ◌++◌, [], ◌↔◌, false, Option, IfOk, IsTrue, MatchOption, MatchResult, option_to_list};
 ghost use Rattle.std.specs.Option.{option_copied, option_map};
-ghost use Rattle.der_core.specs.Elements.{octet_string};
-ghost use Rattle.der_core.specs.Lent.{kept_option};
+ghost use Rattle.der_core.specs.Elements.{octet_string, optional_leaf};
+ghost use Rattle.der_core.specs.Lent.{at_option, kept_option};
+ghost use Rattle.der_core.specs.Placed.{AreDer};
 ghost use Rattle.key_core.specs.PrivateKeyFields.{HaveTag};
 ghost use Rattle.der_core.specs.Encoding.{encoding, IsDer, IsWellFormed};
 ghost use Rattle.der_core.specs.Refusals.{RefusesShape, RefusesInner};
 ghost use Rattle.asn1_types.specs.Values.{bit_string_contents};
 ghost use Rattle.asn1_types.specs.declared.bit_string.BitString.{BitString};
 ghost use Rattle.key_core.specs.Agreement.{Agree};
-ghost use Rattle.key_core.specs.PrivateKeyValue.{private_key};
+ghost use Rattle.key_core.specs.KeyAlgorithm.{Names};
+ghost use Rattle.key_core.specs.PrivateKeyValue.{private_key, private_kind, IsPrivateKeyOf};
+ghost use Rattle.key_core.specs.declared.private_key_value.PrivateKeyValue.{PrivateKeyValue};
 ghost use Rattle.key_core.specs.Facts.Agreements.{Agree-prop};
 
 use crate::key_algorithm::kind_at;
@@ -99,6 +102,32 @@ fn read_bits(alloc: Global, content: Option<&[u8]>) -> Result<Option<BitString>,
     }
 }
 
+/// The attributes that lie there, where there are any.
+fn read_attributes(alloc: Global, attributes: Option<Elem<'_>>) -> Result<Option<Raw>, AllocError>
+    ensures { IfOk result (λ kept. kept_option kept ≡ at_option attributes.entry) }
+{
+    match attributes {
+        Some(attributes) => Ok(Some(Raw::from_elem(alloc, attributes)?)),
+        None => Ok(None),
+    }
+}
+
+/// The key in octets, of the kind that the algorithm names.
+fn read_key(
+    alloc: Global,
+    algorithm: &AlgorithmIdentifier,
+    octets: &[u8],
+) -> Result<PrivateKeyValue, DerError>
+    ensures { MatchResult result
+        (λ key. Names algorithm.now (private_kind key) × IsPrivateKeyOf (private_kind key) octets.now key)
+        (RefusesShape (λ (key : PrivateKeyValue). Names algorithm.now (private_kind key) × IsPrivateKeyOf (private_kind key) octets.now key)) }
+{
+    match KeyKind::named(algorithm.oid().as_bytes()) {
+        Some(kind) => PrivateKeyValue::read(alloc, kind, octets),
+        None => Err(DerError::Shape),
+    }
+}
+
 /// The octets of the key, as an element.
 fn write_key(alloc: Global, key: &PrivateKeyValue) -> Result<Tree, DerError>
     ensures { MatchResult result
@@ -106,6 +135,54 @@ fn write_key(alloc: Global, key: &PrivateKeyValue) -> Result<Tree, DerError>
         (RefusesInner (private_key key.now ∷ [])) }
 {
     Ok(Tree::leaf(OCTET_STRING, key.write(alloc)?))
+}
+
+/// Appends the octets of the key, as an element.
+fn push_key(alloc: Global, kids: &mut NewKids, key: &PrivateKeyValue) -> Result<(), DerError>
+    ensures { MatchResult result
+        (λ _. (kids.new.kids ≡ kids.old.kids ++ octet_string (encoding (private_key key.now)) ∷ []) × IsDer (private_key key.now))
+        (RefusesInner (private_key key.now ∷ [])) }
+{
+    Ok(kids.push(write_key(alloc, key)?)?)
+}
+
+/// Appends the element of the value.
+fn push_value<T: Structure>(alloc: Global, kids: &mut NewKids, value: &T) -> Result<(), DerError>
+    ensures { MatchResult result
+        (λ _. (kids.new.kids ≡ kids.old.kids ++ T.written value.now ∷ []) × AreDer (T.inner value.now))
+        (RefusesInner (T.inner value.now)) }
+{
+    Ok(kids.push(value.write(alloc)?)?)
+}
+
+/// Appends the attributes, where there are any.
+fn push_attributes(
+    alloc: Global,
+    kids: &mut NewKids,
+    attributes: &Option<Raw>,
+) -> Result<(), DerError>
+    ensures { MatchResult result
+        (λ _. kids.new.kids ≡ kids.old.kids ++ option_to_list (kept_option attributes.now))
+        (RefusesInner []) }
+{
+    match attributes {
+        Some(attributes) => push_value(alloc, kids, attributes),
+        None => Ok(()),
+    }
+}
+
+/// Appends the public key, where there is one.
+fn push_public_key(
+    alloc: Global,
+    kids: &mut NewKids,
+    public_key: &Option<BitString>,
+) -> Result<(), AllocError>
+    ensures { IfOk result (λ _. kids.new.kids ≡ kids.old.kids ++ optional_leaf 0x81 (option_map bit_string_contents public_key.now)) }
+{
+    match public_key {
+        Some(public_key) => kids.push(Tree::leaf(PUBLIC_KEY, public_key.to_content(alloc)?)),
+        None => Ok(()),
+    }
 }
 
 impl Structure for PrivateKeyInfo {
@@ -134,16 +211,10 @@ impl Structure for PrivateKeyInfo {
         let Some(fields) = PrivateKeyFields::of(elem) else {
             return Err(DerError::Shape);
         };
-        let private_key_algorithm = AlgorithmIdentifier::read_at(alloc, fields.algorithm)?;
-        let Some(kind) = KeyKind::named(private_key_algorithm.oid().as_bytes()) else {
-            return Err(DerError::Shape);
-        };
-        let private_key = PrivateKeyValue::read(alloc, kind, fields.private_key)?;
-        let attributes = match fields.attributes {
-            Some(attributes) => Some(Raw::from_elem(alloc, attributes)?),
-            None => None,
-        };
+        let attributes = read_attributes(alloc, fields.attributes)?;
         let public_key = read_bits(alloc, fields.public_key)?;
+        let private_key_algorithm = AlgorithmIdentifier::read_at(alloc, fields.algorithm)?;
+        let private_key = read_key(alloc, &private_key_algorithm, fields.private_key)?;
         Ok(PrivateKeyInfo {
             version: fields.version,
             private_key_algorithm,
@@ -156,14 +227,10 @@ impl Structure for PrivateKeyInfo {
     fn write(&self, alloc: Global) -> Result<Tree, DerError> {
         let mut kids = NewKids::new(alloc);
         kids.push(self.version.write(alloc)?)?;
-        kids.push(self.private_key_algorithm.write(alloc)?)?;
-        kids.push(write_key(alloc, &self.private_key)?)?;
-        if let Some(attributes) = &self.attributes {
-            kids.push(attributes.write(alloc)?)?;
-        }
-        if let Some(public_key) = &self.public_key {
-            kids.push(Tree::leaf(PUBLIC_KEY, public_key.to_content(alloc)?))?;
-        }
+        push_value(alloc, &mut kids, &self.private_key_algorithm)?;
+        push_key(alloc, &mut kids, &self.private_key)?;
+        push_attributes(alloc, &mut kids, &self.attributes)?;
+        push_public_key(alloc, &mut kids, &self.public_key)?;
         Ok(kids.into_branch(SEQUENCE))
     }
 
