@@ -224,6 +224,15 @@ made_of signs algorithm key msg alg secret fits (Err e) (inl unsigned) =
     inl (subst (IsFirstBroken (sign_rules signs algorithm key msg)) (sym unsigned.1)
     (unsigned_is_broken signs algorithm key msg (record { alg = alg; secret = secret; fits = fits; signed = unsigned.0 })))
 
+-- the same, where the algorithm is known by an equation
+pub made_by : {X : Type 0} (signs : Signs) (self algorithm : SignatureAlgorithm) → self ≡ algorithm → (key : PrivateKey) (msg : List ℕ) (alg : SigAlg) (secret : List ℕ) → FitsSecret algorithm key alg secret
+    → (r : Result X SignatureError)
+    → MatchResult r (λ _. signs alg secret msg ≡ true) (λ e. ((signs alg secret msg ≡ false) × (e ≡ scheme_refused algorithm)) ⊎ (e ≡ errors.Memory))
+    → MatchResult r (λ _. IsAsked signs self key msg true) (RefusesBy (sign_rules signs self key msg))
+made_by signs self algorithm is key msg alg secret fits r signed =
+    subst (λ (a : SignatureAlgorithm). MatchResult r (λ _. IsAsked signs a key msg true) (RefusesBy (sign_rules signs a key msg))) (sym is)
+    (made_of signs algorithm key msg alg secret fits r signed)
+
 -- ---- pairs of keys
 
 rsa_scheme : (hash : HashAlgorithm) → kind_of (rsa_alg hash) ≡ schemes.Rsa

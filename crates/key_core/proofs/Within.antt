@@ -40,3 +40,8 @@ pub of_ed : (kind : KeyKind) (octets : List ℕ) → kind ≡ kinds.Ed → (key 
 of_ed kind octets is (values.Rsa k) of = absurd cc (of.of_kind, is)
 of_ed kind octets is (values.Ec k) of = absurd cc (of.of_kind, is)
 of_ed kind octets is (values.Ed k) of = (k, record { element = octet_string k; der = of.der; encoded = of.encoded; spelled = refl })
+
+pub none_of_mldsa : (kind : KeyKind) (octets : List ℕ) → kind ≡ kinds.Mldsa → (key : PrivateKeyValue) → IsPrivateKeyOf kind octets key → ⊥
+none_of_mldsa kind octets is (values.Rsa k) of = absurd cc (of.of_kind, is)
+none_of_mldsa kind octets is (values.Ec k) of = absurd cc (of.of_kind, is)
+none_of_mldsa kind octets is (values.Ed k) of = absurd cc (of.of_kind, is)

@@ -8,3 +8,9 @@ returns-in-Ok-clause-faulty g c = λ at fault is. absurd (key_is_not_refused _ _
 
 pub returns-clause-faulty : goal.returns-clause-faulty
 returns-clause-faulty g c = λ at fault is. ap Err (error_is _ _ (c.in-Err.ensures.faulty at fault is))
+
+pub returns-in-Ok-clause-shapeless : goal.returns-in-Ok-clause-shapeless
+returns-in-Ok-clause-shapeless g c = λ element der is none. absurd (key_is_not_refused _ _ (c.in-Ok.ensures.shapeless element der is none))
+
+pub returns-clause-shapeless : goal.returns-clause-shapeless
+returns-clause-shapeless g c = λ element der is none. ap Err (error_is _ _ (c.in-Err.ensures.shapeless element der is none))
