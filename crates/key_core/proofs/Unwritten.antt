@@ -49,3 +49,15 @@ refuses_one t der.Memory refused = tt
 
 pub alone : (t : DerElement) (e : DerError) → e ≢ der.Memory → RefusesInner (t ∷ []) e → CantBeWritten t e
 alone t e memory refused = record { cause = refuses_one t e refused; not_memory = memory }
+
+none_among : (before : List DerElement) (element : DerElement) (after : List DerElement) → [] ≡ before ++ element ∷ after → ⊥
+none_among [] element after e = absurd cc
+none_among (x ∷ before) element after e = absurd cc
+
+-- where no elements are inner ones, memory alone was lacking
+pub nothing_refuses : (inner : List DerElement) (e : DerError) → RefusesInner [] e → RefusesInner inner e
+nothing_refuses inner (der.Malformed m) refused = absurd refused
+nothing_refuses inner der.Shape refused = absurd refused
+nothing_refuses inner der.TooDeep refused = absurd (none_among refused.0 refused.1 refused.2 refused.3)
+nothing_refuses inner der.TooLong refused = absurd (none_among refused.0 refused.1 refused.2 refused.3)
+nothing_refuses inner der.Memory refused = tt

@@ -1,4 +1,4 @@
-use Rattle.std.proofs.Common.{◌≡◌, Result, Ok, Err, ap, ◌∙◌}
+use Rattle.std.proofs.Common.{◌≡◌, Result, Ok, Err, refl, ap, ◌∙◌}
 use Rattle.der_core.specs.declared.error.DerError.{DerError}
 use Rattle.private_key_types.specs.declared.rsa_private_key.RsaPrivateKey.{RsaPrivateKey}
 use Rattle.key_core.specs.KeyRefusals.{unread}
@@ -31,3 +31,6 @@ returns-in-Err-clause-shapeless c = λ element der is none. ap Err (c.unread.ens
 
 pub returns-in-Err-clause-answer : goal.returns-in-Err-clause-answer
 returns-in-Err-clause-answer c = (_, c.unread.ensures, c.in-Err.ensures.answer)
+
+pub returns-in_ok-rsa_container-in-Ok-clause-answer : goal.returns-in_ok-rsa_container-in-Ok-clause-answer
+returns-in_ok-rsa_container-in-Ok-clause-answer c = record { rsa = c.in-Ok.key; within = c.in-Ok.ensures.answer; container = c.in_ok-rsa_container-in-Ok.ensures; beside = refl }

@@ -31,3 +31,6 @@ returns-in-Err-clause-shapeless c = λ element der is none. ap Err (c.unread.ens
 
 pub returns-in-Err-clause-answer : goal.returns-in-Err-clause-answer
 returns-in-Err-clause-answer c = (_, c.unread.ensures, c.in-Err.ensures.answer)
+
+pub returns-in_ok-rsa_info-in-Ok-clause-answer : goal.returns-in_ok-rsa_info-in-Ok-clause-answer
+returns-in_ok-rsa_info-in-Ok-clause-answer c = record { key = c.in-Ok.key; rsa = c.in_ok-rsa_info-in-Ok.ensures; within = c.in-Ok.ensures.answer }
