@@ -1,77 +1,65 @@
 //! What is printed of a value beside whether it comes back as it was read: of an attribute.
 
 use crate::details::Details;
-use der_core::{DerError, ListOf, Octets, Raw, Structure};
-use row_answers::word_of;
-use std::alloc::{AllocError, Global};
+use der_core::{ListOf, Octets, Raw, Structure};
+use row_answers::Line;
+use std::alloc::Global;
 use x509_types::{Attribute, AttributeValues, Extensions, OidList};
 
 /// The identifier, the kind of the values, how many there are, each, and the octets that are written.
 impl Details for Attribute {
-    fn details(&self, alloc: Global) -> Result<String, DerError> {
-        let ty = &self.ty;
-        let values = values(alloc, &self.value)?;
-        let written = word_of(alloc, &self.to_der(alloc)?)?;
-        Ok(format!(in alloc; "{ty} {values} {written}")?)
+    fn print(&self, alloc: Global, line: &mut Line) {
+        line.shown(&self.ty);
+        print_values(alloc, &self.value, line);
+        line.made(self.to_der(alloc));
     }
 }
 
-fn values(alloc: Global, values: &AttributeValues) -> Result<String, DerError> {
+fn print_values(alloc: Global, values: &AttributeValues, line: &mut Line) {
     match values {
-        AttributeValues::ContentType(types) => Ok(content_types(alloc, types)?),
-        AttributeValues::MessageDigest(digests) => Ok(message_digests(alloc, digests)?),
-        AttributeValues::Extensions(requests) => extension_requests(alloc, requests),
-        AttributeValues::Raw(kept) => Ok(kept_values(alloc, kept)?),
+        AttributeValues::ContentType(types) => print_types(types, line),
+        AttributeValues::MessageDigest(digests) => print_digests(digests, line),
+        AttributeValues::Extensions(requests) => print_requests(alloc, requests, line),
+        AttributeValues::Raw(kept) => print_kept(kept, line),
     }
 }
 
-fn content_types(alloc: Global, types: &OidList) -> Result<String, AllocError> {
-    let count = types.len();
-    let mut line = format!(in alloc; "ContentType {count}")?;
+fn print_types(types: &OidList, line: &mut Line) {
+    line.word("ContentType");
+    line.shown(&types.len());
     for ty in types.as_slice() {
-        line.push(' ')?;
-        line.push_str(ty.to_text(alloc)?.as_str())?;
+        line.shown(ty);
     }
-    Ok(line)
 }
 
-fn message_digests(alloc: Global, digests: &ListOf<Octets>) -> Result<String, AllocError> {
-    let count = digests.len();
-    let mut line = format!(in alloc; "MessageDigest {count}")?;
+fn print_digests(digests: &ListOf<Octets>, line: &mut Line) {
+    line.word("MessageDigest");
+    line.shown(&digests.len());
     for digest in digests.as_slice() {
-        line.push(' ')?;
-        line.push_str(&word_of(alloc, digest.as_slice())?)?;
+        line.octets(digest.as_slice());
     }
-    Ok(line)
 }
 
-fn extension_requests(alloc: Global, requests: &ListOf<Extensions>) -> Result<String, DerError> {
-    let count = requests.len();
-    let mut line = format!(in alloc; "Extensions {count}")?;
+fn print_requests(alloc: Global, requests: &ListOf<Extensions>, line: &mut Line) {
+    line.word("Extensions");
+    line.shown(&requests.len());
     for request in requests.as_slice() {
-        line.push(' ')?;
-        line.push_str(&extensions(alloc, request)?)?;
+        print_extensions(alloc, request, line);
     }
-    Ok(line)
 }
 
 /// How many extensions there are, and each.
-fn extensions(alloc: Global, request: &Extensions) -> Result<String, DerError> {
-    let count = request.len();
-    let mut line = format!(in alloc; "{count}")?;
+fn print_extensions(alloc: Global, request: &Extensions, line: &mut Line) {
+    line.shown(&request.len());
     for extension in request.as_slice() {
-        line.push(' ')?;
-        line.push_str(&extension.details(alloc)?)?;
+        extension.print(alloc, line);
     }
-    Ok(line)
 }
 
-fn kept_values(alloc: Global, kept: &ListOf<Raw>) -> Result<String, AllocError> {
-    let count = kept.len();
-    let mut line = format!(in alloc; "Raw {count}")?;
+fn print_kept(kept: &ListOf<Raw>, line: &mut Line) {
+    line.word("Raw");
+    line.shown(&kept.len());
     for value in kept.as_slice() {
-        line.push(' ')?;
-        line.push_str(&word_of(alloc, value.as_bytes())?)?;
+        line.octets(value.as_bytes());
     }
-    Ok(line)
 }

@@ -1,40 +1,49 @@
 //! Attributes that are put together of parts.
 
 use crate::details::Details;
-use anyhow::{Result, bail};
 use asn1_types::ObjectIdentifier;
-use row_answers::{octets_of, value_of};
+use der_core::DerError;
+use row_answers::{Line, value_of};
 use std::alloc::Global;
-use x509_types::{Attribute, Extensions};
+use x509_types::{Attribute, AttributeValues, Extensions};
 
-/// The details of the attribute, or that there is none.
-pub fn answer(alloc: Global, call: &str, args: &[&str]) -> Result<String> {
-    match made(alloc, call, args)? {
-        Some(attribute) => {
-            let details = attribute.details(alloc);
-            drop(attribute);
-            Ok(details?)
+/// Whether there is such a call; the details of the attribute are printed, or that there is none.
+pub fn print(alloc: Global, call: &str, octets: &[Vec<u8>], line: &mut Line) -> bool {
+    match (call, octets) {
+        ("extension_request", [extensions]) => {
+            print_made(alloc, extension_request(alloc, extensions), line);
         }
-        None => Ok(String::from_str(alloc, "None")?),
+        ("new", [ty, element]) => print_made(alloc, with_values_of(alloc, ty, element), line),
+        _ => return false,
+    }
+    true
+}
+
+/// An attribute, whether there is none, or why it isn't known.
+type Made = Result<Option<Attribute>, DerError>;
+
+fn print_made(alloc: Global, made: Made, line: &mut Line) {
+    match made {
+        Ok(Some(attribute)) => {
+            attribute.print(alloc, line);
+            drop(attribute);
+        }
+        Ok(None) => line.word("None"),
+        Err(error) => line.shown(&error),
     }
 }
 
-fn made(alloc: Global, call: &str, args: &[&str]) -> Result<Option<Attribute>> {
-    match (call, args) {
-        ("extension_request", [extensions]) => extension_request(alloc, extensions),
-        ("new", [ty, element]) => with_values_of(alloc, ty, element),
-        _ => bail!("no call makes an attribute {call}"),
-    }
-}
-
-fn extension_request(alloc: Global, extensions: &str) -> Result<Option<Attribute>> {
-    let extensions = value_of::<Extensions>(alloc, &octets_of(alloc, extensions)?)?;
+fn extension_request(alloc: Global, extensions: &[u8]) -> Made {
+    let extensions = value_of::<Extensions>(alloc, extensions)?;
     Ok(Some(Attribute::new_extension_request(alloc, extensions)?))
 }
 
 /// The attribute of an identifier and the values of another attribute.
-fn with_values_of(alloc: Global, ty: &str, element: &str) -> Result<Option<Attribute>> {
-    let ty = ObjectIdentifier::from_content(alloc, &octets_of(alloc, ty)?)?;
-    let Attribute { value, .. } = value_of::<Attribute>(alloc, &octets_of(alloc, element)?)?;
-    Ok(Attribute::new(ty, value))
+fn with_values_of(alloc: Global, ty: &[u8], element: &[u8]) -> Made {
+    let ty = ObjectIdentifier::from_content(alloc, ty)?;
+    Ok(Attribute::new(ty, values_of(alloc, element)?))
+}
+
+fn values_of(alloc: Global, element: &[u8]) -> Result<AttributeValues, DerError> {
+    Ok(value_of::<Attribute>(alloc, element)?.value)
 }

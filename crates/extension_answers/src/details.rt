@@ -2,8 +2,8 @@
 
 use asn1_types::BitString;
 use asn1_types::oids::KP_CODE_SIGNING;
-use der_core::{DerError, Raw, Structure};
-use row_answers::word_of;
+use der_core::{Raw, Structure};
+use row_answers::Line;
 use std::alloc::{AllocError, Global};
 use x509_types::{
     AuthorityKeyIdentifier, BasicConstraints, ExtendedKeyUsage, Extension, ExtensionView, KeyUsage,
@@ -12,56 +12,57 @@ use x509_types::{
 
 /// A value of which details are printed.
 pub trait Details {
-    fn details(&self, alloc: Global) -> Result<String, DerError>;
+    fn print(&self, alloc: Global, line: &mut Line);
 }
 
 /// The identifier, whether it is critical, the value, and the octets that are written.
 impl Details for Extension {
-    fn details(&self, alloc: Global) -> Result<String, DerError> {
-        let (oid, critical) = (self.extn_id(), self.critical());
-        let value = value(alloc, self.extn_value())?;
-        let written = word_of(alloc, &self.to_der(alloc)?)?;
-        Ok(format!(in alloc; "{oid} {critical} {value} {written}")?)
+    fn print(&self, alloc: Global, line: &mut Line) {
+        line.shown(self.extn_id());
+        line.shown(&self.critical());
+        print_value(alloc, self.extn_value(), line);
+        line.made(self.to_der(alloc));
     }
 }
 
-fn value(alloc: Global, view: &ExtensionView) -> Result<String, DerError> {
-    Ok(match view {
+fn print_value(alloc: Global, view: &ExtensionView, line: &mut Line) {
+    match view {
         ExtensionView::SubjectKeyIdentifier(octets) => {
-            octets_value(alloc, "SubjectKeyIdentifier", octets.as_slice())?
+            print_octets("SubjectKeyIdentifier", octets.as_slice(), line);
         }
-        ExtensionView::KeyUsage(usage) => key_usage(alloc, usage)?,
-        ExtensionView::SubjectAltName(names) => names_value(alloc, "SubjectAltName", names)?,
-        ExtensionView::IssuerAltName(names) => names_value(alloc, "IssuerAltName", names)?,
-        ExtensionView::BasicConstraints(constraints) => basic_constraints(alloc, constraints)?,
-        ExtensionView::AuthorityKeyIdentifier(key) => authority_key(alloc, key)?,
-        ExtensionView::ExtendedKeyUsage(usage) => extended_key_usage(alloc, usage)?,
-        ExtensionView::Raw(octets) => octets_value(alloc, "Raw", octets.as_slice())?,
-    })
+        ExtensionView::KeyUsage(usage) => print_key_usage(usage, line),
+        ExtensionView::SubjectAltName(names) => print_names(alloc, "SubjectAltName", names, line),
+        ExtensionView::IssuerAltName(names) => print_names(alloc, "IssuerAltName", names, line),
+        ExtensionView::BasicConstraints(constraints) => print_constraints(constraints, line),
+        ExtensionView::AuthorityKeyIdentifier(key) => print_authority_key(key, line),
+        ExtensionView::ExtendedKeyUsage(usage) => print_extended_key_usage(alloc, usage, line),
+        ExtensionView::Raw(octets) => print_octets("Raw", octets.as_slice(), line),
+    }
 }
 
-fn names_value(alloc: Global, kind: &str, names: &RawGeneralNames) -> Result<String, DerError> {
-    let names = names.details(alloc)?;
-    Ok(format!(in alloc; "{kind} {names}")?)
+fn print_names(alloc: Global, kind: &str, names: &RawGeneralNames, line: &mut Line) {
+    line.word(kind);
+    names.print(alloc, line);
 }
 
-fn octets_value(alloc: Global, kind: &str, octets: &[u8]) -> Result<String, AllocError> {
-    let word = word_of(alloc, octets)?;
-    format!(in alloc; "{kind} {word}")
+fn print_octets(kind: &str, octets: &[u8], line: &mut Line) {
+    line.word(kind);
+    line.octets(octets);
 }
 
-fn key_usage(alloc: Global, usage: &KeyUsage) -> Result<String, AllocError> {
-    let (bits, flags) = (bits(alloc, usage.bits())?, flags(alloc, usage)?);
-    format!(in alloc; "KeyUsage {bits} {flags}")
+fn print_key_usage(usage: &KeyUsage, line: &mut Line) {
+    line.word("KeyUsage");
+    print_bits(usage.bits(), line);
+    print_flags(usage, line);
 }
 
-pub fn bits(alloc: Global, bits: &BitString) -> Result<String, AllocError> {
-    let (unused, payload) = (bits.unused(), word_of(alloc, bits.payload_view())?);
-    format!(in alloc; "{unused} {payload}")
+pub fn print_bits(bits: &BitString, line: &mut Line) {
+    line.shown(&bits.unused());
+    line.octets(bits.payload_view());
 }
 
 /// A digit a flag, the first for bit 0.
-fn flags(alloc: Global, usage: &KeyUsage) -> Result<String, AllocError> {
+fn print_flags(usage: &KeyUsage, line: &mut Line) {
     let flags = [
         usage.digital_signature(),
         usage.non_repudiation(),
@@ -73,42 +74,38 @@ fn flags(alloc: Global, usage: &KeyUsage) -> Result<String, AllocError> {
         usage.encipher_only(),
         usage.decipher_only(),
     ];
-    let mut digits = String::new(alloc);
+    line.mark(" ");
     for flag in flags {
-        digits.push(if flag { '1' } else { '0' })?;
+        line.mark(if flag { "1" } else { "0" });
     }
-    Ok(digits)
 }
 
-fn basic_constraints(alloc: Global, constraints: &BasicConstraints) -> Result<String, AllocError> {
-    let ca = match constraints.ca() {
-        Some(true) => "true",
-        Some(false) => "false",
-        None => "none",
-    };
+fn print_constraints(constraints: &BasicConstraints, line: &mut Line) {
+    line.word("BasicConstraints");
+    match constraints.ca() {
+        Some(ca) => line.shown(&ca),
+        None => line.word("none"),
+    }
     match constraints.pathlen() {
-        Some(pathlen) => format!(in alloc; "BasicConstraints {ca} {pathlen}"),
-        None => format!(in alloc; "BasicConstraints {ca} none"),
+        Some(pathlen) => line.shown(&pathlen),
+        None => line.word("none"),
     }
 }
 
-fn authority_key(alloc: Global, key: &AuthorityKeyIdentifier) -> Result<String, AllocError> {
-    let identifier = optional(alloc, key.key_identifier())?;
-    let issuer = optional(alloc, key.issuer().map(Raw::as_bytes))?;
-    let number = optional(alloc, key.serial_number())?;
-    format!(in alloc; "AuthorityKeyIdentifier {identifier} {issuer} {number}")
+fn print_authority_key(key: &AuthorityKeyIdentifier, line: &mut Line) {
+    line.word("AuthorityKeyIdentifier");
+    line.given(key.key_identifier());
+    line.given(key.issuer().map(Raw::as_bytes));
+    line.given(key.serial_number());
 }
 
-fn optional(alloc: Global, octets: Option<&[u8]>) -> Result<String, AllocError> {
-    match octets {
-        Some(octets) => word_of(alloc, octets),
-        None => String::from_str(alloc, "none"),
+fn print_extended_key_usage(alloc: Global, usage: &ExtendedKeyUsage, line: &mut Line) {
+    line.word("ExtendedKeyUsage");
+    match purposes(alloc, usage) {
+        Ok(purposes) => line.word(purposes.as_str()),
+        Err(error) => line.shown(&error),
     }
-}
-
-fn extended_key_usage(alloc: Global, usage: &ExtendedKeyUsage) -> Result<String, AllocError> {
-    let (purposes, code_signing) = (purposes(alloc, usage)?, usage.contains(KP_CODE_SIGNING));
-    format!(in alloc; "ExtendedKeyUsage {purposes} {code_signing}")
+    line.shown(&usage.contains(KP_CODE_SIGNING));
 }
 
 /// The purposes with a comma between, `-` for none.

@@ -3,91 +3,94 @@
 
 use crate::details::Details;
 use asn1_types::Ia5String;
-use der_core::DerError;
-use row_answers::word_of;
-use std::alloc::{AllocError, Global};
+use row_answers::Line;
+use std::alloc::Global;
 use x509_types::{
-    DirectoryString, EdiPartyName, Name, OtherName, RawGeneralName, RawGeneralNames, Time, Validity,
+    DirectoryString, EdiPartyName, OtherName, RawGeneralName, RawGeneralNames, Time, Validity,
 };
 
 impl Details for Validity {
-    fn details(&self, alloc: Global) -> Result<String, DerError> {
-        let before = time(alloc, &self.not_before)?;
-        let after = time(alloc, &self.not_after)?;
-        Ok(format!(in alloc; "{before} {after}")?)
+    fn print(&self, _alloc: Global, line: &mut Line) {
+        print_time(&self.not_before, line);
+        print_time(&self.not_after, line);
     }
 }
 
-fn time(alloc: Global, time: &Time) -> Result<String, AllocError> {
+fn print_time(time: &Time, line: &mut Line) {
     match time {
-        Time::Utc(time) => format!(in alloc; "Utc {time}"),
-        Time::Generalized(time) => format!(in alloc; "Generalized {time}"),
+        Time::Utc(time) => {
+            line.word("Utc");
+            line.shown(time);
+        }
+        Time::Generalized(time) => {
+            line.word("Generalized");
+            line.shown(time);
+        }
     }
 }
 
 /// How many there are, and each.
 impl Details for RawGeneralNames {
-    fn details(&self, alloc: Global) -> Result<String, DerError> {
-        let count = self.len();
-        let mut line = format!(in alloc; "{count}")?;
+    fn print(&self, _alloc: Global, line: &mut Line) {
+        line.shown(&self.len());
         for name in self.iter() {
-            line.push(' ')?;
-            line.push_str(&general_name(alloc, name)?)?;
+            print_name(name, line);
         }
-        Ok(line)
     }
 }
 
 /// The form of a name, and its value.
-pub fn general_name(alloc: Global, name: &RawGeneralName) -> Result<String, AllocError> {
+pub fn print_name(name: &RawGeneralName, line: &mut Line) {
     match name {
-        RawGeneralName::OtherName(name) => other_name(alloc, name),
-        RawGeneralName::Rfc822Name(name) => text(alloc, "Rfc822Name", name),
-        RawGeneralName::DnsName(name) => text(alloc, "DnsName", name),
-        RawGeneralName::DirectoryName(name) => directory_name(alloc, name),
-        RawGeneralName::EdiPartyName(name) => edi_party_name(alloc, name),
-        RawGeneralName::Uri(name) => text(alloc, "Uri", name),
-        RawGeneralName::IpAddress(address) => octets(alloc, "IpAddress", address.as_slice()),
-        RawGeneralName::RegisteredId(id) => format!(in alloc; "RegisteredId {id}"),
+        RawGeneralName::OtherName(name) => print_other_name(name, line),
+        RawGeneralName::Rfc822Name(name) => print_text("Rfc822Name", name, line),
+        RawGeneralName::DnsName(name) => print_text("DnsName", name, line),
+        RawGeneralName::DirectoryName(name) => {
+            line.word("DirectoryName");
+            line.text(name);
+        }
+        RawGeneralName::EdiPartyName(name) => print_edi_party_name(name, line),
+        RawGeneralName::Uri(name) => print_text("Uri", name, line),
+        RawGeneralName::IpAddress(address) => {
+            line.word("IpAddress");
+            line.octets(address.as_slice());
+        }
+        RawGeneralName::RegisteredId(id) => {
+            line.word("RegisteredId");
+            line.shown(id);
+        }
     }
 }
 
-fn octets(alloc: Global, form: &str, octets: &[u8]) -> Result<String, AllocError> {
-    let word = word_of(alloc, octets)?;
-    format!(in alloc; "{form} {word}")
+fn print_text(form: &str, text: &Ia5String, line: &mut Line) {
+    line.word(form);
+    line.octets(text.as_str().as_bytes());
 }
 
-fn text(alloc: Global, form: &str, text: &Ia5String) -> Result<String, AllocError> {
-    octets(alloc, form, text.as_str().as_bytes())
+fn print_other_name(name: &OtherName, line: &mut Line) {
+    line.word("OtherName");
+    line.shown(&name.type_id);
+    line.octets(name.value.as_bytes());
 }
 
-fn other_name(alloc: Global, name: &OtherName) -> Result<String, AllocError> {
-    let (type_id, value) = (&name.type_id, word_of(alloc, name.value.as_bytes())?);
-    format!(in alloc; "OtherName {type_id} {value}")
+fn print_edi_party_name(name: &EdiPartyName, line: &mut Line) {
+    line.word("EdiPartyName");
+    match &name.name_assigner {
+        Some(string) => print_string(string, line),
+        None => line.word("none"),
+    }
+    print_string(&name.party_name, line);
 }
 
-fn directory_name(alloc: Global, name: &Name) -> Result<String, AllocError> {
-    let name = format!(in alloc; "{name}")?;
-    octets(alloc, "DirectoryName", name.as_bytes())
-}
-
-fn edi_party_name(alloc: Global, name: &EdiPartyName) -> Result<String, AllocError> {
-    let assigner = match &name.name_assigner {
-        Some(string) => directory_string(alloc, string)?,
-        None => String::from_str(alloc, "none")?,
-    };
-    let party = directory_string(alloc, &name.party_name)?;
-    format!(in alloc; "EdiPartyName {assigner} {party}")
-}
-
-fn directory_string(alloc: Global, string: &DirectoryString) -> Result<String, AllocError> {
+/// The type of a string, its octets, and its text.
+fn print_string(string: &DirectoryString, line: &mut Line) {
     let (name, octets) = match string {
         DirectoryString::PrintableString(octets) => ("PrintableString", octets),
         DirectoryString::Utf8String(octets) => ("Utf8String", octets),
         DirectoryString::TeletexString(octets) => ("TeletexString", octets),
         DirectoryString::BmpString(octets) => ("BmpString", octets),
     };
-    let octets = word_of(alloc, octets.as_slice())?;
-    let text = word_of(alloc, string.to_utf8_lossy(alloc)?.as_bytes())?;
-    format!(in alloc; "{name} {octets} {text}")
+    line.word(name);
+    line.octets(octets.as_slice());
+    line.text(string);
 }

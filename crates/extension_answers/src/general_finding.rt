@@ -1,35 +1,68 @@
 //! Lists of general names that are searched, and made of their names again.
 
-use anyhow::Result;
 use asn1_types::Ia5String;
+use der_core::DerError;
 use names_core::{DirectoryName, GeneralNames};
-use row_answers::{octets_of, value_of, word_of};
+use row_answers::{Line, equals, value_of};
 use std::alloc::{AllocError, Global};
 use x509_types::RawGeneralNames;
 
-/// How many names an element spells, the first of a host and the first of the directory among them,
-/// and whether the list of its names is equal to it.
-pub fn answer(alloc: Global, element: &str) -> Result<String> {
-    let element = octets_of(alloc, element)?;
-    let names = GeneralNames::from(value_of::<RawGeneralNames>(alloc, &element)?);
-    let host = host(alloc, names.find_dns_name())?;
-    let directory = directory(alloc, names.find_directory_name(alloc)?)?;
+/// Whether there is such a kind of lists. How many names an element spells is printed, the first of a
+/// host and the first of the directory among them, and whether the list of its names is equal to it.
+pub fn print(alloc: Global, kind: &str, element: &[u8], line: &mut Line) -> bool {
+    if kind != "general_names" {
+        return false;
+    }
+    match count_of(alloc, element) {
+        Ok(count) => line.shown(&count),
+        Err(error) => line.shown(&error),
+    }
+    print_names(alloc, element, line);
+    true
+}
+
+fn print_names(alloc: Global, element: &[u8], line: &mut Line) {
+    match names_of(alloc, element) {
+        Ok(names) => {
+            print_found(alloc, &names, line);
+            drop(names);
+        }
+        Err(error) => line.shown(&error),
+    }
+}
+
+fn names_of(alloc: Global, element: &[u8]) -> Result<GeneralNames, DerError> {
+    Ok(GeneralNames::from(value_of::<RawGeneralNames>(alloc, element)?))
+}
+
+fn count_of(alloc: Global, element: &[u8]) -> Result<usize, DerError> {
+    let names = names_of(alloc, element)?.into_general_names(alloc)?;
+    Ok(names.len())
+}
+
+fn print_found(alloc: Global, names: &GeneralNames, line: &mut Line) {
+    line.given(names.find_dns_name().map(octets_of_host));
+    print_directory(names.find_directory_name(alloc), line);
+    line.same(is_made_anew(alloc, names));
+}
+
+fn octets_of_host(name: &Ia5String) -> &[u8] {
+    name.as_str().as_bytes()
+}
+
+fn print_directory(name: Result<Option<DirectoryName>, AllocError>, line: &mut Line) {
+    match name {
+        Ok(Some(name)) => {
+            line.text(&name);
+            drop(name);
+        }
+        Ok(None) => line.word("none"),
+        Err(error) => line.shown(&error),
+    }
+}
+
+/// Whether the list that is made of the names is equal to the one that has them.
+fn is_made_anew(alloc: Global, names: &GeneralNames) -> Result<bool, DerError> {
     let listed = GeneralNames::from_list(alloc, names.to_general_names(alloc)?)?;
-    let word = if listed == names { "same" } else { "changed" };
-    let count = names.into_general_names(alloc)?.len();
-    Ok(format!(in alloc; "{count} {host} {directory} {word}")?)
-}
-
-fn host(alloc: Global, name: Option<&Ia5String>) -> Result<String, AllocError> {
-    match name {
-        Some(name) => word_of(alloc, name.as_str().as_bytes()),
-        None => String::from_str(alloc, "none"),
-    }
-}
-
-fn directory(alloc: Global, name: Option<DirectoryName>) -> Result<String, AllocError> {
-    match name {
-        Some(name) => word_of(alloc, name.to_string(alloc)?.as_bytes()),
-        None => String::from_str(alloc, "none"),
-    }
+    Ok(equals(listed, names))
 }

@@ -1,98 +1,102 @@
 //! General names that are put together of parts.
 
-use crate::general_details::general_name;
-use anyhow::{Result, bail};
+use crate::general_details::print_name;
 use asn1_types::{CharSetError, ObjectIdentifier};
 use der_core::{DerError, Structure};
 use names_core::{DirectoryName, GeneralName};
-use row_answers::{equals, octets_of, text_of, word_of};
-use std::alloc::Global;
+use row_answers::{Line, equals};
+use std::alloc::{AllocError, Global};
+use std::fmt;
 use x509_types::{DirectoryString, RawGeneralName};
 
-/// The octets of a name, its details, and whether it comes back from its raw name; or that its text
-/// has an octet past 127.
-pub fn answer(alloc: Global, call: &str, args: &[&str]) -> Result<String> {
-    match made(alloc, call, args)? {
-        Ok(name) => {
-            let line = shown(alloc, &name);
-            drop(name);
-            Ok(line?)
+/// Whether there is such a call; the octets of a name are printed, its details, and whether it comes
+/// back from its raw name, or what the error is called that is answered for it.
+pub fn print(alloc: Global, call: &str, octets: &[Vec<u8>], line: &mut Line) -> bool {
+    match (call, octets) {
+        ("rfc822_name" | "dns_name" | "uri", [text]) => {
+            print_made(alloc, of_text(alloc, call, text_of(text)), line);
         }
-        Err(CharSetError::CharSet) => Ok(String::from_str(alloc, "CharSet")?),
-        Err(error) => Err(error.into()),
+        ("directory_name", [text]) => print_made(alloc, directory_name(alloc, text), line),
+        ("edi_party_name", [party]) => {
+            print_made(alloc, edi_party_name(alloc, party, None), line);
+        }
+        ("edi_party_name", [party, assigner]) => {
+            print_made(alloc, edi_party_name(alloc, party, Some(assigner)), line);
+        }
+        ("ip_address", [address]) => {
+            print_made(alloc, GeneralName::new_ip_address(alloc, address), line);
+        }
+        ("registered_id", [oid]) => print_made(alloc, registered_id(alloc, oid), line),
+        _ => return false,
+    }
+    true
+}
+
+fn print_made<E: fmt::Debug + Drop>(alloc: Global, made: Result<GeneralName, E>, line: &mut Line) {
+    match made {
+        Ok(name) => {
+            print_general_name(alloc, &name, line);
+            drop(name);
+        }
+        Err(error) => line.named(&error),
     }
 }
 
-/// A name, or why there is none.
-type Made = Result<GeneralName, CharSetError>;
-
-fn made(alloc: Global, call: &str, args: &[&str]) -> Result<Made> {
-    match (call, args) {
-        ("rfc822_name" | "dns_name" | "uri", [text]) => of_text(alloc, call, text),
-        ("directory_name", [text]) => directory_name(alloc, text),
-        ("edi_party_name", [party]) => edi_party_name(alloc, party, None),
-        ("edi_party_name", [party, assigner]) => edi_party_name(alloc, party, Some(assigner)),
-        ("ip_address", [address]) => ip_address(alloc, address),
-        ("registered_id", [oid]) => registered_id(alloc, oid),
-        _ => bail!("no call makes a general name {call}"),
-    }
-}
-
-fn of_text(alloc: Global, call: &str, text: &str) -> Result<Made> {
-    let octets = octets_of(alloc, text)?;
-    let text = text_of(&octets)?;
-    Ok(match call {
+fn of_text(alloc: Global, call: &str, text: &str) -> Result<GeneralName, CharSetError> {
+    match call {
         "rfc822_name" => GeneralName::new_rfc822_name(alloc, text),
         "dns_name" => GeneralName::new_dns_name(alloc, text),
         _ => GeneralName::new_uri(alloc, text),
-    })
+    }
+}
+
+/// The text of octets, none where they have none.
+fn text_of(octets: &[u8]) -> &str {
+    str::from_utf8(octets).unwrap_or("")
 }
 
 /// The name of one common name.
-fn directory_name(alloc: Global, text: &str) -> Result<Made> {
-    let octets = octets_of(alloc, text)?;
-    let name = DirectoryName::new_common_name(alloc, text_of(&octets)?)?;
-    Ok(Ok(GeneralName::new_directory_name(name)))
+fn directory_name(alloc: Global, text: &[u8]) -> Result<GeneralName, AllocError> {
+    let name = DirectoryName::new_common_name(alloc, text_of(text))?;
+    Ok(GeneralName::new_directory_name(name))
 }
 
-fn edi_party_name(alloc: Global, party: &str, assigner: Option<&&str>) -> Result<Made> {
+fn edi_party_name(
+    alloc: Global,
+    party: &[u8],
+    assigner: Option<&[u8]>,
+) -> Result<GeneralName, AllocError> {
     let assigner = match assigner {
-        Some(assigner) => Some(directory_string(alloc, assigner)?),
+        Some(assigner) => Some(DirectoryString::from_text(alloc, text_of(assigner))?),
         None => None,
     };
-    let party = directory_string(alloc, party)?;
-    Ok(Ok(GeneralName::new_edi_party_name(party, assigner)))
+    let party = DirectoryString::from_text(alloc, text_of(party))?;
+    Ok(GeneralName::new_edi_party_name(party, assigner))
 }
 
-fn directory_string(alloc: Global, text: &str) -> Result<DirectoryString> {
-    let octets = octets_of(alloc, text)?;
-    Ok(DirectoryString::from_text(alloc, text_of(&octets)?)?)
+fn registered_id(alloc: Global, oid: &[u8]) -> Result<GeneralName, DerError> {
+    let oid = ObjectIdentifier::from_content(alloc, oid)?;
+    Ok(GeneralName::new_registered_id(oid))
 }
 
-fn ip_address(alloc: Global, address: &str) -> Result<Made> {
-    Ok(Ok(GeneralName::new_ip_address(alloc, &octets_of(alloc, address)?)?))
+fn print_general_name(alloc: Global, name: &GeneralName, line: &mut Line) {
+    match raw_of(alloc, name) {
+        Ok(raw) => {
+            line.made(raw.to_der(alloc));
+            print_name(&raw, line);
+            drop(raw);
+        }
+        Err(error) => line.shown(&error),
+    }
+    line.same(comes_back(alloc, name));
 }
 
-fn registered_id(alloc: Global, oid: &str) -> Result<Made> {
-    let oid = ObjectIdentifier::from_content(alloc, &octets_of(alloc, oid)?)?;
-    Ok(Ok(GeneralName::new_registered_id(oid)))
+/// The raw name of a name.
+fn raw_of(alloc: Global, name: &GeneralName) -> Result<RawGeneralName, AllocError> {
+    Ok(RawGeneralName::from(name.try_clone(alloc)?))
 }
 
-fn shown(alloc: Global, name: &GeneralName) -> Result<String, DerError> {
-    let raw = RawGeneralName::from(name.try_clone(alloc)?);
-    let line = line_of(alloc, &raw);
-    let word = if equals(GeneralName::from(raw), name) {
-        "same"
-    } else {
-        "changed"
-    };
-    let line = line?;
-    Ok(format!(in alloc; "{line} {word}")?)
-}
-
-/// The octets of a raw name, and its details.
-fn line_of(alloc: Global, raw: &RawGeneralName) -> Result<String, DerError> {
-    let octets = word_of(alloc, &raw.to_der(alloc)?)?;
-    let details = general_name(alloc, raw)?;
-    Ok(format!(in alloc; "{octets} {details}")?)
+/// Whether a name is the one that is made of its raw name.
+fn comes_back(alloc: Global, name: &GeneralName) -> Result<bool, DerError> {
+    Ok(equals(GeneralName::from(raw_of(alloc, name)?), name))
 }
