@@ -8,263 +8,235 @@ use cms_types::{
     SpcString, TimestampRequest, UnsignedAttribute,
 };
 use der_core::{Octets, Raw};
-use row_answers::word_of;
-use std::alloc::{AllocError, Global};
+use row_answers::Line;
 
 /// A value of which details are printed.
 pub trait Details {
-    fn details(&self, alloc: Global) -> Result<String, AllocError>;
+    fn print(&self, line: &mut Line);
 }
 
 impl Details for DigestInfo {
-    fn details(&self, alloc: Global) -> Result<String, AllocError> {
-        let oid = self.oid.oid();
-        let parameters = kept(alloc, self.oid.parameters())?;
-        let digest = word_of(alloc, self.digest.as_slice())?;
-        format!(in alloc; "{oid} {parameters} {digest}")
+    fn print(&self, line: &mut Line) {
+        line.shown(self.oid.oid());
+        line.given(self.oid.parameters().map(Raw::as_bytes));
+        line.octets(self.digest.as_slice());
     }
 }
 
 impl Details for SpcAttributeTypeAndOptionalValue {
-    fn details(&self, alloc: Global) -> Result<String, AllocError> {
-        let (ty, value) = (&self.ty, kept(alloc, self.value.as_ref())?);
-        format!(in alloc; "{ty} {value}")
+    fn print(&self, line: &mut Line) {
+        line.shown(&self.ty);
+        print_option(&self.value, line);
     }
 }
 
 impl Details for SpcIndirectDataContent {
-    fn details(&self, alloc: Global) -> Result<String, AllocError> {
-        let image = self.image.details(alloc)?;
-        let digest = self.message_digest.details(alloc)?;
-        format!(in alloc; "{image} {digest}")
+    fn print(&self, line: &mut Line) {
+        self.image.print(line);
+        self.message_digest.print(line);
     }
 }
 
 impl Details for SpcString {
-    fn details(&self, alloc: Global) -> Result<String, AllocError> {
-        word_of(alloc, self.as_bytes())
+    fn print(&self, line: &mut Line) {
+        line.octets(self.as_bytes());
     }
 }
 
 impl Details for SpcLink {
-    fn details(&self, alloc: Global) -> Result<String, AllocError> {
-        word_of(alloc, self.url.as_slice())
+    fn print(&self, line: &mut Line) {
+        line.octets(self.url.as_slice());
     }
 }
 
 impl Details for SpcSpOpusInfo {
-    fn details(&self, alloc: Global) -> Result<String, AllocError> {
-        let name = option_details(alloc, &self.program_name)?;
-        let link = option_details(alloc, &self.more_info)?;
-        format!(in alloc; "{name} {link}")
+    fn print(&self, line: &mut Line) {
+        print_option(&self.program_name, line);
+        print_option(&self.more_info, line);
     }
 }
 
 impl Details for EncapsulatedContentInfo {
-    fn details(&self, alloc: Global) -> Result<String, AllocError> {
-        let (ty, content) = (&self.content_type, option_details(alloc, &self.content)?);
-        format!(in alloc; "{ty} {content}")
+    fn print(&self, line: &mut Line) {
+        line.shown(&self.content_type);
+        print_option(&self.content, line);
     }
 }
 
 impl Details for ContentValue {
-    fn details(&self, alloc: Global) -> Result<String, AllocError> {
+    fn print(&self, line: &mut Line) {
         match self {
-            ContentValue::SpcIndirectDataContent(content) => content.details(alloc),
-            ContentValue::CertificateTrustList(list) => list.details(alloc),
+            ContentValue::SpcIndirectDataContent(content) => content.print(line),
+            ContentValue::CertificateTrustList(list) => list.print(line),
             ContentValue::Data(octets) => {
-                let octets = word_of(alloc, octets.as_slice())?;
-                format!(in alloc; "data {octets}")
+                line.word("data");
+                line.octets(octets.as_slice());
             }
-            ContentValue::Other(element) => kept(alloc, Some(element)),
+            ContentValue::Other(element) => line.octets(element.as_bytes()),
         }
     }
 }
 
 impl Details for TimestampRequest {
-    fn details(&self, alloc: Global) -> Result<String, AllocError> {
-        let (ty, content) = (&self.countersignature_type, self.content.details(alloc)?);
-        format!(in alloc; "{ty} {content}")
+    fn print(&self, line: &mut Line) {
+        line.shown(&self.countersignature_type);
+        self.content.print(line);
     }
 }
 
 impl Details for Ctl {
-    fn details(&self, alloc: Global) -> Result<String, AllocError> {
-        let entries = all_details(alloc, self.entries())?;
-        format!(in alloc; "list {entries}")
+    fn print(&self, line: &mut Line) {
+        line.word("list");
+        print_all(self.entries(), line);
     }
 }
 
 impl Details for CTLEntry {
-    fn details(&self, alloc: Global) -> Result<String, AllocError> {
-        let subject = word_of(alloc, self.subject_identifier.as_slice())?;
-        let attributes = all_details(alloc, self.attributes.as_slice())?;
-        format!(in alloc; "{subject} {attributes}")
+    fn print(&self, line: &mut Line) {
+        line.octets(self.subject_identifier.as_slice());
+        print_all(self.attributes.as_slice(), line);
     }
 }
 
 impl Details for CTLEntryAttribute {
-    fn details(&self, alloc: Global) -> Result<String, AllocError> {
+    fn print(&self, line: &mut Line) {
         match &self.value {
             CTLEntryAttributeValues::CertSubjectNameMd5HashPropId(hashes) => {
-                let hashes = all_details(alloc, hashes.as_slice())?;
-                format!(in alloc; "hashes {hashes}")
+                line.word("hashes");
+                print_all(hashes.as_slice(), line);
             }
             CTLEntryAttributeValues::CertDisallowedFileTimePropId(times) => {
-                let times = all_details(alloc, times.as_slice())?;
-                format!(in alloc; "disallowed {times}")
+                line.word("disallowed");
+                print_all(times.as_slice(), line);
             }
             CTLEntryAttributeValues::UnknownReservedPropId126(times) => {
-                let times = all_details(alloc, times.as_slice())?;
-                format!(in alloc; "starts {times}")
+                line.word("starts");
+                print_all(times.as_slice(), line);
             }
             CTLEntryAttributeValues::UnknownReservedPropId127(purposes) => {
-                let purposes = all_details(alloc, purposes.as_slice())?;
-                format!(in alloc; "purposes {purposes}")
+                line.word("purposes");
+                print_all(purposes.as_slice(), line);
             }
             CTLEntryAttributeValues::Other(values) => {
-                let (oid, values) = (&self.oid, all_details(alloc, values.as_slice())?);
-                format!(in alloc; "{oid} {values}")
+                line.shown(&self.oid);
+                print_all(values.as_slice(), line);
             }
         }
     }
 }
 
 impl Details for HeldPurposes {
-    fn details(&self, alloc: Global) -> Result<String, AllocError> {
-        all_details(alloc, self.purposes())
+    fn print(&self, line: &mut Line) {
+        print_all(self.purposes(), line);
     }
 }
 
 impl Details for ObjectIdentifier {
-    fn details(&self, alloc: Global) -> Result<String, AllocError> {
-        format!(in alloc; "{self}")
+    fn print(&self, line: &mut Line) {
+        line.shown(self);
     }
 }
 
 impl Details for Octets {
-    fn details(&self, alloc: Global) -> Result<String, AllocError> {
-        word_of(alloc, self.as_slice())
+    fn print(&self, line: &mut Line) {
+        line.octets(self.as_slice());
     }
 }
 
 impl Details for Raw {
-    fn details(&self, alloc: Global) -> Result<String, AllocError> {
-        word_of(alloc, self.as_bytes())
+    fn print(&self, line: &mut Line) {
+        line.octets(self.as_bytes());
     }
 }
 
 impl Details for SignerIdentifier {
-    fn details(&self, alloc: Global) -> Result<String, AllocError> {
+    fn print(&self, line: &mut Line) {
         match self {
             SignerIdentifier::IssuerAndSerialNumber(named) => {
-                let issuer = &named.issuer;
-                let serial = word_of(alloc, named.serial_number.as_signed_bytes_be())?;
-                format!(in alloc; "{issuer} {serial}")
+                line.shown(&named.issuer);
+                line.octets(named.serial_number.as_signed_bytes_be());
             }
             SignerIdentifier::SubjectKeyIdentifier(octets) => {
-                let octets = word_of(alloc, octets.as_slice())?;
-                format!(in alloc; "key {octets}")
+                line.word("key");
+                line.octets(octets.as_slice());
             }
         }
     }
 }
 
 impl Details for UnsignedAttribute {
-    fn details(&self, alloc: Global) -> Result<String, AllocError> {
+    fn print(&self, line: &mut Line) {
         match self {
             UnsignedAttribute::CounterSign(values) => {
-                let count = values.as_slice().len();
-                format!(in alloc; "signers {count}")
+                line.word("signers");
+                line.shown(&values.as_slice().len());
             }
             UnsignedAttribute::MsCounterSign(values) => {
-                let count = values.as_slice().len();
-                format!(in alloc; "tokens {count}")
+                line.word("tokens");
+                line.shown(&values.as_slice().len());
             }
             UnsignedAttribute::Raw(attribute) => {
-                let (ty, count) = (&attribute.ty, attribute.values.len());
-                format!(in alloc; "{ty} {count}")
+                line.shown(&attribute.ty);
+                line.shown(&attribute.values.len());
             }
         }
     }
 }
 
 impl Details for SignerInfo {
-    fn details(&self, alloc: Global) -> Result<String, AllocError> {
-        let version = self.version.number();
-        let sid = self.sid.details(alloc)?;
-        let digest = self.digest_algorithm.oid();
-        let signed = match &self.signed_attrs {
-            Some(attributes) => {
-                let count = attributes.list().len();
-                format!(in alloc; "{count}")?
-            }
-            None => String::from_str(alloc, "none")?,
-        };
-        let algorithm = self.signature_algorithm.oid();
-        let signature = word_of(alloc, self.signature.as_slice())?;
-        let unsigned = match &self.unsigned_attrs {
-            Some(attributes) => all_details(alloc, attributes.as_slice())?,
-            None => String::from_str(alloc, "none")?,
-        };
-        format!(in alloc; "{version} {sid} {digest} {signed} {algorithm} {signature} {unsigned}")
+    fn print(&self, line: &mut Line) {
+        line.shown(&self.version.number());
+        self.sid.print(line);
+        line.shown(self.digest_algorithm.oid());
+        match &self.signed_attrs {
+            Some(attributes) => line.shown(&attributes.list().len()),
+            None => line.word("none"),
+        }
+        line.shown(self.signature_algorithm.oid());
+        line.octets(self.signature.as_slice());
+        match &self.unsigned_attrs {
+            Some(attributes) => print_all(attributes.as_slice(), line),
+            None => line.word("none"),
+        }
     }
 }
 
 impl Details for SignedData {
-    fn details(&self, alloc: Global) -> Result<String, AllocError> {
-        let version = self.version.number();
-        let algorithms = self.digest_algorithms.len();
-        let content = self.content_info.details(alloc)?;
-        let certificates = match &self.certificates {
-            Some(list) => count_of(alloc, Some(list.len()))?,
-            None => count_of(alloc, None)?,
-        };
-        let lists = match &self.crls {
-            Some(list) => count_of(alloc, Some(list.len()))?,
-            None => count_of(alloc, None)?,
-        };
-        let signers = all_details(alloc, self.signers_infos.as_slice())?;
-        format!(in alloc; "{version} {algorithms} {content} {certificates} {lists} {signers}")
+    fn print(&self, line: &mut Line) {
+        line.shown(&self.version.number());
+        line.shown(&self.digest_algorithms.len());
+        self.content_info.print(line);
+        match &self.certificates {
+            Some(list) => line.shown(&list.len()),
+            None => line.word("none"),
+        }
+        match &self.crls {
+            Some(list) => line.shown(&list.len()),
+            None => line.word("none"),
+        }
+        print_all(self.signers_infos.as_slice(), line);
     }
 }
 
 impl Details for Pkcs7Certificate {
-    fn details(&self, alloc: Global) -> Result<String, AllocError> {
-        self.signed_data.details(alloc)
+    fn print(&self, line: &mut Line) {
+        self.signed_data.print(line);
     }
 }
 
 /// The details of values in order, in brackets.
-fn all_details<T: Details>(alloc: Global, values: &[T]) -> Result<String, AllocError> {
-    let mut text = String::from_str(alloc, "[")?;
+fn print_all<T: Details>(values: &[T], line: &mut Line) {
+    line.word("[");
     for value in values {
-        let one = value.details(alloc)?;
-        text = format!(in alloc; "{text} {one}")?;
+        value.print(line);
     }
-    format!(in alloc; "{text} ]")
-}
-
-/// A count that may be left out.
-fn count_of(alloc: Global, count: Option<usize>) -> Result<String, AllocError> {
-    match count {
-        Some(count) => format!(in alloc; "{count}"),
-        None => String::from_str(alloc, "none"),
-    }
-}
-
-/// The octets of an element that may be left out.
-fn kept(alloc: Global, element: Option<&Raw>) -> Result<String, AllocError> {
-    match element {
-        Some(element) => word_of(alloc, element.as_bytes()),
-        None => String::from_str(alloc, "none"),
-    }
+    line.word("]");
 }
 
 /// The details of a value that may be left out.
-fn option_details<T: Details>(alloc: Global, value: &Option<T>) -> Result<String, AllocError> {
+fn print_option<T: Details>(value: &Option<T>, line: &mut Line) {
     match value {
-        Some(value) => value.details(alloc),
-        None => String::from_str(alloc, "none"),
+        Some(value) => value.print(line),
+        None => line.word("none"),
     }
 }

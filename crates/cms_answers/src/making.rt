@@ -1,37 +1,54 @@
 //! Values that are made of texts and names, and written.
 
-use anyhow::{Result, bail};
-use asn1_types::CharSetError;
+use crate::row::Args;
 use cms_types::{SpcString, new_sha};
 use der_core::Structure;
-use row_answers::{octets_of, text_of, word_of};
+use row_answers::Line;
 use sig_core::ShaVariant;
 use std::alloc::Global;
 
-/// The octets of a string of a text, or that it has none.
-pub fn string(alloc: Global, text: &str) -> Result<String> {
-    let text = octets_of(alloc, text)?;
-    match SpcString::from_text(alloc, text_of(&text)?) {
-        Ok(string) => Ok(word_of(alloc, &string.to_der(alloc)?)?),
-        Err(CharSetError::CharSet) => Ok(String::from_str(alloc, "CharSet")?),
-        Err(error) => Err(error.into()),
+/// Whether there is such a kind of values; what is made is printed.
+pub fn print(alloc: Global, kind: &str, args: Args<'_>, line: &mut Line) -> bool {
+    match (kind, args.words, args.octets) {
+        ("string", _, [text]) => print_string(alloc, text, line),
+        ("sha", [name], _) => match variant(name) {
+            Some(variant) => print_sha(alloc, variant, line),
+            None => return false,
+        },
+        _ => return false,
+    }
+    true
+}
+
+/// The octets of a string of a text, or what the error is called that is answered for it.
+fn print_string(alloc: Global, text: &[u8], line: &mut Line) {
+    match SpcString::from_text(alloc, text_of(text)) {
+        Ok(string) => line.made(string.to_der(alloc)),
+        Err(error) => line.named(&error),
     }
 }
 
-/// The octets of the identifier of a digest algorithm.
-pub fn sha(alloc: Global, name: &str) -> Result<String> {
-    let algorithm = new_sha(alloc, variant(name)?)?;
-    Ok(word_of(alloc, &algorithm.to_der(alloc)?)?)
+/// The text of octets, none where they have none.
+fn text_of(octets: &[u8]) -> &str {
+    str::from_utf8(octets).unwrap_or("")
 }
 
-fn variant(name: &str) -> Result<ShaVariant> {
-    Ok(match name {
-        "MD5" => ShaVariant::MD5,
-        "SHA1" => ShaVariant::SHA1,
-        "SHA2_224" => ShaVariant::SHA2_224,
-        "SHA2_256" => ShaVariant::SHA2_256,
-        "SHA2_384" => ShaVariant::SHA2_384,
-        "SHA2_512" => ShaVariant::SHA2_512,
-        _ => bail!("no digest algorithm is called {name}"),
-    })
+/// The octets of the identifier of a digest algorithm.
+fn print_sha(alloc: Global, variant: ShaVariant, line: &mut Line) {
+    match new_sha(alloc, variant) {
+        Ok(algorithm) => line.made(algorithm.to_der(alloc)),
+        Err(error) => line.shown(&error),
+    }
+}
+
+fn variant(name: &str) -> Option<ShaVariant> {
+    match name {
+        "MD5" => Some(ShaVariant::MD5),
+        "SHA1" => Some(ShaVariant::SHA1),
+        "SHA2_224" => Some(ShaVariant::SHA2_224),
+        "SHA2_256" => Some(ShaVariant::SHA2_256),
+        "SHA2_384" => Some(ShaVariant::SHA2_384),
+        "SHA2_512" => Some(ShaVariant::SHA2_512),
+        _ => None,
+    }
 }

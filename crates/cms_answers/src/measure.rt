@@ -77,7 +77,8 @@ fn kept(alloc: Global, octets: &[u8]) -> Option<usize> {
 
 /// How many octets the signers take.
 fn lent(octets: &[u8]) -> Option<usize> {
-    let mut cursor = Cursor::new(octets);
-    let view = SignedView::read(cursor.next().ok()??)?;
-    Some(view.signers_infos().whole.len())
+    match Cursor::new(octets).next() {
+        Ok(Some(elem)) => Some(SignedView::read(elem)?.signers_infos().whole.len()),
+        _ => None,
+    }
 }

@@ -1,34 +1,42 @@
 //! Signers and tokens that are put together as members of counter-signatures, and read of them again.
 
-use anyhow::Result;
+use crate::structures::is_written;
 use cms_types::{
     Pkcs7Certificate, SignerInfo, SignerValues, TokenValues, UnsignedAttribute,
     UnsignedAttributeList,
 };
 use der_core::{DerError, ListOf, Structure};
-use row_answers::octets_of;
-use std::alloc::Global;
+use row_answers::Line;
+use std::alloc::{AllocError, Global};
 use std::slice;
 
-/// What is answered of the members, by what is put together; None where there is no such kind.
-pub fn answer(alloc: Global, kind: &str, octets: &str) -> Result<Option<String>> {
-    let octets = octets_of(alloc, octets)?;
-    let answer = match kind {
-        "signer_info" => signers(alloc, &octets),
-        "pkcs7" => tokens(alloc, &octets),
-        "within" => within(alloc, &octets),
-        _ => return Ok(None),
-    };
-    Ok(Some(answer?))
+/// Whether there is such a kind of members; what is answered of them is printed.
+pub fn print(alloc: Global, kind: &str, octets: &[u8], line: &mut Line) -> bool {
+    match kind {
+        "signer_info" => print_signers(alloc, octets, line),
+        "pkcs7" => print_tokens(alloc, octets, line),
+        "within" => print_within(alloc, octets, line),
+        _ => return false,
+    }
+    true
 }
 
 /// How many members there are of one signer, and what the first and the second are.
-fn signers(alloc: Global, octets: &[u8]) -> Result<String, DerError> {
-    let values = values_of_signer(alloc, SignerInfo::from_der(alloc, octets)?)?;
-    let count = values.as_slice().len();
-    let first = word_of_signer(alloc, octets, &values, 0)?;
-    let second = word_of_signer(alloc, octets, &values, 1)?;
-    Ok(format!(in alloc; "{count} {first} {second}")?)
+fn print_signers(alloc: Global, octets: &[u8], line: &mut Line) {
+    match signers_of(alloc, octets) {
+        Ok(values) => {
+            line.shown(&values.as_slice().len());
+            print_member(alloc, octets, values.get(alloc, 0), line);
+            print_member(alloc, octets, values.get(alloc, 1), line);
+            drop(values);
+        }
+        Err(error) => line.shown(&error),
+    }
+}
+
+/// The values of the one signer that is read of octets.
+fn signers_of(alloc: Global, octets: &[u8]) -> Result<SignerValues, DerError> {
+    values_of_signer(alloc, SignerInfo::from_der(alloc, octets)?)
 }
 
 /// The values of one signer, which is let go.
@@ -38,22 +46,22 @@ fn values_of_signer(alloc: Global, signer: SignerInfo) -> Result<SignerValues, D
     values
 }
 
-fn word_of_signer(
-    alloc: Global,
-    octets: &[u8],
-    values: &SignerValues,
-    place: usize,
-) -> Result<&'static str, DerError> {
-    word_of_member(alloc, octets, values.get(alloc, place)?)
+/// How many members there are of one token, and what the first and the second are.
+fn print_tokens(alloc: Global, octets: &[u8], line: &mut Line) {
+    match tokens_of(alloc, octets) {
+        Ok(values) => {
+            line.shown(&values.as_slice().len());
+            print_member(alloc, octets, values.get(alloc, 0), line);
+            print_member(alloc, octets, values.get(alloc, 1), line);
+            drop(values);
+        }
+        Err(error) => line.shown(&error),
+    }
 }
 
-/// How many members there are of one token, and what the first and the second are.
-fn tokens(alloc: Global, octets: &[u8]) -> Result<String, DerError> {
-    let values = values_of_token(alloc, Pkcs7Certificate::from_der(alloc, octets)?)?;
-    let count = values.as_slice().len();
-    let first = word_of_token(alloc, octets, &values, 0)?;
-    let second = word_of_token(alloc, octets, &values, 1)?;
-    Ok(format!(in alloc; "{count} {first} {second}")?)
+/// The values of the one token that is read of octets.
+fn tokens_of(alloc: Global, octets: &[u8]) -> Result<TokenValues, DerError> {
+    values_of_token(alloc, Pkcs7Certificate::from_der(alloc, octets)?)
 }
 
 /// The values of one token, which is let go.
@@ -63,43 +71,46 @@ fn values_of_token(alloc: Global, token: Pkcs7Certificate) -> Result<TokenValues
     values
 }
 
-fn word_of_token(
+/// Whether a member and its copy are written as the octets, or that there is none.
+fn print_member<T: Structure>(
     alloc: Global,
     octets: &[u8],
-    values: &TokenValues,
-    place: usize,
-) -> Result<&'static str, DerError> {
-    word_of_member(alloc, octets, values.get(alloc, place)?)
-}
-
-/// Whether a member is written as the octets, or that there is none.
-fn word_of_member<T: Structure>(
-    alloc: Global,
-    octets: &[u8],
-    member: Option<T>,
-) -> Result<&'static str, DerError> {
-    let Some(value) = member else {
-        return Ok("none");
-    };
-    let written = value.to_der(alloc)?;
-    Ok(if written.as_slice() == octets {
-        "same"
-    } else {
-        "changed"
-    })
+    member: Result<Option<T>, AllocError>,
+    line: &mut Line,
+) {
+    match member {
+        Ok(Some(value)) => {
+            line.same(is_written(alloc, octets, &value));
+            drop(value);
+        }
+        Ok(None) => line.word("none"),
+        Err(error) => line.shown(&error),
+    }
 }
 
 /// How many octets a signer has that holds itself as a counter-signature; or that it is too deep.
-fn within(alloc: Global, octets: &[u8]) -> Result<String, DerError> {
-    let values = values_of_signer(alloc, SignerInfo::from_der(alloc, octets)?)?;
-    let mut attributes = ListOf::new(alloc);
-    attributes.push(UnsignedAttribute::CounterSign(values))?;
-    let signer = SignerInfo::from_der(alloc, octets)?;
-    match values_of_signer(alloc, with_unsigned(signer, attributes)) {
-        Ok(values) => first_length(alloc, &values),
-        Err(DerError::TooDeep) => Ok(String::from_str(alloc, "TooDeep")?),
-        Err(error) => Err(error),
+fn print_within(alloc: Global, octets: &[u8], line: &mut Line) {
+    match within(alloc, octets) {
+        Ok(values) => {
+            print_first_length(&values, line);
+            drop(values);
+        }
+        Err(DerError::TooDeep) => line.word("TooDeep"),
+        Err(error) => line.shown(&error),
     }
+}
+
+fn within(alloc: Global, octets: &[u8]) -> Result<SignerValues, DerError> {
+    let attributes = counter_signed(alloc, octets)?;
+    let signer = SignerInfo::from_der(alloc, octets)?;
+    values_of_signer(alloc, with_unsigned(signer, attributes))
+}
+
+/// The attributes of a signer that the one of the octets counter-signs.
+fn counter_signed(alloc: Global, octets: &[u8]) -> Result<UnsignedAttributeList, DerError> {
+    let mut attributes = ListOf::new(alloc);
+    attributes.push(UnsignedAttribute::CounterSign(signers_of(alloc, octets)?))?;
+    Ok(attributes)
 }
 
 fn with_unsigned(mut signer: SignerInfo, attributes: UnsignedAttributeList) -> SignerInfo {
@@ -108,12 +119,9 @@ fn with_unsigned(mut signer: SignerInfo, attributes: UnsignedAttributeList) -> S
 }
 
 /// How many octets the first member has.
-fn first_length(alloc: Global, values: &SignerValues) -> Result<String, DerError> {
-    Ok(match values.as_slice() {
-        [first] => {
-            let length = first.as_bytes().len();
-            format!(in alloc; "{length}")?
-        }
-        _ => String::from_str(alloc, "other")?,
-    })
+fn print_first_length(values: &SignerValues, line: &mut Line) {
+    match values.as_slice() {
+        [first] => line.shown(&first.as_bytes().len()),
+        _ => line.word("other"),
+    }
 }

@@ -2,23 +2,44 @@
 
 use crate::{both, making, members, structures};
 use anyhow::{Result, bail};
-use row_answers::octets_of;
+use row_answers::{Line, octets_of_words};
 use std::alloc::Global;
 
 /// The answer to a row.
 pub fn answer(alloc: Global, text: &str) -> Result<String> {
     let words: Vec<&str> = text.split(' ').collect(alloc)?;
-    let answer = match words.as_slice() {
-        ["structure", kind, element] => structures::answer(alloc, kind, element)?,
-        ["unlike", kind, one, other] => structures::answer_unlike(alloc, kind, one, other)?,
-        ["both", "pkcs7", octets] => Some(both::answer(alloc, &octets_of(alloc, octets)?)?),
-        ["members", kind, octets] => members::answer(alloc, kind, octets)?,
-        ["make", "string", text] => Some(making::string(alloc, text)?),
-        ["make", "sha", name] => Some(making::sha(alloc, name)?),
-        _ => None,
-    };
-    match answer {
-        Some(answer) => Ok(answer),
-        None => bail!("no call has the row {text}"),
+    let octets = octets_of_words(alloc, &words)?;
+    let mut line = Line::new(alloc);
+    if !print(alloc, &words, &octets, &mut line) {
+        bail!("no call has the row {text}");
+    }
+    Ok(line.into_text()?)
+}
+
+/// The words behind a call, and the octets of each.
+#[derive(Clone, Copy)]
+pub struct Args<'a> {
+    pub words: &'a [&'a str],
+    pub octets: &'a [Vec<u8>],
+}
+
+/// Whether there is such a call, whose answer is printed.
+fn print(alloc: Global, words: &[&str], octets: &[Vec<u8>], line: &mut Line) -> bool {
+    match (words, octets) {
+        ([call, kind, words @ ..], [_, _, octets @ ..]) => {
+            print_call(alloc, (call, kind), Args { words, octets }, line)
+        }
+        _ => false,
+    }
+}
+
+fn print_call(alloc: Global, (call, kind): (&str, &str), args: Args<'_>, line: &mut Line) -> bool {
+    match (call, args.octets) {
+        ("structure", [element]) => structures::print(alloc, kind, element, line),
+        ("unlike", [one, other]) => structures::print_unlike(alloc, kind, (one, other), line),
+        ("both", [octets]) => both::print(alloc, kind, octets, line),
+        ("members", [octets]) => members::print(alloc, kind, octets, line),
+        ("make", _) => making::print(alloc, kind, args, line),
+        _ => false,
     }
 }

@@ -1,83 +1,77 @@
 //! What is printed of signed data where it lies.
 
 use cms_types::{SignedView, SignerView};
-use der_core::{Cursor, DerError, Elem};
-use row_answers::word_of;
-use std::alloc::{AllocError, Global};
+use der_core::{Cursor, Elem};
+use row_answers::Line;
 
-/// The fields in order, but for the revocation lists, each in its octets; or that there is no signed
-/// data.
-pub fn answer(alloc: Global, elem: Elem<'_>) -> Result<String, DerError> {
-    let Some(view) = SignedView::read(elem) else {
-        return Ok(String::from_str(alloc, "Shape")?);
-    };
-    let version = view.version();
-    let algorithms = all_octets(alloc, view.digest_algorithms())?;
-    let ty = word_of(alloc, view.content_type())?;
-    let content = given(alloc, view.content())?;
-    let members = all_octets(alloc, view.members())?;
-    let signers = all_signers(alloc, view.signers())?;
-    Ok(format!(in alloc; "{version} {algorithms} {ty} {content} {members} {signers}")?)
+/// The fields in order, but for the revocation lists, each in its octets.
+pub fn print(view: SignedView<'_>, line: &mut Line) {
+    line.shown(&view.version());
+    print_all(view.digest_algorithms(), line);
+    line.octets(view.content_type());
+    line.given(octets_of(view.content()));
+    print_all(view.members(), line);
+    print_signers(view.signers(), line);
 }
 
 /// The octets of elements one after another, in brackets.
-fn all_octets(alloc: Global, mut elements: Cursor<'_>) -> Result<String, DerError> {
-    let mut text = String::from_str(alloc, "[")?;
+fn print_all(mut elements: Cursor<'_>, line: &mut Line) {
+    line.word("[");
     // An element takes octets, so there are no more elements than octets.
     for _ in 0..elements.rest().len() {
-        let Some(elem) = elements.next()? else {
+        let Ok(Some(elem)) = elements.next() else {
             break;
         };
-        let one = word_of(alloc, elem.whole)?;
-        text = format!(in alloc; "{text} {one}")?;
+        line.octets(elem.whole);
     }
-    Ok(format!(in alloc; "{text} ]")?)
+    line.word("]");
 }
 
 /// The fields of signers one after another, in brackets.
-fn all_signers(alloc: Global, mut elements: Cursor<'_>) -> Result<String, DerError> {
-    let mut text = String::from_str(alloc, "[")?;
+fn print_signers(mut elements: Cursor<'_>, line: &mut Line) {
+    line.word("[");
     for _ in 0..elements.rest().len() {
-        let Some(elem) = elements.next()? else {
+        let Ok(Some(elem)) = elements.next() else {
             break;
         };
-        let one = signer(alloc, elem)?;
-        text = format!(in alloc; "{text} {one}")?;
+        print_signer(elem, line);
     }
-    Ok(format!(in alloc; "{text} ]")?)
+    line.word("]");
 }
 
 /// The fields of a signer.
-fn signer(alloc: Global, elem: Elem<'_>) -> Result<String, AllocError> {
-    let Some(view) = SignerView::read(elem) else {
-        return String::from_str(alloc, "Shape");
-    };
-    let version = view.version();
-    let named = named(alloc, view)?;
-    let digest = word_of(alloc, view.digest_algorithm())?;
-    let signed = given(alloc, view.signed_attributes())?;
-    let algorithm = word_of(alloc, view.signature_algorithm())?;
-    let signature = word_of(alloc, view.signature())?;
-    let unsigned = given(alloc, view.unsigned_attributes())?;
-    format!(in alloc; "{version} {named} {digest} {signed} {algorithm} {signature} {unsigned}")
+fn print_signer(elem: Elem<'_>, line: &mut Line) {
+    match SignerView::read(elem) {
+        Some(view) => print_fields(view, line),
+        None => line.word("Shape"),
+    }
+}
+
+fn print_fields(view: SignerView<'_>, line: &mut Line) {
+    line.shown(&view.version());
+    print_named(view, line);
+    line.octets(view.digest_algorithm());
+    line.given(octets_of(view.signed_attributes()));
+    line.octets(view.signature_algorithm());
+    line.octets(view.signature());
+    line.given(octets_of(view.unsigned_attributes()));
 }
 
 /// The issuer and the serial number that name the signer's certificate.
-fn named(alloc: Global, view: SignerView<'_>) -> Result<String, AllocError> {
+fn print_named(view: SignerView<'_>, line: &mut Line) {
     match view.issuer_and_serial() {
         Some((issuer, serial_number)) => {
-            let issuer = word_of(alloc, issuer)?;
-            let serial_number = word_of(alloc, serial_number)?;
-            format!(in alloc; "{issuer} {serial_number}")
+            line.octets(issuer);
+            line.octets(serial_number);
         }
-        None => String::from_str(alloc, "none"),
+        None => line.word("none"),
     }
 }
 
 /// The octets of an element that may be left out.
-fn given(alloc: Global, elem: Option<Elem<'_>>) -> Result<String, AllocError> {
+fn octets_of(elem: Option<Elem<'_>>) -> Option<&[u8]> {
     match elem {
-        Some(elem) => word_of(alloc, elem.whole),
-        None => String::from_str(alloc, "none"),
+        Some(elem) => Some(elem.whole),
+        None => None,
     }
 }
