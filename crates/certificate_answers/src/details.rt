@@ -1,64 +1,45 @@
 //! What is printed of a certificate that is a value of its own.
 
-use crate::line::{push, push_number, push_octets, push_oid};
-use der_core::{DerError, Octets, Structure};
-use std::alloc::{AllocError, Global};
+use der_core::{Octets, Structure};
+use row_answers::Line;
+use std::alloc::Global;
 use x509_types::{Certificate, TbsCertificate, Time, Version};
 
 /// The fields in order, and the octets that are written.
-pub fn print(alloc: Global, certificate: &Certificate, out: &mut String) -> Result<(), DerError> {
-    print_head(alloc, &certificate.tbs_certificate, out)?;
-    print_tail(alloc, &certificate.tbs_certificate, out)?;
-    print_signature(alloc, certificate, out)?;
-    push_structure(alloc, certificate, out)
+pub fn print(alloc: Global, certificate: &Certificate, line: &mut Line) {
+    print_head(alloc, &certificate.tbs_certificate, line);
+    print_tail(alloc, &certificate.tbs_certificate, line);
+    print_signature(certificate, line);
+    line.made(certificate.to_der(alloc));
 }
 
 /// The version, the serial number, the algorithm, the issuer and the times.
-fn print_head(alloc: Global, tbs: &TbsCertificate, out: &mut String) -> Result<(), DerError> {
-    push(out, version(tbs.version))?;
-    push_octets(alloc, out, tbs.serial_number.as_signed_bytes_be())?;
-    push_oid(alloc, out, tbs.signature.oid())?;
-    push_structure(alloc, &tbs.issuer, out)?;
-    push_time(alloc, &tbs.validity.not_before, out)?;
-    push_time(alloc, &tbs.validity.not_after, out)?;
-    Ok(())
+fn print_head(alloc: Global, tbs: &TbsCertificate, line: &mut Line) {
+    line.word(version(tbs.version));
+    line.octets(tbs.serial_number.as_signed_bytes_be());
+    line.shown(tbs.signature.oid());
+    line.made(tbs.issuer.to_der(alloc));
+    print_time(&tbs.validity.not_before, line);
+    print_time(&tbs.validity.not_after, line);
 }
 
 /// The subject, the key and the fields that may be left out behind it.
-fn print_tail(alloc: Global, tbs: &TbsCertificate, out: &mut String) -> Result<(), DerError> {
-    push_structure(alloc, &tbs.subject, out)?;
-    push_structure(alloc, &tbs.subject_public_key_info, out)?;
-    push_id(alloc, &tbs.issuer_unique_id, out)?;
-    push_id(alloc, &tbs.subject_unique_id, out)?;
+fn print_tail(alloc: Global, tbs: &TbsCertificate, line: &mut Line) {
+    line.made(tbs.subject.to_der(alloc));
+    line.made(tbs.subject_public_key_info.to_der(alloc));
+    print_id(&tbs.issuer_unique_id, line);
+    print_id(&tbs.subject_unique_id, line);
     match &tbs.extensions {
-        Some(extensions) => push_structure(alloc, extensions, out),
-        None => Ok(push(out, "none")?),
+        Some(extensions) => line.made(extensions.to_der(alloc)),
+        None => line.word("none"),
     }
 }
 
 /// The algorithm and the signature.
-fn print_signature(
-    alloc: Global,
-    certificate: &Certificate,
-    out: &mut String,
-) -> Result<(), AllocError> {
-    push_oid(alloc, out, certificate.signature_algorithm.oid())?;
-    push_number(
-        alloc,
-        out,
-        usize::from(certificate.signature_value.unused()),
-    )?;
-    push_octets(alloc, out, certificate.signature_value.payload_view())
-}
-
-/// The octets that are written for a value.
-fn push_structure<T: Structure>(
-    alloc: Global,
-    value: &T,
-    out: &mut String,
-) -> Result<(), DerError> {
-    let written = value.to_der(alloc)?;
-    Ok(push_octets(alloc, out, &written)?)
+fn print_signature(certificate: &Certificate, line: &mut Line) {
+    line.shown(certificate.signature_algorithm.oid());
+    line.shown(&certificate.signature_value.unused());
+    line.octets(certificate.signature_value.payload_view());
 }
 
 fn version(version: Option<Version>) -> &'static str {
@@ -70,18 +51,23 @@ fn version(version: Option<Version>) -> &'static str {
     }
 }
 
-fn push_id(alloc: Global, id: &Option<Octets>, out: &mut String) -> Result<(), AllocError> {
+fn print_id(id: &Option<Octets>, line: &mut Line) {
     match id {
-        Some(octets) => push_octets(alloc, out, octets.as_slice()),
-        None => push(out, "none"),
+        Some(octets) => line.octets(octets.as_slice()),
+        None => line.word("none"),
     }
 }
 
 /// The form of a time, and its moment.
-pub fn push_time(alloc: Global, time: &Time, out: &mut String) -> Result<(), AllocError> {
-    let text = match time {
-        Time::Utc(moment) => format!(in alloc; "Utc {moment}"),
-        Time::Generalized(moment) => format!(in alloc; "Generalized {moment}"),
-    };
-    push(out, text?.as_str())
+pub fn print_time(time: &Time, line: &mut Line) {
+    match time {
+        Time::Utc(moment) => {
+            line.word("Utc");
+            line.shown(moment);
+        }
+        Time::Generalized(moment) => {
+            line.word("Generalized");
+            line.shown(moment);
+        }
+    }
 }

@@ -1,86 +1,71 @@
 //! What is printed of a certificate that is kept, and of two of which one may be the parent.
 
-use crate::line::{push, push_flag, push_given, push_number, push_octets, push_oid, push_same};
-use crate::view::push_length;
+use crate::view::{print_flag, print_length};
 use der_core::{DerError, Raw, Structure, is_same};
-use key_core::PublicKey;
-use names_core::{DirectoryName, UtcDate};
-use row_answers::{equals, gives_octets};
+use names_core::DirectoryName;
+use row_answers::{Line, equals, gives_octets};
 use std::alloc::{AllocError, Global};
 use x509_core::{Cert, CertError, CertType};
 use x509_types::{AlgorithmIdentifier, AuthorityKeyIdentifier, BasicConstraints, Certificate};
 
 /// Whether the octets come back, as they were kept and written anew, and what a caller asks for; or why
 /// there is no certificate.
-pub fn answer(alloc: Global, octets: &[u8], out: &mut String) -> Result<(), AllocError> {
+pub fn print(alloc: Global, octets: &[u8], line: &mut Line) {
     match Cert::from_der(alloc, octets) {
         Ok(cert) => {
-            let printed = print(alloc, &cert, octets, out);
+            print_certificate(alloc, &cert, octets, line);
             drop(cert);
-            printed
         }
-        Err(error) => push_error(alloc, error, out),
+        Err(error) => print_error(error, line),
     }
 }
 
 /// Whether one certificate is the parent of another, else why not.
-pub fn parent(
-    alloc: Global,
-    parent: &[u8],
-    child: &[u8],
-    out: &mut String,
-) -> Result<(), AllocError> {
+pub fn print_parent(alloc: Global, parent: &[u8], child: &[u8], line: &mut Line) {
     match Cert::from_der(alloc, parent) {
         Ok(parent) => {
-            let printed = parent_of(alloc, &parent, child, out);
+            print_parent_of(alloc, &parent, child, line);
             drop(parent);
-            printed
         }
-        Err(error) => push_error(alloc, error, out),
+        Err(error) => print_error(error, line),
     }
 }
 
-fn parent_of(
-    alloc: Global,
-    parent: &Cert,
-    child: &[u8],
-    out: &mut String,
-) -> Result<(), AllocError> {
+fn print_parent_of(alloc: Global, parent: &Cert, child: &[u8], line: &mut Line) {
     match Cert::from_der(alloc, child) {
         Ok(child) => {
-            let printed = print_link(alloc, parent, &child, out);
+            print_link(alloc, parent, &child, line);
             drop(child);
-            printed
         }
-        Err(error) => push_error(alloc, error, out),
+        Err(error) => print_error(error, line),
     }
 }
 
-fn print_link(
-    alloc: Global,
-    parent: &Cert,
-    child: &Cert,
-    out: &mut String,
-) -> Result<(), AllocError> {
+fn print_link(alloc: Global, parent: &Cert, child: &Cert, line: &mut Line) {
     match parent.is_parent_of(alloc, child) {
-        Ok(()) => push(out, "parent"),
-        Err(error) => push_error(alloc, error, out),
+        Ok(()) => line.word("parent"),
+        Err(error) => print_error(error, line),
     }
 }
 
 /// The octets of a certificate with another algorithm of its signature, or why there are none.
-pub fn written(
-    alloc: Global,
-    octets: &[u8],
-    algorithm: &[u8],
-    out: &mut String,
-) -> Result<(), DerError> {
-    let algorithm = AlgorithmIdentifier::from_der(alloc, algorithm)?;
-    let certificate = Certificate::from_der(alloc, octets)?;
-    Ok(print_written(alloc, signed_by(certificate, algorithm), out)?)
+pub fn print_written(alloc: Global, octets: &[u8], algorithm: &[u8], line: &mut Line) {
+    match signed_by(alloc, octets, algorithm) {
+        Ok(certificate) => print_made(alloc, Cert::from_certificate(alloc, certificate), line),
+        Err(error) => line.shown(&error),
+    }
 }
 
-fn signed_by(certificate: Certificate, signature_algorithm: AlgorithmIdentifier) -> Certificate {
+fn signed_by(alloc: Global, octets: &[u8], algorithm: &[u8]) -> Result<Certificate, DerError> {
+    let algorithm = AlgorithmIdentifier::from_der(alloc, algorithm)?;
+    let certificate = Certificate::from_der(alloc, octets)?;
+    Ok(with_algorithm(certificate, algorithm))
+}
+
+fn with_algorithm(
+    certificate: Certificate,
+    signature_algorithm: AlgorithmIdentifier,
+) -> Certificate {
     Certificate {
         tbs_certificate: certificate.tbs_certificate,
         signature_algorithm,
@@ -88,86 +73,54 @@ fn signed_by(certificate: Certificate, signature_algorithm: AlgorithmIdentifier)
     }
 }
 
-fn print_written(
-    alloc: Global,
-    certificate: Certificate,
-    out: &mut String,
-) -> Result<(), AllocError> {
-    match Cert::from_certificate(alloc, certificate) {
+fn print_made(alloc: Global, made: Result<Cert, CertError>, line: &mut Line) {
+    match made {
         Ok(cert) => {
-            let printed = print_octets(alloc, &cert, out);
+            line.made(cert.to_der(alloc));
             drop(cert);
-            printed
         }
-        Err(error) => push_error(alloc, error, out),
+        Err(error) => print_error(error, line),
     }
 }
 
-fn print_octets(alloc: Global, cert: &Cert, out: &mut String) -> Result<(), AllocError> {
-    match cert.to_der(alloc) {
-        Ok(octets) => push_octets(alloc, out, &octets),
-        Err(error) => push_error(alloc, error, out),
-    }
-}
-
-/// The text of an error, which is let go here alone. Want of memory ends the run.
-pub fn push_error(alloc: Global, error: CertError, out: &mut String) -> Result<(), AllocError> {
-    let pushed = push_text(alloc, &error, out);
+/// The text of an error, which is let go here alone.
+pub fn print_error(error: CertError, line: &mut Line) {
+    line.shown(&error);
     drop(error);
-    pushed
-}
-
-fn push_text(alloc: Global, error: &CertError, out: &mut String) -> Result<(), AllocError> {
-    if let CertError::Memory = error {
-        return Err(AllocError);
-    }
-    let text = format!(in alloc; "{error}")?;
-    push(out, text.as_str())
 }
 
 /// What is printed of a certificate that was read of these octets.
-pub fn print(
-    alloc: Global,
-    cert: &Cert,
-    octets: &[u8],
-    out: &mut String,
-) -> Result<(), AllocError> {
-    push_kept(alloc, cert, octets, out)?;
-    push_anew(alloc, cert, octets, out)?;
-    print_fields(alloc, cert, out)?;
-    push_key(alloc, cert.public_key(), out)?;
-    print_said(alloc, cert, out)?;
-    push_number(alloc, out, cert.extensions().len())
+pub fn print_certificate(alloc: Global, cert: &Cert, octets: &[u8], line: &mut Line) {
+    line.same(is_copied(alloc, cert, octets));
+    print_anew(alloc, cert, octets, line);
+    print_fields(alloc, cert, line);
+    line.made(cert.public_key().to_der(alloc));
+    print_said(cert, line);
+    line.shown(&cert.extensions().len());
 }
 
 /// Whether a certificate and a copy of it are equal, and have these octets.
-fn push_kept(
-    alloc: Global,
-    cert: &Cert,
-    octets: &[u8],
-    out: &mut String,
-) -> Result<(), AllocError> {
+fn is_copied(alloc: Global, cert: &Cert, octets: &[u8]) -> Result<bool, DerError> {
     let copy = cert.try_clone(alloc)?;
     let has_octets = has_octets(alloc, &copy, octets);
-    push_same(out, equals(copy, cert) && has_octets)
+    Ok(equals(copy, cert) && has_octets)
 }
 
 /// Whether the octets that are written for the value are these, else why there are none.
-fn push_anew(
-    alloc: Global,
-    cert: &Cert,
-    octets: &[u8],
-    out: &mut String,
-) -> Result<(), AllocError> {
-    let copy = cert.try_clone(alloc)?;
-    match Cert::from_certificate(alloc, copy.into_certificate()) {
+fn print_anew(alloc: Global, cert: &Cert, octets: &[u8], line: &mut Line) {
+    match made_anew(alloc, cert) {
         Ok(again) => {
-            let has_octets = has_octets(alloc, &again, octets);
+            line.same(Ok(has_octets(alloc, &again, octets)));
             drop(again);
-            push_same(out, has_octets)
         }
-        Err(error) => push_error(alloc, error, out),
+        Err(error) => print_error(error, line),
     }
+}
+
+/// The certificate that is made of the value of a certificate.
+fn made_anew(alloc: Global, cert: &Cert) -> Result<Cert, CertError> {
+    let copy = cert.try_clone(alloc)?;
+    Cert::from_certificate(alloc, copy.into_certificate())
 }
 
 /// Whether a certificate has these octets.
@@ -176,14 +129,14 @@ fn has_octets(alloc: Global, cert: &Cert, octets: &[u8]) -> bool {
 }
 
 /// The kind, the dates, the names, the number and the algorithm.
-fn print_fields(alloc: Global, cert: &Cert, out: &mut String) -> Result<(), AllocError> {
-    push(out, kind(cert.ty()))?;
-    push_date(alloc, &cert.valid_not_before(), out)?;
-    push_date(alloc, &cert.valid_not_after(), out)?;
-    push_name(alloc, &cert.subject_name(alloc)?, out)?;
-    push_name(alloc, &cert.issuer_name(alloc)?, out)?;
-    push_octets(alloc, out, cert.serial_number().as_signed_bytes_be())?;
-    push_oid(alloc, out, cert.signature_algorithm().oid())
+fn print_fields(alloc: Global, cert: &Cert, line: &mut Line) {
+    line.word(kind(cert.ty()));
+    line.shown(&cert.valid_not_before());
+    line.shown(&cert.valid_not_after());
+    print_name(cert.subject_name(alloc), line);
+    print_name(cert.issuer_name(alloc), line);
+    line.octets(cert.serial_number().as_signed_bytes_be());
+    line.shown(cert.signature_algorithm().oid());
 }
 
 fn kind(kind: CertType) -> &'static str {
@@ -195,70 +148,44 @@ fn kind(kind: CertType) -> &'static str {
     }
 }
 
-fn push_date(alloc: Global, date: &UtcDate, out: &mut String) -> Result<(), AllocError> {
-    let text = format!(in alloc; "{date}")?;
-    push(out, text.as_str())
-}
-
-fn push_name(alloc: Global, name: &DirectoryName, out: &mut String) -> Result<(), AllocError> {
-    let text = name.to_string(alloc)?;
-    push(out, text.as_str())
-}
-
-/// The octets of the key, or why there are none.
-fn push_key(alloc: Global, key: &PublicKey, out: &mut String) -> Result<(), AllocError> {
-    match key.to_der(alloc) {
-        Ok(octets) => push_octets(alloc, out, &octets),
-        Err(error) => {
-            let text = format!(in alloc; "{error}")?;
-            push(out, text.as_str())
-        }
+fn print_name(name: Result<DirectoryName, AllocError>, line: &mut Line) {
+    match name {
+        Ok(name) => line.shown(&name),
+        Err(error) => line.shown(&error),
     }
 }
 
 /// What the first key identifiers and basic constraints say, or that there are none.
-fn print_said(alloc: Global, cert: &Cert, out: &mut String) -> Result<(), AllocError> {
-    print_subject_key(alloc, cert, out)?;
-    print_authority_key(alloc, cert, out)?;
-    print_constraints(alloc, cert, out)
-}
-
-fn print_subject_key(alloc: Global, cert: &Cert, out: &mut String) -> Result<(), AllocError> {
+fn print_said(cert: &Cert, line: &mut Line) {
     match cert.subject_key_identifier() {
-        Ok(key) => push_octets(alloc, out, key),
-        Err(error) => push_error(alloc, error, out),
+        Ok(key) => line.octets(key),
+        Err(error) => print_error(error, line),
     }
+    print_authority_key(cert, line);
+    print_constraints(cert, line);
 }
 
-fn print_authority_key(alloc: Global, cert: &Cert, out: &mut String) -> Result<(), AllocError> {
+fn print_authority_key(cert: &Cert, line: &mut Line) {
     match cert.authority_key_identifier() {
-        Ok(key) => push_authority_key(alloc, key, out),
-        Err(error) => push_error(alloc, error, out),
+        Ok(key) => print_key_parts(key, line),
+        Err(error) => print_error(error, line),
     }
 }
 
-fn push_authority_key(
-    alloc: Global,
-    key: &AuthorityKeyIdentifier,
-    out: &mut String,
-) -> Result<(), AllocError> {
-    push_given(alloc, out, key.key_identifier())?;
-    push_given(alloc, out, key.issuer().map(Raw::as_bytes))?;
-    push_given(alloc, out, key.serial_number())
+fn print_key_parts(key: &AuthorityKeyIdentifier, line: &mut Line) {
+    line.given(key.key_identifier());
+    line.given(key.issuer().map(Raw::as_bytes));
+    line.given(key.serial_number());
 }
 
-fn print_constraints(alloc: Global, cert: &Cert, out: &mut String) -> Result<(), AllocError> {
+fn print_constraints(cert: &Cert, line: &mut Line) {
     match cert.basic_constraints() {
-        Ok(constraints) => push_constraints(alloc, constraints, out),
-        Err(error) => push_error(alloc, error, out),
+        Ok(constraints) => print_constraints_of(constraints, line),
+        Err(error) => print_error(error, line),
     }
 }
 
-fn push_constraints(
-    alloc: Global,
-    constraints: &BasicConstraints,
-    out: &mut String,
-) -> Result<(), AllocError> {
-    push_flag(out, constraints.ca())?;
-    push_length(alloc, out, constraints.pathlen())
+fn print_constraints_of(constraints: &BasicConstraints, line: &mut Line) {
+    print_flag(constraints.ca(), line);
+    print_length(constraints.pathlen(), line);
 }

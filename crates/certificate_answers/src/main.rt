@@ -18,7 +18,6 @@
 mod both;
 mod details;
 mod kept;
-mod line;
 mod measure;
 mod row;
 mod view;

@@ -1,6 +1,6 @@
 //! How long certificates take to be read, for `bench/certificates.py`.
 
-use crate::view::octets;
+use crate::view::{first_in, octets};
 use anyhow::Result;
 use asn1_types::oids::{KP_CODE_SIGNING, KP_TIME_STAMPING};
 use der_core::Cursor;
@@ -99,9 +99,10 @@ fn kept(alloc: Global, octets: &[u8]) -> Option<usize> {
 }
 
 fn lent(octets: &[u8]) -> Option<usize> {
-    let mut cursor = Cursor::new(octets);
-    let view = CertView::read(cursor.next().ok()??)?;
-    Some(fields(view).wrapping_add(said(view)))
+    match first_in(octets) {
+        Ok(Some(view)) => Some(fields(view).wrapping_add(said(view))),
+        _ => None,
+    }
 }
 
 /// How many octets the fields have.

@@ -1,125 +1,120 @@
 //! Rows, and what is answered to them.
 
-use crate::line::{push, push_same};
 use crate::{both, details, kept, view};
 use anyhow::{Result, bail};
-use der_core::DerError;
-use row_answers::{are_equal, comes_back, octets_of, value_of};
+use row_answers::{Line, are_equal, comes_back, octets_of_words, value_of};
 use std::alloc::Global;
 use x509_types::Certificate;
 
 /// The answer to a row.
 pub fn answer(alloc: Global, text: &str) -> Result<String> {
     let words: Vec<&str> = text.split(' ').collect(alloc)?;
-    let mut out = String::new(alloc);
-    if !print(alloc, &words, &mut out)? {
+    let octets = octets_of_words(alloc, &words)?;
+    let mut line = Line::new(alloc);
+    if !print(alloc, &words, &octets, &mut line) {
         bail!("no call has the row {text}");
     }
-    Ok(out)
+    Ok(line.into_text()?)
 }
 
 /// Whether there is such a call; its answer is printed.
-fn print(alloc: Global, words: &[&str], out: &mut String) -> Result<bool> {
-    match words {
-        [call, "certificate", octets] => print_one(alloc, call, octets, out),
-        [call, "certificate", one, other] => print_two(alloc, call, one, other, out),
-        ["both", "certificate", begin, part, times, end] => {
-            print_repeated(alloc, (begin, part, end), times.parse()?, out)
+fn print(alloc: Global, words: &[&str], octets: &[Vec<u8>], line: &mut Line) -> bool {
+    match (words, octets) {
+        ([call, "certificate", words @ ..], [_, _, octets @ ..]) => {
+            print_call(alloc, call, words, octets, line)
         }
-        _ => Ok(false),
+        _ => false,
     }
 }
 
-fn print_one(alloc: Global, call: &str, octets: &str, out: &mut String) -> Result<bool> {
-    let octets = octets_of(alloc, octets)?;
-    Ok(answer_one(alloc, call, &octets, out)?)
-}
-
-fn answer_one(
+fn print_call(
     alloc: Global,
     call: &str,
-    octets: &[u8],
-    out: &mut String,
-) -> Result<bool, DerError> {
-    match call {
-        "structure" => print_structure(alloc, octets, out)?,
-        "view" => print_view(alloc, octets, out)?,
-        "both" => both::answer(alloc, octets, out)?,
-        "kept" => kept::answer(alloc, octets, out)?,
-        _ => return Ok(false),
+    words: &[&str],
+    octets: &[Vec<u8>],
+    line: &mut Line,
+) -> bool {
+    match octets {
+        [octets] => print_one(alloc, call, octets, line),
+        [one, other] => print_two(alloc, call, one, other, line),
+        [begin, part, _, end] => {
+            call == "both" && print_repeated(alloc, (begin, part, end), words, line)
+        }
+        _ => false,
     }
-    Ok(true)
 }
 
-fn print_two(alloc: Global, call: &str, one: &str, other: &str, out: &mut String) -> Result<bool> {
-    let one = octets_of(alloc, one)?;
-    let other = octets_of(alloc, other)?;
-    Ok(answer_two(alloc, call, &one, &other, out)?)
-}
-
-fn answer_two(
-    alloc: Global,
-    call: &str,
-    one: &[u8],
-    other: &[u8],
-    out: &mut String,
-) -> Result<bool, DerError> {
+fn print_one(alloc: Global, call: &str, octets: &[u8], line: &mut Line) -> bool {
     match call {
-        "unlike" => print_equal(alloc, one, other, out)?,
-        "parent" => kept::parent(alloc, one, other, out)?,
-        "written" => kept::written(alloc, one, other, out)?,
-        _ => return Ok(false),
+        "structure" => print_structure(alloc, octets, line),
+        "view" => print_view(octets, line),
+        "both" => both::print(alloc, octets, line),
+        "kept" => kept::print(alloc, octets, line),
+        _ => return false,
     }
-    Ok(true)
+    true
 }
 
-/// The answer to octets that are put together, the second of them so many times.
+fn print_two(alloc: Global, call: &str, one: &[u8], other: &[u8], line: &mut Line) -> bool {
+    match call {
+        "unlike" => print_equal(alloc, one, other, line),
+        "parent" => kept::print_parent(alloc, one, other, line),
+        "written" => kept::print_written(alloc, one, other, line),
+        _ => return false,
+    }
+    true
+}
+
+/// Whether the third word is a number. The answer to octets that are put together, the second of them
+/// so many times, is printed.
 fn print_repeated(
     alloc: Global,
-    (begin, part, end): (&str, &str, &str),
-    times: u32,
-    out: &mut String,
-) -> Result<bool> {
-    let begin = octets_of(alloc, begin)?;
-    let part = octets_of(alloc, part)?;
-    let end = octets_of(alloc, end)?;
-    let octets = both::repeated(alloc, &begin, &part, times, &end)?;
-    both::answer(alloc, &octets, out)?;
-    Ok(true)
+    (begin, part, end): (&[u8], &[u8], &[u8]),
+    words: &[&str],
+    line: &mut Line,
+) -> bool {
+    let Some(times) = times_of(words) else {
+        return false;
+    };
+    match both::repeated(alloc, begin, part, times, end) {
+        Ok(octets) => both::print(alloc, &octets, line),
+        Err(error) => line.shown(&error),
+    }
+    true
+}
+
+fn times_of(words: &[&str]) -> Option<u32> {
+    match words {
+        [_, _, times, _] => times.parse().ok(),
+        _ => None,
+    }
 }
 
 /// Whether the certificate comes back as it was read, and its fields; or that there is none.
-fn print_structure(alloc: Global, element: &[u8], out: &mut String) -> Result<(), DerError> {
+fn print_structure(alloc: Global, element: &[u8], line: &mut Line) {
     match value_of::<Certificate>(alloc, element) {
         Ok(certificate) => {
-            let printed = print_certificate(alloc, &certificate, element, out);
+            line.same(comes_back(alloc, element, &certificate));
+            details::print(alloc, &certificate, line);
             drop(certificate);
-            printed
         }
-        Err(DerError::Shape) => Ok(push(out, "Shape")?),
-        Err(error) => Err(error),
+        Err(error) => line.refused(error),
     }
-}
-
-fn print_certificate(
-    alloc: Global,
-    certificate: &Certificate,
-    element: &[u8],
-    out: &mut String,
-) -> Result<(), DerError> {
-    push_same(out, comes_back(alloc, element, certificate)?)?;
-    details::print(alloc, certificate, out)
 }
 
 /// The fields of the first certificate in the octets; or that there is none.
-fn print_view(alloc: Global, octets: &[u8], out: &mut String) -> Result<(), DerError> {
-    match view::first_in(octets)? {
-        Some(view) => Ok(view::print(alloc, &view, out)?),
-        None => Ok(push(out, "Shape")?),
+fn print_view(octets: &[u8], line: &mut Line) {
+    match view::first_in(octets) {
+        Ok(Some(view)) => view::print(&view, line),
+        Ok(None) => line.word("Shape"),
+        Err(malformed) => line.shown(&malformed),
     }
 }
 
-fn print_equal(alloc: Global, one: &[u8], other: &[u8], out: &mut String) -> Result<(), DerError> {
-    let equal = are_equal::<Certificate>(alloc, one, other)?;
-    Ok(push(out, if equal { "equal" } else { "unlike" })?)
+fn print_equal(alloc: Global, one: &[u8], other: &[u8], line: &mut Line) {
+    match are_equal::<Certificate>(alloc, one, other) {
+        Ok(true) => line.word("equal"),
+        Ok(false) => line.word("unlike"),
+        Err(error) => line.shown(&error),
+    }
 }
