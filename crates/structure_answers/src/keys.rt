@@ -3,7 +3,7 @@
 use crate::details::Details;
 use crate::row::Args;
 use asn1_types::{BitString, ObjectIdentifier};
-use der_core::{DerError, Octets, Raw, Structure, read_exact};
+use der_core::{DerError, Octets, Raw, Structure};
 use key_core::{
     AlgorithmIdentifier, ECPrivateKey, PrivateKeyInfo, PrivateKeyValue, PrivateKeyVersion,
     PublicKey, RsaPrivateKey, SubjectPublicKeyInfo,
@@ -124,24 +124,25 @@ fn private_key_info(alloc: Global, args: Args<'_>) -> Result<Option<PrivateKeyIn
     let attributes = attributes_of(alloc, has_attributes, attributes)?;
     let public_key = bits_of(alloc, has_bits, bits)?;
     let algorithm = AlgorithmIdentifier::from_der(alloc, algorithm)?;
-    let Some(key) = private_key(alloc, kind, key)? else {
-        return Ok(None);
-    };
+    let key = private_key(alloc, kind, key)?;
     Ok(PrivateKeyInfo::new(version_of(version), algorithm, key, attributes, public_key))
 }
 
 /// A private key by its kind, its element or, of a curve 25519 or 448, its octets.
-fn private_key(
-    alloc: Global,
-    kind: &str,
-    octets: &[u8],
-) -> Result<Option<PrivateKeyValue>, DerError> {
-    Ok(match kind {
-        "Rsa" => Some(PrivateKeyValue::Rsa(RsaPrivateKey::from_der(alloc, octets)?)),
-        "Ec" => Some(PrivateKeyValue::Ec(ECPrivateKey::from_der(alloc, octets)?)),
-        "Ed" => Some(PrivateKeyValue::Ed(Octets::from_slice(alloc, octets)?)),
-        _ => None,
-    })
+fn private_key(alloc: Global, kind: &str, octets: &[u8]) -> Result<PrivateKeyValue, DerError> {
+    match kind {
+        "Rsa" => rsa_private_key(alloc, octets),
+        "Ec" => ec_private_key(alloc, octets),
+        _ => Ok(PrivateKeyValue::Ed(Octets::from_slice(alloc, octets)?)),
+    }
+}
+
+fn rsa_private_key(alloc: Global, octets: &[u8]) -> Result<PrivateKeyValue, DerError> {
+    Ok(PrivateKeyValue::Rsa(RsaPrivateKey::from_der(alloc, octets)?))
+}
+
+fn ec_private_key(alloc: Global, octets: &[u8]) -> Result<PrivateKeyValue, DerError> {
+    Ok(PrivateKeyValue::Ec(ECPrivateKey::from_der(alloc, octets)?))
 }
 
 fn version_of(word: &str) -> PrivateKeyVersion {
@@ -155,8 +156,7 @@ fn attributes_of(alloc: Global, word: &str, octets: &[u8]) -> Result<Option<Raw>
     if word == "none" {
         return Ok(None);
     }
-    let tree = read_exact(alloc, octets)?;
-    Ok(Some(Raw::from_tree(alloc, &tree)?))
+    Ok(Some(Raw::from_der(alloc, octets)?))
 }
 
 fn bits_of(alloc: Global, word: &str, octets: &[u8]) -> Result<Option<BitString>, AllocError> {

@@ -3,7 +3,7 @@
 use crate::details::Details;
 use crate::row::Args;
 use asn1_types::{BitString, CharSetError, Ia5String, ObjectIdentifier, oids};
-use der_core::{DerError, Raw, Structure, read_exact};
+use der_core::{DerError, Raw, Structure};
 use names_core::DirectoryName;
 use row_answers::Line;
 use std::alloc::{AllocError, Global};
@@ -47,15 +47,11 @@ fn algorithm(
     parameters: Option<&[u8]>,
 ) -> Result<AlgorithmIdentifier, DerError> {
     let parameters = match parameters {
-        Some(octets) => Some(kept(alloc, octets)?),
+        Some(octets) => Some(Raw::from_der(alloc, octets)?),
         None => None,
     };
     let oid = ObjectIdentifier::from_content(alloc, oid)?;
     Ok(AlgorithmIdentifier::new(oid, parameters))
-}
-
-fn kept(alloc: Global, element: &[u8]) -> Result<Raw, DerError> {
-    Raw::from_tree(alloc, &read_exact(alloc, element)?)
 }
 
 fn algorithm_null(alloc: Global, oid: &[u8]) -> Result<AlgorithmIdentifier, DerError> {
@@ -95,14 +91,18 @@ fn public_key(
     algorithm: &[u8],
     bits: &[u8],
 ) -> Result<Option<SubjectPublicKeyInfo>, DerError> {
-    let algorithm = AlgorithmIdentifier::from_der(alloc, algorithm)?;
     let bits = BitString::with_bytes(alloc, bits)?;
-    Ok(match words {
-        ["Ec", ..] => SubjectPublicKeyInfo::new(algorithm, SubjectKey::Ec(bits)),
-        ["Ed", ..] => SubjectPublicKeyInfo::new(algorithm, SubjectKey::Ed(bits)),
-        ["Mldsa", ..] => SubjectPublicKeyInfo::new(algorithm, SubjectKey::Mldsa(bits)),
-        _ => None,
-    })
+    let algorithm = AlgorithmIdentifier::from_der(alloc, algorithm)?;
+    Ok(SubjectPublicKeyInfo::new(algorithm, key_of_kind(words, bits)))
+}
+
+/// The key of bits by the first word, one of ML-DSA where that is no kind of keys.
+fn key_of_kind(words: &[&str], bits: BitString) -> SubjectKey {
+    match words {
+        ["Ec", ..] => SubjectKey::Ec(bits),
+        ["Ed", ..] => SubjectKey::Ed(bits),
+        _ => SubjectKey::Mldsa(bits),
+    }
 }
 
 /// The text of octets, none where they have none.

@@ -77,9 +77,19 @@ pub fn print_unlike(alloc: Global, kind: &str, args: &[Vec<u8>], line: &mut Line
 fn read_of<T: Structure + PartialEq + Details>(alloc: Global, element: &[u8], line: &mut Line) {
     match value_of::<T>(alloc, element) {
         Ok(value) => {
-            line.same(comes_back(alloc, element, &value));
-            value.print(alloc, line);
+            print_value(alloc, element, &value, line);
+            drop(value);
         }
         Err(error) => line.refused(error),
     }
+}
+
+fn print_value<T: Structure + PartialEq + Details>(
+    alloc: Global,
+    element: &[u8],
+    value: &T,
+    line: &mut Line,
+) {
+    line.same(comes_back(alloc, element, value));
+    value.print(alloc, line);
 }
