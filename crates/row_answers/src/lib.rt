@@ -7,5 +7,5 @@ mod values;
 mod words;
 
 pub use line::Line;
-pub use values::{are_equal, comes_back, equals, gives, gives_octets, shown_shape, value_of};
+pub use values::{are_equal, comes_back, equals, gives, gives_octets, value_of};
 pub use words::{octets_of, octets_of_words, text_of, word_of};

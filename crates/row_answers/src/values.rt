@@ -41,14 +41,6 @@ pub fn gives_octets<E: Drop>(given: Result<Vec<u8>, E>, octets: &[u8]) -> bool {
     }
 }
 
-/// A refusal of the shape; another error ends the run.
-pub fn shown_shape(alloc: Global, error: DerError) -> Result<String, DerError> {
-    match error {
-        DerError::Shape => Ok(String::from_str(alloc, "Shape")?),
-        error => Err(error),
-    }
-}
-
 /// Whether the values of two elements are equal, asked both ways.
 pub fn are_equal<T: Structure + PartialEq>(
     alloc: Global,
