@@ -60,26 +60,30 @@ contents_taken past octets contents rest fits e =
     subst (λ (p : List ℕ × List ℕ). HasContents octets p.0 p.1) (ok_is (take b.0.0 b.0.1, drop b.0.0 b.0.1) (contents, rest) g.1)
     (length_then b.0.0 octets b.0.1 (length_taken past octets b.0.0 b.0.1 fits b.1) (ltb-false _ _ g.0))
 
+-- a tag, and contents of the length that the octets after it begin with
+contents_then : (levels : ℕ) (past : DerFault) (tag : ℕ) (after contents rest : List ℕ) → 0 < levels → IsOctets (tag ∷ after) → contents_at past after ≡ Ok (contents, rest) → IsTag tag → HasHead levels (tag ∷ after) tag contents rest
+contents_then levels past tag after contents rest some fits e is_tag =
+    let c = contents_taken past after contents rest (λ i. fits (suc i)) e in
+    record { parts = ap (λ (o : List ℕ). tag ∷ o) c.parts; is_tag = is_tag; short = c.short; some = some }
+
+-- a head whose contents and tag were tested
+pub sound_taken : (octets : List ℕ) (tag : ℕ) (after contents rest : List ℕ) → octets ≡ tag ∷ after → IsOctets octets → contents_at Truncated after ≡ Ok (contents, rest) → IsTag tag → HasHead 64 octets tag contents rest
+sound_taken octets tag after contents rest are fits e is_tag = rw are (contents_then 64 Truncated tag after contents rest (omega arith) (rw are at fits) e is_tag)
+
 pub head_taken : (levels : ℕ) (octets : List ℕ) (tag : ℕ) (contents rest : List ℕ) → IsOctets octets → head_at levels octets ≡ Ok (tag, contents, rest) → HasHead levels octets tag contents rest
 unfolding head_at
 head_taken levels [] tag contents rest fits e = absurd cc
 head_taken levels (first ∷ octets) tag contents rest fits e =
-    let after : IsOctets octets = λ i. fits (suc i) in
     let last : Result (ℕ × List ℕ × List ℕ) DerFault = contents_at (past_bound levels) octets >>= λ c. Ok (first, c.0, c.1) in
     let z = guard_ok (eqb first 0) ReservedTag (cond (eqb (first % 32) 31) (Err HighTag) (cond (eqb levels 0) (Err TooDeep) last)) (tag, contents, rest) e in
     let h = guard_ok (eqb (first % 32) 31) HighTag (cond (eqb levels 0) (Err TooDeep) last) (tag, contents, rest) z.1 in
     let d = guard_ok (eqb levels 0) TooDeep last (tag, contents, rest) h.1 in
     let b = bind_ok (contents_at (past_bound levels) octets) (λ c. Ok (first, c.0, c.1)) (tag, contents, rest) d.1 in
-    let c = contents_taken (past_bound levels) octets b.0.0 b.0.1 after b.1 in
     let made : ℕ × List ℕ × List ℕ = (first, b.0.0, b.0.1) in
     let found : ℕ × List ℕ × List ℕ = (tag, contents, rest) in
     let not_deep : levels ≡ 0 → ⊥ = eqb-false _ _ d.0 in
-    subst (λ (p : ℕ × List ℕ × List ℕ). HasHead levels (first ∷ octets) p.0 p.1 p.2) (ok_is made found b.2) (record {
-      parts = ap (λ (o : List ℕ). first ∷ o) c.parts;
-      is_tag = (fits 0, eqb-false _ _ z.0, eqb-false _ _ h.0);
-      short = c.short;
-      some = omega arith;
-    })
+    subst (λ (p : ℕ × List ℕ × List ℕ). HasHead levels (first ∷ octets) p.0 p.1 p.2) (ok_is made found b.2)
+    (contents_then levels (past_bound levels) first octets b.0.0 b.0.1 (omega arith) fits b.1 (fits 0, eqb-false _ _ z.0, eqb-false _ _ h.0))
 
 -- ---- a head of which no test fails
 

@@ -8,6 +8,7 @@ pub mod Nesting
 pub mod Siblings
 pub mod Refusals
 pub mod InOctets
+pub mod Outward
 pub mod Cursors
 pub mod SoFar
 pub mod Parts

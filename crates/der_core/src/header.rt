@@ -1,7 +1,7 @@
 //! Identifier and length, before any contents are copied.
 
 ghost use Rattle.std.specs.Prelude.{◌≡◌, ◌<◌, ◌≤◌, ◌↔◌, ℕ, length, Ok, Err, IsTrue, IfSome, MatchResult};
-ghost use Rattle.der_core.specs.Encoding.{form_bit};
+ghost use Rattle.der_core.specs.Encoding.{form_bit, IsTag};
 ghost use Rattle.der_core.specs.Head.{past_bound, number_from, long_length_at, length_at, contents_at, head_at, BeginsWithHead, BeginsWithLength, HasHead};
 ghost use Rattle.der_core.specs.declared.fault.DerFault.TheVariants.{Truncated};
 
@@ -46,28 +46,43 @@ pub fn head_of(octets: &[u8], at: usize, levels: u8) -> Result<Head<'_>, Malform
     }
 }
 
-/// The head that octets begin with, with all levels left, where no test of it fails. Which one fails
-/// is what `head_of` says. The octets end where the element has to end at the latest.
+/// The head that octets begin with, with all levels left, where no test of it fails, and whether the
+/// element is constructed. Which test fails is what `head_of` says: here the tag is tested last. The
+/// octets end where the element has to end at the latest.
 #[inline(always)]
-pub fn sound_head(octets: &[u8]) -> Option<Head<'_>>
-    ensures { IfSome result (λ head. HasHead 64 octets.now head.tag head.contents.now head.rest.now) }
+pub fn sound_head(octets: &[u8]) -> Option<(Head<'_>, bool)>
+    ensures { IfSome result (λ h. HasHead 64 octets.now h.0.tag h.0.contents.now h.0.rest.now × (IsTrue h.1 ↔ (form_bit h.0.tag ≡ 1))) }
 {
-    match tested_head(octets, MAX_NESTING) {
-        Ok(head) => Some(head),
-        Err(_) => None,
-    }
+    let (tag, after) = octets.split_first()?;
+    let (contents, rest) = sound_contents(after)?;
+    let is_constructed = sound_form(*tag)?;
+    let head = Head {
+        tag: *tag,
+        contents,
+        rest,
+    };
+    Some((head, is_constructed))
 }
 
-/// The same of a primitive element of the universal class with a length of one octet, as most are,
-/// and of no other: fewer tests tell one.
+/// Whether an element of this tag is constructed (X.690 8.1.2.5); `None` for 00 and for tags of the
+/// high form. Most tags are told by one test: they are those of primitive elements of the universal
+/// class.
 #[inline(always)]
-pub fn short_leaf(octets: &[u8]) -> Option<Head<'_>>
-    ensures { IfSome result (λ head. HasHead 64 octets.now head.tag head.contents.now head.rest.now × (form_bit head.tag ≡ 0)) }
+fn sound_form(tag: u8) -> Option<bool>
+    ensures { IfSome result (λ constructed. IsTag tag × (IsTrue constructed ↔ (form_bit tag ≡ 1))) }
 {
-    match tested_leaf(octets) {
-        Some(leaf) => Some(leaf),
-        None => None,
+    // Tags 01 to 1E.
+    if tag.wrapping_sub(1) < 0x1E {
+        return Some(false);
     }
+    // Those with bit 6 and a number below 31.
+    if (tag & 0x3F).wrapping_sub(0x20) < 0x1F {
+        return Some(true);
+    }
+    if tag == 0 || tag & 0x1F == 0x1F {
+        return None;
+    }
+    Some(false)
 }
 
 /// The head of the element that octets are known to begin with: no test of it is made again.
@@ -158,28 +173,6 @@ fn tested_head(octets: &[u8], levels: u8) -> Result<Head<'_>, DerFault>
     })
 }
 
-/// The tests of `short_leaf`, each one of `head_at`.
-#[tactic(auto, unfolding(crate::specs::Head::head_at, crate::specs::Head::contents_at, crate::specs::Head::length_at))]
-#[inline(always)]
-fn tested_leaf(octets: &[u8]) -> Option<Head<'_>>
-    ensures { IfSome result (λ head. (head_at 64 octets.now ≡ Ok (head.tag, head.contents.now, head.rest.now)) × (form_bit head.tag ≡ 0)) }
-{
-    let [tag, length, after @ ..] = octets else {
-        return None;
-    };
-    let (tag, length) = (*tag, usize::from(*length));
-    // Tags 01 to 1E are those of the universal class, of the low form.
-    if tag.wrapping_sub(1) >= 0x1E || length >= 0x80 || after.len() < length {
-        return None;
-    }
-    let (contents, rest) = after.split_at(length);
-    Some(Head {
-        tag,
-        contents,
-        rest,
-    })
-}
-
 /// What octets past the bound are a fault of.
 #[inline(always)]
 fn past_bound_of(levels: u8) -> DerFault
@@ -205,6 +198,39 @@ fn contents_of(octets: &[u8], past: DerFault) -> Result<(&[u8], &[u8]), DerFault
         return Err(past);
     }
     Ok(octets.split_at(length))
+}
+
+/// The same where no test fails: contents, and the octets after them.
+#[tactic(auto, unfolding(crate::specs::Head::contents_at))]
+#[inline(always)]
+fn sound_contents(octets: &[u8]) -> Option<(&[u8], &[u8])>
+    ensures { IfSome result (λ c. contents_at Truncated octets.now ≡ Ok (c.0.now, c.1.now)) }
+{
+    let (length, octets) = sound_length(octets)?;
+    if octets.len() < length {
+        return None;
+    }
+    Some(octets.split_at(length))
+}
+
+/// The length that octets begin with, and the octets after it, where no test of it fails. Most lengths
+/// have one octet, three or two, which are looked for in this order.
+#[tactic(auto, unfolding(crate::specs::Head::length_at))]
+#[inline(always)]
+fn sound_length(octets: &[u8]) -> Option<(usize, &[u8])>
+    ensures { IfSome result (λ n. length_at Truncated octets.now ≡ Ok (n.0, n.1.now)) }
+{
+    let (first, rest) = octets.split_first()?;
+    if *first < 0x80 {
+        return Some((usize::from(*first), rest));
+    }
+    if *first == 0x82 {
+        return long_length_of(rest, DerFault::Truncated, 2, 0x100).ok();
+    }
+    if *first == 0x81 {
+        return long_length_of(rest, DerFault::Truncated, 1, 0x80).ok();
+    }
+    length_of(octets, DerFault::Truncated).ok()
 }
 
 /// The length that octets begin with, and the octets after it (X.690 8.1.3).

@@ -10,7 +10,7 @@ ghost use Rattle.der_core.specs.Reading.{HasElements, IsFirst, IsExactFault, IsF
 
 use crate::elem::Elem;
 use crate::fault::{DerFault, Malformed};
-use crate::header::{head_of, short_leaf, sound_head};
+use crate::header::{head_of, sound_head};
 use crate::kids::Kids;
 use crate::tree::MAX_NESTING;
 
@@ -86,49 +86,59 @@ fn after_first(bytes: &[u8], at: usize) -> Result<&[u8], Malformed>
 fn after_sound(bytes: &[u8]) -> Option<&[u8]>
     ensures { IfSome result (λ rest. (t : DerElement) × IsDer t × (bytes.now ≡ encoding t ++ rest.now)) }
 {
-    let head = sound_head(bytes)?;
-    if !head.is_constructed() {
+    let (head, is_constructed) = sound_head(bytes)?;
+    if !is_constructed {
         return Some(head.rest);
     }
-    if are_elements(head.contents, MAX_NESTING - 1) {
+    if are_elements(head.contents) {
         Some(head.rest)
     } else {
         None
     }
 }
 
-/// Whether octets are elements, each of at most `levels` levels. Octets of which it says no are looked
-/// at again, for their first fault.
-fn are_elements(octets: &[u8], levels: u8) -> bool
-    ensures { IsTrue result → HasElements levels octets.now }
+/// How many elements may hold one another between the outermost one and the innermost: with these
+/// two there are `MAX_NESTING` levels.
+const MOST_OUTER: usize = 62;
+
+/// Whether octets are elements of at most 63 levels, as those in the outermost element have to be. Of
+/// a constructed element within so many others it says no even where it is empty: octets of which it
+/// says no are looked at again, for their first fault.
+fn are_elements(octets: &[u8]) -> bool
+    ensures { IsTrue result → HasElements 63 octets.now }
 {
-    if levels == 0 {
-        return octets.is_empty();
-    }
+    // How many octets stand after each element that is gone through, in the one that holds it.
+    let mut after = [0; MOST_OUTER];
+    let mut outer = 0;
     let mut rest = octets;
-    let mut left = levels;
-    // An element has two octets at least, its identifier and its length.
-    while rest.len() >= 2 {
-        if let Some(leaf) = short_leaf(rest) {
-            rest = leaf.rest;
-        } else {
-            let Some(head) = sound_head(rest) else {
-                return false;
-            };
-            if !head.is_constructed() {
-                rest = head.rest;
-            } else if head.rest.is_empty() && left > 1 {
-                // The last of them: what it holds is all that is left.
-                rest = head.contents;
-                left -= 1;
-            } else if are_elements(head.contents, left - 1) {
-                rest = head.rest;
-            } else {
-                return false;
+    let mut left = octets.len();
+    loop {
+        if left == 0 {
+            if outer == 0 {
+                return true;
             }
+            outer -= 1;
+            left = after[outer];
+            continue;
+        }
+        let (current, _) = rest.split_at(left);
+        let Some((head, is_constructed)) = sound_head(current) else {
+            return false;
+        };
+        let (_, inner) = rest.split_at(left - (head.contents.len() + head.rest.len()));
+        left = head.rest.len();
+        if !is_constructed {
+            let (_, behind) = inner.split_at(head.contents.len());
+            rest = behind;
+        } else if outer < MOST_OUTER {
+            after[outer] = left;
+            outer += 1;
+            left = head.contents.len();
+            rest = inner;
+        } else {
+            return false;
         }
     }
-    rest.is_empty()
 }
 
 /// The octets after the element that octets at a place begin with, of at most `levels` levels.
