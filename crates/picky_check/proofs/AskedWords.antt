@@ -8,18 +8,18 @@ use Rattle.asn1_types.specs.declared.generalized_time.GeneralizedTime.{Generaliz
 use Rattle.picky_check.specs.declared.options.CheckOptions.{CheckOptions}
 use Rattle.picky_check.specs.DateWord.{IsDateWord}
 use Rattle.picky_check.specs.Options.{AreOptions}
-use Rattle.picky_check.specs.Words.{Job, Basic, Check, Chain, AsksFor, IsCheck, hash_of}
+use Rattle.picky_check.specs.Words.{Job, Basic, Check, Chain, AsksFor, IsCheck, asked_hash}
 
 pub some_is : {A : Type 0} (o : Option A) → IsSome o → (x : A) × (o ≡ Some x)
 some_is (Some x) there = (x, refl)
 some_is None there = absurd cc
 
 -- where there are three words behind it and the last is a hash, they ask for a job
-pub basic_asks : {W : Type 0} (text : W → List ℕ) (words : List W) (word : W) → length words ≡ 3 → word ≡ get_or words 2 word → IsSome (hash_of (text word))
+pub basic_asks : {W : Type 0} (text : W → List ℕ) (words : List W) (word : W) → length words ≡ 3 → word ≡ get_or words 2 word → IsSome (asked_hash (text word))
     → (job : Job) × AsksFor (codes "basic" ∷ map text words) job
 basic_asks text (signature ∷ table ∷ hash ∷ []) word three last there =
-    let known = some_is (hash_of (text word)) there in
-    (Basic (text signature) (text table) known.0, record { word = text hash; words_are = refl; hash_is = ap (λ w. hash_of (text w)) (sym last) ∙ known.1 })
+    let known = some_is (asked_hash (text word)) there in
+    (Basic (text signature) (text table) known.0, record { word = text hash; words_are = refl; hash_is = ap (λ w. asked_hash (text w)) (sym last) ∙ known.1 })
 basic_asks text words word three last there = absurd (omega arith)
 
 -- the words behind the first, as the code has them
@@ -84,9 +84,9 @@ module _ (signature table hash_word date_word : List ℕ) (option_words : List (
   date_in s t h d o asked =
       subst (λ (w : List ℕ). IsDateWord w d) (sym (same_date_word s t asked.word asked.date_word asked.option_words asked.words_are)) asked.date_is
 
-  hash_in : (s t h : List ℕ) (d : GeneralizedTime) (o : CheckOptions) → IsCheck Words s t h d o → hash_of hash_word ≡ Some h
+  hash_in : (s t h : List ℕ) (d : GeneralizedTime) (o : CheckOptions) → IsCheck Words s t h d o → asked_hash hash_word ≡ Some h
   hash_in s t h d o asked =
-      ap hash_of (same_hash_word s t asked.word asked.date_word asked.option_words asked.words_are) ∙ asked.hash_is
+      ap asked_hash (same_hash_word s t asked.word asked.date_word asked.option_words asked.words_are) ∙ asked.hash_is
 
   no_chain : (t : List ℕ) (d : GeneralizedTime) (names : List (List ℕ)) → AsksFor Words (Chain t d names) → ⊥
   no_chain t d names asked =
@@ -99,7 +99,7 @@ module _ (signature table hash_word date_word : List ℕ) (option_words : List (
   no_check none (Chain t d names) asked = no_chain t d names asked
 
   module _ (date : GeneralizedTime) (options : CheckOptions) where
-    pub asks_check : (hash : List ℕ) × (hash_of hash_word ≡ Some hash) → IsDateWord date_word date → AreOptions option_words options → (job : Job) × AsksFor Words job
+    pub asks_check : (hash : List ℕ) × (asked_hash hash_word ≡ Some hash) → IsDateWord date_word date → AreOptions option_words options → (job : Job) × AsksFor Words job
     asks_check hash date_is options_are = (
       Check signature table hash.0 date options,
       record {
@@ -114,7 +114,7 @@ module _ (signature table hash_word date_word : List ℕ) (option_words : List (
     )
 
     -- they ask for one job
-    pub only_check : (hash : List ℕ) → hash_of hash_word ≡ Some hash → ((d : GeneralizedTime) → IsDateWord date_word d → Some date ≡ Some d)
+    pub only_check : (hash : List ℕ) → asked_hash hash_word ≡ Some hash → ((d : GeneralizedTime) → IsDateWord date_word d → Some date ≡ Some d)
         → ((o : CheckOptions) → AreOptions option_words o → Some options ≡ Some o) → (job : Job) → AsksFor Words job
         → Some (Check signature table hash date options) ≡ Some job
     only_check hash hash_is dates all (Basic s t h) asked = let are = asked.words_are in absurd cc

@@ -8,7 +8,7 @@ use Rattle.picky_check.specs.declared.stop.Stop.{Stop}
 use Rattle.picky_check.specs.declared.stop.Stop.TheVariants as stop
 use Rattle.picky_check.specs.declared.error.FileError.{FileError}
 use Rattle.picky_check.specs.declared.error.FileError.TheVariants as file
-use Rattle.picky_check.specs.Limits.{IsWholeFile, IsLongFile, IsMissing, AreWholeFiles, HasFiles, HasLongFile}
+use Rattle.picky_check.specs.Limits.{IsWholeFile, IsLongFile, IsMissingFile, AreWholeFiles, HasFiles, HasLongFile}
 use Rattle.picky_check.specs.Stops.{stop_for_file}
 use Rattle.picky_check.specs.Shelf.{Files, ShelfState, file_of}
 use Rattle.picky_check.specs.Unread.{AreUnread}
@@ -69,7 +69,7 @@ nothing_behind name [] behind are = absurd cc
 nothing_behind name (one ∷ ahead) behind are = absurd cc
 
 none_missing : (files : Option Files) (names contents ahead behind : List (List ℕ)) (name : List ℕ) → AreWholeFiles files names contents
-    → names ≡ ahead ++ name ∷ behind → IsMissing files name → ⊥
+    → names ≡ ahead ++ name ∷ behind → IsMissingFile files name → ⊥
 none_missing files [] contents ahead behind name whole are m = nothing_behind name ahead behind are
 none_missing files (one ∷ names) [] ahead behind name whole are m = whole
 none_missing files (one ∷ names) (octets ∷ contents) [] behind name whole are m =

@@ -4,11 +4,11 @@ use Rattle.asn1_types.specs.declared.generalized_time.GeneralizedTime.{Generaliz
 use Rattle.picky_check.specs.declared.options.CheckOption.{CheckOption}
 use Rattle.picky_check.specs.declared.options.CheckOption.TheVariants as option
 use Rattle.picky_check.specs.declared.options.CheckOptions.{CheckOptions}
-use Rattle.picky_check.specs.Options.{AreOptions, AreWordsOf, BeginsWith, IsAbsent, AreOnce, no_options, standing, with_option}
+use Rattle.picky_check.specs.Options.{AreOptions, AreWordsOf, BeginsWithOption, IsAbsent, AreOnce, no_options, standing, with_option}
 
 -- ---- the first option, and those behind it
 
-no_words : (o : CheckOption) (rest : List (List ℕ)) → BeginsWith o [] rest → ⊥
+no_words : (o : CheckOption) (rest : List (List ℕ)) → BeginsWithOption o [] rest → ⊥
 no_words (option.Until date) rest begins = let are = begins.1 in absurd cc
 no_words option.NoBefore rest begins = absurd cc
 no_words option.NoAfter rest begins = absurd cc
@@ -30,7 +30,7 @@ pub record AreSplit (words : List (List ℕ)) (o : CheckOptions) : Type 0 where
   pub first : CheckOption
   pub rest : List (List ℕ)
   pub others : CheckOptions
-  pub begins : BeginsWith first words rest
+  pub begins : BeginsWithOption first words rest
   pub are_others : AreOptions rest others
   pub absent : IsAbsent first others
   pub stand : o ≡ with_option first others
@@ -51,7 +51,7 @@ split_options word words o (first ∷ others) are once stand = record {
 pub split : (word : List ℕ) (words : List (List ℕ)) (o : CheckOptions) → AreOptions (word ∷ words) o → AreSplit (word ∷ words) o
 split word words o h = split_options word words o h.options h.are_words h.once h.stand
 
-pub joined : (words rest : List (List ℕ)) (first : CheckOption) (others o : CheckOptions) → BeginsWith first words rest → AreOptions rest others → IsAbsent first others
+pub joined : (words rest : List (List ℕ)) (first : CheckOption) (others o : CheckOptions) → BeginsWithOption first words rest → AreOptions rest others → IsAbsent first others
     → o ≡ with_option first others → AreOptions words o
 joined words rest first others o begins h absent stand = record {
   options = first ∷ h.options;
@@ -181,11 +181,11 @@ module _ (words rest : List (List ℕ)) (read : CheckOptions) (h : AreRead words
     together all is = subst (λ (o : CheckOptions). AreTogether read o all) (next all is).stand (h.left all is).2
 
     -- where the rest begins with no option
-    pub none_next : ((first : CheckOption) (others : List (List ℕ)) → BeginsWith first (word ∷ behind) others → ⊥) → (all : CheckOptions) → AreOptions words all → ⊥
+    pub none_next : ((first : CheckOption) (others : List (List ℕ)) → BeginsWithOption first (word ∷ behind) others → ⊥) → (all : CheckOptions) → AreOptions words all → ⊥
     none_next none all is = let n = next all is in none n.first n.rest n.begins
 
     module _ (first : CheckOption) (others : List (List ℕ))
-        (one : (o : CheckOption) (r : List (List ℕ)) → BeginsWith o (word ∷ behind) r → (first ≡ o) × (others ≡ r)) where
+        (one : (o : CheckOption) (r : List (List ℕ)) → BeginsWithOption o (word ∷ behind) r → (first ≡ o) × (others ≡ r)) where
       read_next : (all : CheckOptions) → AreOptions words all
           → IsAbsent first read × ((left : CheckOptions) × AreOptions others left × AreTogether (with_option first read) left all)
       read_next all is =
@@ -200,7 +200,7 @@ module _ (words rest : List (List ℕ)) (read : CheckOptions) (h : AreRead words
       not_again there all is = there (read_next all is).0
 
       -- where it begins with one that wasn't
-      pub one_more : IsAbsent first read → BeginsWith first (word ∷ behind) others → AreRead words others (with_option first read)
+      pub one_more : IsAbsent first read → BeginsWithOption first (word ∷ behind) others → AreRead words others (with_option first read)
       one_more absent begins = record {
         left = λ all is. (read_next all is).1;
         sound = λ left all is now.

@@ -10,7 +10,7 @@ use Rattle.picky_check.specs.Shelf.{ShelfState}
 use Rattle.picky_check.specs.Sink.{SinkState, Appends, HasRoom, IsCutShort}
 use Rattle.picky_check.specs.Stops.{status_for}
 use Rattle.picky_check.specs.Words.{Job, AsksFor, AsksForNothing}
-use Rattle.picky_check.specs.Report.{Answer, OfSignature, OfChain, WantsMemory, line_of, status_of}
+use Rattle.picky_check.specs.Report.{Answer, OfSignature, OfChain, WantsMemory, report_line, status_of}
 use Rattle.picky_check.specs.Answer.{IsAnswered}
 use Rattle.picky_check.specs.Inquiry.{IsReportOf, GivesReport, GivesStop, IsStopped, IsInquiry}
 use Rattle.picky_check.specs.Run.{Answers, IsRun, LacksRoom}
@@ -88,13 +88,13 @@ no_room text out out_now cut has = omega (arith, cut.short, cut.full has.0 has.1
 
 cut_line : (answer : Answer) (report : Report) (out out_now : SinkState) → IsReportOf answer report
     → IsCutShort (string_bytes report.line) out out_now
-    → IsCutShort (line_of answer) out out_now
+    → IsCutShort (report_line answer) out out_now
 cut_line answer report out out_now h cut = subst (λ (line : List ℕ). IsCutShort line out out_now) h.line cut
 
 lacks_room : (answer : Answer) (report : Report) (out out_now : SinkState) → IsReportOf answer report
     → IsCutShort (string_bytes report.line) out out_now → LacksRoom out answer
 lacks_room answer report out out_now h cut =
-    no_room (line_of answer) out out_now (cut_line answer report out out_now h cut)
+    no_room (report_line answer) out out_now (cut_line answer report out out_now h cut)
 
 module _ (words : List (List ℕ)) (shelf shelf_now : ShelfState) (settled : AsksForNothing words ⊎ ((job : Job) × AsksFor words job)) where
   -- where there is no report

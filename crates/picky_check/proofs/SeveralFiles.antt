@@ -3,7 +3,7 @@ use Rattle.std.proofs.Common.{◌≡◌, ◌≢◌, ℕ, ◌+◌, List, [], ◌�
 use Rattle.picky_check.specs.declared.error.FileError.{FileError}
 use Rattle.picky_check.specs.declared.error.FileError.TheVariants as file
 use Rattle.picky_check.specs.Counts.{GoesOn, HasRisen, RisesBy, RisesBeyond}
-use Rattle.picky_check.specs.Limits.{longest_file, IsWholeFile, IsLongFile, IsMissing, AreWholeFiles, HasFiles, HasLongFile}
+use Rattle.picky_check.specs.Limits.{longest_file, IsWholeFile, IsLongFile, IsMissingFile, AreWholeFiles, HasFiles, HasLongFile}
 use Rattle.picky_check.specs.Shelf.{Files, ShelfState, file_of}
 use Rattle.picky_check.specs.Unread.{AreUnread}
 use Rattle.picky_check.proofs.Reading.{has_risen_since}
@@ -45,11 +45,11 @@ unread_memory before after names = record {
 
 module _ (before between after : ShelfState) (name : List ℕ) (names : List (List ℕ)) (e : FileError) where
   long_ahead : (long : e ≡ file.TooLong → IsSome before.files → IsLongFile before.files name)
-      → (missing : IsMissing before.files name → e ≡ file.Fault)
+      → (missing : IsMissingFile before.files name → e ≡ file.Fault)
       → (ahead behind : List (List ℕ)) (other : List ℕ) → name ∷ names ≡ ahead ++ other ∷ behind
-      → IsMissing before.files other → e ≡ file.TooLong → HasLongFile before.files ahead
+      → IsMissingFile before.files other → e ≡ file.TooLong → HasLongFile before.files ahead
   long_ahead long missing [] behind other are m l =
-      absurd (fault_is_no_length e (missing (subst (IsMissing before.files) (sym (first_is name other names behind are)) m)) l)
+      absurd (fault_is_no_length e (missing (subst (IsMissingFile before.files) (sym (first_is name other names behind are)) m)) l)
   long_ahead long missing (one ∷ ahead) behind other are m l =
       inl (subst (IsLongFile before.files) (first_is name one names (ahead ++ other ∷ behind) are) (long l m.told))
 
@@ -58,7 +58,7 @@ module _ (before between after : ShelfState) (name : List ℕ) (names : List (Li
       → (before.is_quiet → IsSome (file_of before.files name) → e ≢ file.Fault)
       → (e ≡ file.TooLong → RisesBy (longest_file + 1) before.given after.given)
       → (e ≡ file.TooLong → IsSome before.files → IsLongFile before.files name)
-      → (IsMissing before.files name → e ≡ file.Fault)
+      → (IsMissingFile before.files name → e ≡ file.Fault)
       → AreUnread before after (name ∷ names) e
   unread_first cause no_fault more long missing = record {
     failed = cause;
@@ -74,13 +74,13 @@ module _ (before between after : ShelfState) (name : List ℕ) (names : List (Li
       (faults : GoesOn before.faults between.faults) (given : GoesOn before.given between.given)
       (unread : AreUnread between after names e) where
     long_behind : (ahead behind : List (List ℕ)) (other : List ℕ) → name ∷ names ≡ ahead ++ other ∷ behind
-        → IsMissing before.files other → e ≡ file.TooLong → HasLongFile before.files ahead
+        → IsMissingFile before.files other → e ≡ file.TooLong → HasLongFile before.files ahead
     long_behind [] behind other are m l =
-        let none = subst (IsMissing before.files) (sym (first_is name other names behind are)) m in
+        let none = subst (IsMissingFile before.files) (sym (first_is name other names behind are)) m in
         absurd (none_is_no_file (file_of before.files name) octets none.none (whole.as_told none.told))
     long_behind (one ∷ ahead) behind other are m l =
         inr (subst (λ (f : Option Files). HasLongFile f ahead) same
-        (unread.missing ahead behind other (others_are name one names (ahead ++ other ∷ behind) are) (subst (λ (f : Option Files). IsMissing f other) (sym same) m) l))
+        (unread.missing ahead behind other (others_are name one names (ahead ++ other ∷ behind) are) (subst (λ (f : Option Files). IsMissingFile f other) (sym same) m) l))
 
     pub unread_behind : AreUnread before after (name ∷ names) e
     unread_behind = record {

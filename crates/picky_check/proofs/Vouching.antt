@@ -13,7 +13,7 @@ use Rattle.picky_check.specs.Headline.{IsVouchedFor, IsVouchedSignature}
 use Rattle.picky_check.specs.Answer.{IsAnswered, IsAnswerTo, table_in}
 use Rattle.picky_check.specs.ChainHeadline.{IsVouchedChain}
 use Rattle.picky_check.specs.Limits.{AreWholeFiles}
-use Rattle.picky_check.specs.Report.{Answer, OfSignature, OfChain, accepted_line, parents_line, line_of, status_of}
+use Rattle.picky_check.specs.Report.{Answer, OfSignature, OfChain, accepted_line, parents_line, report_line, status_of}
 use Rattle.picky_check.specs.Run.{Answers}
 use Rattle.picky_check.specs.Shelf.{Files}
 use Rattle.picky_check.specs.Sink.{Appends}
@@ -75,7 +75,7 @@ module _ (one_signed_data : (octets : List ℕ) (f g : SignedDataElements) → H
   no_signature_for_chain table date names (text ∷ octets) rows given is_answer = is_answer
 
   vouched_for_job : (job : Job) (answer : Answer) → AsksFor words job → IsAnswered files job answer → status_of answer ≡ 0
-      → Appends held (line_of answer) held_now → IsVouched
+      → Appends held (report_line answer) held_now → IsVouched
   vouched_for_job (Basic signature table hash) (OfSignature (Ok a)) asked h zero written =
       inl (of_basic signature table hash h.contents h.rows a asked h.are_files h.is_table h.is_answer written)
   vouched_for_job (Basic signature table hash) (OfSignature (Err e)) asked h zero written = absurd (omega arith)
@@ -91,6 +91,6 @@ module _ (one_signed_data : (octets : List ℕ) (f g : SignedDataElements) → H
   vouched_for_job (Chain table date names) (OfSignature given) asked h zero written =
       absurd (no_signature_for_chain table date names h.contents h.rows given h.is_answer)
 
-  pub vouched_for : (answer : Answer) → Answers words files answer → status_of answer ≡ 0 → Appends held (line_of answer) held_now
+  pub vouched_for : (answer : Answer) → Answers words files answer → status_of answer ≡ 0 → Appends held (report_line answer) held_now
       → IsVouchedFor words files held held_now ⊎ (IsVouchedSignature words files held held_now ⊎ IsVouchedChain words files held held_now)
   vouched_for answer h zero written = vouched_for_job h.job answer h.asked h.is_answered zero written

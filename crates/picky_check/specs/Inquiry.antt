@@ -5,8 +5,8 @@ use Rattle.picky_check.specs.declared.stop.Stop.{Stop}
 use Rattle.picky_check.specs.declared.stop.Stop.TheVariants.{Usage, BadTable, Shelf, TooLong, Memory}
 use Rattle.picky_check.specs.declared.report.Report.{Report}
 use Rattle.picky_check.specs.Counts.{HasRisen, RisesBeyond}
-use Rattle.picky_check.specs.Limits.{longest_file, IsMissing, HasFiles, HasLongFile}
-use Rattle.picky_check.specs.Report.{Answer, WantsMemory, line_of, status_of}
+use Rattle.picky_check.specs.Limits.{longest_file, IsMissingFile, HasFiles, HasLongFile}
+use Rattle.picky_check.specs.Report.{Answer, WantsMemory, report_line, status_of}
 use Rattle.picky_check.specs.Answer.{HasBadTable, IsAnswered}
 use Rattle.picky_check.specs.Shelf.{ShelfState}
 use Rattle.picky_check.specs.Words.{Job, AsksFor, files_of}
@@ -15,7 +15,7 @@ use Rattle.picky_check.specs.Words.{Job, AsksFor, files_of}
 pub record IsReportOf (answer : Answer) (report : Report) : Type 0 where
   pub told : WantsMemory answer → ⊥
   pub status : report.status ≡ status_of answer
-  pub line : string_bytes report.line ≡ line_of answer
+  pub line : string_bytes report.line ≡ report_line answer
 
 -- The result is a report of the answer, unless memory ran out.
 abbrev pub IsReported : Answer → Result Report Stop → Type 0
@@ -69,7 +69,7 @@ pub record IsInquiry (before after : ShelfState) (job : Job) (result : Result Re
       → GivesStop BadTable result
   -- a missing file is a failure of the shelf, unless one ahead of it is longer than is read
   pub missing : (ahead behind : List (List ℕ)) (name : List ℕ)
-      → files_of job ≡ ahead ++ name ∷ behind → IsMissing before.files name
+      → files_of job ≡ ahead ++ name ∷ behind → IsMissingFile before.files name
       → GivesStop Shelf result ⊎ ((result ≡ Err TooLong) × HasLongFile before.files ahead)
   pub too_long : HasLongFile before.files (files_of job)
       → GivesStop TooLong result ⊎ (result ≡ Err Shelf)

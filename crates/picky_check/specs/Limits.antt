@@ -17,7 +17,7 @@ IsLongFile files name = (file : List ℕ) × (file_of files name ≡ Some file)
     × (longest_file < length file)
 
 -- The shelf tells its files, and none has this name.
-pub record IsMissing (files : Option Files) (name : List ℕ) : Type 0 where
+pub record IsMissingFile (files : Option Files) (name : List ℕ) : Type 0 where
   pub told : IsSome files
   pub none : file_of files name ≡ None
 

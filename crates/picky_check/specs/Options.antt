@@ -6,16 +6,16 @@ use Rattle.picky_check.specs.declared.options.CheckOptions.{CheckOptions}
 use Rattle.picky_check.specs.DateWord.{IsDateWord}
 
 -- The words begin with an option, and these follow it. The word behind `--until` is taken as it stands.
-abbrev pub BeginsWith : CheckOption → (words rest : List (List ℕ)) → Type 0
-BeginsWith (Until date) words rest = (word : List ℕ) × (words ≡ codes "--until" ∷ word ∷ rest) × IsDateWord word date
-BeginsWith NoBefore words rest = words ≡ codes "--no-before" ∷ rest
-BeginsWith NoAfter words rest = words ≡ codes "--no-after" ∷ rest
-BeginsWith NoChain words rest = words ≡ codes "--no-chain" ∷ rest
+abbrev pub BeginsWithOption : CheckOption → (words rest : List (List ℕ)) → Type 0
+BeginsWithOption (Until date) words rest = (word : List ℕ) × (words ≡ codes "--until" ∷ word ∷ rest) × IsDateWord word date
+BeginsWithOption NoBefore words rest = words ≡ codes "--no-before" ∷ rest
+BeginsWithOption NoAfter words rest = words ≡ codes "--no-after" ∷ rest
+BeginsWithOption NoChain words rest = words ≡ codes "--no-chain" ∷ rest
 
 -- the words are these options, one behind another
 abbrev pub AreWordsOf : List CheckOption → List (List ℕ) → Type 0
 AreWordsOf [] words = words ≡ []
-AreWordsOf (option ∷ others) words = (rest : List (List ℕ)) × BeginsWith option words rest × AreWordsOf others rest
+AreWordsOf (option ∷ others) words = (rest : List (List ℕ)) × BeginsWithOption option words rest × AreWordsOf others rest
 
 -- ---- which options stand there
 

@@ -59,11 +59,11 @@ abbrev pub refused_chain_line : CertError → List ℕ
 refused_chain_line e = codes "refused " ++ cert_error_name e ++ 10 ∷ []
 
 -- the line that reports an answer
-abbrev pub line_of : Answer → List ℕ
-line_of (OfSignature (Ok accepted)) = accepted_line accepted
-line_of (OfSignature (Err e)) = refused_line e
-line_of (OfChain (Ok count)) = parents_line count
-line_of (OfChain (Err e)) = refused_chain_line e
+abbrev pub report_line : Answer → List ℕ
+report_line (OfSignature (Ok accepted)) = accepted_line accepted
+report_line (OfSignature (Err e)) = refused_line e
+report_line (OfChain (Ok count)) = parents_line count
+report_line (OfChain (Err e)) = refused_chain_line e
 
 -- the status of a run that reports it
 abbrev pub status_of : Answer → ℕ

@@ -1,8 +1,8 @@
 -- What a run does: its status, its cause, and what the sink then holds.
 use Rattle.std.specs.Prelude.{◌≡◌, ◌≢◌, ◌⊎◌, ◌↔◌, ℕ, ◌≤◌, List, ◌∷◌, ◌++◌, length, Option, IsSome}
 use Rattle.picky_check.specs.Counts.{HasRisen, RisesBeyond}
-use Rattle.picky_check.specs.Limits.{longest_file, IsMissing, HasFiles, HasLongFile}
-use Rattle.picky_check.specs.Report.{Answer, WantsMemory, line_of, status_of}
+use Rattle.picky_check.specs.Limits.{longest_file, IsMissingFile, HasFiles, HasLongFile}
+use Rattle.picky_check.specs.Report.{Answer, WantsMemory, report_line, status_of}
 use Rattle.picky_check.specs.Answer.{HasBadTable, IsAnswered}
 use Rattle.picky_check.specs.Shelf.{Files, ShelfState}
 use Rattle.picky_check.specs.Sink.{SinkState, Appends, Keeps, HasRoom, IsCutShort}
@@ -35,7 +35,7 @@ pub record IsDelivered (words : List (List ℕ)) (files : Option Files) (out out
   pub is_answer : Answers words files answer
   pub told : WantsMemory answer → ⊥
   pub is_status : status_of answer ≡ status
-  pub has_line : Appends out.held (line_of answer) out_now.held
+  pub has_line : Appends out.held (report_line answer) out_now.held
 
 -- An answer had a line that the sink didn't take whole. It took a front of the line, and its count
 -- of faults rose.
@@ -44,12 +44,12 @@ pub record IsLost (words : List (List ℕ)) (files : Option Files) (out out_now 
   pub answer : Answer
   pub is_answer : Answers words files answer
   pub told : WantsMemory answer → ⊥
-  pub cut_short : IsCutShort (line_of answer) out out_now
+  pub cut_short : IsCutShort (report_line answer) out out_now
   pub has_risen : HasRisen out.faults out_now.faults
 
 -- the sink tells no room for the line of the answer
 abbrev pub LacksRoom : SinkState → Answer → Type 0
-LacksRoom out answer = HasRoom out.room (length (line_of answer)) → ⊥
+LacksRoom out answer = HasRoom out.room (length (report_line answer)) → ⊥
 
 -- A run by words: over a shelf before and after it, to a sink before and after it, with a status.
 pub record IsRun (words : List (List ℕ)) (shelf shelf_now : ShelfState) (out out_now : SinkState)
@@ -70,7 +70,7 @@ pub record IsRun (words : List (List ℕ)) (shelf shelf_now : ShelfState) (out o
       → HasFiles shelf.files (files_of job) → status ≢ 4
   -- a missing file is a failure of the shelf, unless one ahead of it is longer than is read
   pub missing : (job : Job) (ahead behind : List (List ℕ)) (name : List ℕ) → AsksFor words job
-      → files_of job ≡ ahead ++ name ∷ behind → IsMissing shelf.files name
+      → files_of job ≡ ahead ++ name ∷ behind → IsMissingFile shelf.files name
       → ((status ≡ 4) ⊎ (status ≡ 7)) ⊎ ((status ≡ 6) × HasLongFile shelf.files ahead)
   -- 5: the sink took a part of the line
   pub sink_failed : status ≡ 5 → IsLost words shelf.files out out_now
@@ -84,5 +84,5 @@ pub record IsRun (words : List (List ℕ)) (shelf shelf_now : ShelfState) (out o
   -- runs out, or the sink fails that tells no room for the line.
   pub answered : (job : Job) (answer : Answer) → AsksFor words job → shelf.is_quiet → IsSome shelf.files
       → IsAnswered shelf.files job answer → (WantsMemory answer → ⊥)
-      → (((status ≡ status_of answer) × Appends out.held (line_of answer) out_now.held) ⊎ (status ≡ 7))
+      → (((status ≡ status_of answer) × Appends out.held (report_line answer) out_now.held) ⊎ (status ≡ 7))
       ⊎ ((status ≡ 5) × HasRisen out.faults out_now.faults × LacksRoom out answer)

@@ -3,7 +3,7 @@ use Rattle.std.specs.Prelude.{◌≡◌, ◌≢◌, ℕ, List, ◌∷◌, ◌++�
 use Rattle.picky_check.specs.declared.error.FileError.{FileError}
 use Rattle.picky_check.specs.declared.error.FileError.TheVariants as file
 use Rattle.picky_check.specs.Counts.{HasRisen, RisesBeyond}
-use Rattle.picky_check.specs.Limits.{longest_file, IsMissing, HasFiles, HasLongFile}
+use Rattle.picky_check.specs.Limits.{longest_file, IsMissingFile, HasFiles, HasLongFile}
 use Rattle.picky_check.specs.Shelf.{ShelfState}
 
 -- Why the files of these names weren't all read, in their order.
@@ -15,5 +15,5 @@ pub record AreUnread (before after : ShelfState) (names : List (List ℕ)) (e : 
   pub more_given : e ≡ file.TooLong → RisesBeyond longest_file before.given after.given
   pub too_long : e ≡ file.TooLong → IsSome before.files → HasLongFile before.files names
   -- where one is missing, those behind it aren't read
-  pub missing : (ahead behind : List (List ℕ)) (name : List ℕ) → names ≡ ahead ++ name ∷ behind → IsMissing before.files name
+  pub missing : (ahead behind : List (List ℕ)) (name : List ℕ) → names ≡ ahead ++ name ∷ behind → IsMissingFile before.files name
       → e ≡ file.TooLong → HasLongFile before.files ahead

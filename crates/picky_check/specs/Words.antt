@@ -29,14 +29,14 @@ sized (Ok octets) =
 sized (Err e) = None
 
 -- HASH: 1 to 64 octets in hexadecimal digits of either case
-abbrev pub hash_of : List ℕ → Option (List ℕ)
-hash_of word = sized (decode_of word)
+abbrev pub asked_hash : List ℕ → Option (List ℕ)
+asked_hash word = sized (decode_of word)
 
 -- basic SIG TABLE HASH
 pub record IsBasic (words : List (List ℕ)) (signature table hash : List ℕ) : Type 0 where
   pub word : List ℕ
   pub words_are : words ≡ codes "basic" ∷ signature ∷ table ∷ word ∷ []
-  pub hash_is : hash_of word ≡ Some hash
+  pub hash_is : asked_hash word ≡ Some hash
 
 -- check SIG TABLE HASH DATE, then options
 pub record IsCheck (words : List (List ℕ)) (signature table hash : List ℕ) (date : GeneralizedTime) (options : CheckOptions) : Type 0 where
@@ -44,7 +44,7 @@ pub record IsCheck (words : List (List ℕ)) (signature table hash : List ℕ) (
   pub date_word : List ℕ
   pub option_words : List (List ℕ)
   pub words_are : words ≡ codes "check" ∷ signature ∷ table ∷ word ∷ date_word ∷ option_words
-  pub hash_is : hash_of word ≡ Some hash
+  pub hash_is : asked_hash word ≡ Some hash
   pub date_is : IsDateWord date_word date
   pub options_are : AreOptions option_words options
 

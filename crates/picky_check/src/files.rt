@@ -3,7 +3,7 @@
 ghost use Rattle.std.specs.Prelude.{◌≡◌, ◌+◌, ◌≤◌, ◌++◌, ℕ, List, Err, length, map, string_bytes, IfOk, IfErr, OnOk, OnErr, IsOk, IsSome, IsErrOf, MatchResult};
 ghost use Rattle.picky_check.specs.Counts.{GoesOn, HasRisen, RisesBy};
 ghost use Rattle.picky_check.specs.Jobs.{contents_held, names_held};
-ghost use Rattle.picky_check.specs.Limits.{longest_file, IsWholeFile, IsLongFile, IsMissing, AreWholeFiles};
+ghost use Rattle.picky_check.specs.Limits.{longest_file, IsWholeFile, IsLongFile, IsMissingFile, AreWholeFiles};
 ghost use Rattle.picky_check.specs.Shelf.{file_of};
 ghost use Rattle.picky_check.specs.Sink.{Appends, Lowers, HasRoom, IsCutShort};
 ghost use Rattle.picky_check.specs.Unread.{AreUnread};
@@ -28,7 +28,7 @@ pub fn read_file<F: Shelf>(alloc: Global, shelf: &mut F, name: &str) -> Result<V
     ensures more_given { IsErrOf result FileError.TooLong
         → RisesBy (longest_file + 1) (F.state shelf.old).given (F.state shelf.new).given }
 
-    ensures missing { IsMissing (F.state shelf.old).files name.now → result ≡ Err FileError.Fault }
+    ensures missing { IsMissingFile (F.state shelf.old).files name.now → result ≡ Err FileError.Fault }
     ensures cause { IsErrOf result FileError.Fault
         → HasRisen (F.state shelf.old).faults (F.state shelf.new).faults }
     ensures no_fault { (F.state shelf.old).is_quiet

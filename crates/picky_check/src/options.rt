@@ -1,7 +1,7 @@
 //! The options of `check`, behind its DATE.
 
 ghost use Rattle.std.specs.Prelude.{◌≡◌, ◌≤◌, ◌∷◌, codes, ℕ, List, length, map, string_bytes, Some, IfSome, MatchOption};
-ghost use Rattle.picky_check.specs.Options.{AreOptions, BeginsWith, IsAbsent, no_options, with_option};
+ghost use Rattle.picky_check.specs.Options.{AreOptions, BeginsWithOption, IsAbsent, no_options, with_option};
 ghost use Rattle.picky_check.specs.declared.options.CheckOption.{CheckOption as OptionOfCheck};
 ghost use Rattle.picky_check.specs.declared.options.CheckOptions.{CheckOptions as OptionsOfCheck};
 
@@ -100,10 +100,10 @@ struct FirstOption<'a> {
 
 /// The option that the words begin with: a word, and those behind it.
 fn first_option<'a>(word: &str, others: &'a [String]) -> Option<FirstOption<'a>>
-    ensures first { IfSome result (λ first. BeginsWith first.option
+    ensures first { IfSome result (λ first. BeginsWithOption first.option
         (word.now ∷ map string_bytes others.now) (map string_bytes first.behind.now)) }
     ensures only { (option : OptionOfCheck) (rest : List (List ℕ))
-        → BeginsWith option (word.now ∷ map string_bytes others.now) rest
+        → BeginsWithOption option (word.now ∷ map string_bytes others.now) rest
         → MatchOption result ⊥ (λ first. (first.option ≡ option)
         × (map string_bytes first.behind.now ≡ rest)) }
     ensures fewer { IfSome result (λ first. length first.behind.now ≤ length others.now) }
@@ -123,10 +123,10 @@ fn first_option<'a>(word: &str, others: &'a [String]) -> Option<FirstOption<'a>>
 
 /// The option `--until`, whose DATE the words begin with.
 fn until_of(words: &[String]) -> Option<FirstOption<'_>>
-    ensures first { IfSome result (λ first. BeginsWith first.option
+    ensures first { IfSome result (λ first. BeginsWithOption first.option
         (codes "--until" ∷ map string_bytes words.now) (map string_bytes first.behind.now)) }
     ensures only { (option : OptionOfCheck) (rest : List (List ℕ))
-        → BeginsWith option (codes "--until" ∷ map string_bytes words.now) rest
+        → BeginsWithOption option (codes "--until" ∷ map string_bytes words.now) rest
         → MatchOption result ⊥ (λ first. (first.option ≡ option)
         × (map string_bytes first.behind.now ≡ rest)) }
     ensures fewer { IfSome result (λ first. length first.behind.now ≤ length words.now) }

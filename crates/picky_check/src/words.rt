@@ -2,7 +2,7 @@
 
 ghost use Rattle.std.specs.Prelude.{◌≡◌, Some, None, map, IfOk, IfSome, IsErr, IsSome, MatchOption, option_map, string_bytes, ◌∷◌, codes, Ok};
 ghost use Rattle.picky_check.specs.Jobs.{job_held, names_held};
-ghost use Rattle.picky_check.specs.Words.{AsksFor, AsksForNothing, Job as AskedJob, files_of, hash_of};
+ghost use Rattle.picky_check.specs.Words.{AsksFor, AsksForNothing, Job as AskedJob, files_of, asked_hash};
 
 use crate::dates::date_of;
 use crate::files::Names;
@@ -110,7 +110,7 @@ fn basic_of(alloc: Global, words: &[String]) -> Result<Option<Job<'_>>, AllocErr
     let [signature, table, hash] = words else {
         return Ok(None);
     };
-    let Some(hash) = hash_of(alloc, hash.as_str())? else {
+    let Some(hash) = asked_hash(alloc, hash.as_str())? else {
         return Ok(None);
     };
     Ok(Some(Job::Basic {
@@ -139,7 +139,7 @@ fn check_of(alloc: Global, words: &[String]) -> Result<Option<Job<'_>>, AllocErr
     let Some(options) = options_of(options) else {
         return Ok(None);
     };
-    let Some(hash) = hash_of(alloc, hash.as_str())? else {
+    let Some(hash) = asked_hash(alloc, hash.as_str())? else {
         return Ok(None);
     };
     Ok(Some(Job::Check {
@@ -175,9 +175,9 @@ fn chain_of(words: &[String]) -> Option<Job<'_>>
 }
 
 // 1 to 64 octets in hexadecimal digits of either case.
-fn hash_of(alloc: Global, word: &str) -> Result<Option<Vec<u8>>, AllocError>
-    ensures value { IfOk result (λ hash. option_map (λ h. h.items) hash ≡ hash_of word.now) }
-    ensures memory { IsErr result → IsSome (hash_of word.now) }
+fn asked_hash(alloc: Global, word: &str) -> Result<Option<Vec<u8>>, AllocError>
+    ensures value { IfOk result (λ hash. option_map (λ h. h.items) hash ≡ asked_hash word.now) }
+    ensures memory { IsErr result → IsSome (asked_hash word.now) }
 {
     let count = word.len() / 2;
     if count == 0 || count > LONGEST_HASH {
