@@ -1,9 +1,9 @@
-//! Which moments exist. The calendar is asked of `jiff`.
+//! Which moments exist. The calendar is asked of `jiff_core`, the part of `jiff` that has it.
 
 ghost use Rattle.std.specs.Prelude.{◌≡◌, ◌↔◌, IsTrue};
 ghost use Rattle.asn1_types.specs.Calendar.{IsCalendarDate, IsMoment};
 
-use jiff::civil::Date;
+use jiff_core::civil::Date;
 
 /// Whether the moment exists. A second past 59 is refused before the calendar is asked.
 pub fn is_moment(year: u16, month: u8, day: u8, hour: u8, minute: u8, second: u8) -> bool
