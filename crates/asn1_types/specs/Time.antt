@@ -27,6 +27,25 @@ utc_contents utc =
     let t = utc.time in
     two_digits (t.year % 100) ++ from_month t.month t.day t.hour t.minute t.second
 
+-- The fields of a time.
+abbrev pub year_of : GeneralizedTime → ℕ
+year_of t = t.year
+
+abbrev pub month_of : GeneralizedTime → ℕ
+month_of t = t.month
+
+abbrev pub day_of : GeneralizedTime → ℕ
+day_of t = t.day
+
+abbrev pub hour_of : GeneralizedTime → ℕ
+hour_of t = t.hour
+
+abbrev pub minute_of : GeneralizedTime → ℕ
+minute_of t = t.minute
+
+abbrev pub second_of : GeneralizedTime → ℕ
+second_of t = t.second
+
 -- The fields, the year first.
 abbrev pub generalized_fields : GeneralizedTime → List ℕ
 generalized_fields t = t.year ∷ t.month ∷ t.day ∷ t.hour ∷ t.minute ∷ t.second ∷ []

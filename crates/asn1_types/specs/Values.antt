@@ -22,6 +22,14 @@ lent_contents identifier = identifier.contents.now
 abbrev pub integer_contents : IntegerAsn1 → List ℕ
 integer_contents integer = integer.contents
 
+-- How many bits of the last octet of a bit string aren't used.
+abbrev pub unused_of : BitString → ℕ
+unused_of bits = bits.unused
+
+-- The octets that hold the bits of a bit string.
+abbrev pub payload_of : BitString → List ℕ
+payload_of bits = bits.payload
+
 -- The contents octets of a bit string: the count of unused bits, and the octets that hold the bits (X.690 8.6).
 abbrev pub bit_string_contents : BitString → List ℕ
 bit_string_contents bits = bits.unused ∷ bits.payload

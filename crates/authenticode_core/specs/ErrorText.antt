@@ -1,8 +1,10 @@
 -- The texts of errors.
 use Rattle.std.specs.Prelude.{ℕ, List, ◌++◌, codes, decimal, Option, Some, None}
 use Rattle.std.specs.Option.{option_map}
+use Rattle.asn1_types.specs.Values.{integer_contents}
 use Rattle.hex.specs.Hex.{encode_lower}
 use Rattle.key_core.specs.SignatureErrorText.{signature_error_text}
+use Rattle.names_core.specs.Names.{sets_of}
 use Rattle.names_core.specs.declared.name.DirectoryName.{DirectoryName}
 use Rattle.sig_core.specs.ErrorText.{unsupported_hash_text, unsupported_algorithm_text}
 use Rattle.wincert_core.specs.ErrorText.{error_text}
@@ -32,7 +34,7 @@ mismatch_text actual expected =
 -- what is told of an issuer and the contents octets of a serial number that no certificate has
 abbrev pub unnamed_text : DirectoryName → List ℕ → List ℕ
 unnamed_text issuer serial_number =
-    codes "the signed data has no certificate of the issuer '" ++ name_text issuer.name
+    codes "the signed data has no certificate of the issuer '" ++ name_text (sets_of issuer)
     ++ codes "' with the serial number " ++ encode_lower serial_number
 
 -- what is told of signed data that isn't read or written. Of an element that isn't no contract says what is told
@@ -64,7 +66,7 @@ content_error_text (contents.FileHashMismatch actual expected) = Some (file_mism
 content_error_text contents.IncorrectSignerIdentifier =
     Some (codes "the signer is named by the identifier of a key, and not by issuer and serial number")
 content_error_text (contents.NoCertificatesAssociatedWithIssuerAndSerialNumber issuer serial_number) =
-    Some (unnamed_text issuer serial_number.contents)
+    Some (unnamed_text issuer (integer_contents serial_number))
 content_error_text (contents.UnsupportedAlgorithmError e) = Some unsupported_algorithm_text
 content_error_text (contents.SignatureError e) = option_map (λ text. codes "signature error: " ++ text) (signature_error_text e)
 content_error_text contents.NoMessageDigest = Some (codes "no message digest is among the signed attributes")

@@ -14,6 +14,7 @@ use Rattle.key_core.specs.Verifying.{Judge, Accepts, verify_rules}
 use Rattle.key_core.specs.declared.signature_algorithm.SignatureAlgorithm.TheVariants.{RsaPkcs1v15}
 use Rattle.key_core.specs.declared.signature_error.SignatureError.{SignatureError}
 use Rattle.key_types.specs.declared.key_info.SubjectPublicKeyInfo.{SubjectPublicKeyInfo}
+use Rattle.names_core.specs.Names.{sets_of}
 use Rattle.names_core.specs.declared.name.DirectoryName.{DirectoryName}
 use Rattle.sig_core.specs.Digest.{digest_of}
 use Rattle.sig_core.specs.ShaVariant.{digest_identifier, hash_of}
@@ -99,7 +100,7 @@ IsNamedByKey g e = (octets : List ℕ) × (g.sid ≡ Primitive 0x80 octets) × (
 pub record HasNoCertificate (f : SignedDataElements) (g : SignerElements) (e : AuthenticodeError) : Type 0 where
   pub issuer : DirectoryName
   pub serial_number : IntegerAsn1
-  pub named : g.sid ≡ sequence (name issuer.name ∷ Primitive 0x02 (integer_contents serial_number) ∷ [])
+  pub named : g.sid ≡ sequence (name (sets_of issuer) ∷ Primitive 0x02 (integer_contents serial_number) ∷ [])
   pub bag : List CertificateElements
   pub is_bag : IsBagOf f bag
   pub none : HasNoSigner (signers_of f) bag

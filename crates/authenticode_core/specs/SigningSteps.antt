@@ -10,6 +10,7 @@ use Rattle.der_core.specs.Elements.{sequence}
 use Rattle.der_core.specs.Encoding.{encoding}
 use Rattle.key_core.specs.declared.signature_error.SignatureError.{SignatureError}
 use Rattle.key_core.specs.declared.signature_error.SignatureError.TheVariants as signature_errors
+use Rattle.names_core.specs.Names.{sets_of}
 use Rattle.names_core.specs.declared.name.DirectoryName.{DirectoryName}
 use Rattle.sig_core.specs.Digest.{digest_of}
 use Rattle.sig_core.specs.declared.hash.HashAlgorithm.{HashAlgorithm}
@@ -38,7 +39,7 @@ pub record NamesSigner (f : SignedDataElements) (named : Named) : Type 0 where
 pub record TellsName (issuer serial_number : List ℕ) (e : AuthenticodeError) : Type 0 where
   pub made : DirectoryName
   pub number : IntegerAsn1
-  pub issuer_is : issuer ≡ encoding (name made.name)
+  pub issuer_is : issuer ≡ encoding (name (sets_of made))
   pub number_is : integer_contents number ≡ serial_number
   pub told : e ≡ errors.NoCertificatesAssociatedWithIssuerAndSerialNumber made number
 

@@ -9,6 +9,7 @@ ghost use Rattle.der_core.specs.Placed.{AreDer};
 ghost use Rattle.key_types.specs.PublicKeyInfo.{inner_key};
 ghost use Rattle.x509_core.specs.Link.{HasKey};
 ghost use Rattle.x509_types.specs.CertificateView.{view_elements};
+ghost use Rattle.key_core.specs.Keys.{info_of};
 ghost use Rattle.authenticode_core.specs.SignedFields.{IndirectData, IsFirstSigner, indirect_kids};
 ghost use Rattle.authenticode_core.specs.SigningRules.{HasNoCertificate, HasUnknownDigest, IsNamedByKey, IsRefusedUnder, IsSigned, IsSignedBy, NamesDigest, RefusesBy, digested_octets, signing_rules};
 ghost use Rattle.authenticode_core.specs.SigningSteps.{IsBoundBy, NamesSigner, TellsName, digest_rules, signature_refusal};
@@ -136,7 +137,7 @@ fn expect_signature<S: Scheme>(
 
 /// The key of a certificate (RFC 5280 4.1.2.7).
 fn key_of(alloc: Global, certificate: &CertView<'_>) -> Result<PublicKey, AllocError>
-    ensures { IfOk result (λ key. HasKey (view_elements certificate.now) key.info × AreDer (inner_key key.info.subject_public_key)) }
+    ensures { IfOk result (λ key. HasKey (view_elements certificate.now) (info_of key) × AreDer (inner_key (info_of key).subject_public_key)) }
 {
     match SubjectPublicKeyInfo::read_at(alloc, certificate.subject_public_key_info()) {
         Ok(info) => Ok(PublicKey::from(info)),

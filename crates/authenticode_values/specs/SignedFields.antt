@@ -1,6 +1,7 @@
 -- What is asked of signed data that is kept (RFC 2315 9.1, 9.2; Windows Authenticode Portable Executable Signature Format).
 use Rattle.std.specs.Prelude.{ℕ, List, [], ◌∷◌, Option, Some, None}
 use Rattle.std.specs.Option.{option_map}
+use Rattle.cms_types.specs.SignedAttributesElement.{attributes_of}
 use Rattle.cms_types.specs.declared.signed_attributes.SignedAttributes.{SignedAttributes}
 use Rattle.cms_types.specs.declared.signer_info.SignerInfo.{SignerInfo}
 use Rattle.cms_types.specs.declared.unsigned_attribute.UnsignedAttribute.{UnsignedAttribute}
@@ -21,7 +22,7 @@ file_hash_in (Some content) = file_hash_of content
 -- the signed attributes of the first signer, where there is one that has some
 abbrev pub signed_attributes_in : List SignerInfo → Option (List Attribute)
 signed_attributes_in [] = None
-signed_attributes_in (signer ∷ others) = option_map (λ (attributes : SignedAttributes). attributes.list) signer.signed_attrs
+signed_attributes_in (signer ∷ others) = option_map attributes_of signer.signed_attrs
 
 -- and its unsigned ones
 abbrev pub unsigned_attributes_in : List SignerInfo → Option (List UnsignedAttribute)

@@ -9,6 +9,7 @@ use Rattle.cms_types.specs.declared.signer_info.SignerInfo.{SignerInfo}
 use Rattle.x501_types.specs.Name.{name}
 use Rattle.x509_core.specs.KeptCertificate.{KeptCertificate}
 use Rattle.x509_types.specs.CertificateElements.{CertificateElements}
+use Rattle.names_core.specs.Names.{sets_of}
 use Rattle.authenticode_core.specs.BagSigner.{IsSignerPlace, HasNoSigner}
 use Rattle.authenticode_core.specs.Names.{IsSameName}
 use Rattle.authenticode_values.specs.Pkcs7.{elements_of}
@@ -33,7 +34,7 @@ abbrev pub HasNoSigningCertificate : List SignerInfo → List KeptCertificate �
 HasNoSigningCertificate signers certificates (errors.MultipleSignerInfo count) = (signers ≡ []) × (count ≡ 0)
 HasNoSigningCertificate signers certificates errors.IncorrectSignerIdentifier = (octets : List ℕ) × IsFirstNamed signers (named.SubjectKeyIdentifier octets)
 HasNoSigningCertificate signers certificates (errors.NoCertificatesAssociatedWithIssuerAndSerialNumber issuer serial_number) =
-    IsFirstNamed signers (named.IssuerAndSerialNumber (record { issuer = issuer.name; serial_number = serial_number }))
+    IsFirstNamed signers (named.IssuerAndSerialNumber (record { issuer = sets_of issuer; serial_number = serial_number }))
     × HasNoSigner (map signer_info signers) (elements_of certificates)
 HasNoSigningCertificate signers certificates errors.Memory = ⊤
 HasNoSigningCertificate signers certificates _ = ⊥

@@ -1,6 +1,7 @@
 //! Signatures of any content, put together by a caller.
 
 ghost use Rattle.std.specs.Prelude.{◌≡◌, Some, None};
+ghost use Rattle.names_core.specs.Names.{sets_of};
 ghost use Rattle.authenticode_values.specs.Building.{no_parts};
 
 mod building;
@@ -97,7 +98,7 @@ impl<'a> AuthenticodeSignatureBuilder<'a> {
         issuer: DirectoryName,
         serial_number: IntegerAsn1,
     ) -> Self
-        ensures { result ≡ record self.entry { named = Some (record { issuer = issuer.name; serial_number = serial_number }) } }
+        ensures { result ≡ record self.entry { named = Some (record { issuer = sets_of issuer; serial_number = serial_number }) } }
     {
         self.named = Some(IssuerAndSerialNumber {
             issuer: Name::from(issuer),

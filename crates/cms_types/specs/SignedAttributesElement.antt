@@ -1,6 +1,12 @@
--- Signed attributes are written as the element that they were read from.
+-- Signed attributes, which are written as the element that they were read from.
+use Rattle.std.specs.Prelude.{List}
 use Rattle.der_core.specs.DerElement.{DerElement}
+use Rattle.x509_types.specs.declared.attribute.Attribute.{Attribute}
 use Rattle.cms_types.specs.declared.signed_attributes.SignedAttributes.{SignedAttributes}
 
 abbrev pub signed_attributes : SignedAttributes → DerElement
 signed_attributes value = value.element.element
+
+-- The attributes in the order of their octets.
+abbrev pub attributes_of : SignedAttributes → List Attribute
+attributes_of value = value.list

@@ -4,6 +4,7 @@ use Rattle.der_core.specs.DerElement.{DerElement}
 use Rattle.der_core.specs.Encoding.{encoding, IsDer}
 use Rattle.der_core.specs.Placed.{AreDer}
 use Rattle.der_core.specs.Refusals.{RefusesInner}
+use Rattle.asn1_types.specs.Values.{payload_of, unused_of}
 use Rattle.key_types.specs.declared.algorithm.AlgorithmIdentifier.{AlgorithmIdentifier}
 use Rattle.key_types.specs.declared.key_info.SubjectPublicKeyInfo.{SubjectPublicKeyInfo}
 use Rattle.key_core.specs.KeyIdentifier.{RefusesKeyIdentifier}
@@ -12,6 +13,7 @@ use Rattle.key_core.specs.SignatureAlgorithm.{IsWrittenAlgorithm, IsUnwritable}
 use Rattle.key_core.specs.SignatureRules.{RefusesBy}
 use Rattle.key_core.specs.Signing.{Signs, Pair, IsAsked, IsKeyPair, sign_rules}
 use Rattle.key_core.specs.Verifying.{Judge, Accepts}
+use Rattle.key_core.specs.Keys.{container_of, point_beside}
 use Rattle.key_core.specs.declared.element.Element.TheVariants as elements
 use Rattle.key_core.specs.declared.private_key.PrivateKey.{PrivateKey}
 use Rattle.key_core.specs.declared.signature_algorithm.SignatureAlgorithm.{SignatureAlgorithm}
@@ -45,8 +47,8 @@ message_of tbs = encoding (tbs_certificate tbs)
 pub record IsSignedCertificate (judge : Judge) (pair : Pair) (algorithm : SignatureAlgorithm) (key : PrivateKey) (IsTbs : TbsCertificate → Type 0) (c : Certificate) : Type 0 where
   pub tbs : IsTbs c.tbs_certificate
   pub beside : c.signature_algorithm ≡ c.tbs_certificate.signature
-  pub unused : c.signature_value.unused ≡ 0
-  pub accepted : (public : SubjectPublicKeyInfo) → IsKeyPair pair key public → Accepts judge algorithm public (message_of c.tbs_certificate) c.signature_value.payload
+  pub unused : unused_of c.signature_value ≡ 0
+  pub accepted : (public : SubjectPublicKeyInfo) → IsKeyPair pair key public → Accepts judge algorithm public (message_of c.tbs_certificate) (payload_of c.signature_value)
 
 -- The scheme signs what is signed of a certificate.
 abbrev pub IsTbsSigned : Signs → SignatureAlgorithm → PrivateKey → TbsCertificate → Type 0
@@ -77,7 +79,7 @@ given_step {X} argument option = record {
 abbrev pub half_step : PrivateKey → Step
 half_step key = record {
   taken = (info : SubjectPublicKeyInfo) × IsHalfOf key info;
-  refused = Tells no_half (RefusesPublicHalf key.info.private_key key.public_key);
+  refused = Tells no_half (RefusesPublicHalf (container_of key).private_key (point_beside key));
 }
 
 -- where there is a request, it is signed by its own key

@@ -1,6 +1,7 @@
 -- The certificate that is built (RFC 5280 4.1), field by field.
 use Rattle.std.specs.Prelude.{◌≡◌, ◌==◌, if◌then◌else◌, ℕ, Bool, true, false, List, Option, Some, None}
 use Rattle.asn1_types.specs.Integer.{number_of, IsUnsignedInteger}
+use Rattle.asn1_types.specs.Values.{integer_contents}
 use Rattle.asn1_types.specs.declared.generalized_time.GeneralizedTime.{GeneralizedTime}
 use Rattle.asn1_types.specs.declared.integer.IntegerAsn1.{IntegerAsn1}
 use Rattle.key_types.specs.declared.algorithm.AlgorithmIdentifier.{AlgorithmIdentifier}
@@ -9,8 +10,10 @@ use Rattle.key_core.specs.KeyIdentifier.{IsKeyIdentifier}
 use Rattle.key_core.specs.PublicHalf.{IsPublicHalf}
 use Rattle.key_core.specs.SignatureAlgorithm.{IsWrittenAlgorithm}
 use Rattle.key_core.specs.Verifying.{Judge}
+use Rattle.key_core.specs.Keys.{container_of, info_of, point_beside}
 use Rattle.key_core.specs.declared.private_key.PrivateKey.{PrivateKey}
 use Rattle.names_core.specs.UtcDate.{IsTimeOf}
+use Rattle.names_core.specs.Names.{sets_of}
 use Rattle.x501_types.specs.declared.attribute.AttributeTypeAndValue.{AttributeTypeAndValue}
 use Rattle.x509_types.specs.declared.extension.Extension.{Extension}
 use Rattle.x509_types.specs.declared.tbs_certificate.TbsCertificate.{TbsCertificate}
@@ -30,7 +33,7 @@ serial_of (Some octets) word = number_of octets
 
 -- the public key belongs to this private one
 abbrev pub IsHalfOf : PrivateKey → SubjectPublicKeyInfo → Type 0
-IsHalfOf key = IsPublicHalf key.info.private_key key.info.private_key_algorithm key.public_key
+IsHalfOf key = IsPublicHalf (container_of key).private_key (container_of key).private_key_algorithm (point_beside key)
 
 -- a name and a key
 abbrev pub Name : Type 0
@@ -39,7 +42,7 @@ Name = List (List AttributeTypeAndValue)
 -- They are those of the subject that is given. A request has to be signed by its own key.
 abbrev pub IsGivenSubject : Judge → Option SubjectInfos → Name → SubjectPublicKeyInfo → Type 0
 IsGivenSubject judge None name key = ⊥
-IsGivenSubject judge (Some (subjects.Named given own)) name key = (name ≡ given.name) × (key ≡ own.info)
+IsGivenSubject judge (Some (subjects.Named given own)) name key = (name ≡ sets_of given) × (key ≡ info_of own)
 IsGivenSubject judge (Some (subjects.Request csr)) name key =
     IsSelfSigned judge csr × (name ≡ csr.request.certification_request_info.subject) × (key ≡ csr.request.certification_request_info.subject_public_key_info)
 
@@ -65,7 +68,7 @@ pub record IsValidityOf (from to : GeneralizedTime) (validity : Validity) : Type
 
 -- By whom it is issued: the number, the algorithm, the name of the issuer.
 pub record IsIssuedBy (b : CertificateBuilder) (issuer : IssuerInfos) (word : ℕ) (serial_number : IntegerAsn1) (algorithm : AlgorithmIdentifier) (name : Name) : Type 0 where
-  pub numbered : IsUnsignedInteger (serial_of b.serial_number word) serial_number.contents
+  pub numbered : IsUnsignedInteger (serial_of b.serial_number word) (integer_contents serial_number)
   pub signs : IsWrittenAlgorithm b.signature_hash_type algorithm
   pub named : name ≡ issuer.name.name
 

@@ -3,12 +3,14 @@ use Rattle.std.specs.Prelude.{◌≡◌, ◌⊎◌, List, Some, true}
 use Rattle.der_core.specs.Encoding.{encoding, IsDer}
 use Rattle.der_core.specs.Placed.{AreDer}
 use Rattle.der_core.specs.Refusals.{RefusesInner}
+use Rattle.asn1_types.specs.Values.{payload_of, unused_of}
 use Rattle.key_types.specs.declared.key_info.SubjectPublicKeyInfo.{SubjectPublicKeyInfo}
 use Rattle.key_core.specs.PublicHalf.{IsPublicHalf, RefusesPublicHalf}
 use Rattle.key_core.specs.SignatureAlgorithm.{IsWrittenAlgorithm, IsUnwritable}
 use Rattle.key_core.specs.SignatureRules.{RefusesBy}
 use Rattle.key_core.specs.Signing.{Signs, Pair, IsAsked, IsKeyPair, sign_rules}
 use Rattle.key_core.specs.Verifying.{Judge, Accepts}
+use Rattle.key_core.specs.Keys.{container_of, point_beside}
 use Rattle.key_core.specs.declared.element.Element.TheVariants as elements
 use Rattle.key_core.specs.declared.private_key.PrivateKey.{PrivateKey}
 use Rattle.key_core.specs.declared.signature_algorithm.SignatureAlgorithm.{SignatureAlgorithm}
@@ -25,7 +27,7 @@ use Rattle.x509_core.specs.declared.csr_error.CsrError.{CsrError}
 -- What is asked for: this name, the public key of this private one, these attributes, which are given even where there are none.
 pub record IsInfoFor (subject : DirectoryName) (key : PrivateKey) (attributes : List Attribute) (info : CertificationRequestInfo) : Type 0 where
   pub named : info.subject ≡ subject.name
-  pub half : IsPublicHalf key.info.private_key key.info.private_key_algorithm key.public_key info.subject_public_key_info
+  pub half : IsPublicHalf (container_of key).private_key (container_of key).private_key_algorithm (point_beside key) info.subject_public_key_info
   pub given : info.attributes ≡ Some attributes
 
 -- The scheme signs what is asked for with the private key.
@@ -36,7 +38,7 @@ IsInfoSigned signs key algorithm info = IsAsked signs algorithm key (encoding (r
 pub record IsMadeOf (algorithm : SignatureAlgorithm) (info : CertificationRequestInfo) (csr : KeptRequest) : Type 0 where
   pub info_is : csr.request.certification_request_info ≡ info
   pub algorithm_is : IsWrittenAlgorithm algorithm csr.request.signature_algorithm
-  pub unused : csr.request.signature.unused ≡ 0
+  pub unused : unused_of csr.request.signature ≡ 0
   pub written : kept_request csr ≡ request csr.request
 
 -- The request is made of what is asked for, which the scheme signs.
@@ -50,15 +52,15 @@ pub record IsGenerated (signs : Signs) (subject : DirectoryName) (key : PrivateK
 
 -- the private key has no public one
 abbrev pub HasNoHalf : PrivateKey → CsrError → Type 0
-HasNoHalf key = IsKeyless (RefusesPublicHalf key.info.private_key key.public_key)
+HasNoHalf key = IsKeyless (RefusesPublicHalf (container_of key).private_key (point_beside key))
 
 -- The whole is that of this that is asked for, this algorithm, and a signature without unused bits, which is accepted under each public key
 -- of the pair.
 pub record IsSignedWhole (judge : Judge) (pair : Pair) (key : PrivateKey) (algorithm : SignatureAlgorithm) (info : CertificationRequestInfo) (r : CertificationRequest) : Type 0 where
   pub info_is : r.certification_request_info ≡ info
   pub algorithm_is : IsWrittenAlgorithm algorithm r.signature_algorithm
-  pub unused : r.signature.unused ≡ 0
-  pub accepted : (public : SubjectPublicKeyInfo) → IsKeyPair pair key public → Accepts judge algorithm public (encoding (request_info info)) r.signature.payload
+  pub unused : unused_of r.signature ≡ 0
+  pub accepted : (public : SubjectPublicKeyInfo) → IsKeyPair pair key public → Accepts judge algorithm public (encoding (request_info info)) (payload_of r.signature)
 
 -- the whole has no encoding
 abbrev pub WholeUnwritten : Judge → Pair → PrivateKey → SignatureAlgorithm → CertificationRequestInfo → CsrError → Type 0

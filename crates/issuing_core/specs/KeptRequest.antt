@@ -4,6 +4,7 @@ use Rattle.der_core.specs.DerElement.{DerElement}
 use Rattle.der_core.specs.Encoding.{IsDer}
 use Rattle.asn1_types.specs.declared.bit_string.BitString.{BitString}
 use Rattle.key_types.specs.declared.algorithm.AlgorithmIdentifier.{AlgorithmIdentifier}
+use Rattle.key_core.specs.Keys.{info_of}
 use Rattle.key_core.specs.declared.public_key.PublicKey.{PublicKey}
 use Rattle.x501_types.specs.declared.attribute.AttributeTypeAndValue.{AttributeTypeAndValue}
 use Rattle.x509_types.specs.declared.attribute.Attribute.{Attribute}
@@ -34,7 +35,7 @@ HasInfo element r = (info : DerElement) × IsAroundInfo element r info
 -- the request of its parts, the key of its subject among them
 abbrev pub request_with : List (List AttributeTypeAndValue) → PublicKey → Option (List Attribute) → AlgorithmIdentifier → BitString → CertificationRequest
 request_with subject key attributes algorithm signature = record {
-  certification_request_info = record { subject = subject; subject_public_key_info = key.info; attributes = attributes };
+  certification_request_info = record { subject = subject; subject_public_key_info = info_of key; attributes = attributes };
   signature_algorithm = algorithm;
   signature = signature;
 }

@@ -9,6 +9,7 @@ ghost use Rattle.der_core.specs.Refusals.{RefusesInner, RefusesOctets, RefusesSh
 ghost use Rattle.der_core.specs.Structure.{IsWithin};
 ghost use Rattle.der_core.specs.declared.error.DerError.TheVariants as der_errors;
 ghost use Rattle.der_core.specs.declared.fault.DerFault.{DerFault};
+ghost use Rattle.key_core.specs.Keys.{info_of};
 ghost use Rattle.key_core.specs.declared.element.Element.TheVariants as elements;
 ghost use Rattle.request_types.specs.CertificationRequest.{IsRequest, request};
 ghost use Rattle.request_types.specs.declared.request.CertificationRequest.{CertificationRequest};
@@ -164,7 +165,7 @@ impl Csr {
 
     /// The key of the subject with its algorithm (RFC 2986 4.1).
     pub fn public_key(&self) -> &PublicKey
-        ensures { result.now.info ≡ self.now.request.certification_request_info.subject_public_key_info }
+        ensures { info_of result.now ≡ self.now.request.certification_request_info.subject_public_key_info }
     {
         &self.public_key
     }
@@ -172,7 +173,7 @@ impl Csr {
     /// The name and the key of the subject. It takes no memory.
     pub fn into_subject_infos(self) -> (DirectoryName, PublicKey)
         ensures name { result.0.name ≡ self.request.certification_request_info.subject }
-        ensures key { result.1.info ≡ self.request.certification_request_info.subject_public_key_info }
+        ensures key { info_of result.1 ≡ self.request.certification_request_info.subject_public_key_info }
     {
         let Csr {
             subject,

@@ -3,7 +3,7 @@ use Rattle.std.specs.Prelude.{◌≡◌, ◌≢◌, Option, Some, None, Result, 
 use Rattle.std.specs.Option.{option_copied}
 use Rattle.der_core.specs.DerElement.{Primitive}
 use Rattle.der_core.specs.Lent.{kept_option}
-use Rattle.asn1_types.specs.Values.{lent_contents}
+use Rattle.asn1_types.specs.Values.{lent_contents, payload_of}
 use Rattle.asn1_types.specs.declared.bit_string.BitString.{BitString}
 use Rattle.key_types.specs.SubjectKey.{kind_of}
 use Rattle.key_types.specs.declared.key_info.SubjectPublicKeyInfo.{SubjectPublicKeyInfo}
@@ -34,7 +34,7 @@ GivesEcKeypair key result = MatchResult result (IsEcKeypairOf key) (λ e. (e ≡
 pub record IsEcPublicOf (info : SubjectPublicKeyInfo) (view : EcdsaPublicKey) : Type 0 where
   pub bits : BitString
   pub is : info.subject_public_key ≡ keys.Ec bits
-  pub point_is : view.point.now ≡ bits.payload
+  pub point_is : view.point.now ≡ payload_of bits
   pub curve_is : kept_option info.algorithm.parameters ≡ Some (Primitive 0x06 (lent_contents view.curve))
 
 abbrev pub GivesEcPublic : SubjectPublicKeyInfo → Result EcdsaPublicKey KeyError → Type 0
@@ -44,7 +44,7 @@ GivesEcPublic info result = MatchResult result (IsEcPublicOf info) (λ e. (e ≡
 pub record IsEcPublicOfKeypair (keypair : EcdsaKeypair) (view : EcdsaPublicKey) : Type 0 where
   pub bits : BitString
   pub is : option_copied keypair.point ≡ Some bits
-  pub point_is : view.point.now ≡ bits.payload
+  pub point_is : view.point.now ≡ payload_of bits
   pub curve_is : lent_contents view.curve ≡ lent_contents keypair.curve
 
 abbrev pub GivesEcPublicOfKeypair : EcdsaKeypair → Result EcdsaPublicKey KeyError → Type 0

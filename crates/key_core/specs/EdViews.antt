@@ -1,6 +1,7 @@
 -- Views of keys of a curve 25519 or 448.
 use Rattle.std.specs.Prelude.{◌≡◌, ◌≢◌, Option, Some, None, Result, MatchResult}
 use Rattle.std.specs.Option.{option_copied}
+use Rattle.asn1_types.specs.Values.{payload_of}
 use Rattle.asn1_types.specs.declared.bit_string.BitString.{BitString}
 use Rattle.key_types.specs.SubjectKey.{kind_of}
 use Rattle.key_types.specs.declared.key_info.SubjectPublicKeyInfo.{SubjectPublicKeyInfo}
@@ -28,7 +29,7 @@ GivesEdKeypair key result = MatchResult result (IsEdKeypairOf key) (λ e. (e ≡
 pub record IsEdPublicOf (info : SubjectPublicKeyInfo) (view : EdPublicKey) : Type 0 where
   pub bits : BitString
   pub is : info.subject_public_key ≡ keys.Ed bits
-  pub key_is : view.key.now ≡ bits.payload
+  pub key_is : view.key.now ≡ payload_of bits
   pub algorithm_is : view.algorithm.now ≡ info.algorithm.oid
 
 abbrev pub GivesEdPublic : SubjectPublicKeyInfo → Result EdPublicKey KeyError → Type 0
@@ -38,7 +39,7 @@ GivesEdPublic info result = MatchResult result (IsEdPublicOf info) (λ e. (e ≡
 pub record IsEdPublicOfKeypair (keypair : EdKeypair) (view : EdPublicKey) : Type 0 where
   pub bits : BitString
   pub is : option_copied keypair.public_key ≡ Some bits
-  pub key_is : view.key.now ≡ bits.payload
+  pub key_is : view.key.now ≡ payload_of bits
   pub algorithm_is : view.algorithm.now ≡ keypair.algorithm.now
 
 abbrev pub GivesEdPublicOfKeypair : EdKeypair → Result EdPublicKey KeyError → Type 0

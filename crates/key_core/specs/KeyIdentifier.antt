@@ -5,6 +5,7 @@ use Rattle.der_core.specs.Placed.{AreDer}
 use Rattle.der_core.specs.Refusals.{RefusesInner}
 use Rattle.der_core.specs.declared.error.DerError.{DerError}
 use Rattle.der_core.specs.declared.error.DerError.TheVariants as der
+use Rattle.asn1_types.specs.Values.{payload_of}
 use Rattle.key_types.specs.PublicKeyInfo.{public_key_info, inner_key}
 use Rattle.key_types.specs.RsaPublicKey.{rsa_public_key}
 use Rattle.key_types.specs.SubjectKey.{kind_of}
@@ -28,9 +29,9 @@ use Rattle.key_core.specs.declared.key_id.KeyIdGenMethod.TheVariants.{SPKFullDER
 -- RSAPublicKey.
 abbrev pub IsPayloadOf : SubjectKey → List ℕ → Type 0
 IsPayloadOf (keys.Rsa key) octets = IsPkcs1Of (keys.Rsa key) octets
-IsPayloadOf (keys.Ec bits) octets = octets ≡ bits.payload
-IsPayloadOf (keys.Ed bits) octets = octets ≡ bits.payload
-IsPayloadOf (keys.Mldsa bits) octets = octets ≡ bits.payload
+IsPayloadOf (keys.Ec bits) octets = octets ≡ payload_of bits
+IsPayloadOf (keys.Ed bits) octets = octets ≡ payload_of bits
+IsPayloadOf (keys.Mldsa bits) octets = octets ≡ payload_of bits
 
 -- the whole SubjectPublicKeyInfo of a key can be written
 abbrev pub IsWholeOf : SubjectPublicKeyInfo → List ℕ → Type 0

@@ -6,6 +6,7 @@ pub mod Agreement
 pub mod PrivateKeyInfo
 pub mod CurveParameters
 pub mod PrivateKey
+pub mod Keys
 pub mod PrivatePkcs1
 pub mod KeyRefusals
 pub mod EcCurve

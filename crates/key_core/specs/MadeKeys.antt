@@ -4,7 +4,7 @@ use Rattle.der_core.specs.Elements.{null}
 use Rattle.der_core.specs.Lent.{kept_option}
 use Rattle.asn1_types.specs.Elements.{object_identifier}
 use Rattle.asn1_types.specs.Integer.{IsUnsignedInteger, number_of}
-use Rattle.asn1_types.specs.Values.{identifier_contents, integer_contents}
+use Rattle.asn1_types.specs.Values.{identifier_contents, integer_contents, payload_of, unused_of}
 use Rattle.asn1_types.specs.declared.bit_string.BitString.{BitString}
 use Rattle.asn1_types.specs.declared.oid.ObjectIdentifier.{ObjectIdentifier}
 use Rattle.asn1_types.specs.declared.oids.TheConstants.{RSA_ENCRYPTION, EC_PUBLIC_KEY}
@@ -38,8 +38,8 @@ pub record IsEcKey (curve : ObjectIdentifier) (octets : List ℕ) (info : Subjec
   pub is : info.subject_public_key ≡ keys.Ec key
   pub identifier : identifier_contents info.algorithm.oid ≡ EC_PUBLIC_KEY.now
   pub parameters : kept_option info.algorithm.parameters ≡ Some (object_identifier curve)
-  pub whole : key.unused ≡ 0
-  pub payload : key.payload ≡ octets
+  pub whole : unused_of key ≡ 0
+  pub payload : payload_of key ≡ octets
 
 -- the coordinates have as many octets as the field
 abbrev pub AreCoordinates : EcCurve → List ℕ → List ℕ → Type 0
@@ -68,8 +68,8 @@ pub record IsEdKey (algorithm : ObjectIdentifier) (octets : List ℕ) (info : Su
   pub is : info.subject_public_key ≡ keys.Ed key
   pub identifier : info.algorithm.oid ≡ algorithm
   pub parameters : info.algorithm.parameters ≡ None
-  pub whole : key.unused ≡ 0
-  pub payload : key.payload ≡ octets
+  pub whole : unused_of key ≡ 0
+  pub payload : payload_of key ≡ octets
 
 -- the identifier is that of a curve 25519 or 448
 abbrev pub NamesEd : ObjectIdentifier → Type 0

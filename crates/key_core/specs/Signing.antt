@@ -2,7 +2,7 @@
 use Rattle.std.specs.Prelude.{◌≡◌, ◌≢◌, ℕ, List, [], ◌∷◌, ◌++◌, length, Bool, false, Some, None, ◌⊎◌}
 use Rattle.der_core.specs.Encoding.{encoding, IsDer}
 use Rattle.der_core.specs.declared.error.DerError.{DerError}
-use Rattle.asn1_types.specs.Values.{identifier_contents}
+use Rattle.asn1_types.specs.Values.{identifier_contents, payload_of}
 use Rattle.asn1_types.specs.declared.bit_string.BitString.{BitString}
 use Rattle.key_types.specs.declared.key_info.SubjectPublicKeyInfo.{SubjectPublicKeyInfo}
 use Rattle.key_types.specs.declared.key_kind.KeyKind.TheVariants as kinds
@@ -63,7 +63,7 @@ pub record IsEd25519Secret (key : PrivateKey) (secret : List ℕ) : Type 0 where
   pub size : length secret ≡ 32
   pub bits : BitString
   pub public_key : key.public_key ≡ Some bits
-  pub public_size : length bits.payload ≡ 32
+  pub public_size : length (payload_of bits) ≡ 32
 
 -- The private key is one for the algorithm, which a scheme knows by this name, with this secret.
 abbrev pub FitsSecret : SignatureAlgorithm → PrivateKey → SigAlg → List ℕ → Type 0
@@ -113,8 +113,8 @@ pub record IsEdPair (pair : Pair) (algorithm : EdAlgorithm) (key : PrivateKey) (
   pub bits : BitString
   pub public : info.subject_public_key ≡ keys.Ed bits
   pub also : IsOfEd info algorithm
-  pub size : algorithm ≡ ed.Ed25519 → length bits.payload ≡ 32
-  pub paired : pair (ed_kind algorithm) bits.payload secret
+  pub size : algorithm ≡ ed.Ed25519 → length (payload_of bits) ≡ 32
+  pub paired : pair (ed_kind algorithm) (payload_of bits) secret
 
 -- The public key belongs to the private one.
 abbrev pub IsKeyPair : Pair → PrivateKey → SubjectPublicKeyInfo → Type 0
@@ -168,7 +168,7 @@ NotEd25519Secret key e = (HasEdOf key ed.Ed25519 → ⊥) × (e ≡ errors.Key (
 abbrev pub WrongEdSize : PrivateKey → Rule
 WrongEdSize key e =
     (bits : BitString) × (secret : List ℕ) × (key.public_key ≡ Some bits) × (key.info.private_key ≡ values.Ed secret)
-    × ((length bits.payload ≡ 32) × (length secret ≡ 32) → ⊥) × (e ≡ errors.Ed contexts.KeySize)
+    × ((length (payload_of bits) ≡ 32) × (length secret ≡ 32) → ⊥) × (e ≡ errors.Ed contexts.KeySize)
 
 -- what is told where the scheme doesn't sign
 abbrev pub scheme_refused : SignatureAlgorithm → SignatureError

@@ -3,7 +3,7 @@ use Rattle.std.specs.Prelude.{◌≡◌, ◌≢◌, ℕ, List, [], ◌∷◌, �
 use Rattle.der_core.specs.DerElement.{Primitive}
 use Rattle.der_core.specs.Lent.{kept_option}
 use Rattle.der_core.specs.declared.error.DerError.{DerError}
-use Rattle.asn1_types.specs.Values.{identifier_contents}
+use Rattle.asn1_types.specs.Values.{identifier_contents, payload_of}
 use Rattle.asn1_types.specs.declared.bit_string.BitString.{BitString}
 use Rattle.key_types.specs.RsaPublicKey.{rsa_public_key}
 use Rattle.key_types.specs.SubjectKey.{kind_of}
@@ -57,14 +57,14 @@ pub record IsPointOn (curve : EcCurve) (info : SubjectPublicKeyInfo) (octets : L
   pub bits : BitString
   pub is : info.subject_public_key ≡ keys.Ec bits
   pub on : IsOnCurve info curve
-  pub payload : octets ≡ bits.payload
+  pub payload : octets ≡ payload_of bits
 
 -- The octets are those of a key of Ed25519, which the key is: there are 32 (RFC 8032 5.1.5).
 pub record IsEd25519Key (info : SubjectPublicKeyInfo) (octets : List ℕ) : Type 0 where
   pub bits : BitString
   pub is : info.subject_public_key ≡ keys.Ed bits
   pub of : IsOfEd info ed.Ed25519
-  pub payload : octets ≡ bits.payload
+  pub payload : octets ≡ payload_of bits
   pub size : length octets ≡ 32
 
 -- The key is one for the algorithm, which a scheme knows by this name, with these key bytes.
@@ -124,7 +124,7 @@ NotEd25519 info e = (IsOfEd info ed.Ed25519 → ⊥) × (e ≡ errors.Key (key_e
 
 abbrev pub WrongSize : SubjectPublicKeyInfo → Rule
 WrongSize info e =
-    (bits : BitString) × (info.subject_public_key ≡ keys.Ed bits) × (length bits.payload ≢ 32) × (e ≡ errors.Ed contexts.KeySize)
+    (bits : BitString) × (info.subject_public_key ≡ keys.Ed bits) × (length (payload_of bits) ≢ 32) × (e ≡ errors.Ed contexts.KeySize)
 
 -- what is told of a signature that has no form
 abbrev pub malformed : SignatureAlgorithm → SignatureError

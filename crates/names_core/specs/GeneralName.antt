@@ -1,6 +1,7 @@
 -- General names in one of eight forms (RFC 5280 4.2.1.6), by the raw names that they stand for.
 use Rattle.std.specs.Prelude.{◌≡◌, ℕ, List}
 use Rattle.der_core.specs.DerElement.{DerElement}
+use Rattle.asn1_types.specs.Values.{ia5_contents}
 use Rattle.asn1_types.specs.declared.ia5_string.Ia5String.{Ia5String}
 use Rattle.x501_types.specs.GeneralName.{general_name}
 use Rattle.x501_types.specs.declared.general_name.RawGeneralName.{RawGeneralName}
@@ -25,4 +26,4 @@ named_element name = general_name (raw_name name)
 
 -- A name is of this form, and its string is the text.
 abbrev pub IsOfText : (Ia5String → GeneralName) → List ℕ → GeneralName → Type 0
-IsOfText form text name = (string : Ia5String) × (name ≡ form string) × (string.text ≡ text)
+IsOfText form text name = (string : Ia5String) × (name ≡ form string) × (ia5_contents string ≡ text)

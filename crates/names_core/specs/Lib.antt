@@ -1,5 +1,6 @@
 pub mod UtcDate
 pub mod DirectoryName
+pub mod Names
 pub mod GeneralName
 pub mod GeneralNames
 pub mod Facts

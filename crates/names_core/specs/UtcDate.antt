@@ -1,7 +1,7 @@
 -- Dates as the times of certificates (RFC 5280 4.1.2.5).
 use Rattle.std.specs.Prelude.{◌≡◌, ◌↔◌, ⊤, ℕ, List}
 use Rattle.asn1_types.specs.Calendar.{IsUtcYear}
-use Rattle.asn1_types.specs.Time.{generalized_fields, utc_fields}
+use Rattle.asn1_types.specs.Time.{generalized_fields, utc_fields, year_of}
 use Rattle.asn1_types.specs.declared.generalized_time.GeneralizedTime.{GeneralizedTime}
 use Rattle.x509_values.specs.declared.time.Time.{Time}
 use Rattle.x509_values.specs.declared.time.Time.TheVariants as times
@@ -19,4 +19,4 @@ IsUtc (times.Generalized time) = ⊥
 -- The time is that of the date, and a UTCTime exactly where the year is one of 1950 to 2049.
 pub record IsTimeOf (date : GeneralizedTime) (time : Time) : Type 0 where
   pub moment : fields_of time ≡ generalized_fields date
-  pub form : IsUtc time ↔ IsUtcYear date.year
+  pub form : IsUtc time ↔ IsUtcYear (year_of date)

@@ -4,6 +4,7 @@ use Rattle.std.specs.List.{join_with_byte}
 use Rattle.std.specs.Fmt.{digit_glyph}
 use Rattle.der_core.specs.Encoding.{encoding}
 use Rattle.asn1_types.specs.ObjectIdentifier.{dotted}
+use Rattle.asn1_types.specs.Values.{ia5_contents}
 use Rattle.x501_types.specs.Text.{text_of}
 use Rattle.x501_types.specs.NameAttr.{attribute_type, attribute_word}
 use Rattle.x501_types.specs.declared.name_attr.NameAttr.{NameAttr}
@@ -31,7 +32,7 @@ type_word arcs = word_or_dotted (attribute_type arcs) arcs
 -- a string's text, or the octets of another element after `#`
 abbrev pub value_text : AttributeValue → List ℕ
 value_text (values.DirectoryString string) = text_of string
-value_text (values.Ia5String string) = string.text
+value_text (values.Ia5String string) = ia5_contents string
 value_text (values.Other other) = codes "#" ++ hexadecimal (encoding other.element.element)
 
 -- word, `=` and value

@@ -3,6 +3,7 @@
 ghost use Rattle.std.specs.Prelude.{◌≡◌, ◌≢◌, false, IsTrue, MatchResult};
 ghost use Rattle.der_core.specs.DerElement.{Primitive};
 ghost use Rattle.der_core.specs.Refusals.{RefusesShape};
+ghost use Rattle.asn1_types.specs.Values.{ia5_contents};
 ghost use Rattle.asn1_types.specs.declared.oid.ObjectIdentifier.{ObjectIdentifier};
 ghost use Rattle.asn1_types.specs.declared.ia5_string.Ia5String.{Ia5String};
 
@@ -12,8 +13,8 @@ use std::alloc::Global;
 
 /// Whether the element is an IA5String under this tag in place of its own.
 pub(crate) fn has_text(elem: Elem<'_>, tag: u8) -> bool
-    ensures fits { IsTrue result → (text : Ia5String) × (elem.entry.is.0 ≡ Primitive tag text.text) }
-    ensures unfit { result ≡ false → (text : Ia5String) → elem.entry.is.0 ≢ Primitive tag text.text }
+    ensures fits { IsTrue result → (text : Ia5String) × (elem.entry.is.0 ≡ Primitive tag (ia5_contents text)) }
+    ensures unfit { result ≡ false → (text : Ia5String) → elem.entry.is.0 ≢ Primitive tag (ia5_contents text) }
 {
     match leaf_at(elem, tag) {
         Some(content) => Ia5String::is_content(content),
@@ -24,8 +25,8 @@ pub(crate) fn has_text(elem: Elem<'_>, tag: u8) -> bool
 /// The IA5String under this tag in place of its own.
 pub(crate) fn read_text(alloc: Global, elem: Elem<'_>, tag: u8) -> Result<Ia5String, DerError>
     ensures { MatchResult result
-        (λ text. elem.entry.is.0 ≡ Primitive tag text.text)
-        (RefusesShape (λ (text : Ia5String). elem.entry.is.0 ≡ Primitive tag text.text)) }
+        (λ text. elem.entry.is.0 ≡ Primitive tag (ia5_contents text))
+        (RefusesShape (λ (text : Ia5String). elem.entry.is.0 ≡ Primitive tag (ia5_contents text))) }
 {
     match leaf_at(elem, tag) {
         Some(content) => Ia5String::from_content(alloc, content),

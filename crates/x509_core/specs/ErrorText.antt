@@ -9,6 +9,7 @@ use Rattle.key_core.specs.SignatureErrorText.{signature_error_text, key_id_error
 use Rattle.key_core.specs.declared.key_id.KeyIdGenError.{KeyIdGenError}
 use Rattle.key_core.specs.declared.signature_error.SignatureError.{SignatureError}
 use Rattle.x501_types.specs.NameText.{hexadecimal, name_text}
+use Rattle.names_core.specs.Names.{sets_of}
 use Rattle.x509_core.specs.CsrErrorText.{csr_error_text}
 use Rattle.x509_core.specs.declared.error.Arg.{Arg}
 use Rattle.x509_core.specs.declared.error.Arg.TheVariants as arguments
@@ -62,12 +63,12 @@ key_mismatch_text expected actual =
 -- why certificates are no chain
 abbrev pub chain_error_text : CaChainError → List ℕ
 chain_error_text (chain.TooDeep id length) =
-    codes "chain depth doesn't satisfy basic constraints extension: certificate '" ++ name_text id.name ++ codes "' has pathlen of " ++ decimal length
+    codes "chain depth doesn't satisfy basic constraints extension: certificate '" ++ name_text (sets_of id) ++ codes "' has pathlen of " ++ decimal length
 chain_error_text chain.NoRoot = codes "chain is missing a root certificate"
-chain_error_text (chain.IssuerIsNotCA id) = codes "issuer certificate '" ++ name_text id.name ++ codes "' is not a CA"
+chain_error_text (chain.IssuerIsNotCA id) = codes "issuer certificate '" ++ name_text (sets_of id) ++ codes "' is not a CA"
 chain_error_text (chain.AuthorityKeyIdMismatch expected actual) = key_mismatch_text expected actual
 chain_error_text (chain.IssuerNameMismatch expected actual) =
-    codes "issuer name doesn't match (expected: " ++ name_text expected.name ++ codes ", got: " ++ name_text actual.name ++ codes ")"
+    codes "issuer name doesn't match (expected: " ++ name_text (sets_of expected) ++ codes ", got: " ++ name_text (sets_of actual) ++ codes ")"
 
 -- a cause has the text of the error of its name
 abbrev pub cause_text : CertCause → Option (List ℕ)
@@ -83,7 +84,7 @@ cause_text (causes.CertificateExpired not_after now) = Some (expired_text not_af
 abbrev pub cert_error_text : CertError → Option (List ℕ)
 cert_error_text (errors.CertGeneration source) = option_map (λ text. codes "couldn't generate certificate: " ++ text) (cause_text source)
 cert_error_text (errors.InvalidCertificate id source) =
-    option_map (λ text. codes "invalid certificate '" ++ name_text id.name ++ codes "': " ++ text) (cause_text source)
+    option_map (λ text. codes "invalid certificate '" ++ name_text (sets_of id) ++ codes "': " ++ text) (cause_text source)
 cert_error_text (errors.Asn1Serialization element source) = None
 cert_error_text (errors.Asn1Deserialization element source) = None
 cert_error_text (errors.Signature source) = bad_signature_text source

@@ -1,4 +1,5 @@
 -- The two parts in which a certificate is kept: the key of its subject, and the rest.
+use Rattle.key_core.specs.Keys.{info_of}
 use Rattle.key_core.specs.declared.public_key.PublicKey.{PublicKey}
 use Rattle.x509_types.specs.declared.certificate.Certificate.{Certificate}
 use Rattle.x509_core.specs.declared.keyless.Keyless.{Keyless}
@@ -13,7 +14,7 @@ joined rest key = record {
     issuer = rest.issuer;
     validity = rest.validity;
     subject = rest.subject;
-    subject_public_key_info = key.info;
+    subject_public_key_info = info_of key;
     issuer_unique_id = rest.issuer_unique_id;
     subject_unique_id = rest.subject_unique_id;
     extensions = rest.extensions;

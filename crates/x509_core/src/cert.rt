@@ -10,8 +10,10 @@ ghost use Rattle.der_core.specs.Structure.{Fits, IsWithin};
 ghost use Rattle.der_core.specs.declared.error.DerError.TheVariants as der_errors;
 ghost use Rattle.der_core.specs.declared.fault.DerFault.{DerFault};
 ghost use Rattle.asn1_types.specs.Time.{generalized_fields};
+ghost use Rattle.key_core.specs.Keys.{info_of};
 ghost use Rattle.key_core.specs.declared.element.Element.TheVariants as elements;
 ghost use Rattle.names_core.specs.UtcDate.{fields_of};
+ghost use Rattle.names_core.specs.Names.{sets_of};
 ghost use Rattle.x509_types.specs.Certificate.{IsCertificate};
 ghost use Rattle.x509_types.specs.CertificateElements.{certificate_of};
 ghost use Rattle.x509_types.specs.CertificateView.{IsKnownView, view_elements};
@@ -219,14 +221,14 @@ impl Cert {
 
     /// The key of the subject with its algorithm (RFC 5280 4.1.2.7).
     pub fn public_key(&self) -> &PublicKey
-        ensures { result.now.info ≡ self.now.certificate.tbs_certificate.subject_public_key_info }
+        ensures { info_of result.now ≡ self.now.certificate.tbs_certificate.subject_public_key_info }
     {
         &self.public_key
     }
 
     /// The key of the subject with its algorithm. It takes no memory.
     pub fn into_public_key(self) -> PublicKey
-        ensures { result.info ≡ self.certificate.tbs_certificate.subject_public_key_info }
+        ensures { info_of result ≡ self.certificate.tbs_certificate.subject_public_key_info }
     {
         let Cert { public_key, .. } = self;
         public_key
@@ -234,14 +236,14 @@ impl Cert {
 
     /// The name of the subject (RFC 5280 4.1.2.6).
     pub fn subject_name(&self, alloc: Global) -> Result<DirectoryName, AllocError>
-        ensures { IfOk result (λ copy. copy.name ≡ self.now.certificate.tbs_certificate.subject) }
+        ensures { IfOk result (λ copy. sets_of copy ≡ self.now.certificate.tbs_certificate.subject) }
     {
         Ok(DirectoryName::from(self.rest.subject.try_clone(alloc)?))
     }
 
     /// The name of the issuer (RFC 5280 4.1.2.4).
     pub fn issuer_name(&self, alloc: Global) -> Result<DirectoryName, AllocError>
-        ensures { IfOk result (λ copy. copy.name ≡ self.now.certificate.tbs_certificate.issuer) }
+        ensures { IfOk result (λ copy. sets_of copy ≡ self.now.certificate.tbs_certificate.issuer) }
     {
         Ok(DirectoryName::from(self.rest.issuer.try_clone(alloc)?))
     }

@@ -1,6 +1,7 @@
 -- The times and the key of a certificate's value are those that stand further within its elements.
 use Rattle.std.specs.Prelude.{◌≡◌, ℕ, List, Some}
 use Rattle.der_core.specs.Encoding.{encoding}
+use Rattle.asn1_types.specs.Values.{payload_of}
 use Rattle.key_types.specs.AlgorithmIdentifier.{algorithm_identifier}
 use Rattle.key_types.specs.RsaPublicKey.{rsa_public_key}
 use Rattle.key_types.specs.declared.subject_key.SubjectKey.{SubjectKey}
@@ -13,9 +14,9 @@ use Rattle.x509_types.specs.declared.certificate.Certificate.{Certificate}
 -- the octets that hold the bits of a key: for one of RSA the encoding of an RSAPublicKey (RFC 3279 2.3.1)
 abbrev pub key_payload : SubjectKey → List ℕ
 key_payload (keys.Rsa key) = encoding (rsa_public_key key)
-key_payload (keys.Ec bits) = bits.payload
-key_payload (keys.Ed bits) = bits.payload
-key_payload (keys.Mldsa bits) = bits.payload
+key_payload (keys.Ec bits) = payload_of bits
+key_payload (keys.Ed bits) = payload_of bits
+key_payload (keys.Mldsa bits) = payload_of bits
 
 -- Each stands where its path leads.
 pub record AreInnerFields (f : CertificateElements) (c : Certificate) : Type 0 where

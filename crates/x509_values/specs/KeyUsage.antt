@@ -3,6 +3,7 @@
 use Rattle.std.specs.Prelude.{◌≡◌, ◌↔◌, ℕ, ◌+◌, ◌-◌, ◌*◌, ◌/◌, ◌%◌, ◌^◌, ◌<◌, ◌≤◌, List, length, slice_index}
 use Rattle.der_core.specs.DerElement.{DerElement}
 use Rattle.asn1_types.specs.Elements.{bit_string}
+use Rattle.asn1_types.specs.Values.{payload_of, unused_of}
 use Rattle.asn1_types.specs.declared.bit_string.BitString.{BitString}
 use Rattle.x509_values.specs.declared.key_usage.KeyUsage.{KeyUsage}
 
@@ -15,8 +16,8 @@ octet_bit octets number = slice_index octets (number / 8) / 2 ^ (7 - number % 8)
 
 -- The string has a bit of this number, and it is 1.
 pub record HasBit (bits : BitString) (number : ℕ) : Type 0 where
-  pub within : number + bits.unused < 8 * length bits.payload
-  pub one : octet_bit bits.payload number ≡ 1
+  pub within : number + unused_of bits < 8 * length (payload_of bits)
+  pub one : octet_bit (payload_of bits) number ≡ 1
 
 -- The bits are those of flags, that of number i for 1 << i.
 pub record IsUsageOf (flags : ℕ) (bits : BitString) : Type 0 where
@@ -24,6 +25,6 @@ pub record IsUsageOf (flags : ℕ) (bits : BitString) : Type 0 where
   -- there are no others
   pub only : (number : ℕ) → HasBit bits number → number ≤ 8
   -- the last bit of the string is 1 (X.690 11.2.2)
-  pub last : (number : ℕ) → number + bits.unused + 1 ≡ 8 * length bits.payload → HasBit bits number
+  pub last : (number : ℕ) → number + unused_of bits + 1 ≡ 8 * length (payload_of bits) → HasBit bits number
   -- the bits that aren't used are 0 (X.690 11.2.1)
-  pub padded : (number : ℕ) → number < 8 * length bits.payload → octet_bit bits.payload number ≡ 1 → HasBit bits number
+  pub padded : (number : ℕ) → number < 8 * length (payload_of bits) → octet_bit (payload_of bits) number ≡ 1 → HasBit bits number

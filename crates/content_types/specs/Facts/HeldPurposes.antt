@@ -13,6 +13,7 @@ use Rattle.der_core.specs.Facts.Grammars.{printed, lists}
 use Rattle.der_core.specs.Facts.Kept.{same_encoded}
 use Rattle.asn1_types.specs.Elements.{object_identifier}
 use Rattle.asn1_types.specs.Facts.Elements.{identifiers, same_oid}
+use Rattle.asn1_types.specs.Values.{identifier_contents}
 use Rattle.asn1_types.specs.declared.oid.ObjectIdentifier.{ObjectIdentifier}
 use Rattle.content_types.specs.HeldPurposes.{IsIdentifier, ArePurposes, ArePurposesIn}
 use Rattle.content_types.specs.HeldPurposesElement.{held_purposes}
@@ -23,13 +24,13 @@ purpose_lists = lists 0x30 IsIdentifier object_identifier (λ (id : ObjectIdenti
 
 -- identifiers are told by their contents octets
 told : ObjectIdentifier → ObjectIdentifier → Bool
-told a b = bytes_eq a.contents b.contents
+told a b = bytes_eq (identifier_contents a) (identifier_contents b)
 
 told_same : (a b : ObjectIdentifier) → IsTrue (told a b) ↔ (a ≡ b)
 unfolding told
 told_same a b =
-    let decides = bytes_eq-Decides a.contents b.contents in
-    (λ t. same_oid a b (decides.0 t), λ e. decides.1 (ap (λ (i : ObjectIdentifier). i.contents) e))
+    let decides = bytes_eq-Decides (identifier_contents a) (identifier_contents b) in
+    (λ t. same_oid a b (decides.0 t), λ e. decides.1 (ap identifier_contents e))
 
 test_prop : (t : Bool) → IsProp (IsTrue t)
 test_prop t = hlevel props

@@ -7,6 +7,8 @@ ghost use Rattle.key_core.specs.SignatureAlgorithm.{IsWrittenAlgorithm, IsUnwrit
 ghost use Rattle.x509_types.specs.FirstOfValue.{extensions_in};
 ghost use Rattle.x509_types.specs.declared.version.Version.TheVariants as versions;
 ghost use Rattle.key_core.specs.Signing.{IsKeyPair};
+ghost use Rattle.key_core.specs.Keys.{info_of};
+ghost use Rattle.names_core.specs.Names.{sets_of};
 ghost use Rattle.x509_core.specs.FirstValue.{HasFirst};
 ghost use Rattle.x509_core.specs.KeptCertificate.{KeptCertificate};
 ghost use Rattle.x509_core.specs.Link.{IsSignedBy};
@@ -108,7 +110,7 @@ impl<'a> CertificateBuilder<'a> {
     ) -> Result<TbsCertificate, CertError>
         ensures { MatchResult result
             (λ tbs. IsTbsBy self.now issuer.now word subject.own.items tbs
-            × (tbs.validity ≡ validity) × (tbs.subject ≡ subject.name.name) × (tbs.subject_public_key_info ≡ subject.key.info))
+            × (tbs.validity ≡ validity) × (tbs.subject ≡ sets_of subject.name) × (tbs.subject_public_key_info ≡ info_of subject.key))
             (RefusesBySteps (algorithm_step self.now ∷ [])) }
     {
         let by = self.issued_by(alloc, word, issuer)?;
@@ -182,7 +184,7 @@ fn joined(
       issuer = by.name.name;
       validity = validity;
       subject = subject.name.name;
-      subject_public_key_info = subject.key.info;
+      subject_public_key_info = info_of subject.key;
       issuer_unique_id = None;
       subject_unique_id = None;
       extensions = Some extensions;

@@ -4,6 +4,7 @@ ghost use Rattle.std.specs.Prelude.{◌≡◌, ◌⊎◌, IfOk, MatchResult};
 ghost use Rattle.der_core.specs.Encoding.{IsDer};
 ghost use Rattle.der_core.specs.Placed.{AreDer};
 ghost use Rattle.der_core.specs.Refusals.{RefusesInner};
+ghost use Rattle.asn1_types.specs.Values.{payload_of, unused_of};
 ghost use Rattle.key_types.specs.declared.key_info.SubjectPublicKeyInfo.{SubjectPublicKeyInfo};
 ghost use Rattle.key_core.specs.SignatureRules.{RefusesBy};
 ghost use Rattle.key_core.specs.Signing.{IsKeyPair, sign_rules};
@@ -56,12 +57,12 @@ fn signature_of<S: Scheme>(
     scheme: &S,
 ) -> Result<BitString, CertError>
     ensures answer { MatchResult result
-        (λ bits. (bits.unused ≡ 0) × IsDer (tbs_certificate tbs.now) × AreDer (inner_tbs tbs.now) × IsTbsSigned (S.signs scheme.now) algorithm private_key.now tbs.now)
+        (λ bits. (unused_of bits ≡ 0) × IsDer (tbs_certificate tbs.now) × AreDer (inner_tbs tbs.now) × IsTbsSigned (S.signs scheme.now) algorithm private_key.now tbs.now)
         (λ e. (e ≡ errors.Memory) ⊎ (Tells octets_refusal (RefusesInner (tbs_written tbs.now)) e
         ⊎ (IsDer (tbs_certificate tbs.now) × AreDer (inner_tbs tbs.now)
         × Tells signature_refusal (RefusesBy (sign_rules (S.signs scheme.now) algorithm private_key.now (message_of tbs.now))) e))) }
     ensures accepted { IfOk result (λ bits. (public : SubjectPublicKeyInfo) → IsKeyPair (S.pair scheme.now) private_key.now public
-        → Accepts (S.judge scheme.now) algorithm public (message_of tbs.now) bits.payload) }
+        → Accepts (S.judge scheme.now) algorithm public (message_of tbs.now) (payload_of bits)) }
 {
     let message = match tbs.to_der(alloc) {
         Ok(message) => message,

@@ -1,6 +1,8 @@
 //! Whom the certificate is for.
 
 ghost use Rattle.std.specs.Prelude.{◌≡◌, ◌⊎◌, [], ◌∷◌, ◌++◌, IfOk, IsSome, MatchResult};
+ghost use Rattle.key_core.specs.Keys.{info_of};
+ghost use Rattle.names_core.specs.Names.{sets_of};
 ghost use Rattle.issuing_core.specs.BuildRefusals.{Tells, no_request as request_refusal};
 ghost use Rattle.issuing_core.specs.BuiltCertificate.{IsGivenSubject, IsHalfOf, IsIssuedTo, IsSubject};
 ghost use Rattle.issuing_core.specs.Building.{half_step, identifier_step, other_steps, subject_steps};
@@ -35,7 +37,7 @@ impl CertificateBuilder<'_> {
         scheme: &S,
     ) -> Result<Subject, CertError>
         ensures { MatchResult result
-            (λ subject. IsIssuedTo (S.judge scheme.now) self.now issuer.now subject.own.items subject.name.name subject.key.info)
+            (λ subject. IsIssuedTo (S.judge scheme.now) self.now issuer.now subject.own.items (sets_of subject.name) (info_of subject.key))
             (RefusesBySteps (subject_steps (S.judge scheme.now) issuer.now.self_signed self.now issuer.now ++ identifier_step (S.judge scheme.now) self.now issuer.now ∷ [])) }
     {
         let (name, key) = self.subject_of(alloc, issuer, scheme)?;
@@ -53,7 +55,7 @@ impl CertificateBuilder<'_> {
         scheme: &S,
     ) -> Result<(DirectoryName, PublicKey), CertError>
         ensures { MatchResult result
-            (λ subject. IsSubject (S.judge scheme.now) self.now issuer.now subject.0.name subject.1.info)
+            (λ subject. IsSubject (S.judge scheme.now) self.now issuer.now (sets_of subject.0) (info_of subject.1))
             (RefusesBySteps (subject_steps (S.judge scheme.now) issuer.now.self_signed self.now issuer.now)) }
     {
         if issuer.self_signed {
@@ -70,7 +72,7 @@ impl CertificateBuilder<'_> {
         scheme: &S,
     ) -> Result<(DirectoryName, PublicKey), CertError>
         ensures { MatchResult result
-            (λ subject. IsSome self.now.authority_key_identifier × IsGivenSubject (S.judge scheme.now) self.now.subject_infos subject.0.name subject.1.info)
+            (λ subject. IsSome self.now.authority_key_identifier × IsGivenSubject (S.judge scheme.now) self.now.subject_infos (sets_of subject.0) (info_of subject.1))
             (RefusesBySteps (other_steps (S.judge scheme.now) self.now)) }
     {
         if self.authority_key_identifier.is_none() {

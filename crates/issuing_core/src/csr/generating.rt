@@ -2,6 +2,7 @@
 
 ghost use Rattle.std.specs.Prelude.{◌≡◌, ◌⊎◌, [], IfOk, MatchResult};
 ghost use Rattle.der_core.specs.Encoding.{encoding};
+ghost use Rattle.asn1_types.specs.Values.{payload_of, unused_of};
 ghost use Rattle.key_types.specs.declared.key_info.SubjectPublicKeyInfo.{SubjectPublicKeyInfo};
 ghost use Rattle.key_core.specs.SignatureAlgorithm.{IsWrittenAlgorithm, IsUnwritable};
 ghost use Rattle.key_core.specs.Signing.{IsKeyPair};
@@ -108,7 +109,7 @@ fn signed<S: Scheme>(
         (λ csr. IsMadeOf algorithm info csr × IsInfoSigned (S.signs scheme.now) private_key.now algorithm info)
         (RefusesToMake (S.judge scheme.now) (S.signs scheme.now) (S.pair scheme.now) private_key.now algorithm info) }
     ensures verifies { IfOk result (λ csr. (key : SubjectPublicKeyInfo) → IsKeyPair (S.pair scheme.now) private_key.now key
-        → Accepts (S.judge scheme.now) algorithm key (encoding csr.info) csr.request.signature.payload) }
+        → Accepts (S.judge scheme.now) algorithm key (encoding csr.info) (payload_of csr.request.signature)) }
 {
     let signature = signature_of(alloc, &info, private_key, algorithm, scheme)?;
     let signature_algorithm = identifier_of(alloc, algorithm)?;
@@ -129,10 +130,10 @@ fn signature_of<S: Scheme>(
     scheme: &S,
 ) -> Result<BitString, CsrError>
     ensures answer { MatchResult result
-        (λ bits. (bits.unused ≡ 0) × IsInfoWritten info.now × IsInfoSigned (S.signs scheme.now) private_key.now algorithm info.now)
+        (λ bits. (unused_of bits ≡ 0) × IsInfoWritten info.now × IsInfoSigned (S.signs scheme.now) private_key.now algorithm info.now)
         (λ e. InfoUnwritten info.now e ⊎ (IsInfoWritten info.now × InfoUnsigned (S.signs scheme.now) private_key.now algorithm info.now e)) }
     ensures verifies { IfOk result (λ bits. (key : SubjectPublicKeyInfo) → IsKeyPair (S.pair scheme.now) private_key.now key
-        → Accepts (S.judge scheme.now) algorithm key (encoding (request_info info.now)) bits.payload) }
+        → Accepts (S.judge scheme.now) algorithm key (encoding (request_info info.now)) (payload_of bits)) }
 {
     let message = match info.to_der(alloc) {
         Ok(message) => message,

@@ -1,6 +1,7 @@
 //! Signatures by private keys.
 
 ghost use Rattle.std.specs.Prelude.{◌≡◌, ◌≢◌, ◌⊎◌, [], ◌∷◌, ℕ, List, length, true, false, Some, Err, IfOk, MatchResult};
+ghost use Rattle.asn1_types.specs.Values.{payload_of};
 ghost use Rattle.key_types.specs.declared.key_info.SubjectPublicKeyInfo.{SubjectPublicKeyInfo};
 ghost use Rattle.sig_core.specs.Algorithm.{kind_of};
 ghost use Rattle.sig_core.specs.declared.scheme.Verdict.TheVariants as verdicts;
@@ -199,8 +200,8 @@ fn ed25519_secret(private_key: &PrivateKey) -> Result<&[u8], SignatureError>
 /// The secret, where it and the public key have as many octets as those of Ed25519.
 fn sized<'a>(secret: &'a [u8], bits: &BitString) -> Result<&'a [u8], SignatureError>
     ensures { MatchResult result
-        (λ octets. (octets.now ≡ secret.now) × (length bits.now.payload ≡ 32) × (length secret.now ≡ 32))
-        (λ e. ((length bits.now.payload ≡ 32) × (length secret.now ≡ 32) → ⊥) × (e ≡ errors.Ed contexts.KeySize)) }
+        (λ octets. (octets.now ≡ secret.now) × (length (payload_of bits.now) ≡ 32) × (length secret.now ≡ 32))
+        (λ e. ((length (payload_of bits.now) ≡ 32) × (length secret.now ≡ 32) → ⊥) × (e ≡ errors.Ed contexts.KeySize)) }
 {
     if bits.payload_view().len() != ED25519_LEN || secret.len() != ED25519_LEN {
         return Err(SignatureError::Ed {

@@ -1,6 +1,7 @@
 //! Verification of signatures.
 
 ghost use Rattle.std.specs.Prelude.{◌≡◌, ◌≢◌, ℕ, List, [], ◌∷◌, ◌++◌, length, Some, Err, MatchOption, MatchResult};
+ghost use Rattle.asn1_types.specs.Values.{payload_of};
 ghost use Rattle.key_types.specs.SubjectKey.{kind_of};
 ghost use Rattle.key_types.specs.declared.key_info.SubjectPublicKeyInfo.{SubjectPublicKeyInfo};
 ghost use Rattle.key_types.specs.declared.key_kind.KeyKind.TheVariants as kinds;
@@ -269,8 +270,8 @@ fn ed25519_bytes(public_key: &PublicKey) -> Result<&[u8], SignatureError>
 /// The octets, which are as many as a key of Ed25519 has.
 fn sized(bits: &BitString) -> Result<&[u8], SignatureError>
     ensures { MatchResult result
-        (λ bytes. (bytes.now ≡ bits.now.payload) × (length bytes.now ≡ 32))
-        (λ e. (length bits.now.payload ≢ 32) × (e ≡ errors.Ed contexts.KeySize)) }
+        (λ bytes. (bytes.now ≡ payload_of bits.now) × (length bytes.now ≡ 32))
+        (λ e. (length (payload_of bits.now) ≢ 32) × (e ≡ errors.Ed contexts.KeySize)) }
 {
     let octets = bits.payload_view();
     if octets.len() != ED25519_LEN {

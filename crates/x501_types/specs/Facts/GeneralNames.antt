@@ -10,6 +10,7 @@ use Rattle.der_core.specs.Facts.Grammars.{printed, printed_lists, list_once}
 use Rattle.der_core.specs.Facts.Kept.{same_kept}
 use Rattle.asn1_types.specs.Elements.{object_identifier}
 use Rattle.asn1_types.specs.Facts.Elements.{identifiers, same_oid, same_ia5}
+use Rattle.asn1_types.specs.Values.{ia5_contents, identifier_contents}
 use Rattle.asn1_types.specs.declared.oid.ObjectIdentifier.{ObjectIdentifier}
 use Rattle.asn1_types.specs.declared.ia5_string.Ia5String.{Ia5String}
 use Rattle.x501_types.specs.DirectoryString.{directory_string}
@@ -126,8 +127,8 @@ tag_of_form (forms.Uri text) = refl
 tag_of_form (forms.IpAddress address) = refl
 tag_of_form (forms.RegisteredId id) = refl
 
-texts_once : (tag : ℕ) (x y : Ia5String) → Primitive tag x.text ≡ Primitive tag y.text → x ≡ y
-texts_once tag x y e = same_ia5 x y (leaf_once tag x.text y.text e)
+texts_once : (tag : ℕ) (x y : Ia5String) → Primitive tag (ia5_contents x) ≡ Primitive tag (ia5_contents y) → x ≡ y
+texts_once tag x y e = same_ia5 x y (leaf_once tag (ia5_contents x) (ia5_contents y) e)
 
 of_form : (a b : RawGeneralName) → form_tag a ≡ form_tag b → general_name a ≡ general_name b → a ≡ b
 of_form (forms.OtherName x) (forms.OtherName y) t e = ap forms.OtherName (other_names_once x y e)
@@ -137,7 +138,7 @@ of_form (forms.DirectoryName x) (forms.DirectoryName y) t e = ap forms.Directory
 of_form (forms.EdiPartyName x) (forms.EdiPartyName y) t e = ap forms.EdiPartyName (edi_party_names_once x y e)
 of_form (forms.Uri x) (forms.Uri y) t e = ap forms.Uri (texts_once 0x86 x y e)
 of_form (forms.IpAddress x) (forms.IpAddress y) t e = ap forms.IpAddress (leaf_once 0x87 x y e)
-of_form (forms.RegisteredId x) (forms.RegisteredId y) t e = ap forms.RegisteredId (same_oid x y (leaf_once 0x88 x.contents y.contents e))
+of_form (forms.RegisteredId x) (forms.RegisteredId y) t e = ap forms.RegisteredId (same_oid x y (leaf_once 0x88 (identifier_contents x) (identifier_contents y) e))
 of_form a b t e = absurd (omega (arith, t))
 
 pub forms_once : (a b : RawGeneralName) → general_name a ≡ general_name b → a ≡ b

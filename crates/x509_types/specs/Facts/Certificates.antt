@@ -8,6 +8,7 @@ use Rattle.der_core.specs.Structure.{IsGrammar}
 use Rattle.der_core.specs.Facts.Fronts.{formed_encoding_once}
 use Rattle.asn1_types.specs.Elements.{bit_string}
 use Rattle.asn1_types.specs.Facts.Elements.{bit_strings}
+use Rattle.asn1_types.specs.Values.{payload_of, unused_of}
 use Rattle.asn1_types.specs.declared.bit_string.BitString.{BitString}
 use Rattle.key_types.specs.AlgorithmIdentifier.{algorithm_identifier}
 use Rattle.key_types.specs.Facts.Algorithms.{algorithms}
@@ -55,7 +56,7 @@ certificates_once element a b p q =
 certificates_spelled : (c : Certificate) → AreDer (inner_certificate c) → IsCertificate (certificate c) c
 certificates_spelled c der =
     let tbs = tbs_certificates.spelled c.tbs_certificate der in
-    let f : CertificateElements = record { tbs = tbs.elements; algorithm = algorithm_identifier c.signature_algorithm; unused = c.signature_value.unused; signature = c.signature_value.payload } in
+    let f : CertificateElements = record { tbs = tbs.elements; algorithm = algorithm_identifier c.signature_algorithm; unused = unused_of c.signature_value; signature = payload_of c.signature_value } in
     record {
       elements = f;
       is = ap (λ (x : DerElement). sequence (x ∷ algorithm_identifier c.signature_algorithm ∷ bit_string c.signature_value ∷ [])) tbs.is;

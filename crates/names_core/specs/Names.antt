@@ -1,0 +1,8 @@
+-- What contracts see of a directory's name.
+use Rattle.std.specs.Prelude.{List}
+use Rattle.x501_types.specs.declared.attribute.AttributeTypeAndValue.{AttributeTypeAndValue}
+use Rattle.names_core.specs.declared.name.DirectoryName.{DirectoryName}
+
+-- The sets of attributes, the first of the name first (RFC 5280 4.1.2.4).
+abbrev pub sets_of : DirectoryName → List (List AttributeTypeAndValue)
+sets_of made = made.name
