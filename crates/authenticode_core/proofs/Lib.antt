@@ -5,7 +5,6 @@ pub mod FormOrder
 pub mod FormSteps
 pub mod ValueSteps
 pub mod OneData
-pub mod Hexadecimal
 pub mod OneCertificate
 pub mod BagSteps
 pub mod PlaceSteps

@@ -2,7 +2,6 @@
 
 ghost use Rattle.std.specs.Prelude.{◌≡◌, IfOk, string_bytes};
 ghost use Rattle.std.specs.Fmt.{WritesOnOk};
-ghost use Rattle.hex.specs.Hex.{encode_lower};
 ghost use Rattle.authenticode_core.specs.ErrorText.{check_error_text, content_error_text, file_mismatch_text, mismatch_text, unnamed_text};
 ghost use Rattle.authenticode_core.specs.ContentRefusal.{of_certificates, of_char_set, of_der, of_signatures, told_of_content};
 ghost use Rattle.authenticode_core.specs.RefusalName.{content_refusal_name, header_refusal_name, refusal_name, variant_name};
@@ -19,6 +18,7 @@ use std::alloc::{AllocError, AllocFailed, Global};
 use std::fmt::{self, Display};
 use thiserror::Error;
 use wincert_core::WinCertificateError;
+use x501_types::write_hexadecimal;
 use x509_core::CertError;
 
 /// Why signed data is refused, in the order in which it is asked (Windows Authenticode Portable
@@ -254,16 +254,6 @@ fn write_unnamed<W: fmt::Write>(
         "the signed data has no certificate of the issuer '{issuer}' with the serial number "
     )?;
     write_hexadecimal(serial_number, f)
-}
-
-/// The octets in lower-case hexadecimal digits.
-fn write_hexadecimal<W: fmt::Write>(octets: &[u8], f: &mut fmt::Formatter<W>) -> fmt::Result
-    ensures { WritesOnOk W.write_str_gives f.old result (encode_lower octets.now) f.new }
-{
-    for octet in octets {
-        write!(f, "{octet:02x}")?;
-    }
-    Ok(())
 }
 
 /// Why a signature file is refused.

@@ -1,5 +1,5 @@
 pub mod AttributeTypes
-pub mod Hexadecimal
+pub mod Digits
 pub mod Joined
 pub mod Texts
 pub mod TypeWords

@@ -1,7 +1,7 @@
 -- The text of a name.
-use Rattle.std.specs.Prelude.{ℕ, ◌/◌, ◌%◌, false, if◌then◌else◌, Option, Some, None, List, [], ◌∷◌, ◌++◌, map, flat_map, bytes_eq, codes}
+use Rattle.std.specs.Prelude.{ℕ, if◌then◌else◌, Option, Some, None, List, [], ◌∷◌, ◌++◌, map, bytes_eq, codes}
 use Rattle.std.specs.List.{join_with_byte}
-use Rattle.std.specs.Fmt.{digit_glyph}
+use Rattle.hex.specs.Hex.{encode_lower}
 use Rattle.der_core.specs.Encoding.{encoding}
 use Rattle.asn1_types.specs.ObjectIdentifier.{dotted}
 use Rattle.asn1_types.specs.Values.{ia5_contents}
@@ -11,10 +11,6 @@ use Rattle.x501_types.specs.declared.name_attr.NameAttr.{NameAttr}
 use Rattle.x501_types.specs.declared.attribute_value.AttributeValue.{AttributeValue}
 use Rattle.x501_types.specs.declared.attribute_value.AttributeValue.TheVariants as values
 use Rattle.x501_types.specs.declared.attribute.AttributeTypeAndValue.{AttributeTypeAndValue}
-
--- two digits an octet, in lower case
-abbrev pub hexadecimal : List ℕ → List ℕ
-hexadecimal octets = flat_map (λ octet. digit_glyph false (octet / 16) ∷ digit_glyph false (octet % 16) ∷ []) octets
 
 -- emailAddress (RFC 2985 5.2.1)
 abbrev pub email_address : List ℕ
@@ -33,7 +29,7 @@ type_word arcs = word_or_dotted (attribute_type arcs) arcs
 abbrev pub value_text : AttributeValue → List ℕ
 value_text (values.DirectoryString string) = text_of string
 value_text (values.Ia5String string) = ia5_contents string
-value_text (values.Other other) = codes "#" ++ hexadecimal (encoding other.element.element)
+value_text (values.Other other) = codes "#" ++ encode_lower (encoding other.element.element)
 
 -- word, `=` and value
 abbrev pub attribute_text : AttributeTypeAndValue → List ℕ

@@ -2,12 +2,14 @@
 
 ghost use Rattle.std.specs.Prelude.{Some, ◌++◌, codes};
 ghost use Rattle.std.specs.Fmt.{WritesOnOk};
+ghost use Rattle.hex.specs.Hex.{encode_lower};
 ghost use Rattle.der_core.specs.Encoding.{encoding};
-ghost use Rattle.x501_types.specs.NameText.{attribute_text, hexadecimal, name_text, set_text, type_word, value_text};
+ghost use Rattle.x501_types.specs.NameText.{attribute_text, name_text, set_text, type_word, value_text};
 
 use crate::attribute::AttributeTypeAndValue;
 use crate::attribute_value::AttributeValue;
 use crate::email::is_email_address;
+use crate::hexadecimal::write_hexadecimal;
 use crate::name::Name;
 use crate::name_attr::NameAttr;
 use crate::other_value::OtherValue;
@@ -16,21 +18,12 @@ use asn1_types::ObjectIdentifier;
 use std::fmt::{self, Display};
 
 impl fmt::Display for OtherValue {
-    ghost output = { λ value. Some (codes "#" ++ hexadecimal (encoding value.element.element)) };
+    ghost output = { λ value. Some (codes "#" ++ encode_lower (encoding value.element.element)) };
 
     fn fmt<W: fmt::Write>(&self, f: &mut fmt::Formatter<W>) -> fmt::Result {
         f.write_str("#")?;
         write_hexadecimal(self.element().as_bytes(), f)
     }
-}
-
-fn write_hexadecimal<W: fmt::Write>(octets: &[u8], f: &mut fmt::Formatter<W>) -> fmt::Result
-    ensures { WritesOnOk W.write_str_gives f.old result (hexadecimal octets.now) f.new }
-{
-    for octet in octets {
-        write!(f, "{octet:02x}")?;
-    }
-    Ok(())
 }
 
 impl fmt::Display for AttributeValue {

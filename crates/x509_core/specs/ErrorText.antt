@@ -2,13 +2,14 @@
 use Rattle.std.specs.Prelude.{ℕ, List, ◌++◌, codes, Option, Some, None}
 use Rattle.std.specs.Option.{option_map}
 use Rattle.std.specs.Fmt.{decimal}
+use Rattle.hex.specs.Hex.{encode_lower}
 use Rattle.asn1_types.specs.Time.{time_text}
 use Rattle.asn1_types.specs.declared.generalized_time.GeneralizedTime.{GeneralizedTime}
 use Rattle.key_core.specs.ErrorText.{key_error_text}
 use Rattle.key_core.specs.SignatureErrorText.{signature_error_text, key_id_error_text}
 use Rattle.key_core.specs.declared.key_id.KeyIdGenError.{KeyIdGenError}
 use Rattle.key_core.specs.declared.signature_error.SignatureError.{SignatureError}
-use Rattle.x501_types.specs.NameText.{hexadecimal, name_text}
+use Rattle.x501_types.specs.NameText.{name_text}
 use Rattle.names_core.specs.Names.{sets_of}
 use Rattle.x509_core.specs.CsrErrorText.{csr_error_text}
 use Rattle.x509_core.specs.declared.error.Arg.{Arg}
@@ -58,7 +59,7 @@ key_id_text source = option_map (λ text. codes "key id generation error: " ++ t
 -- the key that is named and the one that stands there, in hexadecimal digits
 abbrev pub key_mismatch_text : List ℕ → List ℕ → List ℕ
 key_mismatch_text expected actual =
-    codes "authority key id doesn't match (expected: " ++ hexadecimal expected ++ codes ", got: " ++ hexadecimal actual ++ codes ")"
+    codes "authority key id doesn't match (expected: " ++ encode_lower expected ++ codes ", got: " ++ encode_lower actual ++ codes ")"
 
 -- why certificates are no chain
 abbrev pub chain_error_text : CaChainError → List ℕ

@@ -3,7 +3,6 @@
 
 ghost use Rattle.std.specs.Prelude.{◌≡◌, ◌++◌, Some, codes};
 ghost use Rattle.std.specs.Fmt.{WritesOnOk};
-ghost use Rattle.x501_types.specs.NameText.{hexadecimal};
 ghost use Rattle.x509_core.specs.ErrorText.{argument_text, extension_text, chain_error_text, cause_text, cert_error_text, expired_text, key_mismatch_text, not_yet_valid_text};
 ghost use Rattle.x509_core.specs.CertRefusals.{unread, unwritten};
 ghost use Rattle.x509_core.specs.declared.error.CertError.TheVariants.{Memory};
@@ -15,6 +14,7 @@ use names_core::{DirectoryName, UtcDate};
 use std::alloc::{AllocError, AllocFailed};
 use std::fmt;
 use thiserror::Error;
+use x501_types::write_hexadecimal;
 
 /// Why a certificate isn't read, written or made, lacks an extension, isn't valid, or isn't one of a
 /// chain.
@@ -245,15 +245,6 @@ fn write_key_mismatch<W: fmt::Write>(
     f.write_str(", got: ")?;
     write_hexadecimal(actual, f)?;
     f.write_str(")")
-}
-
-fn write_hexadecimal<W: fmt::Write>(octets: &[u8], f: &mut fmt::Formatter<W>) -> fmt::Result
-    ensures { WritesOnOk W.write_str_gives f.old result (hexadecimal octets.now) f.new }
-{
-    for octet in octets {
-        write!(f, "{octet:02x}")?;
-    }
-    Ok(())
 }
 
 /// The text of certificates that are no chain.

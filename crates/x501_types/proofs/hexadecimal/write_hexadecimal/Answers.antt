@@ -1,8 +1,13 @@
 use Rattle.std.proofs.Common.{arith, subst, rules, slice_index}
 use Rattle.std.proofs.Output.{has_written_append, has_written_of_eq}
 use Rattle.std.specs.Fmt.{DisplaysOnOk}
-use Rattle.x501_types.proofs.Hexadecimal.{octet_written, one_more_octet}
-use Rattle.x509_core.proofs.error.write_hexadecimal.Goals as goal
+use Rattle.hex.specs.Hex.{encode_with}
+use Rattle.x501_types.proofs.Digits.{octet_written, one_more_octet}
+use Rattle.x501_types.proofs.hexadecimal.write_hexadecimal.Goals as goal
+
+pub loop-octet-init : goal.loop-octet-init
+unfolding encode_with
+loop-octet-init g c = search rules
 
 pub loop-octet-preserved : goal.loop-octet-preserved
 loop-octet-preserved g c =
