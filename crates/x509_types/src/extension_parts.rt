@@ -1,12 +1,12 @@
 //! Parts of the values of extensions, where their octets lie.
 
-ghost use Rattle.std.specs.Prelude.{◌≡◌, ◌≢◌, List, ℕ, Bool, MatchOption};
+ghost use Rattle.std.specs.Prelude.{◌≡◌, List, ℕ, Bool, MatchOption};
 ghost use Rattle.der_core.specs.Default.{IsBoolean};
-ghost use Rattle.x509_values.specs.BasicConstraints.{small_integer};
 ghost use Rattle.x509_types.specs.ExtensionParts.{BeginsWith, EndsWithLength, IsKeyIdentifier};
 
-use der_core::tag::{INTEGER, SEQUENCE};
+use der_core::tag::SEQUENCE;
 use der_core::{Elem, Kids, boolean_at, leaf_at};
+use x509_values::small_integer_at;
 
 /// The tag of the key's identifier in an AuthorityKeyIdentifier.
 const KEY_IDENTIFIER: u8 = 0x80;
@@ -33,19 +33,6 @@ pub(crate) fn length_at(elem: Elem<'_>) -> Option<u8>
     let last = kids.next()?;
     kids.end()?;
     small_integer_at(last)
-}
-
-/// The number of an INTEGER from 0 to 255 in its shortest contents (X.690 8.3.2).
-fn small_integer_at(elem: Elem<'_>) -> Option<u8>
-    ensures { MatchOption result
-        ((number : ℕ) → elem.entry.is.0 ≢ small_integer number)
-        (λ number. elem.entry.is.0 ≡ small_integer number) }
-{
-    match leaf_at(elem, INTEGER)? {
-        [number] if *number < 0x80 => Some(*number),
-        [0, number] if *number >= 0x80 => Some(*number),
-        _ => None,
-    }
 }
 
 /// The identifier of the key that an AuthorityKeyIdentifier names, where it is given.

@@ -68,7 +68,7 @@ fn next_length(kids: &mut Kids<'_>) -> Option<Option<u8>>
 }
 
 /// The number of an INTEGER from 0 to 255 in its shortest contents (X.690 8.3.2).
-fn small_integer_at(elem: Elem<'_>) -> Option<u8>
+pub fn small_integer_at(elem: Elem<'_>) -> Option<u8>
     ensures { MatchOption result
         ((number : ℕ) → elem.entry.is.0 ≢ small_integer number)
         (λ number. elem.entry.is.0 ≡ small_integer number) }

@@ -11,7 +11,7 @@ mod time;
 mod validity;
 
 pub use authority_key_identifier::AuthorityKeyIdentifier;
-pub use basic_constraints::BasicConstraints;
+pub use basic_constraints::{BasicConstraints, small_integer_at};
 pub use extended_key_usage::{ExtendedKeyUsage, OidList};
 pub use key_usage::KeyUsage;
 pub use time::Time;
