@@ -37,4 +37,5 @@ pub use policy::Policy;
 pub use signer::{certificate_bag, issuer_walk_of, signer_of};
 pub use steps::{check_signed_data, check_wincert};
 pub use timestamp_error::TimestampError;
+pub use value::padded_element;
 pub use x509_core::DateCheck;

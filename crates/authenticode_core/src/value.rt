@@ -44,8 +44,9 @@ fn unread(source: DerError) -> CheckError
     }))
 }
 
-/// The element that octets are, with at most seven zeros after it.
-fn padded_element(octets: &[u8]) -> Result<Elem<'_>, Malformed>
+/// The element that octets are, with the zeros after it that align a WIN_CERTIFICATE: at most seven
+/// (PE format, "The Attribute Certificate Table"). It takes no memory.
+pub fn padded_element(octets: &[u8]) -> Result<Elem<'_>, Malformed>
     ensures { MatchResult result
         (λ elem. IsPaddedEncoding octets.now elem.is.0)
         (IsUnread octets.now) }
