@@ -23,11 +23,10 @@ use Rattle.x509_types.specs.CertificateElements.{CertificateElements}
 use Rattle.x509_types.specs.declared.attribute.Attribute.{Attribute}
 use Rattle.authenticode_core.specs.SigningRules.{IsForCodeSigning}
 use Rattle.authenticode_core.specs.declared.error.AuthenticodeError.TheVariants as signatures
-use Rattle.making_core.specs.Carried.{AreWithoutRoots}
+use Rattle.making_core.specs.Carried.{AreWithoutRoots, elements_of}
 use Rattle.making_core.specs.MadeSignature.{attributes_element, signature_made}
 use Rattle.making_core.specs.SignedProgram.{IsSignature}
 use Rattle.authenticode_values.specs.Building.{Given, HasGiven, IsBuilt, IsBuiltOf, IsNamedFirst, IsSigner, algorithm_by, attributes_by, attributes_in, building_steps, content_by, element_step, given_step, given_steps, key_step, message_by, message_in, later_steps, named_step, parts_by, purpose_step, steps_of, supported_step}
-use Rattle.authenticode_values.specs.Pkcs7.{elements_of}
 use Rattle.authenticode_values.specs.Steps.{Step, AreTaken, IsFirstUntaken, RefusesBySteps}
 use Rattle.authenticode_values.specs.declared.builder.AuthenticodeSignatureBuilder.{AuthenticodeSignatureBuilder}
 use Rattle.authenticode_values.specs.declared.builder_error.AuthenticodeSignatureBuilderError.{AuthenticodeSignatureBuilderError}

@@ -17,8 +17,8 @@ use Rattle.x509_types.specs.CertificateElements.{CertificateElements, certificat
 use Rattle.x509_types.specs.CertificateView.{IsCertView, view_elements}
 use Rattle.x509_types.specs.declared.cert_view.CertView.{CertView}
 use Rattle.x509_types.specs.declared.certificate.Certificate.{Certificate}
+use Rattle.making_core.specs.Carried.{elements_of}
 use Rattle.authenticode_core.specs.CertificateBag.{IsBag, IsMember, members_of}
-use Rattle.authenticode_values.specs.Pkcs7.{elements_of}
 
 -- ---- one member
 

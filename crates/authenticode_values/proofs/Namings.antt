@@ -23,8 +23,8 @@ use Rattle.cms_types.specs.declared.issuer_and_serial.IssuerAndSerialNumber.{Iss
 use Rattle.cms_types.specs.declared.signer_identifier.SignerIdentifier.{SignerIdentifier}
 use Rattle.cms_types.specs.declared.signer_identifier.SignerIdentifier.TheVariants as named
 use Rattle.cms_types.specs.declared.signer_info.SignerInfo.{SignerInfo}
+use Rattle.making_core.specs.Carried.{elements_of}
 use Rattle.authenticode_core.specs.BagSigner.{IsNamed, HasNoSigner}
-use Rattle.authenticode_values.specs.Pkcs7.{elements_of}
 use Rattle.authenticode_core.specs.Places.{HasNoPlace, HoldsOfNone, IsLeastPlace, StandsAt}
 use Rattle.authenticode_values.specs.SigningCertificate.{IsFirstNamed, IsNamedBy, IsSigningCertificate}
 

@@ -5,12 +5,12 @@ use Rattle.asn1_types.specs.declared.oids.TheConstants.{KP_CODE_SIGNING}
 use Rattle.x509_core.specs.KeptCertificate.{KeptCertificate}
 use Rattle.x509_types.specs.CertificateElements.{CertificateElements}
 use Rattle.x509_types.specs.Purposes.{HasPurposes, NamesPurpose}
+use Rattle.making_core.specs.Carried.{elements_of}
 use Rattle.authenticode_core.specs.Places.{StandsAt}
 use Rattle.authenticode_core.specs.SigningRules.{AsksForPurposes, IsForCodeSigning}
 use Rattle.authenticode_core.proofs.WalkSteps.{one_walk, same_certificate}
 use Rattle.authenticode_core.specs.declared.error.AuthenticodeError.TheVariants as errors
 use Rattle.authenticode_values.specs.Making.{HasNoFirstSigner}
-use Rattle.authenticode_values.specs.Pkcs7.{elements_of}
 use Rattle.authenticode_values.specs.Walk.{IsWalkOf, SomeHasPurposes, StandAt}
 use Rattle.authenticode_values.proofs.Namings.{stands_at}
 

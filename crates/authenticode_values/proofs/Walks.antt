@@ -7,9 +7,9 @@ use Rattle.der_core.specs.DerElement.{DerElement}
 use Rattle.der_core.specs.Encoding.{encoding}
 use Rattle.x509_core.specs.KeptCertificate.{KeptCertificate}
 use Rattle.x509_types.specs.CertificateElements.{CertificateElements}
+use Rattle.making_core.specs.Carried.{elements_of}
 use Rattle.authenticode_core.specs.IssuerWalk.{IsWalkFrom}
 use Rattle.authenticode_core.specs.Names.{HasSubject}
-use Rattle.authenticode_values.specs.Pkcs7.{elements_of}
 use Rattle.authenticode_core.specs.Places.{HasNoPlace, HoldsOfNone, IsLeastPlace}
 use Rattle.authenticode_values.specs.Walk.{IsWalkOf, StandAt, walked}
 

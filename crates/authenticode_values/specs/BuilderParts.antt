@@ -1,6 +1,6 @@
 -- What is given to a builder, where it lies.
+use Rattle.making_core.specs.Carried.{elements_of}
 use Rattle.authenticode_values.specs.Building.{Given}
-use Rattle.authenticode_values.specs.Pkcs7.{elements_of}
 use Rattle.authenticode_values.specs.declared.builder.building.Parts.{Parts}
 
 abbrev pub given_of : Parts → Given

@@ -33,14 +33,13 @@ use Rattle.authenticode_core.specs.ContentRefusal.{of_signatures}
 use Rattle.authenticode_core.specs.Places.{HasNoPlace, IsLeastPlace}
 use Rattle.authenticode_core.specs.SigningRules.{IsForCodeSigning}
 use Rattle.authenticode_core.specs.declared.error.AuthenticodeError.TheVariants as signatures
-use Rattle.making_core.specs.Carried.{AreWithoutRoots}
+use Rattle.making_core.specs.Carried.{AreWithoutRoots, elements_of}
 use Rattle.making_core.specs.MadeAttributes.{inner_attributes}
 use Rattle.making_core.specs.MadeContent.{attributes_message}
 use Rattle.making_core.specs.MadeSignature.{SignatureParts, attributes_element, signature_made}
 use Rattle.making_core.specs.SignedProgram.{IsSignature}
 use Rattle.authenticode_values.specs.BuilderError.{builder_refusal, unwritten_in_builder}
 use Rattle.authenticode_values.specs.Making.{TellsOf}
-use Rattle.authenticode_values.specs.Pkcs7.{elements_of}
 use Rattle.authenticode_values.specs.SigningCertificate.{IsNamedBy}
 use Rattle.authenticode_values.specs.Steps.{Step, AreTaken}
 use Rattle.authenticode_values.specs.declared.builder.AuthenticodeSignatureBuilder.{AuthenticodeSignatureBuilder}

@@ -1,13 +1,11 @@
 -- What is kept of signed data, by the elements that are written for it (RFC 2315 7, 9.1).
-use Rattle.std.specs.Prelude.{◌≡◌, List, map}
+use Rattle.std.specs.Prelude.{◌≡◌, List}
 use Rattle.cms_types.specs.Pkcs7.{pkcs7}
 use Rattle.cms_types.specs.SignedData.{signed_data_elements}
 use Rattle.cms_types.specs.SignedDataElements.{SignedDataElements}
 use Rattle.cms_types.specs.declared.pkcs7.Pkcs7Certificate.{Pkcs7Certificate}
 use Rattle.cms_types.specs.declared.signer_info.SignerInfo.{SignerInfo}
 use Rattle.der_core.specs.DerElement.{DerElement}
-use Rattle.x509_core.specs.KeptCertificate.{KeptCertificate}
-use Rattle.x509_types.specs.CertificateElements.{CertificateElements}
 use Rattle.authenticode_values.specs.declared.pkcs7.Pkcs7.{Pkcs7}
 
 -- the element is that of the value
@@ -25,7 +23,3 @@ fields_of p = signed_data_elements p.signed.signed_data
 -- the signers
 abbrev pub signers_of : Pkcs7 → List SignerInfo
 signers_of p = p.signed.signed_data.signers_infos
-
--- certificates by the elements that are kept of them
-abbrev pub elements_of : List KeptCertificate → List CertificateElements
-elements_of certificates = map (λ (kept : KeptCertificate). kept.elements) certificates

@@ -10,9 +10,9 @@ use Rattle.x501_types.specs.Name.{name}
 use Rattle.x509_core.specs.KeptCertificate.{KeptCertificate}
 use Rattle.x509_types.specs.CertificateElements.{CertificateElements}
 use Rattle.names_core.specs.Names.{sets_of}
+use Rattle.making_core.specs.Carried.{elements_of}
 use Rattle.authenticode_core.specs.BagSigner.{IsSignerPlace, HasNoSigner}
 use Rattle.authenticode_core.specs.Names.{IsSameName}
-use Rattle.authenticode_values.specs.Pkcs7.{elements_of}
 use Rattle.authenticode_core.specs.declared.error.AuthenticodeError.{AuthenticodeError}
 use Rattle.authenticode_core.specs.declared.error.AuthenticodeError.TheVariants as errors
 

@@ -3,8 +3,8 @@ use Rattle.std.specs.Prelude.{◌≡◌, ◌⊎◌, ℕ, List, [], ◌∷◌, So
 use Rattle.der_core.specs.Encoding.{encoding}
 use Rattle.x509_core.specs.KeptCertificate.{KeptCertificate}
 use Rattle.x509_types.specs.Purposes.{HasPurposes}
+use Rattle.making_core.specs.Carried.{elements_of}
 use Rattle.authenticode_core.specs.IssuerWalk.{IsIssuerWalk}
-use Rattle.authenticode_values.specs.Pkcs7.{elements_of}
 use Rattle.authenticode_values.specs.declared.certificates.SignatureCertificatesIterator.{SignatureCertificatesIterator}
 
 -- the items are those of the certificates that stand at the places, in their order

@@ -7,8 +7,8 @@ ghost use Rattle.content_types.specs.ContentInfo.{content_info};
 ghost use Rattle.content_types.specs.ContentInfoElements.{content_info_of};
 ghost use Rattle.der_core.specs.DerElement.{Primitive};
 ghost use Rattle.x509_types.specs.CertificateElements.{certificate_of};
+ghost use Rattle.making_core.specs.Carried.{elements_of};
 ghost use Rattle.authenticode_values.specs.CertificatesAlone.{certificates_alone};
-ghost use Rattle.authenticode_values.specs.Pkcs7.{elements_of};
 
 use asn1_types::ObjectIdentifier;
 use asn1_types::oids::DATA;

@@ -3,8 +3,8 @@
 ghost use Rattle.std.specs.Prelude.{map, IfOk, MatchOption};
 ghost use Rattle.cms_types.specs.CertificateChoices.{certificate_choice};
 ghost use Rattle.x509_types.specs.CertificateElements.{CertificateElements};
+ghost use Rattle.making_core.specs.Carried.{elements_of};
 ghost use Rattle.authenticode_core.specs.CertificateBag.{IsBag, IsMember};
-ghost use Rattle.authenticode_values.specs.Pkcs7.{elements_of};
 
 use cms_types::CertificateChoices;
 use der_core::Raw;

@@ -16,14 +16,14 @@ ghost use Rattle.sig_core.specs.declared.hash.HashAlgorithm.TheVariants.{SHA2_22
 ghost use Rattle.wincert_core.specs.declared.kinds.CertificateType.{CertificateType};
 ghost use Rattle.x509_core.specs.Link.{HasKey};
 ghost use Rattle.authenticode_core.specs.declared.error.AuthenticodeError.TheVariants as errors;
-ghost use Rattle.making_core.specs.Carried.{IsRoot};
+ghost use Rattle.making_core.specs.Carried.{IsRoot, elements_of};
 ghost use Rattle.making_core.specs.MadeContent.{attributes_message, content_digest, data_element, opus_element, program_attributes};
 ghost use Rattle.making_core.specs.MadeSignature.{attributes_element};
 ghost use Rattle.making_core.specs.SignedProgram.{IsBasicName, IsSignature, IsSignedProgram, program_of};
 ghost use Rattle.authenticode_values.specs.Making.{IsMadeOf, hash_step, making_steps, name_step, signature_step, signing_steps, writing_step};
 ghost use Rattle.authenticode_values.specs.MadeFile.{IsMadeSignature, IsSpelledWhole, wrapped};
 ghost use Rattle.authenticode_values.specs.MadeProgram.{program_for};
-ghost use Rattle.authenticode_values.specs.Pkcs7.{elements_of, fields_of, written};
+ghost use Rattle.authenticode_values.specs.Pkcs7.{fields_of, written};
 ghost use Rattle.authenticode_values.specs.Steps.{AreTaken, RefusesBySteps};
 
 pub(crate) mod signer;

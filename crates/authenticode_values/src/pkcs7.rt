@@ -11,10 +11,11 @@ ghost use Rattle.der_core.specs.declared.fault.DerFault.{DerFault};
 ghost use Rattle.cms_types.specs.Pkcs7.{pkcs7};
 ghost use Rattle.cms_types.specs.declared.pkcs7.Pkcs7Certificate.{Pkcs7Certificate};
 ghost use Rattle.x509_types.specs.CertificateElements.{certificate_of};
+ghost use Rattle.making_core.specs.Carried.{elements_of};
 ghost use Rattle.authenticode_core.specs.CertificateBag.{IsBag, members_of};
 ghost use Rattle.authenticode_core.specs.declared.pkcs7_error.Pkcs7Error.TheVariants as errors;
 ghost use Rattle.authenticode_values.specs.CertificatesAlone.{certificates_alone};
-ghost use Rattle.authenticode_values.specs.Pkcs7.{IsPkcs7Of, elements_of, fields_of, written};
+ghost use Rattle.authenticode_values.specs.Pkcs7.{IsPkcs7Of, fields_of, written};
 ghost use Rattle.authenticode_values.specs.Refusals.{IsUnread, IsUnwritten, unread};
 
 use crate::alone::without_signers;

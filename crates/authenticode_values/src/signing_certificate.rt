@@ -2,8 +2,8 @@
 
 ghost use Rattle.std.specs.Prelude.{◌≡◌, ◌↔◌, Some, IfOk, IsTrue, MatchOption, MatchResult, slice_get, ℕ};
 ghost use Rattle.cms_types.specs.declared.signer_identifier.SignerIdentifier.TheVariants as named;
+ghost use Rattle.making_core.specs.Carried.{elements_of};
 ghost use Rattle.authenticode_core.specs.Places.{HasNoPlace, IsLeastPlace};
-ghost use Rattle.authenticode_values.specs.Pkcs7.{elements_of};
 ghost use Rattle.authenticode_values.specs.SigningCertificate.{HasNoSigningCertificate, IsFirstNamed, IsNamedBy, IsNamedOtherwise, IsSigningCertificate};
 ghost use Rattle.authenticode_core.specs.declared.error.AuthenticodeError.TheVariants as errors;
 

@@ -1,9 +1,9 @@
 //! The certificate that signs.
 
 ghost use Rattle.std.specs.Prelude.{◌↔◌, IsTrue, MatchResult};
+ghost use Rattle.making_core.specs.Carried.{elements_of};
 ghost use Rattle.authenticode_core.specs.SigningRules.{IsForCodeSigning};
 ghost use Rattle.authenticode_values.specs.Making.{HasNoFirstSigner, IsFirstSigner};
-ghost use Rattle.authenticode_values.specs.Pkcs7.{elements_of};
 ghost use Rattle.authenticode_values.specs.Walk.{SomeHasPurposes, items_left};
 
 use crate::certificates::SignatureCertificatesIterator;

@@ -5,8 +5,9 @@ use Rattle.cms_types.specs.OpusInfo.{opus_info}
 use Rattle.x509_core.specs.KeptCertificate.{KeptCertificate}
 use Rattle.authenticode_core.specs.SigningRules.{IsBagOf}
 use Rattle.making_core.specs.SignedProgram.{program_of}
+use Rattle.making_core.specs.Carried.{elements_of}
 use Rattle.authenticode_values.specs.Making.{HasNoFirstSigner, IsFirstSigner}
-use Rattle.authenticode_values.specs.Pkcs7.{elements_of, fields_of}
+use Rattle.authenticode_values.specs.Pkcs7.{fields_of}
 use Rattle.authenticode_values.proofs.MadeSteps.{made_as, no_hash, no_name, no_signer, not_signed_as}
 use Rattle.authenticode_values.proofs.making.made.Goals as goal
 

@@ -4,8 +4,8 @@ use Rattle.cms_types.specs.SignedData.{signed_data_elements}
 use Rattle.cms_types.specs.SignedAttributesElement.{signed_attributes}
 use Rattle.cms_types.specs.declared.pkcs7.Pkcs7Certificate.{Pkcs7Certificate}
 use Rattle.content_types.specs.IndirectData.{indirect_data_content}
+use Rattle.making_core.specs.Carried.{elements_of}
 use Rattle.authenticode_values.specs.MadeProgram.{program_for}
-use Rattle.authenticode_values.specs.Pkcs7.{elements_of}
 use Rattle.authenticode_values.proofs.MadeSteps.{no_attributes_of, no_content, sealed_program, sealed_taken, unsealed}
 use Rattle.authenticode_values.proofs.making.signed.Goals as goal
 

@@ -1,4 +1,4 @@
-use Rattle.authenticode_values.specs.Pkcs7.{elements_of}
+use Rattle.making_core.specs.Carried.{elements_of}
 use Rattle.authenticode_core.specs.Places.{HoldsOfNone}
 use Rattle.authenticode_values.specs.SigningCertificate.{IsNamedBy}
 use Rattle.authenticode_values.proofs.signing_certificate.first_named.Given as goal

@@ -1,7 +1,7 @@
 use Rattle.std.proofs.Common.{List, IfOk, subst}
 use Rattle.der_core.specs.DerElement.{DerElement}
+use Rattle.making_core.specs.Carried.{elements_of}
 use Rattle.authenticode_core.specs.CertificateBag.{IsBag}
-use Rattle.authenticode_values.specs.Pkcs7.{elements_of}
 use Rattle.authenticode_values.proofs.Members.{members_in}
 use Rattle.authenticode_values.proofs.pkcs7.Pkcs7.decode_certificates.Goals as goal
 
