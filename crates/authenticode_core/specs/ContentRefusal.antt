@@ -22,14 +22,17 @@ abbrev pub of_certificates : CertError → AuthenticodeError
 of_certificates certs.Memory = contents.Memory
 of_certificates e = contents.CertError e
 
+-- the error for one of a key or its algorithm
 abbrev pub of_signatures : SignatureError → AuthenticodeError
 of_signatures signatures.Memory = contents.Memory
 of_signatures e = contents.SignatureError e
 
+-- the error for one of DER
 abbrev pub of_der : DerError → AuthenticodeError
 of_der der.Memory = contents.Memory
 of_der e = contents.Asn1DerError e
 
+-- the error for one of a text
 abbrev pub of_char_set : CharSetError → AuthenticodeError
 of_char_set texts.Memory = contents.Memory
 of_char_set texts.CharSet = contents.ProgramNameCharSet

@@ -13,6 +13,7 @@ abbrev pub builder_refusal : AuthenticodeError → AuthenticodeSignatureBuilderE
 builder_refusal signatures.Memory = errors.Memory
 builder_refusal e = errors.AuthenticodeError e
 
+-- the error for an element that is not written
 abbrev pub unwritten_in_builder : DerError → AuthenticodeSignatureBuilderError
 unwritten_in_builder der.Memory = errors.Memory
 unwritten_in_builder e = errors.Asn1DerError e

@@ -3,5 +3,6 @@ use Rattle.making_core.specs.Carried.{elements_of}
 use Rattle.authenticode_values.specs.Building.{Given}
 use Rattle.authenticode_values.specs.declared.builder.building.Parts.{Parts}
 
+-- what was given, by its parts
 abbrev pub given_of : Parts → Given
 given_of parts = record { hash = parts.hash; content = parts.content.now; key = parts.key.now; named = parts.named.now; bag = elements_of parts.certificates.now }

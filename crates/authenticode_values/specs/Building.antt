@@ -90,6 +90,7 @@ abbrev pub message_in : Option (List Attribute) → (content : List ℕ) → (at
 message_in None content attributes = content
 message_in (Some given) content attributes = attributes_message attributes
 
+-- the octets that are signed
 abbrev pub message_by : AuthenticodeSignatureBuilder → Given → List ℕ
 message_by b g = message_in b.authenticated_attributes (encoding (content_info g.content)) (map attribute (attributes_in b.authenticated_attributes))
 

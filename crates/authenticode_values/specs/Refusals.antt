@@ -17,6 +17,7 @@ unread der.Shape = errors.Cert (certs.Asn1Deserialization structures.Pkcs7 der.S
 unread der.TooDeep = errors.Cert (certs.Asn1Deserialization structures.Pkcs7 der.TooDeep)
 unread der.TooLong = errors.Cert (certs.Asn1Deserialization structures.Pkcs7 der.TooLong)
 
+-- the error for signed data that is not written
 abbrev pub unwritten : DerError → Pkcs7Error
 unwritten der.Memory = errors.Memory
 unwritten (der.Malformed m) = errors.Cert (certs.Asn1Serialization structures.Pkcs7 (der.Malformed m))
@@ -33,6 +34,7 @@ of_signed_data errors.Memory = authenticode.Memory
 abbrev pub IsUnread : (DerError → Type 0) → Pkcs7Error → Type 0
 IsUnread Refuses e = (source : DerError) × (e ≡ unread source) × Refuses source
 
+-- the error is that of signed data, for a refusal of the writer
 abbrev pub IsUnwritten : (DerError → Type 0) → Pkcs7Error → Type 0
 IsUnwritten Refuses e = (source : DerError) × (e ≡ unwritten source) × Refuses source
 

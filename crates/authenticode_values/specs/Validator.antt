@@ -19,15 +19,19 @@ use Rattle.authenticode_core.specs.declared.policy.Policy.{Policy}
 abbrev pub at_dates : DateCheck → Policy → Policy
 at_dates date policy = record policy { date = date }
 
+-- the policy that asks whether a certificate is valid already, or not
 abbrev pub with_not_before : Bool → Policy → Policy
 with_not_before asked policy = record policy { not_before = asked }
 
+-- the policy that asks whether a certificate is still valid, or not
 abbrev pub with_not_after : Bool → Policy → Policy
 with_not_after asked policy = record policy { not_after = asked }
 
+-- the policy that asks for the chain, or not
 abbrev pub with_chain : Bool → Policy → Policy
 with_chain asked policy = record policy { chain = asked }
 
+-- the policy that asks for the signer's certificate, or not
 abbrev pub with_signing : Bool → Policy → Policy
 with_signing asked policy = record policy { signing = asked }
 

@@ -5,6 +5,7 @@ use Rattle.der_core.specs.DerElement.{DerElement}
 use Rattle.cms_types.specs.declared.certificate_choices.CertificateChoices.{CertificateChoices}
 use Rattle.cms_types.specs.declared.certificate_choices.CertificateChoices.TheVariants as choices
 
+-- the element of a member of the certificates
 abbrev pub certificate_choice : CertificateChoices → DerElement
 certificate_choice (choices.Certificate certificate) = certificate.element.element
 certificate_choice (choices.Other other) = other.element.element

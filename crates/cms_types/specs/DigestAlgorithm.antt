@@ -6,5 +6,6 @@ use Rattle.key_types.specs.AlgorithmIdentifier.{algorithm_of}
 use Rattle.sig_core.specs.ShaVariant.{digest_identifier}
 use Rattle.sig_core.specs.declared.sha_variant.ShaVariant.{ShaVariant}
 
+-- the AlgorithmIdentifier that is written for a digest algorithm
 abbrev pub digest_algorithm : ShaVariant → DerElement
 digest_algorithm hash = algorithm_of (Primitive 0x06 (digest_identifier hash)) (Some null)

@@ -17,6 +17,7 @@ signer_at f = record {
   unsigned_attrs = at_option f.unsigned_attrs;
 }
 
+-- the elements of the fields of signed data
 abbrev pub signed_data_at : SignedDataFields → SignedDataElements
 signed_data_at f = record {
   version = f.version.is.0;

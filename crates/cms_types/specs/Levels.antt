@@ -34,15 +34,19 @@ IsConstructed tag element = (kids : List DerElement) × (element ≡ Constructed
 abbrev pub IsVersion : DerElement → CmsVersion → Type 0
 IsVersion element value = element ≡ cms_version value
 
+-- the element is that of the identifier of a signer
 abbrev pub IsSignerIdentifier : DerElement → SignerIdentifier → Type 0
 IsSignerIdentifier element value = element ≡ signer_identifier value
 
+-- the element is that of an algorithm
 abbrev pub IsAlgorithm : DerElement → AlgorithmIdentifier → Type 0
 IsAlgorithm element value = element ≡ algorithm_identifier value
 
+-- the element is an OCTET STRING of these octets
 abbrev pub IsOctets : DerElement → List ℕ → Type 0
 IsOctets element octets = element ≡ octet_string octets
 
+-- the element is that of a content with its type
 abbrev pub IsContentInfo : DerElement → EncapsulatedContentInfo → Type 0
 IsContentInfo element value = element ≡ content_info value
 

@@ -12,5 +12,6 @@ use Rattle.cms_types.specs.declared.opus_info.SpcSpOpusInfo.{SpcSpOpusInfo}
 abbrev pub opus_info_of : (program_name more_info : Option DerElement) → DerElement
 opus_info_of program_name more_info = sequence (optional_explicit 0xA0 program_name ++ optional_explicit 0xA1 more_info)
 
+-- the element of what is said of a program
 abbrev pub opus_info : SpcSpOpusInfo → DerElement
 opus_info info = opus_info_of (option_map spc_string info.program_name) (option_map spc_link info.more_info)

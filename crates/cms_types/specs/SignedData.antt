@@ -28,6 +28,7 @@ signed_data_elements value = record {
   signers_infos = list_element 0x31 signer_info value.signers_infos;
 }
 
+-- the element of signed data
 abbrev pub signed_data : SignedData → DerElement
 signed_data value = signed_data_of (signed_data_elements value)
 

@@ -21,6 +21,7 @@ pub record AreSigned (f : SignedDataElements) (part : SignedPart) : Type 0 where
   pub content_info : IsContentInfo f.content_info part.content_info
   pub signers_infos : IsListOf 0x31 (λ (element : DerElement) (signer : SignerInfo). element ≡ signer_info signer) f.signers_infos part.signers_infos
 
+-- the fields of the certificates and of the revocation lists
 pub record AreCarried (f : SignedDataElements) (part : CarriedPart) : Type 0 where
   pub certificates : SpellsOption (IsListOf 0xA0 (λ (element : DerElement) (choice : CertificateChoices). element ≡ certificate_choice choice)) f.certificates part.certificates
   pub crls : SpellsOption (IsListOf 0xA1 (λ (element : DerElement) (kept : KeptElement). element ≡ kept.element)) f.crls part.crls
@@ -29,6 +30,7 @@ pub record AreCarried (f : SignedDataElements) (part : CarriedPart) : Type 0 whe
 abbrev pub signed_of : SignedData → SignedPart
 signed_of value = record { digest_algorithms = value.digest_algorithms; content_info = value.content_info; signers_infos = value.signers_infos }
 
+-- the second part of signed data
 abbrev pub carried_of : SignedData → CarriedPart
 carried_of value = record { certificates = value.certificates; crls = value.crls }
 

@@ -28,6 +28,7 @@ signer_elements signer = record {
   unsigned_attrs = option_map (list_element 0xA1 unsigned_attribute) signer.unsigned_attrs;
 }
 
+-- the element of a signer
 abbrev pub signer_info : SignerInfo → DerElement
 signer_info signer = signer_of (signer_elements signer)
 

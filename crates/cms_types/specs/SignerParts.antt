@@ -20,6 +20,7 @@ pub record IsSignedBy (f : SignerElements) (part : SignedBy) : Type 0 where
   pub digest_algorithm : IsAlgorithm f.digest_algorithm part.digest_algorithm
   pub signature_algorithm : IsAlgorithm f.signature_algorithm part.signature_algorithm
 
+-- the fields of the second part
 pub record AreSignatureFields (f : SignerElements) (part : SignatureFields) : Type 0 where
   pub signed_attrs : SpellsOption (λ (element : DerElement) (value : SignedAttributes). element ≡ signed_attributes value) f.signed_attrs part.signed_attrs
   pub signature : IsOctets f.signature part.signature
@@ -29,6 +30,7 @@ pub record AreSignatureFields (f : SignerElements) (part : SignatureFields) : Ty
 abbrev pub signed_by : SignerInfo → SignedBy
 signed_by signer = record { sid = signer.sid; digest_algorithm = signer.digest_algorithm; signature_algorithm = signer.signature_algorithm }
 
+-- the second part of a signer
 abbrev pub signature_fields : SignerInfo → SignatureFields
 signature_fields signer = record { signed_attrs = signer.signed_attrs; signature = signer.signature; unsigned_attrs = signer.unsigned_attrs }
 

@@ -3,5 +3,6 @@
 use Rattle.der_core.specs.DerElement.{DerElement, Primitive}
 use Rattle.cms_types.specs.declared.spc_link.SpcLink.{SpcLink}
 
+-- the element of a link, which is a url
 abbrev pub spc_link : SpcLink → DerElement
 spc_link link = Primitive 0x80 link.url

@@ -3,5 +3,6 @@
 use Rattle.der_core.specs.DerElement.{DerElement, Primitive}
 use Rattle.cms_types.specs.declared.spc_string.SpcString.{SpcString}
 
+-- the element of a string, which is a unicode one
 abbrev pub spc_string : SpcString → DerElement
 spc_string string = Primitive 0x80 string.octets

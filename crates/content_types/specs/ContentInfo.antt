@@ -6,5 +6,6 @@ use Rattle.content_types.specs.ContentValue.{content_value}
 use Rattle.content_types.specs.ContentInfoElements.{content_info_of}
 use Rattle.content_types.specs.declared.content_info.EncapsulatedContentInfo.{EncapsulatedContentInfo}
 
+-- the element of a content with its type
 abbrev pub content_info : EncapsulatedContentInfo → DerElement
 content_info info = content_info_of (object_identifier info.content_type) (option_map content_value info.content)

@@ -4,5 +4,6 @@ use Rattle.std.specs.Prelude.{◌∷◌, Option}
 use Rattle.der_core.specs.DerElement.{DerElement}
 use Rattle.der_core.specs.Elements.{sequence, optional_explicit}
 
+-- the element with these fields
 abbrev pub content_info_of : (content_type : DerElement) (content : Option DerElement) → DerElement
 content_info_of content_type content = sequence (content_type ∷ optional_explicit 0xA0 content)

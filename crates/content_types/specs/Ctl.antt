@@ -30,17 +30,21 @@ abbrev pub FirstNot : (DerElement → Type 0) → List DerElement → Type 0
 FirstNot holds [] = ⊤
 FirstNot holds (kid ∷ kids) = holds kid → ⊥
 
+-- no element is left
 abbrev pub IsNothing : List DerElement → Type 0
 IsNothing all = all ≡ []
 
 -- ---- the fields
 
+-- an INTEGER, of any contents
 abbrev pub IsInteger : DerElement → Type 0
 IsInteger = Fits (λ (element : DerElement) (value : IntegerAsn1). element ≡ integer value)
 
+-- an OCTET STRING
 abbrev pub IsString : DerElement → Type 0
 IsString = Fits (λ (element : DerElement) (octets : List ℕ). element ≡ octet_string octets)
 
+-- purposes
 abbrev pub IsUsage : DerElement → Type 0
 IsUsage = Fits ArePurposes
 
@@ -48,6 +52,7 @@ IsUsage = Fits ArePurposes
 abbrev pub IsTime : DerElement → Type 0
 IsTime element = (0x17 ≤ tag_of element) × (tag_of element ≤ 0x18)
 
+-- an AlgorithmIdentifier
 abbrev pub IsAlgorithm : DerElement → Type 0
 IsAlgorithm = Fits (λ (element : DerElement) (value : AlgorithmIdentifier). element ≡ algorithm_identifier value)
 
@@ -61,15 +66,19 @@ AreExtensions element = tag_of element ≡ 0xA0
 
 -- ---- from each field on
 
+-- the fields from the entries on
 abbrev pub FromEntries : List CTLEntry → List DerElement → Type 0
 FromEntries entries = Begins (λ element. AreEntries element entries) (MayBegin AreExtensions IsNothing)
 
+-- the fields from the algorithm on
 abbrev pub FromAlgorithm : List CTLEntry → List DerElement → Type 0
 FromAlgorithm entries = Begins IsAlgorithm (FromEntries entries)
 
+-- the fields from the time of the update on
 abbrev pub FromThisUpdate : List CTLEntry → List DerElement → Type 0
 FromThisUpdate entries = Begins IsTime (MayBegin IsTime (FromAlgorithm entries))
 
+-- the fields from the usage on
 abbrev pub FromUsage : List CTLEntry → List DerElement → Type 0
 FromUsage entries = Begins IsUsage (MayBegin IsString (MayBegin IsInteger (FromThisUpdate entries)))
 

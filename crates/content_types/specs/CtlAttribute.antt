@@ -6,5 +6,6 @@ use Rattle.asn1_types.specs.Elements.{object_identifier}
 use Rattle.content_types.specs.CtlValues.{ctl_values}
 use Rattle.content_types.specs.declared.ctl_attribute.CTLEntryAttribute.{CTLEntryAttribute}
 
+-- the element of an attribute
 abbrev pub ctl_attribute : CTLEntryAttribute → DerElement
 ctl_attribute a = sequence (object_identifier a.oid ∷ ctl_values a.value ∷ [])

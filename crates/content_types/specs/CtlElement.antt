@@ -2,5 +2,6 @@
 use Rattle.der_core.specs.DerElement.{DerElement}
 use Rattle.content_types.specs.declared.ctl.Ctl.{Ctl}
 
+-- the element of a trust list
 abbrev pub ctl : Ctl → DerElement
 ctl value = value.element.element

@@ -6,5 +6,6 @@ use Rattle.der_core.specs.Elements.{sequence, octet_string}
 use Rattle.content_types.specs.CtlAttribute.{ctl_attribute}
 use Rattle.content_types.specs.declared.ctl_entry.CTLEntry.{CTLEntry}
 
+-- the element of an entry
 abbrev pub ctl_entry : CTLEntry → DerElement
 ctl_entry entry = sequence (octet_string entry.subject_identifier ∷ list_element 0x31 ctl_attribute entry.attributes ∷ [])

@@ -5,5 +5,6 @@ use Rattle.der_core.specs.Elements.{sequence, octet_string}
 use Rattle.key_types.specs.AlgorithmIdentifier.{algorithm_identifier}
 use Rattle.content_types.specs.declared.digest_info.DigestInfo.{DigestInfo}
 
+-- the element of a digest with its algorithm
 abbrev pub digest_info : DigestInfo → DerElement
 digest_info info = sequence (algorithm_identifier info.oid ∷ octet_string info.digest ∷ [])

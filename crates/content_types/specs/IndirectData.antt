@@ -7,5 +7,6 @@ use Rattle.content_types.specs.DigestInfo.{digest_info}
 use Rattle.content_types.specs.SpcAttribute.{spc_attribute}
 use Rattle.content_types.specs.declared.indirect_data.SpcIndirectDataContent.{SpcIndirectDataContent}
 
+-- the element of what is signed in the place of a file
 abbrev pub indirect_data_content : SpcIndirectDataContent → DerElement
 indirect_data_content content = sequence (spc_attribute content.image ∷ digest_info content.message_digest ∷ [])

@@ -11,5 +11,6 @@ use Rattle.content_types.specs.declared.spc_attribute.SpcAttributeTypeAndOptiona
 abbrev pub spc_attribute_of : (ty : DerElement) (value : Option DerElement) → DerElement
 spc_attribute_of ty value = sequence (ty ∷ option_to_list value)
 
+-- the element of a type with its value
 abbrev pub spc_attribute : SpcAttributeTypeAndOptionalValue → DerElement
 spc_attribute attribute = spc_attribute_of (object_identifier attribute.ty) (kept_option attribute.value)

@@ -7,5 +7,6 @@ use Rattle.asn1_types.specs.Elements.{object_identifier}
 use Rattle.content_types.specs.ContentInfo.{content_info}
 use Rattle.content_types.specs.declared.timestamp_request.TimestampRequest.{TimestampRequest}
 
+-- the element of a request
 abbrev pub timestamp_request : TimestampRequest → DerElement
 timestamp_request request = sequence (object_identifier request.countersignature_type ∷ content_info request.content ∷ [])

@@ -143,6 +143,7 @@ module _ (judge : Judge) (signs : Signs) (pair : Pair) (algorithm : SignatureAlg
   abbrev pub signing_steps : List Step
   signing_steps = octets_step ∷ signature_step ∷ whole_step ∷ []
 
+-- the steps by which a certificate is built
 abbrev pub steps_by : Judge → Signs → Pair → CertificateBuilder → ℕ → Option IssuerInfos → List Step
 steps_by judge signs pair b word None = []
 steps_by judge signs pair b word (Some issuer) =

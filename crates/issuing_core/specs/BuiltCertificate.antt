@@ -52,6 +52,7 @@ IsSubjectBy judge true issuer authority given name key = (name ≡ issuer.name.n
 IsSubjectBy judge false issuer None given name key = ⊥
 IsSubjectBy judge false issuer (Some authority) given name key = IsGivenSubject judge given name key
 
+-- the name and the key are those of the subject that was given
 abbrev pub IsSubject : Judge → CertificateBuilder → IssuerInfos → Name → SubjectPublicKeyInfo → Type 0
 IsSubject judge b issuer = IsSubjectBy judge issuer.self_signed issuer b.authority_key_identifier b.subject_infos
 

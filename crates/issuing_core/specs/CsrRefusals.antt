@@ -18,6 +18,7 @@ unread_csr element der.Shape = errors.Asn1Deserialization element der.Shape
 unread_csr element der.TooDeep = errors.Asn1Deserialization element der.TooDeep
 unread_csr element der.TooLong = errors.Asn1Deserialization element der.TooLong
 
+-- the error for an element that is not written
 abbrev pub unwritten_csr : Element → DerError → CsrError
 unwritten_csr element der.Memory = errors.Memory
 unwritten_csr element (der.Malformed m) = errors.Asn1Serialization element (der.Malformed m)
@@ -30,6 +31,7 @@ abbrev pub unsigned : SignatureError → CsrError
 unsigned signature.Memory = errors.Memory
 unsigned source = errors.Signature source
 
+-- the error for one of a key
 abbrev pub keyless : KeyError → CsrError
 keyless key.Memory = errors.Memory
 keyless source = errors.PrivateKeyToPublicKey source
@@ -38,6 +40,7 @@ keyless source = errors.PrivateKeyToPublicKey source
 abbrev pub IsUnreadCsr : Element → (DerError → Type 0) → CsrError → Type 0
 IsUnreadCsr element Refuses e = (source : DerError) × (e ≡ unread_csr element source) × Refuses source
 
+-- the error is that of an element, for a refusal of the writer
 abbrev pub IsUnwrittenCsr : Element → (DerError → Type 0) → CsrError → Type 0
 IsUnwrittenCsr element Refuses e = (source : DerError) × (e ≡ unwritten_csr element source) × Refuses source
 
@@ -45,5 +48,6 @@ IsUnwrittenCsr element Refuses e = (source : DerError) × (e ≡ unwritten_csr e
 abbrev pub IsUnsigned : (SignatureError → Type 0) → CsrError → Type 0
 IsUnsigned Refuses e = (source : SignatureError) × (e ≡ unsigned source) × Refuses source
 
+-- the error is that of a key, for a refusal of one
 abbrev pub IsKeyless : (KeyError → Type 0) → CsrError → Type 0
 IsKeyless Refuses e = (source : KeyError) × (e ≡ keyless source) × Refuses source

@@ -27,6 +27,7 @@ pub record IsEcKeypairOf (key : PrivateKey) (keypair : EcdsaKeypair) : Type 0 wh
   pub curve_is : kept_option key.info.private_key_algorithm.parameters ≡ Some (Primitive 0x06 (lent_contents keypair.curve))
   pub public_is : option_copied keypair.point ≡ key.public_key
 
+-- the view of a private key, or that the key is of another kind
 abbrev pub GivesEcKeypair : PrivateKey → Result EcdsaKeypair KeyError → Type 0
 GivesEcKeypair key result = MatchResult result (IsEcKeypairOf key) (λ e. (e ≡ errors.EC contexts.NotEc) × (private_kind key.info.private_key ≢ kinds.Ec))
 
@@ -37,6 +38,7 @@ pub record IsEcPublicOf (info : SubjectPublicKeyInfo) (view : EcdsaPublicKey) : 
   pub point_is : view.point.now ≡ payload_of bits
   pub curve_is : kept_option info.algorithm.parameters ≡ Some (Primitive 0x06 (lent_contents view.curve))
 
+-- the view of a public key, or that the key is of another kind
 abbrev pub GivesEcPublic : SubjectPublicKeyInfo → Result EcdsaPublicKey KeyError → Type 0
 GivesEcPublic info result = MatchResult result (IsEcPublicOf info) (λ e. (e ≡ errors.EC contexts.NotEc) × (kind_of info.subject_public_key ≢ kinds.Ec))
 
@@ -47,6 +49,7 @@ pub record IsEcPublicOfKeypair (keypair : EcdsaKeypair) (view : EcdsaPublicKey) 
   pub point_is : view.point.now ≡ payload_of bits
   pub curve_is : lent_contents view.curve ≡ lent_contents keypair.curve
 
+-- the view of the public half of a pair, or that none is kept
 abbrev pub GivesEcPublicOfKeypair : EcdsaKeypair → Result EcdsaPublicKey KeyError → Type 0
 GivesEcPublicOfKeypair keypair result =
     MatchResult result (IsEcPublicOfKeypair keypair) (λ e. (e ≡ errors.EC contexts.PublicKeyMissing) × (option_copied keypair.point ≡ None))

@@ -22,6 +22,7 @@ pub record IsEdKeypairOf (key : PrivateKey) (keypair : EdKeypair) : Type 0 where
   pub algorithm_is : keypair.algorithm.now ≡ key.info.private_key_algorithm.oid
   pub public_is : option_copied keypair.public_key ≡ key.public_key
 
+-- the view of a private key, or that the key is of another kind
 abbrev pub GivesEdKeypair : PrivateKey → Result EdKeypair KeyError → Type 0
 GivesEdKeypair key result = MatchResult result (IsEdKeypairOf key) (λ e. (e ≡ errors.ED contexts.NotEd) × (private_kind key.info.private_key ≢ kinds.Ed))
 
@@ -32,6 +33,7 @@ pub record IsEdPublicOf (info : SubjectPublicKeyInfo) (view : EdPublicKey) : Typ
   pub key_is : view.key.now ≡ payload_of bits
   pub algorithm_is : view.algorithm.now ≡ info.algorithm.oid
 
+-- the view of a public key, or that the key is of another kind
 abbrev pub GivesEdPublic : SubjectPublicKeyInfo → Result EdPublicKey KeyError → Type 0
 GivesEdPublic info result = MatchResult result (IsEdPublicOf info) (λ e. (e ≡ errors.ED contexts.NotEd) × (kind_of info.subject_public_key ≢ kinds.Ed))
 
@@ -42,6 +44,7 @@ pub record IsEdPublicOfKeypair (keypair : EdKeypair) (view : EdPublicKey) : Type
   pub key_is : view.key.now ≡ payload_of bits
   pub algorithm_is : view.algorithm.now ≡ keypair.algorithm.now
 
+-- the view of the public half of a pair, or that none is kept
 abbrev pub GivesEdPublicOfKeypair : EdKeypair → Result EdPublicKey KeyError → Type 0
 GivesEdPublicOfKeypair keypair result =
     MatchResult result (IsEdPublicOfKeypair keypair) (λ e. (e ≡ errors.ED contexts.PublicKeyMissing) × (option_copied keypair.public_key ≡ None))

@@ -52,6 +52,7 @@ RefusesEcInfo derives read parameters context =
     ((context ≡ contexts.CurveParameters) × ((curve : ObjectIdentifier) → parameters ≢ Some (object_identifier curve)))
     ⊎ ((curve : ObjectIdentifier) × (parameters ≡ Some (object_identifier curve)) × RefusesCurveKey derives curve read context)
 
+-- why a key of a curve 25519 or 448 is not read: its curve is known and derives no public key
 abbrev pub RefusesEdInfo : Derivation → List ℕ → List ℕ → KeyContext → Type 0
 RefusesEdInfo derives secret oid context = (known : Option EdAlgorithm) × IsEdOf oid known × RefusesEdKey derives known secret context
 

@@ -4,6 +4,7 @@ use Rattle.der_core.specs.DerElement.{DerElement, Primitive}
 use Rattle.key_core.specs.declared.private_key_version.PrivateKeyVersion.{PrivateKeyVersion}
 use Rattle.key_core.specs.declared.private_key_version.PrivateKeyVersion.TheVariants as versions
 
+-- the element of a version
 abbrev pub version : PrivateKeyVersion → DerElement
 version versions.V1 = Primitive 0x02 (0 ∷ [])
 version versions.V2 = Primitive 0x02 (1 ∷ [])

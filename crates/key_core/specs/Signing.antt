@@ -125,6 +125,7 @@ IsKeyPair pair key info =
 
 -- ---- rules of signing, by what breaks them
 
+-- the key is not one of RSA
 abbrev pub NotRsaSecret : PrivateKey → Rule
 NotRsaSecret key e = (private_kind key.info.private_key ≢ kinds.Rsa) × (e ≡ errors.Key (key_errors.Rsa key_contexts.NotRsa))
 
@@ -136,9 +137,11 @@ pub record UnwritableSecret (key : PrivateKey) (e : SignatureError) : Type 0 whe
   pub cause : CantBeWritten (rsa_private_key rsa) source
   pub error : e ≡ errors.Key (key_errors.Asn1Serialization elements.RsaPrivateKey source)
 
+-- the key is not one of an elliptic curve
 abbrev pub NotEcSecret : PrivateKey → Rule
 NotEcSecret key e = (private_kind key.info.private_key ≢ kinds.Ec) × (e ≡ errors.Key (key_errors.EC key_contexts.NotEc))
 
+-- no curve is known by the parameters of the key
 abbrev pub UnknownCurveOf : PrivateKey → Rule
 UnknownCurveOf key e = ((curve : EcCurve) → HasCurveOf key curve → ⊥) × (e ≡ errors.Key (key_errors.EC key_contexts.UnsupportedCurve))
 
@@ -147,20 +150,25 @@ abbrev pub UnpairedSecret : PrivateKey → HashAlgorithm → Rule
 UnpairedSecret key hash e =
     (curve : EcCurve) × HasCurveOf key curve × (curve_for hash ≢ Some curve) × (e ≡ errors.UnsupportedAlgorithm (unsupported.Pairing curve hash))
 
+-- the secret hasn't the size of the curve's field
 abbrev pub WrongSecretSize : PrivateKey → Rule
 WrongSecretSize key e =
     (curve : EcCurve) × (ec : ECPrivateKey) × HasCurveOf key curve × (key.info.private_key ≡ values.Ec ec) × (length ec.private_key ≢ field_size curve)
     × (e ≡ errors.Key (key_errors.EC key_contexts.SecretSize))
 
+-- the key is not one of a curve 25519 or 448
 abbrev pub NotEdSecret : PrivateKey → Rule
 NotEdSecret key e = (private_kind key.info.private_key ≢ kinds.Ed) × (e ≡ errors.Key (key_errors.ED key_contexts.NotEd))
 
+-- no public key is kept beside the container
 abbrev pub NoPublicKey : PrivateKey → Rule
 NoPublicKey key e = (key.public_key ≡ None) × (e ≡ errors.Key (key_errors.ED key_contexts.PublicKeyMissing))
 
+-- the key is one of X25519, which signs nothing
 abbrev pub ForAgreementOnly : PrivateKey → Rule
 ForAgreementOnly key e = HasEdOf key ed.X25519 × (e ≡ errors.Ed contexts.NotForSigning)
 
+-- the key is one of another curve than Ed25519
 abbrev pub NotEd25519Secret : PrivateKey → Rule
 NotEd25519Secret key e = (HasEdOf key ed.Ed25519 → ⊥) × (e ≡ errors.Key (key_errors.ED key_contexts.UnsupportedEd))
 
@@ -176,6 +184,7 @@ scheme_refused (RsaPkcs1v15 hash) = errors.Rsa contexts.SchemeRefused
 scheme_refused (Ecdsa hash) = errors.Ec contexts.SchemeRefused
 scheme_refused Ed25519 = errors.Ed contexts.SchemeRefused
 
+-- the scheme, asked for a signature, refuses
 abbrev pub Unsigned : Signs → SignatureAlgorithm → PrivateKey → List ℕ → Rule
 Unsigned signs algorithm key msg e = IsAsked signs algorithm key msg false × (e ≡ scheme_refused algorithm)
 

@@ -86,6 +86,7 @@ Accepts judge algorithm info msg sig = IsJudged judge algorithm info msg sig ver
 
 -- ---- rules of verification, by what breaks them
 
+-- the key is not one of RSA
 abbrev pub NotRsa : SubjectPublicKeyInfo → Rule
 NotRsa info e =
     (kind_of info.subject_public_key ≢ kinds.Rsa) × (e ≡ errors.Key (key_errors.UnsupportedAlgorithm (kind_of info.subject_public_key)))
@@ -98,9 +99,11 @@ pub record Unwritable (info : SubjectPublicKeyInfo) (e : SignatureError) : Type 
   pub cause : CantBeWritten (rsa_public_key key) source
   pub error : e ≡ errors.Key (key_errors.Asn1Serialization elements.RsaPublicKey source)
 
+-- the key is not one of an elliptic curve
 abbrev pub NotEc : SubjectPublicKeyInfo → Rule
 NotEc info e = (kind_of info.subject_public_key ≢ kinds.Ec) × (e ≡ errors.Key (key_errors.EC key_contexts.NotEc))
 
+-- no curve is known by the parameters of the key
 abbrev pub UnknownCurve : SubjectPublicKeyInfo → Rule
 UnknownCurve info e = ((curve : EcCurve) → IsOnCurve info curve → ⊥) × (e ≡ errors.Key (key_errors.EC key_contexts.UnsupportedCurve))
 
@@ -113,15 +116,19 @@ abbrev pub Unpaired : SubjectPublicKeyInfo → HashAlgorithm → Rule
 Unpaired info hash e =
     (curve : EcCurve) × IsOnCurve info curve × (curve_for hash ≢ Some curve) × (e ≡ errors.UnsupportedAlgorithm (unsupported.Pairing curve hash))
 
+-- the key is not one of a curve 25519 or 448
 abbrev pub NotEd : SubjectPublicKeyInfo → Rule
 NotEd info e = (kind_of info.subject_public_key ≢ kinds.Ed) × (e ≡ errors.Key (key_errors.ED key_contexts.NotEd))
 
+-- the key is one of X25519, which verifies nothing
 abbrev pub ForAgreement : SubjectPublicKeyInfo → Rule
 ForAgreement info e = IsOfEd info ed.X25519 × (e ≡ errors.Ed contexts.NotForSigning)
 
+-- the key is one of another curve than Ed25519
 abbrev pub NotEd25519 : SubjectPublicKeyInfo → Rule
 NotEd25519 info e = (IsOfEd info ed.Ed25519 → ⊥) × (e ≡ errors.Key (key_errors.ED key_contexts.UnsupportedEd))
 
+-- the key hasn't 32 octets
 abbrev pub WrongSize : SubjectPublicKeyInfo → Rule
 WrongSize info e =
     (bits : BitString) × (info.subject_public_key ≡ keys.Ed bits) × (length (payload_of bits) ≢ 32) × (e ≡ errors.Ed contexts.KeySize)
@@ -132,9 +139,11 @@ malformed (RsaPkcs1v15 hash) = errors.Rsa contexts.Malformed
 malformed (Ecdsa hash) = errors.Ec contexts.Malformed
 malformed Ed25519 = errors.Ed contexts.Malformed
 
+-- the scheme finds the signature malformed
 abbrev pub Malformed : Judge → SignatureAlgorithm → SubjectPublicKeyInfo → List ℕ → List ℕ → Rule
 Malformed judge algorithm info msg sig e = IsJudged judge algorithm info msg sig verdicts.Malformed × (e ≡ malformed algorithm)
 
+-- the scheme rejects the signature
 abbrev pub Rejected : Judge → SignatureAlgorithm → SubjectPublicKeyInfo → List ℕ → List ℕ → Rule
 Rejected judge algorithm info msg sig e = IsJudged judge algorithm info msg sig verdicts.Reject × (e ≡ errors.BadSignature)
 

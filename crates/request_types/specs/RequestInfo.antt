@@ -17,6 +17,7 @@ use Rattle.request_types.specs.declared.request_info.CertificationRequestInfo.{C
 abbrev pub AreAttributes : DerElement → List Attribute → Type 0
 AreAttributes = IsListOf 0xA0 IsAttribute
 
+-- the element of attributes
 abbrev pub attribute_list : List Attribute → DerElement
 attribute_list = list_element 0xA0 attribute
 

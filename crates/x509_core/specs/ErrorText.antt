@@ -44,6 +44,7 @@ abbrev pub not_yet_valid_text : GeneralizedTime → GeneralizedTime → List ℕ
 not_yet_valid_text not_before now =
     codes "certificate is not yet valid (not before: " ++ time_text not_before ++ codes ", now: " ++ time_text now ++ codes ")"
 
+-- that a certificate has expired, with its end and the time that is asked of
 abbrev pub expired_text : GeneralizedTime → GeneralizedTime → List ℕ
 expired_text not_after now =
     codes "certificate expired (not after: " ++ time_text not_after ++ codes ", now: " ++ time_text now ++ codes ")"

@@ -25,6 +25,7 @@ bits_of (Some (Constructed tag kids)) = None
 abbrev pub not_before_of : CertificateElements → Option DerElement
 not_before_of f = kid 0 f.tbs.validity
 
+-- the end of the validity
 abbrev pub not_after_of : CertificateElements → Option DerElement
 not_after_of f = kid 1 f.tbs.validity
 
@@ -32,5 +33,6 @@ not_after_of f = kid 1 f.tbs.validity
 abbrev pub key_algorithm_of : CertificateElements → Option DerElement
 key_algorithm_of f = kid 0 f.tbs.subject_public_key_info
 
+-- the octets in the key's bits
 abbrev pub key_octets_of : CertificateElements → Option (List ℕ)
 key_octets_of f = bits_of (kid 1 f.tbs.subject_public_key_info)

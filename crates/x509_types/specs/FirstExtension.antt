@@ -11,6 +11,7 @@ listed_at None = []
 listed_at (Some (Primitive tag content)) = []
 listed_at (Some (Constructed tag kids)) = listed kids
 
+-- the extensions, in order
 abbrev pub extensions_of : CertificateElements → List DerElement
 extensions_of f = listed_at f.tbs.extensions
 

@@ -22,6 +22,7 @@ use Rattle.x509_types.specs.declared.version.Version.{Version}
 abbrev pub IsVersion : DerElement → Version → Type 0
 IsVersion element value = element ≡ version value
 
+-- the element is a SEQUENCE of extensions
 abbrev pub IsExtensions : DerElement → List Extension → Type 0
 IsExtensions = IsListOf 0x30 IsExtension
 
@@ -29,6 +30,7 @@ IsExtensions = IsListOf 0x30 IsExtension
 abbrev pub extensions : List Extension → DerElement
 extensions = list_element 0x30 extension
 
+-- the elements inside the values of extensions
 abbrev pub inner_extensions : List Extension → List DerElement
 inner_extensions = flat_map (λ e. inner_value e.extn_value)
 

@@ -20,11 +20,13 @@ pub record IsIssuedBy (f : TbsElements) (part : IssuedBy) : Type 0 where
   pub signature : f.signature ≡ algorithm_identifier part.signature
   pub issuer : IsName f.issuer part.issuer
 
+-- the fields of the second part
 pub record IsIssuedTo (f : TbsElements) (part : IssuedTo) : Type 0 where
   pub validity : f.validity ≡ validity part.validity
   pub subject : IsName f.subject part.subject
   pub subject_public_key_info : IsPublicKeyInfo f.subject_public_key_info part.subject_public_key_info
 
+-- the fields of the third part
 pub record AreAdded (f : TbsElements) (part : AddedFields) : Type 0 where
   pub issuer_unique_id : f.issuer_unique_id ≡ part.issuer_unique_id
   pub subject_unique_id : f.subject_unique_id ≡ part.subject_unique_id
@@ -34,9 +36,11 @@ pub record AreAdded (f : TbsElements) (part : AddedFields) : Type 0 where
 abbrev pub issued_by : TbsCertificate → IssuedBy
 issued_by tbs = record { version = tbs.version; serial_number = tbs.serial_number; signature = tbs.signature; issuer = tbs.issuer }
 
+-- the second part of a TBSCertificate
 abbrev pub issued_to : TbsCertificate → IssuedTo
 issued_to tbs = record { validity = tbs.validity; subject = tbs.subject; subject_public_key_info = tbs.subject_public_key_info }
 
+-- the third part of a TBSCertificate
 abbrev pub added_fields : TbsCertificate → AddedFields
 added_fields tbs = record { issuer_unique_id = tbs.issuer_unique_id; subject_unique_id = tbs.subject_unique_id; extensions = tbs.extensions }
 
