@@ -18,6 +18,7 @@ use Rattle.sig_core.specs.ShaVariant.{hash_of}
 use Rattle.sig_core.specs.declared.hash.HashAlgorithm.{HashAlgorithm}
 use Rattle.sig_core.specs.declared.sha_variant.ShaVariant.{ShaVariant}
 use Rattle.x509_core.specs.KeptCertificate.{KeptCertificate}
+use Rattle.x509_core.specs.Steps.{Step, AreTaken, IsFirstUntaken, RefusesBySteps}
 use Rattle.x509_types.specs.Attribute.{attribute}
 use Rattle.x509_types.specs.CertificateElements.{CertificateElements}
 use Rattle.x509_types.specs.declared.attribute.Attribute.{Attribute}
@@ -27,7 +28,6 @@ use Rattle.making_core.specs.Carried.{AreWithoutRoots, elements_of}
 use Rattle.making_core.specs.MadeSignature.{attributes_element, signature_made}
 use Rattle.making_core.specs.SignedProgram.{IsSignature}
 use Rattle.authenticode_values.specs.Building.{Given, HasGiven, IsBuilt, IsBuiltOf, IsNamedFirst, IsSigner, algorithm_by, attributes_by, attributes_in, building_steps, content_by, element_step, given_step, given_steps, key_step, message_by, message_in, later_steps, named_step, parts_by, purpose_step, steps_of, supported_step}
-use Rattle.authenticode_values.specs.Steps.{Step, AreTaken, IsFirstUntaken, RefusesBySteps}
 use Rattle.authenticode_values.specs.declared.builder.AuthenticodeSignatureBuilder.{AuthenticodeSignatureBuilder}
 use Rattle.authenticode_values.specs.declared.builder_error.AuthenticodeSignatureBuilderError.{AuthenticodeSignatureBuilderError}
 use Rattle.authenticode_values.specs.declared.builder_error.AuthenticodeSignatureBuilderError.TheVariants as errors

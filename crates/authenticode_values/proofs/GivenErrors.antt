@@ -4,9 +4,9 @@ use Rattle.std.proofs.Common.{◌≡◌, List, [], ◌∷◌, Option, Some, sym,
 use Rattle.std.proofs.lemmas.Option.{none-some}
 use Rattle.sig_core.specs.declared.error.UnsupportedHashAlgorithmError.{UnsupportedHashAlgorithmError}
 use Rattle.sig_core.specs.declared.hash.HashAlgorithm.{HashAlgorithm}
+use Rattle.x509_core.specs.Steps.{Step, AreTaken, IsFirstUntaken}
 use Rattle.authenticode_core.specs.declared.error.AuthenticodeError.TheVariants as signatures
 use Rattle.authenticode_values.specs.Building.{given_step, given_steps, supported_step}
-use Rattle.authenticode_values.specs.Steps.{Step, AreTaken, IsFirstUntaken}
 use Rattle.authenticode_values.specs.declared.builder.AuthenticodeSignatureBuilder.{AuthenticodeSignatureBuilder}
 use Rattle.authenticode_values.specs.declared.builder_error.AuthenticodeSignatureBuilderError.{AuthenticodeSignatureBuilderError}
 use Rattle.authenticode_values.specs.declared.builder_error.AuthenticodeSignatureBuilderError.TheVariants as errors

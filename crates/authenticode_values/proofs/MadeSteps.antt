@@ -24,6 +24,7 @@ use Rattle.sig_core.specs.ShaVariant.{hash_of}
 use Rattle.sig_core.specs.declared.hash.HashAlgorithm.TheVariants.{SHA2_224}
 use Rattle.sig_core.specs.declared.sha_variant.ShaVariant.{ShaVariant}
 use Rattle.x509_types.specs.CertificateElements.{CertificateElements, certificate_of}
+use Rattle.x509_core.specs.Steps.{AreTaken, RefusesBySteps}
 use Rattle.authenticode_core.specs.ContentRefusal.{of_char_set, of_der, of_signatures}
 use Rattle.authenticode_core.specs.SigningRules.{IsBagOf, IsForCodeSigning}
 use Rattle.authenticode_core.specs.declared.error.AuthenticodeError.{AuthenticodeError}
@@ -33,7 +34,6 @@ use Rattle.making_core.specs.MadeContent.{attributes_message, content_digest, da
 use Rattle.making_core.specs.MadeSignature.{attributes_element, signature_made}
 use Rattle.making_core.specs.SignedProgram.{IsBasicName, IsSignature, IsSignedProgram, Program, algorithm_for, attributes_for, message_for, name_of, program_of}
 use Rattle.authenticode_values.specs.Making.{HasNoFirstSigner, HasSigner, IsFirstSigner, IsMadeOf, attributes_written, certificates_step, code_signing_step, hash_step, making_steps, name_step, signature_step, signing_steps, writing_step}
-use Rattle.authenticode_values.specs.Steps.{AreTaken, RefusesBySteps}
 use Rattle.authenticode_values.proofs.TakenSteps.{refused_before, refused_behind}
 
 -- ---- the first step

@@ -26,6 +26,7 @@ use Rattle.sig_core.specs.declared.hash.HashAlgorithm.{HashAlgorithm}
 use Rattle.sig_core.specs.declared.hash.HashAlgorithm.TheVariants.{SHA2_224}
 use Rattle.sig_core.specs.declared.sha_variant.ShaVariant.{ShaVariant}
 use Rattle.x509_core.specs.KeptCertificate.{KeptCertificate}
+use Rattle.x509_core.specs.Steps.{Step, AreTaken}
 use Rattle.x509_types.specs.Attribute.{attribute}
 use Rattle.x509_types.specs.CertificateElements.{CertificateElements, certificate_of}
 use Rattle.x509_types.specs.declared.attribute.Attribute.{Attribute}
@@ -41,7 +42,6 @@ use Rattle.making_core.specs.SignedProgram.{IsSignature}
 use Rattle.authenticode_values.specs.BuilderError.{builder_refusal, unwritten_in_builder}
 use Rattle.authenticode_values.specs.Making.{TellsOf}
 use Rattle.authenticode_values.specs.SigningCertificate.{IsNamedBy}
-use Rattle.authenticode_values.specs.Steps.{Step, AreTaken}
 use Rattle.authenticode_values.specs.declared.builder.AuthenticodeSignatureBuilder.{AuthenticodeSignatureBuilder}
 use Rattle.authenticode_values.specs.declared.builder_error.AuthenticodeSignatureBuilderError.{AuthenticodeSignatureBuilderError}
 use Rattle.authenticode_values.specs.declared.builder_error.AuthenticodeSignatureBuilderError.TheVariants as errors

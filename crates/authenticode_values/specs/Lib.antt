@@ -11,7 +11,6 @@ pub mod Timestamper
 pub mod Stamping
 pub mod RequestRefusals
 pub mod TokenStamp
-pub mod Steps
 pub mod Making
 pub mod MadeProgram
 pub mod MadeFile

@@ -14,6 +14,7 @@ use Rattle.sig_core.specs.declared.hash.HashAlgorithm.{HashAlgorithm}
 use Rattle.sig_core.specs.declared.hash.HashAlgorithm.TheVariants.{SHA2_224}
 use Rattle.sig_core.specs.declared.sha_variant.ShaVariant.{ShaVariant}
 use Rattle.x509_types.specs.CertificateElements.{CertificateElements}
+use Rattle.x509_core.specs.Steps.{Step, AreTaken}
 use Rattle.authenticode_core.specs.SigningRules.{IsBagOf, IsForCodeSigning}
 use Rattle.authenticode_core.specs.ContentRefusal.{of_der, of_signatures}
 use Rattle.authenticode_core.specs.declared.error.AuthenticodeError.{AuthenticodeError}
@@ -21,7 +22,6 @@ use Rattle.authenticode_core.specs.declared.error.AuthenticodeError.TheVariants 
 use Rattle.making_core.specs.MadeContent.{data_element}
 use Rattle.making_core.specs.MadeSignature.{attributes_element}
 use Rattle.making_core.specs.SignedProgram.{IsBasicName, IsSignedProgram, Program, algorithm_for, attributes_for, message_for, program_of}
-use Rattle.authenticode_values.specs.Steps.{Step, AreTaken}
 
 -- The first certificate of the signed data, the signer's, may sign code.
 pub record HasSigner (f : SignedDataElements) (first : CertificateElements) (others : List CertificateElements) : Type 0 where

@@ -15,6 +15,7 @@ ghost use Rattle.sig_core.specs.ShaVariant.{hash_of};
 ghost use Rattle.sig_core.specs.declared.hash.HashAlgorithm.TheVariants.{SHA2_224};
 ghost use Rattle.wincert_core.specs.declared.kinds.CertificateType.{CertificateType};
 ghost use Rattle.x509_core.specs.Link.{HasKey};
+ghost use Rattle.x509_core.specs.Steps.{AreTaken, RefusesBySteps};
 ghost use Rattle.authenticode_core.specs.declared.error.AuthenticodeError.TheVariants as errors;
 ghost use Rattle.making_core.specs.Carried.{IsRoot, elements_of};
 ghost use Rattle.making_core.specs.MadeContent.{attributes_message, content_digest, data_element, opus_element, program_attributes};
@@ -24,7 +25,6 @@ ghost use Rattle.authenticode_values.specs.Making.{IsMadeOf, hash_step, making_s
 ghost use Rattle.authenticode_values.specs.MadeFile.{IsMadeSignature, IsSpelledWhole, wrapped};
 ghost use Rattle.authenticode_values.specs.MadeProgram.{program_for};
 ghost use Rattle.authenticode_values.specs.Pkcs7.{fields_of, written};
-ghost use Rattle.authenticode_values.specs.Steps.{AreTaken, RefusesBySteps};
 
 pub(crate) mod signer;
 

@@ -21,6 +21,7 @@ use Rattle.x509_types.specs.declared.tbs_certificate.TbsCertificate.{TbsCertific
 use Rattle.x509_core.specs.FirstValue.{HasFirst}
 use Rattle.x509_core.specs.KeptCertificate.{KeptCertificate}
 use Rattle.x509_core.specs.Link.{IsSignedBy}
+use Rattle.x509_core.specs.Steps.{IsFirstUntaken, AreTaken, RefusesBySteps}
 use Rattle.x509_core.specs.declared.error.CertError.{CertError}
 use Rattle.asn1_types.specs.declared.integer.IntegerAsn1.{IntegerAsn1}
 use Rattle.key_types.specs.declared.algorithm.AlgorithmIdentifier.{AlgorithmIdentifier}
@@ -30,10 +31,10 @@ use Rattle.issuing_core.specs.BuiltCertificate.{authority_of, IsIssuedBy, IsIssu
 use Rattle.issuing_core.specs.Building.{IsBuilt, IsMade, algorithm_step, build_steps, given_steps, identifier_step, message_of, signing_steps, steps_by, subject_steps}
 use Rattle.issuing_core.specs.Inherited.{AreDistinct}
 use Rattle.issuing_core.specs.MadeExtensions.{AreBuilt, constraints_of}
-use Rattle.issuing_core.specs.Steps.{IsFirstUntaken, AreTaken, RefusesBySteps}
 use Rattle.issuing_core.specs.declared.builder.CertificateBuilder.{CertificateBuilder}
 use Rattle.issuing_core.specs.declared.builder.IssuerInfos.{IssuerInfos}
 use Rattle.x509_core.proofs.SignedParts.{signed_by, signed_with}
+use Rattle.x509_core.specs.declared.error.CertError.TheVariants as errors
 use Rattle.issuing_core.proofs.MadeCertificates.{made_or_refused}
 use Rattle.issuing_core.proofs.Subjects.{subject_taken}
 use Rattle.issuing_core.proofs.TakenSteps.{untaken_before, refused_behind, refused_within}
@@ -42,7 +43,7 @@ use Rattle.issuing_core.proofs.WantedExtensions.{built_distinct, built_constrain
 is_given : {X : Type 0} (option : Option X) (x : X) → option ≡ Some x → IsSome option
 is_given {X} option x e = subst (λ (o : Option X). IsSome o) (sym e) refl
 
-pub not_given : (judge : Judge) (signs : Signs) (pair : Pair) (b : CertificateBuilder) (word : ℕ) (e : CertError) → IsFirstUntaken (given_steps b) e → RefusesBySteps (build_steps judge signs pair b word) e
+pub not_given : (judge : Judge) (signs : Signs) (pair : Pair) (b : CertificateBuilder) (word : ℕ) (e : CertError) → IsFirstUntaken (given_steps b) e → RefusesBySteps errors.Memory (build_steps judge signs pair b word) e
 not_given judge signs pair b word e first = inl (untaken_before (given_steps b) (steps_by judge signs pair b word b.issuer_infos) e first)
 
 module _ (judge : Judge) (signs : Signs) (pair : Pair) (b : CertificateBuilder) (word : ℕ) (issuer : IssuerInfos) (from to : GeneralizedTime)
@@ -50,18 +51,18 @@ module _ (judge : Judge) (signs : Signs) (pair : Pair) (b : CertificateBuilder) 
   given_taken : AreTaken (given_steps b)
   given_taken = (is_given b.valid_from from begins, (is_given b.valid_to to ends, (is_given b.issuer_infos issuer issued, tt)))
 
-  behind_given : (e : CertError) → RefusesBySteps (steps_by judge signs pair b word (Some issuer)) e → RefusesBySteps (build_steps judge signs pair b word) e
+  behind_given : (e : CertError) → RefusesBySteps errors.Memory (steps_by judge signs pair b word (Some issuer)) e → RefusesBySteps errors.Memory (build_steps judge signs pair b word) e
   behind_given e refused =
       refused_behind (given_steps b) (steps_by judge signs pair b word b.issuer_infos) e given_taken
-      (subst (λ (o : Option IssuerInfos). RefusesBySteps (steps_by judge signs pair b word o) e) (sym issued) refused)
+      (subst (λ (o : Option IssuerInfos). RefusesBySteps errors.Memory (steps_by judge signs pair b word o) e) (sym issued) refused)
 
-  pub no_subject : (e : CertError) → RefusesBySteps (subject_steps judge issuer.self_signed b issuer ++ identifier_step judge b issuer ∷ []) e → RefusesBySteps (build_steps judge signs pair b word) e
+  pub no_subject : (e : CertError) → RefusesBySteps errors.Memory (subject_steps judge issuer.self_signed b issuer ++ identifier_step judge b issuer ∷ []) e → RefusesBySteps errors.Memory (build_steps judge signs pair b word) e
   no_subject e refused =
       behind_given e (refused_within (subject_steps judge issuer.self_signed b issuer) (identifier_step judge b issuer ∷ [])
       (algorithm_step b ∷ signing_steps judge signs pair b.signature_hash_type issuer.key.now (IsTbsFor judge b issuer word)) e refused)
 
   behind_subject : (own : List ℕ) (name : Name) (key : SubjectPublicKeyInfo) (e : CertError) → IsIssuedTo judge b issuer own name key
-      → RefusesBySteps (algorithm_step b ∷ signing_steps judge signs pair b.signature_hash_type issuer.key.now (IsTbsFor judge b issuer word)) e → RefusesBySteps (build_steps judge signs pair b word) e
+      → RefusesBySteps errors.Memory (algorithm_step b ∷ signing_steps judge signs pair b.signature_hash_type issuer.key.now (IsTbsFor judge b issuer word)) e → RefusesBySteps errors.Memory (build_steps judge signs pair b word) e
   behind_subject own name key e to_whom refused =
       behind_given e (refused_behind (subject_steps judge issuer.self_signed b issuer)
       (identifier_step judge b issuer ∷ algorithm_step b ∷ signing_steps judge signs pair b.signature_hash_type issuer.key.now (IsTbsFor judge b issuer word)) e
@@ -69,8 +70,8 @@ module _ (judge : Judge) (signs : Signs) (pair : Pair) (b : CertificateBuilder) 
       (refused_behind (identifier_step judge b issuer ∷ []) (algorithm_step b ∷ signing_steps judge signs pair b.signature_hash_type issuer.key.now (IsTbsFor judge b issuer word)) e
       ((name, key, own, to_whom), tt) refused))
 
-  pub no_algorithm : (own : List ℕ) (name : Name) (key : SubjectPublicKeyInfo) (e : CertError) → IsIssuedTo judge b issuer own name key → RefusesBySteps (algorithm_step b ∷ []) e
-      → RefusesBySteps (build_steps judge signs pair b word) e
+  pub no_algorithm : (own : List ℕ) (name : Name) (key : SubjectPublicKeyInfo) (e : CertError) → IsIssuedTo judge b issuer own name key → RefusesBySteps errors.Memory (algorithm_step b ∷ []) e
+      → RefusesBySteps errors.Memory (build_steps judge signs pair b word) e
   no_algorithm own name key e to_whom refused =
       behind_subject own name key e to_whom
       (refused_within [] (algorithm_step b ∷ []) (signing_steps judge signs pair b.signature_hash_type issuer.key.now (IsTbsFor judge b issuer word)) e refused)
@@ -91,15 +92,15 @@ module _ (judge : Judge) (signs : Signs) (pair : Pair) (b : CertificateBuilder) 
 
   pub built_or_refused : (own : List ℕ) (name : Name) (key : SubjectPublicKeyInfo) (tbs : TbsCertificate) (r : Result KeptCertificate CertError) → IsIssuedTo judge b issuer own name key → IsTbsBy b issuer word own tbs
       → IsValidityOf from to tbs.validity → tbs.subject ≡ name → tbs.subject_public_key_info ≡ key
-      → MatchResult r (IsMade judge signs pair b.signature_hash_type issuer.key.now (λ t. t ≡ tbs)) (RefusesBySteps (signing_steps judge signs pair b.signature_hash_type issuer.key.now (λ t. t ≡ tbs)))
-      → MatchResult r (IsBuilt judge signs pair b word) (RefusesBySteps (build_steps judge signs pair b word))
+      → MatchResult r (IsMade judge signs pair b.signature_hash_type issuer.key.now (λ t. t ≡ tbs)) (RefusesBySteps errors.Memory (signing_steps judge signs pair b.signature_hash_type issuer.key.now (λ t. t ≡ tbs)))
+      → MatchResult r (IsBuilt judge signs pair b word) (RefusesBySteps errors.Memory (build_steps judge signs pair b word))
   built_or_refused own name key tbs r to_whom by validity named keyed made =
       told r (made_or_refused judge signs pair b.signature_hash_type issuer.key.now (λ t. t ≡ tbs) (IsTbsFor judge b issuer word) r
       (λ t e. subst (IsTbsFor judge b issuer word) (sym e) (tbs_for own name key tbs to_whom by validity named keyed)) made)
     where
       told : (r : Result KeptCertificate CertError)
-          → MatchResult r (IsMade judge signs pair b.signature_hash_type issuer.key.now (IsTbsFor judge b issuer word)) (RefusesBySteps (signing_steps judge signs pair b.signature_hash_type issuer.key.now (IsTbsFor judge b issuer word)))
-          → MatchResult r (IsBuilt judge signs pair b word) (RefusesBySteps (build_steps judge signs pair b word))
+          → MatchResult r (IsMade judge signs pair b.signature_hash_type issuer.key.now (IsTbsFor judge b issuer word)) (RefusesBySteps errors.Memory (signing_steps judge signs pair b.signature_hash_type issuer.key.now (IsTbsFor judge b issuer word)))
+          → MatchResult r (IsBuilt judge signs pair b word) (RefusesBySteps errors.Memory (build_steps judge signs pair b word))
       told (Ok cert) is = record { issuer = issuer; given = issued; made = is }
       told (Err e) refused =
           behind_subject own name key e to_whom

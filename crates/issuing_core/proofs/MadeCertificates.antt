@@ -19,11 +19,11 @@ use Rattle.x509_types.specs.declared.certificate.Certificate.{Certificate}
 use Rattle.x509_types.specs.declared.tbs_certificate.TbsCertificate.{TbsCertificate}
 use Rattle.x509_core.specs.CertRefusals.{IsUnwritten}
 use Rattle.x509_core.specs.KeptCertificate.{KeptCertificate, kept_octets, written_octets, written_elements}
+use Rattle.x509_core.specs.Steps.{IsFirstUntaken, RefusesBySteps}
 use Rattle.x509_core.specs.declared.error.CertError.{CertError}
 use Rattle.x509_core.specs.declared.error.CertError.TheVariants as errors
 use Rattle.issuing_core.specs.BuildRefusals.{no_octets, no_signature, Tells}
 use Rattle.issuing_core.specs.Building.{IsMade, IsSignedCertificate, IsTbsSigned, message_of, signing_steps, tbs_written}
-use Rattle.issuing_core.specs.Steps.{IsFirstUntaken, RefusesBySteps}
 
 -- the kept element is the written one
 element_is : (cert : KeptCertificate) (c : Certificate) → kept_octets cert ≡ written_octets c → certificate_of cert.elements ≡ certificate c
@@ -35,7 +35,7 @@ module _ (judge : Judge) (signs : Signs) (pair : Pair) (algorithm : SignatureAlg
       → IsDer (tbs_certificate tbs) → AreDer (inner_tbs tbs) → IsTbsSigned signs algorithm key tbs
       → ((public : SubjectPublicKeyInfo) → IsKeyPair pair key public → Accepts judge algorithm public (message_of tbs) c.signature_value.payload)
       → MatchResult r (λ cert. (kept_octets cert ≡ written_octets c) × (cert.certificate ≡ c)) (IsUnwritten elements.Certificate (RefusesInner (written_elements c)))
-      → MatchResult r (IsMade judge signs pair algorithm key (λ t. t ≡ tbs)) (RefusesBySteps (signing_steps judge signs pair algorithm key (λ t. t ≡ tbs)))
+      → MatchResult r (IsMade judge signs pair algorithm key (λ t. t ≡ tbs)) (RefusesBySteps errors.Memory (signing_steps judge signs pair algorithm key (λ t. t ≡ tbs)))
   made_or_not tbs c r is beside unused der inner signed accepted made =
       let whole : IsSignedCertificate judge pair algorithm key (λ t. t ≡ tbs) c = record {
         tbs = is;
@@ -47,7 +47,7 @@ module _ (judge : Judge) (signs : Signs) (pair : Pair) (algorithm : SignatureAlg
     where
       by : (r : Result KeptCertificate CertError) → IsSignedCertificate judge pair algorithm key (λ t. t ≡ tbs) c
           → MatchResult r (λ cert. (kept_octets cert ≡ written_octets c) × (cert.certificate ≡ c)) (IsUnwritten elements.Certificate (RefusesInner (written_elements c)))
-          → MatchResult r (IsMade judge signs pair algorithm key (λ t. t ≡ tbs)) (RefusesBySteps (signing_steps judge signs pair algorithm key (λ t. t ≡ tbs)))
+          → MatchResult r (IsMade judge signs pair algorithm key (λ t. t ≡ tbs)) (RefusesBySteps errors.Memory (signing_steps judge signs pair algorithm key (λ t. t ≡ tbs)))
       by (Ok cert) whole (octets, value) = record {
         signed = subst (λ (x : Certificate). IsTbsSigned signs algorithm key x.tbs_certificate) (sym value) (subst (IsTbsSigned signs algorithm key) (sym is) signed);
         made = subst (IsSignedCertificate judge pair algorithm key (λ t. t ≡ tbs)) (sym value) whole;
@@ -71,8 +71,8 @@ module _ (judge : Judge) (signs : Signs) (pair : Pair) (algorithm : SignatureAlg
   untaken_as A B e f (inr (octets, inr (signature, inr (whole, none)))) = absurd none
 
   pub made_or_refused : (A B : TbsCertificate → Type 0) (r : Result KeptCertificate CertError) → ((t : TbsCertificate) → A t → B t)
-      → MatchResult r (IsMade judge signs pair algorithm key A) (RefusesBySteps (signing_steps judge signs pair algorithm key A))
-      → MatchResult r (IsMade judge signs pair algorithm key B) (RefusesBySteps (signing_steps judge signs pair algorithm key B))
+      → MatchResult r (IsMade judge signs pair algorithm key A) (RefusesBySteps errors.Memory (signing_steps judge signs pair algorithm key A))
+      → MatchResult r (IsMade judge signs pair algorithm key B) (RefusesBySteps errors.Memory (signing_steps judge signs pair algorithm key B))
   made_or_refused A B (Ok cert) f made = made_as A B cert f made
   made_or_refused A B (Err e) f (inl first) = inl (untaken_as A B e f first)
   made_or_refused A B (Err e) f (inr memory) = inr memory
@@ -81,7 +81,7 @@ module _ (judge : Judge) (signs : Signs) (pair : Pair) (algorithm : SignatureAlg
 pub not_made : (judge : Judge) (signs : Signs) (pair : Pair) (algorithm : SignatureAlgorithm) (key : PrivateKey) (tbs : TbsCertificate) (e : CertError)
     → (e ≡ errors.Memory) ⊎ (Tells no_octets (RefusesInner (tbs_written tbs)) e
     ⊎ (IsDer (tbs_certificate tbs) × AreDer (inner_tbs tbs) × Tells no_signature (RefusesBy (sign_rules signs algorithm key (message_of tbs))) e))
-    → RefusesBySteps (signing_steps judge signs pair algorithm key (λ t. t ≡ tbs)) e
+    → RefusesBySteps errors.Memory (signing_steps judge signs pair algorithm key (λ t. t ≡ tbs)) e
 not_made judge signs pair algorithm key tbs e (inl memory) = inr memory
 not_made judge signs pair algorithm key tbs e (inr (inl told)) = inl (inl (tbs, refl, told))
 not_made judge signs pair algorithm key tbs e (inr (inr (der, inner, told))) = inl (inr ((tbs, refl, der, inner), inl (tbs, refl, told)))

@@ -5,6 +5,7 @@ use Rattle.key_types.specs.declared.key_info.SubjectPublicKeyInfo.{SubjectPublic
 use Rattle.key_core.specs.Verifying.{Judge}
 use Rattle.key_core.specs.declared.public_key.PublicKey.{PublicKey}
 use Rattle.names_core.specs.declared.name.DirectoryName.{DirectoryName}
+use Rattle.x509_core.specs.Steps.{AreTaken, RefusesBySteps}
 use Rattle.x509_core.specs.declared.error.CertError.{CertError}
 use Rattle.x509_core.specs.declared.error.CertError.TheVariants as errors
 use Rattle.issuing_core.specs.BuildRefusals.{no_request, Tells}
@@ -13,7 +14,6 @@ use Rattle.issuing_core.specs.Building.{half_step, other_steps, subject_steps}
 use Rattle.issuing_core.specs.CsrRefusals.{IsUnsigned}
 use Rattle.issuing_core.specs.KeptRequest.{KeptRequest}
 use Rattle.issuing_core.specs.SelfSigned.{IsSelfSigned, RefusesSelfSigned}
-use Rattle.issuing_core.specs.Steps.{AreTaken, RefusesBySteps}
 use Rattle.issuing_core.specs.declared.builder.CertificateBuilder.{CertificateBuilder}
 use Rattle.issuing_core.specs.declared.builder.IssuerInfos.{IssuerInfos}
 use Rattle.issuing_core.specs.declared.builder.SubjectInfos.{SubjectInfos}
@@ -45,14 +45,14 @@ subject_by judge issuer (Some authority) subject name key some given = given
 
 -- the issuer is the subject, or it isn't
 pub own_or_refused : (judge : Judge) (own : Bool) (b : CertificateBuilder) (issuer : IssuerInfos) (r : Result (DirectoryName × PublicKey) CertError) → own ≡ true
-    → MatchResult r (λ subject. (subject.0.name ≡ issuer.name.name) × IsHalfOf issuer.key.now subject.1.info) (RefusesBySteps (half_step issuer.key.now ∷ []))
-    → MatchResult r (λ subject. IsSubjectBy judge own issuer b.authority_key_identifier b.subject_infos subject.0.name subject.1.info) (RefusesBySteps (subject_steps judge own b issuer))
+    → MatchResult r (λ subject. (subject.0.name ≡ issuer.name.name) × IsHalfOf issuer.key.now subject.1.info) (RefusesBySteps errors.Memory (half_step issuer.key.now ∷ []))
+    → MatchResult r (λ subject. IsSubjectBy judge own issuer b.authority_key_identifier b.subject_infos subject.0.name subject.1.info) (RefusesBySteps errors.Memory (subject_steps judge own b issuer))
 own_or_refused judge true b issuer r e is = is
 own_or_refused judge false b issuer r e is = let no : false ≡ true = e in absurd cc
 
 pub other_or_refused : (judge : Judge) (own : Bool) (b : CertificateBuilder) (issuer : IssuerInfos) (r : Result (DirectoryName × PublicKey) CertError) → own ≡ false
-    → MatchResult r (λ subject. IsSome b.authority_key_identifier × IsGivenSubject judge b.subject_infos subject.0.name subject.1.info) (RefusesBySteps (other_steps judge b))
-    → MatchResult r (λ subject. IsSubjectBy judge own issuer b.authority_key_identifier b.subject_infos subject.0.name subject.1.info) (RefusesBySteps (subject_steps judge own b issuer))
+    → MatchResult r (λ subject. IsSome b.authority_key_identifier × IsGivenSubject judge b.subject_infos subject.0.name subject.1.info) (RefusesBySteps errors.Memory (other_steps judge b))
+    → MatchResult r (λ subject. IsSubjectBy judge own issuer b.authority_key_identifier b.subject_infos subject.0.name subject.1.info) (RefusesBySteps errors.Memory (subject_steps judge own b issuer))
 other_or_refused judge true b issuer r e is = let no : true ≡ false = e in absurd cc
 other_or_refused judge false b issuer (Ok subject) e is = subject_by judge issuer b.authority_key_identifier b.subject_infos subject.0.name subject.1.info is.0 is.1
 other_or_refused judge false b issuer (Err x) e is = is
@@ -61,7 +61,7 @@ other_or_refused judge false b issuer (Err x) e is = is
 pub requested_or_refused : (judge : Judge) (b : CertificateBuilder) (csr : KeptRequest) (r : Result (DirectoryName × PublicKey) CertError) → IsSome b.authority_key_identifier → b.subject_infos ≡ Some (subjects.Request csr)
     → MatchResult r (λ subject. IsSelfSigned judge csr × (subject.0.name ≡ csr.request.certification_request_info.subject) × (subject.1.info ≡ csr.request.certification_request_info.subject_public_key_info))
     (λ e. Tells no_request (IsUnsigned (RefusesSelfSigned judge csr)) e ⊎ (e ≡ errors.Memory))
-    → MatchResult r (λ subject. IsSome b.authority_key_identifier × IsGivenSubject judge b.subject_infos subject.0.name subject.1.info) (RefusesBySteps (other_steps judge b))
+    → MatchResult r (λ subject. IsSome b.authority_key_identifier × IsGivenSubject judge b.subject_infos subject.0.name subject.1.info) (RefusesBySteps errors.Memory (other_steps judge b))
 requested_or_refused judge b csr (Ok subject) some given is =
     (some, subst (λ (o : Option SubjectInfos). IsGivenSubject judge o subject.0.name subject.1.info) (sym given) is)
 requested_or_refused judge b csr (Err e) some given (inl told) =

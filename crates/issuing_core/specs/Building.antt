@@ -24,15 +24,16 @@ use Rattle.x509_types.specs.declared.certificate.Certificate.{Certificate}
 use Rattle.x509_types.specs.declared.tbs_certificate.TbsCertificate.{TbsCertificate}
 use Rattle.x509_core.specs.CertRefusals.{IsUnwritten}
 use Rattle.x509_core.specs.KeptCertificate.{KeptCertificate, written_elements}
+use Rattle.x509_core.specs.Steps.{Step}
 use Rattle.x509_core.specs.declared.error.Arg.{Arg}
 use Rattle.x509_core.specs.declared.error.Arg.TheVariants as arguments
+use Rattle.x509_core.specs.declared.error.CertError.{CertError}
 use Rattle.x509_core.specs.declared.error.CertError.TheVariants as errors
 use Rattle.issuing_core.specs.BuildRefusals.{no_half, no_request, no_key_id, no_algorithm, no_octets, no_signature, Tells}
 use Rattle.issuing_core.specs.BuiltCertificate.{IsHalfOf, Name, IsSubject, IsIssuedTo, IsTbsFor}
 use Rattle.issuing_core.specs.CsrRefusals.{IsUnsigned}
 use Rattle.issuing_core.specs.KeptRequest.{KeptRequest}
 use Rattle.issuing_core.specs.SelfSigned.{IsSelfSigned, RefusesSelfSigned}
-use Rattle.issuing_core.specs.Steps.{Step}
 use Rattle.issuing_core.specs.declared.builder.CertificateBuilder.{CertificateBuilder}
 use Rattle.issuing_core.specs.declared.builder.IssuerInfos.{IssuerInfos}
 use Rattle.issuing_core.specs.declared.builder.SubjectInfos.{SubjectInfos}
@@ -69,45 +70,45 @@ pub record IsBuilt (judge : Judge) (signs : Signs) (pair : Pair) (b : Certificat
 -- ---- steps
 
 -- what is needed is given, else it is told by its name
-abbrev pub given_step : {X : Type 0} → Arg → Option X → Step
+abbrev pub given_step : {X : Type 0} → Arg → Option X → Step CertError
 given_step {X} argument option = record {
   taken = IsSome option;
   refused = λ e. (option ≡ None) × (e ≡ errors.MissingBuilderArgument argument);
 }
 
 -- the private key of the issuer has a public half
-abbrev pub half_step : PrivateKey → Step
+abbrev pub half_step : PrivateKey → Step CertError
 half_step key = record {
   taken = (info : SubjectPublicKeyInfo) × IsHalfOf key info;
   refused = Tells no_half (RefusesPublicHalf (container_of key).private_key (point_beside key));
 }
 
 -- where there is a request, it is signed by its own key
-abbrev pub request_step : Judge → Option SubjectInfos → Step
+abbrev pub request_step : Judge → Option SubjectInfos → Step CertError
 request_step judge subject = record {
   taken = (csr : KeptRequest) → subject ≡ Some (subjects.Request csr) → IsSelfSigned judge csr;
   refused = λ e. (csr : KeptRequest) × (subject ≡ Some (subjects.Request csr)) × Tells no_request (IsUnsigned (RefusesSelfSigned judge csr)) e;
 }
 
 -- where the subject isn't the issuer: the key of the issuer is identified, the subject is given, and its request is signed
-abbrev pub other_steps : Judge → CertificateBuilder → List Step
+abbrev pub other_steps : Judge → CertificateBuilder → List (Step CertError)
 other_steps judge b =
     given_step arguments.AuthorityKeyIdentifier b.authority_key_identifier ∷ given_step arguments.SubjectInfos b.subject_infos ∷ request_step judge b.subject_infos ∷ []
 
 -- who the subject is: the issuer itself, whose key has a public half, or another
-abbrev pub subject_steps : Judge → (self_signed : Bool) → CertificateBuilder → IssuerInfos → List Step
+abbrev pub subject_steps : Judge → (self_signed : Bool) → CertificateBuilder → IssuerInfos → List (Step CertError)
 subject_steps judge true b issuer = half_step issuer.key.now ∷ []
 subject_steps judge false b issuer = other_steps judge b
 
 -- The key of the subject is identified. Where the issuer is the subject, so is the issuer's.
-abbrev pub identifier_step : Judge → CertificateBuilder → IssuerInfos → Step
+abbrev pub identifier_step : Judge → CertificateBuilder → IssuerInfos → Step CertError
 identifier_step judge b issuer = record {
   taken = (name : Name) × (key : SubjectPublicKeyInfo) × (own : List ℕ) × IsIssuedTo judge b issuer own name key;
   refused = λ e. (name : Name) × (key : SubjectPublicKeyInfo) × IsSubject judge b issuer name key × Tells no_key_id (RefusesKeyIdentifier b.key_id_gen_method key) e;
 }
 
 -- the algorithm has an identifier
-abbrev pub algorithm_step : CertificateBuilder → Step
+abbrev pub algorithm_step : CertificateBuilder → Step CertError
 algorithm_step b = record {
   taken = (id : AlgorithmIdentifier) × IsWrittenAlgorithm b.signature_hash_type id;
   refused = Tells no_algorithm (IsUnwritable b.signature_hash_type);
@@ -119,42 +120,42 @@ tbs_written tbs = inner_tbs tbs ++ tbs_certificate tbs ∷ []
 
 module _ (judge : Judge) (signs : Signs) (pair : Pair) (algorithm : SignatureAlgorithm) (key : PrivateKey) (IsTbs : TbsCertificate → Type 0) where
   -- what is signed can be written
-  abbrev pub octets_step : Step
+  abbrev pub octets_step : Step CertError
   octets_step = record {
     taken = (tbs : TbsCertificate) × IsTbs tbs × IsDer (tbs_certificate tbs) × AreDer (inner_tbs tbs);
     refused = λ e. (tbs : TbsCertificate) × IsTbs tbs × Tells no_octets (RefusesInner (tbs_written tbs)) e;
   }
 
   -- the key signs it
-  abbrev pub signature_step : Step
+  abbrev pub signature_step : Step CertError
   signature_step = record {
     taken = (tbs : TbsCertificate) × IsTbs tbs × IsTbsSigned signs algorithm key tbs;
     refused = λ e. (tbs : TbsCertificate) × IsTbs tbs × Tells no_signature (RefusesBy (sign_rules signs algorithm key (message_of tbs))) e;
   }
 
   -- the whole can be written
-  abbrev pub whole_step : Step
+  abbrev pub whole_step : Step CertError
   whole_step = record {
     taken = (cert : KeptCertificate) × IsMade judge signs pair algorithm key IsTbs cert;
     refused = λ e. (c : Certificate) × IsSignedCertificate judge pair algorithm key IsTbs c × IsUnwritten elements.Certificate (RefusesInner (written_elements c)) e;
   }
 
   -- the steps that make a certificate of what is signed
-  abbrev pub signing_steps : List Step
+  abbrev pub signing_steps : List (Step CertError)
   signing_steps = octets_step ∷ signature_step ∷ whole_step ∷ []
 
 -- the steps by which a certificate is built
-abbrev pub steps_by : Judge → Signs → Pair → CertificateBuilder → ℕ → Option IssuerInfos → List Step
+abbrev pub steps_by : Judge → Signs → Pair → CertificateBuilder → ℕ → Option IssuerInfos → List (Step CertError)
 steps_by judge signs pair b word None = []
 steps_by judge signs pair b word (Some issuer) =
     subject_steps judge issuer.self_signed b issuer
     ++ identifier_step judge b issuer ∷ algorithm_step b ∷ signing_steps judge signs pair b.signature_hash_type issuer.key.now (IsTbsFor judge b issuer word)
 
 -- the times and the issuer are given
-abbrev pub given_steps : CertificateBuilder → List Step
+abbrev pub given_steps : CertificateBuilder → List (Step CertError)
 given_steps b =
     given_step arguments.ValidFrom b.valid_from ∷ given_step arguments.ValidTo b.valid_to ∷ given_step arguments.IssuerInfos b.issuer_infos ∷ []
 
 -- The steps of a building, in their order.
-abbrev pub build_steps : Judge → Signs → Pair → CertificateBuilder → ℕ → List Step
+abbrev pub build_steps : Judge → Signs → Pair → CertificateBuilder → ℕ → List (Step CertError)
 build_steps judge signs pair b word = given_steps b ++ steps_by judge signs pair b word b.issuer_infos

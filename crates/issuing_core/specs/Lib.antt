@@ -3,7 +3,6 @@ pub mod CsrRefusals
 pub mod SelfSigned
 pub mod Generated
 pub mod IssuedUnder
-pub mod Steps
 pub mod Inherited
 pub mod MadeExtensions
 pub mod BuiltCertificate

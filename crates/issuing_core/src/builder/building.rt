@@ -12,13 +12,14 @@ ghost use Rattle.names_core.specs.Names.{sets_of};
 ghost use Rattle.x509_core.specs.FirstValue.{HasFirst};
 ghost use Rattle.x509_core.specs.KeptCertificate.{KeptCertificate};
 ghost use Rattle.x509_core.specs.Link.{IsSignedBy};
+ghost use Rattle.x509_core.specs.Steps.{IsFirstUntaken, RefusesBySteps};
+ghost use Rattle.x509_core.specs.declared.error.CertError.TheVariants as errors;
 ghost use Rattle.issuing_core.specs.declared.builder.IssuerInfos.{IssuerInfos};
 ghost use Rattle.issuing_core.specs.BuildRefusals.{Tells, no_algorithm as algorithm_refusal};
 ghost use Rattle.issuing_core.specs.BuiltCertificate.{IsIssuedBy, IsTbsBy, IsValidityOf, serial_of};
 ghost use Rattle.issuing_core.specs.Building.{IsBuilt, algorithm_step, build_steps, given_steps};
 ghost use Rattle.issuing_core.specs.Inherited.{AreDistinct};
 ghost use Rattle.issuing_core.specs.MadeExtensions.{constraints_of};
-ghost use Rattle.issuing_core.specs.Steps.{IsFirstUntaken, RefusesBySteps};
 
 use super::refusing::{missing, no_algorithm};
 use super::signing::signed;
@@ -53,7 +54,7 @@ impl<'a> CertificateBuilder<'a> {
     pub fn build<S: Scheme>(self, alloc: Global, word: u32, scheme: &S) -> Result<Cert, CertError>
         ensures answer { MatchResult result
             (IsBuilt (S.judge scheme.now) (S.signs scheme.now) (S.pair scheme.now) self.entry word)
-            (RefusesBySteps (build_steps (S.judge scheme.now) (S.signs scheme.now) (S.pair scheme.now) self.entry word)) }
+            (RefusesBySteps errors.Memory (build_steps (S.judge scheme.now) (S.signs scheme.now) (S.pair scheme.now) self.entry word)) }
         // Its signature is one by each certificate whose key pairs with the issuer's.
         ensures linked { IfOk result (λ cert. (issuer : IssuerInfos) (parent : KeptCertificate) → self.entry.issuer_infos ≡ Some issuer
             → IsKeyPair (S.pair scheme.now) issuer.key.now parent.certificate.tbs_certificate.subject_public_key_info → IsSignedBy (S.judge scheme.now) parent.elements cert.elements) }
@@ -69,7 +70,7 @@ impl<'a> CertificateBuilder<'a> {
     fn built<S: Scheme>(&self, alloc: Global, word: u32, scheme: &S) -> Result<Cert, CertError>
         ensures { MatchResult result
             (IsBuilt (S.judge scheme.now) (S.signs scheme.now) (S.pair scheme.now) self.now word)
-            (RefusesBySteps (build_steps (S.judge scheme.now) (S.signs scheme.now) (S.pair scheme.now) self.now word)) }
+            (RefusesBySteps errors.Memory (build_steps (S.judge scheme.now) (S.signs scheme.now) (S.pair scheme.now) self.now word)) }
     {
         let (valid_from, valid_to, issuer) = self.given()?;
         let subject = self.identified(alloc, issuer, scheme)?;
@@ -111,7 +112,7 @@ impl<'a> CertificateBuilder<'a> {
         ensures { MatchResult result
             (λ tbs. IsTbsBy self.now issuer.now word subject.own.items tbs
             × (tbs.validity ≡ validity) × (tbs.subject ≡ sets_of subject.name) × (tbs.subject_public_key_info ≡ info_of subject.key))
-            (RefusesBySteps (algorithm_step self.now ∷ [])) }
+            (RefusesBySteps errors.Memory (algorithm_step self.now ∷ [])) }
     {
         let by = self.issued_by(alloc, word, issuer)?;
         let extensions = self.extensions(alloc, issuer, &subject.own)?;
@@ -127,7 +128,7 @@ impl<'a> CertificateBuilder<'a> {
     ) -> Result<IssuedBy, CertError>
         ensures { MatchResult result
             (λ by. IsIssuedBy self.now issuer.now word by.serial_number by.signature by.name.name)
-            (RefusesBySteps (algorithm_step self.now ∷ [])) }
+            (RefusesBySteps errors.Memory (algorithm_step self.now ∷ [])) }
     {
         let signature = identifier_of(alloc, self.signature_hash_type)?;
         let serial_number = self.serial(alloc, word)?;

@@ -12,7 +12,7 @@ ghost use Rattle.key_core.specs.Verifying.{Accepts};
 ghost use Rattle.x509_types.specs.TbsCertificate.{tbs_certificate, inner_tbs};
 ghost use Rattle.issuing_core.specs.BuildRefusals.{Tells, no_octets as octets_refusal, no_signature as signature_refusal};
 ghost use Rattle.issuing_core.specs.Building.{IsMade, IsTbsSigned, message_of, signing_steps, tbs_written};
-ghost use Rattle.issuing_core.specs.Steps.{RefusesBySteps};
+ghost use Rattle.x509_core.specs.Steps.{RefusesBySteps};
 ghost use Rattle.x509_core.specs.declared.error.CertError.TheVariants as errors;
 
 use super::refusing::{no_octets, no_signature};
@@ -34,7 +34,7 @@ pub(super) fn signed<S: Scheme>(
 ) -> Result<Cert, CertError>
     ensures { MatchResult result
         (IsMade (S.judge scheme.now) (S.signs scheme.now) (S.pair scheme.now) algorithm private_key.now (λ t. t ≡ tbs))
-        (RefusesBySteps (signing_steps (S.judge scheme.now) (S.signs scheme.now) (S.pair scheme.now) algorithm private_key.now (λ t. t ≡ tbs))) }
+        (RefusesBySteps errors.Memory (signing_steps (S.judge scheme.now) (S.signs scheme.now) (S.pair scheme.now) algorithm private_key.now (λ t. t ≡ tbs))) }
 {
     let signature_value = signature_of(alloc, &tbs, private_key, algorithm, scheme)?;
     let signature_algorithm = tbs.signature.try_clone(alloc)?;

@@ -8,7 +8,7 @@ ghost use Rattle.issuing_core.specs.BuiltCertificate.{IsGivenSubject, IsHalfOf, 
 ghost use Rattle.issuing_core.specs.Building.{half_step, identifier_step, other_steps, subject_steps};
 ghost use Rattle.issuing_core.specs.CsrRefusals.{IsUnsigned};
 ghost use Rattle.issuing_core.specs.SelfSigned.{IsSelfSigned, RefusesSelfSigned};
-ghost use Rattle.issuing_core.specs.Steps.{RefusesBySteps};
+ghost use Rattle.x509_core.specs.Steps.{RefusesBySteps};
 ghost use Rattle.x509_core.specs.declared.error.CertError.TheVariants as errors;
 
 use super::refusing::{missing, no_half, no_key_id, no_request};
@@ -38,7 +38,7 @@ impl CertificateBuilder<'_> {
     ) -> Result<Subject, CertError>
         ensures { MatchResult result
             (λ subject. IsIssuedTo (S.judge scheme.now) self.now issuer.now subject.own.items (sets_of subject.name) (info_of subject.key))
-            (RefusesBySteps (subject_steps (S.judge scheme.now) issuer.now.self_signed self.now issuer.now ++ identifier_step (S.judge scheme.now) self.now issuer.now ∷ [])) }
+            (RefusesBySteps errors.Memory (subject_steps (S.judge scheme.now) issuer.now.self_signed self.now issuer.now ++ identifier_step (S.judge scheme.now) self.now issuer.now ∷ [])) }
     {
         let (name, key) = self.subject_of(alloc, issuer, scheme)?;
         match self.key_id_gen_method.generate_from(alloc, &key) {
@@ -56,7 +56,7 @@ impl CertificateBuilder<'_> {
     ) -> Result<(DirectoryName, PublicKey), CertError>
         ensures { MatchResult result
             (λ subject. IsSubject (S.judge scheme.now) self.now issuer.now (sets_of subject.0) (info_of subject.1))
-            (RefusesBySteps (subject_steps (S.judge scheme.now) issuer.now.self_signed self.now issuer.now)) }
+            (RefusesBySteps errors.Memory (subject_steps (S.judge scheme.now) issuer.now.self_signed self.now issuer.now)) }
     {
         if issuer.self_signed {
             own_subject(alloc, issuer)
@@ -73,7 +73,7 @@ impl CertificateBuilder<'_> {
     ) -> Result<(DirectoryName, PublicKey), CertError>
         ensures { MatchResult result
             (λ subject. IsSome self.now.authority_key_identifier × IsGivenSubject (S.judge scheme.now) self.now.subject_infos (sets_of subject.0) (info_of subject.1))
-            (RefusesBySteps (other_steps (S.judge scheme.now) self.now)) }
+            (RefusesBySteps errors.Memory (other_steps (S.judge scheme.now) self.now)) }
     {
         if self.authority_key_identifier.is_none() {
             return Err(missing(Arg::AuthorityKeyIdentifier));
@@ -93,7 +93,7 @@ fn own_subject(
 ) -> Result<(DirectoryName, PublicKey), CertError>
     ensures { MatchResult result
         (λ subject. (subject.0.name ≡ issuer.now.name.name) × IsHalfOf issuer.now.key.now subject.1.info)
-        (RefusesBySteps (half_step issuer.now.key.now ∷ [])) }
+        (RefusesBySteps errors.Memory (half_step issuer.now.key.now ∷ [])) }
 {
     let name = issuer.name.try_clone(alloc)?;
     match issuer.key.to_public_key(alloc) {

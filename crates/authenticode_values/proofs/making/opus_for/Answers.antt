@@ -1,8 +1,8 @@
 use Rattle.std.proofs.Common.{[], ◌∷◌, sym, subst}
 use Rattle.std.specs.Option.{option_copied}
+use Rattle.x509_core.specs.Steps.{RefusesBySteps}
 use Rattle.authenticode_core.specs.declared.error.AuthenticodeError.TheVariants as errors
 use Rattle.authenticode_values.specs.Making.{name_step}
-use Rattle.authenticode_values.specs.Steps.{RefusesBySteps}
 use Rattle.authenticode_values.proofs.MadeSteps.{bad_name}
 use Rattle.authenticode_values.proofs.making.opus_for.Goals as goal
 
