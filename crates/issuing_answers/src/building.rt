@@ -1,24 +1,25 @@
 //! Certificates that are built.
 
-use crate::line::{push_name, push_octets, push_refused, push_same};
+use crate::line::{print_name, print_refused};
 use crate::settings::{Setting, settings_of};
 use crate::words::key_of;
 use anyhow::{Result, bail};
+use der_core::DerError;
 use issuing_core::CertificateBuilder;
 use key_core::PrivateKey;
-use row_answers::gives;
+use row_answers::{Line, gives};
 use sig_core::Scheme;
 use std::alloc::{AllocError, Global};
 use x509_core::Cert;
 
 /// The octets of the certificate, whether they come back, its subject and its issuer; or the name and
 /// the text of the refusal.
-pub fn print<S: Scheme>(alloc: Global, words: &str, scheme: &S, out: &mut String) -> Result<()> {
+pub fn print<S: Scheme>(alloc: Global, words: &str, scheme: &S, line: &mut Line) -> Result<()> {
     let words: Vec<&str> = words.split(' ').collect(alloc)?;
     let [word, key, settings @ ..] = words.as_slice() else {
         bail!("a random word and a key are given");
     };
-    print_asked(alloc, (word, key), settings, scheme, out)
+    print_asked(alloc, (word, key), settings, scheme, line)
 }
 
 fn print_asked<S: Scheme>(
@@ -26,14 +27,14 @@ fn print_asked<S: Scheme>(
     (word, key): (&str, &str),
     settings: &[&str],
     scheme: &S,
-    out: &mut String,
+    line: &mut Line,
 ) -> Result<()> {
     let word = word.parse()?;
     let settings = settings_of(alloc, settings)?;
     let key = key_of(alloc, key)?;
-    let printed = print_by(alloc, word, settings, &key, scheme, out);
+    print_by(alloc, word, settings, &key, scheme, line);
     drop(key);
-    Ok(printed?)
+    Ok(())
 }
 
 fn print_by<S: Scheme>(
@@ -42,10 +43,12 @@ fn print_by<S: Scheme>(
     settings: Vec<Setting>,
     key: &PrivateKey,
     scheme: &S,
-    out: &mut String,
-) -> Result<(), AllocError> {
-    let builder = builder_of(alloc, settings, key)?;
-    print_built(alloc, builder, word, scheme, out)
+    line: &mut Line,
+) {
+    match builder_of(alloc, settings, key) {
+        Ok(builder) => print_built(alloc, builder, word, scheme, line),
+        Err(error) => line.shown(&error),
+    }
 }
 
 /// A builder with these settings, of which the first is the last of the list; the key is the issuer's.
@@ -83,38 +86,33 @@ fn print_built<S: Scheme>(
     builder: CertificateBuilder<'_>,
     word: u32,
     scheme: &S,
-    out: &mut String,
-) -> Result<(), AllocError> {
+    line: &mut Line,
+) {
     match builder.build(alloc, word, scheme) {
         Ok(certificate) => {
-            let printed = print_certificate(alloc, &certificate, out);
+            print_certificate(alloc, &certificate, line);
             drop(certificate);
-            printed
         }
-        Err(error) => push_refused(alloc, out, error),
+        Err(error) => print_refused(alloc, error, line),
     }
 }
 
-fn print_certificate(
-    alloc: Global,
-    certificate: &Cert,
-    out: &mut String,
-) -> Result<(), AllocError> {
-    push_octets(alloc, out, certificate.as_bytes())?;
-    push_same(
-        out,
-        is_read(alloc, certificate) && is_made_anew(alloc, certificate)?,
-    )?;
-    push_name(alloc, out, &certificate.subject_name(alloc)?)?;
-    push_name(alloc, out, &certificate.issuer_name(alloc)?)
+fn print_certificate(alloc: Global, certificate: &Cert, line: &mut Line) {
+    line.octets(certificate.as_bytes());
+    line.same(comes_back(alloc, certificate));
+    print_name(certificate.subject_name(alloc), line);
+    print_name(certificate.issuer_name(alloc), line);
 }
 
-/// Whether the certificate is read of its octets.
+/// Whether the certificate is read of its octets, and is the one that is made of its value.
+fn comes_back(alloc: Global, certificate: &Cert) -> Result<bool, DerError> {
+    Ok(is_read(alloc, certificate) && is_made_anew(alloc, certificate)?)
+}
+
 fn is_read(alloc: Global, certificate: &Cert) -> bool {
     gives(Cert::from_der(alloc, certificate.as_bytes()), certificate)
 }
 
-/// Whether the certificate is the one that is made of its value.
 fn is_made_anew(alloc: Global, certificate: &Cert) -> Result<bool, AllocError> {
     let value = certificate.try_clone(alloc)?.into_certificate();
     Ok(gives(Cert::from_certificate(alloc, value), certificate))

@@ -1,12 +1,12 @@
 //! Certificates over their parents.
 
-use crate::line::{push, push_refused};
+use crate::line::print_refused;
 use crate::words::{certificate_of, date_of, two_of};
 use anyhow::{Context, Result, bail};
 use names_core::UtcDate;
-use row_answers::octets_of;
+use row_answers::{Line, octets_of};
 use sig_core::Scheme;
-use std::alloc::{AllocError, Global};
+use std::alloc::Global;
 use std::slice::Iter;
 use x509_core::{Cert, CertValidator};
 
@@ -34,12 +34,12 @@ struct Given<'a> {
 
 /// `accepted`, or the name and the text of the refusal. The first certificate is the one that is
 /// asked about.
-pub fn print<S: Scheme>(alloc: Global, words: &str, scheme: &S, out: &mut String) -> Result<()> {
+pub fn print<S: Scheme>(alloc: Global, words: &str, scheme: &S, line: &mut Line) -> Result<()> {
     let words: Vec<&str> = words.split(' ').collect(alloc)?;
     let [certificates, dates, setters @ ..] = words.as_slice() else {
         bail!("certificates and dates are given");
     };
-    print_asked(alloc, (certificates, dates), setters, scheme, out)
+    print_asked(alloc, (certificates, dates), setters, scheme, line)
 }
 
 fn print_asked<S: Scheme>(
@@ -47,7 +47,7 @@ fn print_asked<S: Scheme>(
     (certificates, dates): (&str, &str),
     setters: &[&str],
     scheme: &S,
-    out: &mut String,
+    line: &mut Line,
 ) -> Result<()> {
     let certificates = certificates_of(alloc, certificates)?;
     let setters = setters_of(alloc, setters)?;
@@ -60,7 +60,8 @@ fn print_asked<S: Scheme>(
         upper: &upper,
         parents,
     };
-    Ok(print_verdict(alloc, set(checked, given, setters.as_slice()), scheme, out)?)
+    print_verdict(alloc, set(checked, given, setters.as_slice()), scheme, line);
+    Ok(())
 }
 
 /// Certificates, a comma between.
@@ -125,54 +126,38 @@ fn with<'a>(validator: Validator<'a>, given: Given<'a>, setter: Setter) -> Valid
     }
 }
 
-fn print_verdict<S: Scheme>(
-    alloc: Global,
-    validator: Validator<'_>,
-    scheme: &S,
-    out: &mut String,
-) -> Result<(), AllocError> {
+fn print_verdict<S: Scheme>(alloc: Global, validator: Validator<'_>, scheme: &S, line: &mut Line) {
     match validator.verify(alloc, scheme) {
-        Ok(()) => push(out, "accepted"),
-        Err(error) => push_refused(alloc, out, error),
+        Ok(()) => line.word("accepted"),
+        Err(error) => print_refused(alloc, error, line),
     }
 }
 
 /// Whether one certificate is the parent of another by names and key identifiers, else the name and
 /// the text of the refusal; of octets that are no certificate those too.
-pub fn print_parent(alloc: Global, words: &str, out: &mut String) -> Result<()> {
+pub fn print_parent(alloc: Global, words: &str, line: &mut Line) -> Result<()> {
     let (parent, children) = words.split_once(' ').context("two certificates are given")?;
     let octets = octets_of(alloc, parent)?;
     let children = certificates_of(alloc, children)?;
     for child in &children {
-        print_parent_in(alloc, &octets, child, out)?;
+        print_parent_in(alloc, &octets, child, line);
     }
     Ok(())
 }
 
-fn print_parent_in(
-    alloc: Global,
-    octets: &[u8],
-    child: &Cert,
-    out: &mut String,
-) -> Result<(), AllocError> {
+fn print_parent_in(alloc: Global, octets: &[u8], child: &Cert, line: &mut Line) {
     match Cert::from_der(alloc, octets) {
         Ok(parent) => {
-            let printed = print_link(alloc, &parent, child, out);
+            print_link(alloc, &parent, child, line);
             drop(parent);
-            printed
         }
-        Err(error) => push_refused(alloc, out, error),
+        Err(error) => print_refused(alloc, error, line),
     }
 }
 
-fn print_link(
-    alloc: Global,
-    parent: &Cert,
-    child: &Cert,
-    out: &mut String,
-) -> Result<(), AllocError> {
+fn print_link(alloc: Global, parent: &Cert, child: &Cert, line: &mut Line) {
     match parent.is_parent_of(alloc, child) {
-        Ok(()) => push(out, "parent"),
-        Err(error) => push_refused(alloc, out, error),
+        Ok(()) => line.word("parent"),
+        Err(error) => print_refused(alloc, error, line),
     }
 }

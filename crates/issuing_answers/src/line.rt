@@ -1,65 +1,37 @@
-//! The words of a line, a space between.
+//! What is printed of names and of errors.
 
 use names_core::DirectoryName;
-use row_answers::word_of;
+use row_answers::Line;
 use std::alloc::{AllocError, Global};
 use x509_core::{CertError, CsrError};
 
-/// A word behind those that stand there.
-pub fn push(out: &mut String, word: &str) -> Result<(), AllocError> {
-    if !out.is_empty() {
-        out.push(' ')?;
+/// The text of a name, or why there is none.
+pub fn print_name(name: Result<DirectoryName, AllocError>, line: &mut Line) {
+    match name {
+        Ok(name) => line.shown(&name),
+        Err(error) => line.shown(&error),
     }
-    out.push_str(word)
 }
 
-/// The word of octets.
-pub fn push_octets(alloc: Global, out: &mut String, octets: &[u8]) -> Result<(), AllocError> {
-    let word = word_of(alloc, octets)?;
-    push(out, word.as_str())
-}
-
-/// Whether something comes back as it was.
-pub fn push_same(out: &mut String, same: bool) -> Result<(), AllocError> {
-    push(out, if same { "same" } else { "changed" })
-}
-
-pub fn push_name(alloc: Global, out: &mut String, name: &DirectoryName) -> Result<(), AllocError> {
-    let text = name.to_string(alloc)?;
-    push(out, text.as_str())
-}
-
-/// The name and the text of an error, which is let go here alone. Want of memory ends the run.
-pub fn push_refused(alloc: Global, out: &mut String, error: CertError) -> Result<(), AllocError> {
-    let pushed = push_name_and_text(alloc, out, &error);
+/// The name and the text of an error, which is let go here alone.
+pub fn print_refused(alloc: Global, error: CertError, line: &mut Line) {
+    print_name_and_text(alloc, &error, line);
     drop(error);
-    pushed
 }
 
-fn push_name_and_text(
-    alloc: Global,
-    out: &mut String,
-    error: &CertError,
-) -> Result<(), AllocError> {
-    if let CertError::Memory = error {
-        return Err(AllocError);
+fn print_name_and_text(alloc: Global, error: &CertError, line: &mut Line) {
+    match error.name(alloc) {
+        Ok(name) => {
+            line.word(name.as_str());
+            line.mark(":");
+            line.shown(error);
+        }
+        Err(refused) => line.shown(&refused),
     }
-    let name = error.name(alloc)?;
-    let text = format!(in alloc; "{name}: {error}")?;
-    push(out, text.as_str())
 }
 
-/// The text of an error, which is let go here alone. Want of memory ends the run.
-pub fn push_told(alloc: Global, out: &mut String, error: CsrError) -> Result<(), AllocError> {
-    let pushed = push_text(alloc, out, &error);
+/// The text of an error, which is let go here alone.
+pub fn print_told(error: CsrError, line: &mut Line) {
+    line.shown(&error);
     drop(error);
-    pushed
-}
-
-fn push_text(alloc: Global, out: &mut String, error: &CsrError) -> Result<(), AllocError> {
-    if let CsrError::Memory = error {
-        return Err(AllocError);
-    }
-    let text = format!(in alloc; "{error}")?;
-    push(out, text.as_str())
 }

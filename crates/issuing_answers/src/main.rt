@@ -35,6 +35,7 @@ mod settings;
 mod words;
 
 use anyhow::{Context, Result, bail};
+use row_answers::Line;
 use sig_core::{DemoScheme, Scheme};
 use std::alloc::Global;
 use std::io::{BufWriter, Write};
@@ -60,15 +61,20 @@ fn main(rt: HostRuntime) -> Result<()> {
 
 fn print_answers(alloc: Global, rows: &str, out: &mut impl Write) -> Result<()> {
     for row in rows.lines() {
-        let mut line = String::new(alloc);
-        answer(alloc, row, &mut line)?;
-        writeln!(out, "{line}")?;
+        let text = text_of(alloc, row)?;
+        writeln!(out, "{text}")?;
     }
     Ok(())
 }
 
+fn text_of(alloc: Global, row: &str) -> Result<String> {
+    let mut line = Line::new(alloc);
+    answer(alloc, row, &mut line)?;
+    Ok(line.into_text()?)
+}
+
 /// The line for a row: its scheme, and what is called.
-fn answer(alloc: Global, row: &str, line: &mut String) -> Result<()> {
+fn answer(alloc: Global, row: &str, line: &mut Line) -> Result<()> {
     let (scheme, call) = row.split_once(' ').context("a row has words")?;
     if scheme == "demo" {
         return answer_under(alloc, call, &DemoScheme::new(), line);
@@ -77,7 +83,7 @@ fn answer(alloc: Global, row: &str, line: &mut String) -> Result<()> {
     answer_under(alloc, call, &table, line)
 }
 
-fn answer_under<S: Scheme>(alloc: Global, call: &str, scheme: &S, line: &mut String) -> Result<()> {
+fn answer_under<S: Scheme>(alloc: Global, call: &str, scheme: &S, line: &mut Line) -> Result<()> {
     let (name, words) = call.split_once(' ').context("a call has words")?;
     match name {
         "build" => building::print(alloc, words, scheme, line),

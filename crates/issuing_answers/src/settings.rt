@@ -71,55 +71,46 @@ pub fn settings_of(alloc: Global, words: &[&str]) -> Result<Vec<Setting>> {
 
 fn setting_of(alloc: Global, setter: &str, value: &str) -> Result<Setting> {
     match setter {
-        "self_signed" | "issuer" | "issuer_cert" => {
-            Ok(Setting::Issuer(issuer_of(alloc, setter, value)?))
-        }
-        "subject" => Ok(Setting::Subject(subject_of(alloc, value)?)),
-        "subject_from_csr" => Ok(Setting::Subject(request_of(alloc, value)?)),
-        "authority_key_identifier" | "serial_number" => {
-            Ok(Setting::Field(octets_setting_of(alloc, setter, value)?))
-        }
-        "key_usage" | "extended_key_usage" => {
-            Ok(Setting::Field(usage_of(alloc, setter, value)?))
-        }
-        "subject_alt_name" | "subject_alt_directory" | "issuer_alt_name" => {
-            Ok(Setting::Field(alt_name_of(alloc, setter, value)?))
-        }
+        "self_signed" | "issuer" => issuer_of(alloc, setter, value),
+        "issuer_cert" => issuer_cert_of(alloc, value),
+        "subject" => subject_of(alloc, value),
+        "subject_from_csr" => request_of(alloc, value),
+        "authority_key_identifier" | "serial_number" => octets_setting_of(alloc, setter, value),
+        "key_usage" => key_usage_of(alloc, value),
+        "extended_key_usage" => purposes_of(alloc, value),
+        "subject_alt_name" | "issuer_alt_name" => alt_name_of(alloc, setter, value),
+        "subject_alt_directory" => directory_of(alloc, value),
         _ => Ok(Setting::Plain(plain_of(setter, value)?)),
     }
 }
 
-fn issuer_of(alloc: Global, setter: &str, value: &str) -> Result<IssuerSetting> {
-    match setter {
-        "self_signed" => Ok(IssuerSetting::SelfSigned(name_of(alloc, value)?)),
-        "issuer" => Ok(IssuerSetting::Named(name_of(alloc, value)?)),
-        _ => Ok(IssuerSetting::Cert(certificate_of(alloc, value)?)),
-    }
+fn issuer_of(alloc: Global, setter: &str, value: &str) -> Result<Setting> {
+    let name = name_of(alloc, value)?;
+    Ok(Setting::Issuer(match setter {
+        "self_signed" => IssuerSetting::SelfSigned(name),
+        _ => IssuerSetting::Named(name),
+    }))
 }
 
-fn octets_setting_of(alloc: Global, setter: &str, value: &str) -> Result<FieldSetting> {
+fn issuer_cert_of(alloc: Global, value: &str) -> Result<Setting> {
+    Ok(Setting::Issuer(IssuerSetting::Cert(certificate_of(alloc, value)?)))
+}
+
+fn octets_setting_of(alloc: Global, setter: &str, value: &str) -> Result<Setting> {
     let octets = kept_of(alloc, value)?;
-    Ok(match setter {
+    Ok(Setting::Field(match setter {
         "serial_number" => FieldSetting::SerialNumber(octets),
         _ => FieldSetting::AuthorityKeyIdentifier(octets),
-    })
-}
-
-/// What a key may be used for.
-fn usage_of(alloc: Global, setter: &str, value: &str) -> Result<FieldSetting> {
-    match setter {
-        "key_usage" => key_usage_of(alloc, value),
-        _ => purposes_of(alloc, value),
-    }
+    }))
 }
 
 /// Other names of the subject or the issuer.
-fn alt_name_of(alloc: Global, setter: &str, value: &str) -> Result<FieldSetting> {
-    match setter {
-        "subject_alt_name" => Ok(FieldSetting::SubjectAltName(names_of(alloc, value)?)),
-        "subject_alt_directory" => directory_of(alloc, value),
-        _ => Ok(FieldSetting::IssuerAltName(names_of(alloc, value)?)),
-    }
+fn alt_name_of(alloc: Global, setter: &str, value: &str) -> Result<Setting> {
+    let names = names_of(alloc, value)?;
+    Ok(Setting::Field(match setter {
+        "subject_alt_name" => FieldSetting::SubjectAltName(names),
+        _ => FieldSetting::IssuerAltName(names),
+    }))
 }
 
 fn plain_of(setter: &str, value: &str) -> Result<PlainSetting> {
@@ -140,31 +131,35 @@ fn validity_of(value: &str) -> Result<PlainSetting> {
 }
 
 /// The name and the public key, a comma between.
-fn subject_of(alloc: Global, value: &str) -> Result<SubjectSetting> {
+fn subject_of(alloc: Global, value: &str) -> Result<Setting> {
     let (name, key) = two_of(value)?;
     let octets = octets_of(alloc, key)?;
     let name = name_of(alloc, name)?;
-    Ok(SubjectSetting::Named(name, PublicKey::from_der(alloc, &octets)?))
+    let key = PublicKey::from_der(alloc, &octets)?;
+    Ok(Setting::Subject(SubjectSetting::Named(name, key)))
 }
 
-fn request_of(alloc: Global, value: &str) -> Result<SubjectSetting> {
+fn request_of(alloc: Global, value: &str) -> Result<Setting> {
     let octets = octets_of(alloc, value)?;
-    Ok(SubjectSetting::Request(Csr::from_der(alloc, &octets)?))
+    Ok(Setting::Subject(SubjectSetting::Request(Csr::from_der(alloc, &octets)?)))
 }
 
-fn key_usage_of(alloc: Global, value: &str) -> Result<FieldSetting> {
-    Ok(FieldSetting::KeyUsage(KeyUsage::new(alloc, value.parse()?)?))
+fn key_usage_of(alloc: Global, value: &str) -> Result<Setting> {
+    let usage = KeyUsage::new(alloc, value.parse()?)?;
+    Ok(Setting::Field(FieldSetting::KeyUsage(usage)))
 }
 
-fn purposes_of(alloc: Global, value: &str) -> Result<FieldSetting> {
+fn purposes_of(alloc: Global, value: &str) -> Result<Setting> {
     let octets = octets_of(alloc, value)?;
-    Ok(FieldSetting::ExtendedKeyUsage(ExtendedKeyUsage::from_der(alloc, &octets)?))
+    let purposes = ExtendedKeyUsage::from_der(alloc, &octets)?;
+    Ok(Setting::Field(FieldSetting::ExtendedKeyUsage(purposes)))
 }
 
 /// One name of the directory.
-fn directory_of(alloc: Global, value: &str) -> Result<FieldSetting> {
+fn directory_of(alloc: Global, value: &str) -> Result<Setting> {
     let name = name_of(alloc, value)?;
-    Ok(FieldSetting::SubjectAltName(GeneralNames::new_directory_name(alloc, name)?))
+    let names = GeneralNames::new_directory_name(alloc, name)?;
+    Ok(Setting::Field(FieldSetting::SubjectAltName(names)))
 }
 
 impl Setting {
