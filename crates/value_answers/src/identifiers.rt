@@ -1,69 +1,69 @@
 //! Object identifiers, their table, and the attribute types among them.
 
-use crate::strings::shown_shape;
 use anyhow::Result;
 use asn1_types::oids::{self, KnownOid};
 use asn1_types::{ObjectIdentifier, TextError};
-use der_core::DerError;
-use row_answers::{octets_of, text_of, word_of};
-use std::alloc::{AllocError, Global};
+use row_answers::{Line, text_of};
+use std::alloc::Global;
 use x509_types::NameAttr;
 
-/// The answer to a call on identifiers, None where there is no such call.
-pub fn answer(alloc: Global, call: &str, word: &str) -> Result<Option<String>> {
-    let octets = octets_of(alloc, word)?;
-    let answer = match call {
-        "from_text" => from_text(alloc, text_of(&octets)?)?,
-        "from_content" => from_content(alloc, &octets)?,
-        "by_name" => known(alloc, oids::by_name(text_of(&octets)?))?,
-        "by_contents" => known(alloc, oids::by_contents(&octets))?,
-        "attribute" => attribute(alloc, &octets)?,
-        _ => return Ok(None),
-    };
-    Ok(Some(answer))
+/// The answer to a call on identifiers; false where there is no such call.
+pub fn print(alloc: Global, call: &str, octets: &[u8], line: &mut Line) -> Result<bool> {
+    match call {
+        "from_text" => print_contents(alloc, text_of(octets)?, line),
+        "from_content" => print_text(alloc, octets, line),
+        "by_name" => print_known(oids::by_name(text_of(octets)?), line),
+        "by_contents" => print_known(oids::by_contents(octets), line),
+        "attribute" => print_attribute(alloc, octets, line),
+        _ => return Ok(false),
+    }
+    Ok(true)
 }
 
 /// The contents octets of a text.
-fn from_text(alloc: Global, text: &str) -> Result<String, TextError> {
+fn print_contents(alloc: Global, text: &str, line: &mut Line) {
     match ObjectIdentifier::from_text(alloc, text) {
-        Ok(identifier) => Ok(word_of(alloc, identifier.as_bytes())?),
-        Err(TextError::BadText) => Ok(String::from_str(alloc, "BadText")?),
-        Err(error) => Err(error),
+        Ok(identifier) => line.octets(identifier.as_bytes()),
+        Err(TextError::BadText) => line.word("BadText"),
+        Err(error) => line.shown(&error),
     }
 }
 
 /// The text of contents octets.
-fn from_content(alloc: Global, contents: &[u8]) -> Result<String, DerError> {
+fn print_text(alloc: Global, contents: &[u8], line: &mut Line) {
     match ObjectIdentifier::from_content(alloc, contents) {
-        Ok(identifier) => Ok(identifier.to_text(alloc)?),
-        Err(error) => shown_shape(alloc, error),
+        Ok(identifier) => print_own_text(alloc, &identifier, line),
+        Err(error) => line.refused(error),
+    }
+}
+
+fn print_own_text(alloc: Global, identifier: &ObjectIdentifier, line: &mut Line) {
+    match identifier.to_text(alloc) {
+        Ok(text) => line.word(text.as_str()),
+        Err(error) => line.shown(&error),
     }
 }
 
 /// A row of the table.
-fn known(alloc: Global, found: Option<KnownOid>) -> Result<String, AllocError> {
+fn print_known(found: Option<KnownOid>, line: &mut Line) {
     match found {
-        Some(
-            KnownOid {
-                name,
-                text,
-                contents,
-            },
-        ) => {
-            let contents = word_of(alloc, contents)?;
-            format!(in alloc; "{name} {text} {contents}")
+        Some(known) => {
+            line.word(known.name);
+            line.word(known.text);
+            line.octets(known.contents);
         }
-        None => String::from_str(alloc, "none"),
+        None => line.word("none"),
     }
 }
 
 /// The attribute type of contents octets.
-fn attribute(alloc: Global, contents: &[u8]) -> Result<String, AllocError> {
-    match NameAttr::from_contents(contents) {
-        Some(attr) => {
-            let identifier = attr.to_oid(alloc)?;
-            format!(in alloc; "{attr:?} {identifier}")
-        }
-        None => String::from_str(alloc, "none"),
+fn print_attribute(alloc: Global, contents: &[u8], line: &mut Line) {
+    let Some(attr) = NameAttr::from_contents(contents) else {
+        return line.word("none");
+    };
+    line.named(&attr);
+    match attr.to_oid(alloc) {
+        Ok(identifier) => line.shown(&identifier),
+        Err(error) => line.shown(&error),
     }
 }

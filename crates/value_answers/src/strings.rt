@@ -2,85 +2,84 @@
 
 use anyhow::Result;
 use asn1_types::{BitString, CharSetError, Ia5String, IntegerAsn1};
-use der_core::DerError;
-use row_answers::{octets_of, text_of, word_of};
+use row_answers::{Line, text_of};
 use std::alloc::Global;
 
-/// The answer to a call on integers, bit strings and IA5 strings, None where there is no such call.
-pub fn answer(alloc: Global, call: &str, word: &str) -> Result<Option<String>> {
-    let octets = octets_of(alloc, word)?;
-    let answer = match call {
-        "integer" => integer(alloc, &octets),
-        "number" => number(alloc, &octets),
-        "bits" => bits(alloc, &octets),
-        "whole_bits" => whole_bits(alloc, &octets),
-        "ia5_content" => ia5_content(alloc, &octets),
-        "ia5_text" => return Ok(Some(ia5_text(alloc, text_of(&octets)?)?)),
-        _ => return Ok(None),
-    };
-    Ok(Some(answer?))
+/// The answer to a call on integers, bit strings and IA5 strings; false where there is no such call.
+pub fn print(alloc: Global, call: &str, octets: &[u8], line: &mut Line) -> Result<bool> {
+    match call {
+        "integer" => print_integer(alloc, octets, line),
+        "number" => print_number(alloc, octets, line),
+        "bits" => print_bits(alloc, octets, line),
+        "whole_bits" => print_whole_bits(alloc, octets, line),
+        "ia5_content" => print_ia5_content(alloc, octets, line),
+        "ia5_text" => print_ia5_text(alloc, text_of(octets)?, line),
+        _ => return Ok(false),
+    }
+    Ok(true)
 }
 
 /// The integer of contents octets.
-fn integer(alloc: Global, contents: &[u8]) -> Result<String, DerError> {
+fn print_integer(alloc: Global, contents: &[u8], line: &mut Line) {
     match IntegerAsn1::from_content(alloc, contents) {
-        Ok(integer) => shown_integer(alloc, &integer),
-        Err(error) => shown_shape(alloc, error),
+        Ok(integer) => print_octets_of(&integer, line),
+        Err(error) => line.refused(error),
     }
 }
 
 /// The integer of a number without a sign.
-fn number(alloc: Global, octets: &[u8]) -> Result<String, DerError> {
-    shown_integer(alloc, &IntegerAsn1::from_bytes_be_unsigned(alloc, octets)?)
+fn print_number(alloc: Global, octets: &[u8], line: &mut Line) {
+    match IntegerAsn1::from_bytes_be_unsigned(alloc, octets) {
+        Ok(integer) => print_octets_of(&integer, line),
+        Err(error) => line.shown(&error),
+    }
 }
 
-fn shown_integer(alloc: Global, integer: &IntegerAsn1) -> Result<String, DerError> {
-    let signed = word_of(alloc, integer.as_signed_bytes_be())?;
-    let unsigned = word_of(alloc, integer.as_unsigned_bytes_be())?;
-    Ok(format!(in alloc; "{signed} {unsigned}")?)
+/// The octets of an integer with a sign, and of one without.
+fn print_octets_of(integer: &IntegerAsn1, line: &mut Line) {
+    line.octets(integer.as_signed_bytes_be());
+    line.octets(integer.as_unsigned_bytes_be());
 }
 
 /// The bit string of contents octets.
-fn bits(alloc: Global, contents: &[u8]) -> Result<String, DerError> {
+fn print_bits(alloc: Global, contents: &[u8], line: &mut Line) {
     match BitString::from_content(alloc, contents) {
-        Ok(bits) => shown_bits(alloc, &bits),
-        Err(error) => shown_shape(alloc, error),
+        Ok(bits) => print_parts_of(alloc, &bits, line),
+        Err(error) => line.refused(error),
     }
 }
 
 /// The bit string of all bits of octets.
-fn whole_bits(alloc: Global, octets: &[u8]) -> Result<String, DerError> {
-    shown_bits(alloc, &BitString::with_bytes(alloc, octets)?)
+fn print_whole_bits(alloc: Global, octets: &[u8], line: &mut Line) {
+    match BitString::with_bytes(alloc, octets) {
+        Ok(bits) => print_parts_of(alloc, &bits, line),
+        Err(error) => line.shown(&error),
+    }
 }
 
-fn shown_bits(alloc: Global, bits: &BitString) -> Result<String, DerError> {
-    let unused = bits.unused();
-    let payload = word_of(alloc, bits.payload_view())?;
-    let content = word_of(alloc, bits.to_content(alloc)?.as_slice())?;
-    Ok(format!(in alloc; "{unused} {payload} {content}")?)
+/// How many bits of a bit string aren't used, its octets, and its contents octets.
+fn print_parts_of(alloc: Global, bits: &BitString, line: &mut Line) {
+    line.shown(&bits.unused());
+    line.octets(bits.payload_view());
+    match bits.to_content(alloc) {
+        Ok(contents) => line.octets(contents.as_slice()),
+        Err(error) => line.shown(&error),
+    }
 }
 
 /// The IA5String of contents octets.
-fn ia5_content(alloc: Global, contents: &[u8]) -> Result<String, DerError> {
+fn print_ia5_content(alloc: Global, contents: &[u8], line: &mut Line) {
     match Ia5String::from_content(alloc, contents) {
-        Ok(string) => Ok(word_of(alloc, string.as_str().as_bytes())?),
-        Err(error) => shown_shape(alloc, error),
+        Ok(string) => line.octets(string.as_str().as_bytes()),
+        Err(error) => line.refused(error),
     }
 }
 
 /// The IA5String of a text.
-fn ia5_text(alloc: Global, text: &str) -> Result<String, CharSetError> {
+fn print_ia5_text(alloc: Global, text: &str, line: &mut Line) {
     match Ia5String::from_string(alloc, text) {
-        Ok(string) => Ok(word_of(alloc, string.as_str().as_bytes())?),
-        Err(CharSetError::CharSet) => Ok(String::from_str(alloc, "CharSet")?),
-        Err(error) => Err(error),
-    }
-}
-
-/// A refusal of the shape; another error ends the run.
-pub fn shown_shape(alloc: Global, error: DerError) -> Result<String, DerError> {
-    match error {
-        DerError::Shape => Ok(String::from_str(alloc, "Shape")?),
-        error => Err(error),
+        Ok(string) => line.octets(string.as_str().as_bytes()),
+        Err(CharSetError::CharSet) => line.word("CharSet"),
+        Err(error) => line.shown(&error),
     }
 }
