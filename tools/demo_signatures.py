@@ -73,7 +73,7 @@ def signature_of(name, key, message=MESSAGE):
 def rows():
     """The lines of the table."""
     yield "#[rattlefmt::skip]"
-    yield f"pub(crate) const SIGNED: [DemoRow; {len(ALGORITHMS)}] = ["
+    yield f"const SIGNED: [DemoRow; {len(ALGORITHMS)}] = ["
     for variant, name, kind in ALGORITHMS:
         key = key_of(kind)
         yield (f'    (SigAlg::{variant}, "{secret_of(kind).hex()}", "{key.hex()}", '

@@ -1,7 +1,8 @@
 //! Names and kinds of the algorithms of signatures.
 
 use crate::rows::{KEY, MSG, SIG, joined};
-use sig_core::{Scheme as _, SchemeKind, SigAlg, Verdict, VerdictTable};
+use sig_core::{Scheme as _, SchemeKind, SigAlg, TableError, Verdict, VerdictTable};
+use std::alloc::Global;
 use std::test::Fail;
 
 /// The names of the algorithms and the kinds of their keys.
@@ -20,18 +21,30 @@ const ALGORITHMS: [(SigAlg, &str, SchemeKind); 10] = [
 
 #[test]
 fn names_and_kinds(rt: HostRuntime) -> Result<(), Fail> {
-    assert_eq!(rt; SigAlg::ALL.len(), ALGORITHMS.len());
-    for (alg, name, kind) in ALGORITHMS {
-        assert!(rt; SigAlg::ALL.contains(&alg), "{name}");
-        assert_eq!(rt; alg.name().as_bytes(), name.as_bytes());
-        assert_eq!(rt; SigAlg::from_name(name.as_bytes()), Some(alg), "{name}");
-        assert_eq!(rt; alg.kind(), kind, "{name}");
-        let text = joined(rt.alloc(), &[name, " ", KEY, " ", MSG, " ", SIG, "\n"])?;
-        let table = VerdictTable::parse(rt.alloc(), text.as_bytes())?;
-        let verdict = table.verify(rt.alloc(), alg, b"key", b"message", b"signature")?;
-        assert_eq!(rt; verdict, Verdict::Accept, "{name}");
+    assert!(rt; SigAlg::ALL.len() == ALGORITHMS.len());
+    for (alg, name, kind) in &ALGORITHMS {
+        assert!(rt; SigAlg::ALL.contains(alg), "{name}");
+        assert!(rt; alg.name().as_bytes() == name.as_bytes());
+        assert!(rt; SigAlg::from_name(name.as_bytes()) == Some(*alg), "{name}");
+        assert!(rt; alg.kind() == *kind, "{name}");
     }
     Ok(())
+}
+
+#[test]
+fn names_in_tables(rt: HostRuntime) -> Result<(), Fail> {
+    for (alg, name, _) in &ALGORITHMS {
+        assert!(rt; stands_in_a_table(rt.alloc(), *alg, name)?, "{name}");
+    }
+    Ok(())
+}
+
+/// Whether a row with the name accepts a signature by the algorithm.
+fn stands_in_a_table(alloc: Global, alg: SigAlg, name: &str) -> Result<bool, TableError> {
+    let text = joined(alloc, &[name, " ", KEY, " ", MSG, " ", SIG, "\n"])?;
+    let table = VerdictTable::parse(alloc, text.as_bytes())?;
+    let verdict = table.verify(alloc, alg, b"key", b"message", b"signature")?;
+    Ok(verdict == Verdict::Accept)
 }
 
 /// Texts that are no algorithm's name.
@@ -39,8 +52,8 @@ const NO_NAMES: [&str; 6] = ["", "rsa", "rsa-sha25", "rsa-sha256 ", "RSA-SHA256"
 
 #[test]
 fn other_names(rt: HostRuntime) -> Result<(), Fail> {
-    for name in NO_NAMES {
-        assert_eq!(rt; SigAlg::from_name(name.as_bytes()), None, "{name}");
+    for name in &NO_NAMES {
+        assert!(rt; SigAlg::from_name(name.as_bytes()).is_none(), "{name}");
     }
     Ok(())
 }

@@ -2,7 +2,7 @@
 
 ghost use Rattle.std.specs.Prelude.{◌≡◌, IfOk};
 
-use crate::demo_rows::SIGNED;
+use crate::demo_rows::{DemoRow, signed};
 use sig_core::{DemoScheme, Scheme, SchemeError, SchemeKind, SigAlg, Verdict};
 use std::alloc::Global;
 use std::test::Fail;
@@ -22,31 +22,51 @@ fn own_verdict<S: Scheme>(
     Ok(scheme.verify(alloc, alg, &key, msg, &sig)?)
 }
 
-/// Whether the scheme gives this key and this signature of `message`.
-fn makes<S: Scheme>(
+/// Whether the scheme gives the key and the signature of a row, and accepts what it signs.
+fn makes<S: Scheme>(alloc: Global, scheme: &S, row: &DemoRow) -> Result<bool, Fail> {
+    let (alg, secret, key, sig) = row;
+    let secret = hex::decode(alloc, secret)?;
+    Ok(
+        gives_key(alloc, scheme, alg.kind(), &secret, key)?
+            && signs(alloc, scheme, *alg, &secret, sig)?
+            && own_verdict(alloc, scheme, *alg, &secret, b"message")? == Verdict::Accept,
+    )
+}
+
+/// Whether the scheme gives this key.
+fn gives_key<S: Scheme>(
+    alloc: Global,
+    scheme: &S,
+    kind: SchemeKind,
+    secret: &[u8],
+    key: &str,
+) -> Result<bool, Fail> {
+    let made = scheme.public_of(alloc, kind, secret)?;
+    Ok(hex::encode(alloc, made.as_slice())?.as_str() == key)
+}
+
+/// Whether the scheme gives this signature of `message`.
+fn signs<S: Scheme>(
     alloc: Global,
     scheme: &S,
     alg: SigAlg,
     secret: &[u8],
-    key: &[u8],
-    sig: &[u8],
-) -> Result<bool, SchemeError> {
-    let made_key = scheme.public_of(alloc, alg.kind(), secret)?;
+    sig: &str,
+) -> Result<bool, Fail> {
     let made = scheme.sign(alloc, alg, secret, b"message")?;
-    Ok(made_key.as_slice() == key && made.as_slice() == sig)
+    Ok(hex::encode(alloc, made.as_slice())?.as_str() == sig)
 }
 
 #[test]
 fn signatures(rt: HostRuntime) -> Result<(), Fail> {
-    assert_eq!(rt; SIGNED.len(), SigAlg::ALL.len());
-    for (alg, secret, key, sig) in SIGNED {
-        let secret = hex::decode(rt.alloc(), secret)?;
-        let key = hex::decode(rt.alloc(), key)?;
-        let sig = hex::decode(rt.alloc(), sig)?;
-        let made = makes(rt.alloc(), &DemoScheme::new(), alg, &secret, &key, &sig)?;
-        assert!(rt; made, "{}", alg.name());
-        let verdict = own_verdict(rt.alloc(), &DemoScheme::new(), alg, &secret, b"message")?;
-        assert_eq!(rt; verdict, Verdict::Accept, "{}", alg.name());
+    let rows = signed();
+    assert!(rt; rows.len() == SigAlg::ALL.len());
+    for row in &rows {
+        assert!(rt;
+            makes(rt.alloc(), &DemoScheme::new(), row)?,
+            "{}",
+            row.0.name()
+        );
     }
     Ok(())
 }
@@ -69,13 +89,26 @@ const VERDICTS: [(&str, SigAlg, &str, &[u8], &str, Verdict); 8] = [
 
 #[test]
 fn verdicts(rt: HostRuntime) -> Result<(), Fail> {
-    for (why, alg, key, msg, sig, want) in VERDICTS {
-        let key = hex::decode(rt.alloc(), key)?;
-        let sig = hex::decode(rt.alloc(), sig)?;
-        let verdict = DemoScheme::new().verify(rt.alloc(), alg, &key, msg, &sig)?;
-        assert_eq!(rt; verdict, want, "{why}");
+    for (why, alg, key, msg, sig, want) in &VERDICTS {
+        assert!(rt;
+            verdict_on(rt.alloc(), *alg, key, msg, sig)? == *want,
+            "{why}"
+        );
     }
     Ok(())
+}
+
+/// What the scheme says of a signature.
+fn verdict_on(
+    alloc: Global,
+    alg: SigAlg,
+    key: &str,
+    msg: &[u8],
+    sig: &str,
+) -> Result<Verdict, Fail> {
+    let key = hex::decode(alloc, key)?;
+    let sig = hex::decode(alloc, sig)?;
+    Ok(DemoScheme::new().verify(alloc, alg, &key, msg, &sig)?)
 }
 
 /// Secrets that have no key.
@@ -103,24 +136,32 @@ const REFUSED: [(&str, SchemeKind, &str); 18] = [
 
 #[test]
 fn secrets_without_keys(rt: HostRuntime) -> Result<(), Fail> {
-    for (why, kind, secret) in REFUSED {
-        let secret = hex::decode(rt.alloc(), secret)?;
-        let key = DemoScheme::new().public_of(rt.alloc(), kind, &secret);
-        assert_eq!(rt; key.err(), Some(SchemeError::Refused), "{why}");
+    for (why, kind, secret) in &REFUSED {
+        assert!(rt; has_no_key(rt.alloc(), *kind, secret)?, "{why}");
     }
     let signature = DemoScheme::new().sign(rt.alloc(), SigAlg::RsaMd5, b"secret", b"message");
-    assert_eq!(rt; signature.err(), Some(SchemeError::Refused));
+    assert!(rt; signature.err() == Some(SchemeError::Refused));
     Ok(())
+}
+
+/// Whether the scheme refuses to give the key of a secret.
+fn has_no_key(alloc: Global, kind: SchemeKind, secret: &str) -> Result<bool, Fail> {
+    let secret = hex::decode(alloc, secret)?;
+    let key = DemoScheme::new().public_of(alloc, kind, &secret);
+    Ok(key.err() == Some(SchemeError::Refused))
 }
 
 #[test]
 fn keys_of_x25519(rt: HostRuntime) -> Result<(), Fail> {
-    for (alg, secret, key, _) in SIGNED {
-        if alg == SigAlg::Ed25519 {
-            let secret = hex::decode(rt.alloc(), secret)?;
-            let made = DemoScheme::new().public_of(rt.alloc(), SchemeKind::X25519, &secret)?;
-            assert_eq!(rt; hex::encode(rt.alloc(), made.as_slice())?.as_str(), key);
-        }
+    for row in &signed() {
+        assert!(rt; row.0 != SigAlg::Ed25519 || gives_agreement_key(rt.alloc(), row)?);
     }
     Ok(())
+}
+
+/// Whether the secret of a row has the same key on the curve for agreement.
+fn gives_agreement_key(alloc: Global, row: &DemoRow) -> Result<bool, Fail> {
+    let (_, secret, key, _) = row;
+    let secret = hex::decode(alloc, secret)?;
+    gives_key(alloc, &DemoScheme::new(), SchemeKind::X25519, &secret, key)
 }

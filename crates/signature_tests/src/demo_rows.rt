@@ -6,8 +6,12 @@ use sig_core::SigAlg;
 pub(crate) type DemoRow = (SigAlg, &'static str, &'static str, &'static str);
 
 /// A row for each algorithm.
+pub(crate) fn signed() -> [DemoRow; 10] {
+    SIGNED
+}
+
 #[rattlefmt::skip]
-pub(crate) const SIGNED: [DemoRow; 10] = [
+const SIGNED: [DemoRow; 10] = [
     (SigAlg::RsaMd5, "301b02010002011102010302010502010702010b020101020102020104", "3006020111020103", "5c69f70592b775f1e8d44adc5428076469cdf88b0353e47c7ca2d967c897d7b7"),
     (SigAlg::RsaSha1, "301b02010002011102010302010502010702010b020101020102020104", "3006020111020103", "c432ef5c6758276de143146cfb5e1048d37cc6418f6e0ca2247c0dbc6d30d54f"),
     (SigAlg::RsaSha224, "301b02010002011102010302010502010702010b020101020102020104", "3006020111020103", "07cd74509cf2ef123fbeed39ac10fa4b093d559ad0bc3f467e8d29a6b8807672"),

@@ -1,6 +1,7 @@
 //! Digests from RFC 1321 and FIPS 180-4.
 
 use sig_core::HashAlgorithm;
+use std::alloc::{AllocError, Global};
 use std::test::Fail;
 
 /// The digests of `abc` as RFC 1321 and FIPS 180-4 have them, and `openssl dgst` prints them.
@@ -16,13 +17,17 @@ const DIGESTS: [(HashAlgorithm, &str); 6] = [
 
 #[test]
 fn digests(rt: HostRuntime) -> Result<(), Fail> {
-    assert_eq!(rt; HashAlgorithm::ALL.len(), DIGESTS.len());
-    for (algorithm, want) in DIGESTS {
-        assert!(rt; HashAlgorithm::ALL.contains(&algorithm), "{want}");
-        let digest = algorithm.digest(rt.alloc(), b"abc")?;
-        let digits = hex::encode(rt.alloc(), digest.as_slice())?;
-        assert_eq!(rt; digits.as_str(), want);
-        assert_eq!(rt; digest.len(), algorithm.output_size(), "{want}");
+    assert!(rt; HashAlgorithm::ALL.len() == DIGESTS.len());
+    for (algorithm, want) in &DIGESTS {
+        assert!(rt; HashAlgorithm::ALL.contains(algorithm), "{want}");
+        assert!(rt; gives(rt.alloc(), *algorithm, want)?, "{want}");
     }
     Ok(())
+}
+
+/// Whether this is the digest of `abc`, and as long as the algorithm's digests are.
+fn gives(alloc: Global, algorithm: HashAlgorithm, want: &str) -> Result<bool, AllocError> {
+    let digest = algorithm.digest(alloc, b"abc")?;
+    let digits = hex::encode(alloc, digest.as_slice())?;
+    Ok(digits.as_str() == want && digest.len() == algorithm.output_size())
 }

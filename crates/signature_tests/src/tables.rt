@@ -2,6 +2,7 @@
 
 use crate::rows::{KEY, MSG, ROW, SIG, joined};
 use sig_core::{TableError, VerdictTable};
+use std::alloc::{AllocError, Global};
 use std::test::Fail;
 
 /// Texts in pieces, and the first bad line.
@@ -37,24 +38,28 @@ const TABLES: [(&str, &[&str], Option<u64>); 26] = [
 
 #[test]
 fn tables(rt: HostRuntime) -> Result<(), Fail> {
-    for (why, pieces, bad_line) in TABLES {
-        let text = joined(rt.alloc(), pieces)?;
-        let got = match VerdictTable::parse(rt.alloc(), text.as_bytes()) {
-            Ok(_) => None,
-            Err(TableError::BadLine { number }) => Some(number),
-            Err(TableError::Memory) => return Err(Fail::from("memory")),
-        };
-        assert_eq!(rt; got, bad_line, "{why}");
+    for (why, pieces, bad_line) in &TABLES {
+        assert!(rt; bad_line_of(rt.alloc(), pieces)? == *bad_line, "{why}");
     }
     Ok(())
+}
+
+/// The first bad line of a text in pieces.
+fn bad_line_of(alloc: Global, pieces: &[&str]) -> Result<Option<u64>, AllocError> {
+    let text = joined(alloc, pieces)?;
+    match VerdictTable::parse(alloc, text.as_bytes()) {
+        Ok(_) => Ok(None),
+        Err(TableError::BadLine { number }) => Ok(Some(number)),
+        Err(TableError::Memory) => Err(AllocError),
+    }
 }
 
 #[test]
 fn texts_of_errors(rt: HostRuntime) -> Result<(), Fail> {
     let bad = format!(in rt.alloc(); "{}", TableError::BadLine { number: 3 })?;
-    assert_eq!(rt; bad.as_str(), "line 3 of the verdict table is not a row");
+    assert!(rt; bad.as_str() == "line 3 of the verdict table is not a row");
     let memory = format!(in rt.alloc(); "{}", TableError::Memory)?;
-    assert_eq!(rt; memory.as_str(), "out of memory");
+    assert!(rt; memory.as_str() == "out of memory");
     Ok(())
 }
 
@@ -69,18 +74,36 @@ const APART: [&[&str]; 5] = [
 ];
 
 #[test]
-fn rows_and_equality(rt: HostRuntime) -> Result<(), Fail> {
+fn rows(rt: HostRuntime) -> Result<(), Fail> {
+    for pieces in &APART {
+        assert!(rt; has_its_rows(rt.alloc(), pieces)?);
+    }
+    Ok(())
+}
+
+/// Whether a table has as many rows as its text has lines, and its copy is equal to it.
+fn has_its_rows(alloc: Global, pieces: &[&str]) -> Result<bool, TableError> {
+    let text = joined(alloc, pieces)?;
+    let table = VerdictTable::parse(alloc, text.as_bytes())?;
+    let copy = table.try_clone(alloc)?;
+    let rows = text.lines().count();
+    Ok(table.len() == rows && table.is_empty() == (rows == 0) && copy == table)
+}
+
+#[test]
+fn equality(rt: HostRuntime) -> Result<(), Fail> {
     for (place, pieces) in APART.iter().enumerate() {
-        let text = joined(rt.alloc(), pieces)?;
-        let table = VerdictTable::parse(rt.alloc(), text.as_bytes())?;
-        assert_eq!(rt; table.len(), text.lines().count());
-        assert_eq!(rt; table.is_empty(), text.is_empty());
-        assert!(rt; table.try_clone(rt.alloc())? == table);
-        for (other, pieces) in APART.iter().enumerate() {
-            let other_text = joined(rt.alloc(), pieces)?;
-            let other_table = VerdictTable::parse(rt.alloc(), other_text.as_bytes())?;
-            assert_eq!(rt; table == other_table, place == other);
+        for (other, others) in APART.iter().enumerate() {
+            assert!(rt; are_equal(rt.alloc(), pieces, others)? == (place == other));
         }
     }
     Ok(())
+}
+
+/// Whether the tables of two texts are equal.
+fn are_equal(alloc: Global, one: &[&str], other: &[&str]) -> Result<bool, TableError> {
+    let (one, other) = (joined(alloc, one)?, joined(alloc, other)?);
+    let one = VerdictTable::parse(alloc, one.as_bytes())?;
+    let other = VerdictTable::parse(alloc, other.as_bytes())?;
+    Ok(one == other)
 }

@@ -4,6 +4,7 @@ use asn1_types::ObjectIdentifier;
 use sig_core::{
     HashAlgorithm, ShaVariant, UnsupportedAlgorithmError, UnsupportedHashAlgorithmError,
 };
+use std::alloc::{AllocError, Global};
 use std::test::Fail;
 
 /// The identifiers as RFC 8017 appendix B.1 has them.
@@ -19,15 +20,20 @@ const VARIANTS: [(ShaVariant, HashAlgorithm, &str); 6] = [
 
 #[test]
 fn identifiers(rt: HostRuntime) -> Result<(), Fail> {
-    assert_eq!(rt; ShaVariant::ALL.len(), VARIANTS.len());
-    for (variant, _, text) in VARIANTS {
-        assert!(rt; ShaVariant::ALL.contains(&variant), "{text}");
-        let oid = variant.to_oid(rt.alloc())?;
-        assert_eq!(rt; oid.to_text(rt.alloc())?.as_str(), text);
-        assert_eq!(rt; ShaVariant::from_oid(&oid), Ok(variant), "{text}");
-        assert_eq!(rt; variant.oid_contents(), oid.as_bytes(), "{text}");
+    assert!(rt; ShaVariant::ALL.len() == VARIANTS.len());
+    for (variant, _, text) in &VARIANTS {
+        assert!(rt; ShaVariant::ALL.contains(variant), "{text}");
+        assert!(rt; is_identified(rt.alloc(), *variant, text)?, "{text}");
     }
     Ok(())
+}
+
+/// Whether the algorithm and the identifier of this text lead to each other.
+fn is_identified(alloc: Global, variant: ShaVariant, text: &str) -> Result<bool, AllocError> {
+    let oid = variant.to_oid(alloc)?;
+    let is_found = ShaVariant::from_oid(&oid) == Ok(variant);
+    let is_lent = variant.oid_contents() == oid.as_bytes();
+    Ok(is_found && is_lent && oid.to_text(alloc)?.as_str() == text)
 }
 
 /// Identifiers of no digest algorithm here: SHA-512/256, an arc less, an arc more, a signature.
@@ -41,11 +47,10 @@ const NO_VARIANTS: [&str; 5] = [
 
 #[test]
 fn other_identifiers(rt: HostRuntime) -> Result<(), Fail> {
-    for text in NO_VARIANTS {
+    for text in &NO_VARIANTS {
         let oid = ObjectIdentifier::from_text(rt.alloc(), text)?;
-        assert_eq!(rt;
-            ShaVariant::from_oid(&oid),
-            Err(UnsupportedAlgorithmError),
+        assert!(rt;
+            ShaVariant::from_oid(&oid) == Err(UnsupportedAlgorithmError),
             "{text}"
         );
     }
@@ -54,17 +59,21 @@ fn other_identifiers(rt: HostRuntime) -> Result<(), Fail> {
 
 #[test]
 fn conversions(rt: HostRuntime) -> Result<(), Fail> {
-    for (variant, hash, text) in VARIANTS {
-        let refused = UnsupportedHashAlgorithmError { algorithm: hash };
-        if hash == HashAlgorithm::SHA2_224 {
-            assert_eq!(rt; ShaVariant::try_from(hash), Err(refused), "{text}");
-            assert_eq!(rt; HashAlgorithm::try_from(variant), Err(refused), "{text}");
-        } else {
-            assert_eq!(rt; ShaVariant::try_from(hash), Ok(variant), "{text}");
-            assert_eq!(rt; HashAlgorithm::try_from(variant), Ok(hash), "{text}");
-        }
+    for (variant, hash, text) in &VARIANTS {
+        assert!(rt; converts(*variant, *hash), "{text}");
     }
     Ok(())
+}
+
+/// Whether both are converted into each other, or neither, as SHA-224 alone is not.
+fn converts(variant: ShaVariant, hash: HashAlgorithm) -> bool {
+    let refused = UnsupportedHashAlgorithmError { algorithm: hash };
+    let (to, from) = (ShaVariant::try_from(hash), HashAlgorithm::try_from(variant));
+    if hash == HashAlgorithm::SHA2_224 {
+        to == Err(refused) && from == Err(refused)
+    } else {
+        to == Ok(variant) && from == Ok(hash)
+    }
 }
 
 #[test]
@@ -73,9 +82,8 @@ fn texts_of_errors(rt: HostRuntime) -> Result<(), Fail> {
         algorithm: HashAlgorithm::SHA2_224,
     };
     let told = format!(in rt.alloc(); "{refused}; {}", UnsupportedAlgorithmError)?;
-    assert_eq!(rt;
-        told.as_str(),
-        "digests by SHA-224 are not supported; the identifier names no supported digest algorithm"
-    );
+    let want =
+        "digests by SHA-224 are not supported; the identifier names no supported digest algorithm";
+    assert!(rt; told.as_str() == want);
     Ok(())
 }

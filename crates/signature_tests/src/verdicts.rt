@@ -18,18 +18,23 @@ const VERDICTS: [(&str, SigAlg, &[u8], &[u8], &[u8], Verdict); 7] = [
 
 #[test]
 fn verdicts(rt: HostRuntime) -> Result<(), Fail> {
-    let parsed = VerdictTable::parse(rt.alloc(), ROW.as_bytes())?;
-    let copy = parsed.try_clone(rt.alloc())?;
-    for (why, alg, key, msg, sig, want) in VERDICTS {
-        assert_eq!(rt;
-            parsed.verify(rt.alloc(), alg, key, msg, sig)?,
-            want,
+    let table = VerdictTable::parse(rt.alloc(), ROW.as_bytes())?;
+    for (why, alg, key, msg, sig, want) in &VERDICTS {
+        assert!(rt;
+            table.verify(rt.alloc(), *alg, key, msg, sig)? == *want,
             "{why}"
         );
-        assert_eq!(rt;
-            copy.verify(rt.alloc(), alg, key, msg, sig)?,
-            want,
-            "{why}, of the copy"
+    }
+    Ok(())
+}
+
+#[test]
+fn verdicts_of_a_copy(rt: HostRuntime) -> Result<(), Fail> {
+    let table = VerdictTable::parse(rt.alloc(), ROW.as_bytes())?.try_clone(rt.alloc())?;
+    for (why, alg, key, msg, sig, want) in &VERDICTS {
+        assert!(rt;
+            table.verify(rt.alloc(), *alg, key, msg, sig)? == *want,
+            "{why}"
         );
     }
     Ok(())
@@ -39,13 +44,15 @@ fn verdicts(rt: HostRuntime) -> Result<(), Fail> {
 fn no_signatures_and_no_keys(rt: HostRuntime) -> Result<(), Fail> {
     let table = VerdictTable::parse(rt.alloc(), ROW.as_bytes())?;
     let signature = table.sign(rt.alloc(), SigAlg::RsaSha256, b"secret", b"message");
-    assert_eq!(rt; signature.err(), Some(SchemeError::Refused));
+    assert!(rt; signature.err() == Some(SchemeError::Refused));
     let key = table.public_of(rt.alloc(), SchemeKind::Rsa, b"secret");
-    assert_eq!(rt; key.err(), Some(SchemeError::Refused));
+    assert!(rt; key.err() == Some(SchemeError::Refused));
+    Ok(())
+}
+
+#[test]
+fn texts_of_errors(rt: HostRuntime) -> Result<(), Fail> {
     let told = format!(in rt.alloc(); "{}; {}", SchemeError::Refused, SchemeError::Memory)?;
-    assert_eq!(rt;
-        told.as_str(),
-        "the signature scheme refused; out of memory"
-    );
+    assert!(rt; told.as_str() == "the signature scheme refused; out of memory");
     Ok(())
 }
