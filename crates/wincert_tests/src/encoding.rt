@@ -1,7 +1,8 @@
 //! What is written for a certificate.
 
+use std::alloc::Global;
 use std::test::Fail;
-use wincert_core::{CertificateType, RevisionType, WinCertificate};
+use wincert_core::{CertificateType, RevisionType, WinCertificate, WinCertificateError};
 
 /// A certificate, its type and its length with the header, and what is written.
 struct Encoded {
@@ -25,20 +26,25 @@ fn encoding(rt: HostRuntime) -> Result<(), Fail> {
     for row in &ENCODED {
         let certificate = hex::decode(rt.alloc(), row.certificate)?;
         let octets = hex::decode(rt.alloc(), row.octets)?;
-        let made = WinCertificate::from_certificate(
-            rt.alloc(),
-            &certificate,
-            row.certificate_type,
-        )?;
-        assert_eq!(rt; made.length(), row.length);
-        assert_eq!(rt; made.revision(), RevisionType::WinCertificateRevision20);
-        assert_eq!(rt; made.get_certificate(), certificate.as_slice());
-        let written = made.encode(rt.alloc())?;
-        assert_eq!(rt; written.as_slice(), octets.as_slice());
-        let read = WinCertificate::decode(rt.alloc(), &written)?;
-        assert_eq!(rt; Some(read.get_certificate()), octets.get(8..));
-        let again = read.encode(rt.alloc())?;
-        assert_eq!(rt; again.as_slice(), octets.as_slice());
+        let kind = row.certificate_type;
+        let made = WinCertificate::from_certificate(rt.alloc(), &certificate, kind)?;
+        assert!(rt; made.length() == row.length);
+        assert!(rt; made.revision() == RevisionType::WinCertificateRevision20);
+        assert!(rt; made.get_certificate() == certificate.as_slice());
+        assert!(rt; is_written(rt.alloc(), made, &octets)?);
     }
     Ok(())
+}
+
+/// Whether these octets are written, read as the certificate with its padding, and written again.
+fn is_written(
+    alloc: Global,
+    made: WinCertificate,
+    octets: &[u8],
+) -> Result<bool, WinCertificateError> {
+    let written = made.encode(alloc)?;
+    let read = WinCertificate::decode(alloc, &written)?;
+    let has_padding = Some(read.get_certificate()) == octets.get(8..);
+    let again = read.encode(alloc)?;
+    Ok(has_padding && written.as_slice() == octets && again.as_slice() == octets)
 }

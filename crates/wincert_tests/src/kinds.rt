@@ -1,5 +1,6 @@
 //! Numbers of revisions and types, and values that differ in one part alone.
 
+use std::alloc::Global;
 use std::test::Fail;
 use wincert_core::{CertificateType, RevisionType, WinCertificate, WinCertificateError};
 
@@ -17,27 +18,27 @@ const TYPES: [(CertificateType, u16); 4] = [
 
 #[test]
 fn revisions(rt: HostRuntime) -> Result<(), Fail> {
-    assert_eq!(rt; RevisionType::ALL.len(), REVISIONS.len());
-    for (revision, number) in REVISIONS {
-        assert!(rt; RevisionType::ALL.contains(&revision));
-        assert_eq!(rt; RevisionType::try_from(number), Ok(revision));
-        assert_eq!(rt; revision.number(), number);
+    assert!(rt; RevisionType::ALL.len() == REVISIONS.len());
+    for (revision, number) in &REVISIONS {
+        assert!(rt; RevisionType::ALL.contains(revision));
+        assert!(rt; RevisionType::try_from(*number) == Ok(*revision));
+        assert!(rt; revision.number() == *number);
     }
     let wrong = WinCertificateError::WrongRevisionValue { got: 0x0001 };
-    assert_eq!(rt; RevisionType::try_from(0x0001), Err(wrong));
+    assert!(rt; RevisionType::try_from(0x0001) == Err(wrong));
     Ok(())
 }
 
 #[test]
 fn types(rt: HostRuntime) -> Result<(), Fail> {
-    assert_eq!(rt; CertificateType::ALL.len(), TYPES.len());
-    for (kind, number) in TYPES {
-        assert!(rt; CertificateType::ALL.contains(&kind));
-        assert_eq!(rt; CertificateType::try_from(number), Ok(kind));
-        assert_eq!(rt; kind.number(), number);
+    assert!(rt; CertificateType::ALL.len() == TYPES.len());
+    for (kind, number) in &TYPES {
+        assert!(rt; CertificateType::ALL.contains(kind));
+        assert!(rt; CertificateType::try_from(*number) == Ok(*kind));
+        assert!(rt; kind.number() == *number);
     }
     let wrong = WinCertificateError::WrongCertificateType { got: 4 };
-    assert_eq!(rt; CertificateType::try_from(4), Err(wrong));
+    assert!(rt; CertificateType::try_from(4) == Err(wrong));
     Ok(())
 }
 
@@ -53,11 +54,16 @@ const APART: [&str; 5] = [
 #[test]
 fn equality(rt: HostRuntime) -> Result<(), Fail> {
     for (place, digits) in APART.iter().enumerate() {
-        let one = WinCertificate::decode(rt.alloc(), &hex::decode(rt.alloc(), *digits)?)?;
-        for (other, digits) in APART.iter().enumerate() {
-            let another = WinCertificate::decode(rt.alloc(), &hex::decode(rt.alloc(), *digits)?)?;
-            assert_eq!(rt; one == another, place == other);
+        for (other, others) in APART.iter().enumerate() {
+            assert!(rt; are_equal(rt.alloc(), *digits, *others)? == (place == other));
         }
     }
     Ok(())
+}
+
+/// Whether what two texts of digits hold is equal.
+fn are_equal(alloc: Global, one: &str, other: &str) -> Result<bool, Fail> {
+    let one = WinCertificate::decode(alloc, &hex::decode(alloc, one)?)?;
+    let other = WinCertificate::decode(alloc, &hex::decode(alloc, other)?)?;
+    Ok(one == other)
 }
