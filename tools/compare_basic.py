@@ -108,9 +108,9 @@ def digest_within(file):
         return None
 
 
-def case(chance, element, file_hash):
-    """A file, the digest that is asked for and a table; None where the element can't be written."""
-    for _ in range(chance.choice((1, 1, 2, 3))):
+def changed(chance, element, changes):
+    """A file of an element with so many changes; None where it can't be written or is too long."""
+    for _ in range(changes):
         element = mutation(chance, element)
     try:
         file = signature_file(write(element))
@@ -118,47 +118,63 @@ def case(chance, element, file_hash):
         return None
     if len(file) > LONGEST:
         return None
-    if chance.random() < 0.2:
-        file = with_octet(file, chance.randrange(len(file)), chance.randrange(256))
+    return with_octet(file, chance.randrange(len(file)), chance.randrange(256)) if chance.random() < 0.2 else file
+
+
+def case(chance, element, file_hash):
+    """A file, the digest that is asked for and a table; None where there is no such file."""
+    file = changed(chance, element, chance.choice((1, 1, 2, 3)))
+    if file is None:
+        return None
     within = digest_within(file) if chance.random() < 0.7 else None
     return file, file_hash if within is None else within, accepting_row(file)
 
 
-def cases(seed, count):
-    chance, known = random.Random(seed), list(bases())
+def cases(seed, count, known, make):
+    """So many cases, each made of one that is known."""
+    chance, known = random.Random(seed), list(known)
     found = []
     while len(found) < count:
-        made = case(chance, *chance.choice(known))
+        made = make(chance, *chance.choice(known))
         if made:
             found.append(made)
     return found
 
 
-def printed(program, made):
-    """The lines that the program prints of the cases."""
+def printed(program, rows):
+    """The lines that the program prints of rows of words."""
     with tempfile.TemporaryDirectory() as folder:
         file = Path(folder, "cases.txt")
-        lines = (" ".join(map(word, (octets, file_hash, table.encode()))) for octets, file_hash, table in made)
-        file.write_text("".join(f"{line}\n" for line in lines), encoding="ascii")
+        file.write_text("".join(f"{' '.join(row)}\n" for row in rows), encoding="ascii")
         return subprocess.run([program, file], check=True, stdout=subprocess.PIPE).stdout.decode().splitlines()
 
 
-def main():
-    parser = argparse.ArgumentParser(description="Basic validation beside a judge in Python.")
-    parser.add_argument("--seed", type=int, default=1)
-    parser.add_argument("--count", type=int, default=6000)
-    parser.add_argument("program", type=Path, help="path of basic_answers")
-    options = parser.parse_args()
-    made = cases(options.seed, options.count)
-    answers = [basic_judge.answer(*one) for one in made]
-    lines = printed(options.program.resolve(), made)
-    unlike = [(one, said, line) for one, said, line in zip(made, answers, lines) if said != line]
-    for (octets, _, _), said, line in unlike[:10]:
-        print(f"{octets.hex()}: {line!r}, not {said!r}")
-    for name, many in Counter(said.split()[0] for said in answers).most_common():
+def compare(program, rows, answers, kind):
+    """Compares what the program prints of rows with the answers, and counts these by their kinds: 0 where none differs."""
+    lines = printed(program.resolve(), rows)
+    unlike = [(row, said, line) for row, said, line in zip(rows, answers, lines) if said != line]
+    for row, said, line in unlike[:10]:
+        print(f"{' '.join(row)}: {line!r}, not {said!r}")
+    for name, many in Counter(map(kind, answers)).most_common():
         print(f"{many:7} {name}")
-    print(f"signature files: {len(made) - len(unlike)} as the judge says, {len(unlike)} not")
+    print(f"signature files: {len(rows) - len(unlike)} as the judge says, {len(unlike)} not")
     return 1 if unlike or len(lines) != len(answers) else 0
+
+
+def options(description, count, program):
+    """The words of the command line."""
+    parser = argparse.ArgumentParser(description=description)
+    parser.add_argument("--seed", type=int, default=1)
+    parser.add_argument("--count", type=int, default=count)
+    parser.add_argument("program", type=Path, help=f"path of {program}")
+    return parser.parse_args()
+
+
+def main():
+    words = options("Basic validation beside a judge in Python.", 6000, "basic_answers")
+    made = cases(words.seed, words.count, bases(), case)
+    rows = [(word(octets), word(file_hash), word(table.encode())) for octets, file_hash, table in made]
+    return compare(words.program, rows, [basic_judge.answer(*one) for one in made], lambda said: said.split()[0])
 
 
 if __name__ == "__main__":

@@ -753,8 +753,14 @@ class CompareCheckTest(unittest.TestCase):
 
     def compared(self, judge):
         """The status and the last line of a comparison with a judge in the place of the program."""
-        lines = lambda _, made: [judge(*one) for one in made]
-        with patch("sys.argv", ["", "--count", "50", "program"]), patch("compare_check.printed", lines), patch("builtins.print") as printed:
+        made = []
+
+        def cases(*words):
+            made.extend(compare_basic.cases(*words))
+            return made
+
+        lines = lambda _, rows: [judge(*one) for one in made]
+        with patch("sys.argv", ["", "--count", "50", "program"]), patch("compare_check.cases", cases), patch("compare_basic.printed", lines), patch("builtins.print") as printed:
             return compare_check.main(), printed.call_args.args[0]
 
     def test_the_judge(self):
