@@ -22,14 +22,12 @@ of certificates alone, are those of `made_signatures`.
 import sys
 
 import made_signatures
-from cms_reader import pkcs7
-from der_reader import Constructed, Malformed, Primitive, encoding, read_exact
+from der_reader import Constructed, Primitive, encoding, read_exact
 from first_path import (
     SHA256, SIGNED_DATA, algorithm, context, element, identifier, integer, name, octet_string, sequence, set_of,
 )
-from path_answers import A, B, BY_A, CASES as PATH_CASES, S, answer as places, around, signed_data, signer, with_members
+from path_answers import A, B, BY_A, CASES as PATH_CASES, S, answer as places, around, read_fields, signed_data, signer, with_members
 from stored_run import write_stored_run
-from value_reader import Shape
 from world_signatures import stored
 
 SPC_INDIRECT_DATA = "1.3.6.1.4.1.311.2.1.4"
@@ -159,12 +157,9 @@ def count(signers, tag):
 
 def answer(octets):
     """What is answered to signed data."""
-    try:
-        whole = read_exact(octets)
-        pkcs7(whole)
-    except (Malformed, Shape):
+    parts = read_fields(octets)
+    if parts is None:
         return "no signed data"
-    parts = whole.kids[1].kids[0].kids
     signers = parts[-1].kids
     return f"{places(octets)} hash={file_hash(parts[2])} signed={count(signers, 0xA0)} unsigned={count(signers, 0xA1)}"
 

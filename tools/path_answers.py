@@ -123,14 +123,21 @@ def walk(bag, subject, start):
     return [] if place is None else [place, *walk(bag, bag[place][1], place + 1)]
 
 
-def answer(octets):
-    """What is answered to signed data."""
+def read_fields(octets):
+    """The fields of signed data; None where the octets are none."""
     try:
         whole = read_exact(octets)
         pkcs7(whole)
     except (Malformed, Shape):
+        return None
+    return whole.kids[1].kids[0].kids
+
+
+def answer(octets):
+    """What is answered to signed data."""
+    parts = read_fields(octets)
+    if parts is None:
         return "no signed data"
-    parts = whole.kids[1].kids[0].kids
     bag = [fields(member) for part in parts if part.tag == 0xA0 for member in part.kids if is_certificate(member)]
     signers = parts[-1].kids
     sid = signers[0].kids[1] if signers else None
