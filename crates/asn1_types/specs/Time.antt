@@ -27,22 +27,27 @@ utc_contents utc =
     let t = utc.time in
     two_digits (t.year % 100) ++ from_month t.month t.day t.hour t.minute t.second
 
--- The fields of a time.
+-- The year of a time.
 abbrev pub year_of : GeneralizedTime → ℕ
 year_of t = t.year
 
+-- The month, 1 to 12.
 abbrev pub month_of : GeneralizedTime → ℕ
 month_of t = t.month
 
+-- The day of the month, from 1 on.
 abbrev pub day_of : GeneralizedTime → ℕ
 day_of t = t.day
 
+-- The hour, 0 to 23.
 abbrev pub hour_of : GeneralizedTime → ℕ
 hour_of t = t.hour
 
+-- The minute, 0 to 59.
 abbrev pub minute_of : GeneralizedTime → ℕ
 minute_of t = t.minute
 
+-- The second, 0 to 59.
 abbrev pub second_of : GeneralizedTime → ℕ
 second_of t = t.second
 

@@ -17,17 +17,17 @@ abbrev pub told_of_content : AuthenticodeError → CheckError
 told_of_content contents.Memory = Memory
 told_of_content e = Authenticode e
 
--- an error of certificates, of signatures, of an encoding, of a text: want of memory is told as such
+-- the error for one of certificates; want of memory is told as such, here and below
 abbrev pub of_certificates : CertError → AuthenticodeError
 of_certificates certs.Memory = contents.Memory
 of_certificates e = contents.CertError e
 
--- the error for one of a key or its algorithm
+-- the error for one of signatures
 abbrev pub of_signatures : SignatureError → AuthenticodeError
 of_signatures signatures.Memory = contents.Memory
 of_signatures e = contents.SignatureError e
 
--- the error for one of DER
+-- the error for one of an encoding
 abbrev pub of_der : DerError → AuthenticodeError
 of_der der.Memory = contents.Memory
 of_der e = contents.Asn1DerError e

@@ -11,12 +11,12 @@ abbrev pub signed_data_refusal : CertError → Pkcs7Error
 signed_data_refusal certs.Memory = pkcs7.Memory
 signed_data_refusal e = pkcs7.Cert e
 
--- the error for one of a certificate
+-- the error of a stamp for one of certificates; want of memory is told as such
 abbrev pub stamp_refusal : CertError → TimestampError
 stamp_refusal certs.Memory = stamps.Memory
 stamp_refusal e = stamps.Asn1DerError e
 
--- the error for one of signed data
+-- the error of a stamp for one of signed data; want of memory is told as such
 abbrev pub token_refusal : Pkcs7Error → TimestampError
 token_refusal pkcs7.Memory = stamps.Memory
 token_refusal e = stamps.Pkcs7Error e

@@ -45,7 +45,8 @@ fn unread(source: DerError) -> CheckError
 }
 
 /// The element that octets are, with the zeros after it that align a WIN_CERTIFICATE: at most seven
-/// (PE format, "The Attribute Certificate Table"). It takes no memory.
+/// (PE format, "The Attribute Certificate Table"). Else the first fault, or `Trailing` at the first
+/// octet after the element. It takes no memory.
 pub fn padded_element(octets: &[u8]) -> Result<Elem<'_>, Malformed>
     ensures { MatchResult result
         (λ elem. IsPaddedEncoding octets.now elem.is.0)

@@ -8,12 +8,12 @@ use Rattle.authenticode_core.specs.declared.error.AuthenticodeError.TheVariants 
 use Rattle.authenticode_values.specs.declared.builder_error.AuthenticodeSignatureBuilderError.{AuthenticodeSignatureBuilderError}
 use Rattle.authenticode_values.specs.declared.builder_error.AuthenticodeSignatureBuilderError.TheVariants as errors
 
--- an error of signatures, of an encoding: want of memory is told as such
+-- the error for one of Authenticode signatures; want of memory is told as such
 abbrev pub builder_refusal : AuthenticodeError → AuthenticodeSignatureBuilderError
 builder_refusal signatures.Memory = errors.Memory
 builder_refusal e = errors.AuthenticodeError e
 
--- the error for an element that is not written
+-- the error for one of an encoding; want of memory is told as such
 abbrev pub unwritten_in_builder : DerError → AuthenticodeSignatureBuilderError
 unwritten_in_builder der.Memory = errors.Memory
 unwritten_in_builder e = errors.Asn1DerError e

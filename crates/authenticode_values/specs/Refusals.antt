@@ -17,7 +17,7 @@ unread der.Shape = errors.Cert (certs.Asn1Deserialization structures.Pkcs7 der.S
 unread der.TooDeep = errors.Cert (certs.Asn1Deserialization structures.Pkcs7 der.TooDeep)
 unread der.TooLong = errors.Cert (certs.Asn1Deserialization structures.Pkcs7 der.TooLong)
 
--- the error for signed data that is not written
+-- the same of signed data that can't be written
 abbrev pub unwritten : DerError → Pkcs7Error
 unwritten der.Memory = errors.Memory
 unwritten (der.Malformed m) = errors.Cert (certs.Asn1Serialization structures.Pkcs7 (der.Malformed m))
@@ -25,16 +25,16 @@ unwritten der.Shape = errors.Cert (certs.Asn1Serialization structures.Pkcs7 der.
 unwritten der.TooDeep = errors.Cert (certs.Asn1Serialization structures.Pkcs7 der.TooDeep)
 unwritten der.TooLong = errors.Cert (certs.Asn1Serialization structures.Pkcs7 der.TooLong)
 
--- an error of signed data as one of signatures
+-- an error of signed data as one of Authenticode signatures
 abbrev pub of_signed_data : Pkcs7Error → AuthenticodeError
 of_signed_data (errors.Cert e) = authenticode.CertError e
 of_signed_data errors.Memory = authenticode.Memory
 
--- the error tells of octets, or of a value, that are refused for this cause
+-- the error tells of octets that aren't read, for a cause that refuses them
 abbrev pub IsUnread : (DerError → Type 0) → Pkcs7Error → Type 0
 IsUnread Refuses e = (source : DerError) × (e ≡ unread source) × Refuses source
 
--- the error is that of signed data, for a refusal of the writer
+-- the error tells of signed data that isn't written, for a cause that refuses it
 abbrev pub IsUnwritten : (DerError → Type 0) → Pkcs7Error → Type 0
 IsUnwritten Refuses e = (source : DerError) × (e ≡ unwritten source) × Refuses source
 

@@ -30,7 +30,7 @@ OfOption holds (Some element) = holds element
 abbrev pub IsConstructed : ℕ → DerElement → Type 0
 IsConstructed tag element = (kids : List DerElement) × (element ≡ Constructed tag (row kids))
 
--- the elements of the fields
+-- the element is that of a version
 abbrev pub IsVersion : DerElement → CmsVersion → Type 0
 IsVersion element value = element ≡ cms_version value
 

@@ -15,18 +15,18 @@ use Rattle.cms_types.specs.declared.signed_data_parts.SignedPart.{SignedPart}
 use Rattle.cms_types.specs.declared.signer_info.SignerInfo.{SignerInfo}
 use Rattle.cms_types.specs.declared.version.CmsVersion.{CmsVersion}
 
--- Each element spells the field of the part that it stands for.
+-- Each element spells the field of the first part.
 pub record AreSigned (f : SignedDataElements) (part : SignedPart) : Type 0 where
   pub digest_algorithms : IsListOf 0x31 IsAlgorithm f.digest_algorithms part.digest_algorithms
   pub content_info : IsContentInfo f.content_info part.content_info
   pub signers_infos : IsListOf 0x31 (λ (element : DerElement) (signer : SignerInfo). element ≡ signer_info signer) f.signers_infos part.signers_infos
 
--- the fields of the certificates and of the revocation lists
+-- Each element spells the field of the second part.
 pub record AreCarried (f : SignedDataElements) (part : CarriedPart) : Type 0 where
   pub certificates : SpellsOption (IsListOf 0xA0 (λ (element : DerElement) (choice : CertificateChoices). element ≡ certificate_choice choice)) f.certificates part.certificates
   pub crls : SpellsOption (IsListOf 0xA1 (λ (element : DerElement) (kept : KeptElement). element ≡ kept.element)) f.crls part.crls
 
--- the parts of signed data
+-- the first part of signed data
 abbrev pub signed_of : SignedData → SignedPart
 signed_of value = record { digest_algorithms = value.digest_algorithms; content_info = value.content_info; signers_infos = value.signers_infos }
 

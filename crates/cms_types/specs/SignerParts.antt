@@ -14,19 +14,19 @@ use Rattle.cms_types.specs.declared.signer_parts.SignedBy.{SignedBy}
 use Rattle.cms_types.specs.declared.unsigned_attribute.UnsignedAttribute.{UnsignedAttribute}
 use Rattle.cms_types.specs.declared.version.CmsVersion.{CmsVersion}
 
--- Each element spells the field of the part that it stands for.
+-- Each element spells the field of the first part.
 pub record IsSignedBy (f : SignerElements) (part : SignedBy) : Type 0 where
   pub sid : IsSignerIdentifier f.sid part.sid
   pub digest_algorithm : IsAlgorithm f.digest_algorithm part.digest_algorithm
   pub signature_algorithm : IsAlgorithm f.signature_algorithm part.signature_algorithm
 
--- the fields of the second part
+-- Each element spells the field of the second part.
 pub record AreSignatureFields (f : SignerElements) (part : SignatureFields) : Type 0 where
   pub signed_attrs : SpellsOption (λ (element : DerElement) (value : SignedAttributes). element ≡ signed_attributes value) f.signed_attrs part.signed_attrs
   pub signature : IsOctets f.signature part.signature
   pub unsigned_attrs : SpellsOption (IsListOf 0xA1 (λ (element : DerElement) (value : UnsignedAttribute). element ≡ unsigned_attribute value)) f.unsigned_attrs part.unsigned_attrs
 
--- the parts of a signer
+-- the first part of a signer
 abbrev pub signed_by : SignerInfo → SignedBy
 signed_by signer = record { sid = signer.sid; digest_algorithm = signer.digest_algorithm; signature_algorithm = signer.signature_algorithm }
 

@@ -36,7 +36,7 @@ IsNothing all = all ≡ []
 
 -- ---- the fields
 
--- an INTEGER, of any contents
+-- an INTEGER, in one octet at least (X.690 8.3.1)
 abbrev pub IsInteger : DerElement → Type 0
 IsInteger = Fits (λ (element : DerElement) (value : IntegerAsn1). element ≡ integer value)
 
@@ -44,7 +44,7 @@ IsInteger = Fits (λ (element : DerElement) (value : IntegerAsn1). element ≡ i
 abbrev pub IsString : DerElement → Type 0
 IsString = Fits (λ (element : DerElement) (octets : List ℕ). element ≡ octet_string octets)
 
--- purposes
+-- a SEQUENCE of purposes
 abbrev pub IsUsage : DerElement → Type 0
 IsUsage = Fits ArePurposes
 

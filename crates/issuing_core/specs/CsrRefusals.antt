@@ -18,7 +18,7 @@ unread_csr element der.Shape = errors.Asn1Deserialization element der.Shape
 unread_csr element der.TooDeep = errors.Asn1Deserialization element der.TooDeep
 unread_csr element der.TooLong = errors.Asn1Deserialization element der.TooLong
 
--- the error for an element that is not written
+-- the same of an element that can't be written
 abbrev pub unwritten_csr : Element → DerError → CsrError
 unwritten_csr element der.Memory = errors.Memory
 unwritten_csr element (der.Malformed m) = errors.Asn1Serialization element (der.Malformed m)
@@ -26,12 +26,12 @@ unwritten_csr element der.Shape = errors.Asn1Serialization element der.Shape
 unwritten_csr element der.TooDeep = errors.Asn1Serialization element der.TooDeep
 unwritten_csr element der.TooLong = errors.Asn1Serialization element der.TooLong
 
--- and so of a signature, and of a public key
+-- the error for one of a signature; want of memory is told as such
 abbrev pub unsigned : SignatureError → CsrError
 unsigned signature.Memory = errors.Memory
 unsigned source = errors.Signature source
 
--- the error for one of a key
+-- the error for that of a private key without a public one; want of memory is told as such
 abbrev pub keyless : KeyError → CsrError
 keyless key.Memory = errors.Memory
 keyless source = errors.PrivateKeyToPublicKey source
@@ -40,14 +40,14 @@ keyless source = errors.PrivateKeyToPublicKey source
 abbrev pub IsUnreadCsr : Element → (DerError → Type 0) → CsrError → Type 0
 IsUnreadCsr element Refuses e = (source : DerError) × (e ≡ unread_csr element source) × Refuses source
 
--- the error is that of an element, for a refusal of the writer
+-- The error tells of this structure, for a cause that refuses to write it.
 abbrev pub IsUnwrittenCsr : Element → (DerError → Type 0) → CsrError → Type 0
 IsUnwrittenCsr element Refuses e = (source : DerError) × (e ≡ unwritten_csr element source) × Refuses source
 
--- The error tells of a signature, or of a public key, for a cause that refuses it.
+-- The error tells of a signature, for a cause that refuses it.
 abbrev pub IsUnsigned : (SignatureError → Type 0) → CsrError → Type 0
 IsUnsigned Refuses e = (source : SignatureError) × (e ≡ unsigned source) × Refuses source
 
--- the error is that of a key, for a refusal of one
+-- The error tells of a private key, for a cause that refuses its public one.
 abbrev pub IsKeyless : (KeyError → Type 0) → CsrError → Type 0
 IsKeyless Refuses e = (source : KeyError) × (e ≡ keyless source) × Refuses source

@@ -8,7 +8,7 @@ use Rattle.key_core.specs.PrivateKeyValue.{private_kind}
 use Rattle.key_core.specs.PrivateKeyFields.{HaveTag}
 use Rattle.key_core.specs.declared.private_key_value.PrivateKeyValue.{PrivateKeyValue}
 
--- algorithm, key and attributes agree with one another
+-- The algorithm is one for keys of the kind of the key, and the attributes stand under their tag.
 pub record Agree (algorithm : AlgorithmIdentifier) (key : PrivateKeyValue) (attributes : Option KeptElement) : Type 0 where
   -- the algorithm names keys of the kind that the key is
   pub named : Names algorithm (private_kind key)

@@ -73,7 +73,7 @@ IsPointOf derives known secret (Some read) public_key = public_key ≡ Some read
 IsPointOf derives (Some curve) secret None public_key = IsDerived derives (curve_kind curve) (field_size curve) secret public_key
 IsPointOf derives None secret None public_key = public_key ≡ None
 
--- why no point is kept: none was read, and the curve is known and derives none
+-- why no point is kept: none was read, the curve is known, and the secret has another length or the scheme gives no key for it
 abbrev pub RefusesPoint : Derivation → Option EcCurve → List ℕ → Option BitString → KeyContext → Type 0
 RefusesPoint derives known secret (Some read) context = ⊥
 RefusesPoint derives (Some curve) secret None context = RefusesDerived derives (curve_kind curve) (field_size curve) secret context
@@ -84,7 +84,7 @@ abbrev pub IsEdKeyOf : Derivation → Option EdAlgorithm → List ℕ → Option
 IsEdKeyOf derives (Some algorithm) secret public_key = IsDerived derives (ed_kind algorithm) 32 secret public_key
 IsEdKeyOf derives None secret public_key = public_key ≡ None
 
--- why no public key is kept: the curve is known and derives none
+-- why no public key is kept: the algorithm is known, and the secret has another length or the scheme gives no key for it
 abbrev pub RefusesEdKey : Derivation → Option EdAlgorithm → List ℕ → KeyContext → Type 0
 RefusesEdKey derives (Some algorithm) secret context = RefusesDerived derives (ed_kind algorithm) 32 secret context
 RefusesEdKey derives None secret context = ⊥

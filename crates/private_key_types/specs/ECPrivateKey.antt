@@ -16,6 +16,7 @@ abbrev pub ec_private_key_of : (private_key : DerElement) (parameters public_key
 ec_private_key_of private_key parameters public_key =
     sequence (ec_version ∷ private_key ∷ (optional_explicit 0xA0 parameters ++ optional_explicit 0xA1 public_key))
 
+-- the element of a key
 abbrev pub ec_private_key : ECPrivateKey → DerElement
 ec_private_key key =
     ec_private_key_of

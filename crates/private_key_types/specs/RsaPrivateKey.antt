@@ -15,6 +15,7 @@ abbrev pub rsa_private_key_of : (n e d p q dp dq qinv : DerElement) → DerEleme
 rsa_private_key_of n e d p q dp dq qinv =
     sequence (two_prime ∷ n ∷ e ∷ d ∷ p ∷ q ∷ dp ∷ dq ∷ qinv ∷ [])
 
+-- the element of a key
 abbrev pub rsa_private_key : RsaPrivateKey → DerElement
 rsa_private_key key =
     rsa_private_key_of

@@ -5,7 +5,7 @@ use sig_core::SigAlg;
 /// An algorithm, a secret, its key, and the signature of `message`, in hexadecimal.
 pub(crate) type DemoRow = (SigAlg, &'static str, &'static str, &'static str);
 
-/// A row for each algorithm.
+/// A row for each algorithm. The table stands in this function alone, so that it is proved once.
 pub(crate) fn signed() -> [DemoRow; 10] {
     SIGNED
 }

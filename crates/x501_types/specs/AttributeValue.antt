@@ -5,6 +5,7 @@ use Rattle.x501_types.specs.DirectoryString.{directory_string}
 use Rattle.x501_types.specs.declared.attribute_value.AttributeValue.{AttributeValue}
 use Rattle.x501_types.specs.declared.attribute_value.AttributeValue.TheVariants as values
 
+-- the element of a value
 abbrev pub attribute_value : AttributeValue → DerElement
 attribute_value (values.DirectoryString string) = directory_string string
 attribute_value (values.Ia5String string) = ia5_string string

@@ -19,6 +19,7 @@ string_octets (strings.PrintableString octets) = octets
 string_octets (strings.TeletexString octets) = octets
 string_octets (strings.BmpString octets) = octets
 
+-- the element of a string
 abbrev pub directory_string : DirectoryString → DerElement
 directory_string string = Primitive (string_tag string) (string_octets string)
 

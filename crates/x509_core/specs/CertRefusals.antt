@@ -14,7 +14,7 @@ unread element der.Shape = errors.Asn1Deserialization element der.Shape
 unread element der.TooDeep = errors.Asn1Deserialization element der.TooDeep
 unread element der.TooLong = errors.Asn1Deserialization element der.TooLong
 
--- the error for an element that is not written
+-- the same of an element that can't be written
 abbrev pub unwritten : Element → DerError → CertError
 unwritten element der.Memory = errors.Memory
 unwritten element (der.Malformed m) = errors.Asn1Serialization element (der.Malformed m)
@@ -26,6 +26,6 @@ unwritten element der.TooLong = errors.Asn1Serialization element der.TooLong
 abbrev pub IsUnread : Element → (DerError → Type 0) → CertError → Type 0
 IsUnread element Refuses e = (source : DerError) × (e ≡ unread element source) × Refuses source
 
--- the error is that of an element, for a refusal of the writer
+-- The error tells of this structure, for a cause that refuses to write it.
 abbrev pub IsUnwritten : Element → (DerError → Type 0) → CertError → Type 0
 IsUnwritten element Refuses e = (source : DerError) × (e ≡ unwritten element source) × Refuses source

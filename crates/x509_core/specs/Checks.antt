@@ -17,7 +17,7 @@ checks_of date not_before not_after chain root = record {
 abbrev pub first_checks : ChainChecks
 first_checks = checks_of dates.Absent true true true true
 
--- each with one part changed
+-- the checks at these dates
 abbrev pub checks_at : DateCheck → ChainChecks → ChainChecks
 checks_at date checks = checks_of date checks.window.not_before checks.window.not_after checks.chain checks.root
 

@@ -39,12 +39,12 @@ argument_text arguments.IssuerInfos = codes "issuer_infos"
 argument_text arguments.AuthorityKeyIdentifier = codes "authority_key_identifier"
 argument_text arguments.SubjectInfos = codes "subject_infos"
 
--- the two moments of a validity that hasn't begun, or has ended
+-- that a certificate isn't valid yet, with its begin and the time that it is checked at
 abbrev pub not_yet_valid_text : GeneralizedTime → GeneralizedTime → List ℕ
 not_yet_valid_text not_before now =
     codes "certificate is not yet valid (not before: " ++ time_text not_before ++ codes ", now: " ++ time_text now ++ codes ")"
 
--- that a certificate has expired, with its end and the time that is asked of
+-- that a certificate has expired, with its end and the time that it is checked at
 abbrev pub expired_text : GeneralizedTime → GeneralizedTime → List ℕ
 expired_text not_after now =
     codes "certificate expired (not after: " ++ time_text not_after ++ codes ", now: " ++ time_text now ++ codes ")"

@@ -21,18 +21,18 @@ bits_of (Some (Primitive tag [])) = None
 bits_of (Some (Primitive tag (unused ∷ octets))) = Some octets
 bits_of (Some (Constructed tag kids)) = None
 
--- the two times of Validity (RFC 5280 4.1.2.5)
+-- the begin of the validity (RFC 5280 4.1.2.5)
 abbrev pub not_before_of : CertificateElements → Option DerElement
 not_before_of f = kid 0 f.tbs.validity
 
--- the end of the validity
+-- the end of the validity (RFC 5280 4.1.2.5)
 abbrev pub not_after_of : CertificateElements → Option DerElement
 not_after_of f = kid 1 f.tbs.validity
 
--- the algorithm of SubjectPublicKeyInfo, and the octets that hold the bits of its key (RFC 5280 4.1.2.7)
+-- the algorithm of SubjectPublicKeyInfo (RFC 5280 4.1.2.7)
 abbrev pub key_algorithm_of : CertificateElements → Option DerElement
 key_algorithm_of f = kid 0 f.tbs.subject_public_key_info
 
--- the octets in the key's bits
+-- the octets that hold the bits of the key (RFC 5280 4.1.2.7)
 abbrev pub key_octets_of : CertificateElements → Option (List ℕ)
 key_octets_of f = bits_of (kid 1 f.tbs.subject_public_key_info)

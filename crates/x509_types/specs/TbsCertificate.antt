@@ -18,19 +18,19 @@ use Rattle.x509_types.specs.declared.extension.Extension.{Extension}
 use Rattle.x509_types.specs.declared.tbs_certificate.TbsCertificate.{TbsCertificate}
 use Rattle.x509_types.specs.declared.version.Version.{Version}
 
--- Version ::= INTEGER; Extensions ::= SEQUENCE SIZE (1..MAX) OF Extension: an empty one is read, too
+-- Version ::= INTEGER
 abbrev pub IsVersion : DerElement → Version → Type 0
 IsVersion element value = element ≡ version value
 
--- the element is a SEQUENCE of extensions
+-- Extensions ::= SEQUENCE SIZE (1..MAX) OF Extension: an empty one is read, too
 abbrev pub IsExtensions : DerElement → List Extension → Type 0
 IsExtensions = IsListOf 0x30 IsExtension
 
--- the element that is written for extensions, and those that are written into strings of them
+-- the element that is written for extensions
 abbrev pub extensions : List Extension → DerElement
 extensions = list_element 0x30 extension
 
--- the elements inside the values of extensions
+-- the elements that are written into strings of extensions
 abbrev pub inner_extensions : List Extension → List DerElement
 inner_extensions = flat_map (λ e. inner_value e.extn_value)
 

@@ -5,5 +5,6 @@ use Rattle.der_core.specs.Each.{list_element}
 use Rattle.asn1_types.specs.Elements.{object_identifier}
 use Rattle.x509_values.specs.declared.extended_key_usage.ExtendedKeyUsage.{ExtendedKeyUsage}
 
+-- the element of a usage
 abbrev pub extended_key_usage : ExtendedKeyUsage → DerElement
 extended_key_usage usage = list_element 0x30 object_identifier usage.purposes

@@ -67,7 +67,8 @@ fn next_length(kids: &mut Kids<'_>) -> Option<Option<u8>>
     Some(Some(small_integer_at(elem)?))
 }
 
-/// The number of an INTEGER from 0 to 255 in its shortest contents (X.690 8.3.2).
+/// The number of an INTEGER from 0 to 255 in its shortest contents (X.690 8.3.2); None of any other
+/// element.
 pub fn small_integer_at(elem: Elem<'_>) -> Option<u8>
     ensures { MatchOption result
         ((number : ℕ) → elem.entry.is.0 ≢ small_integer number)
