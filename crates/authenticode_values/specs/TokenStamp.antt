@@ -6,8 +6,8 @@ use Rattle.der_core.specs.declared.error.DerError.{DerError}
 use Rattle.der_core.specs.declared.error.DerError.TheVariants as der
 use Rattle.key_core.specs.declared.element.Element.TheVariants as structures
 use Rattle.x509_core.specs.CertRefusals.{unwritten}
-use Rattle.cms_types.specs.Members.{elements_of_kept}
 use Rattle.cms_types.specs.SignerInfo.{signer_info}
+use Rattle.cms_types.specs.UnsignedAttribute.{signer_values}
 use Rattle.cms_types.specs.declared.certificate_choices.CertificateChoices.{CertificateChoices}
 use Rattle.cms_types.specs.declared.signed_data.SignedData.{SignedData}
 use Rattle.cms_types.specs.declared.signer_info.SignerInfo.{SignerInfo}
@@ -42,7 +42,7 @@ pub record CountersignsBy (signers : List SignerInfo) (attribute : UnsignedAttri
   pub first : signers ≡ signer ∷ others
   pub values : SignerValues
   pub is : attribute ≡ attributes.CounterSign values
-  pub held : elements_of_kept values.items ≡ signer_info signer ∷ []
+  pub held : signer_values values ≡ signer_info signer ∷ []
 
 -- The signers are these, but that the first of them has a counter-signature more by the first of the countersigners.
 pub record AreStamped (countersigners before after : List SignerInfo) : Type 0 where

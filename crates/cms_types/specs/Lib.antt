@@ -25,7 +25,6 @@ pub mod SignerParts
 pub mod SignedData
 pub mod SignedDataParts
 pub mod Pkcs7
-pub mod Lending
 pub mod SignedView
 pub mod SignerView
 pub mod Facts

@@ -4,7 +4,7 @@ ghost use Rattle.cms_types.specs.Lent.{signed_data_at};
 ghost use Rattle.cms_types.specs.Levels.{AreSignedDataFields};
 ghost use Rattle.cms_types.specs.SignedDataElements.{signed_data_of};
 ghost use Rattle.cms_types.specs.Signers.{IsSignedData};
-ghost use Rattle.cms_types.specs.Lending.{LendsKids};
+ghost use Rattle.der_core.specs.Lending.{LendsKids};
 ghost use Rattle.std.specs.Prelude.{◌≡◌};
 ghost use Rattle.der_core.specs.DerElement.{tag_of};
 ghost use Rattle.der_core.specs.Encoding.{form_bit};
@@ -30,7 +30,7 @@ impl<'a> SignedView<'a> {
     ghost use Rattle.content_types.specs.ContentInfoElements.{content_info_of};
     ghost use Rattle.cms_types.specs.Pkcs7.{pkcs7};
     ghost use Rattle.cms_types.specs.SignedView.{view_elements, IsSignedView};
-    ghost use Rattle.cms_types.specs.Lending.{LendsMembers};
+    ghost use Rattle.der_core.specs.Lending.{LendsMembers};
     ghost use Rattle.cms_types.specs.declared.pkcs7.Pkcs7Certificate.{Pkcs7Certificate};
 
     /// The signed data that an element spells.

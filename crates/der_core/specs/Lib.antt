@@ -16,5 +16,6 @@ pub mod Default
 pub mod Optional
 pub mod Each
 pub mod Lent
+pub mod Lending
 pub mod Equality
 pub mod Facts

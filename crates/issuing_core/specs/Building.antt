@@ -8,12 +8,12 @@ use Rattle.asn1_types.specs.Values.{payload_of, unused_of}
 use Rattle.key_types.specs.declared.algorithm.AlgorithmIdentifier.{AlgorithmIdentifier}
 use Rattle.key_types.specs.declared.key_info.SubjectPublicKeyInfo.{SubjectPublicKeyInfo}
 use Rattle.key_core.specs.KeyIdentifier.{RefusesKeyIdentifier}
+use Rattle.key_core.specs.Keys.{container_of, point_beside}
 use Rattle.key_core.specs.PublicHalf.{RefusesPublicHalf}
 use Rattle.key_core.specs.SignatureAlgorithm.{IsWrittenAlgorithm, IsUnwritable}
 use Rattle.key_core.specs.SignatureRules.{RefusesBy}
 use Rattle.key_core.specs.Signing.{Signs, Pair, IsAsked, IsKeyPair, sign_rules}
 use Rattle.key_core.specs.Verifying.{Judge, Accepts}
-use Rattle.key_core.specs.Keys.{container_of, point_beside}
 use Rattle.key_core.specs.declared.element.Element.TheVariants as elements
 use Rattle.key_core.specs.declared.private_key.PrivateKey.{PrivateKey}
 use Rattle.key_core.specs.declared.signature_algorithm.SignatureAlgorithm.{SignatureAlgorithm}
@@ -144,7 +144,7 @@ module _ (judge : Judge) (signs : Signs) (pair : Pair) (algorithm : SignatureAlg
   abbrev pub signing_steps : List (Step CertError)
   signing_steps = octets_step ∷ signature_step ∷ whole_step ∷ []
 
--- the steps by which a certificate is built
+-- the steps behind the times and the issuer, which are given; none where there is no issuer
 abbrev pub steps_by : Judge → Signs → Pair → CertificateBuilder → ℕ → Option IssuerInfos → List (Step CertError)
 steps_by judge signs pair b word None = []
 steps_by judge signs pair b word (Some issuer) =

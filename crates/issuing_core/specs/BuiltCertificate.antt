@@ -7,13 +7,13 @@ use Rattle.asn1_types.specs.declared.integer.IntegerAsn1.{IntegerAsn1}
 use Rattle.key_types.specs.declared.algorithm.AlgorithmIdentifier.{AlgorithmIdentifier}
 use Rattle.key_types.specs.declared.key_info.SubjectPublicKeyInfo.{SubjectPublicKeyInfo}
 use Rattle.key_core.specs.KeyIdentifier.{IsKeyIdentifier}
+use Rattle.key_core.specs.Keys.{container_of, info_of, point_beside}
 use Rattle.key_core.specs.PublicHalf.{IsPublicHalf}
 use Rattle.key_core.specs.SignatureAlgorithm.{IsWrittenAlgorithm}
 use Rattle.key_core.specs.Verifying.{Judge}
-use Rattle.key_core.specs.Keys.{container_of, info_of, point_beside}
 use Rattle.key_core.specs.declared.private_key.PrivateKey.{PrivateKey}
-use Rattle.names_core.specs.UtcDate.{IsTimeOf}
 use Rattle.names_core.specs.Names.{sets_of}
+use Rattle.names_core.specs.UtcDate.{IsTimeOf}
 use Rattle.x501_types.specs.declared.attribute.AttributeTypeAndValue.{AttributeTypeAndValue}
 use Rattle.x509_types.specs.declared.extension.Extension.{Extension}
 use Rattle.x509_types.specs.declared.tbs_certificate.TbsCertificate.{TbsCertificate}
@@ -48,11 +48,11 @@ IsGivenSubject judge (Some (subjects.Request csr)) name key =
 
 -- They are those of the subject: of the issuer where it signs its own key, else the given ones, and the key of the issuer is identified.
 abbrev pub IsSubjectBy : Judge → (self_signed : Bool) → IssuerInfos → Option (List ℕ) → Option SubjectInfos → Name → SubjectPublicKeyInfo → Type 0
-IsSubjectBy judge true issuer authority given name key = (name ≡ issuer.name.name) × IsHalfOf issuer.key.now key
+IsSubjectBy judge true issuer authority given name key = (name ≡ sets_of issuer.name) × IsHalfOf issuer.key.now key
 IsSubjectBy judge false issuer None given name key = ⊥
 IsSubjectBy judge false issuer (Some authority) given name key = IsGivenSubject judge given name key
 
--- the name and the key are those of the subject that was given
+-- They are those of the subject that the builder asks for.
 abbrev pub IsSubject : Judge → CertificateBuilder → IssuerInfos → Name → SubjectPublicKeyInfo → Type 0
 IsSubject judge b issuer = IsSubjectBy judge issuer.self_signed issuer b.authority_key_identifier b.subject_infos
 
@@ -71,7 +71,7 @@ pub record IsValidityOf (from to : GeneralizedTime) (validity : Validity) : Type
 pub record IsIssuedBy (b : CertificateBuilder) (issuer : IssuerInfos) (word : ℕ) (serial_number : IntegerAsn1) (algorithm : AlgorithmIdentifier) (name : Name) : Type 0 where
   pub numbered : IsUnsignedInteger (serial_of b.serial_number word) (integer_contents serial_number)
   pub signs : IsWrittenAlgorithm b.signature_hash_type algorithm
-  pub named : name ≡ issuer.name.name
+  pub named : name ≡ sets_of issuer.name
 
 -- To whom: the name, the key, and how it is identified.
 pub record IsIssuedTo (judge : Judge) (b : CertificateBuilder) (issuer : IssuerInfos) (own : List ℕ) (name : Name) (key : SubjectPublicKeyInfo) : Type 0 where

@@ -5,15 +5,16 @@ use Rattle.der_core.specs.Placed.{AreDer}
 use Rattle.der_core.specs.Refusals.{RefusesInner}
 use Rattle.asn1_types.specs.Values.{payload_of, unused_of}
 use Rattle.key_types.specs.declared.key_info.SubjectPublicKeyInfo.{SubjectPublicKeyInfo}
+use Rattle.key_core.specs.Keys.{container_of, point_beside}
 use Rattle.key_core.specs.PublicHalf.{IsPublicHalf, RefusesPublicHalf}
 use Rattle.key_core.specs.SignatureAlgorithm.{IsWrittenAlgorithm, IsUnwritable}
 use Rattle.key_core.specs.SignatureRules.{RefusesBy}
 use Rattle.key_core.specs.Signing.{Signs, Pair, IsAsked, IsKeyPair, sign_rules}
 use Rattle.key_core.specs.Verifying.{Judge, Accepts}
-use Rattle.key_core.specs.Keys.{container_of, point_beside}
 use Rattle.key_core.specs.declared.element.Element.TheVariants as elements
 use Rattle.key_core.specs.declared.private_key.PrivateKey.{PrivateKey}
 use Rattle.key_core.specs.declared.signature_algorithm.SignatureAlgorithm.{SignatureAlgorithm}
+use Rattle.names_core.specs.Names.{sets_of}
 use Rattle.names_core.specs.declared.name.DirectoryName.{DirectoryName}
 use Rattle.x509_types.specs.declared.attribute.Attribute.{Attribute}
 use Rattle.request_types.specs.RequestInfo.{request_info, inner_request}
@@ -26,7 +27,7 @@ use Rattle.x509_core.specs.declared.csr_error.CsrError.{CsrError}
 
 -- What is asked for: this name, the public key of this private one, these attributes, which are given even where there are none.
 pub record IsInfoFor (subject : DirectoryName) (key : PrivateKey) (attributes : List Attribute) (info : CertificationRequestInfo) : Type 0 where
-  pub named : info.subject ≡ subject.name
+  pub named : info.subject ≡ sets_of subject
   pub half : IsPublicHalf (container_of key).private_key (container_of key).private_key_algorithm (point_beside key) info.subject_public_key_info
   pub given : info.attributes ≡ Some attributes
 

@@ -2,6 +2,7 @@
 use Rattle.std.specs.Prelude.{⊤, ℕ, Bool, if◌then◌else◌, bytes_eq, List, [], ◌∷◌, ◌++◌, Option, Some, None}
 use Rattle.std.specs.List.{list_any}
 use Rattle.asn1_types.specs.Values.{identifier_contents}
+use Rattle.x509_types.specs.Extension.{extension_id}
 use Rattle.x509_types.specs.FirstOfValue.{NoneHas}
 use Rattle.x509_types.specs.declared.attribute.Attribute.{Attribute}
 use Rattle.x509_types.specs.declared.attribute_values.AttributeValues.{AttributeValues}
@@ -33,11 +34,11 @@ asked_in (Some attributes) = asked_first attributes
 
 -- whether one of the extensions has this identifier, by its contents octets
 abbrev pub has_one : List Extension → List ℕ → Bool
-has_one extensions oid = list_any (λ (e : Extension). bytes_eq (identifier_contents e.extn_id) oid) extensions
+has_one extensions oid = list_any (λ (e : Extension). bytes_eq (identifier_contents (extension_id e)) oid) extensions
 
 -- the extensions and one more, where its identifier isn't there yet
 abbrev pub with_one : List Extension → Extension → List Extension
-with_one extensions e = if has_one extensions (identifier_contents e.extn_id) then extensions else extensions ++ e ∷ []
+with_one extensions e = if has_one extensions (identifier_contents (extension_id e)) then extensions else extensions ++ e ∷ []
 
 -- the extensions and each of others, in their order, whose identifier isn't there yet
 abbrev pub with_others : List Extension → List Extension → List Extension
@@ -47,4 +48,4 @@ with_others extensions (e ∷ others) = with_others (with_one extensions e) othe
 -- no two of the extensions have the same identifier (RFC 5280 4.2)
 abbrev pub AreDistinct : List Extension → Type 0
 AreDistinct [] = ⊤
-AreDistinct (e ∷ extensions) = NoneHas (identifier_contents e.extn_id) extensions × AreDistinct extensions
+AreDistinct (e ∷ extensions) = NoneHas (identifier_contents (extension_id e)) extensions × AreDistinct extensions

@@ -3,6 +3,7 @@ use Rattle.std.specs.Prelude.{◌≡◌, ◌⊎◌, ℕ, false, List, Option, So
 use Rattle.std.specs.Borrow.{Bor}
 use Rattle.asn1_types.specs.declared.oids.TheConstants.{CE_SUBJECT_KEY_IDENTIFIER}
 use Rattle.key_core.specs.declared.private_key.PrivateKey.{PrivateKey}
+use Rattle.names_core.specs.Names.{name_of_sets}
 use Rattle.x509_types.specs.FirstOfValue.{extensions_in, NoneHas}
 use Rattle.x509_types.specs.declared.extension.Extension.{Extension}
 use Rattle.x509_types.specs.declared.extension_view.ExtensionView.TheVariants as views
@@ -22,5 +23,5 @@ pub record IsIssuedUnder (cert : KeptCertificate) (key : Bor PrivateKey) (before
   pub identified : IsIdentifiedBy (extensions_in cert.certificate.tbs_certificate.extensions) before.authority_key_identifier authority
   pub is : after ≡ record before {
     authority_key_identifier = authority;
-    issuer_infos = Some (record { name = record { name = cert.certificate.tbs_certificate.subject }; key = key; self_signed = false });
+    issuer_infos = Some (record { name = name_of_sets cert.certificate.tbs_certificate.subject; key = key; self_signed = false });
   }

@@ -2,12 +2,13 @@
 use Rattle.std.specs.Prelude.{◌≡◌, ◌↔◌, ⊤, ℕ, Bool, true, false, IsTrue, List, [], ◌∷◌, ◌++◌, Option, Some, None}
 use Rattle.asn1_types.specs.Values.{identifier_contents}
 use Rattle.asn1_types.specs.declared.oids.TheConstants.{CE_SUBJECT_KEY_IDENTIFIER, CE_KEY_USAGE, CE_SUBJECT_ALT_NAME, CE_ISSUER_ALT_NAME, CE_BASIC_CONSTRAINTS, CE_AUTHORITY_KEY_IDENTIFIER, CE_EXT_KEY_USAGE}
+use Rattle.x509_types.specs.Extension.{extension_id, extension_value, is_critical}
 use Rattle.x509_types.specs.declared.extension.Extension.{Extension}
 use Rattle.x509_types.specs.declared.extension_view.ExtensionView.{ExtensionView}
 use Rattle.x509_types.specs.declared.extension_view.ExtensionView.TheVariants as views
 use Rattle.x509_values.specs.AuthorityKeyIdentifier.{key_of_identifier}
 use Rattle.x509_values.specs.BasicConstraints.{constraints_with}
-use Rattle.x509_values.specs.KeyUsage.{HasBit}
+use Rattle.x509_values.specs.KeyUsage.{HasBit, usage_bits}
 use Rattle.x509_values.specs.declared.key_usage.KeyUsage.{KeyUsage}
 use Rattle.issuing_core.specs.Inherited.{asked_in, with_others}
 use Rattle.issuing_core.specs.declared.builder.CertificateBuilder.{CertificateBuilder}
@@ -23,9 +24,9 @@ pub record Wanted : Type 0 where
 
 -- The extension is the wanted one.
 pub record IsWanted (w : Wanted) (e : Extension) : Type 0 where
-  pub named : identifier_contents e.extn_id ≡ w.oid
-  pub flagged : e.critical ≡ w.critical
-  pub valued : e.extn_value ≡ w.value
+  pub named : identifier_contents (extension_id e) ≡ w.oid
+  pub flagged : is_critical e ≡ w.critical
+  pub valued : extension_value e ≡ w.value
 
 -- each is the wanted one at its place, and there are as many
 abbrev pub AreWanted : List Wanted → List Extension → Type 0
@@ -42,7 +43,7 @@ where_given oid critical view (Some x) = record { oid = oid; critical = critical
 -- the key is for signatures other than those on certificates, and it is said so (RFC 5280 4.2.1.3)
 abbrev pub IsForSignatures : Option KeyUsage → Type 0
 IsForSignatures None = ⊥
-IsForSignatures (Some usage) = HasBit usage.bits 0
+IsForSignatures (Some usage) = HasBit (usage_bits usage) 0
 
 -- whether it is an authority's, and how long paths may be, as the builder has it
 abbrev pub constraints_of : CertificateBuilder → ExtensionView
@@ -73,9 +74,9 @@ wanted b critical own authority = wanted_uses b critical ++ (wanted_names b ++ w
 
 -- The extension has the builder's constraints, and is critical exactly where the key is said to be for signatures.
 pub record IsConstraints (b : CertificateBuilder) (e : Extension) : Type 0 where
-  pub flagged : IsTrue e.critical ↔ IsForSignatures b.key_usage
-  pub named : identifier_contents e.extn_id ≡ CE_BASIC_CONSTRAINTS.now
-  pub valued : e.extn_value ≡ constraints_of b
+  pub flagged : IsTrue (is_critical e) ↔ IsForSignatures b.key_usage
+  pub named : identifier_contents (extension_id e) ≡ CE_BASIC_CONSTRAINTS.now
+  pub valued : extension_value e ≡ constraints_of b
 
 -- The extensions are the constraints, and what the key is for.
 pub record HasUses (b : CertificateBuilder) (extensions : List Extension) : Type 0 where

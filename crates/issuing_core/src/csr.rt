@@ -11,6 +11,7 @@ ghost use Rattle.der_core.specs.declared.error.DerError.TheVariants as der_error
 ghost use Rattle.der_core.specs.declared.fault.DerFault.{DerFault};
 ghost use Rattle.key_core.specs.Keys.{info_of};
 ghost use Rattle.key_core.specs.declared.element.Element.TheVariants as elements;
+ghost use Rattle.names_core.specs.Names.{sets_of};
 ghost use Rattle.request_types.specs.CertificationRequest.{IsRequest, request};
 ghost use Rattle.request_types.specs.declared.request.CertificationRequest.{CertificationRequest};
 ghost use Rattle.issuing_core.specs.CsrRefusals.{IsUnreadCsr, IsUnwrittenCsr};
@@ -158,7 +159,7 @@ impl Csr {
 
     /// The name of the subject (RFC 2986 4.1).
     pub fn subject_name(&self, alloc: Global) -> Result<DirectoryName, AllocError>
-        ensures { IfOk result (λ copy. copy.name ≡ self.now.request.certification_request_info.subject) }
+        ensures { IfOk result (λ copy. sets_of copy ≡ self.now.request.certification_request_info.subject) }
     {
         Ok(DirectoryName::from(self.subject.try_clone(alloc)?))
     }
@@ -172,7 +173,7 @@ impl Csr {
 
     /// The name and the key of the subject. It takes no memory.
     pub fn into_subject_infos(self) -> (DirectoryName, PublicKey)
-        ensures name { result.0.name ≡ self.request.certification_request_info.subject }
+        ensures name { sets_of result.0 ≡ self.request.certification_request_info.subject }
         ensures key { info_of result.1 ≡ self.request.certification_request_info.subject_public_key_info }
     {
         let Csr {

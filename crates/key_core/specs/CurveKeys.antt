@@ -12,6 +12,7 @@ use Rattle.asn1_types.specs.declared.oid.ObjectIdentifier.{ObjectIdentifier}
 use Rattle.asn1_types.specs.declared.oids.TheConstants.{EC_PUBLIC_KEY}
 use Rattle.private_key_types.specs.ECPrivateKey.{ec_private_key}
 use Rattle.private_key_types.specs.declared.ec_private_key.ECPrivateKey.{ECPrivateKey}
+use Rattle.key_types.specs.AlgorithmIdentifier.{oid_of, parameters_of}
 use Rattle.key_core.specs.DerivedKeys.{Derivation, IsCurveOf, IsPointOf, RefusesPoint, whole_bits}
 use Rattle.key_core.specs.EcCurve.{curve_identifier}
 use Rattle.key_core.specs.KeyRefusals.{IsUnread}
@@ -30,8 +31,8 @@ use Rattle.key_core.specs.declared.private_key_version.PrivateKeyVersion.TheVari
 -- The container of a key of an elliptic curve (RFC 5480 2.1.1): the parameters name the curve, and nothing stands beside the key.
 pub record IsEcContainer (curve : ObjectIdentifier) (key : ECPrivateKey) (info : PrivateKeyInfo) : Type 0 where
   pub version : info.version ≡ versions.V1
-  pub identifier : identifier_contents info.private_key_algorithm.oid ≡ EC_PUBLIC_KEY.now
-  pub parameters : kept_option info.private_key_algorithm.parameters ≡ Some (object_identifier curve)
+  pub identifier : identifier_contents (oid_of info.private_key_algorithm) ≡ EC_PUBLIC_KEY.now
+  pub parameters : kept_option (parameters_of info.private_key_algorithm) ≡ Some (object_identifier curve)
   pub is : info.private_key ≡ values.Ec key
   pub attributes : info.attributes ≡ None
   pub public_key : info.public_key ≡ None

@@ -5,6 +5,7 @@ use Rattle.der_core.specs.DerElement.{Primitive}
 use Rattle.der_core.specs.Lent.{kept_option}
 use Rattle.asn1_types.specs.Values.{lent_contents, payload_of}
 use Rattle.asn1_types.specs.declared.bit_string.BitString.{BitString}
+use Rattle.key_types.specs.AlgorithmIdentifier.{parameters_of}
 use Rattle.key_types.specs.SubjectKey.{kind_of}
 use Rattle.key_types.specs.declared.key_info.SubjectPublicKeyInfo.{SubjectPublicKeyInfo}
 use Rattle.key_types.specs.declared.key_kind.KeyKind.TheVariants as kinds
@@ -24,7 +25,7 @@ pub record IsEcKeypairOf (key : PrivateKey) (keypair : EcdsaKeypair) : Type 0 wh
   pub read : ECPrivateKey
   pub is : key.info.private_key ≡ values.Ec read
   pub secret_is : keypair.secret.now ≡ read.private_key
-  pub curve_is : kept_option key.info.private_key_algorithm.parameters ≡ Some (Primitive 0x06 (lent_contents keypair.curve))
+  pub curve_is : kept_option (parameters_of key.info.private_key_algorithm) ≡ Some (Primitive 0x06 (lent_contents keypair.curve))
   pub public_is : option_copied keypair.point ≡ key.public_key
 
 -- the view of a private key, or that the key is of another kind
@@ -36,7 +37,7 @@ pub record IsEcPublicOf (info : SubjectPublicKeyInfo) (view : EcdsaPublicKey) : 
   pub bits : BitString
   pub is : info.subject_public_key ≡ keys.Ec bits
   pub point_is : view.point.now ≡ payload_of bits
-  pub curve_is : kept_option info.algorithm.parameters ≡ Some (Primitive 0x06 (lent_contents view.curve))
+  pub curve_is : kept_option (parameters_of info.algorithm) ≡ Some (Primitive 0x06 (lent_contents view.curve))
 
 -- the view of a public key, or that the key is of another kind
 abbrev pub GivesEcPublic : SubjectPublicKeyInfo → Result EcdsaPublicKey KeyError → Type 0

@@ -3,6 +3,7 @@ use Rattle.std.specs.Prelude.{◌≡◌, ℕ, List, Option, Some, None}
 use Rattle.std.specs.Option.{option_map}
 use Rattle.asn1_types.specs.Values.{bit_string_contents}
 use Rattle.asn1_types.specs.declared.oid.ObjectIdentifier.{ObjectIdentifier}
+use Rattle.key_types.specs.AlgorithmIdentifier.{oid_of, parameters_of}
 use Rattle.key_core.specs.DerivedKeys.{whole_bits}
 use Rattle.key_core.specs.declared.private_key.PrivateKey.{PrivateKey}
 use Rattle.key_core.specs.declared.private_key_value.PrivateKeyValue.TheVariants as values
@@ -18,8 +19,8 @@ version_beside (Some public_key) = versions.V2
 -- stands in the container.
 pub record IsGivenEdKey (algorithm : ObjectIdentifier) (secret : List ℕ) (public_key : Option (List ℕ)) (key : PrivateKey) : Type 0 where
   pub version : key.info.version ≡ version_beside public_key
-  pub identifier : key.info.private_key_algorithm.oid ≡ algorithm
-  pub parameters : key.info.private_key_algorithm.parameters ≡ None
+  pub identifier : oid_of key.info.private_key_algorithm ≡ algorithm
+  pub parameters : parameters_of key.info.private_key_algorithm ≡ None
   pub is : key.info.private_key ≡ values.Ed secret
   pub attributes : key.info.attributes ≡ None
   pub stands : key.info.public_key ≡ key.public_key

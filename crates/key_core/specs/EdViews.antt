@@ -3,6 +3,7 @@ use Rattle.std.specs.Prelude.{◌≡◌, ◌≢◌, Option, Some, None, Result, 
 use Rattle.std.specs.Option.{option_copied}
 use Rattle.asn1_types.specs.Values.{payload_of}
 use Rattle.asn1_types.specs.declared.bit_string.BitString.{BitString}
+use Rattle.key_types.specs.AlgorithmIdentifier.{oid_of}
 use Rattle.key_types.specs.SubjectKey.{kind_of}
 use Rattle.key_types.specs.declared.key_info.SubjectPublicKeyInfo.{SubjectPublicKeyInfo}
 use Rattle.key_types.specs.declared.key_kind.KeyKind.TheVariants as kinds
@@ -19,7 +20,7 @@ use Rattle.key_core.specs.declared.private_key_value.PrivateKeyValue.TheVariants
 -- The keypair lends the parts of a private key.
 pub record IsEdKeypairOf (key : PrivateKey) (keypair : EdKeypair) : Type 0 where
   pub secret_is : key.info.private_key ≡ values.Ed keypair.secret.now
-  pub algorithm_is : keypair.algorithm.now ≡ key.info.private_key_algorithm.oid
+  pub algorithm_is : keypair.algorithm.now ≡ oid_of key.info.private_key_algorithm
   pub public_is : option_copied keypair.public_key ≡ key.public_key
 
 -- the view of a private key, or that the key is of another kind
@@ -31,7 +32,7 @@ pub record IsEdPublicOf (info : SubjectPublicKeyInfo) (view : EdPublicKey) : Typ
   pub bits : BitString
   pub is : info.subject_public_key ≡ keys.Ed bits
   pub key_is : view.key.now ≡ payload_of bits
-  pub algorithm_is : view.algorithm.now ≡ info.algorithm.oid
+  pub algorithm_is : view.algorithm.now ≡ oid_of info.algorithm
 
 -- the view of a public key, or that the key is of another kind
 abbrev pub GivesEdPublic : SubjectPublicKeyInfo → Result EdPublicKey KeyError → Type 0

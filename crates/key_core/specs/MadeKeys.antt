@@ -8,6 +8,7 @@ use Rattle.asn1_types.specs.Values.{identifier_contents, integer_contents, paylo
 use Rattle.asn1_types.specs.declared.bit_string.BitString.{BitString}
 use Rattle.asn1_types.specs.declared.oid.ObjectIdentifier.{ObjectIdentifier}
 use Rattle.asn1_types.specs.declared.oids.TheConstants.{RSA_ENCRYPTION, EC_PUBLIC_KEY}
+use Rattle.key_types.specs.AlgorithmIdentifier.{oid_of, parameters_of}
 use Rattle.key_types.specs.KeyKind.{names_kind}
 use Rattle.key_types.specs.declared.key_kind.KeyKind.TheVariants as kinds
 use Rattle.key_types.specs.declared.key_info.SubjectPublicKeyInfo.{SubjectPublicKeyInfo}
@@ -22,8 +23,8 @@ use Rattle.key_core.specs.declared.error.KeyError.TheVariants as errors
 -- A key of RSA with its algorithm (RFC 3279 2.3.1): the parameters are NULL.
 pub record IsRsaInfo (key : RsaPublicKey) (info : SubjectPublicKeyInfo) : Type 0 where
   pub is : info.subject_public_key ≡ keys.Rsa key
-  pub identifier : identifier_contents info.algorithm.oid ≡ RSA_ENCRYPTION.now
-  pub parameters : kept_option info.algorithm.parameters ≡ Some null
+  pub identifier : identifier_contents (oid_of info.algorithm) ≡ RSA_ENCRYPTION.now
+  pub parameters : kept_option (parameters_of info.algorithm) ≡ Some null
 
 -- A key of RSA by its two numbers.
 pub record IsRsaKey (modulus exponent : List ℕ) (info : SubjectPublicKeyInfo) : Type 0 where
@@ -36,8 +37,8 @@ pub record IsRsaKey (modulus exponent : List ℕ) (info : SubjectPublicKeyInfo) 
 pub record IsEcKey (curve : ObjectIdentifier) (octets : List ℕ) (info : SubjectPublicKeyInfo) : Type 0 where
   pub key : BitString
   pub is : info.subject_public_key ≡ keys.Ec key
-  pub identifier : identifier_contents info.algorithm.oid ≡ EC_PUBLIC_KEY.now
-  pub parameters : kept_option info.algorithm.parameters ≡ Some (object_identifier curve)
+  pub identifier : identifier_contents (oid_of info.algorithm) ≡ EC_PUBLIC_KEY.now
+  pub parameters : kept_option (parameters_of info.algorithm) ≡ Some (object_identifier curve)
   pub whole : unused_of key ≡ 0
   pub payload : payload_of key ≡ octets
 
@@ -66,8 +67,8 @@ RefusesCoordinates curve x y errors.Memory = ⊤
 pub record IsEdKey (algorithm : ObjectIdentifier) (octets : List ℕ) (info : SubjectPublicKeyInfo) : Type 0 where
   pub key : BitString
   pub is : info.subject_public_key ≡ keys.Ed key
-  pub identifier : info.algorithm.oid ≡ algorithm
-  pub parameters : info.algorithm.parameters ≡ None
+  pub identifier : oid_of info.algorithm ≡ algorithm
+  pub parameters : parameters_of info.algorithm ≡ None
   pub whole : unused_of key ≡ 0
   pub payload : payload_of key ≡ octets
 

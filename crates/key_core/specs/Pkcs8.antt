@@ -8,6 +8,7 @@ use Rattle.asn1_types.specs.Elements.{object_identifier}
 use Rattle.asn1_types.specs.Values.{identifier_contents}
 use Rattle.asn1_types.specs.declared.oid.ObjectIdentifier.{ObjectIdentifier}
 use Rattle.private_key_types.specs.declared.ec_private_key.ECPrivateKey.{ECPrivateKey}
+use Rattle.key_types.specs.AlgorithmIdentifier.{oid_of, parameters_of}
 use Rattle.key_core.specs.CurveKeys.{IsCurveKey, RefusesCurveKey}
 use Rattle.key_core.specs.DerivedKeys.{Derivation, IsEdOf, IsEdKeyOf, RefusesEdKey, IsEcRefusal, IsEdRefusal}
 use Rattle.key_core.specs.KeyRefusals.{IsUnread}
@@ -27,13 +28,13 @@ use Rattle.key_core.specs.declared.private_key_value.PrivateKeyValue.TheVariants
 pub record IsKeptEd (derives : Derivation) (secret : List ℕ) (info : PrivateKeyInfo) (key : PrivateKey) : Type 0 where
   pub as_read : key.info ≡ info
   pub known : Option EdAlgorithm
-  pub named : IsEdOf (identifier_contents info.private_key_algorithm.oid) known
+  pub named : IsEdOf (identifier_contents (oid_of info.private_key_algorithm)) known
   pub derived : IsEdKeyOf derives known secret key.public_key
 
 -- A key of an elliptic curve is written anew, on the curve that the parameters name.
 pub record IsKeptEc (derives : Derivation) (read : ECPrivateKey) (info : PrivateKeyInfo) (key : PrivateKey) : Type 0 where
   pub curve : ObjectIdentifier
-  pub parameters : kept_option info.private_key_algorithm.parameters ≡ Some (object_identifier curve)
+  pub parameters : kept_option (parameters_of info.private_key_algorithm) ≡ Some (object_identifier curve)
   pub is : IsCurveKey derives curve read key
 
 -- the key that is kept of a container with this private key; one of RSA is kept as it was read
@@ -52,15 +53,15 @@ RefusesEcInfo derives read parameters context =
     ((context ≡ contexts.CurveParameters) × ((curve : ObjectIdentifier) → parameters ≢ Some (object_identifier curve)))
     ⊎ ((curve : ObjectIdentifier) × (parameters ≡ Some (object_identifier curve)) × RefusesCurveKey derives curve read context)
 
--- why a key of a curve 25519 or 448 is not read: its curve is known and derives no public key
+-- why a container with a key of 25519 or 448 isn't kept: the algorithm is known, and there is no public key for the secret
 abbrev pub RefusesEdInfo : Derivation → List ℕ → List ℕ → KeyContext → Type 0
 RefusesEdInfo derives secret oid context = (known : Option EdAlgorithm) × IsEdOf oid known × RefusesEdKey derives known secret context
 
 -- why a container isn't kept
 abbrev pub RefusesKept : Derivation → PrivateKeyValue → PrivateKeyInfo → KeyError → Type 0
 RefusesKept derives (values.Rsa rsa) info e = e ≡ errors.Memory
-RefusesKept derives (values.Ec read) info e = IsEcRefusal (RefusesEcInfo derives read (kept_option info.private_key_algorithm.parameters)) e
-RefusesKept derives (values.Ed secret) info e = IsEdRefusal (RefusesEdInfo derives secret (identifier_contents info.private_key_algorithm.oid)) e
+RefusesKept derives (values.Ec read) info e = IsEcRefusal (RefusesEcInfo derives read (kept_option (parameters_of info.private_key_algorithm))) e
+RefusesKept derives (values.Ed secret) info e = IsEdRefusal (RefusesEdInfo derives secret (identifier_contents (oid_of info.private_key_algorithm))) e
 
 -- A key by the encoding of its PrivateKeyInfo.
 pub record IsPkcs8Key (derives : Derivation) (octets : List ℕ) (key : PrivateKey) : Type 0 where

@@ -10,6 +10,7 @@ use Rattle.asn1_types.specs.Values.{identifier_contents}
 use Rattle.asn1_types.specs.declared.oids.TheConstants.{RSA_ENCRYPTION}
 use Rattle.private_key_types.specs.RsaPrivateKey.{rsa_private_key}
 use Rattle.private_key_types.specs.declared.rsa_private_key.RsaPrivateKey.{RsaPrivateKey}
+use Rattle.key_types.specs.AlgorithmIdentifier.{oid_of, parameters_of}
 use Rattle.key_core.specs.KeyRefusals.{IsUnwritten}
 use Rattle.key_core.specs.declared.element.Element.TheVariants as elements
 use Rattle.key_core.specs.declared.error.KeyContext.TheVariants as contexts
@@ -24,8 +25,8 @@ use Rattle.key_core.specs.declared.private_key.PrivateKey.{PrivateKey}
 -- The container of a key of RSA (RFC 3279 2.3.1): the parameters are NULL, and nothing stands beside the key.
 pub record IsRsaContainer (key : RsaPrivateKey) (info : PrivateKeyInfo) : Type 0 where
   pub version : info.version ≡ versions.V1
-  pub identifier : identifier_contents info.private_key_algorithm.oid ≡ RSA_ENCRYPTION.now
-  pub parameters : kept_option info.private_key_algorithm.parameters ≡ Some null
+  pub identifier : identifier_contents (oid_of info.private_key_algorithm) ≡ RSA_ENCRYPTION.now
+  pub parameters : kept_option (parameters_of info.private_key_algorithm) ≡ Some null
   pub is : info.private_key ≡ values.Rsa key
   pub attributes : info.attributes ≡ None
   pub public_key : info.public_key ≡ None

@@ -2,6 +2,7 @@
 use Rattle.std.specs.Prelude.{◌≡◌, ⊤, Option, Some, None}
 use Rattle.std.specs.Option.{option_map}
 use Rattle.asn1_types.specs.declared.bit_string.BitString.{BitString}
+use Rattle.key_types.specs.AlgorithmIdentifier.{oid_of, parameters_of}
 use Rattle.key_types.specs.declared.algorithm.AlgorithmIdentifier.{AlgorithmIdentifier}
 use Rattle.key_types.specs.declared.key_info.SubjectPublicKeyInfo.{SubjectPublicKeyInfo}
 use Rattle.key_types.specs.declared.public_key.RsaPublicKey.{RsaPublicKey}
@@ -25,7 +26,7 @@ abbrev pub IsPublicHalf : PrivateKeyValue → AlgorithmIdentifier → Option Bit
 IsPublicHalf (values.Rsa key) algorithm public_key info = IsRsaInfo (public_numbers key) info
 IsPublicHalf (values.Ec key) algorithm public_key info = (info.algorithm ≡ algorithm) × (option_map keys.Ec public_key ≡ Some info.subject_public_key)
 IsPublicHalf (values.Ed secret) algorithm public_key info =
-    (info.algorithm.oid ≡ algorithm.oid) × (info.algorithm.parameters ≡ None) × (option_map keys.Ed public_key ≡ Some info.subject_public_key)
+    (oid_of info.algorithm ≡ oid_of algorithm) × (parameters_of info.algorithm ≡ None) × (option_map keys.Ed public_key ≡ Some info.subject_public_key)
 
 -- why there is none: none is kept
 abbrev pub RefusesPublicHalf : PrivateKeyValue → Option BitString → KeyError → Type 0

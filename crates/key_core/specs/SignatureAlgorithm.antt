@@ -5,6 +5,7 @@ use Rattle.der_core.specs.Elements.{null}
 use Rattle.der_core.specs.Lent.{kept_option}
 use Rattle.asn1_types.specs.Values.{identifier_contents}
 use Rattle.asn1_types.specs.declared.oids.TheConstants as octets
+use Rattle.key_types.specs.AlgorithmIdentifier.{oid_of, parameters_of}
 use Rattle.key_types.specs.declared.algorithm.AlgorithmIdentifier.{AlgorithmIdentifier}
 use Rattle.sig_core.specs.declared.hash.HashAlgorithm.{HashAlgorithm}
 use Rattle.sig_core.specs.declared.hash.HashAlgorithm.TheVariants.{MD5, SHA1, SHA2_224, SHA2_256, SHA2_384, SHA2_512}
@@ -45,18 +46,18 @@ signature_hash Ed25519 = SHA2_512
 
 -- The identifier is that of the algorithm, whatever stands beside it.
 abbrev pub NamesSignature : AlgorithmIdentifier → SignatureAlgorithm → Type 0
-NamesSignature id algorithm = signature_identifier algorithm ≡ Some (identifier_contents id.oid)
+NamesSignature id algorithm = signature_identifier algorithm ≡ Some (identifier_contents (oid_of id))
 
 -- An algorithm as it is written.
 pub record IsWrittenAlgorithm (algorithm : SignatureAlgorithm) (id : AlgorithmIdentifier) : Type 0 where
   pub identifier : NamesSignature id algorithm
-  pub parameters : kept_option id.parameters ≡ signature_parameters algorithm
+  pub parameters : kept_option (parameters_of id) ≡ signature_parameters algorithm
 
 -- why an identifier is read as no algorithm: it is that of none, and the error has it
 abbrev pub IsUnnamed : AlgorithmIdentifier → SignatureError → Type 0
 IsUnnamed id e =
     ((algorithm : SignatureAlgorithm) → NamesSignature id algorithm → ⊥)
-    × ((e ≡ errors.UnsupportedAlgorithm (unsupported.Oid id.oid)) ⊎ (e ≡ errors.Memory))
+    × ((e ≡ errors.UnsupportedAlgorithm (unsupported.Oid (oid_of id))) ⊎ (e ≡ errors.Memory))
 
 -- why an algorithm isn't written: it has no identifier
 abbrev pub IsUnwritable : SignatureAlgorithm → SignatureError → Type 0

@@ -2,6 +2,7 @@
 use Rattle.std.specs.Prelude.{ℕ, List, ◌++◌, codes, Option, Some, None}
 use Rattle.std.specs.Option.{option_map}
 use Rattle.asn1_types.specs.ObjectIdentifier.{dotted}
+use Rattle.asn1_types.specs.Values.{arcs_of}
 use Rattle.sig_core.specs.Digest.{digest_name}
 use Rattle.key_core.specs.EcCurve.{curve_text}
 use Rattle.key_core.specs.ErrorText.{key_error_text}
@@ -24,7 +25,7 @@ sig_context_text contexts.NotForSigning = codes "the key isn't one for signature
 
 -- what an algorithm is called that isn't used
 abbrev pub unsupported_text : Unsupported → List ℕ
-unsupported_text (unsupported.Oid oid) = dotted oid.formed.arcs
+unsupported_text (unsupported.Oid oid) = dotted (arcs_of oid)
 unsupported_text (unsupported.Hash hash) = digest_name hash
 unsupported_text (unsupported.Pairing curve hash) = curve_text curve ++ codes " with " ++ digest_name hash
 

@@ -5,6 +5,7 @@ ghost use Rattle.der_core.specs.DerElement.{Primitive};
 ghost use Rattle.der_core.specs.Lent.{kept_option};
 ghost use Rattle.asn1_types.specs.ObjectIdentifier.{IsIdentifier};
 ghost use Rattle.asn1_types.specs.Values.{lent_contents};
+ghost use Rattle.key_types.specs.AlgorithmIdentifier.{parameters_of};
 ghost use Rattle.key_types.specs.KeyKind.{MayHave};
 ghost use Rattle.key_types.specs.declared.key_kind.KeyKind.TheVariants as kinds;
 ghost use Rattle.key_core.specs.EcViews.{GivesEcKeypair, GivesEcPublic, GivesEcPublicOfKeypair};
@@ -68,8 +69,8 @@ impl<'a> EcdsaPublicKey<'a> {
 
 /// The identifier that parameters of a key of an elliptic curve are.
 fn curve_of<'a>(algorithm: &'a AlgorithmIdentifier) -> LentIdentifier<'a>
-    requires { MayHave kinds.Ec (kept_option algorithm.now.parameters) }
-    ensures { kept_option algorithm.now.parameters ≡ Some (Primitive 0x06 (lent_contents result)) }
+    requires { MayHave kinds.Ec (kept_option (parameters_of algorithm.now)) }
+    ensures { kept_option (parameters_of algorithm.now) ≡ Some (Primitive 0x06 (lent_contents result)) }
 {
     match curve_octets(algorithm) {
         Some(octets) => identifier_of(octets),

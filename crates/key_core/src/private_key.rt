@@ -5,6 +5,7 @@ ghost use Rattle.der_core.specs.Encoding.{encoding, IsDer};
 ghost use Rattle.der_core.specs.Lent.{kept_option};
 ghost use Rattle.der_core.specs.Placed.{AreDer};
 ghost use Rattle.der_core.specs.Refusals.{RefusesInner};
+ghost use Rattle.key_types.specs.AlgorithmIdentifier.{parameters_of};
 ghost use Rattle.key_core.specs.CurveParameters.{HasCurve};
 ghost use Rattle.key_core.specs.Facts.CurveParameters.{HasCurve-prop};
 ghost use Rattle.key_core.specs.KeyRefusals.{IsUnwritten};
@@ -37,7 +38,7 @@ use std::fmt;
 pub struct PrivateKey {
     pub(crate) info: PrivateKeyInfo,
     pub(crate) public_key: Option<BitString>,
-    pub ghost curve: { HasCurve info.private_key (kept_option info.private_key_algorithm.parameters) } by { HasCurve-prop info.private_key (kept_option info.private_key_algorithm.parameters) },
+    pub ghost curve: { HasCurve info.private_key (kept_option (parameters_of info.private_key_algorithm)) } by { HasCurve-prop info.private_key (kept_option (parameters_of info.private_key_algorithm)) },
 }
 
 impl PrivateKey {

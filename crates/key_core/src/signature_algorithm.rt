@@ -2,6 +2,7 @@
 
 ghost use Rattle.std.specs.Prelude.{◌≡◌, ◌↔◌, Some, None, Ok, Err, IsTrue, IfOk, IfSome, MatchOption, MatchResult};
 ghost use Rattle.der_core.specs.Lent.{kept_option};
+ghost use Rattle.key_types.specs.AlgorithmIdentifier.{oid_of, parameters_of};
 ghost use Rattle.key_core.specs.SignatureAlgorithm.{signature_identifier, signature_parameters, signature_hash, NamesSignature, IsWrittenAlgorithm, IsUnnamed, IsUnwritable};
 ghost use Rattle.key_core.specs.declared.signature_algorithm.SignatureAlgorithm.TheVariants.{RsaPkcs1v15, Ecdsa};
 ghost use Rattle.key_core.specs.declared.signature_error.SigContext.TheVariants as contexts;
@@ -132,7 +133,7 @@ impl SignatureAlgorithm {
         alloc: Global,
         oid: ObjectIdentifier,
     ) -> Result<AlgorithmIdentifier, AllocError>
-        ensures { IfOk result (λ id. (id.oid ≡ oid) × (kept_option id.parameters ≡ signature_parameters self)) }
+        ensures { IfOk result (λ id. (oid_of id ≡ oid) × (kept_option (parameters_of id) ≡ signature_parameters self)) }
     {
         match self {
             SignatureAlgorithm::RsaPkcs1v15(_) => AlgorithmIdentifier::with_null(alloc, oid),

@@ -3,7 +3,7 @@
 ghost use Rattle.std.specs.Prelude.{◌≡◌, ◌↔◌, [], ◌∷◌, IsSome, IfSome, Some};
 ghost use Rattle.asn1_types.specs.declared.generalized_time.GeneralizedTime.{GeneralizedTime};
 ghost use Rattle.asn1_types.specs.Calendar.{IsCalendarDate, IsMoment, IsUtcYear};
-ghost use Rattle.asn1_types.specs.Time.{generalized_fields, time_text, utc_fields};
+ghost use Rattle.asn1_types.specs.Time.{generalized_fields, time_text, utc_fields, year_of};
 ghost use Rattle.names_core.specs.UtcDate.{fields_of, IsTimeOf};
 
 use asn1_types::{GeneralizedTime, UTCTime};
@@ -49,7 +49,7 @@ impl UtcDate {
 
     /// The date as a UTCTime, None exactly where the year isn't one of 1950 to 2049.
     pub fn utc_time(&self) -> Option<UTCTime>
-        ensures exists { IsSome result ↔ IsUtcYear self.now.year }
+        ensures exists { IsSome result ↔ IsUtcYear (year_of self.now) }
         ensures given { IfSome result (λ time. utc_fields time ≡ generalized_fields self.now) }
     {
         UTCTime::new(

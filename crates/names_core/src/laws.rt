@@ -6,7 +6,7 @@ ghost use Rattle.std.specs.Ordering.{nat_cmp};
 ghost use Rattle.std.specs.declared.cmp.Ordering.TheVariants.{Equal};
 ghost use Rattle.std.specs.Hash as fed;
 ghost use Rattle.asn1_types.specs.declared.generalized_time.GeneralizedTime.{GeneralizedTime};
-ghost use Rattle.asn1_types.specs.Time.{generalized_fields};
+ghost use Rattle.asn1_types.specs.Time.{day_of, generalized_fields, hour_of, minute_of, month_of, second_of, year_of};
 ghost use Rattle.x501_types.specs.declared.general_name.RawGeneralName.{RawGeneralName};
 ghost use Rattle.names_core.specs.GeneralName.{raw_name};
 ghost use Rattle.names_core.specs.declared.general_name.GeneralName.{GeneralName};
@@ -22,8 +22,8 @@ pub fn dates_are_their_fields()
     ensures tied { (a b : GeneralizedTime) → (⟦<UtcDate as Ord>⟧.cmp a b ≡ Equal) ↔ (a ≡ b) }
     ensures equal { (a b : GeneralizedTime) → IsTrue (⟦<UtcDate as PartialEq>⟧.eq a b) ↔ (a ≡ b) }
     ensures hashed { (date : GeneralizedTime) → ⟦<UtcDate as Hash>⟧.hash_input date
-        ≡ fed.u16 date.year ++ fed.u8 date.month ++ fed.u8 date.day ++ fed.u8 date.hour
-        ++ fed.u8 date.minute ++ fed.u8 date.second }
+        ≡ fed.u16 (year_of date) ++ fed.u8 (month_of date) ++ fed.u8 (day_of date)
+        ++ fed.u8 (hour_of date) ++ fed.u8 (minute_of date) ++ fed.u8 (second_of date) }
 {}
 
 /// General names and raw names are one for one: each raw name stands for one general name alone, so

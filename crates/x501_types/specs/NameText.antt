@@ -4,7 +4,7 @@ use Rattle.std.specs.List.{join_with_byte}
 use Rattle.hex.specs.Hex.{encode_lower}
 use Rattle.der_core.specs.Encoding.{encoding}
 use Rattle.asn1_types.specs.ObjectIdentifier.{dotted}
-use Rattle.asn1_types.specs.Values.{ia5_contents}
+use Rattle.asn1_types.specs.Values.{arcs_of, ia5_contents}
 use Rattle.x501_types.specs.Text.{text_of}
 use Rattle.x501_types.specs.NameAttr.{attribute_type, attribute_word}
 use Rattle.x501_types.specs.declared.name_attr.NameAttr.{NameAttr}
@@ -33,7 +33,7 @@ value_text (values.Other other) = codes "#" ++ encode_lower (encoding other.elem
 
 -- word, `=` and value
 abbrev pub attribute_text : AttributeTypeAndValue → List ℕ
-attribute_text attribute = type_word attribute.ty.formed.arcs ++ codes "=" ++ value_text attribute.value
+attribute_text attribute = type_word (arcs_of attribute.ty) ++ codes "=" ++ value_text attribute.value
 
 -- what stands between sets
 abbrev pub comma : ℕ

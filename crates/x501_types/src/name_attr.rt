@@ -2,6 +2,7 @@
 
 ghost use Rattle.std.specs.Prelude.{◌≡◌, ◌↔◌, IsTrue, [], ◌∷◌, IfOk, IfSome, Some, Contains, length};
 ghost use Rattle.asn1_types.specs.ObjectIdentifier.{contents_of};
+ghost use Rattle.asn1_types.specs.Values.{arcs_of};
 ghost use Rattle.x501_types.specs.declared.name_attr.NameAttr.{NameAttr};
 ghost use Rattle.x501_types.specs.declared.name_attr.TheConstants.NameAttr as attributes;
 ghost use Rattle.x501_types.specs.NameAttr.{attribute_arc, attribute_arcs, attribute_word};
@@ -55,7 +56,7 @@ impl NameAttr {
 
     /// Whether the identifier is that of the attribute type.
     pub fn is_type(self, ty: &ObjectIdentifier) -> bool
-        ensures { IsTrue result ↔ (ty.now.formed.arcs ≡ attribute_arcs self) }
+        ensures { IsTrue result ↔ (arcs_of ty.now ≡ attribute_arcs self) }
     {
         is_same(ty.as_bytes(), self.oid_contents())
     }
@@ -95,7 +96,7 @@ impl NameAttr {
 
     /// The identifier.
     pub fn to_oid(self, alloc: Global) -> Result<ObjectIdentifier, AllocError>
-        ensures { IfOk result (λ identifier. identifier.formed.arcs ≡ attribute_arcs self) }
+        ensures { IfOk result (λ identifier. arcs_of identifier ≡ attribute_arcs self) }
     {
         ObjectIdentifier::from_known(alloc, self.oid_contents())
     }

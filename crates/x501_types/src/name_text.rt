@@ -4,6 +4,7 @@ ghost use Rattle.std.specs.Prelude.{Some, ◌++◌, codes};
 ghost use Rattle.std.specs.Fmt.{WritesOnOk};
 ghost use Rattle.hex.specs.Hex.{encode_lower};
 ghost use Rattle.der_core.specs.Encoding.{encoding};
+ghost use Rattle.asn1_types.specs.Values.{arcs_of};
 ghost use Rattle.x501_types.specs.NameText.{attribute_text, name_text, set_text, type_word, value_text};
 
 use crate::attribute::AttributeTypeAndValue;
@@ -50,7 +51,7 @@ impl fmt::Display for AttributeTypeAndValue {
 
 /// The word of an attribute type, or its identifier's dotted text.
 fn write_type<W: fmt::Write>(ty: &ObjectIdentifier, f: &mut fmt::Formatter<W>) -> fmt::Result
-    ensures { WritesOnOk W.write_str_gives f.old result (type_word ty.now.formed.arcs) f.new }
+    ensures { WritesOnOk W.write_str_gives f.old result (type_word (arcs_of ty.now)) f.new }
 {
     if let Some(attr) = NameAttr::from_contents(ty.as_bytes()) {
         return f.write_str(attr.descriptor());

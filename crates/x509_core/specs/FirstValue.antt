@@ -1,5 +1,6 @@
 -- The value of the first extension of an identifier (RFC 5280 4.2).
 use Rattle.std.specs.Prelude.{◌≡◌, ℕ, List}
+use Rattle.x509_types.specs.Extension.{extension_value}
 use Rattle.x509_types.specs.FirstOfValue.{NoneHas, IsFirstWith}
 use Rattle.x509_types.specs.declared.extension.Extension.{Extension}
 use Rattle.x509_types.specs.declared.extension_view.ExtensionView.{ExtensionView}
@@ -11,7 +12,7 @@ use Rattle.x509_core.specs.declared.error.ExtName.{ExtName}
 pub record HasFirst (oid : List ℕ) (extensions : List Extension) (value : ExtensionView) : Type 0 where
   pub extension : Extension
   pub first : IsFirstWith oid extensions extension
-  pub valued : extension.extn_value ≡ value
+  pub valued : extension_value extension ≡ value
 
 -- The error tells that no extension has this identifier, and none has.
 abbrev pub IsMissing : List ℕ → ExtName → List Extension → CertError → Type 0

@@ -1,5 +1,6 @@
 -- Which certificate may be the parent of another, by what both say of names and keys (RFC 5280 4.2.1.1, 6.1.3).
 use Rattle.std.specs.Prelude.{◌≡◌, ◌≢◌, ⊤, ℕ, List}
+use Rattle.names_core.specs.Names.{sets_of}
 use Rattle.names_core.specs.declared.name.DirectoryName.{DirectoryName}
 use Rattle.x509_types.specs.CertificateElements.{CertificateElements}
 use Rattle.x509_types.specs.ExtensionParts.{HasSubjectKey, HasAuthorityKey}
@@ -47,7 +48,7 @@ IsKeyLink parent child (links.Differ expected actual) = DifferByKey parent child
 
 -- a certificate is told by the name of its subject
 abbrev pub IsNameOf : KeptCertificate → DirectoryName → Type 0
-IsNameOf kept id = id.name ≡ kept.certificate.tbs_certificate.subject
+IsNameOf kept id = sets_of id ≡ kept.certificate.tbs_certificate.subject
 
 -- The error tells of this certificate, for this cause, or of want of memory.
 abbrev pub IsInvalid : KeptCertificate → CertCause → CertError → Type 0
@@ -63,8 +64,8 @@ IsOtherKey kept expected actual = IsInvalid kept (causes.InvalidChain (chain.Aut
 pub record DifferByName (parent child : KeptCertificate) (expected actual : DirectoryName) : Type 0 where
   pub key : AgreeByKey parent.elements child.elements
   pub name : AgreeByName parent.elements child.elements → ⊥
-  pub expected_is : expected.name ≡ child.certificate.tbs_certificate.issuer
-  pub actual_is : actual.name ≡ parent.certificate.tbs_certificate.subject
+  pub expected_is : sets_of expected ≡ child.certificate.tbs_certificate.issuer
+  pub actual_is : sets_of actual ≡ parent.certificate.tbs_certificate.subject
 
 -- expected is what the child names, actual what the parent has
 abbrev pub RefusesChain : (parent child : KeptCertificate) → CaChainError → Type 0

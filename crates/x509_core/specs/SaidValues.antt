@@ -7,6 +7,8 @@ use Rattle.x509_types.specs.FirstOfValue.{extensions_in}
 use Rattle.x509_types.specs.declared.certificate.Certificate.{Certificate}
 use Rattle.x509_types.specs.declared.extension.Extension.{Extension}
 use Rattle.x509_types.specs.declared.extension_view.ExtensionView.TheVariants as views
+use Rattle.x509_values.specs.AuthorityKeyIdentifier.{key_identifier_of}
+use Rattle.x509_values.specs.BasicConstraints.{ca_of, pathlen_of}
 use Rattle.x509_values.specs.declared.authority_key_identifier.AuthorityKeyIdentifier.{AuthorityKeyIdentifier}
 use Rattle.x509_values.specs.declared.basic_constraints.BasicConstraints.{BasicConstraints}
 use Rattle.x509_core.specs.FirstValue.{HasFirst}
@@ -15,19 +17,19 @@ use Rattle.x509_core.specs.FirstValue.{HasFirst}
 pub record NamesKey (extensions : List Extension) (key : List ℕ) : Type 0 where
   pub value : AuthorityKeyIdentifier
   pub first : HasFirst CE_AUTHORITY_KEY_IDENTIFIER.now extensions (views.AuthorityKeyIdentifier value)
-  pub named : value.key_identifier ≡ Some key
+  pub named : key_identifier_of value ≡ Some key
 
 -- The first basic constraints have this flag.
 pub record HasFlag (extensions : List Extension) (flag : Bool) : Type 0 where
   pub value : BasicConstraints
   pub first : HasFirst CE_BASIC_CONSTRAINTS.now extensions (views.BasicConstraints value)
-  pub flagged : value.ca ≡ Some flag
+  pub flagged : ca_of value ≡ Some flag
 
 -- The first basic constraints have this path length.
 pub record HasLength (extensions : List Extension) (number : ℕ) : Type 0 where
   pub value : BasicConstraints
   pub first : HasFirst CE_BASIC_CONSTRAINTS.now extensions (views.BasicConstraints value)
-  pub limited : value.pathlen ≡ Some number
+  pub limited : pathlen_of value ≡ Some number
 
 -- Each says the same.
 pub record SayTheSame (f : CertificateElements) (c : Certificate) : Type 0 where

@@ -1,5 +1,5 @@
 -- Extension ::= SEQUENCE { extnID OBJECT IDENTIFIER, critical BOOLEAN DEFAULT FALSE, extnValue OCTET STRING } (RFC 5280 4.1, 4.1.2.9)
-use Rattle.std.specs.Prelude.{◌≡◌, ℕ, false, List, [], ◌∷◌, ◌++◌, map, Option, Some, None}
+use Rattle.std.specs.Prelude.{◌≡◌, ℕ, Bool, false, List, [], ◌∷◌, ◌++◌, map, Option, Some, None}
 use Rattle.der_core.specs.DerElement.{DerElement, Primitive}
 use Rattle.der_core.specs.Elements.{sequence}
 use Rattle.der_core.specs.Encoding.{encoding}
@@ -47,3 +47,15 @@ pub record IsRawExtension (e : Extension) (id : ObjectIdentifier) (octets : List
   pub named : e.extn_id ≡ id
   pub not_critical : e.critical ≡ false
   pub valued : IsNamedValue id octets e.extn_value
+
+-- the identifier of an extension
+abbrev pub extension_id : Extension → ObjectIdentifier
+extension_id e = e.extn_id
+
+-- whether an extension is critical
+abbrev pub is_critical : Extension → Bool
+is_critical e = e.critical
+
+-- the value of an extension
+abbrev pub extension_value : Extension → ExtensionView
+extension_value e = e.extn_value

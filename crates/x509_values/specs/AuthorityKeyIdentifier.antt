@@ -18,9 +18,14 @@ pub record IsAuthorityKeyOf (element : DerElement) (key_identifier : Option (Lis
   pub tagged : HasIssuerTag issuer
   pub is : element ≡ authority_key_of key_identifier issuer serial_number
 
+-- the element of an identifier
 abbrev pub authority_key_identifier : AuthorityKeyIdentifier → DerElement
 authority_key_identifier a = authority_key_of a.key_identifier (kept_option a.issuer) a.serial_number
 
 -- the key of this identifier alone
 abbrev pub key_of_identifier : List ℕ → AuthorityKeyIdentifier
 key_of_identifier key = record { key_identifier = Some key; issuer = None; serial_number = None; tagged = tt }
+
+-- the identifier of the key, where there is one
+abbrev pub key_identifier_of : AuthorityKeyIdentifier → Option (List ℕ)
+key_identifier_of a = a.key_identifier

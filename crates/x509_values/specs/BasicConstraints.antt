@@ -20,6 +20,7 @@ optional_integer (Some number) = small_integer number ∷ []
 abbrev pub constraints_with : Option Bool → Option ℕ → BasicConstraints
 constraints_with ca pathlen = record { ca = ca; pathlen = pathlen }
 
+-- the element that is written for constraints
 abbrev pub basic_constraints : BasicConstraints → DerElement
 basic_constraints b = sequence (optional_boolean b.ca ++ optional_integer b.pathlen)
 
@@ -48,3 +49,11 @@ pub record HasBadLength (all : List DerElement) : Type 0 where
 pub record TakesLength (all : List DerElement) (number : Option ℕ) (rest : List DerElement) : Type 0 where
   pub are : all ≡ optional_integer number ++ rest
   pub last : number ≡ None → rest ≡ []
+
+-- whether it is an authority's, where it is said
+abbrev pub ca_of : BasicConstraints → Option Bool
+ca_of b = b.ca
+
+-- how long paths may be, where it is said
+abbrev pub pathlen_of : BasicConstraints → Option ℕ
+pathlen_of b = b.pathlen

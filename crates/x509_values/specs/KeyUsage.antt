@@ -7,6 +7,7 @@ use Rattle.asn1_types.specs.Values.{payload_of, unused_of}
 use Rattle.asn1_types.specs.declared.bit_string.BitString.{BitString}
 use Rattle.x509_values.specs.declared.key_usage.KeyUsage.{KeyUsage}
 
+-- the element of a usage
 abbrev pub key_usage : KeyUsage → DerElement
 key_usage usage = bit_string usage.bits
 
@@ -28,3 +29,7 @@ pub record IsUsageOf (flags : ℕ) (bits : BitString) : Type 0 where
   pub last : (number : ℕ) → number + unused_of bits + 1 ≡ 8 * length (payload_of bits) → HasBit bits number
   -- the bits that aren't used are 0 (X.690 11.2.1)
   pub padded : (number : ℕ) → number < 8 * length (payload_of bits) → octet_bit (payload_of bits) number ≡ 1 → HasBit bits number
+
+-- the bits of a usage
+abbrev pub usage_bits : KeyUsage → BitString
+usage_bits usage = usage.bits

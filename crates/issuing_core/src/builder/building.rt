@@ -2,6 +2,7 @@
 
 ghost use Rattle.std.specs.Prelude.{◌≡◌, [], ◌∷◌, Some, None, IfOk, MatchResult};
 ghost use Rattle.asn1_types.specs.Integer.{IsUnsignedInteger};
+ghost use Rattle.asn1_types.specs.Values.{integer_contents};
 ghost use Rattle.asn1_types.specs.declared.oids.TheConstants.{CE_BASIC_CONSTRAINTS};
 ghost use Rattle.key_core.specs.SignatureAlgorithm.{IsWrittenAlgorithm, IsUnwritable};
 ghost use Rattle.x509_types.specs.FirstOfValue.{extensions_in};
@@ -127,7 +128,7 @@ impl<'a> CertificateBuilder<'a> {
         issuer: &IssuerInfos<'_>,
     ) -> Result<IssuedBy, CertError>
         ensures { MatchResult result
-            (λ by. IsIssuedBy self.now issuer.now word by.serial_number by.signature by.name.name)
+            (λ by. IsIssuedBy self.now issuer.now word by.serial_number by.signature (sets_of by.name))
             (RefusesBySteps errors.Memory (algorithm_step self.now ∷ [])) }
     {
         let signature = identifier_of(alloc, self.signature_hash_type)?;
@@ -142,7 +143,7 @@ impl<'a> CertificateBuilder<'a> {
 
     /// The serial number: the one that is given, or the random word, 1 for 0.
     fn serial(&self, alloc: Global, word: u32) -> Result<IntegerAsn1, AllocError>
-        ensures { IfOk result (λ serial. IsUnsignedInteger (serial_of self.now.serial_number word) serial.contents) }
+        ensures { IfOk result (λ serial. IsUnsignedInteger (serial_of self.now.serial_number word) (integer_contents serial)) }
     {
         match &self.serial_number {
             Some(octets) => IntegerAsn1::from_bytes_be_unsigned(alloc, octets.as_slice()),
@@ -153,7 +154,7 @@ impl<'a> CertificateBuilder<'a> {
 
 /// The integer of a number.
 fn number(alloc: Global, number: u32) -> Result<IntegerAsn1, AllocError>
-    ensures { IfOk result (λ integer. IsUnsignedInteger number integer.contents) }
+    ensures { IfOk result (λ integer. IsUnsignedInteger number (integer_contents integer)) }
 {
     IntegerAsn1::from_bytes_be_unsigned(alloc, &number.to_be_bytes())
 }
@@ -182,9 +183,9 @@ fn joined(
       version = Some versions.V3;
       serial_number = by.serial_number;
       signature = by.signature;
-      issuer = by.name.name;
+      issuer = sets_of by.name;
       validity = validity;
-      subject = subject.name.name;
+      subject = sets_of subject.name;
       subject_public_key_info = info_of subject.key;
       issuer_unique_id = None;
       subject_unique_id = None;

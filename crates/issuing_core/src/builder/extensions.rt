@@ -3,7 +3,7 @@
 ghost use Rattle.std.specs.Prelude.{◌≡◌, ◌↔◌, ◌++◌, true, false, IsTrue, IfOk, OnOk, List, option_to_list};
 ghost use Rattle.asn1_types.specs.declared.oids.TheConstants.{CE_SUBJECT_KEY_IDENTIFIER, CE_KEY_USAGE, CE_SUBJECT_ALT_NAME, CE_ISSUER_ALT_NAME, CE_AUTHORITY_KEY_IDENTIFIER, CE_EXT_KEY_USAGE};
 ghost use Rattle.x509_values.specs.AuthorityKeyIdentifier.{key_of_identifier};
-ghost use Rattle.x509_types.specs.Extension.{IsPlainExtension};
+ghost use Rattle.x509_types.specs.Extension.{IsPlainExtension, extension_id, extension_value, is_critical};
 ghost use Rattle.x509_types.specs.declared.extension.Extension.{Extension};
 ghost use Rattle.x509_types.specs.declared.extension_view.ExtensionView.TheVariants as views;
 ghost use Rattle.issuing_core.specs.BuiltCertificate.{authority_of};
@@ -147,7 +147,7 @@ fn copied(alloc: Global, names: &GeneralNames) -> Result<RawGeneralNames, AllocE
 
 /// The extension, critical or not.
 fn flagged(extension: Extension, critical: bool) -> Extension
-    ensures { (result.extn_id ≡ extension.extn_id) × (result.critical ≡ critical) × (result.extn_value ≡ extension.extn_value) }
+    ensures { (extension_id result ≡ extension_id extension) × (is_critical result ≡ critical) × (extension_value result ≡ extension_value extension) }
 {
     if critical {
         extension.into_critical()

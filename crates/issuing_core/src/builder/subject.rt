@@ -92,7 +92,7 @@ fn own_subject(
     issuer: &IssuerInfos<'_>,
 ) -> Result<(DirectoryName, PublicKey), CertError>
     ensures { MatchResult result
-        (λ subject. (subject.0.name ≡ issuer.now.name.name) × IsHalfOf issuer.now.key.now subject.1.info)
+        (λ subject. (sets_of subject.0 ≡ sets_of issuer.now.name) × IsHalfOf issuer.now.key.now (info_of subject.1))
         (RefusesBySteps errors.Memory (half_step issuer.now.key.now ∷ [])) }
 {
     let name = issuer.name.try_clone(alloc)?;
@@ -122,8 +122,8 @@ fn requested<S: Scheme>(
 ) -> Result<(DirectoryName, PublicKey), CertError>
     ensures { MatchResult result
         (λ subject. IsSelfSigned (S.judge scheme.now) csr.now
-        × (subject.0.name ≡ csr.now.request.certification_request_info.subject)
-        × (subject.1.info ≡ csr.now.request.certification_request_info.subject_public_key_info))
+        × (sets_of subject.0 ≡ csr.now.request.certification_request_info.subject)
+        × (info_of subject.1 ≡ csr.now.request.certification_request_info.subject_public_key_info))
         (λ e. Tells request_refusal (IsUnsigned (RefusesSelfSigned (S.judge scheme.now) csr.now)) e ⊎ (e ≡ errors.Memory)) }
 {
     match csr.verify(alloc, scheme) {
@@ -135,8 +135,8 @@ fn requested<S: Scheme>(
 /// The name and the key of a request.
 fn asked(alloc: Global, csr: &Csr) -> Result<(DirectoryName, PublicKey), AllocError>
     ensures { IfOk result (λ subject.
-        (subject.0.name ≡ csr.now.request.certification_request_info.subject)
-        × (subject.1.info ≡ csr.now.request.certification_request_info.subject_public_key_info)) }
+        (sets_of subject.0 ≡ csr.now.request.certification_request_info.subject)
+        × (info_of subject.1 ≡ csr.now.request.certification_request_info.subject_public_key_info)) }
 {
     let name = csr.subject_name(alloc)?;
     Ok((name, csr.public_key().try_clone(alloc)?))

@@ -12,6 +12,7 @@ ghost use Rattle.der_core.specs.Refusals.{RefusesOctets};
 ghost use Rattle.der_core.specs.Structure.{IsWithin};
 ghost use Rattle.der_core.specs.declared.error.DerError.TheVariants as der_errors;
 ghost use Rattle.der_core.specs.declared.fault.DerFault.{DerFault};
+ghost use Rattle.key_types.specs.AlgorithmIdentifier.{parameters_of};
 ghost use Rattle.key_core.specs.CurveKeys.{IsCurveKey};
 ghost use Rattle.key_core.specs.DerivedKeys.{IsEdOf, IsEdKeyOf, IsEcRefusal, IsEdRefusal};
 ghost use Rattle.key_core.specs.Pkcs8.{IsKept, IsKeptEc, RefusesEcInfo, RefusesEdInfo, RefusesKept, IsPkcs8Key, RefusesPkcs8};
@@ -97,8 +98,8 @@ fn kept_ec<S: Scheme>(
     scheme: &S,
 ) -> Result<PrivateKey, KeyError>
     ensures { MatchResult result
-        (λ made. (curve : ObjectIdentifier) × (kept_option algorithm.now.parameters ≡ Some (object_identifier curve)) × IsCurveKey (S.derives scheme.now) curve key.now made)
-        (IsEcRefusal (RefusesEcInfo (S.derives scheme.now) key.now (kept_option algorithm.now.parameters))) }
+        (λ made. (curve : ObjectIdentifier) × (kept_option (parameters_of algorithm.now) ≡ Some (object_identifier curve)) × IsCurveKey (S.derives scheme.now) curve key.now made)
+        (IsEcRefusal (RefusesEcInfo (S.derives scheme.now) key.now (kept_option (parameters_of algorithm.now)))) }
 {
     match curve_octets(algorithm) {
         Some(octets) => {
@@ -116,8 +117,8 @@ fn kept_ec<S: Scheme>(
 /// The contents octets of the identifier that the parameters of an algorithm are.
 pub(crate) fn curve_octets(algorithm: &AlgorithmIdentifier) -> Option<&[u8]>
     ensures { MatchOption result
-        ((curve : ObjectIdentifier) → kept_option algorithm.now.parameters ≢ Some (object_identifier curve))
-        (λ octets. (curve : ObjectIdentifier) × (kept_option algorithm.now.parameters ≡ Some (object_identifier curve)) × (identifier_contents curve ≡ octets.now)) }
+        ((curve : ObjectIdentifier) → kept_option (parameters_of algorithm.now) ≢ Some (object_identifier curve))
+        (λ octets. (curve : ObjectIdentifier) × (kept_option (parameters_of algorithm.now) ≡ Some (object_identifier curve)) × (identifier_contents curve ≡ octets.now)) }
 {
     match algorithm.parameters() {
         Some(parameters) => identifier_at(parameters.elem()),
