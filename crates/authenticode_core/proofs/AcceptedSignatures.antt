@@ -2,7 +2,8 @@
 use Rattle.std.proofs.Common.{◌≡◌, ℕ, List, [], ◌∷◌, inl, inr, sym, ap, subst, ◌∙◌}
 use Rattle.cms_types.specs.SignerElements.{SignerElements}
 use Rattle.der_core.specs.DerElement.{DerElement, Primitive}
-use Rattle.key_core.specs.SignatureRules.{IsFirstBroken as IsFirstBrokenOfSignature, RefusesBy as RefusesSignatureBy}
+use Rattle.key_core.specs.Rules.{IsFirstBroken}
+use Rattle.key_core.specs.SignatureRules.{RefusesBy as RefusesSignatureBy}
 use Rattle.key_core.specs.Verifying.{Judge, Accepts, verify_rules}
 use Rattle.key_core.specs.declared.signature_algorithm.SignatureAlgorithm.TheVariants.{RsaPkcs1v15}
 use Rattle.key_core.specs.declared.signature_error.SignatureError.{SignatureError}
@@ -32,7 +33,7 @@ module _ (judge : Judge) (g : SignerElements) (hash : HashAlgorithm) (c : Certif
   }
 
   told : (source : SignatureError) (e : AuthenticodeError) → HasKey c info → msg ≡ signed_message g → g.signature ≡ Primitive 0x04 sig
-      → e ≡ errors.SignatureError source → IsFirstBrokenOfSignature (verify_rules judge (RsaPkcs1v15 hash) info msg sig) source → RefusesBy (IsRefusedUnder judge g hash c ∷ []) e
+      → e ≡ errors.SignatureError source → IsFirstBroken (verify_rules judge (RsaPkcs1v15 hash) info msg sig) source → RefusesBy (IsRefusedUnder judge g hash c ∷ []) e
   told source e key message signature is broken =
       inl (inl (record {
         info = info;
@@ -40,12 +41,12 @@ module _ (judge : Judge) (g : SignerElements) (hash : HashAlgorithm) (c : Certif
         signature = sig;
         octets = signature;
         source = source;
-        refused = subst (λ (m : List ℕ). IsFirstBrokenOfSignature (verify_rules judge (RsaPkcs1v15 hash) info m sig) source) message broken;
+        refused = subst (λ (m : List ℕ). IsFirstBroken (verify_rules judge (RsaPkcs1v15 hash) info m sig) source) message broken;
         told = is;
       }))
 
   broken_by : (source : SignatureError) (e : AuthenticodeError) → HasKey c info → msg ≡ signed_message g → g.signature ≡ Primitive 0x04 sig
-      → e ≡ signature_refusal source → IsFirstBrokenOfSignature (verify_rules judge (RsaPkcs1v15 hash) info msg sig) source → RefusesBy (IsRefusedUnder judge g hash c ∷ []) e
+      → e ≡ signature_refusal source → IsFirstBroken (verify_rules judge (RsaPkcs1v15 hash) info msg sig) source → RefusesBy (IsRefusedUnder judge g hash c ∷ []) e
   broken_by (signature_errors.Key x) e key message signature is broken = told (signature_errors.Key x) e key message signature is broken
   broken_by (signature_errors.Rsa x) e key message signature is broken = told (signature_errors.Rsa x) e key message signature is broken
   broken_by (signature_errors.Ec x) e key message signature is broken = told (signature_errors.Ec x) e key message signature is broken

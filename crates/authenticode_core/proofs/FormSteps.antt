@@ -20,7 +20,7 @@ use Rattle.der_core.specs.DerElement.{DerElement, Primitive, Constructed, row, l
 use Rattle.der_core.specs.Elements.{sequence, explicit, octet_string}
 use Rattle.der_core.specs.Encoding.{encoding}
 use Rattle.der_core.specs.Facts.Rows.{listed-row}
-use Rattle.x509_core.specs.Rules.{IsFirstBroken}
+use Rattle.key_core.specs.Rules.{IsFirstBroken}
 use Rattle.authenticode_core.specs.CertificateBag.{members_of}
 use Rattle.authenticode_core.specs.Form.{AreSpelled, IsContentOf}
 use Rattle.authenticode_core.specs.FormRules.{HasForm, IsOfOtherVersion, HasOtherSigners, HasOtherAlgorithms, LacksContent, HasOtherContent, form_rules}

@@ -1,5 +1,4 @@
 pub mod Padded
-pub mod RuleLists
 pub mod FormFields
 pub mod FormOrder
 pub mod FormSteps

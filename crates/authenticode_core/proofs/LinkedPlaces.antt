@@ -6,7 +6,8 @@ use Rattle.key_core.specs.Verifying.{Judge}
 use Rattle.x509_core.specs.Chain.{last_of}
 use Rattle.x509_core.specs.KeptCertificate.{KeptCertificate}
 use Rattle.x509_core.specs.Link.{IsLink, IsStandingFor, link_rules}
-use Rattle.x509_core.specs.Rules.{IsFirstBroken, RefusesBy}
+use Rattle.key_core.specs.Rules.{IsFirstBroken}
+use Rattle.x509_core.specs.Rules.{RefusesBy}
 use Rattle.x509_core.specs.declared.error.CertError.{CertError}
 use Rattle.x509_core.specs.declared.error.CertError.TheVariants as errors
 use Rattle.x509_core.specs.declared.window.Window.{Window}

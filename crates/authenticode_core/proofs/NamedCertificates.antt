@@ -18,7 +18,7 @@ use Rattle.der_core.specs.Structure.{IsWithin}
 use Rattle.names_core.specs.declared.name.DirectoryName.{DirectoryName}
 use Rattle.x501_types.specs.Facts.Names.{names}
 use Rattle.x501_types.specs.Name.{name}
-use Rattle.x509_core.specs.Rules.{IsMet}
+use Rattle.key_core.specs.Rules.{IsMet}
 use Rattle.x509_types.specs.CertificateElements.{CertificateElements}
 use Rattle.authenticode_core.specs.BagSigner.{HasNoSigner}
 use Rattle.authenticode_core.specs.CertificateBag.{IsBag, members_of}

@@ -5,7 +5,7 @@ use Rattle.x509_core.specs.Chain.{IsLinkedChain, last_of}
 use Rattle.x509_core.specs.Facts.Certs.{same_kept}
 use Rattle.x509_core.specs.KeptCertificate.{KeptCertificate}
 use Rattle.x509_core.specs.Link.{link_rules}
-use Rattle.x509_core.specs.Rules.{IsFirstBroken}
+use Rattle.key_core.specs.Rules.{IsFirstBroken}
 use Rattle.x509_core.specs.declared.error.CertError.{CertError}
 use Rattle.x509_core.specs.declared.window.Window.{Window}
 use Rattle.x509_core.proofs.OneLink.{link_once}

@@ -10,9 +10,8 @@ use Rattle.cms_types.specs.SignerIdentifier.{issuer_and_serial_number, signer_id
 use Rattle.cms_types.specs.SignerInfo.{signer_elements, signer_info}
 use Rattle.der_core.specs.DerElement.{DerElement, Primitive}
 use Rattle.der_core.specs.Elements.{sequence}
-use Rattle.key_core.proofs.FirstBroken.{once as one_broken_of_signature}
 use Rattle.key_core.proofs.Verifications.{verify_one, accepted_is_met}
-use Rattle.key_core.specs.SignatureRules.{IsFirstBroken as IsFirstBrokenOfSignature}
+use Rattle.key_core.specs.Rules.{IsMet, IsFirstBroken}
 use Rattle.key_core.specs.Verifying.{Judge, verify_rules}
 use Rattle.key_core.specs.declared.signature_algorithm.SignatureAlgorithm.TheVariants.{RsaPkcs1v15}
 use Rattle.key_core.specs.declared.signature_error.SignatureError.{SignatureError}
@@ -25,7 +24,6 @@ use Rattle.sig_core.specs.declared.hash.HashAlgorithm.{HashAlgorithm}
 use Rattle.sig_core.specs.declared.hash.HashAlgorithm.TheVariants.{SHA2_224}
 use Rattle.x501_types.specs.Name.{name}
 use Rattle.x509_core.proofs.SignedParts.{one_key}
-use Rattle.x509_core.specs.Rules.{IsMet, IsFirstBroken}
 use Rattle.x509_types.specs.CertificateElements.{CertificateElements}
 use Rattle.x509_types.specs.Purposes.{NamesPurpose}
 use Rattle.authenticode_core.specs.BagSigner.{IsNamed}
@@ -37,7 +35,7 @@ use Rattle.authenticode_core.specs.declared.error.AuthenticodeError.TheVariants 
 use Rattle.authenticode_core.proofs.BagSteps.{one_bag}
 use Rattle.authenticode_core.proofs.DigestNames.{named_once}
 use Rattle.authenticode_core.proofs.FirstAttributes.{message_digest_once}
-use Rattle.authenticode_core.proofs.RuleLists.{AreMet, IsToldOnce, AreToldOnce, NoneTells, none_broken, one_broken}
+use Rattle.key_core.proofs.RuleLists.{AreMet, AreToldOnce, IsToldOnce, NoneTells, none_broken, one_broken}
 use Rattle.authenticode_core.proofs.SignerSteps.{heads, same_sid}
 use Rattle.authenticode_core.proofs.WalkSteps.{least_once}
 
@@ -98,8 +96,8 @@ module _ (judge : Judge) (f : SignedDataElements) (d : IndirectData) (g : Signer
       let info = one_key c b.info s.info b.key s.key in
       let signature = signature_octets b.signature s.signature (sym b.octets ∙ s.octets) in
       accepted_is_met judge (RsaPkcs1v15 hash) s.info (signed_message g) s.signature b.source s.accepted
-      (subst (λ (t : List ℕ). IsFirstBrokenOfSignature (verify_rules judge (RsaPkcs1v15 hash) s.info (signed_message g) t) b.source) signature
-      (subst (λ (i : SubjectPublicKeyInfo). IsFirstBrokenOfSignature (verify_rules judge (RsaPkcs1v15 hash) i (signed_message g) b.signature) b.source) info b.refused))
+      (subst (λ (t : List ℕ). IsFirstBroken (verify_rules judge (RsaPkcs1v15 hash) s.info (signed_message g) t) b.source) signature
+      (subst (λ (i : SubjectPublicKeyInfo). IsFirstBroken (verify_rules judge (RsaPkcs1v15 hash) i (signed_message g) b.signature) b.source) info b.refused))
 
   same_refusal : (hash other : HashAlgorithm) (c k : CertificateElements) (e : AuthenticodeError) → other ≡ hash → k ≡ c → IsRefusedUnder judge g other k e → IsRefusedUnder judge g hash c e
   same_refusal hash other c k e p q refused =
@@ -169,11 +167,11 @@ module _ (judge : Judge) (f : SignedDataElements) (d : IndirectData) (g : Signer
   refused_once hash c a b p q =
       let info = one_key c q.info p.info q.key p.key in
       let signature = signature_octets q.signature p.signature (sym q.octets ∙ p.octets) in
-      let other : IsFirstBrokenOfSignature (verify_rules judge (RsaPkcs1v15 hash) p.info (signed_message g) p.signature) q.source =
-      subst (λ (t : List ℕ). IsFirstBrokenOfSignature (verify_rules judge (RsaPkcs1v15 hash) p.info (signed_message g) t) q.source) signature
-      (subst (λ (i : SubjectPublicKeyInfo). IsFirstBrokenOfSignature (verify_rules judge (RsaPkcs1v15 hash) i (signed_message g) q.signature) q.source) info q.refused) in
+      let other : IsFirstBroken (verify_rules judge (RsaPkcs1v15 hash) p.info (signed_message g) p.signature) q.source =
+      subst (λ (t : List ℕ). IsFirstBroken (verify_rules judge (RsaPkcs1v15 hash) p.info (signed_message g) t) q.source) signature
+      (subst (λ (i : SubjectPublicKeyInfo). IsFirstBroken (verify_rules judge (RsaPkcs1v15 hash) i (signed_message g) q.signature) q.source) info q.refused) in
       p.told
-      ∙ ap errors.SignatureError (one_broken_of_signature (verify_rules judge (RsaPkcs1v15 hash) p.info (signed_message g) p.signature) p.source q.source (verify_one judge (RsaPkcs1v15 hash) p.info (signed_message g) p.signature) p.refused other)
+      ∙ ap errors.SignatureError (one_broken (verify_rules judge (RsaPkcs1v15 hash) p.info (signed_message g) p.signature) (verify_one judge (RsaPkcs1v15 hash) p.info (signed_message g) p.signature) p.source q.source p.refused other)
       ∙ sym q.told
 
   badly_once : IsToldOnce (IsBadlySigned judge f g)

@@ -12,7 +12,8 @@ use Rattle.x509_core.specs.Chain.{IsDated, LacksDate}
 use Rattle.x509_core.specs.Facts.Certs.{same_kept}
 use Rattle.x509_core.specs.KeptCertificate.{KeptCertificate}
 use Rattle.x509_core.specs.Link.{IsOutside}
-use Rattle.x509_core.specs.Rules.{Breaks, Rule, IsFirstBroken, IsMet}
+use Rattle.key_core.specs.Rules.{Rule, IsMet, IsFirstBroken}
+use Rattle.x509_core.specs.Rules.{Breaks}
 use Rattle.x509_core.specs.Window.{IsExpired, IsWithinWindow, window_rules}
 use Rattle.x509_core.specs.declared.error.CertCause.{CertCause}
 use Rattle.x509_core.specs.declared.error.CertCause.TheVariants as causes
@@ -40,7 +41,7 @@ use Rattle.authenticode_core.specs.declared.policy.Policy.{Policy}
 use Rattle.authenticode_core.proofs.FormFields.{signer_is_spelled, signer_once as first_once}
 use Rattle.authenticode_core.proofs.OneExcuse.{bad_stamp_is_told}
 use Rattle.authenticode_core.proofs.OneSigning.{certificate_is_met, named_is_met, same_bag, signer_once}
-use Rattle.authenticode_core.proofs.RuleLists.{AreMet, broken_behind}
+use Rattle.key_core.proofs.RuleLists.{AreMet, broken_behind}
 
 -- ---- the certificate of the signer is one
 

@@ -16,7 +16,7 @@ use Rattle.der_core.specs.declared.fault.Malformed.{Malformed}
 use Rattle.key_core.specs.Verifying.{Judge}
 use Rattle.key_core.specs.declared.element.Element.TheVariants.{Pkcs7}
 use Rattle.wincert_core.specs.Refusal.{contents_in}
-use Rattle.x509_core.specs.Rules.{Rule, IsFirstBroken}
+use Rattle.key_core.specs.Rules.{Rule, IsFirstBroken}
 use Rattle.x509_core.specs.declared.error.CertError.TheVariants.{Asn1Deserialization}
 use Rattle.authenticode_core.specs.FormRules.{HasForm, FileDiffers}
 use Rattle.authenticode_core.specs.SignedFields.{HasIndirectData, IndirectData, IsFirstSigner}

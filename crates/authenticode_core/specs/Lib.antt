@@ -29,4 +29,5 @@ pub mod OthersCursor
 pub mod Linking
 pub mod Wanted
 pub mod Naming
+pub mod Counts
 pub mod Form

@@ -7,7 +7,7 @@ use Rattle.key_core.specs.Verifying.{Judge}
 use Rattle.x509_core.specs.Chain.{IsDated, LacksDate}
 use Rattle.x509_core.specs.KeptCertificate.{KeptCertificate}
 use Rattle.x509_core.specs.Link.{IsOutside}
-use Rattle.x509_core.specs.Rules.{Rule}
+use Rattle.key_core.specs.Rules.{Rule}
 use Rattle.x509_core.specs.Window.{IsExpired, IsWithinWindow}
 use Rattle.x509_core.specs.declared.error.CertError.{CertError}
 use Rattle.x509_core.specs.declared.window.Window.{Window}

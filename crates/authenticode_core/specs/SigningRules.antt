@@ -9,7 +9,7 @@ use Rattle.der_core.specs.DerElement.{DerElement, Primitive}
 use Rattle.der_core.specs.Elements.{sequence}
 use Rattle.der_core.specs.Encoding.{encodings}
 use Rattle.der_core.specs.DerElement.{row}
-use Rattle.key_core.specs.SignatureRules.{IsFirstBroken as IsFirstBrokenOfSignature}
+use Rattle.key_core.specs.Rules.{Rule, IsFirstBroken}
 use Rattle.key_core.specs.Verifying.{Judge, Accepts, verify_rules}
 use Rattle.key_core.specs.declared.signature_algorithm.SignatureAlgorithm.TheVariants.{RsaPkcs1v15}
 use Rattle.key_core.specs.declared.signature_error.SignatureError.{SignatureError}
@@ -24,7 +24,6 @@ use Rattle.sig_core.specs.declared.hash.HashAlgorithm.TheVariants.{SHA2_224}
 use Rattle.sig_core.specs.declared.sha_variant.ShaVariant.{ShaVariant}
 use Rattle.x501_types.specs.Name.{name}
 use Rattle.x509_core.specs.Link.{HasKey}
-use Rattle.x509_core.specs.Rules.{Rule, IsFirstBroken}
 use Rattle.x509_types.specs.CertificateElements.{CertificateElements}
 use Rattle.x509_types.specs.Purposes.{HasPurposes, NamesPurpose}
 use Rattle.authenticode_core.specs.BagSigner.{IsSignerPlace, HasNoSigner}
@@ -117,7 +116,7 @@ pub record IsRefusedUnder (judge : Judge) (g : SignerElements) (hash : HashAlgor
   pub signature : List ℕ
   pub octets : g.signature ≡ Primitive 0x04 signature
   pub source : SignatureError
-  pub refused : IsFirstBrokenOfSignature (verify_rules judge (RsaPkcs1v15 hash) info (signed_message g) signature) source
+  pub refused : IsFirstBroken (verify_rules judge (RsaPkcs1v15 hash) info (signed_message g) signature) source
   pub told : e ≡ errors.SignatureError source
 
 -- the signature isn't accepted

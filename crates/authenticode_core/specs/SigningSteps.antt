@@ -16,7 +16,7 @@ use Rattle.sig_core.specs.Digest.{digest_of}
 use Rattle.sig_core.specs.declared.hash.HashAlgorithm.{HashAlgorithm}
 use Rattle.sig_core.specs.declared.hash.HashAlgorithm.TheVariants.{SHA2_224}
 use Rattle.x501_types.specs.Name.{name}
-use Rattle.x509_core.specs.Rules.{Rule}
+use Rattle.key_core.specs.Rules.{Rule}
 use Rattle.x509_types.specs.CertificateElements.{CertificateElements}
 use Rattle.x509_types.specs.CertificateView.{view_elements}
 use Rattle.x509_types.specs.Purposes.{NamesPurpose}

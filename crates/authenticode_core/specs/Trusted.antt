@@ -3,7 +3,7 @@ use Rattle.std.specs.Prelude.{◌≡◌, ⊤, ◌⊎◌, Bool, ℕ, List, [], �
 use Rattle.cms_types.specs.SignedDataElements.{SignedDataElements}
 use Rattle.key_core.specs.Verifying.{Judge}
 use Rattle.wincert_core.specs.Refusal.{contents_in}
-use Rattle.x509_core.specs.Rules.{Rule, IsFirstBroken}
+use Rattle.key_core.specs.Rules.{Rule, IsFirstBroken}
 use Rattle.authenticode_core.specs.Basic.{HasSignedData, IsRefusedPart, IsUnreadSignature, IsVouchedFor}
 use Rattle.authenticode_core.specs.FormRules.{form_rules}
 use Rattle.authenticode_core.specs.SignerRules.{IsSignerVouched, signer_rules}

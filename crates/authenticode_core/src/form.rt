@@ -9,7 +9,7 @@ ghost use Rattle.cms_types.specs.SignerView.{signer_elements_at};
 ghost use Rattle.der_core.specs.DerElement.{DerElement};
 ghost use Rattle.der_core.specs.Elements.{sequence, octet_string};
 ghost use Rattle.der_core.specs.Lent.{at_option};
-ghost use Rattle.x509_core.specs.Rules.{IsFirstBroken};
+ghost use Rattle.key_core.specs.Rules.{IsFirstBroken};
 ghost use Rattle.authenticode_core.specs.CertificateBag.{members_of};
 ghost use Rattle.authenticode_core.specs.Form.{AreSpelled, IsContentOf, IsFormOf};
 ghost use Rattle.authenticode_core.specs.FormRules.{IsOfOtherVersion, HasOtherSigners, HasOtherAlgorithms, LacksContent, HasOtherContent, form_rules};

@@ -31,7 +31,7 @@ use Rattle.authenticode_values.specs.Building.{Given, HasGiven, IsBuilt, IsBuilt
 use Rattle.authenticode_values.specs.declared.builder.AuthenticodeSignatureBuilder.{AuthenticodeSignatureBuilder}
 use Rattle.authenticode_values.specs.declared.builder_error.AuthenticodeSignatureBuilderError.{AuthenticodeSignatureBuilderError}
 use Rattle.authenticode_values.specs.declared.builder_error.AuthenticodeSignatureBuilderError.TheVariants as errors
-use Rattle.authenticode_values.proofs.TakenSteps.{refused_before, refused_behind, untaken_before, untaken_behind}
+use Rattle.x509_core.proofs.TakenSteps.{refused_before, refused_behind, untaken_before, untaken_behind}
 
 -- ---- what has to be given
 

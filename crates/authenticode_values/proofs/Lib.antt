@@ -2,7 +2,6 @@ pub mod Members
 pub mod Namings
 pub mod Padding
 pub mod Walks
-pub mod TakenSteps
 pub mod WalkPurposes
 pub mod MadeSteps
 pub mod CarriedWalks

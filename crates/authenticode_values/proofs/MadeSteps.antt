@@ -34,7 +34,7 @@ use Rattle.making_core.specs.MadeContent.{attributes_message, content_digest, da
 use Rattle.making_core.specs.MadeSignature.{attributes_element, signature_made}
 use Rattle.making_core.specs.SignedProgram.{IsBasicName, IsSignature, IsSignedProgram, Program, algorithm_for, attributes_for, message_for, name_of, program_of}
 use Rattle.authenticode_values.specs.Making.{HasNoFirstSigner, HasSigner, IsFirstSigner, IsMadeOf, attributes_written, certificates_step, code_signing_step, hash_step, making_steps, name_step, signature_step, signing_steps, writing_step}
-use Rattle.authenticode_values.proofs.TakenSteps.{refused_before, refused_behind}
+use Rattle.x509_core.proofs.TakenSteps.{refused_before, refused_behind}
 
 -- ---- the first step
 

@@ -12,10 +12,10 @@ use Rattle.der_core.specs.declared.error.DerError.{DerError}
 use Rattle.der_core.specs.declared.error.DerError.TheVariants as der
 use Rattle.key_core.proofs.Unwritten.{alone, one_source, written as no_cause}
 use Rattle.key_core.specs.Verifying.{Judge}
-use Rattle.x509_core.specs.Rules.{IsFirstBroken, IsMet}
+use Rattle.key_core.specs.Rules.{IsMet, IsFirstBroken}
 use Rattle.authenticode_core.proofs.FormFields.{fields_of_view, same_fields_of}
 use Rattle.authenticode_core.proofs.PolicyOrder.{one_trusted, policy_told, trusted_unbroken}
-use Rattle.authenticode_core.proofs.RuleLists.{IsToldOnce, one_broken}
+use Rattle.key_core.proofs.RuleLists.{IsToldOnce, one_broken}
 use Rattle.authenticode_core.specs.ContentRefusal.{of_der}
 use Rattle.authenticode_core.specs.SigningRules.{RefusesBy}
 use Rattle.authenticode_core.specs.Trusted.{IsTrusted, asked, policy_rules, shape_rules}

@@ -6,7 +6,6 @@ pub mod SignedFields
 pub mod Walk
 pub mod CertificatesAlone
 pub mod TimestampRequest
-pub mod Counts
 pub mod Timestamper
 pub mod Stamping
 pub mod RequestRefusals

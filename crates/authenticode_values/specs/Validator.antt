@@ -6,7 +6,7 @@ use Rattle.der_core.specs.Encoding.{IsDer}
 use Rattle.der_core.specs.declared.error.DerError.{DerError}
 use Rattle.key_core.specs.KeyRefusals.{CantBeWritten}
 use Rattle.key_core.specs.Verifying.{Judge}
-use Rattle.x509_core.specs.Rules.{Rule}
+use Rattle.key_core.specs.Rules.{Rule}
 use Rattle.x509_core.specs.declared.window.DateCheck.{DateCheck}
 use Rattle.authenticode_core.specs.SigningRules.{RefusesBy}
 use Rattle.authenticode_core.specs.Trusted.{IsTrusted, policy_rules}
@@ -15,23 +15,23 @@ use Rattle.authenticode_core.specs.declared.error.AuthenticodeError.{Authenticod
 use Rattle.authenticode_core.specs.declared.error.AuthenticodeError.TheVariants as errors
 use Rattle.authenticode_core.specs.declared.policy.Policy.{Policy}
 
--- each with one part changed
+-- the policy at these dates
 abbrev pub at_dates : DateCheck → Policy → Policy
 at_dates date policy = record policy { date = date }
 
--- the policy that asks whether a certificate is valid already, or not
+-- the policy with this answer to whether a certificate has to be valid already
 abbrev pub with_not_before : Bool → Policy → Policy
 with_not_before asked policy = record policy { not_before = asked }
 
--- the policy that asks whether a certificate is still valid, or not
+-- the policy with this answer to whether a certificate has to be still valid
 abbrev pub with_not_after : Bool → Policy → Policy
 with_not_after asked policy = record policy { not_after = asked }
 
--- the policy that asks for the chain, or not
+-- the policy with this answer to whether the chain is asked for
 abbrev pub with_chain : Bool → Policy → Policy
 with_chain asked policy = record policy { chain = asked }
 
--- the policy that asks for the signer's certificate, or not
+-- the policy with this answer to whether the signer's certificate has to be valid, or its expiry excused
 abbrev pub with_signing : Bool → Policy → Policy
 with_signing asked policy = record policy { signing = asked }
 

@@ -3,7 +3,7 @@
 ghost use Rattle.std.specs.Prelude.{◌≡◌, ◌≤◌, [], IfErr, OnErr, OnOk, Err, MatchOption};
 ghost use Rattle.cms_types.specs.declared.signer_info.SignerInfo.{SignerInfo};
 ghost use Rattle.authenticode_core.specs.declared.error.AuthenticodeError.TheVariants as errors;
-ghost use Rattle.authenticode_values.specs.Counts.{HasRisen};
+ghost use Rattle.authenticode_core.specs.Counts.{HasRisen};
 ghost use Rattle.authenticode_values.specs.Pkcs7.{signers_of};
 ghost use Rattle.authenticode_values.specs.Stamping.{HasFirstSignature, IsStamped, IsUnstamped, of_timestamp};
 ghost use Rattle.authenticode_values.specs.Timestamper.{GiveAlike, ModifyAlike};

@@ -4,7 +4,7 @@ ghost use Rattle.std.specs.Prelude.{◌≡◌, ◌⊎◌, ℕ, Ok, Err, IfOk, On
 ghost use Rattle.cms_types.specs.declared.signed_data.SignedData.{SignedData};
 ghost use Rattle.authenticode_core.specs.declared.timestamp_error.TimestampError.{TimestampError};
 ghost use Rattle.authenticode_core.specs.declared.timestamp_error.TimestampError.TheVariants as errors;
-ghost use Rattle.authenticode_values.specs.Counts.{GoesOn, HasRisen};
+ghost use Rattle.authenticode_core.specs.Counts.{GoesOn, HasRisen};
 ghost use Rattle.authenticode_values.specs.Timestamper.{GiveAlike, Giving, Modification, ModifyAlike};
 ghost use Rattle.authenticode_values.specs.declared.pkcs7.Pkcs7.{Pkcs7};
 

@@ -37,7 +37,7 @@ use Rattle.x509_core.proofs.SignedParts.{signed_by, signed_with}
 use Rattle.x509_core.specs.declared.error.CertError.TheVariants as errors
 use Rattle.issuing_core.proofs.MadeCertificates.{made_or_refused}
 use Rattle.issuing_core.proofs.Subjects.{subject_taken}
-use Rattle.issuing_core.proofs.TakenSteps.{untaken_before, refused_behind, refused_within}
+use Rattle.x509_core.proofs.TakenSteps.{untaken_before, refused_behind, refused_within}
 use Rattle.issuing_core.proofs.WantedExtensions.{built_distinct, built_constrained}
 
 is_given : {X : Type 0} (option : Option X) (x : X) → option ≡ Some x → IsSome option
@@ -53,28 +53,28 @@ module _ (judge : Judge) (signs : Signs) (pair : Pair) (b : CertificateBuilder) 
 
   behind_given : (e : CertError) → RefusesBySteps errors.Memory (steps_by judge signs pair b word (Some issuer)) e → RefusesBySteps errors.Memory (build_steps judge signs pair b word) e
   behind_given e refused =
-      refused_behind (given_steps b) (steps_by judge signs pair b word b.issuer_infos) e given_taken
+      refused_behind errors.Memory (given_steps b) (steps_by judge signs pair b word b.issuer_infos) e given_taken
       (subst (λ (o : Option IssuerInfos). RefusesBySteps errors.Memory (steps_by judge signs pair b word o) e) (sym issued) refused)
 
   pub no_subject : (e : CertError) → RefusesBySteps errors.Memory (subject_steps judge issuer.self_signed b issuer ++ identifier_step judge b issuer ∷ []) e → RefusesBySteps errors.Memory (build_steps judge signs pair b word) e
   no_subject e refused =
-      behind_given e (refused_within (subject_steps judge issuer.self_signed b issuer) (identifier_step judge b issuer ∷ [])
+      behind_given e (refused_within errors.Memory (subject_steps judge issuer.self_signed b issuer) (identifier_step judge b issuer ∷ [])
       (algorithm_step b ∷ signing_steps judge signs pair b.signature_hash_type issuer.key.now (IsTbsFor judge b issuer word)) e refused)
 
   behind_subject : (own : List ℕ) (name : Name) (key : SubjectPublicKeyInfo) (e : CertError) → IsIssuedTo judge b issuer own name key
       → RefusesBySteps errors.Memory (algorithm_step b ∷ signing_steps judge signs pair b.signature_hash_type issuer.key.now (IsTbsFor judge b issuer word)) e → RefusesBySteps errors.Memory (build_steps judge signs pair b word) e
   behind_subject own name key e to_whom refused =
-      behind_given e (refused_behind (subject_steps judge issuer.self_signed b issuer)
+      behind_given e (refused_behind errors.Memory (subject_steps judge issuer.self_signed b issuer)
       (identifier_step judge b issuer ∷ algorithm_step b ∷ signing_steps judge signs pair b.signature_hash_type issuer.key.now (IsTbsFor judge b issuer word)) e
       (subject_taken judge issuer.self_signed b issuer name key to_whom.subject)
-      (refused_behind (identifier_step judge b issuer ∷ []) (algorithm_step b ∷ signing_steps judge signs pair b.signature_hash_type issuer.key.now (IsTbsFor judge b issuer word)) e
+      (refused_behind errors.Memory (identifier_step judge b issuer ∷ []) (algorithm_step b ∷ signing_steps judge signs pair b.signature_hash_type issuer.key.now (IsTbsFor judge b issuer word)) e
       ((name, key, own, to_whom), tt) refused))
 
   pub no_algorithm : (own : List ℕ) (name : Name) (key : SubjectPublicKeyInfo) (e : CertError) → IsIssuedTo judge b issuer own name key → RefusesBySteps errors.Memory (algorithm_step b ∷ []) e
       → RefusesBySteps errors.Memory (build_steps judge signs pair b word) e
   no_algorithm own name key e to_whom refused =
       behind_subject own name key e to_whom
-      (refused_within [] (algorithm_step b ∷ []) (signing_steps judge signs pair b.signature_hash_type issuer.key.now (IsTbsFor judge b issuer word)) e refused)
+      (refused_within errors.Memory [] (algorithm_step b ∷ []) (signing_steps judge signs pair b.signature_hash_type issuer.key.now (IsTbsFor judge b issuer word)) e refused)
 
   -- what is signed is that of the builder
   tbs_for : (own : List ℕ) (name : Name) (key : SubjectPublicKeyInfo) (tbs : TbsCertificate) → IsIssuedTo judge b issuer own name key → IsTbsBy b issuer word own tbs
@@ -104,7 +104,7 @@ module _ (judge : Judge) (signs : Signs) (pair : Pair) (b : CertificateBuilder) 
       told (Ok cert) is = record { issuer = issuer; given = issued; made = is }
       told (Err e) refused =
           behind_subject own name key e to_whom
-          (refused_behind (algorithm_step b ∷ []) (signing_steps judge signs pair b.signature_hash_type issuer.key.now (IsTbsFor judge b issuer word)) e
+          (refused_behind errors.Memory (algorithm_step b ∷ []) (signing_steps judge signs pair b.signature_hash_type issuer.key.now (IsTbsFor judge b issuer word)) e
           ((tbs.signature, by.issued_by.signs), tt) refused)
 
 -- ---- what holds of its extensions

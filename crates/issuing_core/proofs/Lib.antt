@@ -1,6 +1,5 @@
 pub mod ReadCsrs
 pub mod Generating
-pub mod TakenSteps
 pub mod WantedExtensions
 pub mod Subjects
 pub mod MadeCertificates

@@ -7,7 +7,7 @@ pub mod KeptKeys
 pub mod Pkcs8Keys
 pub mod Refusing
 pub mod SignatureIdentifiers
-pub mod FirstBroken
+pub mod RuleLists
 pub mod Unwritten
 pub mod Verifications
 pub mod Signings

@@ -27,7 +27,8 @@ use Rattle.key_core.specs.KeyRefusals.{CantBeWritten, unwritten}
 use Rattle.key_core.specs.PrivateKeyValue.{private_kind}
 use Rattle.key_core.specs.PrivatePkcs1.{IsPkcs1OfPrivate, RefusesPrivatePkcs1}
 use Rattle.key_core.specs.SchemeNames.{rsa_alg, curve_for, ecdsa_alg}
-use Rattle.key_core.specs.SignatureRules.{Rule, IsMet, IsFirstBroken, RefusesBy, key_refusal}
+use Rattle.key_core.specs.Rules.{IsMet, IsFirstBroken}
+use Rattle.key_core.specs.SignatureRules.{RefusesBy, key_refusal}
 use Rattle.key_core.specs.Signing.{HasCurveOf, HasEdOf, IsSecretOn, IsEd25519Secret, FitsSecret, Signs, Pair, IsAsked, IsRsaPair, IsEcPair, IsEdPair, IsKeyPair, NotRsaSecret, UnwritableSecret, NotEcSecret, UnknownCurveOf, UnpairedSecret, WrongSecretSize, NotEdSecret, NoPublicKey, ForAgreementOnly, NotEd25519Secret, WrongEdSize, Unsigned, scheme_refused, secret_rules, sign_rules}
 use Rattle.key_core.specs.Verifying.{Judge, FitsKey, IsJudged, Accepts, IsPointOn}
 use Rattle.key_core.specs.declared.ec_curve.EcCurve.{EcCurve}
@@ -49,7 +50,7 @@ use Rattle.key_core.specs.declared.signature_error.SignatureError.TheVariants as
 use Rattle.key_core.specs.declared.signature_error.Unsupported.TheVariants as unsupported
 use Rattle.key_core.proofs.Curves.{same_curve, same_algorithm}
 use Rattle.key_core.proofs.Unwritten.{written, one_source, alone}
-use Rattle.key_core.proofs.FirstBroken.{AreMet, AreOne, behind, behind_met, both_one, once}
+use Rattle.key_core.proofs.RuleLists.{AreMet, AreToldOnce, broken_behind, left_broken, told_together}
 
 -- ---- what a private key names
 
@@ -182,14 +183,14 @@ unwritable_once key a b p q =
     ∙ ap (λ (source : DerError). errors.Key (key_errors.Asn1Serialization elements.RsaPrivateKey source)) (one_source (rsa_private_key p.rsa) p.source q.source p.cause other)
     ∙ sym q.error
 
-pub secret_one : (algorithm : SignatureAlgorithm) (key : PrivateKey) → AreOne (secret_rules algorithm key)
+pub secret_one : (algorithm : SignatureAlgorithm) (key : PrivateKey) → AreToldOnce (secret_rules algorithm key)
 secret_one (RsaPkcs1v15 hash) key = (λ a b p q. p.1 ∙ sym q.1, tt)
 secret_one (Ecdsa hash) key = (λ a b p q. p.1 ∙ sym q.1, (λ a b p q. p.1 ∙ sym q.1, (unpaired_once key hash, (λ a b p q. p.5 ∙ sym q.5, tt))))
 secret_one Ed25519 key = (λ a b p q. p.1 ∙ sym q.1, (λ a b p q. p.1 ∙ sym q.1, (λ a b p q. p.1 ∙ sym q.1, (λ a b p q. p.1 ∙ sym q.1, (λ a b p q. p.5 ∙ sym q.5, tt)))))
 
-pub sign_one : (signs : Signs) (algorithm : SignatureAlgorithm) (key : PrivateKey) (msg : List ℕ) → AreOne (sign_rules signs algorithm key msg)
+pub sign_one : (signs : Signs) (algorithm : SignatureAlgorithm) (key : PrivateKey) (msg : List ℕ) → AreToldOnce (sign_rules signs algorithm key msg)
 sign_one signs algorithm key msg =
-    both_one (secret_rules algorithm key) (UnwritableSecret key ∷ Unsigned signs algorithm key msg ∷ [])
+    told_together (secret_rules algorithm key) (UnwritableSecret key ∷ Unsigned signs algorithm key msg ∷ [])
     (secret_one algorithm key) (unwritable_once key, (λ a b p q. p.1 ∙ sym q.1, tt))
 
 -- ---- the whole
@@ -200,7 +201,7 @@ true_is_not_false e = cc
 pub asked_is_met : (signs : Signs) (algorithm : SignatureAlgorithm) (key : PrivateKey) (msg : List ℕ) (e : SignatureError)
     → IsAsked signs algorithm key msg true → IsFirstBroken (sign_rules signs algorithm key msg) e → ⊥
 asked_is_met signs algorithm key msg e asked broken =
-    later (behind_met (secret_rules algorithm key) _ e (secret_met algorithm key asked.alg asked.secret asked.fits) broken)
+    later (left_broken (secret_rules algorithm key) _ e (secret_met algorithm key asked.alg asked.secret asked.fits) broken)
   where
     later : IsFirstBroken (UnwritableSecret key ∷ Unsigned signs algorithm key msg ∷ []) e → ⊥
     later (inl broken) = writable_secret algorithm key asked.alg asked.secret asked.fits e broken
@@ -210,7 +211,7 @@ asked_is_met signs algorithm key msg e asked broken =
 pub unsigned_is_broken : (signs : Signs) (algorithm : SignatureAlgorithm) (key : PrivateKey) (msg : List ℕ)
     → IsAsked signs algorithm key msg false → IsFirstBroken (sign_rules signs algorithm key msg) (scheme_refused algorithm)
 unsigned_is_broken signs algorithm key msg asked =
-    behind (secret_rules algorithm key) _ (scheme_refused algorithm) (secret_met algorithm key asked.alg asked.secret asked.fits)
+    broken_behind (secret_rules algorithm key) _ (scheme_refused algorithm) (secret_met algorithm key asked.alg asked.secret asked.fits)
     (inr (writable_secret algorithm key asked.alg asked.secret asked.fits, inl (asked, refl)))
 
 -- what the scheme made, or why it didn't

@@ -22,7 +22,8 @@ use Rattle.key_core.specs.EcCurve.{curve_identifier}
 use Rattle.key_core.specs.KeyRefusals.{CantBeWritten, unwritten}
 use Rattle.key_core.specs.Pkcs1.{IsPkcs1Of, RefusesPkcs1}
 use Rattle.key_core.specs.SchemeNames.{ecdsa_alg}
-use Rattle.key_core.specs.SignatureRules.{IsMet, IsFirstBroken, RefusesBy, key_refusal}
+use Rattle.key_core.specs.Rules.{IsMet, IsFirstBroken}
+use Rattle.key_core.specs.SignatureRules.{RefusesBy, key_refusal}
 use Rattle.key_core.specs.Verifying.{Judge, IsOnCurve, IsOfEd, IsEd25519Key, FitsKey, IsJudged, Accepts, NotRsa, Unwritable, UnknownHash, Unpaired, ForAgreement, NotEd25519, WrongSize, Malformed, Rejected, malformed, key_rules, verify_rules}
 use Rattle.key_core.specs.declared.ec_curve.EcCurve.{EcCurve}
 use Rattle.key_core.specs.declared.ed_algorithm.EdAlgorithm.{EdAlgorithm}
@@ -39,7 +40,7 @@ use Rattle.key_core.specs.declared.signature_error.SignatureError.TheVariants as
 use Rattle.key_core.specs.declared.signature_error.Unsupported.TheVariants as unsupported
 use Rattle.key_core.proofs.Curves.{same_curve, same_algorithm}
 use Rattle.key_core.proofs.Unwritten.{written, one_source, alone}
-use Rattle.key_core.proofs.FirstBroken.{AreMet, AreOne, early_in, behind, behind_met, both_one}
+use Rattle.key_core.proofs.RuleLists.{AreMet, AreToldOnce, broken_behind, early_in, left_broken, told_together}
 
 -- ---- what a key names
 
@@ -150,14 +151,14 @@ unwritable_once info a b p q =
     ∙ ap (λ (source : DerError). errors.Key (key_errors.Asn1Serialization elements.RsaPublicKey source)) (one_source (rsa_public_key p.key) p.source q.source p.cause other)
     ∙ sym q.error
 
-pub key_one : (algorithm : SignatureAlgorithm) (info : SubjectPublicKeyInfo) → AreOne (key_rules algorithm info)
+pub key_one : (algorithm : SignatureAlgorithm) (info : SubjectPublicKeyInfo) → AreToldOnce (key_rules algorithm info)
 key_one (RsaPkcs1v15 hash) info = (λ a b p q. p.1 ∙ sym q.1, tt)
 key_one (Ecdsa hash) info = (λ a b p q. p.1 ∙ sym q.1, (λ a b p q. p.1 ∙ sym q.1, (λ a b p q. p.1 ∙ sym q.1, (unpaired_once info hash, tt))))
 key_one Ed25519 info = (λ a b p q. p.1 ∙ sym q.1, (λ a b p q. p.1 ∙ sym q.1, (λ a b p q. p.1 ∙ sym q.1, (λ a b p q. p.3 ∙ sym q.3, tt))))
 
-pub verify_one : (judge : Judge) (algorithm : SignatureAlgorithm) (info : SubjectPublicKeyInfo) (msg sig : List ℕ) → AreOne (verify_rules judge algorithm info msg sig)
+pub verify_one : (judge : Judge) (algorithm : SignatureAlgorithm) (info : SubjectPublicKeyInfo) (msg sig : List ℕ) → AreToldOnce (verify_rules judge algorithm info msg sig)
 verify_one judge algorithm info msg sig =
-    both_one (key_rules algorithm info) (Unwritable info ∷ Malformed judge algorithm info msg sig ∷ Rejected judge algorithm info msg sig ∷ [])
+    told_together (key_rules algorithm info) (Unwritable info ∷ Malformed judge algorithm info msg sig ∷ Rejected judge algorithm info msg sig ∷ [])
     (key_one algorithm info) (unwritable_once info, (λ a b p q. p.1 ∙ sym q.1, (λ a b p q. p.1 ∙ sym q.1, tt)))
 
 -- ---- the whole
@@ -174,7 +175,7 @@ reject_is_not_malformed e = cc
 pub accepted_is_met : (judge : Judge) (algorithm : SignatureAlgorithm) (info : SubjectPublicKeyInfo) (msg sig : List ℕ) (e : SignatureError)
     → Accepts judge algorithm info msg sig → IsFirstBroken (verify_rules judge algorithm info msg sig) e → ⊥
 accepted_is_met judge algorithm info msg sig e accepts broken =
-    later (behind_met (key_rules algorithm info) _ e (key_met algorithm info accepts.alg accepts.bytes accepts.fits) broken)
+    later (left_broken (key_rules algorithm info) _ e (key_met algorithm info accepts.alg accepts.bytes accepts.fits) broken)
   where
     later : IsFirstBroken (Unwritable info ∷ Malformed judge algorithm info msg sig ∷ Rejected judge algorithm info msg sig ∷ []) e → ⊥
     later (inl broken) = writable algorithm info accepts.alg accepts.bytes accepts.fits e broken
@@ -185,13 +186,13 @@ accepted_is_met judge algorithm info msg sig e accepts broken =
 pub malformed_is_broken : (judge : Judge) (algorithm : SignatureAlgorithm) (info : SubjectPublicKeyInfo) (msg sig : List ℕ)
     → IsJudged judge algorithm info msg sig verdicts.Malformed → IsFirstBroken (verify_rules judge algorithm info msg sig) (malformed algorithm)
 malformed_is_broken judge algorithm info msg sig judged =
-    behind (key_rules algorithm info) _ (malformed algorithm) (key_met algorithm info judged.alg judged.bytes judged.fits)
+    broken_behind (key_rules algorithm info) _ (malformed algorithm) (key_met algorithm info judged.alg judged.bytes judged.fits)
     (inr (writable algorithm info judged.alg judged.bytes judged.fits, inl (judged, refl)))
 
 pub rejected_is_broken : (judge : Judge) (algorithm : SignatureAlgorithm) (info : SubjectPublicKeyInfo) (msg sig : List ℕ)
     → IsJudged judge algorithm info msg sig verdicts.Reject → IsFirstBroken (verify_rules judge algorithm info msg sig) errors.BadSignature
 rejected_is_broken judge algorithm info msg sig judged =
-    behind (key_rules algorithm info) _ errors.BadSignature (key_met algorithm info judged.alg judged.bytes judged.fits)
+    broken_behind (key_rules algorithm info) _ errors.BadSignature (key_met algorithm info judged.alg judged.bytes judged.fits)
     (inr (
       writable algorithm info judged.alg judged.bytes judged.fits,
       inr (λ e malformed. reject_is_not_malformed (one_verdict judge algorithm info msg sig verdicts.Reject verdicts.Malformed judged malformed.0), inl (judged, refl)),

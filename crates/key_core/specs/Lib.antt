@@ -25,6 +25,7 @@ pub mod EdViews
 pub mod ErrorText
 pub mod SignatureAlgorithm
 pub mod SchemeNames
+pub mod Rules
 pub mod SignatureRules
 pub mod Verifying
 pub mod Signing

@@ -4,6 +4,7 @@ use Rattle.der_core.specs.Encoding.{encoding, IsDer}
 use Rattle.der_core.specs.declared.error.DerError.{DerError}
 use Rattle.asn1_types.specs.Values.{identifier_contents, payload_of}
 use Rattle.asn1_types.specs.declared.bit_string.BitString.{BitString}
+use Rattle.key_types.specs.AlgorithmIdentifier.{oid_of}
 use Rattle.key_types.specs.declared.key_info.SubjectPublicKeyInfo.{SubjectPublicKeyInfo}
 use Rattle.key_types.specs.declared.key_kind.KeyKind.TheVariants as kinds
 use Rattle.key_types.specs.declared.subject_key.SubjectKey.TheVariants as keys
@@ -23,7 +24,7 @@ use Rattle.key_core.specs.Pkcs1.{IsPkcs1Of}
 use Rattle.key_core.specs.PrivateKeyValue.{private_kind}
 use Rattle.key_core.specs.PrivatePkcs1.{IsPkcs1OfPrivate}
 use Rattle.key_core.specs.SchemeNames.{rsa_alg, curve_for, ecdsa_alg}
-use Rattle.key_core.specs.SignatureRules.{Rule}
+use Rattle.key_core.specs.Rules.{Rule}
 use Rattle.key_core.specs.Verifying.{NamesCurve, IsPointOn, IsOfEd}
 use Rattle.key_core.specs.declared.ec_curve.EcCurve.{EcCurve}
 use Rattle.key_core.specs.declared.ed_algorithm.EdAlgorithm.{EdAlgorithm}
@@ -46,7 +47,7 @@ HasCurveOf key curve = NamesCurve key.info.private_key_algorithm curve
 
 -- the algorithm of the private key has the identifier of this one on the curve 25519 (RFC 8410 3)
 abbrev pub HasEdOf : PrivateKey → EdAlgorithm → Type 0
-HasEdOf key algorithm = identifier_contents key.info.private_key_algorithm.oid ≡ ed_identifier algorithm
+HasEdOf key algorithm = identifier_contents (oid_of key.info.private_key_algorithm) ≡ ed_identifier algorithm
 
 -- The octets are the number of a key on this curve, as many as an element of its field has (SEC 1 3.2.1).
 pub record IsSecretOn (curve : EcCurve) (key : PrivateKey) (secret : List ℕ) : Type 0 where
@@ -126,7 +127,7 @@ IsKeyPair pair key info =
 -- ---- rules of signing, by what breaks them
 
 -- the key is not one of RSA
-abbrev pub NotRsaSecret : PrivateKey → Rule
+abbrev pub NotRsaSecret : PrivateKey → Rule SignatureError
 NotRsaSecret key e = (private_kind key.info.private_key ≢ kinds.Rsa) × (e ≡ errors.Key (key_errors.Rsa key_contexts.NotRsa))
 
 -- the RSAPrivateKey of the key has no encoding
@@ -138,42 +139,42 @@ pub record UnwritableSecret (key : PrivateKey) (e : SignatureError) : Type 0 whe
   pub error : e ≡ errors.Key (key_errors.Asn1Serialization elements.RsaPrivateKey source)
 
 -- the key is not one of an elliptic curve
-abbrev pub NotEcSecret : PrivateKey → Rule
+abbrev pub NotEcSecret : PrivateKey → Rule SignatureError
 NotEcSecret key e = (private_kind key.info.private_key ≢ kinds.Ec) × (e ≡ errors.Key (key_errors.EC key_contexts.NotEc))
 
 -- no curve is known by the parameters of the key
-abbrev pub UnknownCurveOf : PrivateKey → Rule
+abbrev pub UnknownCurveOf : PrivateKey → Rule SignatureError
 UnknownCurveOf key e = ((curve : EcCurve) → HasCurveOf key curve → ⊥) × (e ≡ errors.Key (key_errors.EC key_contexts.UnsupportedCurve))
 
 -- keys on the curve don't sign the digest
-abbrev pub UnpairedSecret : PrivateKey → HashAlgorithm → Rule
+abbrev pub UnpairedSecret : PrivateKey → HashAlgorithm → Rule SignatureError
 UnpairedSecret key hash e =
     (curve : EcCurve) × HasCurveOf key curve × (curve_for hash ≢ Some curve) × (e ≡ errors.UnsupportedAlgorithm (unsupported.Pairing curve hash))
 
 -- the secret hasn't the size of the curve's field
-abbrev pub WrongSecretSize : PrivateKey → Rule
+abbrev pub WrongSecretSize : PrivateKey → Rule SignatureError
 WrongSecretSize key e =
     (curve : EcCurve) × (ec : ECPrivateKey) × HasCurveOf key curve × (key.info.private_key ≡ values.Ec ec) × (length ec.private_key ≢ field_size curve)
     × (e ≡ errors.Key (key_errors.EC key_contexts.SecretSize))
 
 -- the key is not one of a curve 25519 or 448
-abbrev pub NotEdSecret : PrivateKey → Rule
+abbrev pub NotEdSecret : PrivateKey → Rule SignatureError
 NotEdSecret key e = (private_kind key.info.private_key ≢ kinds.Ed) × (e ≡ errors.Key (key_errors.ED key_contexts.NotEd))
 
 -- no public key is kept beside the container
-abbrev pub NoPublicKey : PrivateKey → Rule
+abbrev pub NoPublicKey : PrivateKey → Rule SignatureError
 NoPublicKey key e = (key.public_key ≡ None) × (e ≡ errors.Key (key_errors.ED key_contexts.PublicKeyMissing))
 
 -- the key is one of X25519, which signs nothing
-abbrev pub ForAgreementOnly : PrivateKey → Rule
+abbrev pub ForAgreementOnly : PrivateKey → Rule SignatureError
 ForAgreementOnly key e = HasEdOf key ed.X25519 × (e ≡ errors.Ed contexts.NotForSigning)
 
--- the key is one of another curve than Ed25519
-abbrev pub NotEd25519Secret : PrivateKey → Rule
+-- the key isn't one of Ed25519
+abbrev pub NotEd25519Secret : PrivateKey → Rule SignatureError
 NotEd25519Secret key e = (HasEdOf key ed.Ed25519 → ⊥) × (e ≡ errors.Key (key_errors.ED key_contexts.UnsupportedEd))
 
 -- the public key or the secret hasn't 32 octets
-abbrev pub WrongEdSize : PrivateKey → Rule
+abbrev pub WrongEdSize : PrivateKey → Rule SignatureError
 WrongEdSize key e =
     (bits : BitString) × (secret : List ℕ) × (key.public_key ≡ Some bits) × (key.info.private_key ≡ values.Ed secret)
     × ((length (payload_of bits) ≡ 32) × (length secret ≡ 32) → ⊥) × (e ≡ errors.Ed contexts.KeySize)
@@ -185,15 +186,15 @@ scheme_refused (Ecdsa hash) = errors.Ec contexts.SchemeRefused
 scheme_refused Ed25519 = errors.Ed contexts.SchemeRefused
 
 -- the scheme, asked for a signature, refuses
-abbrev pub Unsigned : Signs → SignatureAlgorithm → PrivateKey → List ℕ → Rule
+abbrev pub Unsigned : Signs → SignatureAlgorithm → PrivateKey → List ℕ → Rule SignatureError
 Unsigned signs algorithm key msg e = IsAsked signs algorithm key msg false × (e ≡ scheme_refused algorithm)
 
 -- The rules on the key, in their order.
-abbrev pub secret_rules : SignatureAlgorithm → PrivateKey → List Rule
+abbrev pub secret_rules : SignatureAlgorithm → PrivateKey → List (Rule SignatureError)
 secret_rules (RsaPkcs1v15 hash) key = NotRsaSecret key ∷ []
 secret_rules (Ecdsa hash) key = NotEcSecret key ∷ UnknownCurveOf key ∷ UnpairedSecret key hash ∷ WrongSecretSize key ∷ []
 secret_rules Ed25519 key = NotEdSecret key ∷ NoPublicKey key ∷ ForAgreementOnly key ∷ NotEd25519Secret key ∷ WrongEdSize key ∷ []
 
 -- The rules of signing, in their order: on the key, on its writing, on what the scheme signs.
-abbrev pub sign_rules : Signs → SignatureAlgorithm → PrivateKey → List ℕ → List Rule
+abbrev pub sign_rules : Signs → SignatureAlgorithm → PrivateKey → List ℕ → List (Rule SignatureError)
 sign_rules signs algorithm key msg = secret_rules algorithm key ++ UnwritableSecret key ∷ Unsigned signs algorithm key msg ∷ []

@@ -5,6 +5,7 @@ use Rattle.der_core.specs.Lent.{kept_option}
 use Rattle.der_core.specs.declared.error.DerError.{DerError}
 use Rattle.asn1_types.specs.Values.{identifier_contents, payload_of}
 use Rattle.asn1_types.specs.declared.bit_string.BitString.{BitString}
+use Rattle.key_types.specs.AlgorithmIdentifier.{oid_of, parameters_of}
 use Rattle.key_types.specs.RsaPublicKey.{rsa_public_key}
 use Rattle.key_types.specs.SubjectKey.{kind_of}
 use Rattle.key_types.specs.declared.algorithm.AlgorithmIdentifier.{AlgorithmIdentifier}
@@ -22,7 +23,7 @@ use Rattle.key_core.specs.EdAlgorithm.{ed_identifier}
 use Rattle.key_core.specs.KeyRefusals.{CantBeWritten}
 use Rattle.key_core.specs.Pkcs1.{IsPkcs1Of}
 use Rattle.key_core.specs.SchemeNames.{rsa_alg, curve_for, ecdsa_alg}
-use Rattle.key_core.specs.SignatureRules.{Rule}
+use Rattle.key_core.specs.Rules.{Rule}
 use Rattle.key_core.specs.declared.ec_curve.EcCurve.{EcCurve}
 use Rattle.key_core.specs.declared.ed_algorithm.EdAlgorithm.{EdAlgorithm}
 use Rattle.key_core.specs.declared.ed_algorithm.EdAlgorithm.TheVariants as ed
@@ -42,7 +43,7 @@ Judge = SigAlg → List ℕ → List ℕ → List ℕ → Verdict
 
 -- the algorithm has the identifier of this curve as its parameters (RFC 5480 2.1.1)
 abbrev pub NamesCurve : AlgorithmIdentifier → EcCurve → Type 0
-NamesCurve algorithm curve = kept_option algorithm.parameters ≡ Some (Primitive 0x06 (curve_identifier curve))
+NamesCurve algorithm curve = kept_option (parameters_of algorithm) ≡ Some (Primitive 0x06 (curve_identifier curve))
 
 -- the algorithm of the key names this curve
 abbrev pub IsOnCurve : SubjectPublicKeyInfo → EcCurve → Type 0
@@ -50,7 +51,7 @@ IsOnCurve info curve = NamesCurve info.algorithm curve
 
 -- the algorithm of the key has the identifier of this one on the curve 25519 (RFC 8410 3)
 abbrev pub IsOfEd : SubjectPublicKeyInfo → EdAlgorithm → Type 0
-IsOfEd info algorithm = identifier_contents info.algorithm.oid ≡ ed_identifier algorithm
+IsOfEd info algorithm = identifier_contents (oid_of info.algorithm) ≡ ed_identifier algorithm
 
 -- The octets are those of a point on this curve, which the key is (RFC 5480 2.2).
 pub record IsPointOn (curve : EcCurve) (info : SubjectPublicKeyInfo) (octets : List ℕ) : Type 0 where
@@ -87,7 +88,7 @@ Accepts judge algorithm info msg sig = IsJudged judge algorithm info msg sig ver
 -- ---- rules of verification, by what breaks them
 
 -- the key is not one of RSA
-abbrev pub NotRsa : SubjectPublicKeyInfo → Rule
+abbrev pub NotRsa : SubjectPublicKeyInfo → Rule SignatureError
 NotRsa info e =
     (kind_of info.subject_public_key ≢ kinds.Rsa) × (e ≡ errors.Key (key_errors.UnsupportedAlgorithm (kind_of info.subject_public_key)))
 
@@ -100,36 +101,36 @@ pub record Unwritable (info : SubjectPublicKeyInfo) (e : SignatureError) : Type 
   pub error : e ≡ errors.Key (key_errors.Asn1Serialization elements.RsaPublicKey source)
 
 -- the key is not one of an elliptic curve
-abbrev pub NotEc : SubjectPublicKeyInfo → Rule
+abbrev pub NotEc : SubjectPublicKeyInfo → Rule SignatureError
 NotEc info e = (kind_of info.subject_public_key ≢ kinds.Ec) × (e ≡ errors.Key (key_errors.EC key_contexts.NotEc))
 
 -- no curve is known by the parameters of the key
-abbrev pub UnknownCurve : SubjectPublicKeyInfo → Rule
+abbrev pub UnknownCurve : SubjectPublicKeyInfo → Rule SignatureError
 UnknownCurve info e = ((curve : EcCurve) → IsOnCurve info curve → ⊥) × (e ≡ errors.Key (key_errors.EC key_contexts.UnsupportedCurve))
 
 -- keys on no curve sign the digest
-abbrev pub UnknownHash : HashAlgorithm → Rule
+abbrev pub UnknownHash : HashAlgorithm → Rule SignatureError
 UnknownHash hash e = (curve_for hash ≡ None) × (e ≡ errors.UnsupportedAlgorithm (unsupported.Hash hash))
 
 -- keys on the curve don't sign the digest
-abbrev pub Unpaired : SubjectPublicKeyInfo → HashAlgorithm → Rule
+abbrev pub Unpaired : SubjectPublicKeyInfo → HashAlgorithm → Rule SignatureError
 Unpaired info hash e =
     (curve : EcCurve) × IsOnCurve info curve × (curve_for hash ≢ Some curve) × (e ≡ errors.UnsupportedAlgorithm (unsupported.Pairing curve hash))
 
 -- the key is not one of a curve 25519 or 448
-abbrev pub NotEd : SubjectPublicKeyInfo → Rule
+abbrev pub NotEd : SubjectPublicKeyInfo → Rule SignatureError
 NotEd info e = (kind_of info.subject_public_key ≢ kinds.Ed) × (e ≡ errors.Key (key_errors.ED key_contexts.NotEd))
 
 -- the key is one of X25519, which verifies nothing
-abbrev pub ForAgreement : SubjectPublicKeyInfo → Rule
+abbrev pub ForAgreement : SubjectPublicKeyInfo → Rule SignatureError
 ForAgreement info e = IsOfEd info ed.X25519 × (e ≡ errors.Ed contexts.NotForSigning)
 
--- the key is one of another curve than Ed25519
-abbrev pub NotEd25519 : SubjectPublicKeyInfo → Rule
+-- the key isn't one of Ed25519
+abbrev pub NotEd25519 : SubjectPublicKeyInfo → Rule SignatureError
 NotEd25519 info e = (IsOfEd info ed.Ed25519 → ⊥) × (e ≡ errors.Key (key_errors.ED key_contexts.UnsupportedEd))
 
 -- the key hasn't 32 octets
-abbrev pub WrongSize : SubjectPublicKeyInfo → Rule
+abbrev pub WrongSize : SubjectPublicKeyInfo → Rule SignatureError
 WrongSize info e =
     (bits : BitString) × (info.subject_public_key ≡ keys.Ed bits) × (length (payload_of bits) ≢ 32) × (e ≡ errors.Ed contexts.KeySize)
 
@@ -140,20 +141,20 @@ malformed (Ecdsa hash) = errors.Ec contexts.Malformed
 malformed Ed25519 = errors.Ed contexts.Malformed
 
 -- the scheme finds the signature malformed
-abbrev pub Malformed : Judge → SignatureAlgorithm → SubjectPublicKeyInfo → List ℕ → List ℕ → Rule
+abbrev pub Malformed : Judge → SignatureAlgorithm → SubjectPublicKeyInfo → List ℕ → List ℕ → Rule SignatureError
 Malformed judge algorithm info msg sig e = IsJudged judge algorithm info msg sig verdicts.Malformed × (e ≡ malformed algorithm)
 
 -- the scheme rejects the signature
-abbrev pub Rejected : Judge → SignatureAlgorithm → SubjectPublicKeyInfo → List ℕ → List ℕ → Rule
+abbrev pub Rejected : Judge → SignatureAlgorithm → SubjectPublicKeyInfo → List ℕ → List ℕ → Rule SignatureError
 Rejected judge algorithm info msg sig e = IsJudged judge algorithm info msg sig verdicts.Reject × (e ≡ errors.BadSignature)
 
 -- The rules on the key, in their order.
-abbrev pub key_rules : SignatureAlgorithm → SubjectPublicKeyInfo → List Rule
+abbrev pub key_rules : SignatureAlgorithm → SubjectPublicKeyInfo → List (Rule SignatureError)
 key_rules (RsaPkcs1v15 hash) info = NotRsa info ∷ []
 key_rules (Ecdsa hash) info = NotEc info ∷ UnknownCurve info ∷ UnknownHash hash ∷ Unpaired info hash ∷ []
 key_rules Ed25519 info = NotEd info ∷ ForAgreement info ∷ NotEd25519 info ∷ WrongSize info ∷ []
 
 -- The rules of a verification, in their order: on the key, on its writing, on the signature.
-abbrev pub verify_rules : Judge → SignatureAlgorithm → SubjectPublicKeyInfo → List ℕ → List ℕ → List Rule
+abbrev pub verify_rules : Judge → SignatureAlgorithm → SubjectPublicKeyInfo → List ℕ → List ℕ → List (Rule SignatureError)
 verify_rules judge algorithm info msg sig =
     key_rules algorithm info ++ Unwritable info ∷ Malformed judge algorithm info msg sig ∷ Rejected judge algorithm info msg sig ∷ []

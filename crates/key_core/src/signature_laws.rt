@@ -2,11 +2,12 @@
 
 ghost use Rattle.std.specs.Prelude.{◌≡◌, ◌≢◌, ℕ, List, length, Contains, true, None};
 ghost use Rattle.asn1_types.specs.Values.{identifier_contents};
+ghost use Rattle.key_types.specs.AlgorithmIdentifier.{oid_of};
 ghost use Rattle.key_types.specs.declared.algorithm.AlgorithmIdentifier.{AlgorithmIdentifier};
 ghost use Rattle.key_types.specs.declared.key_info.SubjectPublicKeyInfo.{SubjectPublicKeyInfo};
 ghost use Rattle.key_core.specs.KeyIdentifier.{IsKeyIdentifier};
 ghost use Rattle.key_core.specs.SignatureAlgorithm.{signature_identifier, NamesSignature, IsWrittenAlgorithm};
-ghost use Rattle.key_core.specs.SignatureRules.{IsFirstBroken};
+ghost use Rattle.key_core.specs.Rules.{IsFirstBroken};
 ghost use Rattle.key_core.specs.Signing.{Signs, IsAsked, sign_rules};
 ghost use Rattle.key_core.specs.Verifying.{Judge, Accepts, verify_rules};
 ghost use Rattle.key_core.specs.declared.key_id.KeyIdGenMethod.{KeyIdGenMethod};
@@ -24,7 +25,7 @@ pub fn signature_algorithms_are_read_as_written()
         → IsWrittenAlgorithm algorithm id → NamesSignature id read → read ≡ algorithm }
     ensures read { (algorithm : SignatureAlgorithm) (id written : AlgorithmIdentifier)
         → NamesSignature id algorithm → IsWrittenAlgorithm algorithm written
-        → identifier_contents written.oid ≡ identifier_contents id.oid }
+        → identifier_contents (oid_of written) ≡ identifier_contents (oid_of id) }
     ensures refused { (algorithm : SignatureAlgorithm) (id : AlgorithmIdentifier)
         → NamesSignature id algorithm → signature_identifier algorithm ≢ None }
     ensures each { (algorithm : SignatureAlgorithm) → signature_identifier algorithm ≢ None → Contains constants.IDENTIFIED algorithm }

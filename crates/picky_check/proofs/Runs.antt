@@ -4,7 +4,7 @@ use Rattle.std.specs.Prelude.{string_bytes}
 use Rattle.picky_check.specs.declared.report.Report.{Report}
 use Rattle.picky_check.specs.declared.stop.Stop.{Stop}
 use Rattle.picky_check.specs.declared.stop.Stop.TheVariants as stop
-use Rattle.picky_check.specs.Counts.{HasRisen}
+use Rattle.authenticode_core.specs.Counts.{HasRisen}
 use Rattle.picky_check.specs.Limits.{HasLongFile}
 use Rattle.picky_check.specs.Shelf.{ShelfState}
 use Rattle.picky_check.specs.Sink.{SinkState, Appends, HasRoom, IsCutShort}

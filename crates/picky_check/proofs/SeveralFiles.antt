@@ -2,7 +2,8 @@
 use Rattle.std.proofs.Common.{◌≡◌, ◌≢◌, ℕ, ◌+◌, List, [], ◌∷◌, ◌++◌, Option, Some, None, IsSome, inl, inr, sym, subst, arith}
 use Rattle.picky_check.specs.declared.error.FileError.{FileError}
 use Rattle.picky_check.specs.declared.error.FileError.TheVariants as file
-use Rattle.picky_check.specs.Counts.{GoesOn, HasRisen, RisesBy, RisesBeyond}
+use Rattle.authenticode_core.specs.Counts.{GoesOn, HasRisen}
+use Rattle.picky_check.specs.Counts.{RisesBy, RisesBeyond}
 use Rattle.picky_check.specs.Limits.{longest_file, IsWholeFile, IsLongFile, IsMissingFile, AreWholeFiles, HasFiles, HasLongFile}
 use Rattle.picky_check.specs.Shelf.{Files, ShelfState, file_of}
 use Rattle.picky_check.specs.Unread.{AreUnread}

@@ -16,7 +16,7 @@ use Rattle.x509_core.specs.CertRefusals.{unread}
 use Rattle.x509_core.specs.ErrorName.{cert_error_name}
 use Rattle.x509_core.specs.Chain.{IsAccepted, chain_rules}
 use Rattle.x509_core.specs.KeptCertificate.{KeptCertificate, kept_octets}
-use Rattle.x509_core.specs.Rules.{IsFirstBroken}
+use Rattle.key_core.specs.Rules.{IsFirstBroken}
 use Rattle.x509_core.specs.Facts.Certs.{kept_once}
 use Rattle.x509_core.specs.declared.error.CertError.{CertError}
 use Rattle.x509_core.specs.declared.error.CertError.TheVariants as cert

@@ -4,7 +4,8 @@ use Rattle.sig_core.specs.VerdictTable.{IsFirstBadLine}
 use Rattle.picky_check.specs.declared.stop.Stop.{Stop}
 use Rattle.picky_check.specs.declared.stop.Stop.TheVariants.{Usage, BadTable, Shelf, TooLong, Memory}
 use Rattle.picky_check.specs.declared.report.Report.{Report}
-use Rattle.picky_check.specs.Counts.{HasRisen, RisesBeyond}
+use Rattle.authenticode_core.specs.Counts.{HasRisen}
+use Rattle.picky_check.specs.Counts.{RisesBeyond}
 use Rattle.picky_check.specs.Limits.{longest_file, IsMissingFile, HasFiles, HasLongFile}
 use Rattle.picky_check.specs.Report.{Answer, WantsMemory, report_line, status_of}
 use Rattle.picky_check.specs.Answer.{HasBadTable, IsAnswered}

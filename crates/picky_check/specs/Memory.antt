@@ -4,7 +4,7 @@ use Rattle.picky_check.specs.declared.memory.Calls.{Calls}
 use Rattle.picky_check.specs.declared.memory.MemShelf.{MemShelf}
 use Rattle.picky_check.specs.declared.memory.MemSink.{MemSink}
 use Rattle.std.specs.List.{list_any}
-use Rattle.picky_check.specs.Counts.{last_count}
+use Rattle.authenticode_core.specs.Counts.{last_count}
 use Rattle.picky_check.specs.Shelf.{Files, ShelfState, file_of}
 use Rattle.picky_check.specs.Sink.{SinkState}
 use Rattle.picky_check.specs.Stored.{latest, octets_at}

@@ -1,6 +1,7 @@
 -- What a run does: its status, its cause, and what the sink then holds.
 use Rattle.std.specs.Prelude.{◌≡◌, ◌≢◌, ◌⊎◌, ◌↔◌, ℕ, ◌≤◌, List, ◌∷◌, ◌++◌, length, Option, IsSome}
-use Rattle.picky_check.specs.Counts.{HasRisen, RisesBeyond}
+use Rattle.authenticode_core.specs.Counts.{HasRisen}
+use Rattle.picky_check.specs.Counts.{RisesBeyond}
 use Rattle.picky_check.specs.Limits.{longest_file, IsMissingFile, HasFiles, HasLongFile}
 use Rattle.picky_check.specs.Report.{Answer, WantsMemory, report_line, status_of}
 use Rattle.picky_check.specs.Answer.{HasBadTable, IsAnswered}

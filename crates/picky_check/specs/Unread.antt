@@ -2,7 +2,8 @@
 use Rattle.std.specs.Prelude.{◌≡◌, ◌≢◌, ℕ, List, ◌∷◌, ◌++◌, IsSome}
 use Rattle.picky_check.specs.declared.error.FileError.{FileError}
 use Rattle.picky_check.specs.declared.error.FileError.TheVariants as file
-use Rattle.picky_check.specs.Counts.{HasRisen, RisesBeyond}
+use Rattle.authenticode_core.specs.Counts.{HasRisen}
+use Rattle.picky_check.specs.Counts.{RisesBeyond}
 use Rattle.picky_check.specs.Limits.{longest_file, IsMissingFile, HasFiles, HasLongFile}
 use Rattle.picky_check.specs.Shelf.{ShelfState}
 

@@ -2,7 +2,7 @@
 
 ghost use Rattle.std.specs.Prelude.{◌≡◌, ◌⊎◌, map, string_bytes};
 ghost use Rattle.std.specs.IoError.{error_kind};
-ghost use Rattle.picky_check.specs.Counts.{HasRisen};
+ghost use Rattle.authenticode_core.specs.Counts.{HasRisen};
 ghost use Rattle.picky_check.specs.ChainHeadline.{IsVouchedChain};
 ghost use Rattle.picky_check.specs.Headline.{IsVouchedFor, IsVouchedSignature};
 ghost use Rattle.picky_check.specs.Run.{IsRun};

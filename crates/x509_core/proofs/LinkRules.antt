@@ -8,7 +8,8 @@ use Rattle.x509_types.specs.ExtensionParts.{HasCa, HasPathLength}
 use Rattle.x509_core.specs.KeptCertificate.{KeptCertificate}
 use Rattle.x509_core.specs.Link.{IsDeepEnough, IsStandingFor, IsLink, IsSignedBy, IsNoAuthority, IsTooDeep, IsOutside, IsNoParent, link_rules, signing_rules}
 use Rattle.x509_core.specs.Parent.{AgreeByKeyAndName, RefusesParent}
-use Rattle.x509_core.specs.Rules.{IsMet, IsFirstBroken, Breaks, RefusesBy}
+use Rattle.key_core.specs.Rules.{IsMet}
+use Rattle.x509_core.specs.Rules.{Breaks, RefusesBy}
 use Rattle.x509_core.specs.Window.{IsWithinWindow}
 use Rattle.x509_core.specs.declared.error.CertError.{CertError}
 use Rattle.x509_core.specs.declared.error.CertError.TheVariants as errors

@@ -5,7 +5,7 @@ use Rattle.x509_types.specs.CertificateElements.{CertificateElements}
 use Rattle.x509_core.specs.KeptCertificate.{KeptCertificate}
 use Rattle.x509_core.specs.Link.{IsNoParent}
 use Rattle.x509_core.specs.Parent.{AgreeByName, AgreeByKeyAndName, LacksKey, DifferByKey, IsKeyLink, RefusesChain, RefusesLink, RefusesParent}
-use Rattle.x509_core.specs.Rules.{IsMet}
+use Rattle.key_core.specs.Rules.{IsMet}
 use Rattle.x509_core.specs.declared.error.CaChainError.{CaChainError}
 use Rattle.x509_core.specs.declared.error.CaChainError.TheVariants as chain
 use Rattle.x509_core.specs.declared.error.CertCause.{CertCause}

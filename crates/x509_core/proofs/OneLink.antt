@@ -1,18 +1,17 @@
 -- At most one error tells of the first broken rule of a window, and of a link.
 use Rattle.std.proofs.Common.{◌≡◌, ◌≢◌, ◌⊎◌, ℕ, List, [], ◌∷◌, Option, inl, inr, refl, sym, ap, subst, ◌∙◌}
-use Rattle.std.specs.Prelude.{⊤}
 use Rattle.asn1_types.specs.Facts.Times.{same_generalized}
 use Rattle.asn1_types.specs.Values.{identifier_contents}
 use Rattle.asn1_types.specs.declared.generalized_time.GeneralizedTime.{GeneralizedTime}
 use Rattle.der_core.specs.DerElement.{DerElement}
 use Rattle.key_core.specs.SignatureAlgorithm.{NamesSignature}
-use Rattle.key_core.specs.SignatureRules.{IsFirstBroken as IsFirstBrokenOfSignature}
+use Rattle.key_core.specs.Rules.{Rule, IsFirstBroken}
 use Rattle.key_core.specs.Verifying.{Judge, verify_rules}
 use Rattle.key_core.specs.declared.signature_algorithm.SignatureAlgorithm.{SignatureAlgorithm}
 use Rattle.key_core.specs.declared.signature_error.SignatureError.{SignatureError}
 use Rattle.key_core.specs.declared.signature_error.SignatureError.TheVariants as signature_errors
 use Rattle.key_core.specs.declared.signature_error.Unsupported.TheVariants as unsupported
-use Rattle.key_core.proofs.FirstBroken.{once as signature_once}
+use Rattle.key_core.proofs.RuleLists.{IsToldOnce, one_broken}
 use Rattle.key_core.proofs.SignatureIdentifiers.{same_algorithm}
 use Rattle.key_core.proofs.Verifications.{verify_one}
 use Rattle.key_types.specs.declared.algorithm.AlgorithmIdentifier.{AlgorithmIdentifier}
@@ -23,7 +22,6 @@ use Rattle.x509_types.specs.CertificateElements.{CertificateElements}
 use Rattle.x509_core.specs.KeptCertificate.{KeptCertificate}
 use Rattle.x509_core.specs.Link.{IsToldOf, IsNoAuthority, IsTooDeep, IsNoParent, IsUnsupported, IsBadlySigned, signed_octets, link_rules}
 use Rattle.x509_core.specs.Parent.{IsNameOf, LacksKey, DifferByKey, DifferByName, RefusesChain, RefusesLink, RefusesParent}
-use Rattle.x509_core.specs.Rules.{Rule, IsMet, IsFirstBroken}
 use Rattle.x509_core.specs.Window.{IsTimeAt, IsNotYetValid, IsOver, window_rules}
 use Rattle.x509_core.specs.declared.error.CaChainError.{CaChainError}
 use Rattle.x509_core.specs.declared.error.CaChainError.TheVariants as chain
@@ -38,41 +36,25 @@ use Rattle.x509_core.proofs.KeyIds.{named_once, had_once}
 use Rattle.x509_core.proofs.SignedParts.{one_algorithm, one_key}
 use Rattle.x509_core.proofs.Validity.{same_some, one_moment}
 
--- ---- rules that one error tells of
-
-abbrev pub IsOne : {E : Type 0} → (E → Type 0) → Type 0
-IsOne {E} rule = (a b : E) → rule a → rule b → a ≡ b
-
-abbrev pub AreOne : {E : Type 0} → List (E → Type 0) → Type 0
-AreOne [] = ⊤
-AreOne (rule ∷ rules) = IsOne rule × AreOne rules
-
-pub once : {E : Type 0} (rules : List (E → Type 0)) (a b : E) → AreOne rules → IsFirstBroken rules a → IsFirstBroken rules b → a ≡ b
-once [] a b one p q = absurd p
-once (rule ∷ rules) a b one (inl p) (inl q) = one.0 a b p q
-once (rule ∷ rules) a b one (inl p) (inr q) = absurd (q.0 a p)
-once (rule ∷ rules) a b one (inr p) (inl q) = absurd (p.0 b q)
-once (rule ∷ rules) a b one (inr p) (inr q) = once rules a b one.1 p.1 q.1
-
 -- ---- windows
 
 one_time : (element : Option DerElement) (a b : GeneralizedTime) → IsTimeAt element a → IsTimeAt element b → a ≡ b
 one_time element a b p q = same_generalized a b (one_moment element a b p q)
 
-early_once : (w : Window) (f : CertificateElements) → IsOne (IsNotYetValid w f)
+early_once : (w : Window) (f : CertificateElements) → IsToldOnce (IsNotYetValid w f)
 early_once w f = λ a b p q.
     let begins = one_time _ p.not_before q.not_before p.begins q.begins in
     let now = same_some p.now q.now (sym p.last ∙ q.last) in
     p.told ∙ ap (λ (t : GeneralizedTime). causes.CertificateNotYetValid t p.now) begins ∙ ap (causes.CertificateNotYetValid q.not_before) now ∙ sym q.told
 
-over_once : (w : Window) (f : CertificateElements) → IsOne (IsOver w f)
+over_once : (w : Window) (f : CertificateElements) → IsToldOnce (IsOver w f)
 over_once w f = λ a b p q.
     let ends = one_time _ p.not_after q.not_after p.ended.ends q.ended.ends in
     let now = same_some p.now q.now (sym p.ended.first ∙ q.ended.first) in
     p.told ∙ ap (λ (t : GeneralizedTime). causes.CertificateExpired t p.now) ends ∙ ap (causes.CertificateExpired q.not_after) now ∙ sym q.told
 
-pub window_once : (w : Window) (f : CertificateElements) → IsOne (IsFirstBroken (window_rules w f))
-window_once w f = λ a b p q. once (window_rules w f) a b (early_once w f, (over_once w f, tt)) p q
+pub window_once : (w : Window) (f : CertificateElements) → IsToldOnce (IsFirstBroken (window_rules w f))
+window_once w f = λ a b p q. one_broken (window_rules w f) (early_once w f, (over_once w f, tt)) a b p q
 
 -- ---- names
 
@@ -86,15 +68,15 @@ same_name a b e = ap named e
 one_name : (kept : KeptCertificate) (a b : DirectoryName) → IsNameOf kept a → IsNameOf kept b → a ≡ b
 one_name kept a b p q = same_name a b (p ∙ sym q)
 
-pub told_once : (kept : KeptCertificate) (rule : Rule CertCause) → IsOne rule → IsOne (IsToldOf kept rule)
+pub told_once : (kept : KeptCertificate) (rule : Rule CertCause) → IsToldOnce rule → IsToldOnce (IsToldOf kept rule)
 told_once kept rule one = λ a b p q.
     p.told ∙ ap (λ (id : DirectoryName). errors.InvalidCertificate id p.cause) (one_name kept p.id q.id p.name q.name) ∙ ap (errors.InvalidCertificate q.id) (one p.cause q.cause p.broken q.broken) ∙ sym q.told
 
-authority_once : (parent : KeptCertificate) → IsOne (IsNoAuthority parent)
+authority_once : (parent : KeptCertificate) → IsToldOnce (IsNoAuthority parent)
 authority_once parent = λ a b p q.
     p.told ∙ ap (λ (id : DirectoryName). errors.InvalidChain (chain.IssuerIsNotCA id)) (one_name parent p.id q.id p.name q.name) ∙ sym q.told
 
-depth_once : (count : ℕ) (parent : KeptCertificate) → IsOne (IsTooDeep count parent)
+depth_once : (count : ℕ) (parent : KeptCertificate) → IsToldOnce (IsTooDeep count parent)
 depth_once count parent = λ a b p q.
     p.told ∙ ap (λ (id : DirectoryName). errors.InvalidChain (chain.TooDeep id p.limit)) (one_name parent p.id q.id p.name q.name)
     ∙ ap (λ (limit : ℕ). errors.InvalidChain (chain.TooDeep q.id limit)) (path_length_once parent.elements p.limit q.limit p.limited q.limited) ∙ sym q.told
@@ -179,31 +161,30 @@ module _ (parent child : KeptCertificate) where
   one_sort a b (inr (inr p)) (inr (inl q)) = absurd (differs_and_agrees b a q p)
   one_sort a b (inr (inr p)) (inr (inr q)) = same_names a b p q
 
-  parent_once : IsOne (IsNoParent parent child)
+  parent_once : IsToldOnce (IsNoParent parent child)
   parent_once = λ a b p q. one_sort a b (sorted a p.0 p.1) (sorted b q.0 q.1)
 
 -- ---- signatures
 
-unsupported_once : (child : KeptCertificate) → IsOne (IsUnsupported child)
+unsupported_once : (child : KeptCertificate) → IsToldOnce (IsUnsupported child)
 unsupported_once child = λ a b p q.
     p.told ∙ ap (λ (id : AlgorithmIdentifier). errors.Signature (signature_errors.UnsupportedAlgorithm (unsupported.Oid id.oid))) (one_algorithm child.elements p.id q.id p.beside q.beside) ∙ sym q.told
 
-signature_told_once : (judge : Judge) (parent child : CertificateElements) → IsOne (IsBadlySigned judge parent child)
+signature_told_once : (judge : Judge) (parent child : CertificateElements) → IsToldOnce (IsBadlySigned judge parent child)
 signature_told_once judge parent child = λ a b p q.
     let id = one_algorithm child p.parts.id q.parts.id p.parts.beside q.parts.beside in
     let named = subst (λ (id : AlgorithmIdentifier). NamesSignature id p.algorithm) id p.parts.named in
     let algorithm = same_algorithm p.algorithm q.algorithm (identifier_contents q.parts.id.oid) named q.parts.named in
     let info = one_key parent p.info q.info p.parts.key q.parts.key in
-    let refused = subst (λ (i : SubjectPublicKeyInfo). IsFirstBrokenOfSignature (verify_rules judge q.algorithm i (signed_octets child) child.signature) p.source) info
-    (subst (λ (g : SignatureAlgorithm). IsFirstBrokenOfSignature (verify_rules judge g p.info (signed_octets child) child.signature) p.source) algorithm p.refused) in
-    let source = signature_once (verify_rules judge q.algorithm q.info (signed_octets child) child.signature) p.source q.source
-    (verify_one judge q.algorithm q.info (signed_octets child) child.signature) refused q.refused in
+    let refused = subst (λ (i : SubjectPublicKeyInfo). IsFirstBroken (verify_rules judge q.algorithm i (signed_octets child) child.signature) p.source) info
+    (subst (λ (g : SignatureAlgorithm). IsFirstBroken (verify_rules judge g p.info (signed_octets child) child.signature) p.source) algorithm p.refused) in
+    let source = one_broken (verify_rules judge q.algorithm q.info (signed_octets child) child.signature) (verify_one judge q.algorithm q.info (signed_octets child) child.signature) p.source q.source refused q.refused in
     p.told ∙ ap (λ (s : SignatureError). causes.Signature s) source ∙ sym q.told
 
 -- ---- links
 
-pub link_once : (judge : Judge) (w : Window) (count : ℕ) (parent child : KeptCertificate) → IsOne (IsFirstBroken (link_rules judge w count parent child))
-link_once judge w count parent child = λ a b p q. once (link_rules judge w count parent child) a b (
+pub link_once : (judge : Judge) (w : Window) (count : ℕ) (parent child : KeptCertificate) → IsToldOnce (IsFirstBroken (link_rules judge w count parent child))
+link_once judge w count parent child = λ a b p q. one_broken (link_rules judge w count parent child) (
   authority_once parent,
   (
     depth_once count parent,
@@ -218,4 +199,4 @@ link_once judge w count parent child = λ a b p q. once (link_rules judge w coun
       ),
     ),
   ),
-) p q
+) a b p q

@@ -15,7 +15,8 @@ use Rattle.key_types.specs.declared.public_key.RsaPublicKey.{RsaPublicKey}
 use Rattle.key_types.specs.declared.subject_key.SubjectKey.TheVariants as keys
 use Rattle.key_core.specs.Pkcs1.{IsPkcs1Of}
 use Rattle.key_core.specs.SignatureAlgorithm.{NamesSignature, IsUnnamed}
-use Rattle.key_core.specs.SignatureRules.{RefusesBy as RefusesSignatureBy, IsFirstBroken as IsFirstBrokenOfSignature}
+use Rattle.key_core.specs.Rules.{Rule, IsMet, IsFirstBroken}
+use Rattle.key_core.specs.SignatureRules.{RefusesBy as RefusesSignatureBy}
 use Rattle.key_core.specs.Verifying.{Judge, Accepts, verify_rules}
 use Rattle.key_core.specs.declared.signature_algorithm.SignatureAlgorithm.{SignatureAlgorithm}
 use Rattle.key_core.specs.declared.signature_error.SignatureError.{SignatureError}
@@ -26,7 +27,7 @@ use Rattle.x509_core.specs.Facts.LentKeys.{lent_key}
 use Rattle.x509_core.specs.KeptCertificate.{KeptCertificate}
 use Rattle.x509_core.specs.Link.{HasAlgorithm, HasKey, IsSignedWith, IsSignedBy, IsBadlySigned, IsUnsupported, IsToldOf, signed_octets, signature_refusal, signing_rules}
 use Rattle.x509_core.specs.Parent.{IsInvalid}
-use Rattle.x509_core.specs.Rules.{Rule, IsMet, Breaks, RefusesBy}
+use Rattle.x509_core.specs.Rules.{Breaks, RefusesBy}
 use Rattle.x509_core.specs.declared.error.CertCause.{CertCause}
 use Rattle.x509_core.specs.declared.error.CertCause.TheVariants as causes
 use Rattle.x509_core.specs.declared.error.CertError.{CertError}
@@ -108,8 +109,8 @@ badly_signed judge parent child algorithm info msg sig source e parts message si
       info = info;
       source = source;
       parts = parts;
-      refused = subst (λ (s : List ℕ). IsFirstBrokenOfSignature (verify_rules judge algorithm info (signed_octets child.elements) s) source) signature
-          (subst (λ (m : List ℕ). IsFirstBrokenOfSignature (verify_rules judge algorithm info m sig) source) message broken);
+      refused = subst (λ (s : List ℕ). IsFirstBroken (verify_rules judge algorithm info (signed_octets child.elements) s) source) signature
+          (subst (λ (m : List ℕ). IsFirstBroken (verify_rules judge algorithm info m sig) source) message broken);
       told = refl;
     }) told
 

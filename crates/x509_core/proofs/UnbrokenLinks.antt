@@ -4,7 +4,7 @@ use Rattle.asn1_types.specs.Values.{identifier_contents}
 use Rattle.key_types.specs.declared.algorithm.AlgorithmIdentifier.{AlgorithmIdentifier}
 use Rattle.key_types.specs.declared.key_info.SubjectPublicKeyInfo.{SubjectPublicKeyInfo}
 use Rattle.key_core.specs.SignatureAlgorithm.{NamesSignature}
-use Rattle.key_core.specs.SignatureRules.{IsFirstBroken as IsFirstBrokenOfSignature}
+use Rattle.key_core.specs.Rules.{IsMet, IsFirstBroken}
 use Rattle.key_core.specs.Verifying.{Judge, verify_rules}
 use Rattle.key_core.specs.declared.signature_algorithm.SignatureAlgorithm.{SignatureAlgorithm}
 use Rattle.key_core.proofs.SignatureIdentifiers.{same_algorithm}
@@ -12,7 +12,6 @@ use Rattle.key_core.proofs.Verifications.{accepted_is_met}
 use Rattle.x509_types.specs.CertificateElements.{CertificateElements}
 use Rattle.x509_core.specs.KeptCertificate.{KeptCertificate}
 use Rattle.x509_core.specs.Link.{IsLink, IsSignedBy, IsBadlySigned, IsUnsupported, signed_octets, link_rules}
-use Rattle.x509_core.specs.Rules.{IsMet, IsFirstBroken}
 use Rattle.x509_core.specs.declared.error.CertCause.{CertCause}
 use Rattle.x509_core.specs.declared.error.CertError.{CertError}
 use Rattle.x509_core.specs.declared.window.Window.{Window}
@@ -31,8 +30,8 @@ well_signed judge parent child cause s b =
     let algorithm = same_algorithm b.algorithm s.algorithm (identifier_contents b.parts.id.oid) b.parts.named named in
     let info = one_key parent b.info s.info b.parts.key s.parts.key in
     accepted_is_met judge s.algorithm s.info (signed_octets child) child.signature b.source s.accepted
-    (subst (λ (i : SubjectPublicKeyInfo). IsFirstBrokenOfSignature (verify_rules judge s.algorithm i (signed_octets child) child.signature) b.source) info
-    (subst (λ (a : SignatureAlgorithm). IsFirstBrokenOfSignature (verify_rules judge a b.info (signed_octets child) child.signature) b.source) algorithm b.refused))
+    (subst (λ (i : SubjectPublicKeyInfo). IsFirstBroken (verify_rules judge s.algorithm i (signed_octets child) child.signature) b.source) info
+    (subst (λ (a : SignatureAlgorithm). IsFirstBroken (verify_rules judge a b.info (signed_octets child) child.signature) b.source) algorithm b.refused))
 
 pub link_is_met : (judge : Judge) (w : Window) (count : ℕ) (parent child : KeptCertificate) (e : CertError) → IsLink judge w count parent.elements child.elements → IsFirstBroken (link_rules judge w count parent child) e → ⊥
 link_is_met judge w count parent child e link (inl broken) = authority_is_met parent link.authority e broken

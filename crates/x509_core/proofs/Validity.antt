@@ -12,7 +12,7 @@ use Rattle.x509_types.specs.CertificateFields.{not_before_of, not_after_of}
 use Rattle.x509_values.specs.Validity.{time as time_element}
 use Rattle.x509_values.specs.Facts.Times.{times_once}
 use Rattle.x509_values.specs.declared.time.Time.{Time}
-use Rattle.x509_core.specs.Rules.{IsFirstBroken}
+use Rattle.key_core.specs.Rules.{IsFirstBroken}
 use Rattle.x509_core.specs.Window.{IsEarlier, IsTimeAt, IsNotBefore, IsNotAfter, earliest, latest, HasBegun, HasNotEnded, IsWithinWindow, IsExpired, IsNotYetValid, IsOver, window_rules}
 use Rattle.x509_core.specs.declared.error.CertCause.{CertCause}
 use Rattle.x509_core.specs.declared.error.CertCause.TheVariants as causes

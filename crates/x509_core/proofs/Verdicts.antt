@@ -9,7 +9,8 @@ use Rattle.x509_core.specs.CertType.{IsOfType}
 use Rattle.x509_core.specs.Chain.{Gives, IsDated, IsLinkedChain, IsFirstUnlinked, IsUnlinked, LacksDate, LacksChain, LacksRoot, IsAccepted, IsRooted, chain_rules, last_of, lent}
 use Rattle.x509_core.specs.KeptCertificate.{KeptCertificate}
 use Rattle.x509_core.specs.Link.{IsOutside}
-use Rattle.x509_core.specs.Rules.{IsMet, IsFirstBroken, Breaks, RefusesBy}
+use Rattle.key_core.specs.Rules.{IsMet, IsFirstBroken}
+use Rattle.x509_core.specs.Rules.{Breaks, RefusesBy}
 use Rattle.x509_core.specs.Window.{IsWithinWindow}
 use Rattle.x509_core.specs.declared.cert_type.CertType.{CertType}
 use Rattle.x509_core.specs.declared.cert_type.CertType.TheVariants as types

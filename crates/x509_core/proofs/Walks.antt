@@ -10,7 +10,8 @@ use Rattle.x509_core.specs.Chain.{GaveSoFar, IsWalked, WasAccepted, WasRefused, 
 use Rattle.x509_core.specs.KeptCertificate.{KeptCertificate}
 use Rattle.x509_core.specs.Link.{IsNoAuthority, IsOutside, IsNoParent, link_rules}
 use Rattle.x509_core.specs.Parent.{RefusesParent}
-use Rattle.x509_core.specs.Rules.{IsFirstBroken, Breaks}
+use Rattle.key_core.specs.Rules.{IsFirstBroken}
+use Rattle.x509_core.specs.Rules.{Breaks}
 use Rattle.x509_core.specs.Window.{IsWithinWindow}
 use Rattle.x509_core.specs.declared.cert_type.CertType.{CertType}
 use Rattle.x509_core.specs.declared.cert_type.CertType.TheVariants as types

@@ -1,12 +1,12 @@
 -- When a certificate may have issued another, as one link of a chain (RFC 5280 6.1.3, 6.1.4, 4.2.1.9).
 use Rattle.std.specs.Prelude.{◌≡◌, ◌≢◌, ◌<◌, ◌≤◌, min, ℕ, List, [], ◌∷◌, Some, true}
 use Rattle.der_core.specs.Encoding.{encoding}
-use Rattle.key_types.specs.AlgorithmIdentifier.{algorithm_identifier}
+use Rattle.key_types.specs.AlgorithmIdentifier.{algorithm_identifier, oid_of}
 use Rattle.key_types.specs.PublicKeyInfo.{public_key_info}
 use Rattle.key_types.specs.declared.algorithm.AlgorithmIdentifier.{AlgorithmIdentifier}
 use Rattle.key_types.specs.declared.key_info.SubjectPublicKeyInfo.{SubjectPublicKeyInfo}
 use Rattle.key_core.specs.SignatureAlgorithm.{NamesSignature}
-use Rattle.key_core.specs.SignatureRules.{IsFirstBroken as IsFirstBrokenOfSignature}
+use Rattle.key_core.specs.Rules.{Rule, IsFirstBroken}
 use Rattle.key_core.specs.Verifying.{Judge, Accepts, verify_rules}
 use Rattle.key_core.specs.declared.signature_algorithm.SignatureAlgorithm.{SignatureAlgorithm}
 use Rattle.key_core.specs.declared.signature_error.SignatureError.{SignatureError}
@@ -18,7 +18,6 @@ use Rattle.x509_types.specs.ExtensionParts.{HasCa, HasPathLength}
 use Rattle.x509_types.specs.TbsElements.{tbs_of}
 use Rattle.x509_core.specs.KeptCertificate.{KeptCertificate}
 use Rattle.x509_core.specs.Parent.{AgreeByKeyAndName, IsNameOf, RefusesParent}
-use Rattle.x509_core.specs.Rules.{Rule, IsFirstBroken}
 use Rattle.x509_core.specs.Window.{IsWithinWindow, window_rules}
 use Rattle.x509_core.specs.declared.error.CaChainError.{CaChainError}
 use Rattle.x509_core.specs.declared.error.CaChainError.TheVariants as chain
@@ -109,7 +108,7 @@ pub record IsUnsupported (child : KeptCertificate) (e : CertError) : Type 0 wher
   pub id : AlgorithmIdentifier
   pub beside : HasAlgorithm child.elements id
   pub unnamed : (algorithm : SignatureAlgorithm) → NamesSignature id algorithm → ⊥
-  pub told : e ≡ errors.Signature (signature_errors.UnsupportedAlgorithm (unsupported.Oid id.oid))
+  pub told : e ≡ errors.Signature (signature_errors.UnsupportedAlgorithm (unsupported.Oid (oid_of id)))
 
 -- an error of a signature as one of a certificate: want of memory is told as such
 abbrev pub signature_refusal : SignatureError → CertError
@@ -122,7 +121,7 @@ pub record IsBadlySigned (judge : Judge) (parent child : CertificateElements) (c
   pub info : SubjectPublicKeyInfo
   pub source : SignatureError
   pub parts : IsSignedWith parent child algorithm info
-  pub refused : IsFirstBrokenOfSignature (verify_rules judge algorithm info (signed_octets child) child.signature) source
+  pub refused : IsFirstBroken (verify_rules judge algorithm info (signed_octets child) child.signature) source
   pub told : cause ≡ causes.Signature source
 
 -- the rules of signatures, in their order

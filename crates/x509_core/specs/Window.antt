@@ -11,7 +11,7 @@ use Rattle.x509_types.specs.CertificateElements.{CertificateElements}
 use Rattle.x509_types.specs.CertificateFields.{not_before_of, not_after_of}
 use Rattle.x509_values.specs.Validity.{time as time_element}
 use Rattle.x509_values.specs.declared.time.Time.{Time}
-use Rattle.x509_core.specs.Rules.{Rule}
+use Rattle.key_core.specs.Rules.{Rule}
 use Rattle.x509_core.specs.declared.error.CertCause.{CertCause}
 use Rattle.x509_core.specs.declared.error.CertCause.TheVariants as causes
 use Rattle.x509_core.specs.declared.window.DateCheck.{DateCheck}

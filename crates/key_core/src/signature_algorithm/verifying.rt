@@ -9,7 +9,8 @@ ghost use Rattle.key_types.specs.declared.public_key.RsaPublicKey.{RsaPublicKey}
 ghost use Rattle.key_types.specs.declared.subject_key.SubjectKey.TheVariants as keys;
 ghost use Rattle.key_core.specs.Pkcs1.{IsPkcs1Of};
 ghost use Rattle.key_core.specs.SchemeNames.{curve_for, ecdsa_alg};
-ghost use Rattle.key_core.specs.SignatureRules.{IsFirstBroken, RefusesBy};
+ghost use Rattle.key_core.specs.Rules.{IsFirstBroken};
+ghost use Rattle.key_core.specs.SignatureRules.{RefusesBy};
 ghost use Rattle.key_core.specs.Verifying.{Accepts, Judge, FitsKey, IsJudged, NamesCurve, IsOnCurve, IsEd25519Key, NotRsa, Unwritable, UnknownCurve, UnknownHash, Unpaired, key_rules, verify_rules, malformed};
 ghost use Rattle.key_core.specs.declared.ec_curve.EcCurve.{EcCurve};
 ghost use Rattle.key_core.specs.declared.signature_algorithm.SignatureAlgorithm.TheVariants as algorithms;

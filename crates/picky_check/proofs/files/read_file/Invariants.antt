@@ -1,5 +1,6 @@
 use Rattle.std.proofs.Common.{◌≡◌, ◌+◌, ◌-◌, ◌≤◌, length, IsSome}
-use Rattle.picky_check.specs.Counts.{GoesOn, RisesBy}
+use Rattle.authenticode_core.specs.Counts.{GoesOn}
+use Rattle.picky_check.specs.Counts.{RisesBy}
 use Rattle.picky_check.specs.Limits.{longest_file}
 use Rattle.picky_check.specs.Shelf.{file_of}
 use Rattle.picky_check.proofs.Reading.{HasRead}

@@ -5,7 +5,7 @@ use Rattle.authenticode_values.specs.BuilderParts.{given_of}
 use Rattle.authenticode_values.specs.Building.{named_step, purpose_step}
 use Rattle.authenticode_values.specs.declared.builder_error.AuthenticodeSignatureBuilderError.TheVariants as errors
 use Rattle.authenticode_values.proofs.BuilderSteps.{not_for_code}
-use Rattle.authenticode_values.proofs.TakenSteps.{refused_before}
+use Rattle.x509_core.proofs.TakenSteps.{refused_before}
 use Rattle.authenticode_values.proofs.builder.building.expect_signer.Goals as goal
 
 pub returns-in_err-signer : goal.returns-in_err-signer

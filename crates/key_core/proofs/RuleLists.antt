@@ -1,7 +1,7 @@
 -- Rules that are asked for in order.
 use Rattle.std.proofs.Common.{◌≡◌, List, [], ◌∷◌, ◌++◌, inl, inr}
 use Rattle.std.specs.Prelude.{⊤}
-use Rattle.x509_core.specs.Rules.{IsMet, IsFirstBroken}
+use Rattle.key_core.specs.Rules.{IsMet, IsFirstBroken}
 
 -- each rule is met
 abbrev pub AreMet : {E : Type 0} → List (E → Type 0) → Type 0
@@ -33,6 +33,13 @@ pub broken_before : {E : Type 0} (rules others : List (E → Type 0)) (e : E) �
 broken_before [] others e p = absurd p
 broken_before (rule ∷ rules) others e (inl p) = inl p
 broken_before (rule ∷ rules) others e (inr p) = inr (p.0, broken_before rules others e p.1)
+
+-- more rules after the last change nothing of what is broken before them
+pub early_in : {E : Type 0} (rules : List (E → Type 0)) (last : E → Type 0) (more : List (E → Type 0)) (e : E) → IsFirstBroken (rules ++ last ∷ []) e → IsFirstBroken (rules ++ last ∷ more) e
+early_in [] last more e (inl broken) = inl broken
+early_in [] last more e (inr none) = absurd none.1
+early_in (rule ∷ rules) last more e (inl broken) = inl broken
+early_in (rule ∷ rules) last more e (inr later) = inr (later.0, early_in rules last more e later.1)
 
 pub broken_behind : {E : Type 0} (rules others : List (E → Type 0)) (e : E) → AreMet rules → IsFirstBroken others e → IsFirstBroken (rules ++ others) e
 broken_behind [] others e met p = p

@@ -18,3 +18,12 @@ refused_before memory a b e (inr out) = inr out
 pub refused_behind : {E : Type 0} (memory : E) (a b : List (Step E)) (e : E) → AreTaken a → RefusesBySteps memory b e → RefusesBySteps memory (a ++ b) e
 refused_behind memory a b e taken (inl first) = inl (untaken_behind a b e taken first)
 refused_behind memory a b e taken (inr out) = inr out
+
+untaken_within : {E : Type 0} (a b c : List (Step E)) (e : E) → IsFirstUntaken (a ++ b) e → IsFirstUntaken (a ++ (b ++ c)) e
+untaken_within [] b c e first = untaken_before b c e first
+untaken_within (step ∷ a) b c e (inl refused) = inl refused
+untaken_within (step ∷ a) b c e (inr (taken, first)) = inr (taken, untaken_within a b c e first)
+
+pub refused_within : {E : Type 0} (memory : E) (a b c : List (Step E)) (e : E) → RefusesBySteps memory (a ++ b) e → RefusesBySteps memory (a ++ (b ++ c)) e
+refused_within memory a b c e (inl first) = inl (untaken_within a b c e first)
+refused_within memory a b c e (inr out) = inr out

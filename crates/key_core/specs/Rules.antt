@@ -1,0 +1,15 @@
+-- Rules that are asked for in order, and the error of the first that is broken.
+use Rattle.std.specs.Prelude.{◌⊎◌, List, [], ◌∷◌}
+
+-- A rule by its errors: it is broken where one of them tells so.
+abbrev pub Rule : Type 0 → Type 1
+Rule E = E → Type 0
+
+-- no error tells that the rule is broken
+abbrev pub IsMet : {E : Type 0} → (E → Type 0) → Type 0
+IsMet {E} rule = (e : E) → rule e → ⊥
+
+-- Of rules in their order the first that isn't met is broken, and the error tells of it.
+abbrev pub IsFirstBroken : {E : Type 0} → List (E → Type 0) → E → Type 0
+IsFirstBroken [] e = ⊥
+IsFirstBroken (rule ∷ rules) e = rule e ⊎ (IsMet rule × IsFirstBroken rules e)
