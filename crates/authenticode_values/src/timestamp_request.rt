@@ -11,7 +11,7 @@ ghost use Rattle.der_core.specs.Structure.{IsWithin};
 ghost use Rattle.der_core.specs.declared.error.DerError.TheVariants as der_errors;
 ghost use Rattle.der_core.specs.declared.fault.DerFault.{DerFault};
 ghost use Rattle.key_core.specs.declared.element.Element.TheVariants as elements;
-ghost use Rattle.x509_core.specs.CertRefusals.{IsUnread, IsUnwritten, unread, unwritten};
+ghost use Rattle.x509_core.specs.CertRefusals.{IsUnread, IsUnwritten};
 ghost use Rattle.x509_core.specs.declared.error.CertError.TheVariants as errors;
 ghost use Rattle.content_types.specs.ContentInfo.{content_info};
 ghost use Rattle.content_types.specs.ContentInfoElements.{content_info_of};
@@ -22,7 +22,7 @@ ghost use Rattle.authenticode_values.specs.TimestampRequest.{IsRequestOf, asking
 use asn1_types::ObjectIdentifier;
 use asn1_types::oids::{DATA, SPC_TIME_STAMP_REQUEST};
 use content_types::{ContentValue, EncapsulatedContentInfo, TimestampRequest as RequestValue};
-use der_core::{DerError, Octets, Structure};
+use der_core::{Octets, Structure};
 use std::alloc::{AllocError, Global};
 use x509_core::{CertError, Element};
 
@@ -88,7 +88,7 @@ impl TimestampRequest {
     {
         match RequestValue::from_der(alloc, der) {
             Ok(request) => Ok(TimestampRequest { request }),
-            Err(source) => Err(unread(source)),
+            Err(source) => Err(CertError::unread(Element::TimestampRequest, source)),
         }
     }
 
@@ -101,7 +101,7 @@ impl TimestampRequest {
     {
         match self.request.to_der(alloc) {
             Ok(octets) => Ok(octets),
-            Err(source) => Err(unwritten(source)),
+            Err(source) => Err(CertError::unwritten(Element::TimestampRequest, source)),
         }
     }
 
@@ -123,32 +123,6 @@ fn data_content(alloc: Global, octets: &[u8]) -> Result<EncapsulatedContentInfo,
         content_type: ObjectIdentifier::from_known(alloc, DATA)?,
         content: Some(ContentValue::Data(Octets::from_slice(alloc, octets)?)),
     })
-}
-
-/// Why octets aren't read as a request.
-fn unread(source: DerError) -> CertError
-    ensures { result ≡ unread elements.TimestampRequest source }
-{
-    match source {
-        DerError::Memory => CertError::Memory,
-        source => CertError::Asn1Deserialization {
-            element: Element::TimestampRequest,
-            source,
-        },
-    }
-}
-
-/// Why a value isn't written as a request.
-fn unwritten(source: DerError) -> CertError
-    ensures { result ≡ unwritten elements.TimestampRequest source }
-{
-    match source {
-        DerError::Memory => CertError::Memory,
-        source => CertError::Asn1Serialization {
-            element: Element::TimestampRequest,
-            source,
-        },
-    }
 }
 
 impl From<RequestValue> for TimestampRequest {

@@ -9,7 +9,7 @@ ghost use Rattle.der_core.specs.Structure.{IsWithin};
 ghost use Rattle.der_core.specs.declared.error.DerError.TheVariants as der_errors;
 ghost use Rattle.der_core.specs.declared.fault.DerFault.{DerFault};
 ghost use Rattle.key_core.specs.declared.element.Element.TheVariants as elements;
-ghost use Rattle.x509_core.specs.CertRefusals.{IsUnwritten, unwritten};
+ghost use Rattle.x509_core.specs.CertRefusals.{IsUnwritten};
 ghost use Rattle.cms_types.specs.Pkcs7.{pkcs7};
 ghost use Rattle.cms_types.specs.declared.pkcs7.Pkcs7Certificate.{Pkcs7Certificate};
 ghost use Rattle.authenticode_core.specs.StampRefusal.{token_refusal};
@@ -27,7 +27,7 @@ use authenticode_core::TimestampError;
 use cms_types::{
     CertificateSet, SignedData, SignerInfo, SignerValues, SignersInfos, UnsignedAttribute,
 };
-use der_core::{DerError, ListOf, Structure};
+use der_core::{ListOf, Structure};
 use sig_core::HashAlgorithm;
 use std::alloc::{AllocError, Global};
 use x509_core::{CertError, Element};
@@ -165,7 +165,7 @@ fn countersignature(
     };
     match SignerValues::from_signers(alloc, &signers[..1]) {
         Ok(values) => Ok(UnsignedAttribute::CounterSign(values)),
-        Err(source) => Err(TimestampError::from(unwritten(source))),
+        Err(source) => Err(TimestampError::from(CertError::unwritten(Element::Pkcs7, source))),
     }
 }
 
@@ -218,17 +218,4 @@ fn with_copies<T: Structure>(
         list.push(value.try_clone(alloc)?)?;
     }
     Ok(list)
-}
-
-/// Why a countersigner isn't written.
-fn unwritten(source: DerError) -> CertError
-    ensures { result ≡ unwritten elements.Pkcs7 source }
-{
-    match source {
-        DerError::Memory => CertError::Memory,
-        source => CertError::Asn1Serialization {
-            element: Element::Pkcs7,
-            source,
-        },
-    }
 }

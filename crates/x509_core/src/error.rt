@@ -160,8 +160,9 @@ pub enum Arg {
 }
 
 impl CertError {
-    /// Why octets of the structure aren't read.
-    pub(crate) fn unread(element: Element, source: DerError) -> CertError
+    /// The error of octets that aren't read as the structure: want of memory as such, any other cause
+    /// with the structure.
+    pub fn unread(element: Element, source: DerError) -> CertError
         ensures { result ≡ unread element source }
     {
         match source {
@@ -170,8 +171,9 @@ impl CertError {
         }
     }
 
-    /// Why a value of the structure isn't written.
-    pub(crate) fn unwritten(element: Element, source: DerError) -> CertError
+    /// The error of a value that isn't written as the structure: want of memory as such, any other
+    /// cause with the structure.
+    pub fn unwritten(element: Element, source: DerError) -> CertError
         ensures { result ≡ unwritten element source }
     {
         match source {
