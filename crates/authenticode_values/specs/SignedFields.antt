@@ -2,7 +2,6 @@
 use Rattle.std.specs.Prelude.{ℕ, List, [], ◌∷◌, Option, Some, None}
 use Rattle.std.specs.Option.{option_map}
 use Rattle.cms_types.specs.SignedAttributesElement.{attributes_of}
-use Rattle.cms_types.specs.declared.signed_attributes.SignedAttributes.{SignedAttributes}
 use Rattle.cms_types.specs.declared.signer_info.SignerInfo.{SignerInfo}
 use Rattle.cms_types.specs.declared.unsigned_attribute.UnsignedAttribute.{UnsignedAttribute}
 use Rattle.content_types.specs.declared.content_value.ContentValue.{ContentValue}

@@ -6,10 +6,10 @@ use Rattle.cms_types.specs.declared.issuer_and_serial.IssuerAndSerialNumber.{Iss
 use Rattle.cms_types.specs.declared.signer_identifier.SignerIdentifier.{SignerIdentifier}
 use Rattle.cms_types.specs.declared.signer_identifier.SignerIdentifier.TheVariants as named
 use Rattle.cms_types.specs.declared.signer_info.SignerInfo.{SignerInfo}
+use Rattle.names_core.specs.Names.{sets_of}
 use Rattle.x501_types.specs.Name.{name}
 use Rattle.x509_core.specs.KeptCertificate.{KeptCertificate}
 use Rattle.x509_types.specs.CertificateElements.{CertificateElements}
-use Rattle.names_core.specs.Names.{sets_of}
 use Rattle.making_core.specs.Carried.{elements_of}
 use Rattle.authenticode_core.specs.BagSigner.{IsSignerPlace, HasNoSigner}
 use Rattle.authenticode_core.specs.Names.{IsSameName}

@@ -1,7 +1,7 @@
 //! Certificates that are built.
 
-use crate::line::{print_name, print_refused};
 use crate::settings::{Setting, settings_of};
+use crate::telling::{print_name, print_refused};
 use crate::words::key_of;
 use anyhow::{Result, bail};
 use der_core::DerError;

@@ -1,6 +1,6 @@
 //! Certificates over their parents.
 
-use crate::line::print_refused;
+use crate::telling::print_refused;
 use crate::words::{certificate_of, date_of, two_of};
 use anyhow::{Context, Result, bail};
 use names_core::UtcDate;

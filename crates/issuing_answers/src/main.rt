@@ -28,10 +28,10 @@
 
 mod building;
 mod chains;
-mod line;
 mod measure;
 mod requests;
 mod settings;
+mod telling;
 mod words;
 
 use anyhow::{Context, Result, bail};

@@ -1,6 +1,6 @@
 //! Requests that are read, judged and generated.
 
-use crate::line::{print_name, print_told};
+use crate::telling::{print_name, print_told};
 use crate::words::{algorithm_of, attributes_of, key_of, name_of};
 use anyhow::{Result, bail};
 use der_core::{DerError, Structure};

@@ -1,6 +1,6 @@
 //! Structures that are read of elements, copied, compared and written again.
 
-use der_core::{DerError, Structure, read_exact, write};
+use der_core::{DerError, Structure, read_exact};
 use std::alloc::Global;
 
 /// The value that an element spells.
@@ -14,10 +14,23 @@ pub fn comes_back<T: Structure + PartialEq>(
     element: &[u8],
     value: &T,
 ) -> Result<bool, DerError> {
+    Ok(is_written_as(alloc, value, element)? && copy_comes_back(alloc, element, value)?)
+}
+
+/// Whether a copy of a value is written as the element, and is equal.
+fn copy_comes_back<T: Structure + PartialEq>(
+    alloc: Global,
+    element: &[u8],
+    value: &T,
+) -> Result<bool, DerError> {
     let copy = value.try_clone(alloc)?;
-    let written = write(alloc, &value.write(alloc)?)?;
-    let copied = write(alloc, &copy.write(alloc)?)?;
-    Ok(copy == *value && written.as_slice() == element && copied.as_slice() == element)
+    Ok(copy == *value && is_written_as(alloc, &copy, element)?)
+}
+
+/// Whether a value is written as the element.
+fn is_written_as<T: Structure>(alloc: Global, value: &T, element: &[u8]) -> Result<bool, DerError> {
+    let octets = value.to_der(alloc)?;
+    Ok(octets.as_slice() == element)
 }
 
 /// Whether a value is this one. It is let go here, for all types at once.

@@ -16,13 +16,18 @@ pub fn octets_of(alloc: Global, word: &str) -> Result<Vec<u8>> {
 pub fn octets_of_words(alloc: Global, words: &[&str]) -> Result<Vec<Vec<u8>>, AllocError> {
     let mut all = Vec::new(alloc);
     for word in words {
-        match hex::decode(alloc, word) {
-            Ok(octets) => all.push(octets)?,
-            Err(FromHexError::OutOfMemory) => return Err(AllocError),
-            Err(_) => all.push(Vec::new(alloc))?,
-        }
+        all.push(octets_or_none(alloc, word)?)?;
     }
     Ok(all)
+}
+
+/// The octets of a word, none where it isn't one of hexadecimal digits.
+fn octets_or_none(alloc: Global, word: &str) -> Result<Vec<u8>, AllocError> {
+    match hex::decode(alloc, word) {
+        Ok(octets) => Ok(octets),
+        Err(FromHexError::OutOfMemory) => Err(AllocError),
+        Err(_) => Ok(Vec::new(alloc)),
+    }
 }
 
 /// The text of octets.

@@ -1,6 +1,6 @@
 //! Parts of the values of extensions, where their octets lie.
 
-ghost use Rattle.std.specs.Prelude.{◌≡◌, List, ℕ, Bool, MatchOption};
+ghost use Rattle.std.specs.Prelude.{List, ℕ, Bool, MatchOption};
 ghost use Rattle.der_core.specs.Default.{IsBoolean};
 ghost use Rattle.x509_types.specs.ExtensionParts.{BeginsWith, EndsWithLength, IsKeyIdentifier};
 

@@ -16,7 +16,7 @@ ghost use Rattle.x509_types.specs.CertificateElements.{CertificateElements};
 ghost use Rattle.x509_core.specs.Steps.{AreTaken, IsFirstUntaken, RefusesBySteps};
 ghost use Rattle.authenticode_values.specs.BuilderParts.{given_of};
 ghost use Rattle.authenticode_values.specs.Building.{HasGiven, IsBuilt, IsBuiltOf, IsNamedFirst, IsSigner, attributes_by, attributes_in, building_steps, content_by, element_step, given_step, given_steps, key_step, message_in, named_step, parts_by, purpose_step, steps_of, supported_step, unsigned_in};
-ghost use Rattle.making_core.specs.Carried.{AreWithoutRoots, elements_of};
+ghost use Rattle.making_core.specs.Carried.{AreWithoutRoots};
 ghost use Rattle.making_core.specs.MadeSignature.{attributes_element, signature_made};
 ghost use Rattle.making_core.specs.SignedProgram.{IsSignature};
 ghost use Rattle.authenticode_values.specs.Pkcs7.{fields_of};
