@@ -14,6 +14,10 @@ arcs_of identifier = identifier.formed.arcs
 abbrev pub identifier_contents : ObjectIdentifier → List ℕ
 identifier_contents identifier = identifier.contents
 
+-- The arcs of an identifier that is lent.
+abbrev pub lent_arcs : LentIdentifier → List ℕ
+lent_arcs identifier = identifier.formed.arcs
+
 -- The contents octets of an identifier that is lent.
 abbrev pub lent_contents : LentIdentifier → List ℕ
 lent_contents identifier = identifier.contents.now

@@ -26,7 +26,7 @@ pub fn by_contents(contents: &[u8]) -> Option<KnownOid>
         (All (λ row. row.contents ≢ contents.now) known_rows)
         (λ known. HasRow known_rows known.name.now known.text.now known.contents.now × (known.contents.now ≡ contents.now)) }
 {
-    with_contents(&TABLE, contents)
+    with_contents(rows(), contents)
 }
 
 /// What the table has for this name.
@@ -35,7 +35,14 @@ pub fn by_name(name: &str) -> Option<KnownOid>
         (All (λ row. row.name ≢ name.now) known_rows)
         (λ known. HasRow known_rows known.name.now known.text.now known.contents.now × (known.name.now ≡ name.now)) }
 {
-    with_name(&TABLE, name)
+    with_name(rows(), name)
+}
+
+/// The rows of the table.
+fn rows() -> &'static [KnownRow]
+    ensures { map (λ row. known_row row.0.now row.1.now row.2.now) result.now ≡ known_rows }
+{
+    &TABLE
 }
 
 fn with_contents(rows: &[KnownRow], contents: &[u8]) -> Option<KnownOid>

@@ -1,22 +1,22 @@
 -- Octets read element by element where they lie.
-use Rattle.std.specs.Prelude.{◌≡◌, ℕ, ◌+◌, ◌≤◌, ◌<◌, List, ◌++◌, length}
+use Rattle.std.specs.Prelude.{◌≡◌, ℕ, ◌+◌, ◌-◌, ◌≤◌, ◌<◌, List, ◌++◌, length}
 use Rattle.der_core.specs.DerElement.{DerElement, DerElements}
-use Rattle.der_core.specs.Encoding.{nesting, encodings}
+use Rattle.der_core.specs.Encoding.{nesting, encodings, most_levels}
 use Rattle.der_core.specs.Reading.{IsFirst, AreDerWithin}
 
--- The first n octets are the encoding of an element that is read at this level: all levels around it and in it together are at most 64.
+-- The first n octets are the encoding of an element that is read at this level: all levels around it and in it together are at most `most_levels`.
 pub record BeginsAt (level : ℕ) (octets : List ℕ) (element : DerElement) (n : ℕ) : Type 0 where
   pub first : IsFirst octets element n
-  pub nested : nesting element + level ≤ 65
+  pub nested : nesting element + level ≤ most_levels + 1
 
 -- An element goes from the octets that are left, and the place is the one after it.
 pub record MovesPast (whole rest rest_now : List ℕ) (place place_now : ℕ) : Type 0 where
   pub gone : rest ≡ whole ++ rest_now
   pub placed : place_now ≡ place + length whole
 
--- The octets are the encodings of elements of at most 63 levels, one after another.
+-- The octets are the encodings of elements of one level less than the most, one after another.
 abbrev pub AreInner : List ℕ → DerElements → Type 0
-AreInner octets elements = AreDerWithin 63 elements × (octets ≡ encodings elements)
+AreInner octets elements = AreDerWithin (most_levels - 1) elements × (octets ≡ encodings elements)
 
 -- Octets past the first level were tested as the contents of an element.
 abbrev pub WereTested : ℕ → List ℕ → Type 0

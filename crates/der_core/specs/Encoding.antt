@@ -69,9 +69,13 @@ pub record IsDerWithin (levels : ℕ) (element : DerElement) : Type 0 where
   pub nested : nesting element ≤ levels
   pub short : IsShort element
 
--- Well formed and in bounds: at most 64 levels.
+-- how many levels elements have at most, one within the other
+abbrev pub most_levels : ℕ
+most_levels = 64
+
+-- Well formed and in bounds: at most so many levels.
 abbrev pub IsDer : DerElement → Type 0
-IsDer element = IsDerWithin 64 element
+IsDer element = IsDerWithin most_levels element
 
 -- The octets are the encoding of the element, and at most seven zeros after it, as the alignment of a WIN_CERTIFICATE leaves them.
 abbrev pub IsPaddedEncoding : List ℕ → DerElement → Type 0

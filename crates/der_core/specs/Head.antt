@@ -1,6 +1,6 @@
 -- What an element begins with: the tests of its identifier and length in order, and the first that fails (X.690 8.1.2, 8.1.3, 10.1).
 use Rattle.std.specs.Prelude.{◌≡◌, ℕ, ◌+◌, ◌*◌, ◌%◌, ◌^◌, ◌<◌, nat_lt, ◌==◌, if◌then◌else◌, List, [], ◌∷◌, ◌++◌, length, take, drop, slice_index, Result, Ok, Err}
-use Rattle.der_core.specs.Encoding.{framed, IsTag}
+use Rattle.der_core.specs.Encoding.{framed, IsTag, most_levels}
 use Rattle.der_core.specs.declared.fault.DerFault.{DerFault}
 use Rattle.der_core.specs.declared.fault.DerFault.TheVariants.{Truncated, ReservedTag, HighTag, Indefinite, NotShortest, WideLength, TooDeep, Overrun}
 
@@ -14,9 +14,9 @@ abbrev pub ◌>>=◌ : {A B : Type 0} → Result A DerFault → (A → Result B 
 (Ok x) >>= f = f x
 (Err fault) >>= f = Err fault
 
--- Octets are wanted past the bound: the outermost element, which has all 64 levels left, is cut off, an inner one runs over the contents that it is in.
+-- Octets are wanted past the bound: the outermost element, which has all levels left, is cut off, an inner one runs over the contents that it is in.
 abbrev pub past_bound : ℕ → DerFault
-past_bound levels = if levels == 64 then Truncated else Overrun
+past_bound levels = if levels == most_levels then Truncated else Overrun
 
 -- the number that octets write, the most significant first, after the digits that n stands for (X.690 8.1.3.5)
 abbrev pub number_from : ℕ → List ℕ → ℕ
@@ -63,7 +63,7 @@ BeginsWithLength octets = (n : ℕ) × (rest : List ℕ) × (length_at Truncated
 
 -- Octets begin with a head of which no test fails.
 abbrev pub BeginsWithHead : List ℕ → Type 0
-BeginsWithHead octets = (tag : ℕ) × (contents : List ℕ) × (rest : List ℕ) × (head_at 64 octets ≡ Ok (tag, contents, rest))
+BeginsWithHead octets = (tag : ℕ) × (contents : List ℕ) × (rest : List ℕ) × (head_at most_levels octets ≡ Ok (tag, contents, rest))
 
 -- Octets begin with a tag, the shortest length of contents and these, where a level is left.
 pub record HasHead (levels : ℕ) (octets : List ℕ) (tag : ℕ) (contents rest : List ℕ) : Type 0 where

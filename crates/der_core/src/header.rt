@@ -1,7 +1,7 @@
 //! Identifier and length, before any contents are copied.
 
 ghost use Rattle.std.specs.Prelude.{◌≡◌, ◌<◌, ◌≤◌, ◌↔◌, ℕ, length, Ok, Err, IsTrue, IfSome, MatchResult};
-ghost use Rattle.der_core.specs.Encoding.{form_bit, IsTag};
+ghost use Rattle.der_core.specs.Encoding.{form_bit, IsTag, most_levels};
 ghost use Rattle.der_core.specs.Head.{past_bound, number_from, long_length_at, length_at, contents_at, head_at, BeginsWithHead, BeginsWithLength, HasHead};
 ghost use Rattle.der_core.specs.declared.fault.DerFault.TheVariants.{Truncated};
 
@@ -51,7 +51,7 @@ pub fn head_of(octets: &[u8], at: usize, levels: u8) -> Result<Head<'_>, Malform
 /// octets end where the element has to end at the latest.
 #[inline(always)]
 pub fn sound_head(octets: &[u8]) -> Option<(Head<'_>, bool)>
-    ensures { IfSome result (λ h. HasHead 64 octets.now h.0.tag h.0.contents.now h.0.rest.now × (IsTrue h.1 ↔ (form_bit h.0.tag ≡ 1))) }
+    ensures { IfSome result (λ h. HasHead most_levels octets.now h.0.tag h.0.contents.now h.0.rest.now × (IsTrue h.1 ↔ (form_bit h.0.tag ≡ 1))) }
 {
     let (tag, after) = octets.split_first()?;
     let (contents, rest) = sound_contents(after)?;
@@ -89,8 +89,8 @@ fn sound_form(tag: u8) -> Option<bool>
 #[inline(always)]
 pub fn known_head(octets: &[u8]) -> Head<'_>
     requires { BeginsWithHead octets.now }
-    ensures { (head_at 64 octets.now ≡ Ok (result.tag, result.contents.now, result.rest.now))
-        × HasHead 64 octets.now result.tag result.contents.now result.rest.now }
+    ensures { (head_at most_levels octets.now ≡ Ok (result.tag, result.contents.now, result.rest.now))
+        × HasHead most_levels octets.now result.tag result.contents.now result.rest.now }
 {
     let Some((tag, after)) = octets.split_first() else {
         unreachable!();

@@ -1,7 +1,7 @@
 //! Laws on encodings and faults.
 
 ghost use Rattle.std.specs.Prelude.{◌≡◌, ◌↔◌, ℕ, ◌<◌, List, Ok, Err, MatchResult};
-ghost use Rattle.der_core.specs.Encoding.{encoding, nesting, IsDer, IsWellFormed};
+ghost use Rattle.der_core.specs.Encoding.{encoding, nesting, IsDer, IsWellFormed, most_levels};
 ghost use Rattle.der_core.specs.Placed.{AreDer};
 ghost use Rattle.der_core.specs.Structure.{IsWithin};
 ghost use Rattle.der_core.specs.Writing.{RefusesToWrite};
@@ -41,7 +41,7 @@ pub fn tests_of_a_head()
 pub fn read_back(alloc: Global, tree: &Tree) -> Result<Tree, DerError>
     requires { IsWellFormed tree.now }
     ensures back { MatchResult result (λ again. IsDer tree.now × (again ≡ tree.now)) (RefusesToWrite tree.now) }
-    ensures deep { 64 < nesting tree.now → result ≡ Err errors.TooDeep }
+    ensures deep { most_levels < nesting tree.now → result ≡ Err errors.TooDeep }
 {
     let octets = write(alloc, tree)?;
     read_exact(alloc, &octets)

@@ -2,7 +2,7 @@
 
 ghost use Rattle.std.specs.Prelude.{◌≡◌, ◌↔◌, ◌<◌, Err, IfOk, IsTrue, MatchResult};
 ghost use Rattle.der_core.specs.DerElement.{tag_of};
-ghost use Rattle.der_core.specs.Encoding.{encoding, nesting, IsWellFormed, IsDer};
+ghost use Rattle.der_core.specs.Encoding.{encoding, nesting, IsWellFormed, IsDer, most_levels};
 ghost use Rattle.der_core.specs.Equality.{same_octets, same_octets_per, same_octets_equiv};
 ghost use Rattle.der_core.specs.Kept.{Kept, IsKept};
 ghost use Rattle.der_core.specs.Facts.Kept.{Kept-prop};
@@ -43,7 +43,7 @@ impl Raw {
         requires { IsWellFormed tree.now }
         ensures kept { MatchResult result (λ raw. IsDer tree.now × (raw.element ≡ tree.now)) (RefusesToWrite tree.now) }
         // Depth is looked at before memory is asked for.
-        ensures deep { 64 < nesting tree.now → result ≡ Err errors.TooDeep }
+        ensures deep { most_levels < nesting tree.now → result ≡ Err errors.TooDeep }
     {
         Ok(Raw::keep(write(alloc, tree)?))
     }

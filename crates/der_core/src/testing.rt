@@ -1,8 +1,8 @@
 //! Octets tested for elements where they lie, without memory.
 
-ghost use Rattle.std.specs.Prelude.{◌≡◌, ◌+◌, ◌^◌, ◌<◌, ◌++◌, length, IfSome, IsTrue, MatchOption, MatchResult};
+ghost use Rattle.std.specs.Prelude.{◌≡◌, ◌+◌, ◌-◌, ◌^◌, ◌<◌, ◌++◌, length, IfSome, IsTrue, MatchOption, MatchResult};
 ghost use Rattle.der_core.specs.DerElement.{DerElement};
-ghost use Rattle.der_core.specs.Encoding.{encoding, IsDer, IsDerWithin};
+ghost use Rattle.der_core.specs.Encoding.{encoding, IsDer, IsDerWithin, most_levels};
 ghost use Rattle.der_core.specs.Fault.{IsFirstFault};
 ghost use Rattle.der_core.specs.Kept.{IsKept};
 ghost use Rattle.der_core.specs.Facts.InnerFault.{ElementFault, KidsFault};
@@ -73,7 +73,7 @@ fn after_first(bytes: &[u8], at: usize) -> Result<&[u8], Malformed>
     requires { at + length bytes.now < 2 ^ 64 }
     ensures { MatchResult result
         (λ rest. (t : DerElement) × IsDer t × (bytes.now ≡ encoding t ++ rest.now))
-        (IsFaultFrom at (ElementFault 64 bytes.now)) }
+        (IsFaultFrom at (ElementFault most_levels bytes.now)) }
 {
     match after_sound(bytes) {
         Some(rest) => Ok(rest),
@@ -105,7 +105,7 @@ const MOST_OUTER: usize = 62;
 /// a constructed element within so many others it says no even where it is empty: octets of which it
 /// says no are looked at again, for their first fault.
 fn are_elements(octets: &[u8]) -> bool
-    ensures { IsTrue result → HasElements 63 octets.now }
+    ensures { IsTrue result → HasElements (most_levels - 1) octets.now }
 {
     // How many octets stand after each element that is gone through, in the one that holds it.
     let mut after = [0; MOST_OUTER];

@@ -5,7 +5,7 @@
 
 ghost use Rattle.std.specs.Prelude.{◌≡◌, ◌≤◌, ◌<◌, ◌^◌, ◌++◌, ◌↔◌, ◌∷◌, [], length, reverse, IsTrue, IfOk, OnOk, MatchResult, All, Err};
 ghost use Rattle.der_core.specs.DerElement.{DerElement, row};
-ghost use Rattle.der_core.specs.Encoding.{IsWellFormed, IsDer, IsShort, nesting, deepest, encoding, encodings, AreShort, length_octets};
+ghost use Rattle.der_core.specs.Encoding.{IsWellFormed, IsDer, IsShort, nesting, deepest, encoding, encodings, AreShort, length_octets, most_levels};
 ghost use Rattle.der_core.specs.Writing.{RefusesToWrite, RefusesLong};
 ghost use Rattle.der_core.specs.declared.error.DerError.TheVariants as errors;
 
@@ -21,7 +21,7 @@ pub fn write(alloc: Global, tree: &Tree) -> Result<Vec<u8>, DerError>
     requires { IsWellFormed tree.now }
     ensures written { MatchResult result (λ octets. IsDer tree.now × (octets.items ≡ encoding tree.now)) (RefusesToWrite tree.now) }
     // Depth is looked at before memory is asked for.
-    ensures deep { 64 < nesting tree.now → result ≡ Err errors.TooDeep }
+    ensures deep { most_levels < nesting tree.now → result ≡ Err errors.TooDeep }
 {
     if !is_nested_within(tree, MAX_NESTING) {
         return Err(DerError::TooDeep);

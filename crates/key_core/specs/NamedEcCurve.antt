@@ -1,7 +1,7 @@
 -- Curves by the contents octets of their identifiers, known or not (RFC 5480 2.1.1.1).
 use Rattle.std.specs.Prelude.{◌≡◌, ◌≢◌, ℕ, List, ◌++◌, codes}
 use Rattle.asn1_types.specs.ObjectIdentifier.{dotted}
-use Rattle.asn1_types.specs.Values.{lent_contents}
+use Rattle.asn1_types.specs.Values.{lent_arcs, lent_contents}
 use Rattle.key_core.specs.EcCurve.{curve_identifier, curve_text}
 use Rattle.key_core.specs.declared.ec_curve.EcCurve.{EcCurve}
 use Rattle.key_core.specs.declared.named_ec_curve.NamedEcCurve.{NamedEcCurve}
@@ -20,4 +20,4 @@ IsNamedCurve contents (named.Unsupported identifier) = (lent_contents identifier
 -- how a curve prints
 abbrev pub named_curve_text : NamedEcCurve → List ℕ
 named_curve_text (named.Known curve) = curve_text curve
-named_curve_text (named.Unsupported identifier) = codes "Unsupported(OID: " ++ dotted identifier.formed.arcs ++ codes ")"
+named_curve_text (named.Unsupported identifier) = codes "Unsupported(OID: " ++ dotted (lent_arcs identifier) ++ codes ")"
