@@ -1,6 +1,6 @@
 //! Extensions of certificates (RFC 5280 4.1.2.9, 4.2).
 
-ghost use Rattle.std.specs.Prelude.{◌≡◌, ◌↔◌, true, false, Some, Err, IfOk, IfErr, IsTrue};
+ghost use Rattle.std.specs.Prelude.{◌≡◌, ◌↔◌, true, false, Some, Err, IfOk, IsTrue, MatchResult};
 ghost use Rattle.der_core.specs.declared.error.DerError.TheVariants as errors;
 ghost use Rattle.asn1_types.specs.Values.{identifier_contents};
 ghost use Rattle.asn1_types.specs.KnownIdentifiers.{is_known};
@@ -52,8 +52,9 @@ impl Extension {
         ca: bool,
         pathlen: Option<u8>,
     ) -> Result<Extension, DerError>
-        ensures made { IfOk result (λ e. IsPlainExtension e CE_BASIC_CONSTRAINTS.now (views.BasicConstraints (constraints_with (Some ca) pathlen))) }
-        ensures refused { IfErr result (λ e. e ≡ errors.Memory) }
+        ensures { MatchResult result
+            (λ e. IsPlainExtension e CE_BASIC_CONSTRAINTS.now (views.BasicConstraints (constraints_with (Some ca) pathlen)))
+            (λ e. e ≡ errors.Memory) }
     {
         let constraints = BasicConstraints::new(Some(ca), pathlen);
         let value = ExtensionView::BasicConstraints(constraints);
@@ -62,8 +63,9 @@ impl Extension {
 
     /// What the key is for, a bit a purpose (RFC 5280 4.2.1.3).
     pub fn new_key_usage(alloc: Global, usage: KeyUsage) -> Result<Extension, DerError>
-        ensures made { IfOk result (λ e. IsPlainExtension e CE_KEY_USAGE.now (views.KeyUsage usage)) }
-        ensures refused { IfErr result (λ e. e ≡ errors.Memory) }
+        ensures { MatchResult result
+            (λ e. IsPlainExtension e CE_KEY_USAGE.now (views.KeyUsage usage))
+            (λ e. e ≡ errors.Memory) }
     {
         let value = ExtensionView::KeyUsage(usage);
         Ok(Extension::plain(alloc, CE_KEY_USAGE, value)?)
@@ -74,8 +76,9 @@ impl Extension {
         alloc: Global,
         usage: ExtendedKeyUsage,
     ) -> Result<Extension, DerError>
-        ensures made { IfOk result (λ e. IsPlainExtension e CE_EXT_KEY_USAGE.now (views.ExtendedKeyUsage usage)) }
-        ensures refused { IfErr result (λ e. e ≡ errors.Memory) }
+        ensures { MatchResult result
+            (λ e. IsPlainExtension e CE_EXT_KEY_USAGE.now (views.ExtendedKeyUsage usage))
+            (λ e. e ≡ errors.Memory) }
     {
         let value = ExtensionView::ExtendedKeyUsage(usage);
         Ok(Extension::plain(alloc, CE_EXT_KEY_USAGE, value)?)
@@ -86,8 +89,9 @@ impl Extension {
         alloc: Global,
         names: RawGeneralNames,
     ) -> Result<Extension, DerError>
-        ensures made { IfOk result (λ e. IsPlainExtension e CE_SUBJECT_ALT_NAME.now (views.SubjectAltName names)) }
-        ensures refused { IfErr result (λ e. e ≡ errors.Memory) }
+        ensures { MatchResult result
+            (λ e. IsPlainExtension e CE_SUBJECT_ALT_NAME.now (views.SubjectAltName names))
+            (λ e. e ≡ errors.Memory) }
     {
         let value = ExtensionView::SubjectAltName(names);
         Ok(Extension::plain(alloc, CE_SUBJECT_ALT_NAME, value)?)
@@ -95,8 +99,9 @@ impl Extension {
 
     /// Further names of the issuer (RFC 5280 4.2.1.7).
     pub fn new_issuer_alt_name(alloc: Global, names: RawGeneralNames) -> Result<Extension, DerError>
-        ensures made { IfOk result (λ e. IsPlainExtension e CE_ISSUER_ALT_NAME.now (views.IssuerAltName names)) }
-        ensures refused { IfErr result (λ e. e ≡ errors.Memory) }
+        ensures { MatchResult result
+            (λ e. IsPlainExtension e CE_ISSUER_ALT_NAME.now (views.IssuerAltName names))
+            (λ e. e ≡ errors.Memory) }
     {
         let value = ExtensionView::IssuerAltName(names);
         Ok(Extension::plain(alloc, CE_ISSUER_ALT_NAME, value)?)
@@ -104,8 +109,9 @@ impl Extension {
 
     /// The identifier of the key (RFC 5280 4.2.1.2).
     pub fn new_subject_key_identifier(alloc: Global, key: &[u8]) -> Result<Extension, DerError>
-        ensures made { IfOk result (λ e. IsPlainExtension e CE_SUBJECT_KEY_IDENTIFIER.now (views.SubjectKeyIdentifier key.now)) }
-        ensures refused { IfErr result (λ e. e ≡ errors.Memory) }
+        ensures { MatchResult result
+            (λ e. IsPlainExtension e CE_SUBJECT_KEY_IDENTIFIER.now (views.SubjectKeyIdentifier key.now))
+            (λ e. e ≡ errors.Memory) }
     {
         let value = ExtensionView::SubjectKeyIdentifier(Octets::from_slice(alloc, key)?);
         Ok(Extension::plain(alloc, CE_SUBJECT_KEY_IDENTIFIER, value)?)
@@ -113,8 +119,9 @@ impl Extension {
 
     /// Which key the authority signs with, by its identifier (RFC 5280 4.2.1.1).
     pub fn new_authority_key_identifier(alloc: Global, key: &[u8]) -> Result<Extension, DerError>
-        ensures made { IfOk result (λ e. IsPlainExtension e CE_AUTHORITY_KEY_IDENTIFIER.now (views.AuthorityKeyIdentifier (key_of_identifier key.now))) }
-        ensures refused { IfErr result (λ e. e ≡ errors.Memory) }
+        ensures { MatchResult result
+            (λ e. IsPlainExtension e CE_AUTHORITY_KEY_IDENTIFIER.now (views.AuthorityKeyIdentifier (key_of_identifier key.now)))
+            (λ e. e ≡ errors.Memory) }
     {
         let identifier = AuthorityKeyIdentifier::from_key_identifier(alloc, key)?;
         let value = ExtensionView::AuthorityKeyIdentifier(identifier);
@@ -142,8 +149,9 @@ impl Extension {
         oid: ObjectIdentifier,
         value: &[u8],
     ) -> Result<Extension, DerError>
-        ensures made { IfOk result (λ e. IsRawExtension e oid value.now) }
-        ensures refused { IfErr result (RefusesShape (IsNamedValue oid value.now)) }
+        ensures made { MatchResult result
+            (λ e. IsRawExtension e oid value.now)
+            (RefusesShape (IsNamedValue oid value.now)) }
         // Whatever memory there is.
         ensures shapeless { ((view : ExtensionView) → IsNamedValue oid value.now view → ⊥) → result ≡ Err errors.Shape }
     {
