@@ -83,28 +83,45 @@ pub fn signer_of(
     })
 }
 
-/// Signed data of the one signer.
-pub fn framed(
+/// The algorithm of digests, alone in its list.
+pub fn digests_of(
     alloc: Global,
     hash: ShaVariant,
+) -> Result<ListOf<AlgorithmIdentifier>, AllocError>
+    ensures { IfOk result (λ digests. list_element 0x31 algorithm_identifier digests ≡ set (digest_algorithm hash ∷ [])) }
+{
+    let mut digests = ListOf::new(alloc);
+    digests.push(new_sha(alloc, hash)?)?;
+    Ok(digests)
+}
+
+/// The signer, alone in its list.
+pub fn signers_of(alloc: Global, signer: SignerInfo) -> Result<ListOf<SignerInfo>, AllocError>
+    ensures { IfOk result (λ signers. list_element 0x31 signer_info signers ≡ set (signer_info signer ∷ [])) }
+{
+    let mut signers = ListOf::new(alloc);
+    signers.push(signer)?;
+    Ok(signers)
+}
+
+/// Signed data of its parts. It takes no memory.
+pub fn framed(
+    alloc: Global,
+    digest_algorithms: ListOf<AlgorithmIdentifier>,
     content: EncapsulatedContentInfo,
     certificates: CertificateSet,
-    signer: SignerInfo,
-) -> Result<Pkcs7Certificate, AllocError>
-    ensures { IfOk result (λ value. signed_data_elements value.signed_data ≡ record {
+    signers_infos: ListOf<SignerInfo>,
+) -> Pkcs7Certificate
+    ensures { signed_data_elements result.signed_data ≡ record {
       version = version_one;
-      digest_algorithms = set (digest_algorithm hash ∷ []);
+      digest_algorithms = list_element 0x31 algorithm_identifier digest_algorithms;
       content_info = content_info content;
       certificates = Some (list_element 0xA0 certificate_choice certificates);
       crls = Some (Constructed 0xA1 (row []));
-      signers_infos = set (signer_info signer ∷ []);
-    }) }
+      signers_infos = list_element 0x31 signer_info signers_infos;
+    } }
 {
-    let mut digest_algorithms = ListOf::new(alloc);
-    digest_algorithms.push(new_sha(alloc, hash)?)?;
-    let mut signers_infos = ListOf::new(alloc);
-    signers_infos.push(signer)?;
-    Ok(Pkcs7Certificate {
+    Pkcs7Certificate {
         signed_data: SignedData {
             version: CmsVersion::V1,
             digest_algorithms,
@@ -113,5 +130,5 @@ pub fn framed(
             crls: Some(ListOf::new(alloc)),
             signers_infos,
         },
-    })
+    }
 }

@@ -14,7 +14,7 @@ ghost use Rattle.making_core.specs.MadeSignature.{signature_made};
 ghost use Rattle.making_core.specs.SignedProgram.{name_of};
 
 use crate::content::content_of;
-use crate::frame::{framed, named_by, signer_of};
+use crate::frame::{digests_of, framed, named_by, signer_of, signers_of};
 use crate::roots::carried_of;
 use cms_types::{Pkcs7Certificate, SignedAttributes, SpcIndirectDataContent};
 use der_core::Octets;
@@ -43,9 +43,11 @@ pub fn program_signature(
       unsigned = None;
     }))) }
 {
-    let content_info = content_of(alloc, indirect)?;
-    let certificates = carried_of(alloc, bag)?;
     let sid = named_by(alloc, first)?;
     let signer = signer_of(alloc, sid, hash, attributes, signature, None)?;
-    framed(alloc, hash, content_info, certificates, signer)
+    let signers = signers_of(alloc, signer)?;
+    let digests = digests_of(alloc, hash)?;
+    let certificates = carried_of(alloc, bag)?;
+    let content = content_of(alloc, indirect)?;
+    Ok(framed(alloc, digests, content, certificates, signers))
 }

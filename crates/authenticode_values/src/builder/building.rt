@@ -36,7 +36,10 @@ use cms_types::{
 };
 use der_core::{ListOf, Octets, Structure};
 use key_core::PrivateKey;
-use making_core::{framed, keep_attributes, message_of, signature_of, signer_of, without_roots};
+use making_core::{
+    digests_of, framed, keep_attributes, message_of, signature_of, signer_of, signers_of,
+    without_roots,
+};
 use sig_core::{HashAlgorithm, Scheme, ShaVariant};
 use std::alloc::{AllocError, Global};
 use x509_core::Cert;
@@ -207,12 +210,15 @@ impl AuthenticodeSignatureBuilder<'_> {
         ensures { let g = given_of given.now in IfOk result (λ built. (carried : List CertificateElements) × AreWithoutRoots g.bag carried
             × (fields_of built ≡ signature_made (record (parts_by self.now g carried signature) { attributes = signed_attributes attributes }))) }
     {
-        let content = given.content.try_clone(alloc)?;
-        let certificates = without_roots(alloc, given.certificates)?;
         let sid = SignerIdentifier::IssuerAndSerialNumber(given.named.try_clone(alloc)?);
         let unsigned = self.unsigned(alloc)?;
         let signer = signer_of(alloc, sid, given.hash, attributes, signature, unsigned)?;
-        Ok(Pkcs7::from(framed(alloc, given.hash, content, certificates, signer)?))
+        let signers = signers_of(alloc, signer)?;
+        let digests = digests_of(alloc, given.hash)?;
+        let certificates = without_roots(alloc, given.certificates)?;
+        let content = given.content.try_clone(alloc)?;
+        let made = framed(alloc, digests, content, certificates, signers);
+        Ok(Pkcs7::from(made))
     }
 
     /// The attributes that aren't signed, None where there are none of them.
