@@ -23,7 +23,7 @@ use x509_core::CertError;
 
 /// Why signed data is refused, in the order in which it is asked (Windows Authenticode Portable
 /// Executable Signature Format).
-#[derive(Debug, Drop, Error)]
+#[derive(Debug, Error)]
 pub enum AuthenticodeError {
     /// The octets are no element, or no signed data; or the certificate of the signer isn't valid or
     /// not vouched for. Never with want of memory.
@@ -90,6 +90,51 @@ pub enum AuthenticodeError {
     TimestampError(TimestampError),
     /// No memory was left.
     Memory,
+}
+
+/// One call, so that what holds such a value is proved without looking into it.
+impl Drop for AuthenticodeError {
+    fn drop(self) {
+        match self {
+            AuthenticodeError::CertError(_held) => {}
+            AuthenticodeError::IncorrectVersion {
+                expected: _expected,
+                got: _got,
+            } => {}
+            AuthenticodeError::MultipleSignerInfo { count: _count } => {}
+            AuthenticodeError::IncorrectDigestAlgorithmsCount {
+                incorrect_count: _incorrect_count,
+            } => {}
+            AuthenticodeError::NoEncapsulatedContentInfo => {}
+            AuthenticodeError::NoSpcIndirectDataContent => {}
+            AuthenticodeError::DigestAlgorithmMismatch => {}
+            AuthenticodeError::MissingExpectedFileHash => {}
+            AuthenticodeError::FileHashMismatch {
+                actual: _actual,
+                expected: _expected,
+            } => {}
+            AuthenticodeError::IncorrectSignerIdentifier => {}
+            AuthenticodeError::NoCertificatesAssociatedWithIssuerAndSerialNumber {
+                issuer: _issuer,
+                serial_number: _serial_number,
+            } => {}
+            AuthenticodeError::UnsupportedAlgorithmError(_held) => {}
+            AuthenticodeError::SignatureError(_held) => {}
+            AuthenticodeError::NoMessageDigest => {}
+            AuthenticodeError::UnsupportedHashAlgorithmError(_held) => {}
+            AuthenticodeError::HashMismatch {
+                actual: _actual,
+                expected: _expected,
+            } => {}
+            AuthenticodeError::NoEKUCodeSigning => {}
+            AuthenticodeError::InvalidTimestampCert(_held) => {}
+            AuthenticodeError::ProgramNameCharSet => {}
+            AuthenticodeError::NoCertificates => {}
+            AuthenticodeError::Asn1DerError(_held) => {}
+            AuthenticodeError::TimestampError(_held) => {}
+            AuthenticodeError::Memory => {}
+        }
+    }
 }
 
 impl AuthenticodeError {
@@ -320,9 +365,9 @@ impl From<AuthenticodeError> for CheckError {
     ghost from_gives = { λ error e. e ≡ told_of_content error };
 
     fn from(error: AuthenticodeError) -> CheckError {
-        match error {
+        match &error {
             AuthenticodeError::Memory => CheckError::Memory,
-            error => CheckError::Authenticode(error),
+            _ => CheckError::Authenticode(error),
         }
     }
 }
@@ -340,9 +385,9 @@ impl From<CertError> for AuthenticodeError {
     ghost from_gives = { λ error e. e ≡ of_certificates error };
 
     fn from(error: CertError) -> AuthenticodeError {
-        match error {
+        match &error {
             CertError::Memory => AuthenticodeError::Memory,
-            error => AuthenticodeError::CertError(error),
+            _ => AuthenticodeError::CertError(error),
         }
     }
 }

@@ -89,17 +89,10 @@ fn expect_linked<S: Scheme>(
 {
     let first = kept(alloc, first)?;
     match expect_linked_token(alloc, token, &first, scheme) {
-        Ok(()) => {
-            drop(first);
-            Ok(())
-        }
-        Err(CertError::Memory) => {
-            drop(first);
-            Err(AuthenticodeError::Memory)
-        }
-        Err(cause) => {
-            drop(first);
-            Err(AuthenticodeError::InvalidTimestampCert(cause))
-        }
+        Ok(()) => Ok(()),
+        Err(cause) => match &cause {
+            CertError::Memory => Err(AuthenticodeError::Memory),
+            _ => Err(AuthenticodeError::InvalidTimestampCert(cause)),
+        },
     }
 }

@@ -31,10 +31,7 @@ pub(crate) fn kept(alloc: Global, named: &BagCertificate<'_>) -> Result<Cert, Al
 {
     match Cert::from_der(alloc, named.elem.whole) {
         Ok(cert) => Ok(cert),
-        Err(error) => {
-            drop(error);
-            Err(AllocError)
-        }
+        Err(_) => Err(AllocError),
     }
 }
 
@@ -51,9 +48,7 @@ pub(crate) fn linked_path<S: Scheme>(
         (λ e. ((path : List ℕ) × IsIssuerPath bag signer.elements path × IsUnlinkedAt (S.judge scheme.now) window.now bag signer path e) ⊎ (e ≡ errors.Memory)) }
 {
     let issuers = Others::on_path(certificate_bag(signed_data), &signer.view());
-    let path = linked_places(alloc, &signer, issuers, window, scheme);
-    drop(signer);
-    path
+    linked_places(alloc, &signer, issuers, window, scheme)
 }
 
 /// The first certificate of a token's bag is linked to the others with another subject, in order, at
@@ -88,13 +83,7 @@ fn linked_places<S: Scheme>(
 {
     let mut linking = Linking::new(alloc);
     while let Some(next) = parents.next() {
-        match linking.go_on(alloc, checked, &next, window, scheme) {
-            Ok(()) => {}
-            Err(error) => {
-                drop(linking);
-                return Err(error);
-            }
-        }
+        linking.go_on(alloc, checked, &next, window, scheme)?;
     }
     Ok(linking.into_places())
 }
@@ -124,9 +113,7 @@ impl Linking {
     fn into_places(self) -> Places
         ensures { result ≡ self.places }
     {
-        let Linking { places, last, .. } = self;
-        drop(last);
-        places
+        self.places
     }
 
     /// The next certificate is linked to the last one.
@@ -151,8 +138,7 @@ impl Linking {
             window,
             scheme,
         )?;
-        let last = self.last.replace(parent);
-        drop(last);
+        self.last = Some(parent);
         self.number = self.number.saturating_add(1);
         self.places.push(next.place)?;
         Ok(())
@@ -173,13 +159,8 @@ fn linked_parent<S: Scheme>(
         (λ e. IsNoLink (S.judge scheme.now) window.now count child.now (view_elements next.now.certificate) e ⊎ (e ≡ errors.Memory)) }
 {
     let parent = kept(alloc, next)?;
-    match parent.expect_link(alloc, child, number, window, scheme) {
-        Ok(()) => Ok(parent),
-        Err(error) => {
-            drop(parent);
-            Err(error)
-        }
-    }
+    parent.expect_link(alloc, child, number, window, scheme)?;
+    Ok(parent)
 }
 
 /// The last parent so far, or the checked certificate.

@@ -35,9 +35,9 @@ impl From<CertError> for Pkcs7Error {
     ghost from_gives = { λ error e. e ≡ signed_data_refusal error };
 
     fn from(error: CertError) -> Pkcs7Error {
-        match error {
+        match &error {
             CertError::Memory => Pkcs7Error::Memory,
-            error => Pkcs7Error::Cert(error),
+            _ => Pkcs7Error::Cert(error),
         }
     }
 }

@@ -102,7 +102,6 @@ fn expect_standing<S: Scheme>(
             })
         }
         Err(error) => {
-            drop(signer);
             let excuse = expect_excuse(alloc, signed_data, &named.certificate, error, scheme)?;
             Ok(Accepted {
                 signer: Some(named.place),
@@ -126,7 +125,6 @@ fn asked_path<S: Scheme>(
         (λ e. (IsTrue policy.now.chain × IsUnlinkedPath (S.judge scheme.now) (window_of policy.now) bag signer e) ⊎ (e ≡ cert_errors.Memory)) }
 {
     if !policy.chain {
-        drop(signer);
         return Ok(Places::new(alloc));
     }
     let checks = policy.checks();
@@ -150,18 +148,8 @@ fn expect_excuse<S: Scheme>(
     if !tells_expiry(&error) {
         return Err(AuthenticodeError::from(error));
     }
-    let found = match excuse_of(alloc, signed_data, signer, scheme) {
-        Ok(found) => found,
-        Err(refused) => {
-            drop(error);
-            return Err(refused);
-        }
-    };
-    match found {
-        Some(excuse) => {
-            drop(error);
-            Ok(excuse)
-        }
+    match excuse_of(alloc, signed_data, signer, scheme)? {
+        Some(excuse) => Ok(excuse),
         None => Err(AuthenticodeError::from(error)),
     }
 }

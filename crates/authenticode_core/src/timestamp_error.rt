@@ -44,9 +44,9 @@ impl From<CertError> for TimestampError {
     ghost from_gives = { λ error e. e ≡ stamp_refusal error };
 
     fn from(error: CertError) -> TimestampError {
-        match error {
+        match &error {
             CertError::Memory => TimestampError::Memory,
-            error => TimestampError::Asn1DerError(error),
+            _ => TimestampError::Asn1DerError(error),
         }
     }
 }

@@ -17,7 +17,6 @@ use x509_types::AttributeList;
 
 /// What is asked of a signature that is to be built: its content, its attributes, and who signs it
 /// (RFC 2315 9.1, 9.2).
-#[derive(Drop)]
 pub struct AuthenticodeSignatureBuilder<'a> {
     certs: Option<Vec<Cert>>,
     digest_algorithm: Option<HashAlgorithm>,
@@ -26,6 +25,21 @@ pub struct AuthenticodeSignatureBuilder<'a> {
     authenticated_attributes: Option<AttributeList>,
     unsigned_attributes: Option<UnsignedAttributeList>,
     named: Option<IssuerAndSerialNumber>,
+}
+
+/// One call, so that what holds such a value is proved without looking into it.
+impl Drop for AuthenticodeSignatureBuilder<'_> {
+    fn drop(self) {
+        let AuthenticodeSignatureBuilder {
+            certs: _certs,
+            digest_algorithm: _digest_algorithm,
+            content_info: _content_info,
+            signing_key: _signing_key,
+            authenticated_attributes: _authenticated_attributes,
+            unsigned_attributes: _unsigned_attributes,
+            named: _named,
+        } = self;
+    }
 }
 
 impl<'a> AuthenticodeSignatureBuilder<'a> {

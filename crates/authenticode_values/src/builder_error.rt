@@ -65,9 +65,9 @@ impl From<AuthenticodeError> for AuthenticodeSignatureBuilderError {
     ghost from_gives = { λ error e. e ≡ builder_refusal error };
 
     fn from(error: AuthenticodeError) -> AuthenticodeSignatureBuilderError {
-        match error {
+        match &error {
             AuthenticodeError::Memory => AuthenticodeSignatureBuilderError::Memory,
-            error => AuthenticodeSignatureBuilderError::AuthenticodeError(error),
+            _ => AuthenticodeSignatureBuilderError::AuthenticodeError(error),
         }
     }
 }

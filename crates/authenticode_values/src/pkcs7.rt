@@ -29,9 +29,16 @@ use std::alloc::{AllocError, Global};
 use x509_core::Cert;
 
 /// Signed data with its type (RFC 2315 7, 9.1; RFC 5652 3, 5.1), as a caller keeps it.
-#[derive(Debug, Drop)]
+#[derive(Debug)]
 pub struct Pkcs7 {
     pub(crate) signed: Pkcs7Certificate,
+}
+
+/// One call, so that what holds such a value is proved without looking into it.
+impl Drop for Pkcs7 {
+    fn drop(self) {
+        let Pkcs7 { signed: _signed } = self;
+    }
 }
 
 impl Pkcs7 {
@@ -119,6 +126,14 @@ impl Pkcs7 {
             signed: self.signed.try_clone(alloc)?,
         })
     }
+
+    /// The structure of the signed data.
+    fn into_signed(self) -> Pkcs7Certificate
+        ensures { result ≡ self.signed }
+    {
+        let Pkcs7 { signed } = self;
+        signed
+    }
 }
 
 /// The signed data that octets are, tested before memory is asked for.
@@ -146,7 +161,6 @@ impl From<Pkcs7> for Pkcs7Certificate {
     ghost from_gives = { λ p signed. signed ≡ p.signed };
 
     fn from(p: Pkcs7) -> Pkcs7Certificate {
-        let Pkcs7 { signed } = p;
-        signed
+        p.into_signed()
     }
 }

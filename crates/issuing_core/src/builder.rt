@@ -37,12 +37,21 @@ pub struct IssuerInfos<'a> {
 }
 
 /// Whose certificate it is to be, where the issuer isn't also the subject.
-#[derive(Drop)]
 pub enum SubjectInfos {
     /// The one of this name and this key.
     Named(DirectoryName, PublicKey),
     /// The one who asks for it.
     Request(Csr),
+}
+
+/// One call, so that what holds such a value is proved without looking into it.
+impl Drop for SubjectInfos {
+    fn drop(self) {
+        match self {
+            SubjectInfos::Named(_held, _other) => {}
+            SubjectInfos::Request(_held) => {}
+        }
+    }
 }
 
 /// Builds a certificate (RFC 5280 4.1). Of the calls that set one thing the last counts.

@@ -37,7 +37,7 @@ use x509_types::{AlgorithmIdentifier, AttributeList, Name};
 /// A request for a certificate (RFC 2986 4.2), kept with its octets. Contracts see it as the element
 /// of what is signed, and the value. Whether its signature is one by its key is asked by
 /// [`Csr::verify`].
-#[derive(Debug, Drop)]
+#[derive(Debug)]
 pub struct Csr {
     kept: Raw,
     subject: Name,
@@ -46,6 +46,20 @@ pub struct Csr {
     signature_algorithm: AlgorithmIdentifier,
     signature: BitString,
     ghost around: { HasInfo kept.element (request_with subject public_key attributes signature_algorithm signature) } by { HasInfo-prop kept.element (request_with subject public_key attributes signature_algorithm signature) },
+}
+
+/// One call, so that what holds such a value is proved without looking into it.
+impl Drop for Csr {
+    fn drop(self) {
+        let Csr {
+            kept: _kept,
+            subject: _subject,
+            public_key: _public_key,
+            attributes: _attributes,
+            signature_algorithm: _signature_algorithm,
+            signature: _signature,
+        } = self;
+    }
 }
 
 impl Model for Csr {
@@ -177,9 +191,12 @@ impl Csr {
         ensures key { info_of result.1 ≡ self.request.certification_request_info.subject_public_key_info }
     {
         let Csr {
+            kept: _kept,
             subject,
             public_key,
-            ..
+            attributes: _attributes,
+            signature_algorithm: _signature_algorithm,
+            signature: _signature,
         } = self;
         (DirectoryName::from(subject), public_key)
     }

@@ -35,9 +35,16 @@ use key_types::{AlgorithmIdentifier, KeyKind, RsaPublicKey, SubjectKey, SubjectP
 use std::alloc::{AllocError, Global};
 
 /// A public key with its algorithm.
-#[derive(Debug, Drop)]
+#[derive(Debug)]
 pub struct PublicKey {
     info: SubjectPublicKeyInfo,
+}
+
+/// One call, so that what holds such a value is proved without looking into it.
+impl Drop for PublicKey {
+    fn drop(self) {
+        let PublicKey { info: _info } = self;
+    }
 }
 
 impl PublicKey {
@@ -155,6 +162,14 @@ impl PublicKey {
             info: self.info.try_clone(alloc)?,
         })
     }
+
+    /// The structure of the key.
+    fn into_info(self) -> SubjectPublicKeyInfo
+        ensures { result ≡ self.info }
+    {
+        let PublicKey { info } = self;
+        info
+    }
 }
 
 /// The key of RSA with its algorithm, whose parameters are NULL.
@@ -207,8 +222,7 @@ impl From<PublicKey> for SubjectPublicKeyInfo {
     ghost from_gives = { λ key info. info ≡ key.info };
 
     fn from(key: PublicKey) -> SubjectPublicKeyInfo {
-        let PublicKey { info } = key;
-        info
+        key.into_info()
     }
 }
 

@@ -141,9 +141,7 @@ fn judge_signature<S: Scheme>(
     ensures { Reports (IsSignatureAnswer (S.judge scheme.now) policy.now octets.now) result }
 {
     let answer = check_wincert(alloc, octets, policy, scheme);
-    let report = report_of(alloc, &answer);
-    drop(answer);
-    report
+    report_of(alloc, &answer)
 }
 
 /// The report of the octets of a certificate and its parents, judged by a scheme at a date.

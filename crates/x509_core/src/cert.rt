@@ -37,12 +37,23 @@ use x509_types::{AlgorithmIdentifier, CertView, Certificate, Extension, Time};
 
 /// A certificate (RFC 5280 4.1), kept with its octets. Contracts see it as the elements that stand
 /// for its fields, and the value that they spell. Whether it is to be believed isn't asked of one.
-#[derive(Debug, Drop)]
+#[derive(Debug)]
 pub struct Cert {
     kept: Raw,
     rest: Keyless,
     public_key: PublicKey,
     ghost fields: { HasFields kept.element (joined rest public_key) } by { HasFields-prop kept.element (joined rest public_key) },
+}
+
+/// One call, so that what holds such a value is proved without looking into it.
+impl Drop for Cert {
+    fn drop(self) {
+        let Cert {
+            kept: _kept,
+            rest: _rest,
+            public_key: _public_key,
+        } = self;
+    }
 }
 
 impl Model for Cert {
@@ -159,9 +170,9 @@ impl Cert {
         ensures { result ≡ self.certificate }
     {
         let Cert {
+            kept: _kept,
             rest,
             public_key,
-            ..
         } = self;
         rest.join(public_key)
     }
@@ -230,7 +241,11 @@ impl Cert {
     pub fn into_public_key(self) -> PublicKey
         ensures { info_of result ≡ self.certificate.tbs_certificate.subject_public_key_info }
     {
-        let Cert { public_key, .. } = self;
+        let Cert {
+            kept: _kept,
+            rest: _rest,
+            public_key,
+        } = self;
         public_key
     }
 

@@ -18,7 +18,7 @@ use x501_types::write_hexadecimal;
 
 /// Why a certificate isn't read, written or made, lacks an extension, isn't valid, or isn't one of a
 /// chain.
-#[derive(Debug, Drop, Error)]
+#[derive(Debug, Error)]
 pub enum CertError {
     /// A certificate isn't made, for what is told.
     CertGeneration {
@@ -80,6 +80,43 @@ pub enum CertError {
     },
     /// No memory was left.
     Memory,
+}
+
+/// One call, so that what holds such a value is proved without looking into it.
+impl Drop for CertError {
+    fn drop(self) {
+        match self {
+            CertError::CertGeneration { source: _source } => {}
+            CertError::InvalidCertificate {
+                id: _id,
+                source: _source,
+            } => {}
+            CertError::Asn1Serialization {
+                element: _element,
+                source: _source,
+            } => {}
+            CertError::Asn1Deserialization {
+                element: _element,
+                source: _source,
+            } => {}
+            CertError::Signature { source: _source } => {}
+            CertError::KeyIdGen { source: _source } => {}
+            CertError::InvalidChain { source: _source } => {}
+            CertError::InvalidCsr { source: _source } => {}
+            CertError::ExtensionNotFound { name: _name } => {}
+            CertError::MissingBuilderArgument { arg: _arg } => {}
+            CertError::CertificateNotYetValid {
+                not_before: _not_before,
+                now: _now,
+            } => {}
+            CertError::CertificateExpired {
+                not_after: _not_after,
+                now: _now,
+            } => {}
+            CertError::PrivateKeyToPublicKey { source: _source } => {}
+            CertError::Memory => {}
+        }
+    }
 }
 
 /// What a certificate is refused for, or not made, each as the `CertError` of its name.

@@ -14,7 +14,7 @@ use x509_types::{
 };
 
 /// A certificate but for the key of its subject, which is lent as a type of its own.
-#[derive(Debug, Drop)]
+#[derive(Debug)]
 pub(crate) struct Keyless {
     pub version: Option<Version>,
     pub serial_number: IntegerAsn1,
@@ -27,6 +27,25 @@ pub(crate) struct Keyless {
     pub extensions: Option<Extensions>,
     pub signature_algorithm: AlgorithmIdentifier,
     pub signature_value: BitString,
+}
+
+/// One call, so that what holds such a value is proved without looking into it.
+impl Drop for Keyless {
+    fn drop(self) {
+        let Keyless {
+            version: _version,
+            serial_number: _serial_number,
+            signature: _signature,
+            issuer: _issuer,
+            validity: _validity,
+            subject: _subject,
+            issuer_unique_id: _issuer_unique_id,
+            subject_unique_id: _subject_unique_id,
+            extensions: _extensions,
+            signature_algorithm: _signature_algorithm,
+            signature_value: _signature_value,
+        } = self;
+    }
 }
 
 impl Keyless {

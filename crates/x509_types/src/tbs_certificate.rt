@@ -113,9 +113,9 @@ impl Structure for TbsCertificate {
     }
 
     fn try_clone(&self, alloc: Global) -> Result<TbsCertificate, AllocError> {
+        let added = AddedFields::copy(alloc, self)?;
         let by = IssuedBy::copy(alloc, self)?;
         let to = IssuedTo::copy(alloc, self)?;
-        let added = AddedFields::copy(alloc, self)?;
         Ok(join(by, to, added))
     }
 

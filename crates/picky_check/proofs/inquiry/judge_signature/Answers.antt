@@ -3,5 +3,5 @@ use Rattle.picky_check.proofs.inquiry.judge_signature.Goals as goal
 
 pub returns : goal.returns
 returns g c =
-    signature_reported (g.S.Scheme.judge c.args.scheme.now) c.args.policy.now c.args.octets.now c.check_wincert-answer.result c.report_of-report.result
-    c.check_wincert-answer.ensures.answer c.check_wincert-answer.ensures.only c.report_of-report.ensures
+    signature_reported (g.S.Scheme.judge c.args.scheme.now) c.args.policy.now c.args.octets.now c.check_wincert-answer.result c.report_of.result
+    c.check_wincert-answer.ensures.answer c.check_wincert-answer.ensures.only c.report_of.ensures

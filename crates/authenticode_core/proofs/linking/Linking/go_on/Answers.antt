@@ -16,6 +16,6 @@ returns-in_err-push g c = λ bag so_far stands.
 pub returns : goal.returns
 returns g c = λ bag so_far stands. (
   linked_next (g.S.Scheme.judge c.args.scheme.now) c.args.window.now bag c.args.checked.now c.args.self.now _ c.args.next.now.place c.nearest.result.now so_far c.nearest.ensures stands _ c.in_ok-parent.parent
-      (c.in_ok-parent.ensures _ so_far.counted) c.in_ok-push.ensures.ok c.replace-last.ensures.after c.saturating_add-self.ensures,
+      (c.in_ok-parent.ensures _ so_far.counted) c.in_ok-push.ensures.ok refl c.saturating_add-self.ensures,
   c.in_ok-push.ensures.ok,
 )
