@@ -10,7 +10,7 @@ use Rattle.content_types.specs.declared.content_info.EncapsulatedContentInfo.{En
 use Rattle.der_core.specs.DerElement.{DerElement}
 use Rattle.der_core.specs.Encoding.{encoding}
 use Rattle.der_core.specs.Placed.{AreDer}
-use Rattle.key_core.specs.Signing.{Signs, Pair}
+use Rattle.key_core.specs.Signing.{Signs, Pair, arithmetic}
 use Rattle.key_core.specs.Verifying.{Judge}
 use Rattle.key_core.specs.declared.private_key.PrivateKey.{PrivateKey}
 use Rattle.key_core.specs.declared.signature_algorithm.SignatureAlgorithm.TheVariants.{RsaPkcs1v15}
@@ -119,7 +119,7 @@ module _ (signs : Signs) (b : AuthenticodeSignatureBuilder) (g : Given) where
 
   -- all of them
   pub all_taken : (judge : Judge) (pair : Pair) (c : CertificateElements) (signature : List ℕ) → IsSigner g c → AreDer (content_by g) → AreDer (attributes_by (attributes_in b.authenticated_attributes))
-      → IsSignature judge signs pair (algorithm_by g) g.key (message_by b g) signature → AreTaken (steps_of signs b g)
+      → IsSignature (arithmetic judge signs pair) (algorithm_by g) g.key (message_by b g) signature → AreTaken (steps_of signs b g)
   all_taken judge pair c signature signer der bounded is = ((c, signer.first), ((c, signer), (der, (bounded, (is.signed, tt)))))
 
 -- ---- the signature over what is signed
@@ -127,11 +127,11 @@ module _ (signs : Signs) (b : AuthenticodeSignatureBuilder) (g : Given) where
 module _ (b : AuthenticodeSignatureBuilder) (g : Given) (algorithm : HashAlgorithm) (octets : List ℕ) (element : DerElement) (known : hash_of g.hash ≡ algorithm) (written : octets ≡ encoding (content_info g.content))
     (kept : element ≡ attributes_element (map attribute (attributes_in b.authenticated_attributes))) where
   pub sealed_as : (judge : Judge) (signs : Signs) (pair : Pair) (signature : List ℕ)
-      → ((members : List DerElement) → element ≡ attributes_element members → IsSignature judge signs pair (RsaPkcs1v15 algorithm) g.key (message_in b.authenticated_attributes octets members) signature)
-      → IsSignature judge signs pair (algorithm_by g) g.key (message_by b g) signature
+      → ((members : List DerElement) → element ≡ attributes_element members → IsSignature (arithmetic judge signs pair) (RsaPkcs1v15 algorithm) g.key (message_in b.authenticated_attributes octets members) signature)
+      → IsSignature (arithmetic judge signs pair) (algorithm_by g) g.key (message_by b g) signature
   sealed_as judge signs pair signature signed =
-      subst (λ (h : HashAlgorithm). IsSignature judge signs pair (RsaPkcs1v15 h) g.key (message_by b g) signature) (sym known)
-      (subst (λ (o : List ℕ). IsSignature judge signs pair (RsaPkcs1v15 algorithm) g.key (message_in b.authenticated_attributes o (map attribute (attributes_in b.authenticated_attributes))) signature) written
+      subst (λ (h : HashAlgorithm). IsSignature (arithmetic judge signs pair) (RsaPkcs1v15 h) g.key (message_by b g) signature) (sym known)
+      (subst (λ (o : List ℕ). IsSignature (arithmetic judge signs pair) (RsaPkcs1v15 algorithm) g.key (message_in b.authenticated_attributes o (map attribute (attributes_in b.authenticated_attributes))) signature) written
       (signed (map attribute (attributes_in b.authenticated_attributes)) kept))
 
   pub unsealed_as : (signs : Signs) (e : AuthenticodeSignatureBuilderError)
@@ -145,8 +145,8 @@ module _ (b : AuthenticodeSignatureBuilder) (g : Given) (algorithm : HashAlgorit
 -- ---- what is built
 
 pub built_of : (judge : Judge) (signs : Signs) (pair : Pair) (b : AuthenticodeSignatureBuilder) (g : Given) (built : SignedDataElements) (c : CertificateElements) (element : DerElement) (signature : List ℕ)
-    → IsSigner g c → element ≡ attributes_element (map attribute (attributes_in b.authenticated_attributes)) → IsSignature judge signs pair (algorithm_by g) g.key (message_by b g) signature
-    → (carried : List CertificateElements) → AreWithoutRoots g.bag carried → built ≡ signature_made (record (parts_by b g carried signature) { attributes = element }) → IsBuiltOf judge signs pair b g built
+    → IsSigner g c → element ≡ attributes_element (map attribute (attributes_in b.authenticated_attributes)) → IsSignature (arithmetic judge signs pair) (algorithm_by g) g.key (message_by b g) signature
+    → (carried : List CertificateElements) → AreWithoutRoots g.bag carried → built ≡ signature_made (record (parts_by b g carried signature) { attributes = element }) → IsBuiltOf (arithmetic judge signs pair) b g built
 built_of judge signs pair b g built c element signature signer kept is carried are fields = record {
   signer = c;
   is_signer = signer;
@@ -182,8 +182,8 @@ all_of : {E : Type 0} (a b : List (Step E)) → AreTaken a → AreTaken b → Ar
 all_of [] b x y = y
 all_of (step ∷ a) b x y = (x.0, all_of a b x.1 y)
 
-pub built_as : (judge : Judge) (signs : Signs) (pair : Pair) (b : AuthenticodeSignatureBuilder) (g : Given) (built : SignedDataElements) → HasGiven b g → AreTaken (given_steps b) → IsBuiltOf judge signs pair b g built → AreTaken (steps_of signs b g)
-    → IsBuilt judge signs pair b built
+pub built_as : (judge : Judge) (signs : Signs) (pair : Pair) (b : AuthenticodeSignatureBuilder) (g : Given) (built : SignedDataElements) → HasGiven b g → AreTaken (given_steps b) → IsBuiltOf (arithmetic judge signs pair) b g built → AreTaken (steps_of signs b g)
+    → IsBuilt (arithmetic judge signs pair) b built
 built_as judge signs pair b g built has taken is later = record {
   given = g;
   are_given = has;

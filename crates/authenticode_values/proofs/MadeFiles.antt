@@ -6,7 +6,7 @@ use Rattle.cms_types.specs.SignedDataElements.{SignedDataElements}
 use Rattle.cms_types.specs.declared.pkcs7.Pkcs7Certificate.{Pkcs7Certificate}
 use Rattle.der_core.specs.DerElement.{DerElement}
 use Rattle.der_core.specs.Encoding.{encoding, IsDer}
-use Rattle.key_core.specs.Signing.{Signs, Pair, IsKeyPair}
+use Rattle.key_core.specs.Signing.{Signs, Pair, IsKeyPair, arithmetic}
 use Rattle.key_core.specs.Verifying.{Judge}
 use Rattle.key_core.specs.declared.private_key.PrivateKey.{PrivateKey}
 use Rattle.key_types.specs.declared.key_info.SubjectPublicKeyInfo.{SubjectPublicKeyInfo}
@@ -70,7 +70,7 @@ first_carried first (d ∷ others) carried (inr (other, more, is, are)) root = (
 -- ---- what is made is as a signature file has it
 
 module _ (judge : Judge) (signs : Signs) (pair : Pair) (f : SignedDataElements) (hash : ShaVariant) (file_hash : List ℕ) (name : Option (List ℕ)) (key : PrivateKey) where
-  pub made_for : (value : Pkcs7Certificate) (m : IsMadeOf judge signs pair f hash file_hash name key (signed_data_elements value.signed_data)) (info : SubjectPublicKeyInfo) → HasKey m.first info → IsKeyPair pair key info → (IsRoot m.first → m.others ≡ [])
+  pub made_for : (value : Pkcs7Certificate) (m : IsMadeOf (arithmetic judge signs pair) f hash file_hash name key (signed_data_elements value.signed_data)) (info : SubjectPublicKeyInfo) → HasKey m.first info → IsKeyPair pair key info → (IsRoot m.first → m.others ≡ [])
       → IsMadeFor judge (program_of hash file_hash name) value
   made_for value m info has pairs root =
       let p : Program = program_of hash file_hash name in
@@ -94,7 +94,7 @@ module _ (judge : Judge) (signs : Signs) (pair : Pair) (f : SignedDataElements) 
       }
 
   pub made_file : (value : Pkcs7Certificate) (kind : CertificateType) (octets : List ℕ) → IsDer (pkcs7 value) → IsSpelledWhole octets (wrapped kind (encoding (pkcs7 value)))
-      → (m : IsMadeOf judge signs pair f hash file_hash name key (signed_data_elements value.signed_data)) (info : SubjectPublicKeyInfo) → HasKey m.first info → IsKeyPair pair key info → (IsRoot m.first → m.others ≡ [])
+      → (m : IsMadeOf (arithmetic judge signs pair) f hash file_hash name key (signed_data_elements value.signed_data)) (info : SubjectPublicKeyInfo) → HasKey m.first info → IsKeyPair pair key info → (IsRoot m.first → m.others ≡ [])
       → IsMadeSignature judge octets file_hash
   made_file value kind octets der file m info has pairs root = record {
     kind = kind;
@@ -109,7 +109,7 @@ module _ (judge : Judge) (signs : Signs) (pair : Pair) (f : SignedDataElements) 
 
   -- whatever is answered
   pub made_files : (r : Result AuthenticodeSignature AuthenticodeError)
-      → IfOk r (λ s. (m : IsMadeOf judge signs pair f hash file_hash name key (fields_of s.0)) → (info : SubjectPublicKeyInfo) → HasKey m.first info → IsKeyPair pair key info → (IsRoot m.first → m.others ≡ [])
+      → IfOk r (λ s. (m : IsMadeOf (arithmetic judge signs pair) f hash file_hash name key (fields_of s.0)) → (info : SubjectPublicKeyInfo) → HasKey m.first info → IsKeyPair pair key info → (IsRoot m.first → m.others ≡ [])
       → (kind : CertificateType) (octets : List ℕ) → IsDer (written s.0) → IsSpelledWhole octets (wrapped kind (encoding (written s.0))) → IsMadeSignature judge octets file_hash)
   made_files (Ok s) = λ m info has pairs root kind octets der file. made_file s.0.signed kind octets der file m info has pairs root
   made_files (Err e) = tt

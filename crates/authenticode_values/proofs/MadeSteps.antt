@@ -13,7 +13,7 @@ use Rattle.der_core.specs.Placed.{AreDer}
 use Rattle.der_core.specs.Refusals.{RefusesInner}
 use Rattle.der_core.specs.declared.error.DerError.{DerError}
 use Rattle.key_core.specs.SignatureRules.{RefusesBy}
-use Rattle.key_core.specs.Signing.{Signs, Pair, sign_rules}
+use Rattle.key_core.specs.Signing.{Signs, Pair, arithmetic, sign_rules}
 use Rattle.key_core.specs.Verifying.{Judge}
 use Rattle.key_core.specs.declared.private_key.PrivateKey.{PrivateKey}
 use Rattle.key_core.specs.declared.signature_error.SignatureError.{SignatureError}
@@ -69,8 +69,8 @@ module _ (signs : Signs) (f : SignedDataElements) (name : Option (List ℕ)) (p 
       refused_behind errors.Memory (name_step name ∷ hash_step (hash_of p.hash) ∷ certificates_step f ∷ code_signing_step f ∷ []) (signing_steps signs p key) e (has_signer bag first basic known is signer) refused
 
 pub made_of : (judge : Judge) (signs : Signs) (pair : Pair) (f : SignedDataElements) (hash : ShaVariant) (file_hash : List ℕ) (name : Option (List ℕ)) (key : PrivateKey) (bag : List CertificateElements) (first : CertificateElements) (made : SignedDataElements)
-    → IsBasicName name → hash_of hash ≢ SHA2_224 → IsBagOf f bag → IsFirstSigner bag first → IsSignedProgram judge signs pair bag first (program_of hash file_hash name) key made
-    → AreTaken (signing_steps signs (program_of hash file_hash name) key) → IsMadeOf judge signs pair f hash file_hash name key made
+    → IsBasicName name → hash_of hash ≢ SHA2_224 → IsBagOf f bag → IsFirstSigner bag first → IsSignedProgram (arithmetic judge signs pair) bag first (program_of hash file_hash name) key made
+    → AreTaken (signing_steps signs (program_of hash file_hash name) key) → IsMadeOf (arithmetic judge signs pair) f hash file_hash name key made
 made_of judge signs pair f hash file_hash name key bag first made basic known is (others, are, may) signed taken =
     let of : IsBagOf f (first ∷ others) = subst (IsBagOf f) are is in
     let signer : HasSigner f first others = record { bag = of; code_signing = subst (λ (b : List CertificateElements). IsForCodeSigning b first) are may } in
@@ -80,7 +80,7 @@ made_of judge signs pair f hash file_hash name key bag first made basic known is
       first = first;
       others = others;
       signer = signer;
-      program = subst (λ (b : List CertificateElements). IsSignedProgram judge signs pair b first (program_of hash file_hash name) key made) are signed;
+      program = subst (λ (b : List CertificateElements). IsSignedProgram (arithmetic judge signs pair) b first (program_of hash file_hash name) key made) are signed;
       taken = (basic, (known, ((first, others, of), ((first, others, signer), taken))));
     }
 
@@ -102,7 +102,7 @@ module _ (signs : Signs) (p : Program) (key : PrivateKey) (e : AuthenticodeError
       refused_behind errors.Memory (writing_step (data_element p.hash p.file_hash ∷ []) ∷ writing_step (attributes_written p) ∷ []) (signature_step signs (algorithm_for p) key (message_for p) ∷ []) e ((der, tt), (attributes, tt)) refused
 
 pub signed_program : (judge : Judge) (signs : Signs) (pair : Pair) (bag : List CertificateElements) (first : CertificateElements) (p : Program) (key : PrivateKey) (made : SignedDataElements) (content attributes : DerElement) (signature : List ℕ)
-    → content ≡ data_element p.hash p.file_hash → attributes ≡ attributes_element (program_attributes p.opus (content_digest p.hash p.file_hash)) → IsSignature judge signs pair (algorithm_for p) key (message_for p) signature
+    → content ≡ data_element p.hash p.file_hash → attributes ≡ attributes_element (program_attributes p.opus (content_digest p.hash p.file_hash)) → IsSignature (arithmetic judge signs pair) (algorithm_for p) key (message_for p) signature
     → (carried : List CertificateElements) → AreCarried bag carried
     → made ≡ signature_made (record {
       algorithm = digest_algorithm p.hash;
@@ -113,7 +113,7 @@ pub signed_program : (judge : Judge) (signs : Signs) (pair : Pair) (bag : List C
       signature = signature;
       unsigned = None;
     })
-    → IsSignedProgram judge signs pair bag first p key made
+    → IsSignedProgram (arithmetic judge signs pair) bag first p key made
 signed_program judge signs pair bag first p key made content attributes signature d a is carried are fields = record {
   carried = carried;
   are_carried = are;
@@ -151,8 +151,8 @@ no_attributes_of signs p key e digest same der refused =
 -- ---- the signature
 
 pub sealed_as : (judge : Judge) (signs : Signs) (pair : Pair) (algorithm : SignatureAlgorithm) (key : PrivateKey) (octets message signature : List ℕ) → octets ≡ message
-    → IsSignature judge signs pair algorithm key octets signature → IsSignature judge signs pair algorithm key message signature
-sealed_as judge signs pair algorithm key octets message signature same is = subst (λ (m : List ℕ). IsSignature judge signs pair algorithm key m signature) same is
+    → IsSignature (arithmetic judge signs pair) algorithm key octets signature → IsSignature (arithmetic judge signs pair) algorithm key message signature
+sealed_as judge signs pair algorithm key octets message signature same is = subst (λ (m : List ℕ). IsSignature (arithmetic judge signs pair) algorithm key m signature) same is
 
 pub unsealed_as : (signs : Signs) (algorithm : SignatureAlgorithm) (key : PrivateKey) (octets message : List ℕ) (source : SignatureError) (e : AuthenticodeError) → octets ≡ message → e ≡ of_signatures source
     → RefusesBy (sign_rules signs algorithm key octets) source → RefusesBySteps errors.Memory (signature_step signs algorithm key message ∷ []) e
@@ -181,7 +181,7 @@ unsealed signs p key e algorithm digest attributes known digested der kept bound
 
 pub sealed_program : (judge : Judge) (signs : Signs) (pair : Pair) (bag : List CertificateElements) (first : CertificateElements) (p : Program) (key : PrivateKey) (made : SignedDataElements) (content attributes : DerElement) (signature : List ℕ)
     (algorithm : HashAlgorithm) (digest : List ℕ) → algorithm ≡ hash_of p.hash → digest ≡ content_digest p.hash p.file_hash → content ≡ data_element p.hash p.file_hash → attributes ≡ attributes_element (program_attributes p.opus digest)
-    → ((members : List DerElement) → attributes ≡ attributes_element members → IsSignature judge signs pair (RsaPkcs1v15 algorithm) key (attributes_message members) signature)
+    → ((members : List DerElement) → attributes ≡ attributes_element members → IsSignature (arithmetic judge signs pair) (RsaPkcs1v15 algorithm) key (attributes_message members) signature)
     → (carried : List CertificateElements) → AreCarried bag carried
     → made ≡ signature_made (record {
       algorithm = digest_algorithm p.hash;
@@ -192,14 +192,14 @@ pub sealed_program : (judge : Judge) (signs : Signs) (pair : Pair) (bag : List C
       signature = signature;
       unsigned = None;
     })
-    → IsSignedProgram judge signs pair bag first p key made
+    → IsSignedProgram (arithmetic judge signs pair) bag first p key made
 sealed_program judge signs pair bag first p key made content attributes signature algorithm digest known digested d kept signed carried are fields =
     let is : attributes ≡ attributes_element (attributes_for p) = kept_as signs p key algorithm digest attributes known digested kept in
     signed_program judge signs pair bag first p key made content attributes signature d is
-    (subst (λ (h : HashAlgorithm). IsSignature judge signs pair (RsaPkcs1v15 h) key (message_for p) signature) known (signed (attributes_for p) is)) carried are fields
+    (subst (λ (h : HashAlgorithm). IsSignature (arithmetic judge signs pair) (RsaPkcs1v15 h) key (message_for p) signature) known (signed (attributes_for p) is)) carried are fields
 
 pub sealed_taken : (judge : Judge) (signs : Signs) (pair : Pair) (bag : List CertificateElements) (first : CertificateElements) (p : Program) (key : PrivateKey) (made : SignedDataElements) (digest : List ℕ) → digest ≡ content_digest p.hash p.file_hash
-    → IsDer (data_element p.hash p.file_hash) → AreDer (p.opus ∷ attributes_element (program_attributes p.opus digest) ∷ []) → IsSignedProgram judge signs pair bag first p key made → AreTaken (signing_steps signs p key)
+    → IsDer (data_element p.hash p.file_hash) → AreDer (p.opus ∷ attributes_element (program_attributes p.opus digest) ∷ []) → IsSignedProgram (arithmetic judge signs pair) bag first p key made → AreTaken (signing_steps signs p key)
 sealed_taken judge signs pair bag first p key made digest same der bounded signed =
     ((der, tt), (subst (λ (d : List ℕ). AreDer (p.opus ∷ attributes_element (program_attributes p.opus d) ∷ [])) same bounded, (signed.is_signature.signed, tt)))
 
@@ -214,9 +214,9 @@ not_signed_as signs f name hash file_hash opus key e bag first said basic known 
 
 pub made_as : (judge : Judge) (signs : Signs) (pair : Pair) (f : SignedDataElements) (name : Option (List ℕ)) (hash : ShaVariant) (file_hash : List ℕ) (opus : DerElement) (key : PrivateKey) (bag : List CertificateElements) (first : CertificateElements) (made : SignedDataElements)
     → opus ≡ opus_element name → IsBasicName name → hash_of hash ≢ SHA2_224 → IsBagOf f bag → IsFirstSigner bag first
-    → IsSignedProgram judge signs pair bag first (record { hash = hash; file_hash = file_hash; opus = opus }) key made → AreTaken (signing_steps signs (record { hash = hash; file_hash = file_hash; opus = opus }) key)
-    → IsMadeOf judge signs pair f hash file_hash name key made
+    → IsSignedProgram (arithmetic judge signs pair) bag first (record { hash = hash; file_hash = file_hash; opus = opus }) key made → AreTaken (signing_steps signs (record { hash = hash; file_hash = file_hash; opus = opus }) key)
+    → IsMadeOf (arithmetic judge signs pair) f hash file_hash name key made
 made_as judge signs pair f name hash file_hash opus key bag first made said basic known is signer signed taken =
     made_of judge signs pair f hash file_hash name key bag first made basic known is signer
-    (subst (λ (o : DerElement). IsSignedProgram judge signs pair bag first (record { hash = hash; file_hash = file_hash; opus = o }) key made) said signed)
+    (subst (λ (o : DerElement). IsSignedProgram (arithmetic judge signs pair) bag first (record { hash = hash; file_hash = file_hash; opus = o }) key made) said signed)
     (subst (λ (o : DerElement). AreTaken (signing_steps signs (record { hash = hash; file_hash = file_hash; opus = o }) key)) said taken)

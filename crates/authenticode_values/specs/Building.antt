@@ -16,8 +16,7 @@ use Rattle.der_core.specs.Encoding.{encoding}
 use Rattle.der_core.specs.Placed.{AreDer}
 use Rattle.der_core.specs.Refusals.{RefusesInner}
 use Rattle.key_core.specs.SignatureRules.{RefusesBy}
-use Rattle.key_core.specs.Signing.{Signs, Pair, IsAsked, sign_rules}
-use Rattle.key_core.specs.Verifying.{Judge}
+use Rattle.key_core.specs.Signing.{Signs, KeyArithmetic, IsAsked, sign_rules}
 use Rattle.key_core.specs.declared.private_key.PrivateKey.{PrivateKey}
 use Rattle.key_core.specs.declared.signature_algorithm.SignatureAlgorithm.{SignatureAlgorithm}
 use Rattle.key_core.specs.declared.signature_algorithm.SignatureAlgorithm.TheVariants.{RsaPkcs1v15}
@@ -212,18 +211,18 @@ building_steps signs b = given_steps b ++ later_steps signs b
 -- ---- what holds of the signature that is built
 
 -- The signed data is the signature that the builder asks for, by this key and by the certificate that is named.
-pub record IsBuiltOf (judge : Judge) (signs : Signs) (pair : Pair) (b : AuthenticodeSignatureBuilder) (g : Given) (built : SignedDataElements) : Type 0 where
+pub record IsBuiltOf (scheme : KeyArithmetic) (b : AuthenticodeSignatureBuilder) (g : Given) (built : SignedDataElements) : Type 0 where
   pub signer : CertificateElements
   pub is_signer : IsSigner g signer
   pub carried : List CertificateElements
   pub are_carried : AreWithoutRoots g.bag carried
   pub signature : List ℕ
-  pub is_signature : IsSignature judge signs pair (algorithm_by g) g.key (message_by b g) signature
+  pub is_signature : IsSignature scheme (algorithm_by g) g.key (message_by b g) signature
   pub fields : built ≡ signature_made (parts_by b g carried signature)
 
 -- The signed data is what the builder asks for, and no step was refused.
-pub record IsBuilt (judge : Judge) (signs : Signs) (pair : Pair) (b : AuthenticodeSignatureBuilder) (built : SignedDataElements) : Type 0 where
+pub record IsBuilt (scheme : KeyArithmetic) (b : AuthenticodeSignatureBuilder) (built : SignedDataElements) : Type 0 where
   pub given : Given
   pub are_given : HasGiven b given
-  pub is_built : IsBuiltOf judge signs pair b given built
-  pub taken : AreTaken (building_steps signs b)
+  pub is_built : IsBuiltOf scheme b given built
+  pub taken : AreTaken (building_steps scheme.signs b)

@@ -5,8 +5,7 @@ use Rattle.der_core.specs.DerElement.{DerElement}
 use Rattle.der_core.specs.Placed.{AreDer}
 use Rattle.der_core.specs.Refusals.{RefusesInner}
 use Rattle.key_core.specs.SignatureRules.{RefusesBy}
-use Rattle.key_core.specs.Signing.{Signs, Pair, IsAsked, sign_rules}
-use Rattle.key_core.specs.Verifying.{Judge}
+use Rattle.key_core.specs.Signing.{Signs, KeyArithmetic, IsAsked, sign_rules}
 use Rattle.key_core.specs.declared.private_key.PrivateKey.{PrivateKey}
 use Rattle.key_core.specs.declared.signature_algorithm.SignatureAlgorithm.{SignatureAlgorithm}
 use Rattle.sig_core.specs.ShaVariant.{RefusesHash, hash_of}
@@ -104,11 +103,11 @@ making_steps signs f name p key = name_step name ∷ hash_step (hash_of p.hash) 
 
 -- The signed data is the signature of a program by the first certificate of others, which may sign code: the program is given by the algorithm and the digest of the
 -- file, and its name, if it has one. No step was refused.
-pub record IsMadeOf (judge : Judge) (signs : Signs) (pair : Pair) (f : SignedDataElements) (hash : ShaVariant) (file_hash : List ℕ) (name : Option (List ℕ)) (key : PrivateKey) (made : SignedDataElements) : Type 0 where
+pub record IsMadeOf (scheme : KeyArithmetic) (f : SignedDataElements) (hash : ShaVariant) (file_hash : List ℕ) (name : Option (List ℕ)) (key : PrivateKey) (made : SignedDataElements) : Type 0 where
   pub basic : IsBasicName name
   pub supported : hash_of hash ≢ SHA2_224
   pub first : CertificateElements
   pub others : List CertificateElements
   pub signer : HasSigner f first others
-  pub program : IsSignedProgram judge signs pair (first ∷ others) first (program_of hash file_hash name) key made
-  pub taken : AreTaken (making_steps signs f name (program_of hash file_hash name) key)
+  pub program : IsSignedProgram scheme (first ∷ others) first (program_of hash file_hash name) key made
+  pub taken : AreTaken (making_steps scheme.signs f name (program_of hash file_hash name) key)

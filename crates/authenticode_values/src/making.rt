@@ -9,7 +9,7 @@ ghost use Rattle.der_core.specs.DerElement.{DerElement};
 ghost use Rattle.der_core.specs.Encoding.{encoding, IsDer};
 ghost use Rattle.der_core.specs.Placed.{AreDer};
 ghost use Rattle.key_core.specs.declared.signature_algorithm.SignatureAlgorithm.TheVariants.{RsaPkcs1v15};
-ghost use Rattle.key_core.specs.Signing.{IsKeyPair};
+ghost use Rattle.key_core.specs.Signing.{IsKeyPair, arithmetic};
 ghost use Rattle.key_types.specs.declared.key_info.SubjectPublicKeyInfo.{SubjectPublicKeyInfo};
 ghost use Rattle.sig_core.specs.ShaVariant.{hash_of};
 ghost use Rattle.sig_core.specs.declared.hash.HashAlgorithm.TheVariants.{SHA2_224};
@@ -71,11 +71,11 @@ impl AuthenticodeSignature {
         scheme: &S,
     ) -> Result<AuthenticodeSignature, AuthenticodeError>
         ensures answer { MatchResult result
-            (λ s. IsMadeOf (S.judge scheme.now) (S.signs scheme.now) (S.pair scheme.now) (fields_of pkcs7.now) hash_algo file_hash.now (option_copied program_name.entry) private_key.now (fields_of s.0))
+            (λ s. IsMadeOf (arithmetic (S.judge scheme.now) (S.signs scheme.now) (S.pair scheme.now)) (fields_of pkcs7.now) hash_algo file_hash.now (option_copied program_name.entry) private_key.now (fields_of s.0))
             (RefusesBySteps errors.Memory (making_steps (S.signs scheme.now) (fields_of pkcs7.now) (option_copied program_name.entry) (program_of hash_algo file_hash.now (option_copied program_name.entry)) private_key.now)) }
         // Made by a key of the first certificate, which is no root's unless it stands alone, its file is
         // a signature file as it is made.
-        ensures file { IfOk result (λ s. (m : IsMadeOf (S.judge scheme.now) (S.signs scheme.now) (S.pair scheme.now) (fields_of pkcs7.now) hash_algo file_hash.now (option_copied program_name.entry) private_key.now (fields_of s.0))
+        ensures file { IfOk result (λ s. (m : IsMadeOf (arithmetic (S.judge scheme.now) (S.signs scheme.now) (S.pair scheme.now)) (fields_of pkcs7.now) hash_algo file_hash.now (option_copied program_name.entry) private_key.now (fields_of s.0))
             → (info : SubjectPublicKeyInfo) → HasKey m.first info → IsKeyPair (S.pair scheme.now) private_key.now info → (IsRoot m.first → m.others ≡ [])
             → (certificate_type : CertificateType) (octets : List ℕ) → IsDer (written s.0) → IsSpelledWhole octets (wrapped certificate_type (encoding (written s.0)))
             → IsMadeSignature (S.judge scheme.now) octets file_hash.now) }
@@ -103,7 +103,7 @@ fn made<S: Scheme>(
     scheme: &S,
 ) -> Result<AuthenticodeSignature, AuthenticodeError>
     ensures { MatchResult result
-        (λ s. IsMadeOf (S.judge scheme.now) (S.signs scheme.now) (S.pair scheme.now) (fields_of pkcs7.now) hash_algo file_hash.now (option_copied program_name.entry) private_key.now (fields_of s.0))
+        (λ s. IsMadeOf (arithmetic (S.judge scheme.now) (S.signs scheme.now) (S.pair scheme.now)) (fields_of pkcs7.now) hash_algo file_hash.now (option_copied program_name.entry) private_key.now (fields_of s.0))
         (RefusesBySteps errors.Memory (making_steps (S.signs scheme.now) (fields_of pkcs7.now) (option_copied program_name.entry) (program_of hash_algo file_hash.now (option_copied program_name.entry)) private_key.now)) }
 {
     let opus = opus_for(alloc, program_name)?;
@@ -188,7 +188,7 @@ fn sealed<S: Scheme>(
     scheme: &S,
 ) -> Result<Octets, AuthenticodeError>
     ensures { (members : List DerElement) → signed_attributes attributes.now ≡ attributes_element members → MatchResult result
-        (IsSignature (S.judge scheme.now) (S.signs scheme.now) (S.pair scheme.now) (RsaPkcs1v15 algorithm) private_key.now (attributes_message members))
+        (IsSignature (arithmetic (S.judge scheme.now) (S.signs scheme.now) (S.pair scheme.now)) (RsaPkcs1v15 algorithm) private_key.now (attributes_message members))
         (RefusesBySteps errors.Memory (signature_step (S.signs scheme.now) (RsaPkcs1v15 algorithm) private_key.now (attributes_message members) ∷ [])) }
 {
     let message = message_of(alloc, attributes)?;
@@ -209,7 +209,7 @@ fn signed<S: Scheme>(
 ) -> Result<Pkcs7, AuthenticodeError>
     requires { program.now.algorithm ≡ hash_of program.now.hash }
     ensures { let p = program_for program.now in MatchResult result
-        (λ made. IsSignedProgram (S.judge scheme.now) (S.signs scheme.now) (S.pair scheme.now) (elements_of bag.now) first.now.elements p private_key.now (fields_of made)
+        (λ made. IsSignedProgram (arithmetic (S.judge scheme.now) (S.signs scheme.now) (S.pair scheme.now)) (elements_of bag.now) first.now.elements p private_key.now (fields_of made)
         × AreTaken (signing_steps (S.signs scheme.now) p private_key.now))
         (RefusesBySteps errors.Memory (signing_steps (S.signs scheme.now) p private_key.now)) }
 {

@@ -10,7 +10,7 @@ use Rattle.asn1_types.specs.declared.oids.TheConstants.{CE_BASIC_CONSTRAINTS}
 use Rattle.key_types.specs.AlgorithmIdentifier.{algorithm_identifier}
 use Rattle.key_types.specs.declared.key_info.SubjectPublicKeyInfo.{SubjectPublicKeyInfo}
 use Rattle.key_core.specs.SignatureAlgorithm.{NamesSignature}
-use Rattle.key_core.specs.Signing.{Signs, Pair, IsKeyPair}
+use Rattle.key_core.specs.Signing.{Signs, Pair, IsKeyPair, arithmetic}
 use Rattle.key_core.specs.Verifying.{Judge}
 use Rattle.x509_types.specs.Facts.Certificates.{same_three}
 use Rattle.x509_types.specs.FirstOfValue.{extensions_in}
@@ -43,38 +43,38 @@ use Rattle.issuing_core.proofs.WantedExtensions.{built_distinct, built_constrain
 is_given : {X : Type 0} (option : Option X) (x : X) → option ≡ Some x → IsSome option
 is_given {X} option x e = subst (λ (o : Option X). IsSome o) (sym e) refl
 
-pub not_given : (judge : Judge) (signs : Signs) (pair : Pair) (b : CertificateBuilder) (word : ℕ) (e : CertError) → IsFirstUntaken (given_steps b) e → RefusesBySteps errors.Memory (build_steps judge signs pair b word) e
-not_given judge signs pair b word e first = inl (untaken_before (given_steps b) (steps_by judge signs pair b word b.issuer_infos) e first)
+pub not_given : (judge : Judge) (signs : Signs) (pair : Pair) (b : CertificateBuilder) (word : ℕ) (e : CertError) → IsFirstUntaken (given_steps b) e → RefusesBySteps errors.Memory (build_steps (arithmetic judge signs pair) b word) e
+not_given judge signs pair b word e first = inl (untaken_before (given_steps b) (steps_by (arithmetic judge signs pair) b word b.issuer_infos) e first)
 
 module _ (judge : Judge) (signs : Signs) (pair : Pair) (b : CertificateBuilder) (word : ℕ) (issuer : IssuerInfos) (from to : GeneralizedTime)
     (begins : b.valid_from ≡ Some from) (ends : b.valid_to ≡ Some to) (issued : b.issuer_infos ≡ Some issuer) where
   given_taken : AreTaken (given_steps b)
   given_taken = (is_given b.valid_from from begins, (is_given b.valid_to to ends, (is_given b.issuer_infos issuer issued, tt)))
 
-  behind_given : (e : CertError) → RefusesBySteps errors.Memory (steps_by judge signs pair b word (Some issuer)) e → RefusesBySteps errors.Memory (build_steps judge signs pair b word) e
+  behind_given : (e : CertError) → RefusesBySteps errors.Memory (steps_by (arithmetic judge signs pair) b word (Some issuer)) e → RefusesBySteps errors.Memory (build_steps (arithmetic judge signs pair) b word) e
   behind_given e refused =
-      refused_behind errors.Memory (given_steps b) (steps_by judge signs pair b word b.issuer_infos) e given_taken
-      (subst (λ (o : Option IssuerInfos). RefusesBySteps errors.Memory (steps_by judge signs pair b word o) e) (sym issued) refused)
+      refused_behind errors.Memory (given_steps b) (steps_by (arithmetic judge signs pair) b word b.issuer_infos) e given_taken
+      (subst (λ (o : Option IssuerInfos). RefusesBySteps errors.Memory (steps_by (arithmetic judge signs pair) b word o) e) (sym issued) refused)
 
-  pub no_subject : (e : CertError) → RefusesBySteps errors.Memory (subject_steps judge issuer.self_signed b issuer ++ identifier_step judge b issuer ∷ []) e → RefusesBySteps errors.Memory (build_steps judge signs pair b word) e
+  pub no_subject : (e : CertError) → RefusesBySteps errors.Memory (subject_steps judge issuer.self_signed b issuer ++ identifier_step judge b issuer ∷ []) e → RefusesBySteps errors.Memory (build_steps (arithmetic judge signs pair) b word) e
   no_subject e refused =
       behind_given e (refused_within errors.Memory (subject_steps judge issuer.self_signed b issuer) (identifier_step judge b issuer ∷ [])
-      (algorithm_step b ∷ signing_steps judge signs pair b.signature_hash_type issuer.key.now (IsTbsFor judge b issuer word)) e refused)
+      (algorithm_step b ∷ signing_steps (arithmetic judge signs pair) b.signature_hash_type issuer.key.now (IsTbsFor judge b issuer word)) e refused)
 
   behind_subject : (own : List ℕ) (name : Name) (key : SubjectPublicKeyInfo) (e : CertError) → IsIssuedTo judge b issuer own name key
-      → RefusesBySteps errors.Memory (algorithm_step b ∷ signing_steps judge signs pair b.signature_hash_type issuer.key.now (IsTbsFor judge b issuer word)) e → RefusesBySteps errors.Memory (build_steps judge signs pair b word) e
+      → RefusesBySteps errors.Memory (algorithm_step b ∷ signing_steps (arithmetic judge signs pair) b.signature_hash_type issuer.key.now (IsTbsFor judge b issuer word)) e → RefusesBySteps errors.Memory (build_steps (arithmetic judge signs pair) b word) e
   behind_subject own name key e to_whom refused =
       behind_given e (refused_behind errors.Memory (subject_steps judge issuer.self_signed b issuer)
-      (identifier_step judge b issuer ∷ algorithm_step b ∷ signing_steps judge signs pair b.signature_hash_type issuer.key.now (IsTbsFor judge b issuer word)) e
+      (identifier_step judge b issuer ∷ algorithm_step b ∷ signing_steps (arithmetic judge signs pair) b.signature_hash_type issuer.key.now (IsTbsFor judge b issuer word)) e
       (subject_taken judge issuer.self_signed b issuer name key to_whom.subject)
-      (refused_behind errors.Memory (identifier_step judge b issuer ∷ []) (algorithm_step b ∷ signing_steps judge signs pair b.signature_hash_type issuer.key.now (IsTbsFor judge b issuer word)) e
+      (refused_behind errors.Memory (identifier_step judge b issuer ∷ []) (algorithm_step b ∷ signing_steps (arithmetic judge signs pair) b.signature_hash_type issuer.key.now (IsTbsFor judge b issuer word)) e
       ((name, key, own, to_whom), tt) refused))
 
   pub no_algorithm : (own : List ℕ) (name : Name) (key : SubjectPublicKeyInfo) (e : CertError) → IsIssuedTo judge b issuer own name key → RefusesBySteps errors.Memory (algorithm_step b ∷ []) e
-      → RefusesBySteps errors.Memory (build_steps judge signs pair b word) e
+      → RefusesBySteps errors.Memory (build_steps (arithmetic judge signs pair) b word) e
   no_algorithm own name key e to_whom refused =
       behind_subject own name key e to_whom
-      (refused_within errors.Memory [] (algorithm_step b ∷ []) (signing_steps judge signs pair b.signature_hash_type issuer.key.now (IsTbsFor judge b issuer word)) e refused)
+      (refused_within errors.Memory [] (algorithm_step b ∷ []) (signing_steps (arithmetic judge signs pair) b.signature_hash_type issuer.key.now (IsTbsFor judge b issuer word)) e refused)
 
   -- what is signed is that of the builder
   tbs_for : (own : List ℕ) (name : Name) (key : SubjectPublicKeyInfo) (tbs : TbsCertificate) → IsIssuedTo judge b issuer own name key → IsTbsBy b issuer word own tbs
@@ -92,32 +92,32 @@ module _ (judge : Judge) (signs : Signs) (pair : Pair) (b : CertificateBuilder) 
 
   pub built_or_refused : (own : List ℕ) (name : Name) (key : SubjectPublicKeyInfo) (tbs : TbsCertificate) (r : Result KeptCertificate CertError) → IsIssuedTo judge b issuer own name key → IsTbsBy b issuer word own tbs
       → IsValidityOf from to tbs.validity → tbs.subject ≡ name → tbs.subject_public_key_info ≡ key
-      → MatchResult r (IsMade judge signs pair b.signature_hash_type issuer.key.now (λ t. t ≡ tbs)) (RefusesBySteps errors.Memory (signing_steps judge signs pair b.signature_hash_type issuer.key.now (λ t. t ≡ tbs)))
-      → MatchResult r (IsBuilt judge signs pair b word) (RefusesBySteps errors.Memory (build_steps judge signs pair b word))
+      → MatchResult r (IsMade (arithmetic judge signs pair) b.signature_hash_type issuer.key.now (λ t. t ≡ tbs)) (RefusesBySteps errors.Memory (signing_steps (arithmetic judge signs pair) b.signature_hash_type issuer.key.now (λ t. t ≡ tbs)))
+      → MatchResult r (IsBuilt (arithmetic judge signs pair) b word) (RefusesBySteps errors.Memory (build_steps (arithmetic judge signs pair) b word))
   built_or_refused own name key tbs r to_whom by validity named keyed made =
       told r (made_or_refused judge signs pair b.signature_hash_type issuer.key.now (λ t. t ≡ tbs) (IsTbsFor judge b issuer word) r
       (λ t e. subst (IsTbsFor judge b issuer word) (sym e) (tbs_for own name key tbs to_whom by validity named keyed)) made)
     where
       told : (r : Result KeptCertificate CertError)
-          → MatchResult r (IsMade judge signs pair b.signature_hash_type issuer.key.now (IsTbsFor judge b issuer word)) (RefusesBySteps errors.Memory (signing_steps judge signs pair b.signature_hash_type issuer.key.now (IsTbsFor judge b issuer word)))
-          → MatchResult r (IsBuilt judge signs pair b word) (RefusesBySteps errors.Memory (build_steps judge signs pair b word))
+          → MatchResult r (IsMade (arithmetic judge signs pair) b.signature_hash_type issuer.key.now (IsTbsFor judge b issuer word)) (RefusesBySteps errors.Memory (signing_steps (arithmetic judge signs pair) b.signature_hash_type issuer.key.now (IsTbsFor judge b issuer word)))
+          → MatchResult r (IsBuilt (arithmetic judge signs pair) b word) (RefusesBySteps errors.Memory (build_steps (arithmetic judge signs pair) b word))
       told (Ok cert) is = record { issuer = issuer; given = issued; made = is }
       told (Err e) refused =
           behind_subject own name key e to_whom
-          (refused_behind errors.Memory (algorithm_step b ∷ []) (signing_steps judge signs pair b.signature_hash_type issuer.key.now (IsTbsFor judge b issuer word)) e
+          (refused_behind errors.Memory (algorithm_step b ∷ []) (signing_steps (arithmetic judge signs pair) b.signature_hash_type issuer.key.now (IsTbsFor judge b issuer word)) e
           ((tbs.signature, by.issued_by.signs), tt) refused)
 
 -- ---- what holds of its extensions
 
 pub all_distinct : (judge : Judge) (signs : Signs) (pair : Pair) (b : CertificateBuilder) (word : ℕ) (r : Result KeptCertificate CertError) (Refused : CertError → Type 0)
-    → MatchResult r (IsBuilt judge signs pair b word) Refused → IfOk r (λ cert. AreDistinct (extensions_in cert.certificate.tbs_certificate.extensions))
+    → MatchResult r (IsBuilt (arithmetic judge signs pair) b word) Refused → IfOk r (λ cert. AreDistinct (extensions_in cert.certificate.tbs_certificate.extensions))
 all_distinct judge signs pair b word (Ok cert) Refused is =
     let by = is.made.made.tbs.by in
     subst (λ (o : Option (List Extension)). AreDistinct (extensions_in o)) (sym by.given) (built_distinct b is.issuer _ _ by.extensions by.built)
 all_distinct judge signs pair b word (Err e) Refused is = tt
 
 pub constrained : (judge : Judge) (signs : Signs) (pair : Pair) (b : CertificateBuilder) (word : ℕ) (r : Result KeptCertificate CertError) (Refused : CertError → Type 0)
-    → MatchResult r (IsBuilt judge signs pair b word) Refused → IfOk r (λ cert. HasFirst CE_BASIC_CONSTRAINTS.now (extensions_in cert.certificate.tbs_certificate.extensions) (constraints_of b))
+    → MatchResult r (IsBuilt (arithmetic judge signs pair) b word) Refused → IfOk r (λ cert. HasFirst CE_BASIC_CONSTRAINTS.now (extensions_in cert.certificate.tbs_certificate.extensions) (constraints_of b))
 constrained judge signs pair b word (Ok cert) Refused is =
     let by = is.made.made.tbs.by in
     subst (λ (o : Option (List Extension)). HasFirst CE_BASIC_CONSTRAINTS.now (extensions_in o) (constraints_of b)) (sym by.given) (built_constrained b is.issuer _ _ by.extensions by.built)
@@ -155,7 +155,7 @@ one_issuer a b e = cc
 same_payload : (unused : ℕ) (signature : List ℕ) (bits : BitString) → Primitive 0x03 (unused ∷ signature) ≡ bit_string bits → bits.payload ≡ signature
 same_payload unused signature bits e = cc
 
-signed_under : (judge : Judge) (signs : Signs) (pair : Pair) (b : CertificateBuilder) (word : ℕ) (cert parent : KeptCertificate) (is : IsBuilt judge signs pair b word cert)
+signed_under : (judge : Judge) (signs : Signs) (pair : Pair) (b : CertificateBuilder) (word : ℕ) (cert parent : KeptCertificate) (is : IsBuilt (arithmetic judge signs pair) b word cert)
     → IsKeyPair pair is.issuer.key.now parent.certificate.tbs_certificate.subject_public_key_info → IsSignedBy judge parent.elements cert.elements
 signed_under judge signs pair b word cert parent is paired =
     let c = cert.certificate in
@@ -167,7 +167,7 @@ signed_under judge signs pair b word cert parent is paired =
     (ap encoding (sym same.0)) (same_payload cert.elements.unused cert.elements.signature c.signature_value same.2) (whole.accepted info paired)
 
 pub signed_by_parents : (judge : Judge) (signs : Signs) (pair : Pair) (b : CertificateBuilder) (word : ℕ) (r : Result KeptCertificate CertError) (Refused : CertError → Type 0)
-    → MatchResult r (IsBuilt judge signs pair b word) Refused
+    → MatchResult r (IsBuilt (arithmetic judge signs pair) b word) Refused
     → IfOk r (λ cert. (issuer : IssuerInfos) (parent : KeptCertificate) → b.issuer_infos ≡ Some issuer → IsKeyPair pair issuer.key.now parent.certificate.tbs_certificate.subject_public_key_info
     → IsSignedBy judge parent.elements cert.elements)
 signed_by_parents judge signs pair b word (Ok cert) Refused is = λ issuer parent given paired.

@@ -6,7 +6,7 @@ use Rattle.der_core.specs.Placed.{AreDer}
 use Rattle.der_core.specs.Refusals.{RefusesInner}
 use Rattle.key_types.specs.declared.key_info.SubjectPublicKeyInfo.{SubjectPublicKeyInfo}
 use Rattle.key_core.specs.SignatureRules.{RefusesBy}
-use Rattle.key_core.specs.Signing.{Signs, Pair, IsKeyPair, sign_rules}
+use Rattle.key_core.specs.Signing.{Signs, Pair, IsKeyPair, arithmetic, sign_rules}
 use Rattle.key_core.specs.Verifying.{Judge, Accepts}
 use Rattle.key_core.specs.declared.element.Element.TheVariants as elements
 use Rattle.key_core.specs.declared.private_key.PrivateKey.{PrivateKey}
@@ -35,7 +35,7 @@ module _ (judge : Judge) (signs : Signs) (pair : Pair) (algorithm : SignatureAlg
       → IsDer (tbs_certificate tbs) → AreDer (inner_tbs tbs) → IsTbsSigned signs algorithm key tbs
       → ((public : SubjectPublicKeyInfo) → IsKeyPair pair key public → Accepts judge algorithm public (message_of tbs) c.signature_value.payload)
       → MatchResult r (λ cert. (kept_octets cert ≡ written_octets c) × (cert.certificate ≡ c)) (IsUnwritten elements.Certificate (RefusesInner (written_elements c)))
-      → MatchResult r (IsMade judge signs pair algorithm key (λ t. t ≡ tbs)) (RefusesBySteps errors.Memory (signing_steps judge signs pair algorithm key (λ t. t ≡ tbs)))
+      → MatchResult r (IsMade (arithmetic judge signs pair) algorithm key (λ t. t ≡ tbs)) (RefusesBySteps errors.Memory (signing_steps (arithmetic judge signs pair) algorithm key (λ t. t ≡ tbs)))
   made_or_not tbs c r is beside unused der inner signed accepted made =
       let whole : IsSignedCertificate judge pair algorithm key (λ t. t ≡ tbs) c = record {
         tbs = is;
@@ -47,7 +47,7 @@ module _ (judge : Judge) (signs : Signs) (pair : Pair) (algorithm : SignatureAlg
     where
       by : (r : Result KeptCertificate CertError) → IsSignedCertificate judge pair algorithm key (λ t. t ≡ tbs) c
           → MatchResult r (λ cert. (kept_octets cert ≡ written_octets c) × (cert.certificate ≡ c)) (IsUnwritten elements.Certificate (RefusesInner (written_elements c)))
-          → MatchResult r (IsMade judge signs pair algorithm key (λ t. t ≡ tbs)) (RefusesBySteps errors.Memory (signing_steps judge signs pair algorithm key (λ t. t ≡ tbs)))
+          → MatchResult r (IsMade (arithmetic judge signs pair) algorithm key (λ t. t ≡ tbs)) (RefusesBySteps errors.Memory (signing_steps (arithmetic judge signs pair) algorithm key (λ t. t ≡ tbs)))
       by (Ok cert) whole (octets, value) = record {
         signed = subst (λ (x : Certificate). IsTbsSigned signs algorithm key x.tbs_certificate) (sym value) (subst (IsTbsSigned signs algorithm key) (sym is) signed);
         made = subst (IsSignedCertificate judge pair algorithm key (λ t. t ≡ tbs)) (sym value) whole;
@@ -59,11 +59,11 @@ module _ (judge : Judge) (signs : Signs) (pair : Pair) (algorithm : SignatureAlg
   signed_as : (A B : TbsCertificate → Type 0) (c : Certificate) → ((t : TbsCertificate) → A t → B t) → IsSignedCertificate judge pair algorithm key A c → IsSignedCertificate judge pair algorithm key B c
   signed_as A B c f s = record { tbs = f c.tbs_certificate s.tbs; beside = s.beside; unused = s.unused; accepted = s.accepted }
 
-  made_as : (A B : TbsCertificate → Type 0) (cert : KeptCertificate) → ((t : TbsCertificate) → A t → B t) → IsMade judge signs pair algorithm key A cert → IsMade judge signs pair algorithm key B cert
+  made_as : (A B : TbsCertificate → Type 0) (cert : KeptCertificate) → ((t : TbsCertificate) → A t → B t) → IsMade (arithmetic judge signs pair) algorithm key A cert → IsMade (arithmetic judge signs pair) algorithm key B cert
   made_as A B cert f m = record { signed = m.signed; made = signed_as A B cert.certificate f m.made; written = m.written }
 
   untaken_as : (A B : TbsCertificate → Type 0) (e : CertError) → ((t : TbsCertificate) → A t → B t)
-      → IsFirstUntaken (signing_steps judge signs pair algorithm key A) e → IsFirstUntaken (signing_steps judge signs pair algorithm key B) e
+      → IsFirstUntaken (signing_steps (arithmetic judge signs pair) algorithm key A) e → IsFirstUntaken (signing_steps (arithmetic judge signs pair) algorithm key B) e
   untaken_as A B e f (inl octets) = inl (octets.0, f octets.0 octets.1, octets.2)
   untaken_as A B e f (inr (octets, inl signature)) = inr ((octets.0, f octets.0 octets.1, octets.2, octets.3), inl (signature.0, f signature.0 signature.1, signature.2))
   untaken_as A B e f (inr (octets, inr (signature, inl whole))) =
@@ -71,8 +71,8 @@ module _ (judge : Judge) (signs : Signs) (pair : Pair) (algorithm : SignatureAlg
   untaken_as A B e f (inr (octets, inr (signature, inr (whole, none)))) = absurd none
 
   pub made_or_refused : (A B : TbsCertificate → Type 0) (r : Result KeptCertificate CertError) → ((t : TbsCertificate) → A t → B t)
-      → MatchResult r (IsMade judge signs pair algorithm key A) (RefusesBySteps errors.Memory (signing_steps judge signs pair algorithm key A))
-      → MatchResult r (IsMade judge signs pair algorithm key B) (RefusesBySteps errors.Memory (signing_steps judge signs pair algorithm key B))
+      → MatchResult r (IsMade (arithmetic judge signs pair) algorithm key A) (RefusesBySteps errors.Memory (signing_steps (arithmetic judge signs pair) algorithm key A))
+      → MatchResult r (IsMade (arithmetic judge signs pair) algorithm key B) (RefusesBySteps errors.Memory (signing_steps (arithmetic judge signs pair) algorithm key B))
   made_or_refused A B (Ok cert) f made = made_as A B cert f made
   made_or_refused A B (Err e) f (inl first) = inl (untaken_as A B e f first)
   made_or_refused A B (Err e) f (inr memory) = inr memory
@@ -81,7 +81,7 @@ module _ (judge : Judge) (signs : Signs) (pair : Pair) (algorithm : SignatureAlg
 pub not_made : (judge : Judge) (signs : Signs) (pair : Pair) (algorithm : SignatureAlgorithm) (key : PrivateKey) (tbs : TbsCertificate) (e : CertError)
     → (e ≡ errors.Memory) ⊎ (Tells no_octets (RefusesInner (tbs_written tbs)) e
     ⊎ (IsDer (tbs_certificate tbs) × AreDer (inner_tbs tbs) × Tells no_signature (RefusesBy (sign_rules signs algorithm key (message_of tbs))) e))
-    → RefusesBySteps errors.Memory (signing_steps judge signs pair algorithm key (λ t. t ≡ tbs)) e
+    → RefusesBySteps errors.Memory (signing_steps (arithmetic judge signs pair) algorithm key (λ t. t ≡ tbs)) e
 not_made judge signs pair algorithm key tbs e (inl memory) = inr memory
 not_made judge signs pair algorithm key tbs e (inr (inl told)) = inl (inl (tbs, refl, told))
 not_made judge signs pair algorithm key tbs e (inr (inr (der, inner, told))) = inl (inr ((tbs, refl, der, inner), inl (tbs, refl, told)))

@@ -12,7 +12,7 @@ use Rattle.key_core.specs.Keys.{container_of, point_beside}
 use Rattle.key_core.specs.PublicHalf.{RefusesPublicHalf}
 use Rattle.key_core.specs.SignatureAlgorithm.{IsWrittenAlgorithm, IsUnwritable}
 use Rattle.key_core.specs.SignatureRules.{RefusesBy}
-use Rattle.key_core.specs.Signing.{Signs, Pair, IsAsked, IsKeyPair, sign_rules}
+use Rattle.key_core.specs.Signing.{Signs, Pair, KeyArithmetic, IsAsked, IsKeyPair, sign_rules}
 use Rattle.key_core.specs.Verifying.{Judge, Accepts}
 use Rattle.key_core.specs.declared.element.Element.TheVariants as elements
 use Rattle.key_core.specs.declared.private_key.PrivateKey.{PrivateKey}
@@ -56,16 +56,16 @@ abbrev pub IsTbsSigned : Signs → SignatureAlgorithm → PrivateKey → TbsCert
 IsTbsSigned signs algorithm key tbs = IsAsked signs algorithm key (message_of tbs) true
 
 -- The certificate is one of these, signed by the key, and kept with the element that is written for it.
-pub record IsMade (judge : Judge) (signs : Signs) (pair : Pair) (algorithm : SignatureAlgorithm) (key : PrivateKey) (IsTbs : TbsCertificate → Type 0) (cert : KeptCertificate) : Type 0 where
-  pub signed : IsTbsSigned signs algorithm key cert.certificate.tbs_certificate
-  pub made : IsSignedCertificate judge pair algorithm key IsTbs cert.certificate
+pub record IsMade (scheme : KeyArithmetic) (algorithm : SignatureAlgorithm) (key : PrivateKey) (IsTbs : TbsCertificate → Type 0) (cert : KeptCertificate) : Type 0 where
+  pub signed : IsTbsSigned scheme.signs algorithm key cert.certificate.tbs_certificate
+  pub made : IsSignedCertificate scheme.judge scheme.pair algorithm key IsTbs cert.certificate
   pub written : certificate_of cert.elements ≡ certificate cert.certificate
 
 -- The certificate is the one that the builder asks for, and the issuer signs it.
-pub record IsBuilt (judge : Judge) (signs : Signs) (pair : Pair) (b : CertificateBuilder) (word : ℕ) (cert : KeptCertificate) : Type 0 where
+pub record IsBuilt (scheme : KeyArithmetic) (b : CertificateBuilder) (word : ℕ) (cert : KeptCertificate) : Type 0 where
   pub issuer : IssuerInfos
   pub given : b.issuer_infos ≡ Some issuer
-  pub made : IsMade judge signs pair b.signature_hash_type issuer.key.now (IsTbsFor judge b issuer word) cert
+  pub made : IsMade scheme b.signature_hash_type issuer.key.now (IsTbsFor scheme.judge b issuer word) cert
 
 -- ---- steps
 
@@ -118,7 +118,7 @@ algorithm_step b = record {
 abbrev pub tbs_written : TbsCertificate → List DerElement
 tbs_written tbs = inner_tbs tbs ++ tbs_certificate tbs ∷ []
 
-module _ (judge : Judge) (signs : Signs) (pair : Pair) (algorithm : SignatureAlgorithm) (key : PrivateKey) (IsTbs : TbsCertificate → Type 0) where
+module _ (scheme : KeyArithmetic) (algorithm : SignatureAlgorithm) (key : PrivateKey) (IsTbs : TbsCertificate → Type 0) where
   -- what is signed can be written
   abbrev pub octets_step : Step CertError
   octets_step = record {
@@ -129,15 +129,15 @@ module _ (judge : Judge) (signs : Signs) (pair : Pair) (algorithm : SignatureAlg
   -- the key signs it
   abbrev pub signature_step : Step CertError
   signature_step = record {
-    taken = (tbs : TbsCertificate) × IsTbs tbs × IsTbsSigned signs algorithm key tbs;
-    refused = λ e. (tbs : TbsCertificate) × IsTbs tbs × Tells no_signature (RefusesBy (sign_rules signs algorithm key (message_of tbs))) e;
+    taken = (tbs : TbsCertificate) × IsTbs tbs × IsTbsSigned scheme.signs algorithm key tbs;
+    refused = λ e. (tbs : TbsCertificate) × IsTbs tbs × Tells no_signature (RefusesBy (sign_rules scheme.signs algorithm key (message_of tbs))) e;
   }
 
   -- the whole can be written
   abbrev pub whole_step : Step CertError
   whole_step = record {
-    taken = (cert : KeptCertificate) × IsMade judge signs pair algorithm key IsTbs cert;
-    refused = λ e. (c : Certificate) × IsSignedCertificate judge pair algorithm key IsTbs c × IsUnwritten elements.Certificate (RefusesInner (written_elements c)) e;
+    taken = (cert : KeptCertificate) × IsMade scheme algorithm key IsTbs cert;
+    refused = λ e. (c : Certificate) × IsSignedCertificate scheme.judge scheme.pair algorithm key IsTbs c × IsUnwritten elements.Certificate (RefusesInner (written_elements c)) e;
   }
 
   -- the steps that make a certificate of what is signed
@@ -145,11 +145,11 @@ module _ (judge : Judge) (signs : Signs) (pair : Pair) (algorithm : SignatureAlg
   signing_steps = octets_step ∷ signature_step ∷ whole_step ∷ []
 
 -- the steps behind the times and the issuer, which are given; none where there is no issuer
-abbrev pub steps_by : Judge → Signs → Pair → CertificateBuilder → ℕ → Option IssuerInfos → List (Step CertError)
-steps_by judge signs pair b word None = []
-steps_by judge signs pair b word (Some issuer) =
-    subject_steps judge issuer.self_signed b issuer
-    ++ identifier_step judge b issuer ∷ algorithm_step b ∷ signing_steps judge signs pair b.signature_hash_type issuer.key.now (IsTbsFor judge b issuer word)
+abbrev pub steps_by : KeyArithmetic → CertificateBuilder → ℕ → Option IssuerInfos → List (Step CertError)
+steps_by scheme b word None = []
+steps_by scheme b word (Some issuer) =
+    subject_steps scheme.judge issuer.self_signed b issuer
+    ++ identifier_step scheme.judge b issuer ∷ algorithm_step b ∷ signing_steps scheme b.signature_hash_type issuer.key.now (IsTbsFor scheme.judge b issuer word)
 
 -- the times and the issuer are given
 abbrev pub given_steps : CertificateBuilder → List (Step CertError)
@@ -157,5 +157,5 @@ given_steps b =
     given_step arguments.ValidFrom b.valid_from ∷ given_step arguments.ValidTo b.valid_to ∷ given_step arguments.IssuerInfos b.issuer_infos ∷ []
 
 -- The steps of a building, in their order.
-abbrev pub build_steps : Judge → Signs → Pair → CertificateBuilder → ℕ → List (Step CertError)
-build_steps judge signs pair b word = given_steps b ++ steps_by judge signs pair b word b.issuer_infos
+abbrev pub build_steps : KeyArithmetic → CertificateBuilder → ℕ → List (Step CertError)
+build_steps scheme b word = given_steps b ++ steps_by scheme b word b.issuer_infos

@@ -9,7 +9,7 @@ use Rattle.key_core.specs.Keys.{container_of, point_beside}
 use Rattle.key_core.specs.PublicHalf.{IsPublicHalf, RefusesPublicHalf}
 use Rattle.key_core.specs.SignatureAlgorithm.{IsWrittenAlgorithm, IsUnwritable}
 use Rattle.key_core.specs.SignatureRules.{RefusesBy}
-use Rattle.key_core.specs.Signing.{Signs, Pair, IsAsked, IsKeyPair, sign_rules}
+use Rattle.key_core.specs.Signing.{Signs, Pair, KeyArithmetic, IsAsked, IsKeyPair, sign_rules}
 use Rattle.key_core.specs.Verifying.{Judge, Accepts}
 use Rattle.key_core.specs.declared.element.Element.TheVariants as elements
 use Rattle.key_core.specs.declared.private_key.PrivateKey.{PrivateKey}
@@ -81,16 +81,16 @@ abbrev pub InfoUnsigned : Signs → PrivateKey → SignatureAlgorithm → Certif
 InfoUnsigned signs key algorithm info = IsUnsigned (RefusesBy (sign_rules signs algorithm key (encoding (request_info info))))
 
 -- The first step refuses that isn't taken: to write what is signed, to sign it, to name the algorithm, to write the whole.
-abbrev pub RefusesToMake : Judge → Signs → Pair → PrivateKey → SignatureAlgorithm → CertificationRequestInfo → CsrError → Type 0
-RefusesToMake judge signs pair key algorithm info e =
+abbrev pub RefusesToMake : KeyArithmetic → PrivateKey → SignatureAlgorithm → CertificationRequestInfo → CsrError → Type 0
+RefusesToMake scheme key algorithm info e =
     InfoUnwritten info e
     ⊎ (IsInfoWritten info
-    × (InfoUnsigned signs key algorithm info e
-    ⊎ (IsInfoSigned signs key algorithm info
-    × (IsUnsigned (IsUnwritable algorithm) e ⊎ WholeUnwritten judge pair key algorithm info e))))
+    × (InfoUnsigned scheme.signs key algorithm info e
+    ⊎ (IsInfoSigned scheme.signs key algorithm info
+    × (IsUnsigned (IsUnwritable algorithm) e ⊎ WholeUnwritten scheme.judge scheme.pair key algorithm info e))))
 
 -- There is no public key, or what is asked for is refused.
-abbrev pub RefusesToGenerate : Judge → Signs → Pair → DirectoryName → PrivateKey → SignatureAlgorithm → List Attribute → CsrError → Type 0
-RefusesToGenerate judge signs pair subject key algorithm attributes e =
+abbrev pub RefusesToGenerate : KeyArithmetic → DirectoryName → PrivateKey → SignatureAlgorithm → List Attribute → CsrError → Type 0
+RefusesToGenerate scheme subject key algorithm attributes e =
     HasNoHalf key e
-    ⊎ ((info : CertificationRequestInfo) × IsInfoFor subject key attributes info × RefusesToMake judge signs pair key algorithm info e)
+    ⊎ ((info : CertificationRequestInfo) × IsInfoFor subject key attributes info × RefusesToMake scheme key algorithm info e)

@@ -25,7 +25,7 @@ use Rattle.key_core.specs.PrivateKeyValue.{private_kind}
 use Rattle.key_core.specs.PrivatePkcs1.{IsPkcs1OfPrivate}
 use Rattle.key_core.specs.SchemeNames.{rsa_alg, curve_for, ecdsa_alg}
 use Rattle.key_core.specs.Rules.{Rule}
-use Rattle.key_core.specs.Verifying.{NamesCurve, IsPointOn, IsOfEd}
+use Rattle.key_core.specs.Verifying.{Judge, NamesCurve, IsPointOn, IsOfEd}
 use Rattle.key_core.specs.declared.ec_curve.EcCurve.{EcCurve}
 use Rattle.key_core.specs.declared.ed_algorithm.EdAlgorithm.{EdAlgorithm}
 use Rattle.key_core.specs.declared.ed_algorithm.EdAlgorithm.TheVariants as ed
@@ -79,6 +79,16 @@ Signs = SigAlg → List ℕ → List ℕ → Bool
 -- Whether key bytes and a secret belong together for a scheme, of a kind, the key bytes and the secret.
 abbrev pub Pair : Type 1
 Pair = SchemeKind → List ℕ → List ℕ → Type 0
+
+-- What a scheme says: its verdicts, what it signs, and which keys belong together.
+pub record KeyArithmetic : Type 1 where
+  pub judge : Judge
+  pub signs : Signs
+  pub pair : Pair
+
+-- a scheme that says these
+abbrev pub arithmetic : Judge → Signs → Pair → KeyArithmetic
+arithmetic judge signs pair = record { judge = judge; signs = signs; pair = pair }
 
 -- The private key is one for the algorithm, and this is whether the scheme signs the message with it.
 pub record IsAsked (signs : Signs) (algorithm : SignatureAlgorithm) (key : PrivateKey) (msg : List ℕ) (holds : Bool) : Type 0 where

@@ -5,8 +5,8 @@ use Rattle.cms_types.specs.SignedDataElements.{SignedDataElements}
 use Rattle.cms_types.specs.Units.{IsBasic}
 use Rattle.der_core.specs.DerElement.{DerElement, Primitive}
 use Rattle.der_core.specs.Elements.{sequence}
-use Rattle.key_core.specs.Signing.{Signs, Pair, IsAsked, IsKeyPair}
-use Rattle.key_core.specs.Verifying.{Judge, Accepts}
+use Rattle.key_core.specs.Signing.{KeyArithmetic, IsAsked, IsKeyPair}
+use Rattle.key_core.specs.Verifying.{Accepts}
 use Rattle.key_core.specs.declared.private_key.PrivateKey.{PrivateKey}
 use Rattle.key_core.specs.declared.signature_algorithm.SignatureAlgorithm.{SignatureAlgorithm}
 use Rattle.key_core.specs.declared.signature_algorithm.SignatureAlgorithm.TheVariants.{RsaPkcs1v15}
@@ -62,14 +62,14 @@ parts_for p first carried signature = record {
 }
 
 -- The octets are a signature of the message by the key, accepted under each public key that pairs with it.
-pub record IsSignature (judge : Judge) (signs : Signs) (pair : Pair) (algorithm : SignatureAlgorithm) (key : PrivateKey) (message signature : List ℕ) : Type 0 where
-  pub signed : IsAsked signs algorithm key message true
-  pub accepted : (info : SubjectPublicKeyInfo) → IsKeyPair pair key info → Accepts judge algorithm info message signature
+pub record IsSignature (scheme : KeyArithmetic) (algorithm : SignatureAlgorithm) (key : PrivateKey) (message signature : List ℕ) : Type 0 where
+  pub signed : IsAsked scheme.signs algorithm key message true
+  pub accepted : (info : SubjectPublicKeyInfo) → IsKeyPair scheme.pair key info → Accepts scheme.judge algorithm info message signature
 
 -- The signed data is the signature of the program by this key and by the first of the certificates, of which it carries some.
-pub record IsSignedProgram (judge : Judge) (signs : Signs) (pair : Pair) (bag : List CertificateElements) (first : CertificateElements) (p : Program) (key : PrivateKey) (made : SignedDataElements) : Type 0 where
+pub record IsSignedProgram (scheme : KeyArithmetic) (bag : List CertificateElements) (first : CertificateElements) (p : Program) (key : PrivateKey) (made : SignedDataElements) : Type 0 where
   pub carried : List CertificateElements
   pub are_carried : AreCarried bag carried
   pub signature : List ℕ
-  pub is_signature : IsSignature judge signs pair (algorithm_for p) key (message_for p) signature
+  pub is_signature : IsSignature scheme (algorithm_for p) key (message_for p) signature
   pub fields : made ≡ signature_made (parts_for p first carried signature)

@@ -2,7 +2,7 @@
 
 ghost use Rattle.std.specs.Prelude.{MatchResult};
 ghost use Rattle.key_core.specs.SignatureRules.{RefusesBy};
-ghost use Rattle.key_core.specs.Signing.{sign_rules};
+ghost use Rattle.key_core.specs.Signing.{arithmetic, sign_rules};
 ghost use Rattle.key_core.specs.declared.signature_algorithm.SignatureAlgorithm.TheVariants.{RsaPkcs1v15};
 ghost use Rattle.making_core.specs.SignedProgram.{IsSignature};
 
@@ -20,7 +20,7 @@ pub fn signature_of<S: Scheme>(
     scheme: &S,
 ) -> Result<Octets, SignatureError>
     ensures { MatchResult result
-        (IsSignature (S.judge scheme.now) (S.signs scheme.now) (S.pair scheme.now) (RsaPkcs1v15 hash) private_key.now message.now)
+        (IsSignature (arithmetic (S.judge scheme.now) (S.signs scheme.now) (S.pair scheme.now)) (RsaPkcs1v15 hash) private_key.now message.now)
         (RefusesBy (sign_rules (S.signs scheme.now) (RsaPkcs1v15 hash) private_key.now message.now)) }
 {
     let algorithm = SignatureAlgorithm::RsaPkcs1v15(hash);

@@ -9,6 +9,7 @@ ghost use Rattle.der_core.specs.DerElement.{DerElement};
 ghost use Rattle.der_core.specs.Each.{list_element};
 ghost use Rattle.der_core.specs.Encoding.{encoding};
 ghost use Rattle.der_core.specs.Placed.{AreDer};
+ghost use Rattle.key_core.specs.Signing.{arithmetic};
 ghost use Rattle.key_core.specs.declared.signature_algorithm.SignatureAlgorithm.TheVariants.{RsaPkcs1v15};
 ghost use Rattle.sig_core.specs.ShaVariant.{hash_of};
 ghost use Rattle.x509_types.specs.Attribute.{attribute};
@@ -71,7 +72,7 @@ impl AuthenticodeSignatureBuilder<'_> {
         scheme: &S,
     ) -> Result<AuthenticodeSignature, AuthenticodeSignatureBuilderError>
         ensures answer { MatchResult result
-            (λ s. IsBuilt (S.judge scheme.now) (S.signs scheme.now) (S.pair scheme.now) self.entry (fields_of s.0))
+            (λ s. IsBuilt (arithmetic (S.judge scheme.now) (S.signs scheme.now) (S.pair scheme.now)) self.entry (fields_of s.0))
             (RefusesBySteps errors.Memory (building_steps (S.signs scheme.now) self.entry)) }
         // What isn't given, and SHA-224, is told whatever memory there is.
         ensures refused { (e : AuthenticodeSignatureBuilderError) → IsFirstUntaken (given_steps self.entry) e → result ≡ Err e }
@@ -86,7 +87,7 @@ impl AuthenticodeSignatureBuilder<'_> {
         scheme: &S,
     ) -> Result<AuthenticodeSignature, AuthenticodeSignatureBuilderError>
         ensures answer { MatchResult result
-            (λ s. IsBuilt (S.judge scheme.now) (S.signs scheme.now) (S.pair scheme.now) self.now (fields_of s.0))
+            (λ s. IsBuilt (arithmetic (S.judge scheme.now) (S.signs scheme.now) (S.pair scheme.now)) self.now (fields_of s.0))
             (RefusesBySteps errors.Memory (building_steps (S.signs scheme.now) self.now)) }
         ensures refused { (e : AuthenticodeSignatureBuilderError) → IsFirstUntaken (given_steps self.now) e → result ≡ Err e }
     {
@@ -150,7 +151,7 @@ impl AuthenticodeSignatureBuilder<'_> {
     ) -> Result<Pkcs7, AuthenticodeSignatureBuilderError>
         requires { hash_of given.now.hash ≡ given.now.algorithm }
         ensures { let g = given_of given.now in MatchResult result
-            (λ built. IsBuiltOf (S.judge scheme.now) (S.signs scheme.now) (S.pair scheme.now) self.now g (fields_of built) × AreTaken (steps_of (S.signs scheme.now) self.now g))
+            (λ built. IsBuiltOf (arithmetic (S.judge scheme.now) (S.signs scheme.now) (S.pair scheme.now)) self.now g (fields_of built) × AreTaken (steps_of (S.signs scheme.now) self.now g))
             (RefusesBySteps errors.Memory (steps_of (S.signs scheme.now) self.now g)) }
     {
         expect_signer(alloc, given)?;
@@ -171,7 +172,7 @@ impl AuthenticodeSignatureBuilder<'_> {
         scheme: &S,
     ) -> Result<Octets, AuthenticodeSignatureBuilderError>
         ensures { (members : List DerElement) → signed_attributes attributes.now ≡ attributes_element members → MatchResult result
-            (IsSignature (S.judge scheme.now) (S.signs scheme.now) (S.pair scheme.now) (RsaPkcs1v15 given.now.algorithm) given.now.key.now (message_in self.now.authenticated_attributes content.items members))
+            (IsSignature (arithmetic (S.judge scheme.now) (S.signs scheme.now) (S.pair scheme.now)) (RsaPkcs1v15 given.now.algorithm) given.now.key.now (message_in self.now.authenticated_attributes content.items members))
             (RefusesBySteps errors.Memory (key_step (S.signs scheme.now) (RsaPkcs1v15 given.now.algorithm) given.now.key.now (message_in self.now.authenticated_attributes content.items members) ∷ [])) }
     {
         let message = self.message(alloc, content, attributes)?;

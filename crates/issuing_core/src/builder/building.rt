@@ -7,7 +7,7 @@ ghost use Rattle.asn1_types.specs.declared.oids.TheConstants.{CE_BASIC_CONSTRAIN
 ghost use Rattle.key_core.specs.SignatureAlgorithm.{IsWrittenAlgorithm, IsUnwritable};
 ghost use Rattle.x509_types.specs.FirstOfValue.{extensions_in};
 ghost use Rattle.x509_types.specs.declared.version.Version.TheVariants as versions;
-ghost use Rattle.key_core.specs.Signing.{IsKeyPair};
+ghost use Rattle.key_core.specs.Signing.{IsKeyPair, arithmetic};
 ghost use Rattle.key_core.specs.Keys.{info_of};
 ghost use Rattle.names_core.specs.Names.{sets_of};
 ghost use Rattle.x509_core.specs.FirstValue.{HasFirst};
@@ -54,8 +54,8 @@ impl<'a> CertificateBuilder<'a> {
     /// be written.
     pub fn build<S: Scheme>(self, alloc: Global, word: u32, scheme: &S) -> Result<Cert, CertError>
         ensures answer { MatchResult result
-            (IsBuilt (S.judge scheme.now) (S.signs scheme.now) (S.pair scheme.now) self.entry word)
-            (RefusesBySteps errors.Memory (build_steps (S.judge scheme.now) (S.signs scheme.now) (S.pair scheme.now) self.entry word)) }
+            (IsBuilt (arithmetic (S.judge scheme.now) (S.signs scheme.now) (S.pair scheme.now)) self.entry word)
+            (RefusesBySteps errors.Memory (build_steps (arithmetic (S.judge scheme.now) (S.signs scheme.now) (S.pair scheme.now)) self.entry word)) }
         // Its signature is one by each certificate whose key pairs with the issuer's.
         ensures linked { IfOk result (λ cert. (issuer : IssuerInfos) (parent : KeptCertificate) → self.entry.issuer_infos ≡ Some issuer
             → IsKeyPair (S.pair scheme.now) issuer.key.now parent.certificate.tbs_certificate.subject_public_key_info → IsSignedBy (S.judge scheme.now) parent.elements cert.elements) }
@@ -70,8 +70,8 @@ impl<'a> CertificateBuilder<'a> {
     /// The certificate.
     fn built<S: Scheme>(&self, alloc: Global, word: u32, scheme: &S) -> Result<Cert, CertError>
         ensures { MatchResult result
-            (IsBuilt (S.judge scheme.now) (S.signs scheme.now) (S.pair scheme.now) self.now word)
-            (RefusesBySteps errors.Memory (build_steps (S.judge scheme.now) (S.signs scheme.now) (S.pair scheme.now) self.now word)) }
+            (IsBuilt (arithmetic (S.judge scheme.now) (S.signs scheme.now) (S.pair scheme.now)) self.now word)
+            (RefusesBySteps errors.Memory (build_steps (arithmetic (S.judge scheme.now) (S.signs scheme.now) (S.pair scheme.now)) self.now word)) }
     {
         let (valid_from, valid_to, issuer) = self.given()?;
         let subject = self.identified(alloc, issuer, scheme)?;

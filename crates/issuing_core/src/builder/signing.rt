@@ -7,7 +7,7 @@ ghost use Rattle.der_core.specs.Refusals.{RefusesInner};
 ghost use Rattle.asn1_types.specs.Values.{payload_of, unused_of};
 ghost use Rattle.key_types.specs.declared.key_info.SubjectPublicKeyInfo.{SubjectPublicKeyInfo};
 ghost use Rattle.key_core.specs.SignatureRules.{RefusesBy};
-ghost use Rattle.key_core.specs.Signing.{IsKeyPair, sign_rules};
+ghost use Rattle.key_core.specs.Signing.{IsKeyPair, arithmetic, sign_rules};
 ghost use Rattle.key_core.specs.Verifying.{Accepts};
 ghost use Rattle.x509_types.specs.TbsCertificate.{tbs_certificate, inner_tbs};
 ghost use Rattle.issuing_core.specs.BuildRefusals.{Tells, no_octets as octets_refusal, no_signature as signature_refusal};
@@ -33,8 +33,8 @@ pub(super) fn signed<S: Scheme>(
     scheme: &S,
 ) -> Result<Cert, CertError>
     ensures { MatchResult result
-        (IsMade (S.judge scheme.now) (S.signs scheme.now) (S.pair scheme.now) algorithm private_key.now (λ t. t ≡ tbs))
-        (RefusesBySteps errors.Memory (signing_steps (S.judge scheme.now) (S.signs scheme.now) (S.pair scheme.now) algorithm private_key.now (λ t. t ≡ tbs))) }
+        (IsMade (arithmetic (S.judge scheme.now) (S.signs scheme.now) (S.pair scheme.now)) algorithm private_key.now (λ t. t ≡ tbs))
+        (RefusesBySteps errors.Memory (signing_steps (arithmetic (S.judge scheme.now) (S.signs scheme.now) (S.pair scheme.now)) algorithm private_key.now (λ t. t ≡ tbs))) }
 {
     let signature_value = signature_of(alloc, &tbs, private_key, algorithm, scheme)?;
     let signature_algorithm = tbs.signature.try_clone(alloc)?;

@@ -5,7 +5,7 @@ ghost use Rattle.der_core.specs.Encoding.{encoding};
 ghost use Rattle.asn1_types.specs.Values.{payload_of, unused_of};
 ghost use Rattle.key_types.specs.declared.key_info.SubjectPublicKeyInfo.{SubjectPublicKeyInfo};
 ghost use Rattle.key_core.specs.SignatureAlgorithm.{IsWrittenAlgorithm, IsUnwritable};
-ghost use Rattle.key_core.specs.Signing.{IsKeyPair};
+ghost use Rattle.key_core.specs.Signing.{IsKeyPair, arithmetic};
 ghost use Rattle.key_core.specs.Verifying.{Accepts};
 ghost use Rattle.request_types.specs.RequestInfo.{request_info};
 ghost use Rattle.issuing_core.specs.CsrRefusals.{IsUnsigned};
@@ -35,7 +35,7 @@ impl Csr {
     ) -> Result<Csr, CsrError>
         ensures answer { MatchResult result
             (IsGenerated (S.signs scheme.now) subject private_key.now signature_hash_type [])
-            (RefusesToGenerate (S.judge scheme.now) (S.signs scheme.now) (S.pair scheme.now) subject private_key.now signature_hash_type []) }
+            (RefusesToGenerate (arithmetic (S.judge scheme.now) (S.signs scheme.now) (S.pair scheme.now)) subject private_key.now signature_hash_type []) }
         // It is accepted under a key that pairs with its public one.
         ensures verifies { IfOk result (λ csr. IsKeyPair (S.pair scheme.now) private_key.now csr.request.certification_request_info.subject_public_key_info
             → IsSelfSigned (S.judge scheme.now) csr) }
@@ -66,7 +66,7 @@ impl Csr {
     ) -> Result<Csr, CsrError>
         ensures answer { MatchResult result
             (IsGenerated (S.signs scheme.now) subject private_key.now signature_hash_type attributes)
-            (RefusesToGenerate (S.judge scheme.now) (S.signs scheme.now) (S.pair scheme.now) subject private_key.now signature_hash_type attributes) }
+            (RefusesToGenerate (arithmetic (S.judge scheme.now) (S.signs scheme.now) (S.pair scheme.now)) subject private_key.now signature_hash_type attributes) }
         // It is accepted under a key that pairs with its public one.
         ensures verifies { IfOk result (λ csr. IsKeyPair (S.pair scheme.now) private_key.now csr.request.certification_request_info.subject_public_key_info
             → IsSelfSigned (S.judge scheme.now) csr) }
@@ -107,7 +107,7 @@ fn signed<S: Scheme>(
 ) -> Result<Csr, CsrError>
     ensures answer { MatchResult result
         (λ csr. IsMadeOf algorithm info csr × IsInfoSigned (S.signs scheme.now) private_key.now algorithm info)
-        (RefusesToMake (S.judge scheme.now) (S.signs scheme.now) (S.pair scheme.now) private_key.now algorithm info) }
+        (RefusesToMake (arithmetic (S.judge scheme.now) (S.signs scheme.now) (S.pair scheme.now)) private_key.now algorithm info) }
     ensures verifies { IfOk result (λ csr. (key : SubjectPublicKeyInfo) → IsKeyPair (S.pair scheme.now) private_key.now key
         → Accepts (S.judge scheme.now) algorithm key (encoding csr.info) (payload_of csr.request.signature)) }
 {
