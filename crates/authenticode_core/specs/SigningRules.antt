@@ -1,5 +1,5 @@
 -- What the signature of the first signer has to be, rule by rule, in their order (RFC 2315 9.3, 9.4; Windows Authenticode Portable Executable Signature Format).
-use Rattle.std.specs.Prelude.{◌≡◌, ◌≢◌, ◌⊎◌, ℕ, List, [], ◌∷◌, Contains}
+use Rattle.std.specs.Prelude.{◌≡◌, ◌≢◌, ℕ, List, [], ◌∷◌, Contains}
 use Rattle.asn1_types.specs.Values.{integer_contents}
 use Rattle.asn1_types.specs.declared.integer.IntegerAsn1.{IntegerAsn1}
 use Rattle.asn1_types.specs.declared.oids.TheConstants.{KP_CODE_SIGNING}
@@ -9,7 +9,7 @@ use Rattle.der_core.specs.DerElement.{DerElement, Primitive}
 use Rattle.der_core.specs.Elements.{sequence}
 use Rattle.der_core.specs.Encoding.{encodings}
 use Rattle.der_core.specs.DerElement.{row}
-use Rattle.key_core.specs.Rules.{Rule, IsFirstBroken}
+use Rattle.key_core.specs.Rules.{Rule, IsFirstBroken, RefusesByRules}
 use Rattle.key_core.specs.Verifying.{Judge, Accepts, verify_rules}
 use Rattle.key_core.specs.declared.signature_algorithm.SignatureAlgorithm.TheVariants.{RsaPkcs1v15}
 use Rattle.key_core.specs.declared.signature_error.SignatureError.{SignatureError}
@@ -54,7 +54,7 @@ abbrev pub digested_octets : IndirectData → List ℕ
 digested_octets d = encodings (row (indirect_kids d))
 
 -- The signature of the first signer over its attributes is one by the key of the certificate, an RSA key, with this digest.
-pub record IsSignedBy (judge : Judge) (g : SignerElements) (hash : HashAlgorithm) (c : CertificateElements) : Type 0 where
+pub record HasSignatureBy (judge : Judge) (g : SignerElements) (hash : HashAlgorithm) (c : CertificateElements) : Type 0 where
   pub info : SubjectPublicKeyInfo
   pub key : HasKey c info
   pub signature : List ℕ
@@ -84,7 +84,7 @@ pub record IsSigned (judge : Judge) (f : SignedDataElements) (d : IndirectData) 
   pub is_signer : IsSignerOf f bag place certificate
   pub hash : HashAlgorithm
   pub named : NamesDigest g.digest_algorithm hash
-  pub signed : IsSignedBy judge g hash certificate
+  pub signed : HasSignatureBy judge g hash certificate
   pub supported : hash ≢ SHA2_224
   pub bound : HasMessageDigest g (digest_of hash (digested_octets d))
   pub code_signing : IsForCodeSigning bag certificate
@@ -166,4 +166,4 @@ signing_rules judge f d g =
 
 -- the error tells of the first broken rule, unless memory ran out
 abbrev pub RefusesBy : List (Rule AuthenticodeError) → AuthenticodeError → Type 0
-RefusesBy rules e = IsFirstBroken rules e ⊎ (e ≡ errors.Memory)
+RefusesBy = RefusesByRules errors.Memory

@@ -1,6 +1,7 @@
 //! Why the expiry of a signer's certificate is excused.
 
-ghost use Rattle.std.specs.Prelude.{◌≡◌, ◌⊎◌, ◌↔◌, List, IsTrue, MatchOption, MatchResult};
+ghost use Rattle.std.specs.Prelude.{◌↔◌, List, IsTrue, MatchOption, MatchResult};
+ghost use Rattle.key_core.specs.Rules.{OrMemory};
 ghost use Rattle.cms_types.specs.SignedView.{view_elements as data_elements};
 ghost use Rattle.x509_types.specs.CertificateElements.{CertificateElements};
 ghost use Rattle.x509_types.specs.CertificateView.{view_elements};
@@ -36,7 +37,7 @@ pub(crate) fn excuse_of<S: Scheme>(
         (λ found. MatchOption found
         (HasNoExcuse (data_elements signed_data.now) bag (view_elements signer.now))
         (IsExcused (S.judge scheme.now) (data_elements signed_data.now) bag (view_elements signer.now)))
-        (λ e. HasBadStamp (S.judge scheme.now) (data_elements signed_data.now) bag (view_elements signer.now) e ⊎ (e ≡ errors.Memory)) }
+        (OrMemory errors.Memory (HasBadStamp (S.judge scheme.now) (data_elements signed_data.now) bag (view_elements signer.now))) }
 {
     if signer.names(KP_LIFETIME_SIGNING) {
         return Ok(None);
@@ -85,7 +86,7 @@ fn expect_linked<S: Scheme>(
 ) -> Result<(), AuthenticodeError>
     ensures { (bag : List CertificateElements) → IsBagOf (data_elements token.now) bag → StandsAt bag 0 (view_elements first.now.certificate) → MatchResult result
         (λ _. IsLinkedToken (S.judge scheme.now) bag)
-        (λ e. TellsUnlinked (S.judge scheme.now) bag e ⊎ (e ≡ errors.Memory)) }
+        (OrMemory errors.Memory (TellsUnlinked (S.judge scheme.now) bag)) }
 {
     let first = kept(alloc, first)?;
     match expect_linked_token(alloc, token, &first, scheme) {

@@ -1,6 +1,7 @@
 //! Whether certificates of a bag are a chain above one of them.
 
-ghost use Rattle.std.specs.Prelude.{◌≡◌, ◌⊎◌, ◌++◌, ◌∷◌, [], ℕ, List, Option, None, IfOk, MatchResult, unwrap_or};
+ghost use Rattle.std.specs.Prelude.{◌≡◌, ◌++◌, ◌∷◌, [], ℕ, List, Option, None, IfOk, MatchResult, unwrap_or};
+ghost use Rattle.key_core.specs.Rules.{OrMemory};
 ghost use Rattle.cms_types.specs.SignedView.{view_elements as data_elements};
 ghost use Rattle.x509_types.specs.CertificateElements.{CertificateElements};
 ghost use Rattle.x509_types.specs.CertificateView.{view_elements};
@@ -45,7 +46,7 @@ pub(crate) fn linked_path<S: Scheme>(
 ) -> Result<Places, CertError>
     ensures { (bag : List CertificateElements) → IsBagOf (data_elements signed_data.now) bag → MatchResult result
         (IsVouchedPath (S.judge scheme.now) window.now bag signer)
-        (λ e. ((path : List ℕ) × IsIssuerPath bag signer.elements path × IsUnlinkedAt (S.judge scheme.now) window.now bag signer path e) ⊎ (e ≡ errors.Memory)) }
+        (OrMemory errors.Memory (λ e. (path : List ℕ) × IsIssuerPath bag signer.elements path × IsUnlinkedAt (S.judge scheme.now) window.now bag signer path e)) }
 {
     let issuers = Others::on_path(certificate_bag(signed_data), &signer.view());
     linked_places(alloc, &signer, issuers, window, scheme)
@@ -61,7 +62,7 @@ pub(crate) fn expect_linked_token<S: Scheme>(
 ) -> Result<(), CertError>
     ensures { (bag : List CertificateElements) → IsBagOf (data_elements token.now) bag → StandsAt bag 0 first.now.elements → MatchResult result
         (λ _. IsLinkedToken (S.judge scheme.now) bag)
-        (λ e. IsUnlinkedToken (S.judge scheme.now) bag e ⊎ (e ≡ errors.Memory)) }
+        (OrMemory errors.Memory (IsUnlinkedToken (S.judge scheme.now) bag)) }
 {
     let others = Others::in_bag(certificate_bag(token), &first.view());
     linked_places(alloc, first, others, &any_time(), scheme)?;
@@ -79,7 +80,7 @@ fn linked_places<S: Scheme>(
 ) -> Result<Places, CertError>
     ensures { (bag : List CertificateElements) (places : List ℕ) → AreLeft parents.entry bag places → MatchResult result
         (λ found. (found ≡ places) × AreLinkedAt (S.judge scheme.now) window.now bag checked.now places)
-        (λ e. IsUnlinkedAt (S.judge scheme.now) window.now bag checked.now places e ⊎ (e ≡ errors.Memory)) }
+        (OrMemory errors.Memory (IsUnlinkedAt (S.judge scheme.now) window.now bag checked.now places)) }
 {
     let mut linking = Linking::new(alloc);
     while let Some(next) = parents.next() {
@@ -128,7 +129,7 @@ impl Linking {
         ensures { (bag : List CertificateElements) → IsLinkedSoFar (S.judge scheme.now) window.now bag checked.now self.old
             → StandsAt bag next.now.place (view_elements next.now.certificate) → MatchResult result
             (λ _. IsLinkedSoFar (S.judge scheme.now) window.now bag checked.now self.new × (self.new.places ≡ self.old.places ++ next.now.place ∷ []))
-            (λ e. IsBrokenNext (S.judge scheme.now) window.now bag checked.now self.old (view_elements next.now.certificate) e ⊎ (e ≡ errors.Memory)) }
+            (OrMemory errors.Memory (IsBrokenNext (S.judge scheme.now) window.now bag checked.now self.old (view_elements next.now.certificate))) }
     {
         let parent = linked_parent(
             alloc,
@@ -156,7 +157,7 @@ fn linked_parent<S: Scheme>(
 ) -> Result<Cert, CertError>
     ensures { (count : ℕ) → IsStandingFor number count → MatchResult result
         (IsNextLink (S.judge scheme.now) window.now count child.now (view_elements next.now.certificate))
-        (λ e. IsNoLink (S.judge scheme.now) window.now count child.now (view_elements next.now.certificate) e ⊎ (e ≡ errors.Memory)) }
+        (OrMemory errors.Memory (IsNoLink (S.judge scheme.now) window.now count child.now (view_elements next.now.certificate))) }
 {
     let parent = kept(alloc, next)?;
     parent.expect_link(alloc, child, number, window, scheme)?;

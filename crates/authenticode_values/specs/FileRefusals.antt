@@ -4,6 +4,7 @@ use Rattle.std.specs.declared.alloc.Global.{Global}
 use Rattle.der_core.specs.DerElement.{DerElement}
 use Rattle.der_core.specs.Encoding.{encoding, IsDer, IsPaddedEncoding}
 use Rattle.der_core.specs.Refusals.{RefusesInner}
+use Rattle.key_core.specs.Rules.{OrMemory}
 use Rattle.wincert_core.specs.Refusal.{contents_in, current, encoded}
 use Rattle.wincert_core.specs.declared.error.WinCertificateError.{WinCertificateError}
 use Rattle.wincert_core.specs.declared.error.WinCertificateError.TheVariants as headers
@@ -25,7 +26,7 @@ told_of_header e = Win e
 
 -- it tells why what is asked for isn't there, unless memory ran out
 abbrev pub RefusesHeader : {A : Type 0} → Result A WinCertificateError → CheckError → Type 0
-RefusesHeader asked e = ((source : WinCertificateError) × (e ≡ told_of_header source) × (asked ≡ Err source)) ⊎ (e ≡ Memory)
+RefusesHeader asked = OrMemory Memory (λ e. (source : WinCertificateError) × (e ≡ told_of_header source) × (asked ≡ Err source))
 
 -- the element can't be written, or it is too long for a WIN_CERTIFICATE, or for one with its padding
 abbrev pub RefusesFile : DerElement → CertificateType → CheckError → Type 0
@@ -41,4 +42,4 @@ GivesFile element kind result = MatchResult result (λ octets. IsSpelledWhole oc
 abbrev pub GivesSignature : List ℕ → Result AuthenticodeSignature CheckError → Type 0
 GivesSignature octets result = MatchResult result
     (λ s. (certificate : List ℕ) × (contents_in octets ≡ Ok certificate) × IsPaddedEncoding certificate (written s.0))
-    (λ e. RefusesValue octets e ⊎ (e ≡ Memory))
+    (OrMemory Memory (RefusesValue octets))

@@ -1,5 +1,5 @@
 -- Rules that are asked for in order, and the error of the first that is broken.
-use Rattle.std.specs.Prelude.{◌⊎◌, List, [], ◌∷◌}
+use Rattle.std.specs.Prelude.{◌≡◌, ◌⊎◌, List, [], ◌∷◌}
 
 -- A rule by its errors: it is broken where one of them tells so.
 abbrev pub Rule : Type 0 → Type 1
@@ -13,3 +13,11 @@ IsMet {E} rule = (e : E) → rule e → ⊥
 abbrev pub IsFirstBroken : {E : Type 0} → List (E → Type 0) → E → Type 0
 IsFirstBroken [] e = ⊥
 IsFirstBroken (rule ∷ rules) e = rule e ⊎ (IsMet rule × IsFirstBroken rules e)
+
+-- The error tells so, unless it is that of memory that ran out.
+abbrev pub OrMemory : {E : Type 0} → (memory : E) → (E → Type 0) → E → Type 0
+OrMemory memory Tells e = Tells e ⊎ (e ≡ memory)
+
+-- The error tells of the first broken rule, unless it is that of memory that ran out.
+abbrev pub RefusesByRules : {E : Type 0} → (memory : E) → List (Rule E) → E → Type 0
+RefusesByRules memory rules = OrMemory memory (IsFirstBroken rules)

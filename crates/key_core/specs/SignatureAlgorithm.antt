@@ -1,5 +1,5 @@
 -- The algorithms of signatures: their identifiers, and what they sign.
-use Rattle.std.specs.Prelude.{◌≡◌, ◌⊎◌, ℕ, List, Option, Some, None}
+use Rattle.std.specs.Prelude.{◌≡◌, ℕ, List, Option, Some, None}
 use Rattle.der_core.specs.DerElement.{DerElement}
 use Rattle.der_core.specs.Elements.{null}
 use Rattle.der_core.specs.Lent.{kept_option}
@@ -9,6 +9,7 @@ use Rattle.key_types.specs.AlgorithmIdentifier.{oid_of, parameters_of}
 use Rattle.key_types.specs.declared.algorithm.AlgorithmIdentifier.{AlgorithmIdentifier}
 use Rattle.sig_core.specs.declared.hash.HashAlgorithm.{HashAlgorithm}
 use Rattle.sig_core.specs.declared.hash.HashAlgorithm.TheVariants.{MD5, SHA1, SHA2_224, SHA2_256, SHA2_384, SHA2_512}
+use Rattle.key_core.specs.Rules.{OrMemory}
 use Rattle.key_core.specs.declared.signature_algorithm.SignatureAlgorithm.{SignatureAlgorithm}
 use Rattle.key_core.specs.declared.signature_algorithm.SignatureAlgorithm.TheVariants.{RsaPkcs1v15, Ecdsa, Ed25519}
 use Rattle.key_core.specs.declared.signature_error.SigContext.TheVariants as contexts
@@ -57,9 +58,8 @@ pub record IsWrittenAlgorithm (algorithm : SignatureAlgorithm) (id : AlgorithmId
 abbrev pub IsUnnamed : AlgorithmIdentifier → SignatureError → Type 0
 IsUnnamed id e =
     ((algorithm : SignatureAlgorithm) → NamesSignature id algorithm → ⊥)
-    × ((e ≡ errors.UnsupportedAlgorithm (unsupported.Oid (oid_of id))) ⊎ (e ≡ errors.Memory))
+    × OrMemory errors.Memory (λ told. told ≡ errors.UnsupportedAlgorithm (unsupported.Oid (oid_of id))) e
 
 -- why an algorithm isn't written: it has no identifier
 abbrev pub IsUnwritable : SignatureAlgorithm → SignatureError → Type 0
-IsUnwritable algorithm e =
-    ((signature_identifier algorithm ≡ None) × (e ≡ errors.Ec contexts.HashNotSupported)) ⊎ (e ≡ errors.Memory)
+IsUnwritable algorithm = OrMemory errors.Memory (λ e. (signature_identifier algorithm ≡ None) × (e ≡ errors.Ec contexts.HashNotSupported))

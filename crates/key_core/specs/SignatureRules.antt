@@ -1,6 +1,6 @@
 -- Rules that a key and a signature have to meet, and how they are refused.
-use Rattle.std.specs.Prelude.{◌≡◌, ◌⊎◌, List}
-use Rattle.key_core.specs.Rules.{Rule, IsFirstBroken}
+use Rattle.std.specs.Prelude.{List}
+use Rattle.key_core.specs.Rules.{Rule, RefusesByRules}
 use Rattle.key_core.specs.declared.error.KeyError.{KeyError}
 use Rattle.key_core.specs.declared.error.KeyError.TheVariants as key
 use Rattle.key_core.specs.declared.signature_error.SignatureError.{SignatureError}
@@ -8,7 +8,7 @@ use Rattle.key_core.specs.declared.signature_error.SignatureError.TheVariants as
 
 -- the error tells of the first broken rule, unless memory ran out
 abbrev pub RefusesBy : List (Rule SignatureError) → SignatureError → Type 0
-RefusesBy rules e = IsFirstBroken rules e ⊎ (e ≡ errors.Memory)
+RefusesBy = RefusesByRules errors.Memory
 
 -- an error of a key as one of a signature: want of memory is told as such
 abbrev pub key_refusal : KeyError → SignatureError

@@ -1,13 +1,13 @@
 -- How rules of certificates are refused.
-use Rattle.std.specs.Prelude.{◌≡◌, ◌⊎◌, List}
-use Rattle.key_core.specs.Rules.{Rule, IsFirstBroken}
+use Rattle.std.specs.Prelude.{List}
+use Rattle.key_core.specs.Rules.{Rule, OrMemory, RefusesByRules}
 use Rattle.x509_core.specs.declared.error.CertError.{CertError}
 use Rattle.x509_core.specs.declared.error.CertError.TheVariants as errors
 
 -- the error tells that the rule is broken, unless memory ran out
 abbrev pub Breaks : Rule CertError → CertError → Type 0
-Breaks rule e = rule e ⊎ (e ≡ errors.Memory)
+Breaks = OrMemory errors.Memory
 
 -- the error tells of the first broken rule, unless memory ran out
 abbrev pub RefusesBy : List (Rule CertError) → CertError → Type 0
-RefusesBy rules e = IsFirstBroken rules e ⊎ (e ≡ errors.Memory)
+RefusesBy = RefusesByRules errors.Memory

@@ -1,5 +1,6 @@
 -- Steps that are taken in order, and the error of the first that isn't.
-use Rattle.std.specs.Prelude.{◌≡◌, ◌⊎◌, ⊤, List, [], ◌∷◌}
+use Rattle.std.specs.Prelude.{◌⊎◌, ⊤, List, [], ◌∷◌}
+use Rattle.key_core.specs.Rules.{OrMemory}
 
 -- A step: what holds where it can be taken, and the errors that tell that it can't.
 pub record Step (E : Type 0) : Type 1 where
@@ -18,4 +19,4 @@ AreTaken (step ∷ steps) = step.taken × AreTaken steps
 
 -- the error tells of the first step that can't be taken, unless it is that of memory that ran out
 abbrev pub RefusesBySteps : {E : Type 0} → (memory : E) → List (Step E) → E → Type 0
-RefusesBySteps memory steps e = IsFirstUntaken steps e ⊎ (e ≡ memory)
+RefusesBySteps memory steps = OrMemory memory (IsFirstUntaken steps)

@@ -3,6 +3,7 @@
 ghost use Rattle.std.specs.Prelude.{◌≡◌, ◌≢◌, ◌↔◌, ◌⊎◌, ℕ, List, Option, Some, None, true, false, IsTrue, IfSome, IfErr, map, MatchResult};
 ghost use Rattle.std.specs.Borrow.{Bor};
 ghost use Rattle.std.specs.Iterator.{IsFinite, Drains, Yields};
+ghost use Rattle.key_core.specs.Rules.{OrMemory};
 ghost use Rattle.x509_core.specs.CertType.{IsOfType};
 ghost use Rattle.x509_core.specs.Chain.{Gives, IsAccepted, WasAccepted, WasRefused, AsksForMemory, GivesParent, IsLinkedChain, IsFirstUnlinked, AsksForDate, IsDated, LacksDate, chain_rules, last_of, lent, nearest};
 ghost use Rattle.x509_core.specs.Checks.{checks_at, first_checks, with_not_before, with_not_after, with_chain, with_root};
@@ -203,7 +204,7 @@ impl<'a, 'b, Chain: Iterator<Item = &'b Cert> + Drop> CertValidator<'a, 'b, Chai
         // Of any iterator: what it gave in this call.
         ensures walked { MatchResult result
             (λ _. WasAccepted (S.judge scheme.now) Chain.next_gives self.entry.checks self.entry.cert.now self.entry.chain)
-            (λ e. WasRefused (S.judge scheme.now) Chain.next_gives self.entry.checks self.entry.cert.now self.entry.chain e ⊎ (e ≡ errors.Memory)) }
+            (OrMemory errors.Memory (WasRefused (S.judge scheme.now) Chain.next_gives self.entry.checks self.entry.cert.now self.entry.chain)) }
         // Memory is asked for by the scheme, and for an error that keeps a name or an identifier.
         ensures memory { IfErr result (λ e. e ≡ errors.Memory → AsksForMemory Chain.next_gives self.entry.checks self.entry.cert.now self.entry.chain) }
     {

@@ -1,7 +1,8 @@
 //! Whom the certificate is for.
 
-ghost use Rattle.std.specs.Prelude.{◌≡◌, ◌⊎◌, [], ◌∷◌, ◌++◌, IfOk, IsSome, MatchResult};
+ghost use Rattle.std.specs.Prelude.{◌≡◌, [], ◌∷◌, ◌++◌, IfOk, IsSome, MatchResult};
 ghost use Rattle.key_core.specs.Keys.{info_of};
+ghost use Rattle.key_core.specs.Rules.{OrMemory};
 ghost use Rattle.names_core.specs.Names.{sets_of};
 ghost use Rattle.issuing_core.specs.BuildRefusals.{Tells, no_request as request_refusal};
 ghost use Rattle.issuing_core.specs.BuiltCertificate.{IsGivenSubject, IsHalfOf, IsIssuedTo, IsSubject};
@@ -124,7 +125,7 @@ fn requested<S: Scheme>(
         (λ subject. IsSelfSigned (S.judge scheme.now) csr.now
         × (sets_of subject.0 ≡ csr.now.request.certification_request_info.subject)
         × (info_of subject.1 ≡ csr.now.request.certification_request_info.subject_public_key_info))
-        (λ e. Tells request_refusal (IsUnsigned (RefusesSelfSigned (S.judge scheme.now) csr.now)) e ⊎ (e ≡ errors.Memory)) }
+        (OrMemory errors.Memory (Tells request_refusal (IsUnsigned (RefusesSelfSigned (S.judge scheme.now) csr.now)))) }
 {
     match csr.verify(alloc, scheme) {
         Ok(()) => Ok(asked(alloc, csr)?),

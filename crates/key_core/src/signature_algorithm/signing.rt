@@ -1,13 +1,13 @@
 //! Signatures by private keys.
 
-ghost use Rattle.std.specs.Prelude.{◌≡◌, ◌≢◌, ◌⊎◌, [], ◌∷◌, ℕ, List, length, true, false, Some, Err, IfOk, MatchResult};
+ghost use Rattle.std.specs.Prelude.{◌≡◌, ◌≢◌, [], ◌∷◌, ℕ, List, length, true, false, Some, Err, IfOk, MatchResult};
 ghost use Rattle.asn1_types.specs.Values.{payload_of};
 ghost use Rattle.key_types.specs.declared.key_info.SubjectPublicKeyInfo.{SubjectPublicKeyInfo};
 ghost use Rattle.sig_core.specs.Algorithm.{kind_of};
 ghost use Rattle.sig_core.specs.declared.scheme.Verdict.TheVariants as verdicts;
 ghost use Rattle.key_core.specs.PrivatePkcs1.{IsPkcs1OfPrivate};
 ghost use Rattle.key_core.specs.SchemeNames.{curve_for};
-ghost use Rattle.key_core.specs.Rules.{IsFirstBroken};
+ghost use Rattle.key_core.specs.Rules.{IsFirstBroken, OrMemory};
 ghost use Rattle.key_core.specs.SignatureRules.{RefusesBy};
 ghost use Rattle.key_core.specs.Signing.{FitsSecret, IsAsked, IsKeyPair, IsEd25519Secret, HasCurveOf, NotRsaSecret, UnwritableSecret, UnknownCurveOf, UnpairedSecret, secret_rules, sign_rules, scheme_refused};
 ghost use Rattle.key_core.specs.Verifying.{Accepts};
@@ -81,7 +81,7 @@ impl SignatureAlgorithm {
     ) -> Result<Vec<u8>, SignatureError>
         ensures signed { MatchResult result
             (λ _. S.signs scheme.now alg secret.now msg.now ≡ true)
-            (λ e. ((S.signs scheme.now alg secret.now msg.now ≡ false) × (e ≡ scheme_refused self)) ⊎ (e ≡ errors.Memory)) }
+            (OrMemory errors.Memory (λ e. (S.signs scheme.now alg secret.now msg.now ≡ false) × (e ≡ scheme_refused self))) }
         ensures accepted { IfOk result (λ sig. (key : List ℕ) → S.pair scheme.now (kind_of alg) key secret.now
             → S.judge scheme.now alg key msg.now sig.items ≡ verdicts.Accept) }
     {
