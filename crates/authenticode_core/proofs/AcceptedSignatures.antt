@@ -14,7 +14,7 @@ use Rattle.sig_core.specs.declared.hash.HashAlgorithm.{HashAlgorithm}
 use Rattle.x509_core.specs.Link.{HasKey}
 use Rattle.x509_types.specs.CertificateElements.{CertificateElements}
 use Rattle.authenticode_core.specs.SignedFields.{signed_message}
-use Rattle.authenticode_core.specs.SigningRules.{IsRefusedUnder, IsSignedBy, RefusesBy}
+use Rattle.authenticode_core.specs.SigningRules.{IsRefusedUnder, HasSignatureBy, RefusesBy}
 use Rattle.authenticode_core.specs.SigningSteps.{signature_refusal}
 use Rattle.authenticode_core.specs.declared.error.AuthenticodeError.{AuthenticodeError}
 use Rattle.authenticode_core.specs.declared.error.AuthenticodeError.TheVariants as errors
@@ -23,7 +23,7 @@ pub has_key : (c : CertificateElements) (element : DerElement) (info kept : Subj
 has_key c element info kept at is same = sym at ∙ is ∙ ap public_key_info (sym same)
 
 module _ (judge : Judge) (g : SignerElements) (hash : HashAlgorithm) (c : CertificateElements) (info : SubjectPublicKeyInfo) (msg sig : List ℕ) where
-  pub signed_by : HasKey c info → msg ≡ signed_message g → g.signature ≡ Primitive 0x04 sig → Accepts judge (RsaPkcs1v15 hash) info msg sig → IsSignedBy judge g hash c
+  pub signed_by : HasKey c info → msg ≡ signed_message g → g.signature ≡ Primitive 0x04 sig → Accepts judge (RsaPkcs1v15 hash) info msg sig → HasSignatureBy judge g hash c
   signed_by key message signature accepted = record {
     info = info;
     key = key;

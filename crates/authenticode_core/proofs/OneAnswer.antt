@@ -19,10 +19,10 @@ use Rattle.wincert_core.specs.Refusal.{contents_in}
 use Rattle.wincert_core.specs.declared.error.WinCertificateError.{WinCertificateError}
 use Rattle.key_core.specs.Rules.{IsFirstBroken}
 use Rattle.x509_core.specs.declared.error.CertError.TheVariants.{Asn1Deserialization}
-use Rattle.authenticode_core.specs.Basic.{HasSignedData, IsNoSignedData, IsSameUnlessMemory, IsShapeless, IsUnread, IsUnreadSignature, RefusesValue}
+use Rattle.authenticode_core.specs.Basic.{HasSignedData, IsNoSignedData, IsSameUnlessMemory, IsShapeless, IsMalformedPadded, IsUnreadSignature, RefusesValue}
 use Rattle.authenticode_core.specs.ContentRefusal.{told_of_content}
 use Rattle.authenticode_core.specs.SigningRules.{RefusesBy}
-use Rattle.authenticode_core.specs.Trusted.{IsAnswer, IsTrusted, RefusesShape, asked, policy_rules, shape_rules}
+use Rattle.authenticode_core.specs.Trusted.{IsAnswer, IsTrusted, RefusesForm, asked, policy_rules, shape_rules}
 use Rattle.authenticode_core.specs.declared.accepted.Accepted.{Accepted}
 use Rattle.authenticode_core.specs.declared.error.AuthenticodeError.{AuthenticodeError}
 use Rattle.authenticode_core.specs.declared.error.AuthenticodeError.TheVariants as errors
@@ -90,13 +90,13 @@ told_or_memory (errors.TimestampError e) = inl refl
 told_or_memory errors.Memory = inr refl
 
 -- of what the certificate is
-pub value_refuses : (policy : Policy) (octets : List ℕ) (e : CheckError) → RefusesValue octets e → RefusesShape policy octets e
+pub value_refuses : (policy : Policy) (octets : List ℕ) (e : CheckError) → RefusesValue octets e → RefusesForm policy octets e
 value_refuses policy octets (Win e) p = p
 value_refuses policy octets (Authenticode e) p = inl p
 value_refuses policy octets Memory p = absurd p
 
 -- and of the form
-pub shape_is_answer : (judge : Judge) (policy : Policy) (octets : List ℕ) (e : CheckError) → RefusesShape policy octets e → IsAnswer judge policy octets (Err e)
+pub shape_is_answer : (judge : Judge) (policy : Policy) (octets : List ℕ) (e : CheckError) → RefusesForm policy octets e → IsAnswer judge policy octets (Err e)
 shape_is_answer judge policy octets (Win e) p = p
 shape_is_answer judge policy octets (Authenticode e) (inl p) = inl p
 shape_is_answer judge policy octets (Authenticode e) (inr p) = inr (p.0, p.1, shape_in_policy judge policy p.0 e p.2)
@@ -120,14 +120,14 @@ shape_told_so policy f e true broken (inr memory) =
 shape_told_so policy f e false broken (inr memory) = absurd broken
 
 module _ (at_most_one : FaultsAreOne) (exclude : FaultsExclude) where
-  not_both : (octets : List ℕ) (element : DerElement) (m : Malformed) → IsPaddedEncoding octets element → IsUnread octets m → ⊥
+  not_both : (octets : List ℕ) (element : DerElement) (m : Malformed) → IsPaddedEncoding octets element → IsMalformedPadded octets m → ⊥
   not_both octets element m padded (inl fault) =
       exclude octets m.at m.fault fault element _ (IsFirst-padded octets element padded)
   not_both octets element m padded (inr h) =
       let same = one_first octets element h.1.element _ m.at (IsFirst-padded octets element padded) h.1.first in
       h.1.unpadded (padded.1, padded.2, ap (drop m.at) padded.3 ∙ drop_at (encoding element) (replicate padded.1 0) m.at same.1)
 
-  one_unread : (octets : List ℕ) (m n : Malformed) → IsUnread octets m → IsUnread octets n → m ≡ n
+  one_unread : (octets : List ℕ) (m n : Malformed) → IsMalformedPadded octets m → IsMalformedPadded octets n → m ≡ n
   one_unread octets m n (inl a) (inl b) =
       let same = at_most_one octets m.at n.at m.fault n.fault a b in same_malformed m n same.0 same.1
   one_unread octets m n (inl a) (inr b) = absurd (exclude octets m.at m.fault a b.1.element n.at b.1.first)
@@ -171,7 +171,7 @@ module _ (at_most_one : FaultsAreOne) (exclude : FaultsExclude) where
 
   -- ---- refusals of the form
 
-  one_shape_cause : (policy : Policy) (octets : List ℕ) (a b : AuthenticodeError) → RefusesShape policy octets (Authenticode a) → RefusesShape policy octets (Authenticode b) → a ≡ b
+  one_shape_cause : (policy : Policy) (octets : List ℕ) (a b : AuthenticodeError) → RefusesForm policy octets (Authenticode a) → RefusesForm policy octets (Authenticode b) → a ≡ b
   one_shape_cause policy octets a b (inl p) (inl q) = one_unread_signature octets a b p q
   one_shape_cause policy octets a b (inl p) (inr q) = absurd (signed_data_is_read octets a q.0 p q.1)
   one_shape_cause policy octets a b (inr p) (inl q) = absurd (signed_data_is_read octets b p.0 q p.1)
@@ -179,12 +179,12 @@ module _ (at_most_one : FaultsAreOne) (exclude : FaultsExclude) where
       one_broken (asked policy.basic (shape_rules q.0 policy.file_hash)) (asked_told policy.basic (shape_rules q.0 policy.file_hash) (shape_told q.0 policy.file_hash)) a b
       (subst (λ (f : SignedDataElements). IsFirstBroken (asked policy.basic (shape_rules f policy.file_hash)) a) (one_data octets p.0 q.0 p.1 q.1) p.2) q.2
 
-  unnamed_shape : (policy : Policy) (octets : List ℕ) (header : WinCertificateError) (e : AuthenticodeError) → contents_in octets ≡ Err header → RefusesShape policy octets (Authenticode e) → ⊥
+  unnamed_shape : (policy : Policy) (octets : List ℕ) (header : WinCertificateError) (e : AuthenticodeError) → contents_in octets ≡ Err header → RefusesForm policy octets (Authenticode e) → ⊥
   unnamed_shape policy octets header e refused (inl p) = named_once octets p.certificate header p.named refused
   unnamed_shape policy octets header e refused (inr p) = named_once octets p.1.certificate header p.1.named refused
 
   -- octets are refused for one cause
-  pub one_refusal : (policy : Policy) (octets : List ℕ) (e f : CheckError) → RefusesShape policy octets e → RefusesShape policy octets f → e ≡ f
+  pub one_refusal : (policy : Policy) (octets : List ℕ) (e f : CheckError) → RefusesForm policy octets e → RefusesForm policy octets f → e ≡ f
   one_refusal policy octets (Win e) (Win f) h k = let same : e ≡ f = cc in ap Win same
   one_refusal policy octets (Win e) (Authenticode f) h k = absurd (unnamed_shape policy octets e f h k)
   one_refusal policy octets (Win e) Memory h k = absurd k
@@ -194,7 +194,7 @@ module _ (at_most_one : FaultsAreOne) (exclude : FaultsExclude) where
   one_refusal policy octets Memory f h k = absurd h
 
   -- where there is signed data they are for its form
-  pub refused_there : (policy : Policy) (octets : List ℕ) (f : SignedDataElements) (e : CheckError) → HasSignedData octets f → RefusesShape policy octets e
+  pub refused_there : (policy : Policy) (octets : List ℕ) (f : SignedDataElements) (e : CheckError) → HasSignedData octets f → RefusesForm policy octets e
       → (x : AuthenticodeError) × (told_of_content x ≡ e) × IsFirstBroken (asked policy.basic (shape_rules f policy.file_hash)) x
   refused_there policy octets f (Win e) has p = absurd (named_once octets has.certificate e has.named p)
   refused_there policy octets f (Authenticode e) has (inl p) = absurd (signed_data_is_read octets e f p has)
@@ -252,13 +252,13 @@ module _ (at_most_one : FaultsAreOne) (exclude : FaultsExclude) where
     only_at r s e answer other k =
         subst (λ (x : Result Accepted CheckError). IsSameUnlessMemory x other) (sym e) (one_answer judge policy octets s other answer k)
 
-    pub refused_at : (r : Result Accepted CheckError) (e : CheckError) → r ≡ Err e → RefusesShape policy octets e → (f : CheckError) → RefusesShape policy octets f → r ≡ Err f
+    pub refused_at : (r : Result Accepted CheckError) (e : CheckError) → r ≡ Err e → RefusesForm policy octets e → (f : CheckError) → RefusesForm policy octets f → r ≡ Err f
     refused_at r e is refuses f k = is ∙ ap Err (one_refusal policy octets e f refuses k)
 
     -- what the signed data is refused for, its form first
     pub refused_behind : (r : Result Accepted CheckError) (f : SignedDataElements) (given : Result Accepted AuthenticodeError) → HasSignedData octets f
         → ((x : AuthenticodeError) → IsFirstBroken (asked policy.basic (shape_rules f policy.file_hash)) x → given ≡ Err x) → ((x : AuthenticodeError) → given ≡ Err x → r ≡ Err (told_of_content x))
-        → (e : CheckError) → RefusesShape policy octets e → r ≡ Err e
+        → (e : CheckError) → RefusesForm policy octets e → r ≡ Err e
     refused_behind r f given has shape so e k =
         let there = refused_there policy octets f e has k in
         so there.0 (shape there.0 there.2) ∙ ap Err there.1

@@ -29,7 +29,7 @@ use Rattle.x509_types.specs.Purposes.{NamesPurpose}
 use Rattle.authenticode_core.specs.BagSigner.{IsNamed}
 use Rattle.authenticode_core.specs.CertificateBag.{members_of}
 use Rattle.authenticode_core.specs.SignedFields.{HasMessageDigest, IndirectData, IsFirstSigner, signed_message, signers_of}
-use Rattle.authenticode_core.specs.SigningRules.{AsksForPurposes, DigestDiffers, HasNoCertificate, HasNoMessageDigest, HasUnknownDigest, IsBadlySigned, IsBagOf, IsForCodeSigning, IsNamedByKey, IsNotForCodeSigning, IsRefusedUnder, IsSigned, IsSignedBy, IsSignerOf, IsUnsupportedDigest, NamesDigest, digested_octets, signing_rules}
+use Rattle.authenticode_core.specs.SigningRules.{AsksForPurposes, DigestDiffers, HasNoCertificate, HasNoMessageDigest, HasUnknownDigest, IsBadlySigned, IsBagOf, IsForCodeSigning, IsNamedByKey, IsNotForCodeSigning, IsRefusedUnder, IsSigned, HasSignatureBy, IsSignerOf, IsUnsupportedDigest, NamesDigest, digested_octets, signing_rules}
 use Rattle.authenticode_core.specs.declared.error.AuthenticodeError.{AuthenticodeError}
 use Rattle.authenticode_core.specs.declared.error.AuthenticodeError.TheVariants as errors
 use Rattle.authenticode_core.proofs.BagSteps.{one_bag}
@@ -91,7 +91,7 @@ module _ (judge : Judge) (f : SignedDataElements) (d : IndirectData) (g : Signer
   pub digest_is_met : (hash : HashAlgorithm) → NamesDigest g.digest_algorithm hash → IsMet (HasUnknownDigest g)
   digest_is_met hash named = λ e broken. broken.0 hash named
 
-  well_signed : (hash : HashAlgorithm) (c : CertificateElements) (e : AuthenticodeError) → IsSignedBy judge g hash c → IsRefusedUnder judge g hash c e → ⊥
+  well_signed : (hash : HashAlgorithm) (c : CertificateElements) (e : AuthenticodeError) → HasSignatureBy judge g hash c → IsRefusedUnder judge g hash c e → ⊥
   well_signed hash c e s b =
       let info = one_key c b.info s.info b.key s.key in
       let signature = signature_octets b.signature s.signature (sym b.octets ∙ s.octets) in
@@ -103,7 +103,7 @@ module _ (judge : Judge) (f : SignedDataElements) (d : IndirectData) (g : Signer
   same_refusal hash other c k e p q refused =
       subst (λ (x : CertificateElements). IsRefusedUnder judge g hash x e) q (subst (λ (h : HashAlgorithm). IsRefusedUnder judge g h k e) p refused)
 
-  pub signature_is_met : (bag : List CertificateElements) (place : ℕ) (c : CertificateElements) (hash : HashAlgorithm) → IsBagOf f bag → IsSignerOf f bag place c → NamesDigest g.digest_algorithm hash → IsSignedBy judge g hash c
+  pub signature_is_met : (bag : List CertificateElements) (place : ℕ) (c : CertificateElements) (hash : HashAlgorithm) → IsBagOf f bag → IsSignerOf f bag place c → NamesDigest g.digest_algorithm hash → HasSignatureBy judge g hash c
       → IsMet (IsBadlySigned judge f g)
   signature_is_met bag place c hash is signer named signed = λ e broken.
       well_signed hash c e signed (same_refusal hash broken.hash c broken.certificate e

@@ -31,7 +31,7 @@ use Rattle.authenticode_core.specs.Places.{StandsAt}
 use Rattle.authenticode_core.specs.PlainFields.{HasPlainFields, IsPlainlyAccepted, plain_certificate, plain_data, plain_elements, plain_signer}
 use Rattle.authenticode_core.specs.PlainForm.{CertificateParts, IsPlain, IsPlainForm, SignatureParts, algorithm, certificate, name, public_key_info, signed_message}
 use Rattle.authenticode_core.specs.SignedFields.{IndirectData, IsFirstSigner, signers_of}
-use Rattle.authenticode_core.specs.SigningRules.{AsksForPurposes, IsSigned, IsSignedBy, NamesDigest}
+use Rattle.authenticode_core.specs.SigningRules.{AsksForPurposes, IsSigned, HasSignatureBy, NamesDigest}
 use Rattle.authenticode_core.proofs.DigestNames.{named_once}
 use Rattle.authenticode_core.proofs.FormFields.{indirect_once, signer_once}
 use Rattle.authenticode_core.proofs.NamedMembers.{named_or_not}
@@ -68,7 +68,7 @@ names_sha256 : NamesDigest (algorithm identifiers.SHA256.now) SHA2_256
 names_sha256 = record { variant = variants.SHA2_256; parameters = null ∷ []; is = refl; named = refl }
 
 module _ (judge : Judge) (p : SignatureParts) where
-  accepted : (c : CertificateElements) (hash : HashAlgorithm) → IsMember (certificate p.certificate) c → NamesDigest (plain_signer p.signer).digest_algorithm hash → IsSignedBy judge (plain_signer p.signer) hash c
+  accepted : (c : CertificateElements) (hash : HashAlgorithm) → IsMember (certificate p.certificate) c → NamesDigest (plain_signer p.signer).digest_algorithm hash → HasSignatureBy judge (plain_signer p.signer) hash c
       → judge RsaSha256 p.certificate.tbs.key (signed_message p) p.signer.signature ≡ Accept
   accepted c hash member named signed =
       let same : plain_certificate p.certificate ≡ c = one_certificate (plain_certificate p.certificate) c member.is in
@@ -119,7 +119,7 @@ module _ (judge : Judge) (p : SignatureParts) (file_hash : List ℕ) (plain : Is
       (named_or_not (plain_elements p) (plain_signer p.signer) (encoding (name p.signer.issuer)) p.signer.serial fields.form.signer lent (plain_certificate p.certificate)).0
       (ap (λ (text : List ℕ). encoding (name text)) (sym plain.issuer), sym plain.serial)
 
-  is_signed : IsSignedBy judge (plain_signer p.signer) SHA2_256 (plain_certificate p.certificate)
+  is_signed : HasSignatureBy judge (plain_signer p.signer) SHA2_256 (plain_certificate p.certificate)
   is_signed = record {
     info = info_of p.certificate.tbs.key plain.key der;
     key = info_is p.certificate.tbs.key plain.key der;

@@ -7,7 +7,7 @@ use Rattle.sig_core.specs.declared.hash.HashAlgorithm.{HashAlgorithm}
 use Rattle.key_core.specs.Rules.{Rule}
 use Rattle.x509_types.specs.CertificateElements.{CertificateElements}
 use Rattle.authenticode_core.specs.SignedFields.{IndirectData, IsFirstSigner}
-use Rattle.authenticode_core.specs.SigningRules.{HasNoCertificate, HasUnknownDigest, IsBadlySigned, IsForCodeSigning, IsNamedByKey, IsNotForCodeSigning, IsRefusedUnder, IsSigned, IsSignedBy, NamesDigest, RefusesBy, signing_rules}
+use Rattle.authenticode_core.specs.SigningRules.{HasNoCertificate, HasUnknownDigest, IsBadlySigned, IsForCodeSigning, IsNamedByKey, IsNotForCodeSigning, IsRefusedUnder, IsSigned, HasSignatureBy, NamesDigest, RefusesBy, signing_rules}
 use Rattle.authenticode_core.specs.SigningSteps.{HasSigner, IsBoundBy, MayNotSignCode, digest_rules}
 use Rattle.authenticode_core.specs.declared.error.AuthenticodeError.{AuthenticodeError}
 use Rattle.authenticode_core.proofs.OneSigning.{bound_is_met, certificate_is_met, digest_is_met, message_is_met, named_is_met, signature_is_met, supported_is_met}
@@ -42,13 +42,13 @@ module _ (judge : Judge) (f : SignedDataElements) (d : IndirectData) (g : Signer
   unaccepted place c hash e first s named (inl (inr none)) = absurd none.1
   unaccepted place c hash e first s named (inr memory) = inr memory
 
-  front_is_met : (place : ℕ) (c : CertificateElements) (hash : HashAlgorithm) → IsFirstSigner f g → HasSigner f place c → NamesDigest g.digest_algorithm hash → IsSignedBy judge g hash c → AreMet front
+  front_is_met : (place : ℕ) (c : CertificateElements) (hash : HashAlgorithm) → IsFirstSigner f g → HasSigner f place c → NamesDigest g.digest_algorithm hash → HasSignatureBy judge g hash c → AreMet front
   front_is_met place c hash first s named signed = (
     named_is_met f g s.0 place c first s.2,
     (certificate_is_met f g s.0 place c s.1 s.2, (digest_is_met judge f d g hash named, (signature_is_met judge f d g s.0 place c hash s.1 s.2 named signed, tt))),
   )
 
-  pub unbound : (place : ℕ) (c : CertificateElements) (hash : HashAlgorithm) (e : AuthenticodeError) → IsFirstSigner f g → HasSigner f place c → NamesDigest g.digest_algorithm hash → IsSignedBy judge g hash c
+  pub unbound : (place : ℕ) (c : CertificateElements) (hash : HashAlgorithm) (e : AuthenticodeError) → IsFirstSigner f g → HasSigner f place c → NamesDigest g.digest_algorithm hash → HasSignatureBy judge g hash c
       → RefusesBy (digest_rules d g) e → RefusesBy (signing_rules judge f d g) e
   unbound place c hash e first s named signed (inl broken) =
       inl (broken_behind front (digest_rules d g ++ IsNotForCodeSigning f ∷ []) e (front_is_met place c hash first s named signed) (broken_before (digest_rules d g) (IsNotForCodeSigning f ∷ []) e broken))
@@ -58,7 +58,7 @@ module _ (judge : Judge) (f : SignedDataElements) (d : IndirectData) (g : Signer
   bound_are_met hash named bound =
       (message_is_met judge f d g _ bound.1, (supported_is_met judge f d g hash named bound.0, (bound_is_met judge f d g hash named bound.1, tt)))
 
-  pub may_not : (place : ℕ) (c : CertificateElements) (hash : HashAlgorithm) (e : AuthenticodeError) → IsFirstSigner f g → (s : HasSigner f place c) → NamesDigest g.digest_algorithm hash → IsSignedBy judge g hash c → IsBoundBy d g hash
+  pub may_not : (place : ℕ) (c : CertificateElements) (hash : HashAlgorithm) (e : AuthenticodeError) → IsFirstSigner f g → (s : HasSigner f place c) → NamesDigest g.digest_algorithm hash → HasSignatureBy judge g hash c → IsBoundBy d g hash
       → MayNotSignCode s.0 c e → RefusesBy (signing_rules judge f d g) e
   may_not place c hash e first s named signed bound refused =
       inl (broken_behind front (digest_rules d g ++ IsNotForCodeSigning f ∷ []) e (front_is_met place c hash first s named signed)
@@ -67,7 +67,7 @@ module _ (judge : Judge) (f : SignedDataElements) (d : IndirectData) (g : Signer
 
   -- ---- acceptance
 
-  pub is_signed : (place : ℕ) (c : CertificateElements) (hash : HashAlgorithm) → (s : HasSigner f place c) → NamesDigest g.digest_algorithm hash → IsSignedBy judge g hash c → IsBoundBy d g hash → IsForCodeSigning s.0 c
+  pub is_signed : (place : ℕ) (c : CertificateElements) (hash : HashAlgorithm) → (s : HasSigner f place c) → NamesDigest g.digest_algorithm hash → HasSignatureBy judge g hash c → IsBoundBy d g hash → IsForCodeSigning s.0 c
       → IsSigned judge f d g place
   is_signed place c hash s named signed bound may = record {
     bag = s.0;

@@ -10,7 +10,7 @@ use Rattle.der_core.specs.declared.fault.Malformed.{Malformed}
 use Rattle.key_core.specs.declared.element.Element.TheVariants.{Pkcs7}
 use Rattle.wincert_core.specs.Refusal.{contents_in}
 use Rattle.x509_core.specs.declared.error.CertError.TheVariants.{Asn1Deserialization}
-use Rattle.authenticode_core.specs.Basic.{IsNoSignedData, IsUnread, RefusesValue}
+use Rattle.authenticode_core.specs.Basic.{IsNoSignedData, IsMalformedPadded, RefusesValue}
 use Rattle.authenticode_core.specs.declared.error.AuthenticodeError.TheVariants.{CertError}
 use Rattle.authenticode_core.specs.declared.error.CheckError.{CheckError}
 use Rattle.authenticode_core.specs.declared.error.CheckError.TheVariants.{Authenticode}
@@ -18,7 +18,7 @@ use Rattle.authenticode_core.specs.declared.error.CheckError.TheVariants.{Authen
 refuses : (octets certificate : List ℕ) (source : DerError) (e : CheckError) → contents_in octets ≡ Ok certificate → IsNoSignedData certificate source → e ≡ Authenticode (CertError (Asn1Deserialization Pkcs7 source)) → RefusesValue octets e
 refuses octets certificate source e named cause told = rw told (record { certificate = certificate; named = named; source = source; cause = cause; told = refl })
 
-pub refuses_unread : (octets certificate : List ℕ) (m : Malformed) (e : CheckError) → contents_in octets ≡ Ok certificate → IsUnread certificate m → e ≡ Authenticode (CertError (Asn1Deserialization Pkcs7 (der.Malformed m))) → RefusesValue octets e
+pub refuses_unread : (octets certificate : List ℕ) (m : Malformed) (e : CheckError) → contents_in octets ≡ Ok certificate → IsMalformedPadded certificate m → e ≡ Authenticode (CertError (Asn1Deserialization Pkcs7 (der.Malformed m))) → RefusesValue octets e
 refuses_unread octets certificate m e named cause told = refuses octets certificate (der.Malformed m) e named cause told
 
 pub refuses_shape : (octets certificate : List ℕ) (element : DerElement) (e : CheckError) → contents_in octets ≡ Ok certificate → IsPaddedEncoding certificate element → ((value : Pkcs7Certificate) → element ≢ pkcs7 value)

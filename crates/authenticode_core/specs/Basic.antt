@@ -58,8 +58,8 @@ pub record HasMoreThanPadding (octets : List ℕ) (place : ℕ) : Type 0 where
   pub unpadded : IsPadding (drop place octets) → ⊥
 
 -- Why the octets of a certificate are no element with at most seven zeros after it: the first fault of an element, or other octets after it.
-abbrev pub IsUnread : List ℕ → Malformed → Type 0
-IsUnread certificate m =
+abbrev pub IsMalformedPadded : List ℕ → Malformed → Type 0
+IsMalformedPadded certificate m =
     IsFirstFault certificate m.at m.fault ⊎ ((m.fault ≡ Trailing) × HasMoreThanPadding certificate m.at)
 
 -- The octets are an element, with at most seven zeros after it, that isn't signed data.
@@ -70,7 +70,7 @@ pub record IsShapeless (certificate : List ℕ) : Type 0 where
 
 -- why the octets of a certificate aren't signed data: they are no element, or that of another structure
 abbrev pub IsNoSignedData : List ℕ → DerError → Type 0
-IsNoSignedData certificate (der.Malformed m) = IsUnread certificate m
+IsNoSignedData certificate (der.Malformed m) = IsMalformedPadded certificate m
 IsNoSignedData certificate der.Shape = IsShapeless certificate
 IsNoSignedData certificate der.TooDeep = ⊥
 IsNoSignedData certificate der.TooLong = ⊥

@@ -62,12 +62,12 @@ policy_rules judge policy f = asked policy.basic (basic_rules judge f policy.fil
 
 -- Why the octets are refused for their header, for what their certificate is, or, where basic validation is asked for, for the form of its signed data or since no
 -- digest of the file is given.
-abbrev pub RefusesShape : Policy → List ℕ → CheckError → Type 0
-RefusesShape policy octets (Win e) = contents_in octets ≡ Err e
-RefusesShape policy octets (Authenticode e) =
+abbrev pub RefusesForm : Policy → List ℕ → CheckError → Type 0
+RefusesForm policy octets (Win e) = contents_in octets ≡ Err e
+RefusesForm policy octets (Authenticode e) =
     IsUnreadSignature octets e
     ⊎ ((f : SignedDataElements) × HasSignedData octets f × IsFirstBroken (asked policy.basic (shape_rules f policy.file_hash)) e)
-RefusesShape policy octets Memory = ⊥
+RefusesForm policy octets Memory = ⊥
 
 -- The answer: that the signed data is trusted; a refusal by its cause, the first in order; want of memory.
 abbrev pub IsAnswer : Judge → Policy → List ℕ → Result Accepted CheckError → Type 0

@@ -11,7 +11,7 @@ ghost use Rattle.key_core.specs.Keys.{info_of};
 ghost use Rattle.x509_core.specs.Link.{HasKey};
 ghost use Rattle.x509_types.specs.CertificateView.{view_elements};
 ghost use Rattle.authenticode_core.specs.SignedFields.{IndirectData, IsFirstSigner, indirect_kids};
-ghost use Rattle.authenticode_core.specs.SigningRules.{HasNoCertificate, HasUnknownDigest, IsNamedByKey, IsRefusedUnder, IsSigned, IsSignedBy, NamesDigest, RefusesBy, digested_octets, signing_rules};
+ghost use Rattle.authenticode_core.specs.SigningRules.{HasNoCertificate, HasUnknownDigest, IsNamedByKey, IsRefusedUnder, IsSigned, HasSignatureBy, NamesDigest, RefusesBy, digested_octets, signing_rules};
 ghost use Rattle.authenticode_core.specs.SigningSteps.{IsBoundBy, NamesSigner, TellsName, digest_rules, signature_refusal};
 ghost use Rattle.authenticode_core.specs.declared.error.AuthenticodeError.TheVariants as errors;
 
@@ -116,7 +116,7 @@ fn expect_signature<S: Scheme>(
     scheme: &S,
 ) -> Result<(), AuthenticodeError>
     ensures { MatchResult result
-        (λ _. IsSignedBy (S.judge scheme.now) (signer_elements_at signer.now) hash (view_elements certificate.now))
+        (λ _. HasSignatureBy (S.judge scheme.now) (signer_elements_at signer.now) hash (view_elements certificate.now))
         (RefusesBy (IsRefusedUnder (S.judge scheme.now) (signer_elements_at signer.now) hash (view_elements certificate.now) ∷ [])) }
 {
     let key = key_of(alloc, certificate)?;

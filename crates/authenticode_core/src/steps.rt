@@ -10,7 +10,7 @@ ghost use Rattle.authenticode_core.specs.Basic.{IsSameUnlessMemory};
 ghost use Rattle.authenticode_core.specs.Form.{AreSpelled};
 ghost use Rattle.authenticode_core.specs.PolicySteps.{IsPlaceAsked};
 ghost use Rattle.authenticode_core.specs.SigningRules.{RefusesBy};
-ghost use Rattle.authenticode_core.specs.Trusted.{IsAnswer, IsTrusted, RefusesShape, asked, basic_rules, policy_rules, shape_rules};
+ghost use Rattle.authenticode_core.specs.Trusted.{IsAnswer, IsTrusted, RefusesForm, asked, basic_rules, policy_rules, shape_rules};
 ghost use Rattle.authenticode_core.specs.declared.accepted.Accepted.{Accepted};
 ghost use Rattle.authenticode_core.specs.declared.error.CheckError.{CheckError};
 
@@ -36,7 +36,7 @@ pub fn check_wincert<S: Scheme>(
 ) -> Result<Accepted, CheckError>
     ensures answer { IsAnswer (S.judge scheme.now) policy.now bytes.now result }
     // A refusal of the header, of what the certificate is or of the form comes whatever memory there is.
-    ensures refused { (e : CheckError) → RefusesShape policy.now bytes.now e → result ≡ Err e }
+    ensures refused { (e : CheckError) → RefusesForm policy.now bytes.now e → result ≡ Err e }
     // No other answer has its cause, want of memory aside.
     ensures only { (other : Result Accepted CheckError)
         → IsAnswer (S.judge scheme.now) policy.now bytes.now other

@@ -2,7 +2,7 @@
 
 ghost use Rattle.std.specs.Prelude.{◌≡◌, ◌↔◌, IsTrue, MatchResult};
 ghost use Rattle.der_core.specs.Encoding.{IsPaddedEncoding};
-ghost use Rattle.authenticode_core.specs.Basic.{IsPadding, IsUnread, RefusesValue};
+ghost use Rattle.authenticode_core.specs.Basic.{IsPadding, IsMalformedPadded, RefusesValue};
 ghost use Rattle.authenticode_core.specs.Form.{LiesIn};
 ghost use Rattle.x509_core.specs.declared.error.CertError.{CertError};
 ghost use Rattle.key_core.specs.declared.element.Element.{Element};
@@ -50,7 +50,7 @@ fn unread(source: DerError) -> CheckError
 pub fn padded_element(octets: &[u8]) -> Result<Elem<'_>, Malformed>
     ensures { MatchResult result
         (λ elem. IsPaddedEncoding octets.now elem.is.0)
-        (IsUnread octets.now) }
+        (IsMalformedPadded octets.now) }
 {
     let mut cursor = Cursor::new(octets);
     match cursor.next()? {

@@ -26,7 +26,7 @@ use Rattle.cms_types.specs.declared.signer_info.SignerInfo.{SignerInfo}
 use Rattle.making_core.specs.Carried.{elements_of}
 use Rattle.authenticode_core.specs.BagSigner.{IsNamed, HasNoSigner}
 use Rattle.authenticode_core.specs.Places.{HasNoPlace, HoldsOfNone, IsLeastPlace, StandsAt}
-use Rattle.authenticode_values.specs.SigningCertificate.{IsFirstNamed, IsNamedBy, IsSigningCertificate}
+use Rattle.authenticode_values.specs.SigningCertificate.{FirstNames, IsNamedBy, IsSigningCertificate}
 
 -- ---- what a kept certificate says of its issuer and its serial number
 
@@ -74,28 +74,28 @@ heads a b x y e = cc
 values : (v w : IssuerAndSerialNumber) → named.IssuerAndSerialNumber v ≡ named.IssuerAndSerialNumber w → v ≡ w
 values v w e = cc
 
-pub first_is : (signers : List SignerInfo) (signer : SignerInfo) (sid : SignerIdentifier) → Some signer ≡ slice_get signers 0 → signer.sid ≡ sid → IsFirstNamed signers sid
+pub first_is : (signers : List SignerInfo) (signer : SignerInfo) (sid : SignerIdentifier) → Some signer ≡ slice_get signers 0 → signer.sid ≡ sid → FirstNames signers sid
 first_is [] signer sid at is = absurd (cc at)
 first_is (x ∷ others) signer sid at is =
     let same : x ≡ signer = cc (at) in
     record { signer = x; others = others; first = refl; named = ap (λ (s : SignerInfo). s.sid) same ∙ is }
 
-pub first_by_key : (signers : List SignerInfo) (signer : SignerInfo) (octets : List ℕ) → Some signer ≡ slice_get signers 0 → signer.sid ≡ named.SubjectKeyIdentifier octets → (o : List ℕ) × IsFirstNamed signers (named.SubjectKeyIdentifier o)
+pub first_by_key : (signers : List SignerInfo) (signer : SignerInfo) (octets : List ℕ) → Some signer ≡ slice_get signers 0 → signer.sid ≡ named.SubjectKeyIdentifier octets → (o : List ℕ) × FirstNames signers (named.SubjectKeyIdentifier o)
 first_by_key signers signer octets at is = (octets, first_is signers signer (named.SubjectKeyIdentifier octets) at is)
 
-same_named : (signers : List SignerInfo) (value : IssuerAndSerialNumber) (c : CertificateElements) → IsFirstNamed signers (named.IssuerAndSerialNumber value) → (n : IsNamed (map signer_info signers) c) → n.value ≡ value
+same_named : (signers : List SignerInfo) (value : IssuerAndSerialNumber) (c : CertificateElements) → FirstNames signers (named.IssuerAndSerialNumber value) → (n : IsNamed (map signer_info signers) c) → n.value ≡ value
 same_named signers value c f n =
     let element : signer_info n.signer ≡ signer_info f.signer = heads (signer_info n.signer) (signer_info f.signer) n.others (map signer_info f.others) (sym n.first ∙ ap (map signer_info) f.first) in
     let signer : n.signer ≡ f.signer = signer_infos.once (signer_info f.signer) n.signer f.signer (sym element) refl in
     values n.value value (sym n.sid ∙ ap (λ (s : SignerInfo). s.sid) signer ∙ f.named)
 
-pub names_it : (signers : List SignerInfo) (value : IssuerAndSerialNumber) (c : CertificateElements) → IsFirstNamed signers (named.IssuerAndSerialNumber value) → IsNamedBy value c ↔ IsNamed (map signer_info signers) c
+pub names_it : (signers : List SignerInfo) (value : IssuerAndSerialNumber) (c : CertificateElements) → FirstNames signers (named.IssuerAndSerialNumber value) → IsNamedBy value c ↔ IsNamed (map signer_info signers) c
 names_it signers value c f = (
   λ by. record { signer = f.signer; others = map signer_info f.others; first = ap (map signer_info) f.first; value = value; sid = f.named; issuer = by.0; serial_number = by.1 },
   λ n. subst (λ (v : IssuerAndSerialNumber). IsNamedBy v c) (same_named signers value c f n) (n.issuer, n.serial_number),
 )
 
-pub is_signing : (signers : List SignerInfo) (value : IssuerAndSerialNumber) (certificates : List KeptCertificate) (k : KeptCertificate) → IsFirstNamed signers (named.IssuerAndSerialNumber value)
+pub is_signing : (signers : List SignerInfo) (value : IssuerAndSerialNumber) (certificates : List KeptCertificate) (k : KeptCertificate) → FirstNames signers (named.IssuerAndSerialNumber value)
     → (place : ℕ) → slice_get certificates place ≡ Some k → IsLeastPlace (elements_of certificates) (IsNamedBy value) 0 place k.elements → IsSigningCertificate signers certificates k
 is_signing signers value certificates k f place at is = record {
   place = place;
@@ -108,7 +108,7 @@ is_signing signers value certificates k f place at is = record {
   };
 }
 
-pub no_signer : (signers : List SignerInfo) (value : IssuerAndSerialNumber) (certificates : List KeptCertificate) → IsFirstNamed signers (named.IssuerAndSerialNumber value)
+pub no_signer : (signers : List SignerInfo) (value : IssuerAndSerialNumber) (certificates : List KeptCertificate) → FirstNames signers (named.IssuerAndSerialNumber value)
     → HasNoPlace (elements_of certificates) (IsNamedBy value) 0 → HasNoSigner (map signer_info signers) (elements_of certificates)
 no_signer signers value certificates f none place c later stands fits = none place c later stands ((names_it signers value c f).1 fits)
 

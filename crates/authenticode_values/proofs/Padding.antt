@@ -13,18 +13,18 @@ use Rattle.der_core.proofs.Exact.{no_fault_where_first}
 use Rattle.der_core.proofs.Faults.{refused_as, same_malformed}
 use Rattle.cms_types.specs.Pkcs7.{pkcs7}
 use Rattle.cms_types.specs.declared.pkcs7.Pkcs7Certificate.{Pkcs7Certificate}
-use Rattle.authenticode_core.specs.Basic.{IsNoSignedData, IsUnread}
+use Rattle.authenticode_core.specs.Basic.{IsNoSignedData, IsMalformedPadded}
 use Rattle.authenticode_core.proofs.OneData.{one_element}
 use Rattle.authenticode_core.proofs.Padded.{IsFirst-padded}
 use Rattle.authenticode_values.specs.Unread.{RefusesPadded}
 
-read_or_not : (octets : List ℕ) (element : DerElement) (m : Malformed) → IsPaddedEncoding octets element → IsUnread octets m → ⊥
+read_or_not : (octets : List ℕ) (element : DerElement) (m : Malformed) → IsPaddedEncoding octets element → IsMalformedPadded octets m → ⊥
 read_or_not octets element m padded (inl fault) = no_fault_where_first octets element (length (encoding element)) m.at m.fault (IsFirst-padded octets element padded) fault
 read_or_not octets element m padded (inr h) =
     let same = first_once octets element h.1.element (length (encoding element)) m.at (IsFirst-padded octets element padded) h.1.first in
     h.1.unpadded (padded.1, padded.2, ap (drop m.at) padded.3 ∙ drop_at (encoding element) (replicate padded.1 0) m.at same.1)
 
-one_unread : (octets : List ℕ) (m n : Malformed) → IsUnread octets m → IsUnread octets n → m ≡ n
+one_unread : (octets : List ℕ) (m n : Malformed) → IsMalformedPadded octets m → IsMalformedPadded octets n → m ≡ n
 one_unread octets m n (inl a) (inl b) = refused_as octets n.at n.fault m b a
 one_unread octets m n (inl a) (inr b) = absurd (no_fault_where_first octets b.1.element n.at m.at m.fault b.1.first a)
 one_unread octets m n (inr a) (inl b) = absurd (no_fault_where_first octets a.1.element m.at n.at n.fault a.1.first b)
@@ -33,7 +33,7 @@ one_unread octets m n (inr a) (inr b) =
 
 -- ---- the cause is the one that is answered
 
-pub unread_for : (octets : List ℕ) (m : Malformed) (source : DerError) → IsUnread octets m → IsNoSignedData octets source → der.Malformed m ≡ source
+pub unread_for : (octets : List ℕ) (m : Malformed) (source : DerError) → IsMalformedPadded octets m → IsNoSignedData octets source → der.Malformed m ≡ source
 unread_for octets m (der.Malformed n) unread cause = ap der.Malformed (one_unread octets m n unread cause)
 unread_for octets m der.Shape unread cause = absurd (read_or_not octets cause.element m cause.spelled unread)
 unread_for octets m der.TooDeep unread cause = absurd cause

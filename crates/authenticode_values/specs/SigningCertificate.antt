@@ -23,7 +23,7 @@ pub record IsSigningCertificate (signers : List SignerInfo) (certificates : List
   pub is_signer : IsSignerPlace (map signer_info signers) (elements_of certificates) place c.elements
 
 -- The first of the signers names its certificate by this.
-pub record IsFirstNamed (signers : List SignerInfo) (sid : SignerIdentifier) : Type 0 where
+pub record FirstNames (signers : List SignerInfo) (sid : SignerIdentifier) : Type 0 where
   pub signer : SignerInfo
   pub others : List SignerInfo
   pub first : signers ≡ signer ∷ others
@@ -32,9 +32,9 @@ pub record IsFirstNamed (signers : List SignerInfo) (sid : SignerIdentifier) : T
 -- Why none of the certificates is the signer's: there is no signer, it is named by the identifier of a key, or none of them is named.
 abbrev pub HasNoSigningCertificate : List SignerInfo → List KeptCertificate → AuthenticodeError → Type 0
 HasNoSigningCertificate signers certificates (errors.MultipleSignerInfo count) = (signers ≡ []) × (count ≡ 0)
-HasNoSigningCertificate signers certificates errors.IncorrectSignerIdentifier = (octets : List ℕ) × IsFirstNamed signers (named.SubjectKeyIdentifier octets)
+HasNoSigningCertificate signers certificates errors.IncorrectSignerIdentifier = (octets : List ℕ) × FirstNames signers (named.SubjectKeyIdentifier octets)
 HasNoSigningCertificate signers certificates (errors.NoCertificatesAssociatedWithIssuerAndSerialNumber issuer serial_number) =
-    IsFirstNamed signers (named.IssuerAndSerialNumber (record { issuer = sets_of issuer; serial_number = serial_number }))
+    FirstNames signers (named.IssuerAndSerialNumber (record { issuer = sets_of issuer; serial_number = serial_number }))
     × HasNoSigner (map signer_info signers) (elements_of certificates)
 HasNoSigningCertificate signers certificates errors.Memory = ⊤
 HasNoSigningCertificate signers certificates _ = ⊥
@@ -42,7 +42,7 @@ HasNoSigningCertificate signers certificates _ = ⊥
 -- why the first of the signers isn't named by an issuer and a serial number
 abbrev pub IsNamedOtherwise : List SignerInfo → AuthenticodeError → Type 0
 IsNamedOtherwise signers (errors.MultipleSignerInfo count) = (signers ≡ []) × (count ≡ 0)
-IsNamedOtherwise signers errors.IncorrectSignerIdentifier = (octets : List ℕ) × IsFirstNamed signers (named.SubjectKeyIdentifier octets)
+IsNamedOtherwise signers errors.IncorrectSignerIdentifier = (octets : List ℕ) × FirstNames signers (named.SubjectKeyIdentifier octets)
 IsNamedOtherwise signers _ = ⊥
 
 -- the certificate has this issuer and this serial number

@@ -5,7 +5,7 @@ ghost use Rattle.der_core.specs.Encoding.{encoding, IsDer};
 ghost use Rattle.wincert_core.specs.Refusal.{contents_in, current, encoded};
 ghost use Rattle.wincert_core.specs.declared.error.WinCertificateError.{WinCertificateError};
 ghost use Rattle.wincert_core.specs.declared.kinds.CertificateType.{CertificateType};
-ghost use Rattle.authenticode_core.specs.Trusted.{IsAnswer, RefusesShape};
+ghost use Rattle.authenticode_core.specs.Trusted.{IsAnswer, RefusesForm};
 ghost use Rattle.authenticode_core.specs.declared.error.CheckError.{CheckError};
 ghost use Rattle.authenticode_core.specs.declared.error.CheckError.TheVariants.{Memory};
 ghost use Rattle.authenticode_values.specs.FileRefusals.{GivesFile, GivesSignature, RefusesHeader, told_of_header};
@@ -55,7 +55,7 @@ pub fn check_made<S: Scheme>(
 ) -> Result<Accepted, CheckError>
     ensures answer { IsAnswer (S.judge scheme.now) policy.now octets.now result }
     // A refusal of the header, of what the certificate is or of the form comes whatever memory there is.
-    ensures refused { (e : CheckError) → RefusesShape policy.now octets.now e → result ≡ Err e }
+    ensures refused { (e : CheckError) → RefusesForm policy.now octets.now e → result ≡ Err e }
     // What is made is accepted.
     ensures made { (file_hash : List ℕ) → IsBasicAlone policy.now file_hash → IsMadeSignature (S.judge scheme.now) octets.now file_hash
         → MatchResult result (λ a. a ≡ by_the_first) (λ e. e ≡ Memory) }

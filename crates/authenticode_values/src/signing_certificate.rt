@@ -4,7 +4,7 @@ ghost use Rattle.std.specs.Prelude.{◌≡◌, ◌↔◌, Some, IfOk, IsTrue, Ma
 ghost use Rattle.cms_types.specs.declared.signer_identifier.SignerIdentifier.TheVariants as named;
 ghost use Rattle.making_core.specs.Carried.{elements_of};
 ghost use Rattle.authenticode_core.specs.Places.{HasNoPlace, IsLeastPlace};
-ghost use Rattle.authenticode_values.specs.SigningCertificate.{HasNoSigningCertificate, IsFirstNamed, IsNamedBy, IsNamedOtherwise, IsSigningCertificate};
+ghost use Rattle.authenticode_values.specs.SigningCertificate.{HasNoSigningCertificate, FirstNames, IsNamedBy, IsNamedOtherwise, IsSigningCertificate};
 ghost use Rattle.authenticode_core.specs.declared.error.AuthenticodeError.TheVariants as errors;
 
 use authenticode_core::AuthenticodeError;
@@ -36,7 +36,7 @@ pub(crate) fn signing_certificate_of<'a>(
 /// The issuer and the serial number that the first of the signers names.
 fn named_by_first(signers: &[SignerInfo]) -> Result<&IssuerAndSerialNumber, AuthenticodeError>
     ensures { MatchResult result
-        (λ value. IsFirstNamed signers.now (named.IssuerAndSerialNumber value.now))
+        (λ value. FirstNames signers.now (named.IssuerAndSerialNumber value.now))
         (IsNamedOtherwise signers.now) }
 {
     let Some(first) = signers.first() else {
