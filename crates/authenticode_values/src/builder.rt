@@ -27,7 +27,8 @@ pub struct AuthenticodeSignatureBuilder<'a> {
     named: Option<IssuerAndSerialNumber>,
 }
 
-/// One call, so that what holds such a value is proved without looking into it.
+/// Written out, so that dropping one is a call: else each function that drops one is proved through
+/// all its parts.
 impl Drop for AuthenticodeSignatureBuilder<'_> {
     fn drop(self) {
         let AuthenticodeSignatureBuilder {

@@ -34,7 +34,8 @@ pub struct Pkcs7 {
     pub(crate) signed: Pkcs7Certificate,
 }
 
-/// One call, so that what holds such a value is proved without looking into it.
+/// Written out, so that dropping one is a call: else each function that drops one is proved through
+/// all its parts.
 impl Drop for Pkcs7 {
     fn drop(self) {
         let Pkcs7 { signed: _signed } = self;

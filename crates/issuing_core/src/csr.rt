@@ -48,7 +48,8 @@ pub struct Csr {
     ghost around: { HasInfo kept.element (request_with subject public_key attributes signature_algorithm signature) } by { HasInfo-prop kept.element (request_with subject public_key attributes signature_algorithm signature) },
 }
 
-/// One call, so that what holds such a value is proved without looking into it.
+/// Written out, so that dropping one is a call: else each function that drops one is proved through
+/// all its parts.
 impl Drop for Csr {
     fn drop(self) {
         let Csr {

@@ -40,7 +40,8 @@ pub struct PublicKey {
     info: SubjectPublicKeyInfo,
 }
 
-/// One call, so that what holds such a value is proved without looking into it.
+/// Written out, so that dropping one is a call: else each function that drops one is proved through
+/// all its parts.
 impl Drop for PublicKey {
     fn drop(self) {
         let PublicKey { info: _info } = self;

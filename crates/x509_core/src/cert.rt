@@ -45,7 +45,8 @@ pub struct Cert {
     ghost fields: { HasFields kept.element (joined rest public_key) } by { HasFields-prop kept.element (joined rest public_key) },
 }
 
-/// One call, so that what holds such a value is proved without looking into it.
+/// Written out, so that dropping one is a call: else each function that drops one is proved through
+/// all its parts.
 impl Drop for Cert {
     fn drop(self) {
         let Cert {

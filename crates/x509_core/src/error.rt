@@ -82,7 +82,8 @@ pub enum CertError {
     Memory,
 }
 
-/// One call, so that what holds such a value is proved without looking into it.
+/// Written out, so that dropping one is a call: else each function that drops one is proved through
+/// all its parts.
 impl Drop for CertError {
     fn drop(self) {
         match self {

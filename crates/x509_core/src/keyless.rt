@@ -29,7 +29,8 @@ pub(crate) struct Keyless {
     pub signature_value: BitString,
 }
 
-/// One call, so that what holds such a value is proved without looking into it.
+/// Written out, so that dropping one is a call: else each function that drops one is proved through
+/// all its parts.
 impl Drop for Keyless {
     fn drop(self) {
         let Keyless {
