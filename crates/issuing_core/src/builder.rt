@@ -56,7 +56,6 @@ impl Drop for SubjectInfos {
 }
 
 /// Builds a certificate (RFC 5280 4.1). Of the calls that set one thing the last counts.
-#[derive(Drop)]
 pub struct CertificateBuilder<'a> {
     alloc: Global,
     valid_from: Option<UtcDate>,
@@ -74,6 +73,31 @@ pub struct CertificateBuilder<'a> {
     subject_alt_name: Option<GeneralNames>,
     issuer_alt_name: Option<GeneralNames>,
     inherits: bool,
+}
+
+/// Written out, so that dropping one is a call: else each function that drops one is proved through
+/// all its parts.
+impl Drop for CertificateBuilder<'_> {
+    fn drop(self) {
+        let CertificateBuilder {
+            alloc: _alloc,
+            valid_from: _valid_from,
+            valid_to: _valid_to,
+            issuer_infos: _issuer_infos,
+            subject_infos: _subject_infos,
+            authority_key_identifier: _authority_key_identifier,
+            serial_number: _serial_number,
+            signature_hash_type: _signature_hash_type,
+            key_id_gen_method: _key_id_gen_method,
+            ca: _ca,
+            pathlen: _pathlen,
+            key_usage: _key_usage,
+            extended_key_usage: _extended_key_usage,
+            subject_alt_name: _subject_alt_name,
+            issuer_alt_name: _issuer_alt_name,
+            inherits: _inherits,
+        } = self;
+    }
 }
 
 impl<'a> CertificateBuilder<'a> {
