@@ -34,11 +34,21 @@ use std::fmt;
 /// 2). The public key of a curve is kept beside the container where it was given, read or derived,
 /// since the container may leave it out; that of RSA is part of the key. The parameters of a key of
 /// an elliptic curve name its curve.
-#[derive(Drop)]
 pub struct PrivateKey {
     pub(crate) info: PrivateKeyInfo,
     pub(crate) public_key: Option<BitString>,
     pub ghost curve: { HasCurve info.private_key (kept_option (parameters_of info.private_key_algorithm)) } by { HasCurve-prop info.private_key (kept_option (parameters_of info.private_key_algorithm)) },
+}
+
+/// Written out, so that dropping one is a call: else each function that drops one is proved through
+/// all its parts.
+impl Drop for PrivateKey {
+    fn drop(self) {
+        let PrivateKey {
+            info: _info,
+            public_key: _public_key,
+        } = self;
+    }
 }
 
 impl PrivateKey {
