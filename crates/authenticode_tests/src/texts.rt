@@ -44,9 +44,7 @@ fn is_mismatch(alloc: Global, file: &[u8], hash: &[u8]) -> Result<bool, Fail> {
     let table = table(alloc, &[])?;
     let policy = basic_policy(alloc, &ASKED)?;
     let answer = check_wincert(alloc, file, &policy, &table);
-    let told = is_told(alloc, &answer, hash);
-    drop(answer);
-    Ok(told)
+    Ok(is_told(alloc, &answer, hash))
 }
 
 /// What is told of a mismatch: both digests, as values and as text.

@@ -47,10 +47,10 @@ fn table_of(alloc: Global, word: &str) -> Result<VerdictTable> {
 
 /// The line for what a file is answered in a case.
 pub fn answer(alloc: Global, case: &Case, file: &[u8]) -> Result<String> {
-    let answer = check_wincert(alloc, file, &case.policy, &case.table);
-    let line = told(alloc, &answer);
-    drop(answer);
-    line
+    told(
+        alloc,
+        &check_wincert(alloc, file, &case.policy, &case.table),
+    )
 }
 
 /// The line for an answer.

@@ -76,9 +76,8 @@ fn print_kept(alloc: Global, octets: &[u8], line: &mut Line) {
         Ok(cert) => {
             print_asked(alloc, &cert, octets, line);
             print_view(alloc, &cert.view(), line);
-            drop(cert);
         }
-        Err(error) => kept::print_error(error, line),
+        Err(error) => line.shown(&error),
     }
 }
 

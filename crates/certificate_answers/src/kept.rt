@@ -12,39 +12,30 @@ use x509_types::{AlgorithmIdentifier, AuthorityKeyIdentifier, BasicConstraints, 
 /// there is no certificate.
 pub fn print(alloc: Global, octets: &[u8], line: &mut Line) {
     match Cert::from_der(alloc, octets) {
-        Ok(cert) => {
-            print_certificate(alloc, &cert, octets, line);
-            drop(cert);
-        }
-        Err(error) => print_error(error, line),
+        Ok(cert) => print_certificate(alloc, &cert, octets, line),
+        Err(error) => line.shown(&error),
     }
 }
 
 /// Whether one certificate is the parent of another, else why not.
 pub fn print_parent(alloc: Global, parent: &[u8], child: &[u8], line: &mut Line) {
     match Cert::from_der(alloc, parent) {
-        Ok(parent) => {
-            print_parent_of(alloc, &parent, child, line);
-            drop(parent);
-        }
-        Err(error) => print_error(error, line),
+        Ok(parent) => print_parent_of(alloc, &parent, child, line),
+        Err(error) => line.shown(&error),
     }
 }
 
 fn print_parent_of(alloc: Global, parent: &Cert, child: &[u8], line: &mut Line) {
     match Cert::from_der(alloc, child) {
-        Ok(child) => {
-            print_link(alloc, parent, &child, line);
-            drop(child);
-        }
-        Err(error) => print_error(error, line),
+        Ok(child) => print_link(alloc, parent, &child, line),
+        Err(error) => line.shown(&error),
     }
 }
 
 fn print_link(alloc: Global, parent: &Cert, child: &Cert, line: &mut Line) {
     match parent.is_parent_of(alloc, child) {
         Ok(()) => line.word("parent"),
-        Err(error) => print_error(error, line),
+        Err(error) => line.shown(&error),
     }
 }
 
@@ -75,18 +66,9 @@ fn with_algorithm(
 
 fn print_made(alloc: Global, made: Result<Cert, CertError>, line: &mut Line) {
     match made {
-        Ok(cert) => {
-            line.made(cert.to_der(alloc));
-            drop(cert);
-        }
-        Err(error) => print_error(error, line),
+        Ok(cert) => line.made(cert.to_der(alloc)),
+        Err(error) => line.shown(&error),
     }
-}
-
-/// The text of an error, which is let go here alone.
-pub fn print_error(error: CertError, line: &mut Line) {
-    line.shown(&error);
-    drop(error);
 }
 
 /// What is printed of a certificate that was read of these octets.
@@ -109,11 +91,8 @@ fn is_copied(alloc: Global, cert: &Cert, octets: &[u8]) -> Result<bool, DerError
 /// Whether the octets that are written for the value are these, else why there are none.
 fn print_anew(alloc: Global, cert: &Cert, octets: &[u8], line: &mut Line) {
     match made_anew(alloc, cert) {
-        Ok(again) => {
-            line.same(Ok(has_octets(alloc, &again, octets)));
-            drop(again);
-        }
-        Err(error) => print_error(error, line),
+        Ok(again) => line.same(Ok(has_octets(alloc, &again, octets))),
+        Err(error) => line.shown(&error),
     }
 }
 
@@ -159,7 +138,7 @@ fn print_name(name: Result<DirectoryName, AllocError>, line: &mut Line) {
 fn print_said(cert: &Cert, line: &mut Line) {
     match cert.subject_key_identifier() {
         Ok(key) => line.octets(key),
-        Err(error) => print_error(error, line),
+        Err(error) => line.shown(&error),
     }
     print_authority_key(cert, line);
     print_constraints(cert, line);
@@ -168,7 +147,7 @@ fn print_said(cert: &Cert, line: &mut Line) {
 fn print_authority_key(cert: &Cert, line: &mut Line) {
     match cert.authority_key_identifier() {
         Ok(key) => print_key_parts(key, line),
-        Err(error) => print_error(error, line),
+        Err(error) => line.shown(&error),
     }
 }
 
@@ -181,7 +160,7 @@ fn print_key_parts(key: &AuthorityKeyIdentifier, line: &mut Line) {
 fn print_constraints(cert: &Cert, line: &mut Line) {
     match cert.basic_constraints() {
         Ok(constraints) => print_constraints_of(constraints, line),
-        Err(error) => print_error(error, line),
+        Err(error) => line.shown(&error),
     }
 }
 

@@ -56,10 +56,7 @@ fn line_of(alloc: Global, file: &[u8], policy: &Policy, table: &VerdictTable) ->
 }
 
 fn file_line(alloc: Global, file: &[u8], policy: &Policy, table: &VerdictTable) -> Result<String> {
-    let answer = check_wincert(alloc, file, policy, table);
-    let line = told(alloc, &answer);
-    drop(answer);
-    line
+    told(alloc, &check_wincert(alloc, file, policy, table))
 }
 
 /// A copy of a file in which another octet stands at the place that a change names.

@@ -20,9 +20,7 @@ pub fn kept_line(
     let Some(signature) = signature_in(alloc, file) else {
         return Ok(None);
     };
-    let line = line_of(alloc, &signature, policy, table);
-    drop(signature);
-    Ok(Some(line?))
+    Ok(Some(line_of(alloc, &signature, policy, table)?))
 }
 
 fn line_of(
@@ -32,30 +30,12 @@ fn line_of(
     table: &VerdictTable,
 ) -> Result<String> {
     let hash = copy_of(alloc, &policy.file_hash)?;
-    let answer = verified(alloc, signature, policy, hash, table);
-    let line = told(alloc, &answer);
-    drop(answer);
-    line
+    told(alloc, &verified(alloc, signature, policy, hash, table))
 }
 
 fn signature_in(alloc: Global, file: &[u8]) -> Option<AuthenticodeSignature> {
-    let read = WinCertificate::decode(alloc, file);
-    let signature = match &read {
-        Ok(certificate) => kept_of(alloc, certificate),
-        Err(_) => None,
-    };
-    drop(read);
-    signature
-}
-
-fn kept_of(alloc: Global, certificate: &WinCertificate) -> Option<AuthenticodeSignature> {
-    match AuthenticodeSignature::from_wincert(alloc, certificate) {
-        Ok(signature) => Some(signature),
-        Err(error) => {
-            drop(error);
-            None
-        }
-    }
+    let certificate = WinCertificate::decode(alloc, file).ok()?;
+    AuthenticodeSignature::from_wincert(alloc, &certificate).ok()
 }
 
 fn copy_of(alloc: Global, hash: &Option<Octets>) -> Result<Option<Octets>, AllocError> {

@@ -24,10 +24,7 @@ pub fn print(alloc: Global, kind: &str, octets: &[u8], line: &mut Line) -> bool 
 /// Whether the value comes back as it was read, and the digest of its fields; or the refusal.
 fn print_kept<T: Structure + Details>(alloc: Global, octets: &[u8], line: &mut Line) {
     match T::from_der(alloc, octets) {
-        Ok(value) => {
-            print_value(alloc, octets, &value, line);
-            drop(value);
-        }
+        Ok(value) => print_value(alloc, octets, &value, line),
         Err(error) => print_refused(error, line),
     }
 }

@@ -28,7 +28,6 @@ fn print_signers(alloc: Global, octets: &[u8], line: &mut Line) {
             line.shown(&values.as_slice().len());
             print_member(alloc, octets, values.get(alloc, 0), line);
             print_member(alloc, octets, values.get(alloc, 1), line);
-            drop(values);
         }
         Err(error) => line.shown(&error),
     }
@@ -53,7 +52,6 @@ fn print_tokens(alloc: Global, octets: &[u8], line: &mut Line) {
             line.shown(&values.as_slice().len());
             print_member(alloc, octets, values.get(alloc, 0), line);
             print_member(alloc, octets, values.get(alloc, 1), line);
-            drop(values);
         }
         Err(error) => line.shown(&error),
     }
@@ -79,10 +77,7 @@ fn print_member<T: Structure>(
     line: &mut Line,
 ) {
     match member {
-        Ok(Some(value)) => {
-            line.same(is_written(alloc, octets, &value));
-            drop(value);
-        }
+        Ok(Some(value)) => line.same(is_written(alloc, octets, &value)),
         Ok(None) => line.word("none"),
         Err(error) => line.shown(&error),
     }
@@ -91,10 +86,7 @@ fn print_member<T: Structure>(
 /// How many octets a signer has that holds itself as a counter-signature; or that it is too deep.
 fn print_within(alloc: Global, octets: &[u8], line: &mut Line) {
     match within(alloc, octets) {
-        Ok(values) => {
-            print_first_length(&values, line);
-            drop(values);
-        }
+        Ok(values) => print_first_length(&values, line),
         Err(DerError::TooDeep) => line.word("TooDeep"),
         Err(error) => line.shown(&error),
     }

@@ -75,10 +75,7 @@ pub fn print_unlike(
 /// Whether the value comes back as it was read, and its details; or that there is none.
 fn read_of<T: Structure + PartialEq + Details>(alloc: Global, element: &[u8], line: &mut Line) {
     match value_of::<T>(alloc, element) {
-        Ok(value) => {
-            print_value(alloc, element, &value, line);
-            drop(value);
-        }
+        Ok(value) => print_value(alloc, element, &value, line),
         Err(error) => print_refused(error, line),
     }
 }
@@ -97,10 +94,7 @@ fn print_value<T: Structure + PartialEq + Details>(
 /// there is none.
 fn back_of<T: Structure + Details>(alloc: Global, octets: &[u8], line: &mut Line) {
     match T::from_der(alloc, octets) {
-        Ok(value) => {
-            print_written(alloc, octets, &value, line);
-            drop(value);
-        }
+        Ok(value) => print_written(alloc, octets, &value, line),
         Err(error) => line.refused(error),
     }
 }

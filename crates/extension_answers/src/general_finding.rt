@@ -23,10 +23,7 @@ pub fn print(alloc: Global, kind: &str, element: &[u8], line: &mut Line) -> bool
 
 fn print_names(alloc: Global, element: &[u8], line: &mut Line) {
     match names_of(alloc, element) {
-        Ok(names) => {
-            print_found(alloc, &names, line);
-            drop(names);
-        }
+        Ok(names) => print_found(alloc, &names, line),
         Err(error) => line.shown(&error),
     }
 }
@@ -52,10 +49,7 @@ fn octets_of_host(name: &Ia5String) -> &[u8] {
 
 fn print_directory(name: Result<Option<DirectoryName>, AllocError>, line: &mut Line) {
     match name {
-        Ok(Some(name)) => {
-            line.text(&name);
-            drop(name);
-        }
+        Ok(Some(name)) => line.text(&name),
         Ok(None) => line.word("none"),
         Err(error) => line.shown(&error),
     }

@@ -23,10 +23,7 @@ pub fn print(alloc: Global, kind: &str, element: &[u8], line: &mut Line) -> bool
 /// Whether the value comes back as it was read, and its details; or that there is none.
 fn read_of<T: Structure + PartialEq + Details>(alloc: Global, element: &[u8], line: &mut Line) {
     match value_of::<T>(alloc, element) {
-        Ok(value) => {
-            print_value(alloc, element, &value, line);
-            drop(value);
-        }
+        Ok(value) => print_value(alloc, element, &value, line),
         Err(error) => line.refused(error),
     }
 }

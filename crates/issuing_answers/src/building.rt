@@ -89,11 +89,8 @@ fn print_built<S: Scheme>(
     line: &mut Line,
 ) {
     match builder.build(alloc, word, scheme) {
-        Ok(certificate) => {
-            print_certificate(alloc, &certificate, line);
-            drop(certificate);
-        }
-        Err(error) => print_refused(alloc, error, line),
+        Ok(certificate) => print_certificate(alloc, &certificate, line),
+        Err(error) => print_refused(alloc, &error, line),
     }
 }
 

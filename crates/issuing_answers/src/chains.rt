@@ -129,7 +129,7 @@ fn with<'a>(validator: Validator<'a>, given: Given<'a>, setter: Setter) -> Valid
 fn print_verdict<S: Scheme>(alloc: Global, validator: Validator<'_>, scheme: &S, line: &mut Line) {
     match validator.verify(alloc, scheme) {
         Ok(()) => line.word("accepted"),
-        Err(error) => print_refused(alloc, error, line),
+        Err(error) => print_refused(alloc, &error, line),
     }
 }
 
@@ -147,17 +147,14 @@ pub fn print_parent(alloc: Global, words: &str, line: &mut Line) -> Result<()> {
 
 fn print_parent_in(alloc: Global, octets: &[u8], child: &Cert, line: &mut Line) {
     match Cert::from_der(alloc, octets) {
-        Ok(parent) => {
-            print_link(alloc, &parent, child, line);
-            drop(parent);
-        }
-        Err(error) => print_refused(alloc, error, line),
+        Ok(parent) => print_link(alloc, &parent, child, line),
+        Err(error) => print_refused(alloc, &error, line),
     }
 }
 
 fn print_link(alloc: Global, parent: &Cert, child: &Cert, line: &mut Line) {
     match parent.is_parent_of(alloc, child) {
         Ok(()) => line.word("parent"),
-        Err(error) => print_refused(alloc, error, line),
+        Err(error) => print_refused(alloc, &error, line),
     }
 }

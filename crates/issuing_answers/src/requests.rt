@@ -23,10 +23,7 @@ pub fn print<S: Scheme>(alloc: Global, octets: &str, scheme: &S, line: &mut Line
 
 fn print_request<S: Scheme>(alloc: Global, octets: &[u8], scheme: &S, line: &mut Line) {
     match Csr::from_der(alloc, octets) {
-        Ok(csr) => {
-            print_read(alloc, &csr, octets, scheme, line);
-            drop(csr);
-        }
+        Ok(csr) => print_read(alloc, &csr, octets, scheme, line),
         Err(error) => print_told(error, line),
     }
 }
@@ -115,10 +112,7 @@ fn print_with<S: Scheme>(
 
 fn print_made<S: Scheme>(alloc: Global, made: Result<Csr, CsrError>, scheme: &S, line: &mut Line) {
     match made {
-        Ok(csr) => {
-            print_generated(alloc, &csr, scheme, line);
-            drop(csr);
-        }
+        Ok(csr) => print_generated(alloc, &csr, scheme, line),
         Err(error) => print_told(error, line),
     }
 }

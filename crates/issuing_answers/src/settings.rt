@@ -187,7 +187,7 @@ impl IssuerSetting {
         match self {
             IssuerSetting::SelfSigned(name) => Ok(builder.self_signed(name, key)),
             IssuerSetting::Named(name) => Ok(builder.issuer(name, key)),
-            IssuerSetting::Cert(certificate) => issued_by(builder, certificate, key),
+            IssuerSetting::Cert(certificate) => issued_under(builder, &certificate, key),
         }
     }
 }
@@ -227,17 +227,6 @@ impl PlainSetting {
             }
         }
     }
-}
-
-/// The builder under a certificate that is let go.
-fn issued_by<'a>(
-    builder: CertificateBuilder<'a>,
-    certificate: Cert,
-    key: &'a PrivateKey,
-) -> Result<CertificateBuilder<'a>, AllocError> {
-    let issued = issued_under(builder, &certificate, key);
-    drop(certificate);
-    issued
 }
 
 /// The builder under the certificate of an issuer.

@@ -13,13 +13,8 @@ pub fn print_name(name: Result<DirectoryName, AllocError>, line: &mut Line) {
     }
 }
 
-/// The name and the text of an error, which is let go here alone.
-pub fn print_refused(alloc: Global, error: CertError, line: &mut Line) {
-    print_name_and_text(alloc, &error, line);
-    drop(error);
-}
-
-fn print_name_and_text(alloc: Global, error: &CertError, line: &mut Line) {
+/// The name and the text of an error.
+pub fn print_refused(alloc: Global, error: &CertError, line: &mut Line) {
     match error.name(alloc) {
         Ok(name) => {
             line.word(name.as_str());
@@ -33,5 +28,4 @@ fn print_name_and_text(alloc: Global, error: &CertError, line: &mut Line) {
 /// The text of an error, which is let go here alone.
 pub fn print_told(error: CsrError, line: &mut Line) {
     line.shown(&error);
-    drop(error);
 }

@@ -10,7 +10,6 @@ use std::alloc::Global;
 pub fn print_alone(alloc: Global, signed_data: &str, line: &mut String) -> Result<()> {
     let certificates = certificates_of(alloc, signed_data)?;
     let alone = Pkcs7::of_certificates(alloc, &certificates)?;
-    let octets = alone.to_der(alloc);
-    drop(alone);
-    Ok(print_octets(alloc, "alone ", &octets?, line)?)
+    let octets = alone.to_der(alloc)?;
+    Ok(print_octets(alloc, "alone ", &octets, line)?)
 }

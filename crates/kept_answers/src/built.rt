@@ -4,9 +4,7 @@ use crate::line::print_signature_octets;
 use crate::settings::{Setting, settings_of};
 use crate::words::key_of;
 use anyhow::{Result, bail};
-use authenticode_values::{
-    AuthenticodeSignature, AuthenticodeSignatureBuilder, AuthenticodeSignatureBuilderError,
-};
+use authenticode_values::{AuthenticodeSignatureBuilder, AuthenticodeSignatureBuilderError};
 use key_core::PrivateKey;
 use sig_core::Scheme;
 use std::alloc::{AllocError, Global};
@@ -76,25 +74,14 @@ fn with<'a>(
     }
 }
 
+/// The octets that are written for the signature, or why it isn't built.
 fn print_signature<S: Scheme>(
     alloc: Global,
     builder: AuthenticodeSignatureBuilder<'_>,
     scheme: &S,
     line: &mut String,
 ) -> Result<()> {
-    let built = builder.build(alloc, scheme);
-    let printed = print_answered(alloc, &built, line);
-    drop(built);
-    printed
-}
-
-/// The octets that are written for the signature, or why it isn't built.
-fn print_answered(
-    alloc: Global,
-    built: &Result<AuthenticodeSignature, AuthenticodeSignatureBuilderError>,
-    line: &mut String,
-) -> Result<()> {
-    match built {
+    match &builder.build(alloc, scheme) {
         Ok(signature) => print_signature_octets(alloc, "built ", signature, line),
         Err(AuthenticodeSignatureBuilderError::Memory) => Err(AllocError.into()),
         Err(error) => Ok(write!(line, "refused {error}")?),

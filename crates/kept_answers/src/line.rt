@@ -9,21 +9,9 @@ use x509_core::Cert;
 /// What the signature says that octets are: its certificates, what is signed, and whether it is
 /// written as it was read. Octets that are no signature are told so.
 pub fn print_kept(alloc: Global, octets: &[u8], line: &mut String) -> Result<()> {
-    let read = AuthenticodeSignature::from_der(alloc, octets);
-    let printed = print_read(alloc, octets, &read, line);
-    drop(read);
-    printed
-}
-
-fn print_read(
-    alloc: Global,
-    octets: &[u8],
-    read: &Result<AuthenticodeSignature, AuthenticodeError>,
-    line: &mut String,
-) -> Result<()> {
-    match read {
-        Ok(signature) => print_signature(alloc, octets, signature, line),
-        Err(error) => Ok(print_unread(error, line)?),
+    match AuthenticodeSignature::from_der(alloc, octets) {
+        Ok(signature) => print_signature(alloc, octets, &signature, line),
+        Err(error) => Ok(print_unread(&error, line)?),
     }
 }
 
@@ -65,18 +53,7 @@ fn print_signer(
     certificates: &[Cert],
     line: &mut String,
 ) -> Result<(), AllocError> {
-    let answer = signature.signing_certificate(alloc, certificates);
-    let printed = print_answered(&answer, certificates, line);
-    drop(answer);
-    printed
-}
-
-fn print_answered(
-    answer: &Result<&Cert, AuthenticodeError>,
-    certificates: &[Cert],
-    line: &mut String,
-) -> Result<(), AllocError> {
-    match answer {
+    match &signature.signing_certificate(alloc, certificates) {
         Ok(signer) => print_places(signer, certificates, line),
         Err(AuthenticodeError::Memory) => Err(AllocError),
         Err(_) => Ok(()),

@@ -3,7 +3,6 @@
 use crate::line::{print_refused, print_signature_octets};
 use crate::words::{key_of, signed_data_of, variant_of};
 use anyhow::{Result, bail};
-use authenticode_core::AuthenticodeError;
 use authenticode_values::{AuthenticodeSignature, Pkcs7};
 use key_core::PrivateKey;
 use row_answers::{octets_of, text_of};
@@ -79,9 +78,7 @@ fn print_signed<S: Scheme>(
     line: &mut String,
 ) -> Result<()> {
     let signed = signed_data_of(alloc, certificates)?;
-    let printed = print_by(alloc, &signed, key, program, scheme, line);
-    drop(signed);
-    printed
+    print_by(alloc, &signed, key, program, scheme, line)
 }
 
 fn print_by<S: Scheme>(
@@ -98,6 +95,7 @@ fn print_by<S: Scheme>(
     printed
 }
 
+/// The octets that are written for the signature, or why it isn't made.
 fn print_signature<S: Scheme>(
     alloc: Global,
     signed: &Pkcs7,
@@ -107,20 +105,8 @@ fn print_signature<S: Scheme>(
     line: &mut String,
 ) -> Result<()> {
     let (hash, digest, name) = (program.hash, program.digest, program.name);
-    let made = AuthenticodeSignature::new(alloc, signed, hash, digest, key, name, scheme);
-    let printed = print_answered(alloc, &made, line);
-    drop(made);
-    printed
-}
-
-/// The octets that are written for the signature, or why it isn't made.
-fn print_answered(
-    alloc: Global,
-    made: &Result<AuthenticodeSignature, AuthenticodeError>,
-    line: &mut String,
-) -> Result<()> {
-    match made {
-        Ok(signature) => print_signature_octets(alloc, "made ", signature, line),
-        Err(error) => Ok(print_refused(error, line)?),
+    match AuthenticodeSignature::new(alloc, signed, hash, digest, key, name, scheme) {
+        Ok(signature) => print_signature_octets(alloc, "made ", &signature, line),
+        Err(error) => Ok(print_refused(&error, line)?),
     }
 }

@@ -25,9 +25,7 @@ pub fn signed_data_of(alloc: Global, word: &str) -> Result<Pkcs7> {
 /// The certificates of signed data.
 pub fn certificates_of(alloc: Global, word: &str) -> Result<Vec<Cert>> {
     let signed = signed_data_of(alloc, word)?;
-    let certificates = signed.decode_certificates(alloc);
-    drop(signed);
-    Ok(certificates?)
+    Ok(signed.decode_certificates(alloc)?)
 }
 
 pub fn content_of(alloc: Global, word: &str) -> Result<EncapsulatedContentInfo> {

@@ -9,37 +9,22 @@ use x509_core::Cert;
 /// Whether octets are written for signed data of the certificates that they carry.
 fn is_made_again(alloc: Global, octets: &[u8]) -> bool {
     match signed_data(alloc, octets) {
-        Some(signed) => {
-            let made = is_made_of_its_own(alloc, &signed, octets);
-            drop(signed);
-            made
-        }
+        Some(signed) => is_made_of_its_own(alloc, &signed, octets),
         None => false,
     }
 }
 
 fn is_made_of_its_own(alloc: Global, signed: &Pkcs7, octets: &[u8]) -> bool {
     match signed.decode_certificates(alloc) {
-        Ok(certificates) => {
-            let made = is_made_of(alloc, &certificates, octets);
-            drop(certificates);
-            made
-        }
+        Ok(certificates) => is_made_of(alloc, &certificates, octets),
         Err(_) => false,
     }
 }
 
 fn is_made_of(alloc: Global, certificates: &[Cert], octets: &[u8]) -> bool {
     match Pkcs7::of_certificates(alloc, certificates) {
-        Ok(signed) => {
-            let written = is_written(alloc, &signed, octets);
-            drop(signed);
-            written
-        }
-        Err(error) => {
-            drop(error);
-            false
-        }
+        Ok(signed) => is_written(alloc, &signed, octets),
+        Err(_) => false,
     }
 }
 

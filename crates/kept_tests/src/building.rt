@@ -85,15 +85,8 @@ fn outcome_of(
 
 fn outcome_by(alloc: Global, builder: AuthenticodeSignatureBuilder<'_>) -> Outcome {
     match builder.build(alloc, &DemoScheme::new()) {
-        Ok(signature) => {
-            drop(signature);
-            Outcome::Built
-        }
-        Err(error) => {
-            let refused = refusal(&error);
-            drop(error);
-            refused
-        }
+        Ok(_) => Outcome::Built,
+        Err(error) => refusal(&error),
     }
 }
 
@@ -134,10 +127,7 @@ fn is_each_by(alloc: Global, octets: &[u8]) -> Result<bool, Fail> {
             drop(key);
             each
         }
-        Err(error) => {
-            drop(error);
-            Ok(false)
-        }
+        Err(_) => Ok(false),
     }
 }
 

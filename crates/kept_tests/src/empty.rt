@@ -6,16 +6,11 @@ use authenticode_values::{AuthenticodeSignature, Pkcs7};
 use cms_types::Pkcs7Certificate;
 use std::alloc::Global;
 use std::test::Fail;
-use x509_core::Cert;
 
 /// Whether octets are signed data with nothing in its fields.
 fn is_empty(alloc: Global, octets: &[u8]) -> bool {
     match signed_data(alloc, octets) {
-        Some(signed) => {
-            let empty = has_nothing(&signed) && has_no_certificates(alloc, &signed);
-            drop(signed);
-            empty
-        }
+        Some(signed) => has_nothing(&signed) && has_no_certificates(alloc, &signed),
         None => false,
     }
 }
@@ -28,11 +23,7 @@ fn has_nothing(signed: &Pkcs7) -> bool {
 
 fn has_no_certificates(alloc: Global, signed: &Pkcs7) -> bool {
     match signed.decode_certificates(alloc) {
-        Ok(certificates) => {
-            let none = certificates.is_empty();
-            drop(certificates);
-            none
-        }
+        Ok(certificates) => certificates.is_empty(),
         Err(_) => false,
     }
 }
@@ -40,11 +31,7 @@ fn has_no_certificates(alloc: Global, signed: &Pkcs7) -> bool {
 /// Whether octets are a signature by nobody of nothing.
 fn is_unsigned(alloc: Global, octets: &[u8]) -> bool {
     match signature(alloc, octets) {
-        Some(signature) => {
-            let unsigned = signs_nothing(alloc, &signature) && has_no_signer(alloc, &signature);
-            drop(signature);
-            unsigned
-        }
+        Some(signature) => signs_nothing(alloc, &signature) && has_no_signer(alloc, &signature),
         None => false,
     }
 }
@@ -59,34 +46,23 @@ fn signs_nothing(alloc: Global, signature: &AuthenticodeSignature) -> bool {
 }
 
 fn has_no_signer(alloc: Global, signature: &AuthenticodeSignature) -> bool {
-    let answer = signature.signing_certificate(alloc, &[]);
-    let refused = is_of_no_signer(&answer);
-    drop(answer);
-    refused
-}
-
-fn is_of_no_signer(answer: &Result<&Cert, AuthenticodeError>) -> bool {
-    match answer {
-        Err(AuthenticodeError::MultipleSignerInfo { count }) => *count == 0,
-        _ => false,
-    }
+    matches!(
+        &signature.signing_certificate(alloc, &[]),
+        Err(AuthenticodeError::MultipleSignerInfo { count: 0 })
+    )
 }
 
 /// Whether a copy and every conversion of the signed data that octets are is written so.
 fn is_kept(alloc: Global, octets: &[u8]) -> bool {
     match signed_data(alloc, octets) {
-        Some(signed) => {
-            let kept = is_copied(alloc, &signed, octets);
-            drop(signed);
-            kept
-        }
+        Some(signed) => is_copied(alloc, &signed, octets),
         None => false,
     }
 }
 
 fn is_copied(alloc: Global, signed: &Pkcs7, octets: &[u8]) -> bool {
     match signed.try_clone(alloc) {
-        Ok(copy) => is_converted(alloc, signature_of(copy), octets),
+        Ok(copy) => is_converted(alloc, &signature_of(copy), octets),
         Err(_) => false,
     }
 }
@@ -96,20 +72,13 @@ fn signature_of(signed: Pkcs7) -> AuthenticodeSignature {
     AuthenticodeSignature::from(Pkcs7::from(value))
 }
 
-fn is_converted(alloc: Global, signature: AuthenticodeSignature, octets: &[u8]) -> bool {
-    let kept = is_spelled(alloc, &signature, octets) && has_such_a_copy(alloc, &signature, octets);
-    drop(signature);
-    kept
+fn is_converted(alloc: Global, signature: &AuthenticodeSignature, octets: &[u8]) -> bool {
+    is_spelled(alloc, signature, octets) && has_such_a_copy(alloc, signature, octets)
 }
 
 fn has_such_a_copy(alloc: Global, signature: &AuthenticodeSignature, octets: &[u8]) -> bool {
     match signature.try_clone(alloc) {
-        Ok(copy) => {
-            let signed = Pkcs7::from(copy);
-            let written = is_written(alloc, &signed, octets);
-            drop(signed);
-            written
-        }
+        Ok(copy) => is_written(alloc, &Pkcs7::from(copy), octets),
         Err(_) => false,
     }
 }

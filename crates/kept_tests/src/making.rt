@@ -40,11 +40,7 @@ struct Sample<'a> {
 /// What comes of making a signature by the first of the certificates that octets carry.
 fn outcome_by(alloc: Global, octets: &[u8], variant: ShaVariant, sample: &Sample<'_>) -> Outcome {
     match signed_data(alloc, octets) {
-        Some(signed) => {
-            let outcome = outcome_of(alloc, &signed, variant, sample);
-            drop(signed);
-            outcome
-        }
+        Some(signed) => outcome_of(alloc, &signed, variant, sample),
         None => Outcome::Other,
     }
 }
@@ -53,16 +49,8 @@ fn outcome_of(alloc: Global, signed: &Pkcs7, variant: ShaVariant, sample: &Sampl
     let scheme = DemoScheme::new();
     let key = sample.key;
     match AuthenticodeSignature::new(alloc, signed, sample.hash, variant, key, None, &scheme) {
-        Ok(signature) => {
-            let outcome = outcome_of_file(alloc, &signature, sample);
-            drop(signature);
-            outcome
-        }
-        Err(error) => {
-            let refused = refusal(&error);
-            drop(error);
-            refused
-        }
+        Ok(signature) => outcome_of_file(alloc, &signature, sample),
+        Err(error) => refusal(&error),
     }
 }
 
@@ -82,10 +70,7 @@ fn outcome_of_file(
     let pkcs = CertificateType::WinCertTypePkcsSignedData;
     match encode_signature(alloc, signature, pkcs) {
         Ok(file) => outcome_of_octets(alloc, &file, sample),
-        Err(error) => {
-            drop(error);
-            Outcome::Other
-        }
+        Err(_) => Outcome::Other,
     }
 }
 
@@ -100,15 +85,8 @@ fn outcome_of_octets(alloc: Global, file: &[u8], sample: &Sample<'_>) -> Outcome
 /// Whether a signature is read of the file, that is written as what is behind the header.
 fn is_read(alloc: Global, file: &[u8]) -> bool {
     match decode_signature(alloc, file) {
-        Ok(signature) => {
-            let read = is_behind_header(alloc, &signature, file);
-            drop(signature);
-            read
-        }
-        Err(error) => {
-            drop(error);
-            false
-        }
+        Ok(signature) => is_behind_header(alloc, &signature, file),
+        Err(_) => false,
     }
 }
 
@@ -130,11 +108,7 @@ fn is_before_zeros(alloc: Global, signature: &AuthenticodeSignature, padded: &[u
 /// Whether the file is accepted under basic validation alone with the digest.
 fn is_accepted(alloc: Global, file: &[u8], hash: &[u8]) -> bool {
     match basic_policy(alloc, hash) {
-        Ok(policy) => {
-            let accepted = is_accepted_under(alloc, file, &policy);
-            drop(policy);
-            accepted
-        }
+        Ok(policy) => is_accepted_under(alloc, file, &policy),
         Err(_) => false,
     }
 }
@@ -148,15 +122,8 @@ fn basic_policy(alloc: Global, hash: &[u8]) -> Result<Policy, AllocError> {
 
 fn is_accepted_under(alloc: Global, file: &[u8], policy: &Policy) -> bool {
     match check_made(alloc, file, policy, &DemoScheme::new()) {
-        Ok(accepted) => {
-            let by_the_first = accepted.signer == Some(0);
-            drop(accepted);
-            by_the_first
-        }
-        Err(error) => {
-            drop(error);
-            false
-        }
+        Ok(accepted) => accepted.signer == Some(0),
+        Err(_) => false,
     }
 }
 
@@ -175,10 +142,7 @@ fn is_each_by(alloc: Global, octets: &[u8]) -> Result<bool, Fail> {
             drop(key);
             each
         }
-        Err(error) => {
-            drop(error);
-            Ok(false)
-        }
+        Err(_) => Ok(false),
     }
 }
 

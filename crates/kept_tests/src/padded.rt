@@ -32,29 +32,15 @@ const AFTER: [(&str, Answer); 6] = [
 fn answer_to(alloc: Global, octets: &[u8]) -> Answer {
     let pkcs = CertificateType::WinCertTypePkcsSignedData;
     match WinCertificate::from_certificate(alloc, octets, pkcs) {
-        Ok(certificate) => {
-            let answer = answer_of(alloc, &certificate);
-            drop(certificate);
-            answer
-        }
-        Err(error) => {
-            drop(error);
-            Answer::Other
-        }
+        Ok(certificate) => answer_of(alloc, &certificate),
+        Err(_) => Answer::Other,
     }
 }
 
 fn answer_of(alloc: Global, certificate: &WinCertificate) -> Answer {
     match AuthenticodeSignature::from_wincert(alloc, certificate) {
-        Ok(signature) => {
-            drop(signature);
-            Answer::Read
-        }
-        Err(error) => {
-            let refused = refusal(&error);
-            drop(error);
-            refused
-        }
+        Ok(_) => Answer::Read,
+        Err(error) => refusal(&error),
     }
 }
 

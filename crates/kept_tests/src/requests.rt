@@ -28,10 +28,7 @@ fn is_asked(alloc: Global) -> bool {
 fn is_written(alloc: Global, request: &TimestampRequest) -> bool {
     match request.to_der(alloc) {
         Ok(written) => written.as_slice() == REQUEST,
-        Err(error) => {
-            drop(error);
-            false
-        }
+        Err(_) => false,
     }
 }
 
@@ -43,10 +40,7 @@ fn is_read(alloc: Global) -> bool {
             drop(request);
             read
         }
-        Err(error) => {
-            drop(error);
-            false
-        }
+        Err(_) => false,
     }
 }
 
@@ -69,11 +63,7 @@ fn has_its_content(copy: TimestampRequest, request: &TimestampRequest) -> bool {
 /// Whether a timestamper with this token asks so.
 fn is_asked_by(alloc: Global, token: &[u8]) -> bool {
     match timestamper(alloc, token) {
-        Some(timestamper) => {
-            let asked = asks(alloc, &timestamper);
-            drop(timestamper);
-            asked
-        }
+        Some(timestamper) => asks(alloc, &timestamper),
         None => false,
     }
 }
@@ -81,10 +71,7 @@ fn is_asked_by(alloc: Global, token: &[u8]) -> bool {
 fn asks(alloc: Global, timestamper: &TokenTimestamper) -> bool {
     match timestamper.request(alloc, &ASKED) {
         Ok(written) => written.as_slice() == REQUEST,
-        Err(error) => {
-            drop(error);
-            false
-        }
+        Err(_) => false,
     }
 }
 

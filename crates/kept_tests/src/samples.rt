@@ -28,45 +28,24 @@ pub(crate) const FILE_HASH: &str =
 
 /// The signed data that octets are, None where they are refused.
 pub(crate) fn signed_data(alloc: Global, octets: &[u8]) -> Option<Pkcs7> {
-    match Pkcs7::from_der(alloc, octets) {
-        Ok(signed) => Some(signed),
-        Err(error) => {
-            drop(error);
-            None
-        }
-    }
+    Pkcs7::from_der(alloc, octets).ok()
 }
 
 /// The signature that octets are, None where they are refused.
 pub(crate) fn signature(alloc: Global, octets: &[u8]) -> Option<AuthenticodeSignature> {
-    match AuthenticodeSignature::from_der(alloc, octets) {
-        Ok(signature) => Some(signature),
-        Err(error) => {
-            drop(error);
-            None
-        }
-    }
+    AuthenticodeSignature::from_der(alloc, octets).ok()
 }
 
 /// The timestamper with the token that octets are, None where they are refused.
 pub(crate) fn timestamper(alloc: Global, octets: &[u8]) -> Option<TokenTimestamper> {
-    match TokenTimestamper::from_der(alloc, octets) {
-        Ok(timestamper) => Some(timestamper),
-        Err(error) => {
-            drop(error);
-            None
-        }
-    }
+    TokenTimestamper::from_der(alloc, octets).ok()
 }
 
 /// Whether these octets are written for signed data.
 pub(crate) fn is_written(alloc: Global, signed: &Pkcs7, octets: &[u8]) -> bool {
     match signed.to_der(alloc) {
         Ok(written) => written.as_slice() == octets,
-        Err(error) => {
-            drop(error);
-            false
-        }
+        Err(_) => false,
     }
 }
 
@@ -74,9 +53,6 @@ pub(crate) fn is_written(alloc: Global, signed: &Pkcs7, octets: &[u8]) -> bool {
 pub(crate) fn is_spelled(alloc: Global, signature: &AuthenticodeSignature, octets: &[u8]) -> bool {
     match signature.to_der(alloc) {
         Ok(written) => written.as_slice() == octets,
-        Err(error) => {
-            drop(error);
-            false
-        }
+        Err(_) => false,
     }
 }

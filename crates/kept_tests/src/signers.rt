@@ -9,11 +9,7 @@ use x509_core::Cert;
 /// Whether octets are a signature of the digest, by its one certificate.
 fn is_told(alloc: Global, octets: &[u8], hash: &[u8]) -> bool {
     match signature(alloc, octets) {
-        Some(signature) => {
-            let told = signs(alloc, &signature, hash) && is_by_its_own(alloc, &signature);
-            drop(signature);
-            told
-        }
+        Some(signature) => signs(alloc, &signature, hash) && is_by_its_own(alloc, &signature),
         None => false,
     }
 }
@@ -36,11 +32,7 @@ fn is_of(alloc: Global, signature: &AuthenticodeSignature, hash: &[u8]) -> bool 
 
 fn is_by_its_own(alloc: Global, signature: &AuthenticodeSignature) -> bool {
     match signature.0.decode_certificates(alloc) {
-        Ok(certificates) => {
-            let own = is_by_the_first(alloc, signature, &certificates);
-            drop(certificates);
-            own
-        }
+        Ok(certificates) => is_by_the_first(alloc, signature, &certificates),
         Err(_) => false,
     }
 }
@@ -52,10 +44,7 @@ fn is_by_the_first(
 ) -> bool {
     match signature.signing_certificate(alloc, certificates) {
         Ok(signer) => is_the_one(signer, certificates),
-        Err(error) => {
-            drop(error);
-            false
-        }
+        Err(_) => false,
     }
 }
 

@@ -23,11 +23,7 @@ enum Outcome {
 /// What comes of stamping the signature that octets are by a token.
 fn outcome_by(alloc: Global, octets: &[u8], token: &[u8]) -> Outcome {
     match signature(alloc, octets) {
-        Some(mut signature) => {
-            let outcome = outcome_of(alloc, &mut signature, octets, token);
-            drop(signature);
-            outcome
-        }
+        Some(mut signature) => outcome_of(alloc, &mut signature, octets, token),
         None => Outcome::Other,
     }
 }
@@ -54,11 +50,7 @@ fn counts(alloc: Global, signature: &AuthenticodeSignature) -> (usize, usize) {
 
 fn certificate_count(alloc: Global, signature: &AuthenticodeSignature) -> usize {
     match signature.0.decode_certificates(alloc) {
-        Ok(certificates) => {
-            let count = certificates.len();
-            drop(certificates);
-            count
-        }
+        Ok(certificates) => certificates.len(),
         Err(_) => 9,
     }
 }
@@ -74,11 +66,7 @@ fn stamp_count(signature: &AuthenticodeSignature) -> usize {
 /// What is answered where the signature is stamped by a copy of a timestamper with the token.
 fn stamped(alloc: Global, signature: &mut AuthenticodeSignature, token: &[u8]) -> Outcome {
     match timestamper(alloc, token) {
-        Some(timestamper) => {
-            let answer = stamped_by_copy(alloc, signature, &timestamper);
-            drop(timestamper);
-            answer
-        }
+        Some(timestamper) => stamped_by_copy(alloc, signature, &timestamper),
         None => Outcome::Other,
     }
 }
@@ -89,11 +77,7 @@ fn stamped_by_copy(
     timestamper: &TokenTimestamper,
 ) -> Outcome {
     match timestamper.try_clone(alloc) {
-        Ok(mut copy) => {
-            let answer = stamped_by(alloc, signature, &mut copy);
-            drop(copy);
-            answer
-        }
+        Ok(mut copy) => stamped_by(alloc, signature, &mut copy),
         Err(_) => Outcome::Other,
     }
 }
@@ -105,11 +89,7 @@ fn stamped_by(
 ) -> Outcome {
     match signature.timestamp(alloc, timestamper, HashAlgorithm::SHA2_256) {
         Ok(()) => Outcome::Stamped,
-        Err(error) => {
-            let refused = refusal(&error);
-            drop(error);
-            refused
-        }
+        Err(error) => refusal(&error),
     }
 }
 

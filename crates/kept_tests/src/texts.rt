@@ -7,15 +7,8 @@ use std::test::Fail;
 /// Whether octets are refused with a text that begins so.
 fn is_refused_so(alloc: Global, octets: &[u8], text: &str) -> bool {
     match Pkcs7::from_der(alloc, octets) {
-        Ok(signed) => {
-            drop(signed);
-            false
-        }
-        Err(error) => {
-            let told = begins_so(alloc, &error, text);
-            drop(error);
-            told
-        }
+        Ok(_) => false,
+        Err(error) => begins_so(alloc, &error, text),
     }
 }
 

@@ -82,20 +82,12 @@ fn a_refusal_is_a_line_with_its_name(rt: HostRuntime) -> Result<(), AllocError> 
 #[test]
 fn a_refusal_of_a_header_is_a_line(rt: HostRuntime) -> Result<(), AllocError> {
     for (error, want) in HEADERS {
-        assert!(rt; is_header_line(rt.alloc(), error, want)?, "{want}");
+        assert!(rt;
+            is_line(rt.alloc(), &CheckError::Win(error), want)?,
+            "{want}"
+        );
     }
     Ok(())
-}
-
-fn is_header_line(
-    alloc: Global,
-    error: WinCertificateError,
-    want: &str,
-) -> Result<bool, AllocError> {
-    let error = CheckError::Win(error);
-    let told = is_line(alloc, &error, want);
-    drop(error);
-    told
 }
 
 fn is_line(alloc: Global, error: &CheckError, want: &str) -> Result<bool, AllocError> {

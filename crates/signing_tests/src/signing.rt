@@ -74,9 +74,7 @@ fn is_as_told(alloc: Global, row: Row, rows: &ThreeRows) -> Result<bool, Fail> {
     let (hash, key, message, signature, want, _why) = row;
     let key = public_key(alloc, key)?;
     let signed = (message.as_bytes(), signature.as_bytes());
-    let told = is_told(alloc, hash, &key, signed, rows, want);
-    drop(key);
-    told
+    is_told(alloc, hash, &key, signed, rows, want)
 }
 
 #[test]

@@ -58,10 +58,7 @@ fn print_ed(alloc: Global, oid: &[u8], octets: &[u8], line: &mut Line) {
 /// The octets of a key of RSA without its algorithm, or the text of the refusal.
 fn print_pkcs1(alloc: Global, octets: &[u8], line: &mut Line) {
     match PublicKey::from_der(alloc, octets) {
-        Ok(key) => {
-            line.made(key.to_pkcs1(alloc));
-            drop(key);
-        }
+        Ok(key) => line.made(key.to_pkcs1(alloc)),
         Err(error) => line.shown(&error),
     }
 }
@@ -73,10 +70,7 @@ pub fn print_made<E: fmt::Display + Drop>(
     line: &mut Line,
 ) {
     match key {
-        Ok(key) => {
-            print_key(alloc, &key, line);
-            drop(key);
-        }
+        Ok(key) => print_key(alloc, &key, line),
         Err(error) => line.shown(&error),
     }
 }

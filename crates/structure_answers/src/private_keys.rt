@@ -204,10 +204,7 @@ fn is_read_of(alloc: Global, key: &PrivateKey, octets: &[u8]) -> Result<bool, Ke
 /// The octets of the public key, or why there is none.
 fn print_public_half(alloc: Global, key: &PrivateKey, line: &mut Line) {
     match key.to_public_key(alloc) {
-        Ok(key) => {
-            line.made(key.to_der(alloc));
-            drop(key);
-        }
+        Ok(key) => line.made(key.to_der(alloc)),
         Err(error) => line.shown(&error),
     }
 }

@@ -106,10 +106,7 @@ fn print_key_id(alloc: Global, (method, hash): (&str, &str), octets: &[Vec<u8>],
 
 fn print_id(alloc: Global, method: KeyIdGenMethod, octets: &[Vec<u8>], line: &mut Line) {
     match public_key(alloc, octets) {
-        Ok(Some(key)) => {
-            line.made(method.generate_from(alloc, &key));
-            drop(key);
-        }
+        Ok(Some(key)) => line.made(method.generate_from(alloc, &key)),
         Ok(None) => line.word("no key"),
         Err(error) => line.shown(&error),
     }
@@ -202,10 +199,7 @@ fn print_own<S: Scheme>(
     line: &mut Line,
 ) {
     match key.to_public_key(alloc) {
-        Ok(key) => {
-            print_told(alloc, algorithm, &key, signed, scheme, line);
-            drop(key);
-        }
+        Ok(key) => print_told(alloc, algorithm, &key, signed, scheme, line),
         Err(error) => line.shown(&error),
     }
 }
@@ -219,10 +213,7 @@ fn print_verify(
     line: &mut Line,
 ) {
     match PublicKey::from_der(alloc, key) {
-        Ok(key) => {
-            print_verdicts(alloc, algorithm, &key, signed, line);
-            drop(key);
-        }
+        Ok(key) => print_verdicts(alloc, algorithm, &key, signed, line),
         Err(error) => line.shown(&error),
     }
 }

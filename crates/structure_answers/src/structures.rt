@@ -76,10 +76,7 @@ pub fn print_unlike(alloc: Global, kind: &str, args: &[Vec<u8>], line: &mut Line
 /// Whether the value comes back as it was read, and its details; or that there is none.
 fn read_of<T: Structure + PartialEq + Details>(alloc: Global, element: &[u8], line: &mut Line) {
     match value_of::<T>(alloc, element) {
-        Ok(value) => {
-            print_value(alloc, element, &value, line);
-            drop(value);
-        }
+        Ok(value) => print_value(alloc, element, &value, line),
         Err(error) => line.refused(error),
     }
 }

@@ -25,10 +25,7 @@ pub fn print(alloc: Global, call: &str, args: Args<'_>, line: &mut Line) -> bool
 
 fn print_public(alloc: Global, octets: &[u8], line: &mut Line) {
     match PublicKey::from_der(alloc, octets) {
-        Ok(key) => {
-            print_public_key(alloc, &key, line);
-            drop(key);
-        }
+        Ok(key) => print_public_key(alloc, &key, line),
         Err(error) => line.shown(&error),
     }
 }

@@ -29,14 +29,8 @@ const END: &str = "308201873082012ea00302010202143b87f5b5b39b8974c228b786419f879
 /// Whether the certificate has a subject of this name, and is an authority's or not.
 fn tells(alloc: Global, octets: &[u8], name: &str, authority: bool) -> Result<bool, CertError> {
     let cert = Cert::from_der(alloc, octets)?;
-    let told = says(alloc, &cert, name, authority);
-    drop(cert);
-    told
-}
-
-fn says(alloc: Global, cert: &Cert, name: &str, authority: bool) -> Result<bool, CertError> {
-    let subject = subject(alloc, cert)?;
-    Ok(subject.as_str() == name && is_authority(cert) == authority)
+    let subject = subject(alloc, &cert)?;
+    Ok(subject.as_str() == name && is_authority(&cert) == authority)
 }
 
 #[test]

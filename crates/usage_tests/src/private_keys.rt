@@ -57,8 +57,6 @@ fn signs(rt: HostRuntime) -> Result<(), Fail> {
     let wanted = hex::decode(rt.alloc(), SIGNATURE)?;
     assert_eq!(rt; signature.as_slice(), wanted.as_slice());
     let key = public_half(rt.alloc(), &octets)?;
-    let signed = is_of_message_alone(rt.alloc(), &key, &signature);
-    drop(key);
-    assert!(rt; signed?);
+    assert!(rt; is_of_message_alone(rt.alloc(), &key, &signature)?);
     Ok(())
 }
