@@ -33,7 +33,6 @@ fn print_asked<S: Scheme>(
     let settings = settings_of(alloc, settings)?;
     let key = key_of(alloc, key)?;
     print_by(alloc, word, settings, &key, scheme, line);
-    drop(key);
     Ok(())
 }
 

@@ -73,12 +73,10 @@ pub fn generate<S: Scheme>(alloc: Global, words: &str, scheme: &S, line: &mut Li
     };
     let subject = name_of(alloc, subject)?;
     let key = key_of(alloc, key)?;
-    let printed = match attributes.first() {
+    match attributes.first() {
         None => print_plain(alloc, algorithm, &key, subject, scheme, line),
         Some(words) => print_with(alloc, (algorithm, words), &key, subject, scheme, line),
-    };
-    drop(key);
-    printed
+    }
 }
 
 fn print_plain<S: Scheme>(

@@ -235,11 +235,6 @@ pub fn issued_under<'a>(
     certificate: &Cert,
     key: &'a PrivateKey,
 ) -> Result<CertificateBuilder<'a>, AllocError> {
-    match builder.issuer_cert(certificate, key) {
-        Ok(()) => Ok(builder),
-        Err(refused) => {
-            drop(builder);
-            Err(refused)
-        }
-    }
+    builder.issuer_cert(certificate, key)?;
+    Ok(builder)
 }

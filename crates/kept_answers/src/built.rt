@@ -32,9 +32,7 @@ fn print_asked<S: Scheme>(
 ) -> Result<()> {
     let settings = settings_of(alloc, settings)?;
     let key = key_of(alloc, key)?;
-    let printed = print_by(alloc, &key, settings, scheme, line);
-    drop(key);
-    printed
+    print_by(alloc, &key, settings, scheme, line)
 }
 
 fn print_by<S: Scheme>(

@@ -90,9 +90,7 @@ fn print_by<S: Scheme>(
     line: &mut String,
 ) -> Result<()> {
     let key = key_of(alloc, key)?;
-    let printed = print_signature(alloc, signed, &key, program, scheme, line);
-    drop(key);
-    printed
+    print_signature(alloc, signed, &key, program, scheme, line)
 }
 
 /// The octets that are written for the signature, or why it isn't made.

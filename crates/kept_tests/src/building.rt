@@ -122,11 +122,7 @@ fn is_each_with(alloc: Global, key: &PrivateKey) -> Result<bool, Fail> {
 /// The same by the private key that octets are.
 fn is_each_by(alloc: Global, octets: &[u8]) -> Result<bool, Fail> {
     match PrivateKey::from_pkcs8(alloc, octets, &DemoScheme::new()) {
-        Ok(key) => {
-            let each = is_each_with(alloc, &key);
-            drop(key);
-            each
-        }
+        Ok(key) => is_each_with(alloc, &key),
         Err(_) => Ok(false),
     }
 }

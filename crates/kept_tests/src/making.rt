@@ -137,11 +137,7 @@ const CASES: [(&str, ShaVariant, Outcome); 3] = [
 /// Whether each case comes out as wanted by the private key that octets are.
 fn is_each_by(alloc: Global, octets: &[u8]) -> Result<bool, Fail> {
     match PrivateKey::from_pkcs8(alloc, octets, &DemoScheme::new()) {
-        Ok(key) => {
-            let each = is_each_with(alloc, &key);
-            drop(key);
-            each
-        }
+        Ok(key) => is_each_with(alloc, &key),
         Err(_) => Ok(false),
     }
 }

@@ -98,9 +98,7 @@ fn signed<S: Scheme>(
         return Err(SignatureError::Memory);
     };
     let key = PrivateKey::from_pkcs1(alloc, &octets)?;
-    let made = rsa(hash).sign(alloc, message, &key, scheme);
-    drop(key);
-    made
+    rsa(hash).sign(alloc, message, &key, scheme)
 }
 
 /// Whether the scheme refuses to sign.

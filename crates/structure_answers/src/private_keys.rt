@@ -21,7 +21,6 @@ pub fn print(alloc: Global, call: &str, args: Args<'_>, line: &mut Line) -> bool
     match key_of(alloc, call, args) {
         Ok(key) => {
             print_key(alloc, &key, line);
-            drop(key);
             true
         }
         Err(why) => print_refusal(why, line),

@@ -149,7 +149,6 @@ fn print_sign(
     match private_keys::key_of(alloc, call, args) {
         Ok(key) => {
             print_signatures(alloc, algorithm, message, &key, line);
-            drop(key);
             true
         }
         Err(why) => private_keys::print_refusal(why, line),

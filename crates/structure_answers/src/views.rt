@@ -41,7 +41,6 @@ fn print_private(alloc: Global, call: &str, args: Args<'_>, line: &mut Line) -> 
     match private_keys::key_of(alloc, call, args) {
         Ok(key) => {
             print_pair(alloc, &key, line);
-            drop(key);
             true
         }
         Err(why) => private_keys::print_refusal(why, line),
