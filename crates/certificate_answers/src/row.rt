@@ -18,7 +18,7 @@ pub fn answer(alloc: Global, text: &str) -> Result<String> {
 }
 
 /// Whether there is such a call; its answer is printed.
-fn print(alloc: Global, words: &[&str], octets: &[Vec<u8>], line: &mut Line) -> bool {
+fn print(alloc: Global, words: &[&str], octets: &[Option<Vec<u8>>], line: &mut Line) -> bool {
     match (words, octets) {
         ([call, "certificate", words @ ..], [_, _, octets @ ..]) => {
             print_call(alloc, call, words, octets, line)
@@ -31,13 +31,13 @@ fn print_call(
     alloc: Global,
     call: &str,
     words: &[&str],
-    octets: &[Vec<u8>],
+    octets: &[Option<Vec<u8>>],
     line: &mut Line,
 ) -> bool {
     match octets {
-        [octets] => print_one(alloc, call, octets, line),
-        [one, other] => print_two(alloc, call, one, other, line),
-        [begin, part, _, end] => {
+        [Some(octets)] => print_one(alloc, call, octets, line),
+        [Some(one), Some(other)] => print_two(alloc, call, one, other, line),
+        [Some(begin), Some(part), _, Some(end)] => {
             call == "both" && print_repeated(alloc, (begin, part, end), words, line)
         }
         _ => false,

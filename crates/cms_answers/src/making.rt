@@ -10,7 +10,7 @@ use std::alloc::Global;
 /// Whether there is such a kind of values; what is made is printed.
 pub fn print(alloc: Global, kind: &str, args: Args<'_>, line: &mut Line) -> bool {
     match (kind, args.words, args.octets) {
-        ("string", _, [text]) => print_string(alloc, text, line),
+        ("string", _, [Some(text)]) => print_string(alloc, text, line),
         ("sha", [name], _) => match variant(name) {
             Some(variant) => print_sha(alloc, variant, line),
             None => return false,

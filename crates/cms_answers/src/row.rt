@@ -20,11 +20,11 @@ pub fn answer(alloc: Global, text: &str) -> Result<String> {
 #[derive(Clone, Copy)]
 pub struct Args<'a> {
     pub words: &'a [&'a str],
-    pub octets: &'a [Vec<u8>],
+    pub octets: &'a [Option<Vec<u8>>],
 }
 
 /// Whether there is such a call, whose answer is printed.
-fn print(alloc: Global, words: &[&str], octets: &[Vec<u8>], line: &mut Line) -> bool {
+fn print(alloc: Global, words: &[&str], octets: &[Option<Vec<u8>>], line: &mut Line) -> bool {
     match (words, octets) {
         ([call, kind, words @ ..], [_, _, octets @ ..]) => {
             print_call(alloc, (call, kind), Args { words, octets }, line)
@@ -35,10 +35,15 @@ fn print(alloc: Global, words: &[&str], octets: &[Vec<u8>], line: &mut Line) -> 
 
 fn print_call(alloc: Global, (call, kind): (&str, &str), args: Args<'_>, line: &mut Line) -> bool {
     match (call, args.octets) {
-        ("structure", [element]) => structures::print(alloc, kind, element, line),
-        ("unlike", [one, other]) => structures::print_unlike(alloc, kind, (one, other), line),
-        ("both", [octets]) => both::print(alloc, kind, octets, line),
-        ("members", [octets]) => members::print(alloc, kind, octets, line),
+        ("structure", [Some(element)]) => structures::print(alloc, kind, element, line),
+        ("unlike", [Some(one), Some(other)]) => structures::print_unlike(
+            alloc,
+            kind,
+            (one, other),
+            line,
+        ),
+        ("both", [Some(octets)]) => both::print(alloc, kind, octets, line),
+        ("members", [Some(octets)]) => members::print(alloc, kind, octets, line),
         ("make", _) => making::print(alloc, kind, args, line),
         _ => false,
     }

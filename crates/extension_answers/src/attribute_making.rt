@@ -8,12 +8,16 @@ use std::alloc::Global;
 use x509_types::{Attribute, AttributeValues, Extensions};
 
 /// Whether there is such a call; the details of the attribute are printed, or that there is none.
-pub fn print(alloc: Global, call: &str, octets: &[Vec<u8>], line: &mut Line) -> bool {
+pub fn print(alloc: Global, call: &str, octets: &[Option<Vec<u8>>], line: &mut Line) -> bool {
     match (call, octets) {
-        ("extension_request", [extensions]) => {
+        ("extension_request", [Some(extensions)]) => {
             print_made(alloc, extension_request(alloc, extensions), line);
         }
-        ("new", [ty, element]) => print_made(alloc, with_values_of(alloc, ty, element), line),
+        ("new", [Some(ty), Some(element)]) => print_made(
+            alloc,
+            with_values_of(alloc, ty, element),
+            line,
+        ),
         _ => return false,
     }
     true

@@ -11,22 +11,22 @@ use x509_types::{DirectoryString, RawGeneralName};
 
 /// Whether there is such a call; the octets of a name are printed, its details, and whether it comes
 /// back from its raw name, or what the error is called that is answered for it.
-pub fn print(alloc: Global, call: &str, octets: &[Vec<u8>], line: &mut Line) -> bool {
+pub fn print(alloc: Global, call: &str, octets: &[Option<Vec<u8>>], line: &mut Line) -> bool {
     match (call, octets) {
-        ("rfc822_name" | "dns_name" | "uri", [text]) => {
+        ("rfc822_name" | "dns_name" | "uri", [Some(text)]) => {
             print_made(alloc, of_text(alloc, call, text_of(text)), line);
         }
-        ("directory_name", [text]) => print_made(alloc, directory_name(alloc, text), line),
-        ("edi_party_name", [party]) => {
+        ("directory_name", [Some(text)]) => print_made(alloc, directory_name(alloc, text), line),
+        ("edi_party_name", [Some(party)]) => {
             print_made(alloc, edi_party_name(alloc, party, None), line);
         }
-        ("edi_party_name", [party, assigner]) => {
+        ("edi_party_name", [Some(party), Some(assigner)]) => {
             print_made(alloc, edi_party_name(alloc, party, Some(assigner)), line);
         }
-        ("ip_address", [address]) => {
+        ("ip_address", [Some(address)]) => {
             print_made(alloc, GeneralName::new_ip_address(alloc, address), line);
         }
-        ("registered_id", [oid]) => print_made(alloc, registered_id(alloc, oid), line),
+        ("registered_id", [Some(oid)]) => print_made(alloc, registered_id(alloc, oid), line),
         _ => return false,
     }
     true

@@ -25,19 +25,19 @@ pub fn print(alloc: Global, call: &str, args: Args<'_>, line: &mut Line) -> bool
 }
 
 /// The same of an extension that is put together of octets.
-fn print_of_octets(alloc: Global, call: &str, octets: &[Vec<u8>], line: &mut Line) -> bool {
+fn print_of_octets(alloc: Global, call: &str, octets: &[Option<Vec<u8>>], line: &mut Line) -> bool {
     match (call, octets) {
-        ("non_critical", [octets]) => print_made(alloc, non_critical(alloc, octets), line),
+        ("non_critical", [Some(octets)]) => print_made(alloc, non_critical(alloc, octets), line),
         ("extended_key_usage", purposes) => {
             print_made(alloc, extended_key_usage(alloc, purposes), line);
         }
-        ("subject_alt_name" | "issuer_alt_name", [names]) => {
+        ("subject_alt_name" | "issuer_alt_name", [Some(names)]) => {
             print_made(alloc, alt_name(alloc, call, names), line);
         }
-        ("subject_key" | "authority_key", [key]) => {
+        ("subject_key" | "authority_key", [Some(key)]) => {
             print_made(alloc, key_identifier(alloc, call, key), line);
         }
-        ("raw", [oid, octets]) => print_made(alloc, raw(alloc, oid, octets), line),
+        ("raw", [Some(oid), Some(octets)]) => print_made(alloc, raw(alloc, oid, octets), line),
         _ => return false,
     }
     true
@@ -81,9 +81,13 @@ fn non_critical(alloc: Global, octets: &[u8]) -> Made {
     Extension::from_der(alloc, octets).map(Extension::into_non_critical)
 }
 
-fn extended_key_usage(alloc: Global, purposes: &[Vec<u8>]) -> Made {
+/// The purposes, `Shape` where the word of one isn't one of octets.
+fn extended_key_usage(alloc: Global, purposes: &[Option<Vec<u8>>]) -> Made {
     let mut list = OidList::new(alloc);
     for oid in purposes {
+        let Some(oid) = oid else {
+            return Err(DerError::Shape);
+        };
         list.push(ObjectIdentifier::from_content(alloc, oid)?)?;
     }
     Extension::new_extended_key_usage(alloc, ExtendedKeyUsage::new(list))

@@ -20,11 +20,11 @@ pub fn answer(alloc: Global, text: &str) -> Result<String> {
 #[derive(Clone, Copy)]
 pub struct Args<'a> {
     pub words: &'a [&'a str],
-    pub octets: &'a [Vec<u8>],
+    pub octets: &'a [Option<Vec<u8>>],
 }
 
 /// Whether there is such a call, whose answer is printed.
-fn print(alloc: Global, words: &[&str], octets: &[Vec<u8>], line: &mut Line) -> bool {
+fn print(alloc: Global, words: &[&str], octets: &[Option<Vec<u8>>], line: &mut Line) -> bool {
     match (words, octets) {
         ([call, subject, words @ ..], [_, _, octets @ ..]) => {
             print_call(alloc, (call, subject), Args { words, octets }, line)
@@ -40,9 +40,14 @@ fn print_call(
     line: &mut Line,
 ) -> bool {
     match (call, args.octets) {
-        ("structure", [element]) => reading::print(alloc, subject, element, line),
-        ("unlike", [one, other]) => reading::print_unlike(alloc, subject, (one, other), line),
-        ("find", [element]) => general_finding::print(alloc, subject, element, line),
+        ("structure", [Some(element)]) => reading::print(alloc, subject, element, line),
+        ("unlike", [Some(one), Some(other)]) => reading::print_unlike(
+            alloc,
+            subject,
+            (one, other),
+            line,
+        ),
+        ("find", [Some(element)]) => general_finding::print(alloc, subject, element, line),
         ("make", _) => print_made(alloc, subject, args, line),
         _ => false,
     }

@@ -12,21 +12,23 @@ pub fn octets_of(alloc: Global, word: &str) -> Result<Vec<u8>> {
     hex::decode(alloc, word).context("reading octets")
 }
 
-/// The octets of each word, none where it isn't one of hexadecimal digits.
-pub fn octets_of_words(alloc: Global, words: &[&str]) -> Result<Vec<Vec<u8>>, AllocError> {
+/// The octets of each word, `-` for none; None where it is neither that nor one of hexadecimal digits.
+pub fn octets_of_words(alloc: Global, words: &[&str]) -> Result<Vec<Option<Vec<u8>>>, AllocError> {
     let mut all = Vec::new(alloc);
     for word in words {
-        all.push(octets_or_none(alloc, word)?)?;
+        all.push(octets_in(alloc, word)?)?;
     }
     Ok(all)
 }
 
-/// The octets of a word, none where it isn't one of hexadecimal digits.
-fn octets_or_none(alloc: Global, word: &str) -> Result<Vec<u8>, AllocError> {
+fn octets_in(alloc: Global, word: &str) -> Result<Option<Vec<u8>>, AllocError> {
+    if word == "-" {
+        return Ok(Some(Vec::new(alloc)));
+    }
     match hex::decode(alloc, word) {
-        Ok(octets) => Ok(octets),
+        Ok(octets) => Ok(Some(octets)),
         Err(FromHexError::OutOfMemory) => Err(AllocError),
-        Err(_) => Ok(Vec::new(alloc)),
+        Err(_) => Ok(None),
     }
 }
 

@@ -15,12 +15,18 @@ use std::fmt;
 /// Whether there is such a call; what is made of the parts is printed.
 pub fn print(alloc: Global, call: &str, args: Args<'_>, line: &mut Line) -> bool {
     match (call, args.octets) {
-        ("rsa_components", [modulus, exponent]) => print_rsa(alloc, modulus, exponent, line),
-        ("ec_components", [curve, point]) => print_ec(alloc, curve, point, line),
-        ("ed_components", [oid, octets]) => print_ed(alloc, oid, octets, line),
-        ("from_der", [octets]) => print_made(alloc, PublicKey::from_der(alloc, octets), line),
-        ("from_pkcs1", [octets]) => print_made(alloc, PublicKey::from_pkcs1(alloc, octets), line),
-        ("to_pkcs1", [octets]) => print_pkcs1(alloc, octets, line),
+        ("rsa_components", [Some(modulus), Some(exponent)]) => print_rsa(
+            alloc, modulus, exponent, line,
+        ),
+        ("ec_components", [Some(curve), Some(point)]) => print_ec(alloc, curve, point, line),
+        ("ed_components", [Some(oid), Some(octets)]) => print_ed(alloc, oid, octets, line),
+        ("from_der", [Some(octets)]) => print_made(alloc, PublicKey::from_der(alloc, octets), line),
+        ("from_pkcs1", [Some(octets)]) => print_made(
+            alloc,
+            PublicKey::from_pkcs1(alloc, octets),
+            line,
+        ),
+        ("to_pkcs1", [Some(octets)]) => print_pkcs1(alloc, octets, line),
         ("private_key", _) => print_private(alloc, args, line),
         _ => return false,
     }
@@ -109,14 +115,20 @@ fn private_key_info(alloc: Global, args: Args<'_>) -> Result<Option<PrivateKeyIn
     let [version, _, kind, beside @ ..] = args.words else {
         return Ok(None);
     };
-    let [_, algorithm, _, key, attributes, bits] = args.octets else {
+    let [_, Some(algorithm), _, Some(key), attributes, bits] = args.octets else {
         return Ok(None);
     };
     let [_, has_attributes, has_bits] = beside else {
         return Ok(None);
     };
-    let attributes = attributes_of(alloc, has_attributes, attributes)?;
-    let public_key = bits_of(alloc, has_bits, bits)?;
+    let attributes = match given(has_attributes, attributes)? {
+        Some(element) => Some(Raw::from_der(alloc, element)?),
+        None => None,
+    };
+    let public_key = match given(has_bits, bits)? {
+        Some(bits) => Some(BitString::with_bytes(alloc, bits)?),
+        None => None,
+    };
     let algorithm = AlgorithmIdentifier::from_der(alloc, algorithm)?;
     let key = private_key(alloc, kind, key)?;
     Ok(PrivateKeyInfo::new(version_of(version), algorithm, key, attributes, public_key))
@@ -146,16 +158,11 @@ fn version_of(word: &str) -> PrivateKeyVersion {
     }
 }
 
-fn attributes_of(alloc: Global, word: &str, octets: &[u8]) -> Result<Option<Raw>, DerError> {
-    if word == "none" {
-        return Ok(None);
+/// The octets of a word, none where it is `none`, `Shape` where it is neither that nor one of octets.
+fn given<'a>(word: &str, octets: &'a Option<Vec<u8>>) -> Result<Option<&'a [u8]>, DerError> {
+    match (word, octets) {
+        ("none", _) => Ok(None),
+        (_, Some(octets)) => Ok(Some(octets)),
+        _ => Err(DerError::Shape),
     }
-    Ok(Some(Raw::from_der(alloc, octets)?))
-}
-
-fn bits_of(alloc: Global, word: &str, octets: &[u8]) -> Result<Option<BitString>, AllocError> {
-    if word == "none" {
-        return Ok(None);
-    }
-    Ok(Some(BitString::with_bytes(alloc, octets)?))
 }

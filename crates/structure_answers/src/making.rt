@@ -12,16 +12,16 @@ use x509_types::{AlgorithmIdentifier, NameAttr, SubjectKey, SubjectPublicKeyInfo
 /// Whether there is such a call; the octets of what is put together are printed, and its details.
 pub fn print(alloc: Global, call: &str, args: Args<'_>, line: &mut Line) -> bool {
     match (call, args.octets) {
-        ("algorithm", [oid]) => print_made(alloc, algorithm(alloc, oid, None), line),
-        ("algorithm", [oid, parameters]) => {
+        ("algorithm", [Some(oid)]) => print_made(alloc, algorithm(alloc, oid, None), line),
+        ("algorithm", [Some(oid), Some(parameters)]) => {
             print_made(alloc, algorithm(alloc, oid, Some(parameters)), line);
         }
-        ("algorithm_null", [oid]) => print_made(alloc, algorithm_null(alloc, oid), line),
-        ("ed25519_key", [bits]) => print_made(alloc, ed25519_key(alloc, bits), line),
-        ("public_key", [_, algorithm, bits]) => {
+        ("algorithm_null", [Some(oid)]) => print_made(alloc, algorithm_null(alloc, oid), line),
+        ("ed25519_key", [Some(bits)]) => print_made(alloc, ed25519_key(alloc, bits), line),
+        ("public_key", [_, Some(algorithm), Some(bits)]) => {
             print_public_key(alloc, args.words, (algorithm, bits), line);
         }
-        ("common_name", [text]) => print_made(alloc, common_name(alloc, text), line),
+        ("common_name", [Some(text)]) => print_made(alloc, common_name(alloc, text), line),
         ("name", _) => print_made(alloc, name(alloc, args.words), line),
         _ => return false,
     }

@@ -7,11 +7,11 @@ use row_answers::Line;
 use std::alloc::{AllocError, Global};
 
 /// Whether there is such a call; what a curve, an algorithm or a point is, is printed.
-pub fn print(alloc: Global, call: &str, args: &[Vec<u8>], line: &mut Line) -> bool {
+pub fn print(alloc: Global, call: &str, args: &[Option<Vec<u8>>], line: &mut Line) -> bool {
     match (call, args) {
-        ("curve", [oid]) => print_curve(alloc, oid, line),
-        ("algorithm", [oid]) => print_algorithm(alloc, oid, line),
-        ("coordinates", [oid, x, y]) => print_point(alloc, oid, (x, y), line),
+        ("curve", [Some(oid)]) => print_curve(alloc, oid, line),
+        ("algorithm", [Some(oid)]) => print_algorithm(alloc, oid, line),
+        ("coordinates", [Some(oid), Some(x), Some(y)]) => print_point(alloc, oid, (x, y), line),
         _ => return false,
     }
     true

@@ -41,11 +41,25 @@ pub fn print_refusal(why: NoKey, line: &mut Line) -> bool {
 /// The key that is read or made.
 pub fn key_of(alloc: Global, call: &str, args: Args<'_>) -> Result<PrivateKey, NoKey> {
     match (call, args.octets) {
-        ("pkcs8", [octets]) => told(PrivateKey::from_pkcs8(alloc, octets, &DemoScheme::new())),
-        ("pkcs1", [octets]) => told(PrivateKey::from_pkcs1(alloc, octets)),
-        ("sec1", [octets]) => told(PrivateKey::from_ec_der(alloc, octets, &DemoScheme::new())),
-        (_, [curve, octets]) => on_curve(alloc, call, curve, octets),
-        (_, [id, secret, rest @ ..]) => of_parts(alloc, call, (id, secret), rest, args.words),
+        ("pkcs8", [Some(octets)]) => told(PrivateKey::from_pkcs8(
+            alloc,
+            octets,
+            &DemoScheme::new(),
+        )),
+        ("pkcs1", [Some(octets)]) => told(PrivateKey::from_pkcs1(alloc, octets)),
+        ("sec1", [Some(octets)]) => told(PrivateKey::from_ec_der(
+            alloc,
+            octets,
+            &DemoScheme::new(),
+        )),
+        (_, [Some(curve), Some(octets)]) => on_curve(alloc, call, curve, octets),
+        (_, [Some(id), Some(secret), rest @ ..]) => of_parts(
+            alloc,
+            call,
+            (id, secret),
+            rest,
+            args.words,
+        ),
         _ => Err(NoKey::NoSuchCall),
     }
 }
@@ -94,25 +108,26 @@ fn of_parts(
     alloc: Global,
     call: &str,
     (id, secret): (&[u8], &[u8]),
-    rest: &[Vec<u8>],
+    rest: &[Option<Vec<u8>>],
     words: &[&str],
 ) -> Result<PrivateKey, NoKey> {
     match (call, rest) {
-        ("coordinates", [x, y]) => {
+        ("coordinates", [Some(x), Some(y)]) => {
             let curve = known_curve(id)?;
             told(PrivateKey::from_ec_components(alloc, curve, secret, x, y))
         }
-        ("ec_encoded", [point]) => ec_encoded(alloc, id, secret, given(words, point)),
-        ("ed_encoded", [key]) => ed_encoded(alloc, id, secret, given(words, key)),
+        ("ec_encoded", [point]) => ec_encoded(alloc, id, secret, given(words, point)?),
+        ("ed_encoded", [key]) => ed_encoded(alloc, id, secret, given(words, key)?),
         _ => Err(NoKey::NoSuchCall),
     }
 }
 
 /// The octets of the third word, none where it is `none`.
-fn given<'a>(words: &[&str], octets: &'a [u8]) -> Option<&'a [u8]> {
-    match words {
-        [_, _, "none"] => None,
-        _ => Some(octets),
+fn given<'a>(words: &[&str], octets: &'a Option<Vec<u8>>) -> Result<Option<&'a [u8]>, NoKey> {
+    match (words, octets) {
+        ([_, _, "none"], _) => Ok(None),
+        (_, Some(octets)) => Ok(Some(octets)),
+        _ => Err(NoKey::NoSuchCall),
     }
 }
 

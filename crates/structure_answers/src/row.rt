@@ -17,7 +17,7 @@ pub fn answer(alloc: Global, text: &str) -> Result<String> {
 }
 
 /// Whether there is such a call, whose answer is printed.
-fn print(alloc: Global, words: &[&str], octets: &[Vec<u8>], line: &mut Line) -> bool {
+fn print(alloc: Global, words: &[&str], octets: &[Option<Vec<u8>>], line: &mut Line) -> bool {
     match (words, octets) {
         ([subject, call, words @ ..], [_, _, octets @ ..]) => {
             print_call(alloc, (subject, call), Args { words, octets }, line)
@@ -30,7 +30,7 @@ fn print(alloc: Global, words: &[&str], octets: &[Vec<u8>], line: &mut Line) -> 
 #[derive(Clone, Copy)]
 pub struct Args<'a> {
     pub words: &'a [&'a str],
-    pub octets: &'a [Vec<u8>],
+    pub octets: &'a [Option<Vec<u8>>],
 }
 
 fn print_call(

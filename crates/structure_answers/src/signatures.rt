@@ -40,7 +40,7 @@ fn print_use(
     line: &mut Line,
 ) -> bool {
     match (call, args.words, args.octets) {
-        ("sign", [_, _, call, words @ ..], [_, message, _, octets @ ..]) => {
+        ("sign", [_, _, call, words @ ..], [_, Some(message), _, octets @ ..]) => {
             print_sign(
                 alloc,
                 algorithm,
@@ -50,7 +50,7 @@ fn print_use(
                 line,
             )
         }
-        ("verify", _, [_, key, message, signature]) => {
+        ("verify", _, [_, Some(key), Some(message), Some(signature)]) => {
             print_verify(alloc, algorithm, key, (message, signature), line);
             true
         }
@@ -60,8 +60,8 @@ fn print_use(
 
 /// The algorithm and its digest by an identifier, and the identifier that is written for it; or the
 /// text of the refusal.
-fn print_named(alloc: Global, octets: &[Vec<u8>], line: &mut Line) {
-    let [octets] = octets else {
+fn print_named(alloc: Global, octets: &[Option<Vec<u8>>], line: &mut Line) {
+    let [Some(octets)] = octets else {
         return;
     };
     match AlgorithmIdentifier::from_der(alloc, octets) {
@@ -90,7 +90,12 @@ fn print_written(alloc: Global, algorithm: SignatureAlgorithm, line: &mut Line) 
 }
 
 /// The identifier of a key, or the text of the refusal.
-fn print_key_id(alloc: Global, (method, hash): (&str, &str), octets: &[Vec<u8>], line: &mut Line) {
+fn print_key_id(
+    alloc: Global,
+    (method, hash): (&str, &str),
+    octets: &[Option<Vec<u8>>],
+    line: &mut Line,
+) {
     let Some(hash) = hash_of(hash) else {
         return;
     };
@@ -104,7 +109,7 @@ fn print_key_id(alloc: Global, (method, hash): (&str, &str), octets: &[Vec<u8>],
     }
 }
 
-fn print_id(alloc: Global, method: KeyIdGenMethod, octets: &[Vec<u8>], line: &mut Line) {
+fn print_id(alloc: Global, method: KeyIdGenMethod, octets: &[Option<Vec<u8>>], line: &mut Line) {
     match public_key(alloc, octets) {
         Ok(Some(key)) => line.made(method.generate_from(alloc, &key)),
         Ok(None) => line.word("no key"),
@@ -114,10 +119,10 @@ fn print_id(alloc: Global, method: KeyIdGenMethod, octets: &[Vec<u8>], line: &mu
 
 /// The key of these octets; or of the octets of its algorithm, on a curve 25519 or 448, and of its
 /// bits, which can also be one that isn't written.
-fn public_key(alloc: Global, octets: &[Vec<u8>]) -> Result<Option<PublicKey>, KeyError> {
+fn public_key(alloc: Global, octets: &[Option<Vec<u8>>]) -> Result<Option<PublicKey>, KeyError> {
     match octets {
-        [_, _, octets] => Ok(Some(PublicKey::from_der(alloc, octets)?)),
-        [_, _, algorithm, bits] => match key_of_bits(alloc, algorithm, bits) {
+        [_, _, Some(octets)] => Ok(Some(PublicKey::from_der(alloc, octets)?)),
+        [_, _, Some(algorithm), Some(bits)] => match key_of_bits(alloc, algorithm, bits) {
             Ok(key) => Ok(key),
             Err(DerError::Memory) => Err(KeyError::Memory),
             Err(_) => Ok(None),

@@ -14,8 +14,8 @@ use x509_types::{
 };
 
 /// Whether there is such a kind of structure; what is read of an element is printed.
-pub fn print(alloc: Global, kind: &str, args: &[Vec<u8>], line: &mut Line) -> bool {
-    let [element] = args else {
+pub fn print(alloc: Global, kind: &str, args: &[Option<Vec<u8>>], line: &mut Line) -> bool {
+    let [Some(element)] = args else {
         return false;
     };
     match kind {
@@ -48,8 +48,8 @@ fn print_key(alloc: Global, kind: &str, element: &[u8], line: &mut Line) -> bool
 }
 
 /// Whether there is such a kind of structure; whether two elements spell equal values is printed.
-pub fn print_unlike(alloc: Global, kind: &str, args: &[Vec<u8>], line: &mut Line) -> bool {
-    let [one, other] = args else {
+pub fn print_unlike(alloc: Global, kind: &str, args: &[Option<Vec<u8>>], line: &mut Line) -> bool {
+    let [Some(one), Some(other)] = args else {
         return false;
     };
     let equal = match kind {

@@ -14,7 +14,7 @@ use std::alloc::{AllocError, Global};
 /// curve 25519 or 448, is printed.
 pub fn print(alloc: Global, call: &str, args: Args<'_>, line: &mut Line) -> bool {
     match (call, args.words, args.octets) {
-        ("public", _, [octets]) => print_public(alloc, octets, line),
+        ("public", _, [Some(octets)]) => print_public(alloc, octets, line),
         ("private", [call, words @ ..], [_, octets @ ..]) => {
             return print_private(alloc, call, Args { words, octets }, line);
         }
