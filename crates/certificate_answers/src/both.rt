@@ -98,6 +98,6 @@ fn print_refusal(error: DerError, line: &mut Line) {
 fn print_digest(fields: Line, line: &mut Line) {
     match fields.into_text() {
         Ok(text) => line.octets(&Sha256::digest(text.as_bytes())[..16]),
-        Err(error) => line.shown(&error),
+        Err(why) => line.lose(why),
     }
 }

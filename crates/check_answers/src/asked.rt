@@ -17,35 +17,47 @@ pub struct Asked<'a> {
 }
 
 pub fn asked_of(alloc: Global, text: &str) -> Result<Asked<'_>> {
-    let mut words = text.split(',');
-    let (Some(flags), Some(hash), Some(lower), Some(upper), Some(change)) = (
-        words.next(),
-        words.next(),
-        words.next(),
-        words.next(),
-        words.next(),
-    ) else {
+    let words: Vec<&str> = text.split(',').collect(alloc)?;
+    let [flags, hash, lower, upper, change] = words.as_slice() else {
         bail!("what is asked has five words");
     };
     let date = dates_of(lower, upper)?;
     let file_hash = hash_of(alloc, hash)?;
     Ok(Asked {
-        policy: policy_of(flags.as_bytes(), file_hash, date),
-        change,
+        policy: policy_of(flags, file_hash, date)?,
+        change: *change,
     })
 }
 
 /// A flag is on where its letter stands there.
-fn policy_of(flags: &[u8], file_hash: Option<Octets>, date: DateCheck) -> Policy {
-    Policy {
-        basic: flags.contains(&b'b'),
+fn policy_of(flags: &str, file_hash: Option<Octets>, date: DateCheck) -> Result<Policy> {
+    let mut policy = Policy {
+        basic: false,
         file_hash,
-        signing: flags.contains(&b's'),
-        not_before: flags.contains(&b'f'),
-        not_after: flags.contains(&b'l'),
-        chain: flags.contains(&b'c'),
+        signing: false,
+        not_before: false,
+        not_after: false,
+        chain: false,
         date,
+    };
+    if flags != "-" {
+        for flag in flags.bytes() {
+            set(&mut policy, flag)?;
+        }
     }
+    Ok(policy)
+}
+
+fn set(policy: &mut Policy, flag: u8) -> Result<()> {
+    match flag {
+        b'b' => policy.basic = true,
+        b's' => policy.signing = true,
+        b'f' => policy.not_before = true,
+        b'l' => policy.not_after = true,
+        b'c' => policy.chain = true,
+        _ => bail!("no flag has such a letter"),
+    }
+    Ok(())
 }
 
 fn hash_of(alloc: Global, word: &str) -> Result<Option<Octets>> {

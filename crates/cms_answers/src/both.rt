@@ -5,20 +5,18 @@ use crate::structures::is_written;
 use crate::view;
 use cms_types::{Pkcs7Certificate, SignedView};
 use der_core::{Cursor, DerError, Structure};
-use row_answers::Line;
+use row_answers::{Line, Unanswered};
 use sha2::{Digest, Sha256};
-use std::alloc::{AllocError, Global};
+use std::alloc::Global;
 
-/// Whether there is such a kind of structure; the answer of the value that is kept is printed, a bar,
-/// and that of the one that is lent.
-pub fn print(alloc: Global, kind: &str, octets: &[u8], line: &mut Line) -> bool {
+/// The answer of the value that is kept, a bar, and that of the one that is lent.
+pub fn print(alloc: Global, kind: &str, octets: &[u8], line: &mut Line) {
     if kind != "pkcs7" {
-        return false;
+        return line.no_call();
     }
     print_kept::<Pkcs7Certificate>(alloc, octets, line);
     line.word("|");
     print_lent(alloc, octets, line);
-    true
 }
 
 /// Whether the value comes back as it was read, and the digest of its fields; or the refusal.
@@ -34,7 +32,7 @@ fn print_value<T: Structure + Details>(alloc: Global, octets: &[u8], value: &T, 
     print_digest(details_of(alloc, value), line);
 }
 
-fn details_of<T: Details>(alloc: Global, value: &T) -> Result<String, AllocError> {
+fn details_of<T: Details>(alloc: Global, value: &T) -> Result<String, Unanswered> {
     let mut fields = Line::new(alloc);
     value.print(&mut fields);
     fields.into_text()
@@ -52,7 +50,7 @@ fn print_lent(alloc: Global, octets: &[u8], line: &mut Line) {
     }
 }
 
-fn fields_of(alloc: Global, view: SignedView<'_>) -> Result<String, AllocError> {
+fn fields_of(alloc: Global, view: SignedView<'_>) -> Result<String, Unanswered> {
     let mut fields = Line::new(alloc);
     view::print(view, &mut fields);
     fields.into_text()
@@ -66,9 +64,9 @@ fn print_refused(error: DerError, line: &mut Line) {
 }
 
 /// The first half of the SHA-256 of a text.
-fn print_digest(text: Result<String, AllocError>, line: &mut Line) {
+fn print_digest(text: Result<String, Unanswered>, line: &mut Line) {
     match text {
         Ok(text) => line.octets(&Sha256::digest(text.as_bytes())[..16]),
-        Err(error) => line.shown(&error),
+        Err(why) => line.lose(why),
     }
 }

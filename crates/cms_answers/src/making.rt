@@ -1,36 +1,32 @@
 //! Values that are made of texts and names, and written.
 
-use crate::row::Args;
 use cms_types::{SpcString, new_sha};
 use der_core::Structure;
-use row_answers::Line;
+use row_answers::{Args, Line, text_of};
 use sig_core::ShaVariant;
 use std::alloc::Global;
 
-/// Whether there is such a kind of values; what is made is printed.
-pub fn print(alloc: Global, kind: &str, args: Args<'_>, line: &mut Line) -> bool {
+/// What is made.
+pub fn print(alloc: Global, kind: &str, args: Args<'_>, line: &mut Line) {
     match (kind, args.words, args.octets) {
-        ("string", _, [Some(text)]) => print_string(alloc, text, line),
+        ("string", _, [Some(octets)]) => match text_of(octets) {
+            Ok(text) => print_string(alloc, text, line),
+            Err(why) => line.lose(why),
+        },
         ("sha", [name], _) => match variant(name) {
             Some(variant) => print_sha(alloc, variant, line),
-            None => return false,
+            None => line.no_call(),
         },
-        _ => return false,
+        _ => line.no_call(),
     }
-    true
 }
 
 /// The octets of a string of a text, or what the error is called that is answered for it.
-fn print_string(alloc: Global, text: &[u8], line: &mut Line) {
-    match SpcString::from_text(alloc, text_of(text)) {
+fn print_string(alloc: Global, text: &str, line: &mut Line) {
+    match SpcString::from_text(alloc, text) {
         Ok(string) => line.made(string.to_der(alloc)),
         Err(error) => line.named(&error),
     }
-}
-
-/// The text of octets, none where they have none.
-fn text_of(octets: &[u8]) -> &str {
-    str::from_utf8(octets).unwrap_or("")
 }
 
 /// The octets of the identifier of a digest algorithm.

@@ -10,15 +10,14 @@ use row_answers::Line;
 use std::alloc::{AllocError, Global};
 use std::slice;
 
-/// Whether there is such a kind of members; what is answered of them is printed.
-pub fn print(alloc: Global, kind: &str, octets: &[u8], line: &mut Line) -> bool {
+/// What is answered of members.
+pub fn print(alloc: Global, kind: &str, octets: &[u8], line: &mut Line) {
     match kind {
         "signer_info" => print_signers(alloc, octets, line),
         "pkcs7" => print_tokens(alloc, octets, line),
         "within" => print_within(alloc, octets, line),
-        _ => return false,
+        _ => line.no_call(),
     }
-    true
 }
 
 /// How many members there are of one signer, and what the first and the second are.

@@ -1,39 +1,33 @@
 //! Rows, and who answers them.
 
 use crate::{both, making, members, structures};
-use anyhow::{Result, bail};
-use row_answers::{Line, octets_of_words};
+use anyhow::Result;
+use row_answers::{Args, Line, Row};
 use std::alloc::Global;
 
 /// The answer to a row.
 pub fn answer(alloc: Global, text: &str) -> Result<String> {
-    let words: Vec<&str> = text.split(' ').collect(alloc)?;
-    let octets = octets_of_words(alloc, &words)?;
+    let row = Row::of(alloc, text)?;
     let mut line = Line::new(alloc);
-    if !print(alloc, &words, &octets, &mut line) {
-        bail!("no call has the row {text}");
-    }
-    Ok(line.into_text()?)
+    print(alloc, row.args(), &mut line);
+    line.answer_to(text)
 }
 
-/// The words behind a call, and the octets of each.
-#[derive(Clone, Copy)]
-pub struct Args<'a> {
-    pub words: &'a [&'a str],
-    pub octets: &'a [Option<Vec<u8>>],
-}
-
-/// Whether there is such a call, whose answer is printed.
-fn print(alloc: Global, words: &[&str], octets: &[Option<Vec<u8>>], line: &mut Line) -> bool {
-    match (words, octets) {
-        ([call, kind, words @ ..], [_, _, octets @ ..]) => {
-            print_call(alloc, (call, kind), Args { words, octets }, line)
-        }
-        _ => false,
+fn print(alloc: Global, args: Args<'_>, line: &mut Line) {
+    match args.split() {
+        Some((call, args)) => print_kind(alloc, call, args, line),
+        None => line.no_call(),
     }
 }
 
-fn print_call(alloc: Global, (call, kind): (&str, &str), args: Args<'_>, line: &mut Line) -> bool {
+fn print_kind(alloc: Global, call: &str, args: Args<'_>, line: &mut Line) {
+    match args.split() {
+        Some((kind, args)) => print_call(alloc, (call, kind), args, line),
+        None => line.no_call(),
+    }
+}
+
+fn print_call(alloc: Global, (call, kind): (&str, &str), args: Args<'_>, line: &mut Line) {
     match (call, args.octets) {
         ("structure", [Some(element)]) => structures::print(alloc, kind, element, line),
         ("unlike", [Some(one), Some(other)]) => structures::print_unlike(
@@ -45,6 +39,6 @@ fn print_call(alloc: Global, (call, kind): (&str, &str), args: Args<'_>, line: &
         ("both", [Some(octets)]) => both::print(alloc, kind, octets, line),
         ("members", [Some(octets)]) => members::print(alloc, kind, octets, line),
         ("make", _) => making::print(alloc, kind, args, line),
-        _ => false,
+        _ => line.no_call(),
     }
 }

@@ -10,8 +10,8 @@ use der_core::{DerError, DerFault, Malformed, Structure};
 use row_answers::{Line, are_equal, comes_back, value_of};
 use std::alloc::Global;
 
-/// Whether there is such a kind of structure; what is read of an element is printed.
-pub fn print(alloc: Global, kind: &str, element: &[u8], line: &mut Line) -> bool {
+/// What is read of an element.
+pub fn print(alloc: Global, kind: &str, element: &[u8], line: &mut Line) {
     match kind {
         "digest_info" => read_of::<DigestInfo>(alloc, element, line),
         "attribute" => read_of::<SpcAttributeTypeAndOptionalValue>(alloc, element, line),
@@ -20,13 +20,12 @@ pub fn print(alloc: Global, kind: &str, element: &[u8], line: &mut Line) -> bool
         "link" => read_of::<SpcLink>(alloc, element, line),
         "opus_info" => read_of::<SpcSpOpusInfo>(alloc, element, line),
         "content_info" => read_of::<EncapsulatedContentInfo>(alloc, element, line),
-        _ => return print_signed(alloc, kind, element, line),
+        _ => print_signed(alloc, kind, element, line),
     }
-    true
 }
 
 /// The same of lists of trust and of what stands in signed data.
-fn print_signed(alloc: Global, kind: &str, element: &[u8], line: &mut Line) -> bool {
+fn print_signed(alloc: Global, kind: &str, element: &[u8], line: &mut Line) {
     match kind {
         "trust_list" => read_of::<Ctl>(alloc, element, line),
         "entry" => back_of::<CTLEntry>(alloc, element, line),
@@ -36,18 +35,12 @@ fn print_signed(alloc: Global, kind: &str, element: &[u8], line: &mut Line) -> b
         "signer_info" => read_of::<SignerInfo>(alloc, element, line),
         "signed_data" => read_of::<SignedData>(alloc, element, line),
         "pkcs7" => read_of::<Pkcs7Certificate>(alloc, element, line),
-        _ => return false,
+        _ => line.no_call(),
     }
-    true
 }
 
-/// Whether there is such a kind of structure; whether two elements spell equal values is printed.
-pub fn print_unlike(
-    alloc: Global,
-    kind: &str,
-    (one, other): (&[u8], &[u8]),
-    line: &mut Line,
-) -> bool {
+/// Whether two elements spell equal values.
+pub fn print_unlike(alloc: Global, kind: &str, (one, other): (&[u8], &[u8]), line: &mut Line) {
     let equal = match kind {
         "digest_info" => are_equal::<DigestInfo>(alloc, one, other),
         "attribute" => are_equal::<SpcAttributeTypeAndOptionalValue>(alloc, one, other),
@@ -62,14 +55,9 @@ pub fn print_unlike(
         "signer_info" => are_equal::<SignerInfo>(alloc, one, other),
         "signed_data" => are_equal::<SignedData>(alloc, one, other),
         "pkcs7" => are_equal::<Pkcs7Certificate>(alloc, one, other),
-        _ => return false,
+        _ => return line.no_call(),
     };
-    match equal {
-        Ok(true) => line.word("equal"),
-        Ok(false) => line.word("unlike"),
-        Err(error) => line.shown(&error),
-    }
-    true
+    line.equal(equal);
 }
 
 /// Whether the value comes back as it was read, and its details; or that there is none.

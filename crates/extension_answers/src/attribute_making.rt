@@ -7,8 +7,8 @@ use row_answers::{Line, value_of};
 use std::alloc::Global;
 use x509_types::{Attribute, AttributeValues, Extensions};
 
-/// Whether there is such a call; the details of the attribute are printed, or that there is none.
-pub fn print(alloc: Global, call: &str, octets: &[Option<Vec<u8>>], line: &mut Line) -> bool {
+/// The details of the attribute, or that there is none.
+pub fn print(alloc: Global, call: &str, octets: &[Option<Vec<u8>>], line: &mut Line) {
     match (call, octets) {
         ("extension_request", [Some(extensions)]) => {
             print_made(alloc, extension_request(alloc, extensions), line);
@@ -18,9 +18,8 @@ pub fn print(alloc: Global, call: &str, octets: &[Option<Vec<u8>>], line: &mut L
             with_values_of(alloc, ty, element),
             line,
         ),
-        _ => return false,
+        _ => line.no_call(),
     }
-    true
 }
 
 /// An attribute, whether there is none, or why it isn't known.

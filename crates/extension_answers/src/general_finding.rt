@@ -7,18 +7,17 @@ use row_answers::{Line, equals, value_of};
 use std::alloc::{AllocError, Global};
 use x509_types::RawGeneralNames;
 
-/// Whether there is such a kind of lists. How many names an element spells is printed, the first of a
-/// host and the first of the directory among them, and whether the list of its names is equal to it.
-pub fn print(alloc: Global, kind: &str, element: &[u8], line: &mut Line) -> bool {
+/// How many names an element spells, the first of a host and the first of the directory among them, and
+/// whether the list of its names is equal to it.
+pub fn print(alloc: Global, kind: &str, element: &[u8], line: &mut Line) {
     if kind != "general_names" {
-        return false;
+        return line.no_call();
     }
     match count_of(alloc, element) {
         Ok(count) => line.shown(&count),
         Err(error) => line.shown(&error),
     }
     print_names(alloc, element, line);
-    true
 }
 
 fn print_names(alloc: Global, element: &[u8], line: &mut Line) {

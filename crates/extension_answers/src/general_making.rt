@@ -4,32 +4,50 @@ use crate::general_details::print_name;
 use asn1_types::{CharSetError, ObjectIdentifier};
 use der_core::{DerError, Structure};
 use names_core::{DirectoryName, GeneralName};
-use row_answers::{Line, equals};
+use row_answers::{Line, Unanswered, equals, text_of};
 use std::alloc::{AllocError, Global};
 use std::fmt;
 use x509_types::{DirectoryString, RawGeneralName};
 
-/// Whether there is such a call; the octets of a name are printed, its details, and whether it comes
-/// back from its raw name, or what the error is called that is answered for it.
-pub fn print(alloc: Global, call: &str, octets: &[Option<Vec<u8>>], line: &mut Line) -> bool {
+/// The octets of a name, its details, and whether it comes back from its raw name, or what the error is
+/// called that is answered for it.
+pub fn print(alloc: Global, call: &str, octets: &[Option<Vec<u8>>], line: &mut Line) {
     match (call, octets) {
-        ("rfc822_name" | "dns_name" | "uri", [Some(text)]) => {
-            print_made(alloc, of_text(alloc, call, text_of(text)), line);
-        }
-        ("directory_name", [Some(text)]) => print_made(alloc, directory_name(alloc, text), line),
-        ("edi_party_name", [Some(party)]) => {
-            print_made(alloc, edi_party_name(alloc, party, None), line);
-        }
+        ("rfc822_name" | "dns_name" | "uri" | "directory_name" | "edi_party_name", [Some(text)]) =>
+            { print_of_text(alloc, call, text, line) }
         ("edi_party_name", [Some(party), Some(assigner)]) => {
-            print_made(alloc, edi_party_name(alloc, party, Some(assigner)), line);
+            print_party(alloc, party, assigner, line)
         }
         ("ip_address", [Some(address)]) => {
             print_made(alloc, GeneralName::new_ip_address(alloc, address), line);
         }
         ("registered_id", [Some(oid)]) => print_made(alloc, registered_id(alloc, oid), line),
-        _ => return false,
+        _ => line.no_call(),
     }
-    true
+}
+
+fn print_of_text(alloc: Global, call: &str, octets: &[u8], line: &mut Line) {
+    match text_of(octets) {
+        Ok(text) => print_named(alloc, call, text, line),
+        Err(why) => line.lose(why),
+    }
+}
+
+fn print_named(alloc: Global, call: &str, text: &str, line: &mut Line) {
+    match call {
+        "directory_name" => print_made(alloc, directory_name(alloc, text), line),
+        "edi_party_name" => print_made(alloc, edi_party_name(alloc, text, None), line),
+        _ => print_made(alloc, of_text(alloc, call, text), line),
+    }
+}
+
+fn print_party(alloc: Global, party: &[u8], assigner: &[u8], line: &mut Line) {
+    match (text_of(party), text_of(assigner)) {
+        (Ok(party), Ok(assigner)) => {
+            print_made(alloc, edi_party_name(alloc, party, Some(assigner)), line)
+        }
+        _ => line.lose(Unanswered::NoText),
+    }
 }
 
 fn print_made<E: fmt::Debug + Drop>(alloc: Global, made: Result<GeneralName, E>, line: &mut Line) {
@@ -50,27 +68,22 @@ fn of_text(alloc: Global, call: &str, text: &str) -> Result<GeneralName, CharSet
     }
 }
 
-/// The text of octets, none where they have none.
-fn text_of(octets: &[u8]) -> &str {
-    str::from_utf8(octets).unwrap_or("")
-}
-
 /// The name of one common name.
-fn directory_name(alloc: Global, text: &[u8]) -> Result<GeneralName, AllocError> {
-    let name = DirectoryName::new_common_name(alloc, text_of(text))?;
+fn directory_name(alloc: Global, text: &str) -> Result<GeneralName, AllocError> {
+    let name = DirectoryName::new_common_name(alloc, text)?;
     Ok(GeneralName::new_directory_name(name))
 }
 
 fn edi_party_name(
     alloc: Global,
-    party: &[u8],
-    assigner: Option<&[u8]>,
+    party: &str,
+    assigner: Option<&str>,
 ) -> Result<GeneralName, AllocError> {
     let assigner = match assigner {
-        Some(assigner) => Some(DirectoryString::from_text(alloc, text_of(assigner))?),
+        Some(assigner) => Some(DirectoryString::from_text(alloc, assigner)?),
         None => None,
     };
-    let party = DirectoryString::from_text(alloc, text_of(party))?;
+    let party = DirectoryString::from_text(alloc, party)?;
     Ok(GeneralName::new_edi_party_name(party, assigner))
 }
 

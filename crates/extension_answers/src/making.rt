@@ -1,16 +1,14 @@
 //! Extensions that are put together of parts.
 
 use crate::details::Details;
-use crate::row::Args;
 use asn1_types::ObjectIdentifier;
-use der_core::{DerError, Structure};
-use row_answers::Line;
+use der_core::Structure;
+use row_answers::{Args, Line, NoValue, Unanswered, flag_of, number_of};
 use std::alloc::Global;
 use x509_types::{ExtendedKeyUsage, Extension, KeyUsage, OidList, RawGeneralNames};
 
-/// Whether there is such a call; the octets of the extension are printed, and its details, or that
-/// there is none.
-pub fn print(alloc: Global, call: &str, args: Args<'_>, line: &mut Line) -> bool {
+/// The octets of the extension, and its details, or that there is none.
+pub fn print(alloc: Global, call: &str, args: Args<'_>, line: &mut Line) {
     match (call, args.words) {
         ("basic_constraints", [ca, pathlen]) => {
             print_made(alloc, basic_constraints(alloc, ca, pathlen), line);
@@ -19,13 +17,12 @@ pub fn print(alloc: Global, call: &str, args: Args<'_>, line: &mut Line) -> bool
         ("critical_key_usage", [flags]) => {
             print_made(alloc, critical_key_usage(alloc, flags), line);
         }
-        _ => return print_of_octets(alloc, call, args.octets, line),
+        _ => print_of_octets(alloc, call, args.octets, line),
     }
-    true
 }
 
 /// The same of an extension that is put together of octets.
-fn print_of_octets(alloc: Global, call: &str, octets: &[Option<Vec<u8>>], line: &mut Line) -> bool {
+fn print_of_octets(alloc: Global, call: &str, octets: &[Option<Vec<u8>>], line: &mut Line) {
     match (call, octets) {
         ("non_critical", [Some(octets)]) => print_made(alloc, non_critical(alloc, octets), line),
         ("extended_key_usage", purposes) => {
@@ -38,13 +35,12 @@ fn print_of_octets(alloc: Global, call: &str, octets: &[Option<Vec<u8>>], line: 
             print_made(alloc, key_identifier(alloc, call, key), line);
         }
         ("raw", [Some(oid), Some(octets)]) => print_made(alloc, raw(alloc, oid, octets), line),
-        _ => return false,
+        _ => line.no_call(),
     }
-    true
 }
 
 /// An extension, or why there is none.
-type Made = Result<Extension, DerError>;
+type Made = Result<Extension, NoValue>;
 
 fn print_made(alloc: Global, made: Made, line: &mut Line) {
     match made {
@@ -52,7 +48,8 @@ fn print_made(alloc: Global, made: Made, line: &mut Line) {
             print_extension(alloc, &extension, line);
             drop(extension);
         }
-        Err(error) => line.refused(error),
+        Err(NoValue::Refused(error)) => line.refused(error),
+        Err(NoValue::Unanswered(why)) => line.lose(why),
     }
 }
 
@@ -62,55 +59,57 @@ fn print_extension(alloc: Global, extension: &Extension, line: &mut Line) {
     extension.print(alloc, line);
 }
 
-/// Whether it is an authority, and a path length, none where the word isn't one.
+/// Whether it is an authority, and a path length, `none` for none.
 fn basic_constraints(alloc: Global, ca: &str, pathlen: &str) -> Made {
-    Extension::new_basic_constraints(alloc, ca == "true", pathlen.parse::<u8>().ok())
+    let ca = flag_of(ca)?;
+    let pathlen = match pathlen {
+        "none" => None,
+        number => Some(number_of(number)?),
+    };
+    Ok(Extension::new_basic_constraints(alloc, ca, pathlen)?)
 }
 
-/// A usage by its flags as a number, none of them where the word isn't one.
+/// A usage by its flags as a number.
 fn key_usage(alloc: Global, flags: &str) -> Made {
-    let flags = flags.parse::<u16>().unwrap_or(0);
-    Extension::new_key_usage(alloc, KeyUsage::new(alloc, flags)?)
+    let usage = KeyUsage::new(alloc, number_of(flags)?)?;
+    Ok(Extension::new_key_usage(alloc, usage)?)
 }
 
 fn critical_key_usage(alloc: Global, flags: &str) -> Made {
-    key_usage(alloc, flags).map(Extension::into_critical)
+    Ok(key_usage(alloc, flags)?.into_critical())
 }
 
 fn non_critical(alloc: Global, octets: &[u8]) -> Made {
-    Extension::from_der(alloc, octets).map(Extension::into_non_critical)
+    Ok(Extension::from_der(alloc, octets)?.into_non_critical())
 }
 
-/// The purposes, `Shape` where the word of one isn't one of octets.
 fn extended_key_usage(alloc: Global, purposes: &[Option<Vec<u8>>]) -> Made {
     let mut list = OidList::new(alloc);
     for oid in purposes {
-        let Some(oid) = oid else {
-            return Err(DerError::Shape);
-        };
+        let oid = oid.as_deref().ok_or(Unanswered::NoOctets)?;
         list.push(ObjectIdentifier::from_content(alloc, oid)?)?;
     }
-    Extension::new_extended_key_usage(alloc, ExtendedKeyUsage::new(list))
+    Ok(Extension::new_extended_key_usage(alloc, ExtendedKeyUsage::new(list))?)
 }
 
 /// Other names of the subject, or of the issuer.
 fn alt_name(alloc: Global, call: &str, names: &[u8]) -> Made {
     let names = RawGeneralNames::from_der(alloc, names)?;
-    match call {
-        "subject_alt_name" => Extension::new_subject_alt_name(alloc, names),
-        _ => Extension::new_issuer_alt_name(alloc, names),
-    }
+    Ok(match call {
+        "subject_alt_name" => Extension::new_subject_alt_name(alloc, names)?,
+        _ => Extension::new_issuer_alt_name(alloc, names)?,
+    })
 }
 
 /// The key identifier of the subject, or of the authority.
 fn key_identifier(alloc: Global, call: &str, key: &[u8]) -> Made {
-    match call {
-        "subject_key" => Extension::new_subject_key_identifier(alloc, key),
-        _ => Extension::new_authority_key_identifier(alloc, key),
-    }
+    Ok(match call {
+        "subject_key" => Extension::new_subject_key_identifier(alloc, key)?,
+        _ => Extension::new_authority_key_identifier(alloc, key)?,
+    })
 }
 
 fn raw(alloc: Global, oid: &[u8], octets: &[u8]) -> Made {
     let oid = ObjectIdentifier::from_content(alloc, oid)?;
-    Extension::new_raw(alloc, oid, octets)
+    Ok(Extension::new_raw(alloc, oid, octets)?)
 }

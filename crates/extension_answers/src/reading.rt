@@ -7,17 +7,16 @@ use row_answers::{Line, are_equal, comes_back, value_of};
 use std::alloc::Global;
 use x509_types::{Attribute, Extension, RawGeneralNames, Validity};
 
-/// Whether there is such a kind of structure; what is read of an element is printed.
-pub fn print(alloc: Global, kind: &str, element: &[u8], line: &mut Line) -> bool {
+/// What is read of an element.
+pub fn print(alloc: Global, kind: &str, element: &[u8], line: &mut Line) {
     match kind {
         "extension" => read_of::<Extension>(alloc, element, line),
         "general_names" => read_of::<RawGeneralNames>(alloc, element, line),
         "validity" => read_of::<Validity>(alloc, element, line),
         "valued_attribute" => read_of::<Attribute>(alloc, element, line),
         "request" => read_of::<CertificationRequest>(alloc, element, line),
-        _ => return false,
+        _ => line.no_call(),
     }
-    true
 }
 
 /// Whether the value comes back as it was read, and its details; or that there is none.
@@ -38,25 +37,15 @@ fn print_value<T: Structure + PartialEq + Details>(
     value.print(alloc, line);
 }
 
-/// Whether there is such a kind of structure; whether two elements spell equal values is printed.
-pub fn print_unlike(
-    alloc: Global,
-    kind: &str,
-    (one, other): (&[u8], &[u8]),
-    line: &mut Line,
-) -> bool {
+/// Whether two elements spell equal values.
+pub fn print_unlike(alloc: Global, kind: &str, (one, other): (&[u8], &[u8]), line: &mut Line) {
     let equal = match kind {
         "extension" => are_equal::<Extension>(alloc, one, other),
         "general_names" => are_equal::<RawGeneralNames>(alloc, one, other),
         "validity" => are_equal::<Validity>(alloc, one, other),
         "valued_attribute" => are_equal::<Attribute>(alloc, one, other),
         "request" => are_equal::<CertificationRequest>(alloc, one, other),
-        _ => return false,
+        _ => return line.no_call(),
     };
-    match equal {
-        Ok(true) => line.word("equal"),
-        Ok(false) => line.word("unlike"),
-        Err(error) => line.shown(&error),
-    }
-    true
+    line.equal(equal);
 }

@@ -70,7 +70,7 @@ fn print_answers(alloc: Global, rows: &str, out: &mut impl Write) -> Result<()> 
 fn text_of(alloc: Global, row: &str) -> Result<String> {
     let mut line = Line::new(alloc);
     answer(alloc, row, &mut line)?;
-    Ok(line.into_text()?)
+    line.answer_to(row)
 }
 
 /// The line for a row: its scheme, and what is called.

@@ -8,7 +8,7 @@ use der_core::{Octets, Structure};
 use issuing_core::{CertificateBuilder, Csr};
 use key_core::{KeyIdGenMethod, PrivateKey, PublicKey, SignatureAlgorithm};
 use names_core::{DirectoryName, GeneralNames, UtcDate};
-use row_answers::octets_of;
+use row_answers::{flag_of, octets_of};
 use std::alloc::{AllocError, Global};
 use x509_core::Cert;
 use x509_types::{ExtendedKeyUsage, KeyUsage};
@@ -116,11 +116,11 @@ fn alt_name_of(alloc: Global, setter: &str, value: &str) -> Result<Setting> {
 fn plain_of(setter: &str, value: &str) -> Result<PlainSetting> {
     match setter {
         "validity" => validity_of(value),
-        "ca" => Ok(PlainSetting::Authority(value == "true")),
+        "ca" => Ok(PlainSetting::Authority(flag_of(value)?)),
         "pathlen" => Ok(PlainSetting::PathLength(value.parse()?)),
         "signature_hash_type" => Ok(PlainSetting::Algorithm(algorithm_of(value)?)),
         "key_id_gen_method" => Ok(PlainSetting::Method(method_of(value)?)),
-        "inherit" => Ok(PlainSetting::Inherits(value == "true")),
+        "inherit" => Ok(PlainSetting::Inherits(flag_of(value)?)),
         _ => bail!("no setter is called so"),
     }
 }

@@ -72,8 +72,8 @@ pub fn algorithm_of(word: &str) -> Result<SignatureAlgorithm> {
     match word.split_once(':') {
         Some(("rsa", hash)) => Ok(SignatureAlgorithm::RsaPkcs1v15(hash_of(hash)?)),
         Some(("ecdsa", hash)) => Ok(SignatureAlgorithm::Ecdsa(hash_of(hash)?)),
-        None => Ok(SignatureAlgorithm::Ed25519),
-        Some(_) => bail!("no algorithm of signatures is called so"),
+        None if word == "ed25519" => Ok(SignatureAlgorithm::Ed25519),
+        _ => bail!("no algorithm of signatures is called so"),
     }
 }
 

@@ -1,17 +1,19 @@
 //! Lines that are put together word by word.
 
+use crate::unanswered::Unanswered;
 use crate::words::word_of;
+use anyhow::{Result, bail};
 use der_core::DerError;
-use std::alloc::{AllocError, Global};
+use std::alloc::Global;
 use std::fmt;
 
-/// Words, a space between. Where memory runs out, that is kept and told at the end, so that nothing
-/// between has to be asked whether it went well.
+/// Words, a space between. Why the row isn't answered, as where memory ran out, is kept and told at
+/// the end, so that nothing between has to be asked whether it went well.
 #[derive(Drop)]
 pub struct Line {
     alloc: Global,
     text: String,
-    is_whole: bool,
+    lost: Option<Unanswered>,
 }
 
 impl Line {
@@ -20,15 +22,25 @@ impl Line {
         Line {
             alloc,
             text: String::new(alloc),
-            is_whole: true,
+            lost: None,
         }
     }
 
     /// A text right behind what stands there.
     pub fn mark(&mut self, text: &str) {
         if self.text.push_str(text).is_err() {
-            self.is_whole = false;
+            self.lose(Unanswered::Memory);
         }
+    }
+
+    /// The row isn't answered.
+    pub fn lose(&mut self, why: Unanswered) {
+        self.lost = Some(why);
+    }
+
+    /// No call has the row.
+    pub fn no_call(&mut self) {
+        self.lose(Unanswered::NoCall);
     }
 
     /// A word.
@@ -43,7 +55,7 @@ impl Line {
     pub fn octets(&mut self, octets: &[u8]) {
         match word_of(self.alloc, octets) {
             Ok(word) => self.word(word.as_str()),
-            Err(_) => self.is_whole = false,
+            Err(_) => self.lose(Unanswered::Memory),
         }
     }
 
@@ -67,7 +79,7 @@ impl Line {
     pub fn shown<T: fmt::Display>(&mut self, value: &T) {
         match format!(in self.alloc; "{value}") {
             Ok(text) => self.word(text.as_str()),
-            Err(_) => self.is_whole = false,
+            Err(_) => self.lose(Unanswered::Memory),
         }
     }
 
@@ -75,7 +87,7 @@ impl Line {
     pub fn text<T: fmt::Display>(&mut self, value: &T) {
         match format!(in self.alloc; "{value}") {
             Ok(text) => self.octets(text.as_bytes()),
-            Err(_) => self.is_whole = false,
+            Err(_) => self.lose(Unanswered::Memory),
         }
     }
 
@@ -83,7 +95,7 @@ impl Line {
     pub fn named<T: fmt::Debug>(&mut self, value: &T) {
         match format!(in self.alloc; "{value:?}") {
             Ok(text) => self.word(text.as_str()),
-            Err(_) => self.is_whole = false,
+            Err(_) => self.lose(Unanswered::Memory),
         }
     }
 
@@ -104,12 +116,28 @@ impl Line {
         }
     }
 
+    /// `equal` or `unlike`, or why it isn't known.
+    pub fn equal(&mut self, equal: Result<bool, DerError>) {
+        match equal {
+            Ok(true) => self.word("equal"),
+            Ok(false) => self.word("unlike"),
+            Err(error) => self.shown(&error),
+        }
+    }
+
     /// The text of the words.
-    pub fn into_text(self) -> Result<String, AllocError> {
-        if self.is_whole {
-            Ok(self.text)
-        } else {
-            Err(AllocError)
+    pub fn into_text(self) -> Result<String, Unanswered> {
+        match self.lost {
+            None => Ok(self.text),
+            Some(lost) => Err(lost),
+        }
+    }
+
+    /// The text of the words that answer to a row.
+    pub fn answer_to(self, row: &str) -> Result<String> {
+        match self.into_text() {
+            Ok(text) => Ok(text),
+            Err(lost) => bail!("{lost}: {row}"),
         }
     }
 }

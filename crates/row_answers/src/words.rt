@@ -1,40 +1,48 @@
 //! The words of a row.
 
-use anyhow::{Context, Result};
+use crate::unanswered::Unanswered;
 use hex::FromHexError;
 use std::alloc::{AllocError, Global};
+use std::str::FromStr;
 
 /// The octets of a word in hexadecimal digits, `-` for none.
-pub fn octets_of(alloc: Global, word: &str) -> Result<Vec<u8>> {
+pub fn octets_of(alloc: Global, word: &str) -> Result<Vec<u8>, Unanswered> {
     if word == "-" {
         return Ok(Vec::new(alloc));
     }
-    hex::decode(alloc, word).context("reading octets")
-}
-
-/// The octets of each word, `-` for none; None where it is neither that nor one of hexadecimal digits.
-pub fn octets_of_words(alloc: Global, words: &[&str]) -> Result<Vec<Option<Vec<u8>>>, AllocError> {
-    let mut all = Vec::new(alloc);
-    for word in words {
-        all.push(octets_in(alloc, word)?)?;
-    }
-    Ok(all)
-}
-
-fn octets_in(alloc: Global, word: &str) -> Result<Option<Vec<u8>>, AllocError> {
-    if word == "-" {
-        return Ok(Some(Vec::new(alloc)));
-    }
     match hex::decode(alloc, word) {
-        Ok(octets) => Ok(Some(octets)),
-        Err(FromHexError::OutOfMemory) => Err(AllocError),
-        Err(_) => Ok(None),
+        Ok(octets) => Ok(octets),
+        Err(FromHexError::OutOfMemory) => Err(Unanswered::Memory),
+        Err(_) => Err(Unanswered::NoOctets),
     }
 }
 
 /// The text of octets.
-pub fn text_of(octets: &[u8]) -> Result<&str> {
-    str::from_utf8(octets).context("reading a text")
+pub fn text_of(octets: &[u8]) -> Result<&str, Unanswered> {
+    match str::from_utf8(octets) {
+        Ok(text) => Ok(text),
+        Err(_) => Err(Unanswered::NoText),
+    }
+}
+
+/// What `true` and `false` say.
+pub fn flag_of(word: &str) -> Result<bool, Unanswered> {
+    match word {
+        "true" => Ok(true),
+        "false" => Ok(false),
+        _ => Err(Unanswered::NoCall),
+    }
+}
+
+/// A number in decimal digits.
+pub fn number_of<T: FromStr>(word: &str) -> Result<T, Unanswered>
+where
+    T::Err: Drop,
+{
+    match word.parse() {
+        Ok(number) => Ok(number),
+        Err(_) => Err(Unanswered::NoCall),
+    }
 }
 
 /// The word of octets.

@@ -1,19 +1,18 @@
 //! Keys that are put together of parts, read and written.
 
 use crate::details::Details;
-use crate::row::Args;
 use asn1_types::{BitString, ObjectIdentifier};
-use der_core::{DerError, Octets, Raw, Structure};
+use der_core::{Octets, Raw, Structure};
 use key_core::{
     AlgorithmIdentifier, ECPrivateKey, PrivateKeyInfo, PrivateKeyValue, PrivateKeyVersion,
     PublicKey, RsaPrivateKey, SubjectPublicKeyInfo,
 };
-use row_answers::{Line, equals};
+use row_answers::{Args, Line, NoValue, Unanswered, equals};
 use std::alloc::{AllocError, Global};
 use std::fmt;
 
-/// Whether there is such a call; what is made of the parts is printed.
-pub fn print(alloc: Global, call: &str, args: Args<'_>, line: &mut Line) -> bool {
+/// What is made of the parts.
+pub fn print(alloc: Global, call: &str, args: Args<'_>, line: &mut Line) {
     match (call, args.octets) {
         ("rsa_components", [Some(modulus), Some(exponent)]) => print_rsa(
             alloc, modulus, exponent, line,
@@ -28,9 +27,8 @@ pub fn print(alloc: Global, call: &str, args: Args<'_>, line: &mut Line) -> bool
         ),
         ("to_pkcs1", [Some(octets)]) => print_pkcs1(alloc, octets, line),
         ("private_key", _) => print_private(alloc, args, line),
-        _ => return false,
+        _ => line.no_call(),
     }
-    true
 }
 
 fn print_rsa(alloc: Global, modulus: &[u8], exponent: &[u8], line: &mut Line) {
@@ -107,62 +105,44 @@ fn print_private(alloc: Global, args: Args<'_>, line: &mut Line) {
             drop(info);
         }
         Ok(None) => line.word("None"),
-        Err(error) => line.shown(&error),
+        Err(why) => why.print(line),
     }
 }
 
-fn private_key_info(alloc: Global, args: Args<'_>) -> Result<Option<PrivateKeyInfo>, DerError> {
-    let [version, _, kind, beside @ ..] = args.words else {
-        return Ok(None);
+fn private_key_info(alloc: Global, args: Args<'_>) -> Result<Option<PrivateKeyInfo>, NoValue> {
+    let ([version, _, kind, ..], [_, Some(algorithm), _, Some(key), _, _]) = (
+        args.words,
+        args.octets,
+    ) else {
+        return Err(NoValue::Unanswered(Unanswered::NoCall));
     };
-    let [_, Some(algorithm), _, Some(key), attributes, bits] = args.octets else {
-        return Ok(None);
-    };
-    let [_, has_attributes, has_bits] = beside else {
-        return Ok(None);
-    };
-    let attributes = match given(has_attributes, attributes)? {
+    let attributes = match args.given(4)? {
         Some(element) => Some(Raw::from_der(alloc, element)?),
         None => None,
     };
-    let public_key = match given(has_bits, bits)? {
+    let public_key = match args.given(5)? {
         Some(bits) => Some(BitString::with_bytes(alloc, bits)?),
         None => None,
     };
     let algorithm = AlgorithmIdentifier::from_der(alloc, algorithm)?;
     let key = private_key(alloc, kind, key)?;
-    Ok(PrivateKeyInfo::new(version_of(version), algorithm, key, attributes, public_key))
+    Ok(PrivateKeyInfo::new(version_of(version)?, algorithm, key, attributes, public_key))
 }
 
 /// A private key by its kind, its element or, of a curve 25519 or 448, its octets.
-fn private_key(alloc: Global, kind: &str, octets: &[u8]) -> Result<PrivateKeyValue, DerError> {
+fn private_key(alloc: Global, kind: &str, octets: &[u8]) -> Result<PrivateKeyValue, NoValue> {
     match kind {
-        "Rsa" => rsa_private_key(alloc, octets),
-        "Ec" => ec_private_key(alloc, octets),
-        _ => Ok(PrivateKeyValue::Ed(Octets::from_slice(alloc, octets)?)),
+        "Rsa" => Ok(PrivateKeyValue::Rsa(RsaPrivateKey::from_der(alloc, octets)?)),
+        "Ec" => Ok(PrivateKeyValue::Ec(ECPrivateKey::from_der(alloc, octets)?)),
+        "Ed" => Ok(PrivateKeyValue::Ed(Octets::from_slice(alloc, octets)?)),
+        _ => Err(NoValue::Unanswered(Unanswered::NoCall)),
     }
 }
 
-fn rsa_private_key(alloc: Global, octets: &[u8]) -> Result<PrivateKeyValue, DerError> {
-    Ok(PrivateKeyValue::Rsa(RsaPrivateKey::from_der(alloc, octets)?))
-}
-
-fn ec_private_key(alloc: Global, octets: &[u8]) -> Result<PrivateKeyValue, DerError> {
-    Ok(PrivateKeyValue::Ec(ECPrivateKey::from_der(alloc, octets)?))
-}
-
-fn version_of(word: &str) -> PrivateKeyVersion {
+fn version_of(word: &str) -> Result<PrivateKeyVersion, Unanswered> {
     match word {
-        "V1" => PrivateKeyVersion::V1,
-        _ => PrivateKeyVersion::V2,
-    }
-}
-
-/// The octets of a word, none where it is `none`, `Shape` where it is neither that nor one of octets.
-fn given<'a>(word: &str, octets: &'a Option<Vec<u8>>) -> Result<Option<&'a [u8]>, DerError> {
-    match (word, octets) {
-        ("none", _) => Ok(None),
-        (_, Some(octets)) => Ok(Some(octets)),
-        _ => Err(DerError::Shape),
+        "V1" => Ok(PrivateKeyVersion::V1),
+        "V2" => Ok(PrivateKeyVersion::V2),
+        _ => Err(Unanswered::NoCall),
     }
 }

@@ -1,16 +1,15 @@
 //! Values that are put together of parts, and written.
 
 use crate::details::Details;
-use crate::row::Args;
 use asn1_types::{BitString, CharSetError, Ia5String, ObjectIdentifier, oids};
-use der_core::{DerError, Raw, Structure};
+use der_core::{Raw, Structure};
 use names_core::DirectoryName;
-use row_answers::Line;
-use std::alloc::{AllocError, Global};
+use row_answers::{Args, Line, NoValue, Unanswered, octets_of, text_of};
+use std::alloc::Global;
 use x509_types::{AlgorithmIdentifier, NameAttr, SubjectKey, SubjectPublicKeyInfo};
 
-/// Whether there is such a call; the octets of what is put together are printed, and its details.
-pub fn print(alloc: Global, call: &str, args: Args<'_>, line: &mut Line) -> bool {
+/// The octets of what is put together, and its details.
+pub fn print(alloc: Global, call: &str, args: Args<'_>, line: &mut Line) {
     match (call, args.octets) {
         ("algorithm", [Some(oid)]) => print_made(alloc, algorithm(alloc, oid, None), line),
         ("algorithm", [Some(oid), Some(parameters)]) => {
@@ -23,16 +22,15 @@ pub fn print(alloc: Global, call: &str, args: Args<'_>, line: &mut Line) -> bool
         }
         ("common_name", [Some(text)]) => print_made(alloc, common_name(alloc, text), line),
         ("name", _) => print_made(alloc, name(alloc, args.words), line),
-        _ => return false,
+        _ => line.no_call(),
     }
-    true
 }
 
 /// The octets that are written for a value, and its details; or why there is none.
-fn print_made<T: Structure + Details>(alloc: Global, value: Result<T, DerError>, line: &mut Line) {
+fn print_made<T: Structure + Details>(alloc: Global, value: Result<T, NoValue>, line: &mut Line) {
     match value {
         Ok(value) => print_value(alloc, &value, line),
-        Err(error) => line.shown(&error),
+        Err(why) => why.print(line),
     }
 }
 
@@ -45,7 +43,7 @@ fn algorithm(
     alloc: Global,
     oid: &[u8],
     parameters: Option<&[u8]>,
-) -> Result<AlgorithmIdentifier, DerError> {
+) -> Result<AlgorithmIdentifier, NoValue> {
     let parameters = match parameters {
         Some(octets) => Some(Raw::from_der(alloc, octets)?),
         None => None,
@@ -54,12 +52,12 @@ fn algorithm(
     Ok(AlgorithmIdentifier::new(oid, parameters))
 }
 
-fn algorithm_null(alloc: Global, oid: &[u8]) -> Result<AlgorithmIdentifier, DerError> {
+fn algorithm_null(alloc: Global, oid: &[u8]) -> Result<AlgorithmIdentifier, NoValue> {
     let oid = ObjectIdentifier::from_content(alloc, oid)?;
     Ok(AlgorithmIdentifier::with_null(alloc, oid)?)
 }
 
-fn ed25519_key(alloc: Global, bits: &[u8]) -> Result<SubjectPublicKeyInfo, DerError> {
+fn ed25519_key(alloc: Global, bits: &[u8]) -> Result<SubjectPublicKeyInfo, NoValue> {
     let bits = BitString::with_bytes(alloc, bits)?;
     let oid = ObjectIdentifier::from_known(alloc, oids::ED25519)?;
     Ok(SubjectPublicKeyInfo {
@@ -81,7 +79,7 @@ fn print_public_key(
             drop(key);
         }
         Ok(None) => line.word("None"),
-        Err(error) => line.shown(&error),
+        Err(why) => why.print(line),
     }
 }
 
@@ -90,53 +88,37 @@ fn public_key(
     words: &[&str],
     algorithm: &[u8],
     bits: &[u8],
-) -> Result<Option<SubjectPublicKeyInfo>, DerError> {
+) -> Result<Option<SubjectPublicKeyInfo>, NoValue> {
     let bits = BitString::with_bytes(alloc, bits)?;
     let algorithm = AlgorithmIdentifier::from_der(alloc, algorithm)?;
-    Ok(SubjectPublicKeyInfo::new(algorithm, key_of_kind(words, bits)))
+    Ok(SubjectPublicKeyInfo::new(algorithm, key_of_kind(words, bits)?))
 }
 
-/// The key of bits by the first word, one of ML-DSA where that is no kind of keys.
-fn key_of_kind(words: &[&str], bits: BitString) -> SubjectKey {
+/// The key of bits by the first word.
+fn key_of_kind(words: &[&str], bits: BitString) -> Result<SubjectKey, Unanswered> {
     match words {
-        ["Ec", ..] => SubjectKey::Ec(bits),
-        ["Ed", ..] => SubjectKey::Ed(bits),
-        _ => SubjectKey::Mldsa(bits),
+        ["Ec", ..] => Ok(SubjectKey::Ec(bits)),
+        ["Ed", ..] => Ok(SubjectKey::Ed(bits)),
+        ["Mldsa", ..] => Ok(SubjectKey::Mldsa(bits)),
+        _ => Err(Unanswered::NoCall),
     }
 }
 
-/// The text of octets, none where they have none.
-fn text_of(octets: &[u8]) -> &str {
-    str::from_utf8(octets).unwrap_or("")
-}
-
-fn common_name(alloc: Global, text: &[u8]) -> Result<DirectoryName, DerError> {
-    Ok(DirectoryName::new_common_name(alloc, text_of(text))?)
+fn common_name(alloc: Global, text: &[u8]) -> Result<DirectoryName, NoValue> {
+    let text = text_of(text)?;
+    Ok(DirectoryName::new_common_name(alloc, text)?)
 }
 
 /// A name of attributes, each a type by its contents octets, `=`, and a text.
-fn name(alloc: Global, attributes: &[&str]) -> Result<DirectoryName, DerError> {
+fn name(alloc: Global, attributes: &[&str]) -> Result<DirectoryName, NoValue> {
     let mut name = DirectoryName::new(alloc);
     for word in attributes {
-        if let Some((ty, text)) = word.split_once('=') {
-            add_attribute(
-                alloc,
-                &mut name,
-                &decoded(alloc, ty)?,
-                &decoded(alloc, text)?,
-            )?;
-        }
+        let (ty, text) = word.split_once('=').ok_or(Unanswered::NoCall)?;
+        let ty = octets_of(alloc, ty)?;
+        let text = octets_of(alloc, text)?;
+        add_attribute(alloc, &mut name, &ty, text_of(&text)?)?;
     }
     Ok(name)
-}
-
-/// The octets of a word. The rows have words of hexadecimal digits here, so only memory can be
-/// wanting.
-fn decoded(alloc: Global, word: &str) -> Result<Vec<u8>, DerError> {
-    match row_answers::octets_of(alloc, word) {
-        Ok(octets) => Ok(octets),
-        Err(_) => Err(DerError::Memory),
-    }
 }
 
 /// Adds an attribute, an email address where the type is none of `NameAttr`.
@@ -144,14 +126,18 @@ fn add_attribute(
     alloc: Global,
     name: &mut DirectoryName,
     ty: &[u8],
-    text: &[u8],
-) -> Result<(), AllocError> {
+    text: &str,
+) -> Result<(), Unanswered> {
     match NameAttr::from_contents(ty) {
-        Some(attr) => name.add_attr(attr, text_of(text)),
-        None => match Ia5String::from_string(alloc, text_of(text)) {
-            Ok(address) => name.add_email(address),
-            Err(CharSetError::Memory) => Err(AllocError),
-            Err(CharSetError::CharSet) => Ok(()),
-        },
+        Some(attr) => Ok(name.add_attr(attr, text)?),
+        None => Ok(name.add_email(address_of(alloc, text)?)?),
+    }
+}
+
+fn address_of(alloc: Global, text: &str) -> Result<Ia5String, Unanswered> {
+    match Ia5String::from_string(alloc, text) {
+        Ok(address) => Ok(address),
+        Err(CharSetError::Memory) => Err(Unanswered::Memory),
+        Err(CharSetError::CharSet) => Err(Unanswered::NoText),
     }
 }

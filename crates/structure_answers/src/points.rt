@@ -6,15 +6,14 @@ use key_core::{EcCurve, EdAlgorithm, PublicKey};
 use row_answers::Line;
 use std::alloc::{AllocError, Global};
 
-/// Whether there is such a call; what a curve, an algorithm or a point is, is printed.
-pub fn print(alloc: Global, call: &str, args: &[Option<Vec<u8>>], line: &mut Line) -> bool {
+/// What a curve, an algorithm or a point is.
+pub fn print(alloc: Global, call: &str, args: &[Option<Vec<u8>>], line: &mut Line) {
     match (call, args) {
         ("curve", [Some(oid)]) => print_curve(alloc, oid, line),
         ("algorithm", [Some(oid)]) => print_algorithm(alloc, oid, line),
         ("coordinates", [Some(oid), Some(x), Some(y)]) => print_point(alloc, oid, (x, y), line),
-        _ => return false,
+        _ => line.no_call(),
     }
-    true
 }
 
 /// The name of the curve that an identifier names, and the identifier that is written for it.

@@ -1,11 +1,10 @@
 //! Private keys that are read or put together, under the demonstration scheme, and their public
 //! keys.
 
-use crate::row::Args;
 use asn1_types::ObjectIdentifier;
 use der_core::DerError;
 use key_core::{EcCurve, KeyError, KeyKind, PrivateKey};
-use row_answers::{Line, equals};
+use row_answers::{Args, Line, Unanswered, equals};
 use sig_core::{DemoScheme, Scheme, VerdictTable};
 use std::alloc::Global;
 
@@ -13,28 +12,31 @@ use std::alloc::Global;
 #[derive(Clone, Copy)]
 pub enum NoKey {
     Refused(KeyError),
-    NoSuchCall,
+    Unanswered(Unanswered),
 }
 
-/// Whether there is such a call; what is read or made is printed.
-pub fn print(alloc: Global, call: &str, args: Args<'_>, line: &mut Line) -> bool {
+impl From<Unanswered> for NoKey {
+    fn from(why: Unanswered) -> NoKey {
+        NoKey::Unanswered(why)
+    }
+}
+
+/// No call reads or makes a key of such words.
+const NO_CALL: NoKey = NoKey::Unanswered(Unanswered::NoCall);
+
+/// What is read or made.
+pub fn print(alloc: Global, call: &str, args: Args<'_>, line: &mut Line) {
     match key_of(alloc, call, args) {
-        Ok(key) => {
-            print_key(alloc, &key, line);
-            true
-        }
+        Ok(key) => print_key(alloc, &key, line),
         Err(why) => print_refusal(why, line),
     }
 }
 
-/// Whether there is such a call; the text of the refusal is printed.
-pub fn print_refusal(why: NoKey, line: &mut Line) -> bool {
+/// The text of the refusal.
+pub fn print_refusal(why: NoKey, line: &mut Line) {
     match why {
-        NoKey::Refused(error) => {
-            line.shown(&error);
-            true
-        }
-        NoKey::NoSuchCall => false,
+        NoKey::Refused(error) => line.shown(&error),
+        NoKey::Unanswered(why) => line.lose(why),
     }
 }
 
@@ -53,14 +55,8 @@ pub fn key_of(alloc: Global, call: &str, args: Args<'_>) -> Result<PrivateKey, N
             &DemoScheme::new(),
         )),
         (_, [Some(curve), Some(octets)]) => on_curve(alloc, call, curve, octets),
-        (_, [Some(id), Some(secret), rest @ ..]) => of_parts(
-            alloc,
-            call,
-            (id, secret),
-            rest,
-            args.words,
-        ),
-        _ => Err(NoKey::NoSuchCall),
+        (_, [Some(id), Some(secret), ..]) => of_parts(alloc, call, (id, secret), args),
+        _ => Err(NO_CALL),
     }
 }
 
@@ -81,7 +77,7 @@ fn on_curve(alloc: Global, call: &str, curve: &[u8], octets: &[u8]) -> Result<Pr
         }
         "sec1_on_known" => on_known_curve(alloc, curve, octets, &DemoScheme::new()),
         "refused" => refused(alloc, curve, octets),
-        _ => Err(NoKey::NoSuchCall),
+        _ => Err(NO_CALL),
     }
 }
 
@@ -108,26 +104,16 @@ fn of_parts(
     alloc: Global,
     call: &str,
     (id, secret): (&[u8], &[u8]),
-    rest: &[Option<Vec<u8>>],
-    words: &[&str],
+    args: Args<'_>,
 ) -> Result<PrivateKey, NoKey> {
-    match (call, rest) {
-        ("coordinates", [Some(x), Some(y)]) => {
+    match (call, args.octets) {
+        ("coordinates", [_, _, Some(x), Some(y)]) => {
             let curve = known_curve(id)?;
             told(PrivateKey::from_ec_components(alloc, curve, secret, x, y))
         }
-        ("ec_encoded", [point]) => ec_encoded(alloc, id, secret, given(words, point)?),
-        ("ed_encoded", [key]) => ed_encoded(alloc, id, secret, given(words, key)?),
-        _ => Err(NoKey::NoSuchCall),
-    }
-}
-
-/// The octets of the third word, none where it is `none`.
-fn given<'a>(words: &[&str], octets: &'a Option<Vec<u8>>) -> Result<Option<&'a [u8]>, NoKey> {
-    match (words, octets) {
-        ([_, _, "none"], _) => Ok(None),
-        (_, Some(octets)) => Ok(Some(octets)),
-        _ => Err(NoKey::NoSuchCall),
+        ("ec_encoded", [_, _, _]) => ec_encoded(alloc, id, secret, args.given(2)?),
+        ("ed_encoded", [_, _, _]) => ed_encoded(alloc, id, secret, args.given(2)?),
+        _ => Err(NO_CALL),
     }
 }
 
@@ -152,7 +138,7 @@ fn ed_encoded(
 ) -> Result<PrivateKey, NoKey> {
     let oid = oid_of(alloc, oid)?;
     if !KeyKind::Ed.is_named(oid.as_bytes()) {
-        return Err(NoKey::NoSuchCall);
+        return Err(NO_CALL);
     }
     match PrivateKey::from_ed_encoded_components(alloc, oid, secret, public_key) {
         Ok(key) => Ok(key),
@@ -164,14 +150,14 @@ fn oid_of(alloc: Global, contents: &[u8]) -> Result<ObjectIdentifier, NoKey> {
     match ObjectIdentifier::from_content(alloc, contents) {
         Ok(oid) => Ok(oid),
         Err(DerError::Memory) => Err(NoKey::Refused(KeyError::Memory)),
-        Err(_) => Err(NoKey::NoSuchCall),
+        Err(_) => Err(NO_CALL),
     }
 }
 
 fn known_curve(contents: &[u8]) -> Result<EcCurve, NoKey> {
     match EcCurve::named(contents) {
         Some(curve) => Ok(curve),
-        None => Err(NoKey::NoSuchCall),
+        None => Err(NO_CALL),
     }
 }
 

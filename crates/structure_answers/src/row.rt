@@ -1,44 +1,33 @@
 //! Rows, and who answers them.
 
 use crate::{keys, making, points, private_keys, signatures, structures, views};
-use anyhow::{Result, bail};
-use row_answers::{Line, octets_of_words};
+use anyhow::Result;
+use row_answers::{Args, Line, Row};
 use std::alloc::Global;
 
 /// The answer to a row.
 pub fn answer(alloc: Global, text: &str) -> Result<String> {
-    let words: Vec<&str> = text.split(' ').collect(alloc)?;
-    let octets = octets_of_words(alloc, &words)?;
+    let row = Row::of(alloc, text)?;
     let mut line = Line::new(alloc);
-    if !print(alloc, &words, &octets, &mut line) {
-        bail!("no call has the row {text}");
-    }
-    Ok(line.into_text()?)
+    print(alloc, row.args(), &mut line);
+    line.answer_to(text)
 }
 
-/// Whether there is such a call, whose answer is printed.
-fn print(alloc: Global, words: &[&str], octets: &[Option<Vec<u8>>], line: &mut Line) -> bool {
-    match (words, octets) {
-        ([subject, call, words @ ..], [_, _, octets @ ..]) => {
-            print_call(alloc, (subject, call), Args { words, octets }, line)
-        }
-        _ => false,
+fn print(alloc: Global, args: Args<'_>, line: &mut Line) {
+    match args.split() {
+        Some((subject, args)) => print_subject(alloc, subject, args, line),
+        None => line.no_call(),
     }
 }
 
-/// The words behind a call, and the octets of each.
-#[derive(Clone, Copy)]
-pub struct Args<'a> {
-    pub words: &'a [&'a str],
-    pub octets: &'a [Option<Vec<u8>>],
+fn print_subject(alloc: Global, subject: &str, args: Args<'_>, line: &mut Line) {
+    match args.split() {
+        Some((call, args)) => print_call(alloc, (subject, call), args, line),
+        None => line.no_call(),
+    }
 }
 
-fn print_call(
-    alloc: Global,
-    (subject, call): (&str, &str),
-    args: Args<'_>,
-    line: &mut Line,
-) -> bool {
+fn print_call(alloc: Global, (subject, call): (&str, &str), args: Args<'_>, line: &mut Line) {
     match subject {
         "structure" => structures::print(alloc, call, args.octets, line),
         "unlike" => structures::print_unlike(alloc, call, args.octets, line),
@@ -48,6 +37,6 @@ fn print_call(
         "private" => private_keys::print(alloc, call, args, line),
         "signature" => signatures::print(alloc, call, args, line),
         "view" => views::print(alloc, call, args, line),
-        _ => false,
+        _ => line.no_call(),
     }
 }

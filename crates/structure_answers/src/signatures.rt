@@ -1,46 +1,43 @@
 //! Algorithms of signatures by their identifiers, what private keys sign, what is told of
 //! signatures, and identifiers of keys.
 
-use crate::private_keys;
-use crate::row::Args;
+use crate::private_keys::{key_of, print_refusal};
 use asn1_types::BitString;
-use der_core::{DerError, Structure};
+use der_core::Structure;
 use key_core::{
-    AlgorithmIdentifier, KeyError, KeyIdGenMethod, PrivateKey, PublicKey, SignatureAlgorithm,
-    SubjectKey, SubjectPublicKeyInfo,
+    AlgorithmIdentifier, KeyIdGenMethod, PrivateKey, PublicKey, SignatureAlgorithm, SubjectKey,
+    SubjectPublicKeyInfo,
 };
-use row_answers::Line;
+use row_answers::{Args, Line, NoValue, Unanswered};
 use sig_core::{DemoScheme, HashAlgorithm, Scheme, VerdictTable};
 use std::alloc::Global;
 
-/// Whether there is such a call; what is answered is printed.
-pub fn print(alloc: Global, call: &str, args: Args<'_>, line: &mut Line) -> bool {
-    match (call, args.words) {
-        ("named", _) => print_named(alloc, args.octets, line),
-        ("key_id", [method, hash, ..]) => print_key_id(alloc, (method, hash), args.octets, line),
-        ("written", [algorithm]) => match algorithm_of(algorithm) {
-            Some(algorithm) => print_written(alloc, algorithm, line),
-            None => return false,
+/// What is answered of algorithms, keys and signatures.
+pub fn print(alloc: Global, call: &str, args: Args<'_>, line: &mut Line) {
+    match (call, args.words, args.octets) {
+        ("named", _, [Some(octets)]) => print_named(alloc, octets, line),
+        ("key_id", [method, hash, ..], [_, _, key @ ..]) => {
+            print_key_id(alloc, (method, hash), key, line)
+        }
+        (_, [algorithm, ..], [_, octets @ ..]) => match algorithm_of(algorithm) {
+            Some(algorithm) => print_use(alloc, (call, algorithm), args, octets, line),
+            None => line.no_call(),
         },
-        (_, [algorithm, ..]) => match algorithm_of(algorithm) {
-            Some(algorithm) => return print_use(alloc, call, algorithm, args, line),
-            None => return false,
-        },
-        _ => return false,
+        _ => line.no_call(),
     }
-    true
 }
 
-/// Whether there is such a call; what is signed, or told of a signature, is printed.
+/// The identifier of an algorithm, what is signed by it, or what is told of a signature.
 fn print_use(
     alloc: Global,
-    call: &str,
-    algorithm: SignatureAlgorithm,
+    (call, algorithm): (&str, SignatureAlgorithm),
     args: Args<'_>,
+    octets: &[Option<Vec<u8>>],
     line: &mut Line,
-) -> bool {
-    match (call, args.words, args.octets) {
-        ("sign", [_, _, call, words @ ..], [_, Some(message), _, octets @ ..]) => {
+) {
+    match (call, args.words, octets) {
+        ("written", _, []) => print_written(alloc, algorithm, line),
+        ("sign", [_, _, call, words @ ..], [Some(message), _, octets @ ..]) => {
             print_sign(
                 alloc,
                 algorithm,
@@ -50,20 +47,16 @@ fn print_use(
                 line,
             )
         }
-        ("verify", _, [_, Some(key), Some(message), Some(signature)]) => {
-            print_verify(alloc, algorithm, key, (message, signature), line);
-            true
+        ("verify", _, [Some(key), Some(message), Some(signature)]) => {
+            print_verify(alloc, algorithm, key, (message, signature), line)
         }
-        _ => false,
+        _ => line.no_call(),
     }
 }
 
 /// The algorithm and its digest by an identifier, and the identifier that is written for it; or the
 /// text of the refusal.
-fn print_named(alloc: Global, octets: &[Option<Vec<u8>>], line: &mut Line) {
-    let [Some(octets)] = octets else {
-        return;
-    };
+fn print_named(alloc: Global, octets: &[u8], line: &mut Line) {
     match AlgorithmIdentifier::from_der(alloc, octets) {
         Ok(id) => print_identified(alloc, &id, line),
         Err(error) => line.shown(&error),
@@ -93,56 +86,55 @@ fn print_written(alloc: Global, algorithm: SignatureAlgorithm, line: &mut Line) 
 fn print_key_id(
     alloc: Global,
     (method, hash): (&str, &str),
-    octets: &[Option<Vec<u8>>],
+    key: &[Option<Vec<u8>>],
     line: &mut Line,
 ) {
-    let Some(hash) = hash_of(hash) else {
-        return;
-    };
-    match method {
-        "whole" => print_id(alloc, KeyIdGenMethod::SPKFullDER(hash), octets, line),
-        "leftmost" => {
-            let method = KeyIdGenMethod::SPKValueHashedLeftmost160(hash);
-            print_id(alloc, method, octets, line);
+    match (method_of(method, hash), key) {
+        (Some(method), [Some(octets)]) => print_id(alloc, method, octets, line),
+        (Some(method), [Some(algorithm), Some(bits)]) => {
+            print_id_of_bits(alloc, method, (algorithm, bits), line)
         }
-        _ => {}
+        _ => line.no_call(),
     }
 }
 
-fn print_id(alloc: Global, method: KeyIdGenMethod, octets: &[Option<Vec<u8>>], line: &mut Line) {
-    match public_key(alloc, octets) {
-        Ok(Some(key)) => line.made(method.generate_from(alloc, &key)),
-        Ok(None) => line.word("no key"),
+fn method_of(word: &str, hash: &str) -> Option<KeyIdGenMethod> {
+    match word {
+        "whole" => hash_of(hash).map(KeyIdGenMethod::SPKFullDER),
+        "leftmost" => hash_of(hash).map(KeyIdGenMethod::SPKValueHashedLeftmost160),
+        _ => None,
+    }
+}
+
+fn print_id(alloc: Global, method: KeyIdGenMethod, octets: &[u8], line: &mut Line) {
+    match PublicKey::from_der(alloc, octets) {
+        Ok(key) => line.made(method.generate_from(alloc, &key)),
         Err(error) => line.shown(&error),
     }
 }
 
-/// The key of these octets; or of the octets of its algorithm, on a curve 25519 or 448, and of its
-/// bits, which can also be one that isn't written.
-fn public_key(alloc: Global, octets: &[Option<Vec<u8>>]) -> Result<Option<PublicKey>, KeyError> {
-    match octets {
-        [_, _, Some(octets)] => Ok(Some(PublicKey::from_der(alloc, octets)?)),
-        [_, _, Some(algorithm), Some(bits)] => match key_of_bits(alloc, algorithm, bits) {
-            Ok(key) => Ok(key),
-            Err(DerError::Memory) => Err(KeyError::Memory),
-            Err(_) => Ok(None),
-        },
-        _ => Ok(None),
+/// The same of a key on a curve 25519 or 448 by the octets of its algorithm and its bits, which can
+/// also be one that isn't written.
+fn print_id_of_bits(
+    alloc: Global,
+    method: KeyIdGenMethod,
+    (algorithm, bits): (&[u8], &[u8]),
+    line: &mut Line,
+) {
+    match key_of_bits(alloc, algorithm, bits) {
+        Ok(key) => line.made(method.generate_from(alloc, &key)),
+        Err(why) => why.print(line),
     }
 }
 
-fn key_of_bits(
-    alloc: Global,
-    algorithm: &[u8],
-    bits: &[u8],
-) -> Result<Option<PublicKey>, DerError> {
+fn key_of_bits(alloc: Global, algorithm: &[u8], bits: &[u8]) -> Result<PublicKey, NoValue> {
     let algorithm = AlgorithmIdentifier::from_der(alloc, algorithm)?;
     let bits = BitString::with_bytes(alloc, bits)?;
-    Ok(SubjectPublicKeyInfo::new(algorithm, SubjectKey::Ed(bits)).map(PublicKey::from))
+    let info = SubjectPublicKeyInfo::new(algorithm, SubjectKey::Ed(bits));
+    Ok(PublicKey::from(info.ok_or(Unanswered::NoCall)?))
 }
 
-/// What the key signs under the demonstration scheme, and what is told under a table of no rows;
-/// whether there is a call that reads or makes such a key.
+/// What the key signs under the demonstration scheme, and what is told under a table of no rows.
 fn print_sign(
     alloc: Global,
     algorithm: SignatureAlgorithm,
@@ -150,13 +142,10 @@ fn print_sign(
     call: &str,
     args: Args<'_>,
     line: &mut Line,
-) -> bool {
-    match private_keys::key_of(alloc, call, args) {
-        Ok(key) => {
-            print_signatures(alloc, algorithm, message, &key, line);
-            true
-        }
-        Err(why) => private_keys::print_refusal(why, line),
+) {
+    match key_of(alloc, call, args) {
+        Ok(key) => print_signatures(alloc, algorithm, message, &key, line),
+        Err(why) => print_refusal(why, line),
     }
 }
 
@@ -257,8 +246,8 @@ fn algorithm_of(word: &str) -> Option<SignatureAlgorithm> {
     match word.split_once(':') {
         Some(("rsa", hash)) => Some(SignatureAlgorithm::RsaPkcs1v15(hash_of(hash)?)),
         Some(("ecdsa", hash)) => Some(SignatureAlgorithm::Ecdsa(hash_of(hash)?)),
-        None => Some(SignatureAlgorithm::Ed25519),
-        Some(_) => None,
+        None if word == "ed25519" => Some(SignatureAlgorithm::Ed25519),
+        _ => None,
     }
 }
 

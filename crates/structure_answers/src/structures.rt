@@ -13,10 +13,10 @@ use x509_types::{
     RelativeDistinguishedName, RsaPublicKey, SubjectPublicKeyInfo,
 };
 
-/// Whether there is such a kind of structure; what is read of an element is printed.
-pub fn print(alloc: Global, kind: &str, args: &[Option<Vec<u8>>], line: &mut Line) -> bool {
+/// What is read of an element.
+pub fn print(alloc: Global, kind: &str, args: &[Option<Vec<u8>>], line: &mut Line) {
     let [Some(element)] = args else {
-        return false;
+        return line.no_call();
     };
     match kind {
         "integer" => read_of::<IntegerAsn1>(alloc, element, line),
@@ -28,13 +28,12 @@ pub fn print(alloc: Global, kind: &str, args: &[Option<Vec<u8>>], line: &mut Lin
         "attribute" => read_of::<AttributeTypeAndValue>(alloc, element, line),
         "set" => read_of::<RelativeDistinguishedName>(alloc, element, line),
         "name" => read_of::<DirectoryName>(alloc, element, line),
-        _ => return print_key(alloc, kind, element, line),
+        _ => print_key(alloc, kind, element, line),
     }
-    true
 }
 
-/// Whether there is such a kind of keys; what is read of an element is printed.
-fn print_key(alloc: Global, kind: &str, element: &[u8], line: &mut Line) -> bool {
+/// The same of keys and their algorithms.
+fn print_key(alloc: Global, kind: &str, element: &[u8], line: &mut Line) {
     match kind {
         "algorithm" => read_of::<AlgorithmIdentifier>(alloc, element, line),
         "rsa_key" => read_of::<RsaPublicKey>(alloc, element, line),
@@ -42,15 +41,14 @@ fn print_key(alloc: Global, kind: &str, element: &[u8], line: &mut Line) -> bool
         "ec_private_key" => read_of::<ECPrivateKey>(alloc, element, line),
         "private_key_info" => read_of::<PrivateKeyInfo>(alloc, element, line),
         "key" => read_of::<SubjectPublicKeyInfo>(alloc, element, line),
-        _ => return false,
+        _ => line.no_call(),
     }
-    true
 }
 
-/// Whether there is such a kind of structure; whether two elements spell equal values is printed.
-pub fn print_unlike(alloc: Global, kind: &str, args: &[Option<Vec<u8>>], line: &mut Line) -> bool {
+/// Whether two elements spell equal values.
+pub fn print_unlike(alloc: Global, kind: &str, args: &[Option<Vec<u8>>], line: &mut Line) {
     let [Some(one), Some(other)] = args else {
-        return false;
+        return line.no_call();
     };
     let equal = match kind {
         "integer" => are_equal::<IntegerAsn1>(alloc, one, other),
@@ -63,14 +61,9 @@ pub fn print_unlike(alloc: Global, kind: &str, args: &[Option<Vec<u8>>], line: &
         "private_key_info" => are_equal::<PrivateKeyInfo>(alloc, one, other),
         "key" => are_equal::<SubjectPublicKeyInfo>(alloc, one, other),
         "name" => are_equal::<DirectoryName>(alloc, one, other),
-        _ => return false,
+        _ => return line.no_call(),
     };
-    match equal {
-        Ok(true) => line.word("equal"),
-        Ok(false) => line.word("unlike"),
-        Err(error) => line.shown(&error),
-    }
-    true
+    line.equal(equal);
 }
 
 /// Whether the value comes back as it was read, and its details; or that there is none.

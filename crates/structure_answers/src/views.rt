@@ -1,26 +1,21 @@
 //! What is lent of keys of curves.
 
-use crate::private_keys;
-use crate::row::Args;
+use crate::private_keys::{key_of, print_refusal};
 use asn1_types::ObjectIdentifier;
 use key_core::{
     EcdsaKeypair, EcdsaPublicKey, EdKeypair, EdPublicKey, KeyError, NamedEcCurve, NamedEdAlgorithm,
     PrivateKey, PublicKey,
 };
-use row_answers::Line;
+use row_answers::{Args, Line};
 use std::alloc::{AllocError, Global};
 
-/// Whether there is such a call; what is lent of a key as one of an elliptic curve, and as one of a
-/// curve 25519 or 448, is printed.
-pub fn print(alloc: Global, call: &str, args: Args<'_>, line: &mut Line) -> bool {
-    match (call, args.words, args.octets) {
-        ("public", _, [Some(octets)]) => print_public(alloc, octets, line),
-        ("private", [call, words @ ..], [_, octets @ ..]) => {
-            return print_private(alloc, call, Args { words, octets }, line);
-        }
-        _ => return false,
+/// What is lent of a key as one of an elliptic curve, and as one of a curve 25519 or 448.
+pub fn print(alloc: Global, call: &str, args: Args<'_>, line: &mut Line) {
+    match (call, args.octets, args.split()) {
+        ("public", [Some(octets)], _) => print_public(alloc, octets, line),
+        ("private", _, Some((call, args))) => print_private(alloc, call, args, line),
+        _ => line.no_call(),
     }
-    true
 }
 
 fn print_public(alloc: Global, octets: &[u8], line: &mut Line) {
@@ -36,14 +31,10 @@ fn print_public_key(alloc: Global, key: &PublicKey, line: &mut Line) {
     print_ed(alloc, EdPublicKey::try_from(key), line);
 }
 
-/// Whether there is such a call.
-fn print_private(alloc: Global, call: &str, args: Args<'_>, line: &mut Line) -> bool {
-    match private_keys::key_of(alloc, call, args) {
-        Ok(key) => {
-            print_pair(alloc, &key, line);
-            true
-        }
-        Err(why) => private_keys::print_refusal(why, line),
+fn print_private(alloc: Global, call: &str, args: Args<'_>, line: &mut Line) {
+    match key_of(alloc, call, args) {
+        Ok(key) => print_pair(alloc, &key, line),
+        Err(why) => print_refusal(why, line),
     }
 }
 

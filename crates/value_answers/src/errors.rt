@@ -3,14 +3,13 @@
 use asn1_types::{CharSetError, TextError};
 use row_answers::Line;
 
-/// The text of an error; false where there is no such error.
-pub fn print(name: &str, line: &mut Line) -> bool {
+/// The text of an error.
+pub fn print(name: &str, line: &mut Line) {
     match name {
         "TextError::BadText" => line.shown(&TextError::BadText),
         "TextError::Memory" => line.shown(&TextError::Memory),
         "CharSetError::CharSet" => line.shown(&CharSetError::CharSet),
         "CharSetError::Memory" => line.shown(&CharSetError::Memory),
-        _ => return false,
+        _ => line.no_call(),
     }
-    true
 }

@@ -1,23 +1,21 @@
 //! Object identifiers, their table, and the attribute types among them.
 
-use anyhow::Result;
 use asn1_types::oids::{self, KnownOid};
 use asn1_types::{ObjectIdentifier, TextError};
 use row_answers::{Line, text_of};
 use std::alloc::Global;
 use x509_types::NameAttr;
 
-/// The answer to a call on identifiers; false where there is no such call.
-pub fn print(alloc: Global, call: &str, octets: &[u8], line: &mut Line) -> Result<bool> {
-    match call {
-        "from_text" => print_contents(alloc, text_of(octets)?, line),
-        "from_content" => print_text(alloc, octets, line),
-        "by_name" => print_known(oids::by_name(text_of(octets)?), line),
-        "by_contents" => print_known(oids::by_contents(octets), line),
-        "attribute" => print_attribute(alloc, octets, line),
-        _ => return Ok(false),
+/// The answer to a call on identifiers.
+pub fn print(alloc: Global, call: &str, octets: &[u8], line: &mut Line) {
+    match (call, text_of(octets)) {
+        ("from_content", _) => print_text(alloc, octets, line),
+        ("by_contents", _) => print_known(oids::by_contents(octets), line),
+        ("attribute", _) => print_attribute(alloc, octets, line),
+        ("from_text", Ok(text)) => print_contents(alloc, text, line),
+        ("by_name", Ok(text)) => print_known(oids::by_name(text), line),
+        _ => line.no_call(),
     }
-    Ok(true)
 }
 
 /// The contents octets of a text.

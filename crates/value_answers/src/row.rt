@@ -1,29 +1,28 @@
 //! Rows, and who answers them.
 
 use crate::{errors, identifiers, strings, times};
-use anyhow::{Result, bail};
-use row_answers::{Line, octets_of};
+use anyhow::Result;
+use row_answers::{Args, Line, Row};
 use std::alloc::Global;
 
 /// The answer to a row.
 pub fn answer(alloc: Global, text: &str) -> Result<String> {
-    let words: Vec<&str> = text.split(' ').collect(alloc)?;
+    let row = Row::of(alloc, text)?;
     let mut line = Line::new(alloc);
-    if !print(alloc, words.as_slice(), &mut line)? {
-        bail!("no call has the row {text}");
-    }
-    Ok(line.into_text()?)
+    print(alloc, row.args(), &mut line);
+    line.answer_to(text)
 }
 
-/// The answer to the words of a row; false where no call has them.
-fn print(alloc: Global, words: &[&str], line: &mut Line) -> Result<bool> {
-    match words {
-        ["identifier", call, word] => {
-            identifiers::print(alloc, call, &octets_of(alloc, word)?, line)
+fn print(alloc: Global, args: Args<'_>, line: &mut Line) {
+    match (args.words, args.octets) {
+        (["identifier", call, _], [_, _, Some(octets)]) => {
+            identifiers::print(alloc, call, octets, line)
         }
-        ["string", call, word] => strings::print(alloc, call, &octets_of(alloc, word)?, line),
-        ["error", name] => Ok(errors::print(name, line)),
-        ["time", call, args @ ..] => times::print(alloc, call, args, line),
-        _ => Ok(false),
+        (["string", call, _], [_, _, Some(octets)]) => strings::print(alloc, call, octets, line),
+        (["error", name], _) => errors::print(name, line),
+        (["time", call, words @ ..], [_, _, octets @ ..]) => {
+            times::print(alloc, call, Args { words, octets }, line)
+        }
+        _ => line.no_call(),
     }
 }

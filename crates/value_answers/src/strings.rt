@@ -1,22 +1,23 @@
 //! Integers, bit strings and IA5 strings by their contents octets.
 
-use anyhow::Result;
 use asn1_types::{BitString, CharSetError, Ia5String, IntegerAsn1};
 use row_answers::{Line, text_of};
 use std::alloc::Global;
 
-/// The answer to a call on integers, bit strings and IA5 strings; false where there is no such call.
-pub fn print(alloc: Global, call: &str, octets: &[u8], line: &mut Line) -> Result<bool> {
+/// The answer to a call on integers, bit strings and IA5 strings.
+pub fn print(alloc: Global, call: &str, octets: &[u8], line: &mut Line) {
     match call {
         "integer" => print_integer(alloc, octets, line),
         "number" => print_number(alloc, octets, line),
         "bits" => print_bits(alloc, octets, line),
         "whole_bits" => print_whole_bits(alloc, octets, line),
         "ia5_content" => print_ia5_content(alloc, octets, line),
-        "ia5_text" => print_ia5_text(alloc, text_of(octets)?, line),
-        _ => return Ok(false),
+        "ia5_text" => match text_of(octets) {
+            Ok(text) => print_ia5_text(alloc, text, line),
+            Err(why) => line.lose(why),
+        },
+        _ => line.no_call(),
     }
-    Ok(true)
 }
 
 /// The integer of contents octets.

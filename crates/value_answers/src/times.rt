@@ -1,10 +1,9 @@
 //! Both times and dates.
 
-use anyhow::{Context, Result, bail};
 use asn1_types::{GeneralizedTime, UTCTime};
 use der_core::Structure;
 use names_core::UtcDate;
-use row_answers::{Line, octets_of};
+use row_answers::{Args, Line, Unanswered, number_of};
 use std::alloc::Global;
 use x509_types::Time;
 
@@ -20,17 +19,17 @@ struct Fields {
 }
 
 impl Fields {
-    fn from_words(words: &[&str]) -> Result<Fields> {
+    fn from_words(words: &[&str]) -> Result<Fields, Unanswered> {
         let [year, month, day, hour, minute, second] = words else {
-            bail!("a moment has six fields");
+            return Err(Unanswered::NoCall);
         };
         Ok(Fields {
-            year: year.parse().context("reading the year")?,
-            month: small(month)?,
-            day: small(day)?,
-            hour: small(hour)?,
-            minute: small(minute)?,
-            second: small(second)?,
+            year: number_of(year)?,
+            month: number_of(month)?,
+            day: number_of(day)?,
+            hour: number_of(hour)?,
+            minute: number_of(minute)?,
+            second: number_of(second)?,
         })
     }
 
@@ -68,46 +67,54 @@ impl Fields {
     }
 }
 
-fn small(word: &str) -> Result<u8> {
-    word.parse().context("reading a field of a moment")
-}
-
-/// The answer to a call on times and dates; false where there is no such call.
-pub fn print(alloc: Global, call: &str, args: &[&str], line: &mut Line) -> Result<bool> {
-    match (call, args) {
-        ("generalized", fields) => print_generalized(
-            Fields::from_words(fields)?.generalized(),
+/// The answer to a call on times and dates.
+pub fn print(alloc: Global, call: &str, args: Args<'_>, line: &mut Line) {
+    match (call, args.octets) {
+        ("generalized_content", [Some(contents)]) => print_generalized(
+            GeneralizedTime::from_content(contents),
             line,
         ),
-        ("utc", fields) => print_utc(Fields::from_words(fields)?.utc(), line),
-        ("date", fields) => print_date(alloc, Fields::from_words(fields)?.date(), line),
-        ("day", fields) => print_date(alloc, day(fields)?, line),
-        ("order", fields) => print_order(fields, line)?,
-        ("generalized_content", [word]) => {
-            print_generalized(
-                GeneralizedTime::from_content(&octets_of(alloc, word)?),
-                line,
-            )
-        }
-        ("utc_content", [word]) => print_utc(UTCTime::from_content(&octets_of(alloc, word)?), line),
-        ("date_of", [element]) => print_date(alloc, Some(date_at(alloc, element)?), line),
-        _ => return Ok(false),
+        ("utc_content", [Some(contents)]) => print_utc(UTCTime::from_content(contents), line),
+        ("date_of", [Some(element)]) => print_date_at(alloc, element, line),
+        _ => match print_fields_of(alloc, call, args.words, line) {
+            Ok(()) => {}
+            Err(why) => line.lose(why),
+        },
     }
-    Ok(true)
+}
+
+/// The answer to a call on fields of moments.
+fn print_fields_of(
+    alloc: Global,
+    call: &str,
+    words: &[&str],
+    line: &mut Line,
+) -> Result<(), Unanswered> {
+    match call {
+        "generalized" => print_generalized(Fields::from_words(words)?.generalized(), line),
+        "utc" => print_utc(Fields::from_words(words)?.utc(), line),
+        "date" => print_date(alloc, Fields::from_words(words)?.date(), line),
+        "day" => print_date(alloc, day(words)?, line),
+        "order" => print_order(words, line)?,
+        _ => return Err(Unanswered::NoCall),
+    }
+    Ok(())
 }
 
 /// The first second of a day, which may not exist.
-fn day(words: &[&str]) -> Result<Option<UtcDate>> {
+fn day(words: &[&str]) -> Result<Option<UtcDate>, Unanswered> {
     let [year, month, day] = words else {
-        bail!("a day has three fields");
+        return Err(Unanswered::NoCall);
     };
-    let year = year.parse().context("reading the year")?;
-    Ok(UtcDate::ymd(year, small(month)?, small(day)?))
+    Ok(UtcDate::ymd(number_of(year)?, number_of(month)?, number_of(day)?))
 }
 
 /// The date of an element, which is a time in a certificate.
-fn date_at(alloc: Global, element: &str) -> Result<UtcDate> {
-    Ok(UtcDate::from(Time::from_der(alloc, &octets_of(alloc, element)?)?))
+fn print_date_at(alloc: Global, element: &[u8], line: &mut Line) {
+    match Time::from_der(alloc, element) {
+        Ok(time) => print_date(alloc, Some(UtcDate::from(time)), line),
+        Err(error) => line.shown(&error),
+    }
 }
 
 /// The text, the fields and the contents octets of a time.
@@ -179,19 +186,14 @@ fn print_time_at(alloc: Global, octets: &[u8], line: &mut Line) {
 }
 
 /// How the first of two dates stands to the second, and the second to the first.
-fn print_order(fields: &[&str], line: &mut Line) -> Result<()> {
-    let Some((first, second)) = fields.split_at_checked(6) else {
-        bail!("two moments have twelve fields");
-    };
+fn print_order(fields: &[&str], line: &mut Line) -> Result<(), Unanswered> {
+    let (first, second) = fields.split_at_checked(6).ok_or(Unanswered::NoCall)?;
     let (first, second) = (date_of(first)?, date_of(second)?);
     line.named(&first.cmp(&second));
     line.named(&second.cmp(&first));
     Ok(())
 }
 
-fn date_of(fields: &[&str]) -> Result<UtcDate> {
-    match Fields::from_words(fields)?.date() {
-        Some(date) => Ok(date),
-        None => bail!("a moment doesn't exist"),
-    }
+fn date_of(fields: &[&str]) -> Result<UtcDate, Unanswered> {
+    Fields::from_words(fields)?.date().ok_or(Unanswered::NoCall)
 }

@@ -1,0 +1,32 @@
+//! Why a row isn't answered.
+
+use std::alloc::{AllocError, AllocFailed};
+use thiserror::Error;
+
+#[derive(Clone, Copy, Debug, Error)]
+pub enum Unanswered {
+    /// Each call takes another number of words, or other words.
+    #[error("no call has such a row")]
+    NoCall,
+    /// A word of octets is neither of hexadecimal digits nor `-`.
+    #[error("a word is none of octets")]
+    NoOctets,
+    /// Octets that stand for a text are none in UTF-8.
+    #[error("octets are no text")]
+    NoText,
+    /// No memory was left.
+    #[error("out of memory")]
+    Memory,
+}
+
+impl From<AllocError> for Unanswered {
+    fn from(_refused: AllocError) -> Unanswered {
+        Unanswered::Memory
+    }
+}
+
+impl<T: Drop> From<AllocFailed<T>> for Unanswered {
+    fn from(_refused: AllocFailed<T>) -> Unanswered {
+        Unanswered::Memory
+    }
+}
