@@ -19,7 +19,7 @@ use der_core::{Elem, Structure, is_same, leaf_at};
 /// A kind of public keys.
 #[derive(Clone, Copy, Debug, PartialEq, Eq)]
 pub enum KeyKind {
-    /// RSA, its parameters NULL or absent (RFC 3279 2.3.1).
+    /// RSA, its parameters NULL (RFC 3279 2.3.1), or absent, which is read here too.
     Rsa,
     /// A point of a named curve (RFC 5480 2.1.1).
     Ec,

@@ -1,4 +1,4 @@
--- General names in one of eight forms (RFC 5280 4.2.1.6), by the raw names that they stand for.
+-- General names (RFC 5280 4.2.1.6, without x400Address [3]), by the raw names that they stand for.
 use Rattle.std.specs.Prelude.{◌≡◌, ℕ, List}
 use Rattle.der_core.specs.DerElement.{DerElement}
 use Rattle.asn1_types.specs.Values.{ia5_contents}

@@ -1,5 +1,5 @@
 -- The revisions and the types of a WIN_CERTIFICATE by their numbers (PE Format, "The Attribute
--- Certificate Table").
+-- Certificate Table"; the type of a PKCS #1 signature is that of WIN_CERTIFICATE in wintrust.h).
 use Rattle.std.specs.Prelude.{ℕ, ◌==◌, [], ◌∷◌, Option}
 use Rattle.std.specs.List.{find}
 use Rattle.wincert_core.specs.declared.kinds.RevisionType.{RevisionType}

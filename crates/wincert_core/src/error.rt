@@ -14,7 +14,7 @@ use thiserror::Error;
 pub enum WinCertificateError {
     /// The revision is neither 1.0 nor 2.0.
     WrongRevisionValue { got: u16 },
-    /// The type of the certificate has no meaning.
+    /// The type of the certificate is none of the four that are read.
     WrongCertificateType { got: u16 },
     /// The octets, or the length that they state, have no room for the header.
     WrongLength { minimum: usize, got: usize },

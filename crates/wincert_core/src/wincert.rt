@@ -70,7 +70,10 @@ impl WinCertificate {
         certificate: &[u8],
         certificate_type: CertificateType,
     ) -> WinCertificateResult<WinCertificate>
-        ensures { Gives (λ w. w) result (current certificate.now certificate_type) }
+        ensures given { Gives (λ w. w) result (current certificate.now certificate_type) }
+        // A refusal comes before memory is asked for.
+        ensures refused { (error : WinCertificateError)
+            → current certificate.now certificate_type ≡ Err error → result ≡ Err error }
     {
         if MAX_LENGTH - HEADER_LENGTH < certificate.len() {
             return Err(WinCertificateError::TooLong);
@@ -85,6 +88,9 @@ impl WinCertificate {
     /// The octets that stand for it in a file: they end at a multiple of eight.
     pub fn encode(self, alloc: Global) -> WinCertificateResult<Vec<u8>>
         ensures given { Gives (λ v. v.items) result (encoded self) }
+        // A refusal comes before memory is asked for.
+        ensures refused { (error : WinCertificateError)
+            → encoded self ≡ Err error → result ≡ Err error }
         // Decoded again it is the same with the padding taken for a part of the certificate,
         ensures read_back { IfOk result (λ v. BeginsWith v.items (with_padding self)) }
         // and that is encoded as the same octets.

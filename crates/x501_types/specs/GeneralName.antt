@@ -1,4 +1,4 @@
--- GeneralName ::= CHOICE of eight forms, each under a tag of its own (RFC 5280 4.2.1.6)
+-- GeneralName ::= CHOICE of nine forms, each under a tag of its own (RFC 5280 4.2.1.6), without x400Address [3]
 use Rattle.std.specs.Prelude.{◌≡◌, List, [], ◌∷◌, ◌++◌, Option, Some, None}
 use Rattle.der_core.specs.DerElement.{DerElement, Primitive, Constructed, row}
 use Rattle.der_core.specs.Each.{list_element}

@@ -27,8 +27,8 @@ const IP_ADDRESS: u8 = 0x87;
 
 const REGISTERED_ID: u8 = 0x88;
 
-/// A name in one of eight forms (RFC 5280 4.2.1.6). What a text or an address means is not asked of
-/// what is read.
+/// A name in one of eight of the nine forms (RFC 5280 4.2.1.6), all but the x400Address. What a text or
+/// an address means is not asked of what is read.
 #[derive(Debug, Drop)]
 pub enum RawGeneralName {
     OtherName(OtherName),

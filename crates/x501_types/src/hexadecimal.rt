@@ -5,7 +5,7 @@ ghost use Rattle.hex.specs.Hex.{encode_lower};
 
 use std::fmt;
 
-/// Writes octets in lower-case hexadecimal digits, two an octet. It fails only where the writer does.
+/// Writes octets in lower-case hexadecimal digits, two an octet.
 pub fn write_hexadecimal<W: fmt::Write>(octets: &[u8], f: &mut fmt::Formatter<W>) -> fmt::Result
     ensures { WritesOnOk W.write_str_gives f.old result (encode_lower octets.now) f.new }
 {

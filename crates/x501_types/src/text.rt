@@ -10,8 +10,8 @@ use std::alloc::{AllocError, Global};
 use std::{fmt, str};
 
 impl DirectoryString {
-    /// The text of the string, with `?` for what is no character of its type: an octet past 127
-    /// but in UTF-8, a surrogate, a last octet of a BMPString that has no second.
+    /// The text of the string, with `?` for an octet past 127 that isn't one of a UTF8String in
+    /// UTF-8, for a surrogate, and for a last octet of a BMPString that has no second.
     pub fn to_utf8_lossy(&self, alloc: Global) -> Result<String, AllocError>
         ensures { IfOk result (λ text. string_bytes text ≡ text_of self.now) }
     {
