@@ -1,11 +1,12 @@
 -- A text is a table of one list of rows, or has one first bad line, and never both.
-use Rattle.std.proofs.Common.{◌≡◌, ℕ, ◌+◌, List, [], length, refl, sym, ◌∙◌, ap, inl, inr}
+use Rattle.std.proofs.Common.{◌≡◌, ℕ, ◌+◌, List, [], ◌∷◌, ◌++◌, length, refl, sym, ◌∙◌, ap, append_assoc, inl, inr}
 use Rattle.std.specs.Prelude.{◌⊎◌}
+use Rattle.std.specs.List.{AllByRecursion}
 use Rattle.std.proofs.lemmas.List.{append-nil}
 use Rattle.sig_core.specs.declared.verdict_row.VerdictRow.{VerdictRow}
 use Rattle.sig_core.specs.declared.verdict_table.TableError.{TableError}
 use Rattle.sig_core.specs.declared.verdict_table.TableError.TheVariants.{BadLine, Memory}
-use Rattle.sig_core.specs.VerdictTable.{IsTable, IsFirstBadLine, IsCause, lines_of}
+use Rattle.sig_core.specs.VerdictTable.{IsTable, IsFirstBadLine, IsCause, IsRow, BeginsWithLine, line_of, lines_of}
 use Rattle.sig_core.proofs.Rows.{lines_once, nothing_begins}
 
 -- the rows of a table are determined
@@ -25,6 +26,14 @@ pub bad_line_once : (text : List ℕ) (m n : ℕ) → IsFirstBadLine text m → 
 bad_line_once text m n a b =
     let same = lines_once a.before b.before a.rest b.rest a.are_rows b.are_rows a.bad b.bad (sym a.spelled ∙ b.spelled) in
     a.counted ∙ ap (λ rows. length rows + 1) same.0 ∙ sym b.counted
+
+-- where a row stands behind the rows so far, the text begins with a row
+pub begins_with_line : (text : List ℕ) (rows : List VerdictRow) (rest : List ℕ) (row : VerdictRow) (after : List ℕ)
+    → AllByRecursion IsRow rows → text ≡ lines_of rows ++ rest → IsRow row → rest ≡ line_of row ++ after → BeginsWithLine text
+begins_with_line text [] rest row after are_rows spelled is_row begun =
+    record { row = row; after = after; is_row = is_row; spelled = spelled ∙ begun }
+begins_with_line text (first ∷ others) rest row after are_rows spelled is_row begun =
+    record { row = first; after = lines_of others ++ rest; is_row = are_rows.0; spelled = spelled ∙ append_assoc (line_of first) (lines_of others) rest }
 
 -- what refuses a table is want of memory
 pub cause_at_table : (text : List ℕ) (rows : List VerdictRow) (e : TableError) → IsTable text rows → IsCause text e → e ≡ Memory

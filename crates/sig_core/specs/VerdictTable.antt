@@ -1,5 +1,5 @@
 -- Verdict tables: how rows are spelled, where a text stops being a table, and what a table accepts.
-use Rattle.std.specs.Prelude.{◌≡◌, ◌≢◌, ⊤, ℕ, ◌+◌, List, [], ◌∷◌, ◌++◌, length, Bool, ◌&&◌, if◌then◌else◌}
+use Rattle.std.specs.Prelude.{◌≡◌, ◌≢◌, ℕ, ◌+◌, List, [], ◌∷◌, ◌++◌, length, Bool, ◌&&◌, if◌then◌else◌}
 use Rattle.std.specs.List.{AllByRecursion, flat_map, list_any}
 use Rattle.std.specs.Str.{bytes_eq}
 use Rattle.hex.specs.Hex.{encode_lower, IsBytes}
@@ -73,7 +73,14 @@ abbrev pub verdict_of : List VerdictRow → SigAlg → List ℕ → List ℕ →
 verdict_of rows alg key msg sig =
     if list_any (is_same_row (row_of alg key msg sig)) rows then Accept else Reject
 
--- why a text gives no table
+-- the text begins with the line of a row
+pub record BeginsWithLine (text : List ℕ) : Type 0 where
+  pub row : VerdictRow
+  pub after : List ℕ
+  pub is_row : IsRow row
+  pub spelled : text ≡ line_of row ++ after
+
+-- why a text gives no table. Memory is asked for where there is a row
 abbrev pub IsCause : List ℕ → TableError → Type 0
 IsCause text (BadLine number) = IsFirstBadLine text number
-IsCause text Memory = ⊤
+IsCause text Memory = BeginsWithLine text

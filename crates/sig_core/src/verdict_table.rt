@@ -77,6 +77,7 @@ impl VerdictTable {
     /// of a message and of a signature in lower-case hexadecimal digits, with one space between.
     pub fn parse(alloc: Global, bytes: &[u8]) -> Result<VerdictTable, TableError>
         ensures table { IfOk result (λ table. IsTable bytes.now table) }
+        // Want of memory is none where no row begins the text.
         ensures cause { IfErr result (IsCause bytes.now) }
         // A table is read as its rows.
         ensures each_table { (rows : List VerdictRow) → IsTable bytes.now rows
