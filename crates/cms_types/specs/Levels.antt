@@ -43,8 +43,8 @@ abbrev pub IsAlgorithm : DerElement → AlgorithmIdentifier → Type 0
 IsAlgorithm element value = element ≡ algorithm_identifier value
 
 -- the element is an OCTET STRING of these octets
-abbrev pub IsOctets : DerElement → List ℕ → Type 0
-IsOctets element octets = element ≡ octet_string octets
+abbrev pub IsOctetString : DerElement → List ℕ → Type 0
+IsOctetString element octets = element ≡ octet_string octets
 
 -- the element is that of a content with its type
 abbrev pub IsContentInfo : DerElement → EncapsulatedContentInfo → Type 0
@@ -57,7 +57,7 @@ pub record AreSignerFields (f : SignerElements) : Type 0 where
   pub digest_algorithm : Fits IsAlgorithm f.digest_algorithm
   pub signed_attrs : OfOption (Fits AreSignedAttributes) f.signed_attrs
   pub signature_algorithm : Fits IsAlgorithm f.signature_algorithm
-  pub signature : Fits IsOctets f.signature
+  pub signature : Fits IsOctetString f.signature
   pub unsigned_attrs : OfOption (IsConstructed 0xA1) f.unsigned_attrs
 
 -- Each field of SignedData has its shape, but what the signers are isn't asked. CertificateSet and RevocationInfoChoices hold any elements.

@@ -6,7 +6,7 @@ use Rattle.der_core.specs.Each.{IsListOf, list_element}
 use Rattle.der_core.specs.Elements.{octet_string}
 use Rattle.key_types.specs.AlgorithmIdentifier.{algorithm_identifier}
 use Rattle.cms_types.specs.CmsVersion.{cms_version}
-use Rattle.cms_types.specs.Levels.{IsVersion, IsSignerIdentifier, IsAlgorithm, IsOctets}
+use Rattle.cms_types.specs.Levels.{IsVersion, IsSignerIdentifier, IsAlgorithm, IsOctetString}
 use Rattle.der_core.specs.Optional.{SpellsOption}
 use Rattle.cms_types.specs.SignerIdentifier.{signer_identifier}
 use Rattle.cms_types.specs.SignedAttributesElement.{signed_attributes}
@@ -39,5 +39,5 @@ pub record AreFieldsOf (f : SignerElements) (signer : SignerInfo) : Type 0 where
   pub digest_algorithm : IsAlgorithm f.digest_algorithm signer.digest_algorithm
   pub signed_attrs : SpellsOption (λ (element : DerElement) (value : SignedAttributes). element ≡ signed_attributes value) f.signed_attrs signer.signed_attrs
   pub signature_algorithm : IsAlgorithm f.signature_algorithm signer.signature_algorithm
-  pub signature : IsOctets f.signature signer.signature
+  pub signature : IsOctetString f.signature signer.signature
   pub unsigned_attrs : SpellsOption (IsListOf 0xA1 (λ (element : DerElement) (value : UnsignedAttribute). element ≡ unsigned_attribute value)) f.unsigned_attrs signer.unsigned_attrs

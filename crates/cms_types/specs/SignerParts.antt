@@ -3,7 +3,7 @@ use Rattle.std.specs.Prelude.{◌≡◌}
 use Rattle.der_core.specs.DerElement.{DerElement}
 use Rattle.der_core.specs.Each.{IsListOf}
 use Rattle.der_core.specs.Optional.{SpellsOption}
-use Rattle.cms_types.specs.Levels.{IsSignerIdentifier, IsAlgorithm, IsOctets}
+use Rattle.cms_types.specs.Levels.{IsSignerIdentifier, IsAlgorithm, IsOctetString}
 use Rattle.cms_types.specs.SignedAttributesElement.{signed_attributes}
 use Rattle.cms_types.specs.SignerElements.{SignerElements}
 use Rattle.cms_types.specs.UnsignedAttribute.{unsigned_attribute}
@@ -23,7 +23,7 @@ pub record IsSignedBy (f : SignerElements) (part : SignedBy) : Type 0 where
 -- Each element spells the field of the second part.
 pub record AreSignatureFields (f : SignerElements) (part : SignatureFields) : Type 0 where
   pub signed_attrs : SpellsOption (λ (element : DerElement) (value : SignedAttributes). element ≡ signed_attributes value) f.signed_attrs part.signed_attrs
-  pub signature : IsOctets f.signature part.signature
+  pub signature : IsOctetString f.signature part.signature
   pub unsigned_attrs : SpellsOption (IsListOf 0xA1 (λ (element : DerElement) (value : UnsignedAttribute). element ≡ unsigned_attribute value)) f.unsigned_attrs part.unsigned_attrs
 
 -- the first part of a signer

@@ -10,9 +10,3 @@ named_unsigned oid =
     if bytes_eq oid COUNTERSIGNATURE.now then kinds.CounterSign
     else (if bytes_eq oid RFC3161_COUNTER_SIGN.now then kinds.MsCounterSign
     else kinds.Other)
-
--- a number for each kind
-abbrev pub unsigned_number : UnsignedKind → ℕ
-unsigned_number kinds.CounterSign = 0
-unsigned_number kinds.MsCounterSign = 1
-unsigned_number kinds.Other = 2

@@ -8,7 +8,7 @@ use Rattle.der_core.specs.declared.elem.Elem.{Elem}
 use Rattle.der_core.proofs.Parts.{same_kids}
 use Rattle.asn1_types.specs.Elements.{integer}
 use Rattle.asn1_types.specs.declared.integer.IntegerAsn1.{IntegerAsn1}
-use Rattle.content_types.specs.Ctl.{Begins, MayBegin, IsNothing, FirstNot, IsInteger, IsString, IsUsage, IsTime, IsAlgorithm, AreEntries, AreExtensions, FromEntries, FromAlgorithm, FromThisUpdate, FromUsage, IsCtl}
+use Rattle.content_types.specs.Ctl.{Begins, MayBegin, IsNothing, FirstNot, IsIntegerElement, IsString, IsPurposeList, IsTime, IsAlgorithm, AreEntries, AreExtensions, FromEntries, FromAlgorithm, FromThisUpdate, FromUsage, IsCtl}
 use Rattle.content_types.specs.Facts.Ctls.{usage_no_integer, this_no_integer, number_no_string, algorithm_no_time, nothing_no_extensions}
 use Rattle.content_types.specs.CtlElement.{ctl}
 use Rattle.content_types.specs.declared.ctl.Ctl.{Ctl}
@@ -29,7 +29,7 @@ took_as spells None old new m = (m.0, unfit_not spells old m.1)
 took_as spells (Some elem) old new m = m
 
 pub took_integer : (found : Option Elem) (old new : List DerElement)
-    → MatchOption found ((new ≡ old) × BeginsUnfit (λ (element : DerElement) (value : IntegerAsn1). element ≡ integer value) old) (λ elem. (old ≡ elem.is.0 ∷ new) × IsInteger elem.is.0) → Took IsInteger found old new
+    → MatchOption found ((new ≡ old) × BeginsUnfit (λ (element : DerElement) (value : IntegerAsn1). element ≡ integer value) old) (λ elem. (old ≡ elem.is.0 ∷ new) × IsIntegerElement elem.is.0) → Took IsIntegerElement found old new
 took_integer found old new m = took_as (λ (element : DerElement) (value : IntegerAsn1). element ≡ integer value) found old new m
 
 pub took_string : (found : Option Elem) (old new : List DerElement)
@@ -65,15 +65,15 @@ goes_back holds behind (Some elem) old new t rest = MayBegin.Given (record { fir
 
 -- ---- from field to field
 
-pub usage_row : (e : DerElement) (k0 k1 : List DerElement) (version : Option Elem) (es : List CTLEntry) → e ≡ Constructed 0x30 (row k0) → Took IsInteger version k0 k1 → IsCtl e es → FromUsage es k1
+pub usage_row : (e : DerElement) (k0 k1 : List DerElement) (version : Option Elem) (es : List CTLEntry) → e ≡ Constructed 0x30 (row k0) → Took IsIntegerElement version k0 k1 → IsCtl e es → FromUsage es k1
 usage_row e k0 k1 version es is t of =
-    goes_on IsInteger (FromUsage es) version k0 k1 t (usage_no_integer es k0) (subst (MayBegin IsInteger (FromUsage es)) (sym (same_kids e 0x30 0x30 k0 of.kids is of.is)) of.fields)
+    goes_on IsIntegerElement (FromUsage es) version k0 k1 t (usage_no_integer es k0) (subst (MayBegin IsIntegerElement (FromUsage es)) (sym (same_kids e 0x30 0x30 k0 of.kids is of.is)) of.fields)
 
-pub this_row : (es : List CTLEntry) (u : DerElement) (k1 k2 k3 k4 : List DerElement) (identifier number : Option Elem) → k1 ≡ u ∷ k2 → Took IsString identifier k2 k3 → Took IsInteger number k3 k4 → FromUsage es k1 → FromThisUpdate es k4
+pub this_row : (es : List CTLEntry) (u : DerElement) (k1 k2 k3 k4 : List DerElement) (identifier number : Option Elem) → k1 ≡ u ∷ k2 → Took IsString identifier k2 k3 → Took IsIntegerElement number k3 k4 → FromUsage es k1 → FromThisUpdate es k4
 this_row es u k1 k2 k3 k4 identifier number are s i of =
-    goes_on IsInteger (FromThisUpdate es) number k3 k4 i (this_no_integer es k3)
-    (goes_on IsString (MayBegin IsInteger (FromThisUpdate es)) identifier k2 k3 s (number_no_string es k2)
-    (behind_first IsUsage (MayBegin IsString (MayBegin IsInteger (FromThisUpdate es))) k1 u k2 are of))
+    goes_on IsIntegerElement (FromThisUpdate es) number k3 k4 i (this_no_integer es k3)
+    (goes_on IsString (MayBegin IsIntegerElement (FromThisUpdate es)) identifier k2 k3 s (number_no_string es k2)
+    (behind_first IsPurposeList (MayBegin IsString (MayBegin IsIntegerElement (FromThisUpdate es))) k1 u k2 are of))
 
 pub algorithm_row : (es : List CTLEntry) (t : DerElement) (k4 k5 k6 : List DerElement) (next : Option Elem) → k4 ≡ t ∷ k5 → Took IsTime next k5 k6 → FromThisUpdate es k4 → FromAlgorithm es k6
 algorithm_row es t k4 k5 k6 next are n of =
@@ -93,7 +93,7 @@ pub no_more : (kids : List DerElement) → HasMore kids → IsNothing kids → �
 no_more kids more none = let same : more.kid ∷ more.rest ≡ [] = sym more.are ∙ none in absurd cc
 
 pub ctl_whole : (e u t a x : DerElement) (k0 k1 k2 k3 k4 k5 k6 k7 k8 k9 : List DerElement) (version identifier number next extensions : Option Elem) (es : List CTLEntry)
-    → e ≡ Constructed 0x30 (row k0) → Took IsInteger version k0 k1 → (k1 ≡ u ∷ k2) × IsUsage u → Took IsString identifier k2 k3 → Took IsInteger number k3 k4 → (k4 ≡ t ∷ k5) × IsTime t → Took IsTime next k5 k6
+    → e ≡ Constructed 0x30 (row k0) → Took IsIntegerElement version k0 k1 → (k1 ≡ u ∷ k2) × IsPurposeList u → Took IsString identifier k2 k3 → Took IsIntegerElement number k3 k4 → (k4 ≡ t ∷ k5) × IsTime t → Took IsTime next k5 k6
     → (k6 ≡ a ∷ k7) × IsAlgorithm a → k7 ≡ x ∷ k8 → Took AreExtensions extensions k8 k9 → k9 ≡ [] → AreEntries x es → IsCtl e es
 ctl_whole e u t a x k0 k1 k2 k3 k4 k5 k6 k7 k8 k9 version identifier number next extensions es is tv tu ti tn tt' tx ta te te' none list =
     let entries : FromEntries es k7 = record { first = x; others = k8; are = te; is = list; rest = goes_back AreExtensions IsNothing extensions k8 k9 te' none } in
@@ -104,9 +104,9 @@ ctl_whole e u t a x k0 k1 k2 k3 k4 k5 k6 k7 k8 k9 version identifier number next
       others = k2;
       are = tu.0;
       is = tu.1;
-      rest = goes_back IsString (MayBegin IsInteger (FromThisUpdate es)) identifier k2 k3 ti (goes_back IsInteger (FromThisUpdate es) number k3 k4 tn this);
+      rest = goes_back IsString (MayBegin IsIntegerElement (FromThisUpdate es)) identifier k2 k3 ti (goes_back IsIntegerElement (FromThisUpdate es) number k3 k4 tn this);
     } in
-    record { kids = k0; is = is; fields = goes_back IsInteger (FromUsage es) version k0 k1 tv usage }
+    record { kids = k0; is = is; fields = goes_back IsIntegerElement (FromUsage es) version k0 k1 tv usage }
 
 -- ---- of a trust list that is kept
 

@@ -37,16 +37,16 @@ IsNothing all = all ≡ []
 -- ---- the fields
 
 -- an INTEGER, in one octet at least (X.690 8.3.1)
-abbrev pub IsInteger : DerElement → Type 0
-IsInteger = Fits (λ (element : DerElement) (value : IntegerAsn1). element ≡ integer value)
+abbrev pub IsIntegerElement : DerElement → Type 0
+IsIntegerElement = Fits (λ (element : DerElement) (value : IntegerAsn1). element ≡ integer value)
 
 -- an OCTET STRING
 abbrev pub IsString : DerElement → Type 0
 IsString = Fits (λ (element : DerElement) (octets : List ℕ). element ≡ octet_string octets)
 
 -- a SEQUENCE of purposes
-abbrev pub IsUsage : DerElement → Type 0
-IsUsage = Fits ArePurposes
+abbrev pub IsPurposeList : DerElement → Type 0
+IsPurposeList = Fits ArePurposes
 
 -- UTCTime or GeneralizedTime, of any contents
 abbrev pub IsTime : DerElement → Type 0
@@ -80,7 +80,7 @@ FromThisUpdate entries = Begins IsTime (MayBegin IsTime (FromAlgorithm entries))
 
 -- the fields from the usage on
 abbrev pub FromUsage : List CTLEntry → List DerElement → Type 0
-FromUsage entries = Begins IsUsage (MayBegin IsString (MayBegin IsInteger (FromThisUpdate entries)))
+FromUsage entries = Begins IsPurposeList (MayBegin IsString (MayBegin IsIntegerElement (FromThisUpdate entries)))
 
 -- CertificateTrustList ::= SEQUENCE { version INTEGER OPTIONAL, subjectUsage SEQUENCE OF OBJECT IDENTIFIER, listIdentifier OCTET STRING OPTIONAL,
 -- sequenceNumber INTEGER OPTIONAL, ctlThisUpdate ChoiceOfTime, ctlNextUpdate ChoiceOfTime OPTIONAL, subjectAlgorithm AlgorithmIdentifier,
@@ -88,4 +88,4 @@ FromUsage entries = Begins IsUsage (MayBegin IsString (MayBegin IsInteger (FromT
 pub record IsCtl (element : DerElement) (entries : List CTLEntry) : Type 0 where
   pub kids : List DerElement
   pub is : element ≡ sequence kids
-  pub fields : MayBegin IsInteger (FromUsage entries) kids
+  pub fields : MayBegin IsIntegerElement (FromUsage entries) kids

@@ -12,11 +12,3 @@ named_ctl oid =
     else (if bytes_eq oid CERT_NOT_BEFORE_FILETIME.now then kinds.UnknownReservedPropId126
     else (if bytes_eq oid CERT_NOT_BEFORE_ENHKEY_USAGE.now then kinds.UnknownReservedPropId127
     else kinds.Other)))
-
--- a number for each kind
-abbrev pub ctl_number : CtlKind → ℕ
-ctl_number kinds.CertSubjectNameMd5HashPropId = 0
-ctl_number kinds.CertDisallowedFileTimePropId = 1
-ctl_number kinds.UnknownReservedPropId126 = 2
-ctl_number kinds.UnknownReservedPropId127 = 3
-ctl_number kinds.Other = 4

@@ -7,12 +7,12 @@ use Rattle.asn1_types.specs.Elements.{object_identifier}
 use Rattle.asn1_types.specs.declared.oid.ObjectIdentifier.{ObjectIdentifier}
 
 -- The element is that of the identifier.
-abbrev pub IsIdentifier : DerElement → ObjectIdentifier → Type 0
-IsIdentifier element id = element ≡ object_identifier id
+abbrev pub IsPurposeElement : DerElement → ObjectIdentifier → Type 0
+IsPurposeElement element id = element ≡ object_identifier id
 
 -- The element holds the purposes, in order.
 abbrev pub ArePurposes : DerElement → List ObjectIdentifier → Type 0
-ArePurposes = IsListOf 0x30 IsIdentifier
+ArePurposes = IsListOf 0x30 IsPurposeElement
 
 -- The octets are the encoding of the element that holds the purposes, all of it.
 abbrev pub ArePurposesIn : List ℕ → List ObjectIdentifier → Type 0

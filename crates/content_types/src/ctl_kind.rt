@@ -21,7 +21,7 @@ pub enum CtlKind {
     CertSubjectNameMd5HashPropId,
     /// From when on the subject isn't trusted.
     CertDisallowedFileTimePropId,
-    /// A time, from which on a certificate of the subject's isn't trusted.
+    /// A time (CERT_NOT_BEFORE_FILETIME_PROP_ID).
     UnknownReservedPropId126,
     /// The purposes of which the time is said.
     UnknownReservedPropId127,

@@ -23,7 +23,7 @@ pub enum CTLEntryAttributeValues {
     CertSubjectNameMd5HashPropId(ListOf<Octets>),
     /// From when on the subject isn't trusted.
     CertDisallowedFileTimePropId(ListOf<Octets>),
-    /// A time, from which on a certificate of the subject's isn't trusted.
+    /// A time (CERT_NOT_BEFORE_FILETIME_PROP_ID).
     UnknownReservedPropId126(ListOf<Octets>),
     /// The purposes of which the time is said.
     UnknownReservedPropId127(ListOf<HeldPurposes>),

@@ -35,24 +35,24 @@ serial_of (Some octets) word = number_of octets
 abbrev pub IsHalfOf : PrivateKey → SubjectPublicKeyInfo → Type 0
 IsHalfOf key = IsPublicHalf (container_of key).private_key (container_of key).private_key_algorithm (point_beside key)
 
--- a name and a key
+-- a name, by its sets of attributes
 abbrev pub Name : Type 0
 Name = List (List AttributeTypeAndValue)
 
--- They are those of the subject that is given. A request has to be signed by its own key.
+-- The name and the key are those of the subject that is given. A request has to be signed by its own key.
 abbrev pub IsGivenSubject : Judge → Option SubjectInfos → Name → SubjectPublicKeyInfo → Type 0
 IsGivenSubject judge None name key = ⊥
 IsGivenSubject judge (Some (subjects.Named given own)) name key = (name ≡ sets_of given) × (key ≡ info_of own)
 IsGivenSubject judge (Some (subjects.Request csr)) name key =
     IsSelfSigned judge csr × (name ≡ csr.request.certification_request_info.subject) × (key ≡ csr.request.certification_request_info.subject_public_key_info)
 
--- They are those of the subject: of the issuer where it signs its own key, else the given ones, and the key of the issuer is identified.
+-- The name and the key are those of the subject: of the issuer where it signs its own key, else the given ones, and the key of the issuer is identified.
 abbrev pub IsSubjectBy : Judge → (self_signed : Bool) → IssuerInfos → Option (List ℕ) → Option SubjectInfos → Name → SubjectPublicKeyInfo → Type 0
 IsSubjectBy judge true issuer authority given name key = (name ≡ sets_of issuer.name) × IsHalfOf issuer.key.now key
 IsSubjectBy judge false issuer None given name key = ⊥
 IsSubjectBy judge false issuer (Some authority) given name key = IsGivenSubject judge given name key
 
--- They are those of the subject that the builder asks for.
+-- The name and the key are those of the subject that the builder asks for.
 abbrev pub IsSubject : Judge → CertificateBuilder → IssuerInfos → Name → SubjectPublicKeyInfo → Type 0
 IsSubject judge b issuer = IsSubjectBy judge issuer.self_signed issuer b.authority_key_identifier b.subject_infos
 

@@ -33,7 +33,7 @@ IsPayloadOf (keys.Ec bits) octets = octets ≡ payload_of bits
 IsPayloadOf (keys.Ed bits) octets = octets ≡ payload_of bits
 IsPayloadOf (keys.Mldsa bits) octets = octets ≡ payload_of bits
 
--- the whole SubjectPublicKeyInfo of a key can be written
+-- the octets are the encoding of the whole SubjectPublicKeyInfo of a key, which can be written
 abbrev pub IsWholeOf : SubjectPublicKeyInfo → List ℕ → Type 0
 IsWholeOf info octets = (octets ≡ encoding (public_key_info info)) × IsDer (public_key_info info) × AreDer (inner_key info.subject_public_key)
 

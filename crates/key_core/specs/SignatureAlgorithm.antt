@@ -17,7 +17,7 @@ use Rattle.key_core.specs.declared.signature_error.SignatureError.{SignatureErro
 use Rattle.key_core.specs.declared.signature_error.SignatureError.TheVariants as errors
 use Rattle.key_core.specs.declared.signature_error.Unsupported.TheVariants as unsupported
 
--- the contents octets of the identifier, where there is one (RFC 8017 A.2.4, RFC 5758 3.2, RFC 8410 3)
+-- the contents octets of the identifier, where there is one here (RFC 8017 A.2.4, RFC 5758 3.2, RFC 8410 3)
 abbrev pub signature_identifier : SignatureAlgorithm → Option (List ℕ)
 signature_identifier (RsaPkcs1v15 MD5) = Some octets.MD5_WITH_RSA_ENCRYPTION.now
 signature_identifier (RsaPkcs1v15 SHA1) = Some octets.SHA1_WITH_RSA_ENCRYPTION.now

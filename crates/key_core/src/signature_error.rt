@@ -39,7 +39,7 @@ pub enum SigContext {
     SchemeRefused,
     /// The signature has no form that one of the algorithm could have.
     Malformed,
-    /// ECDSA has no identifier for the digest algorithm.
+    /// ECDSA has no identifier for the digest algorithm here.
     HashNotSupported,
     /// The key hasn't 32 octets.
     KeySize,

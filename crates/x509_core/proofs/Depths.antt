@@ -9,7 +9,7 @@ use Rattle.asn1_types.specs.declared.oids.TheConstants.{CE_BASIC_CONSTRAINTS}
 use Rattle.x509_values.specs.BasicConstraints.{small_integer}
 use Rattle.x509_values.specs.Facts.Constraints.{integer_once}
 use Rattle.x509_types.specs.CertificateElements.{CertificateElements}
-use Rattle.x509_types.specs.ExtensionParts.{BeginsWith, EndsWithLength, HasCa, HasPathLength}
+use Rattle.x509_types.specs.ExtensionParts.{HasFirstElement, EndsWithLength, HasCa, HasPathLength}
 use Rattle.x509_types.proofs.FirstExtensions.{value_once}
 use Rattle.x509_core.specs.CertType.{IsOfType}
 use Rattle.x509_core.specs.declared.cert_type.CertType.{CertType}

@@ -5,7 +5,7 @@ use Rattle.der_core.specs.Elements.{sequence}
 use Rattle.asn1_types.specs.declared.oids.TheConstants.{CE_SUBJECT_KEY_IDENTIFIER, CE_AUTHORITY_KEY_IDENTIFIER}
 use Rattle.x509_types.specs.CertificateElements.{CertificateElements}
 use Rattle.x509_types.specs.ExtensionView.{key_identifier}
-use Rattle.x509_types.specs.ExtensionParts.{BeginsWith, IsKeyIdentifier, HasSubjectKey, HasAuthorityKey}
+use Rattle.x509_types.specs.ExtensionParts.{HasFirstElement, IsAuthorityKeyIdentifier, HasSubjectKey, HasAuthorityKey}
 use Rattle.x509_types.proofs.FirstExtensions.{value_once}
 use Rattle.x509_core.specs.Parent.{AgreeByKey}
 
@@ -15,7 +15,7 @@ first_kid x y xs ys e = cc
 same_contents : (a b : List ℕ) → Primitive 0x80 a ≡ Primitive 0x80 b → a ≡ b
 same_contents a b e = cc
 
-begins_once : (x y : DerElement) (a b : List ℕ) → x ≡ y → BeginsWith IsKeyIdentifier x a → BeginsWith IsKeyIdentifier y b → a ≡ b
+begins_once : (x y : DerElement) (a b : List ℕ) → x ≡ y → HasFirstElement IsAuthorityKeyIdentifier x a → HasFirstElement IsAuthorityKeyIdentifier y b → a ≡ b
 begins_once x y a b same p q = same_contents a b (sym p.says ∙ first_kid p.kid q.kid p.kids q.kids (sym p.is ∙ same ∙ q.is) ∙ q.says)
 
 pub named_once : (f : CertificateElements) (a b : List ℕ) → HasAuthorityKey f a → HasAuthorityKey f b → a ≡ b

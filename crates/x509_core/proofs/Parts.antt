@@ -14,7 +14,7 @@ use Rattle.x509_values.specs.Boolean.{IsOptionalBoolean}
 use Rattle.x509_values.specs.Facts.Constraints.{boolean_once, default_field, lengths_once, no_flag, optional_field}
 use Rattle.x509_values.specs.declared.authority_key_identifier.AuthorityKeyIdentifier.{AuthorityKeyIdentifier}
 use Rattle.x509_values.specs.declared.basic_constraints.BasicConstraints.{BasicConstraints}
-use Rattle.x509_types.specs.ExtensionParts.{BeginsWith, EndsWithLength, IsKeyIdentifier}
+use Rattle.x509_types.specs.ExtensionParts.{HasFirstElement, EndsWithLength, IsAuthorityKeyIdentifier}
 
 -- ---- flags
 
@@ -33,11 +33,11 @@ flag_among (Some x) number flag kids kid b flagged e is =
     let same : flagged.0 ≡ kid = cc in
     ap Some (boolean_once kid x b (subst (λ (k : DerElement). IsBoolean k x) same flagged.2) is)
 
-pub flag_of : (element : DerElement) (b : BasicConstraints) (flag : Bool) → IsBasicConstraints element b → BeginsWith IsBoolean element flag → b.ca ≡ Some flag
+pub flag_of : (element : DerElement) (b : BasicConstraints) (flag : Bool) → IsBasicConstraints element b → HasFirstElement IsBoolean element flag → b.ca ≡ Some flag
 flag_of element b flag is begins =
     flag_among b.ca b.pathlen is.flag begins.kids begins.kid flag is.flagged (same_fields (is.flag ++ optional_integer b.pathlen) (begins.kid ∷ begins.kids) (sym is.is ∙ begins.is)) begins.says
 
-flag_stands : (element : DerElement) (ca : Option Bool) (number : Option ℕ) (flag : List DerElement) (b : Bool) → IsOptionalBoolean flag ca → element ≡ sequence (flag ++ optional_integer number) → ca ≡ Some b → BeginsWith IsBoolean element b
+flag_stands : (element : DerElement) (ca : Option Bool) (number : Option ℕ) (flag : List DerElement) (b : Bool) → IsOptionalBoolean flag ca → element ≡ sequence (flag ++ optional_integer number) → ca ≡ Some b → HasFirstElement IsBoolean element b
 flag_stands element None number flag b flagged is given = absurd cc
 flag_stands element (Some x) number flag b flagged is given =
     let same : x ≡ b = cc in
@@ -48,7 +48,7 @@ flag_stands element (Some x) number flag b flagged is given =
       says = subst (IsBoolean flagged.0) same flagged.2;
     }
 
-pub begins_with_flag : (element : DerElement) (b : BasicConstraints) (flag : Bool) → IsBasicConstraints element b → b.ca ≡ Some flag → BeginsWith IsBoolean element flag
+pub begins_with_flag : (element : DerElement) (b : BasicConstraints) (flag : Bool) → IsBasicConstraints element b → b.ca ≡ Some flag → HasFirstElement IsBoolean element flag
 begins_with_flag element b flag is given = flag_stands element b.ca b.pathlen is.flag flag is.flagged is.is given
 
 -- ---- path lengths
@@ -87,12 +87,12 @@ key_among None None (Some z) kid kids k tagged e is =
     absurd (omega (arith, tags))
 key_among None None None kid kids k tagged e is = absurd cc
 
-pub key_of : (element : DerElement) (a : AuthorityKeyIdentifier) (key : List ℕ) → element ≡ authority_key_identifier a → BeginsWith IsKeyIdentifier element key → a.key_identifier ≡ Some key
+pub key_of : (element : DerElement) (a : AuthorityKeyIdentifier) (key : List ℕ) → element ≡ authority_key_identifier a → HasFirstElement IsAuthorityKeyIdentifier element key → a.key_identifier ≡ Some key
 key_of element a key is begins =
     key_among a.key_identifier (kept_option a.issuer) a.serial_number begins.kid begins.kids key a.tagged
     (same_fields (optional_leaf 0x80 a.key_identifier ++ (option_to_list (kept_option a.issuer) ++ optional_leaf 0x82 a.serial_number)) (begins.kid ∷ begins.kids) (sym is ∙ begins.is)) begins.says
 
-pub begins_with_key : (element : DerElement) (a : AuthorityKeyIdentifier) (key : List ℕ) → element ≡ authority_key_identifier a → a.key_identifier ≡ Some key → BeginsWith IsKeyIdentifier element key
+pub begins_with_key : (element : DerElement) (a : AuthorityKeyIdentifier) (key : List ℕ) → element ≡ authority_key_identifier a → a.key_identifier ≡ Some key → HasFirstElement IsAuthorityKeyIdentifier element key
 begins_with_key element a key is given = record {
   kid = Primitive 0x80 key;
   kids = option_to_list (kept_option a.issuer) ++ optional_leaf 0x82 a.serial_number;

@@ -9,17 +9,17 @@ use Rattle.der_core.specs.Facts.Fields.{split}
 use Rattle.der_core.specs.Facts.Grammars.{same_fields}
 use Rattle.x509_values.specs.BasicConstraints.{small_integer}
 use Rattle.x509_values.specs.Facts.Constraints.{default_field}
-use Rattle.x509_types.specs.ExtensionParts.{BeginsWith, EndsWithLength}
+use Rattle.x509_types.specs.ExtensionParts.{HasFirstElement, EndsWithLength}
 
 -- nothing begins a sequence of none
-pub none_begins : {X : Type 0} (part : DerElement → X → Type 0) (element : DerElement) (all : List DerElement) (x : X) → element ≡ sequence all → all ≡ [] → BeginsWith part element x → ⊥
+pub none_begins : {X : Type 0} (part : DerElement → X → Type 0) (element : DerElement) (all : List DerElement) (x : X) → element ≡ sequence all → all ≡ [] → HasFirstElement part element x → ⊥
 none_begins part element all x holds none b =
     let kids : [] ≡ b.kid ∷ b.kids = sym none ∙ same_fields all (b.kid ∷ b.kids) (sym holds ∙ b.is) in
     absurd cc
 
 -- what the first element says, the sequence begins with
 pub begins : {X R : Type 0} (now : R → X) (part : DerElement → X → Type 0) (element kid : DerElement) (all rest : List DerElement) (r : Option R) → element ≡ sequence all → all ≡ kid ∷ rest
-    → MatchOption r ((x : X) → part kid x → ⊥) (λ x. part kid (now x)) → MatchOption r ((x : X) → BeginsWith part element x → ⊥) (λ x. BeginsWith part element (now x))
+    → MatchOption r ((x : X) → part kid x → ⊥) (λ x. part kid (now x)) → MatchOption r ((x : X) → HasFirstElement part element x → ⊥) (λ x. HasFirstElement part element (now x))
 begins now part element kid all rest None holds are none = λ x b.
     let kids : kid ∷ rest ≡ b.kid ∷ b.kids = sym are ∙ same_fields all (b.kid ∷ b.kids) (sym holds ∙ b.is) in
     let first : b.kid ≡ kid = cc in

@@ -10,7 +10,7 @@ use Rattle.x509_types.specs.CertificateElements.{CertificateElements}
 use Rattle.x509_types.specs.FirstExtension.{Says}
 
 -- A SEQUENCE begins with an element that says the value.
-pub record BeginsWith {X : Type 0} (part : DerElement → X → Type 0) (element : DerElement) (value : X) : Type 0 where
+pub record HasFirstElement {X : Type 0} (part : DerElement → X → Type 0) (element : DerElement) (value : X) : Type 0 where
   pub kid : DerElement
   pub kids : List DerElement
   pub is : element ≡ sequence (kid ∷ kids)
@@ -24,8 +24,8 @@ pub record EndsWithLength (element : DerElement) (number : ℕ) : Type 0 where
   pub is : element ≡ sequence (flag ++ small_integer number ∷ [])
 
 -- keyIdentifier [0] IMPLICIT OCTET STRING OPTIONAL of AuthorityKeyIdentifier
-abbrev pub IsKeyIdentifier : DerElement → List ℕ → Type 0
-IsKeyIdentifier element key = element ≡ Primitive 0x80 key
+abbrev pub IsAuthorityKeyIdentifier : DerElement → List ℕ → Type 0
+IsAuthorityKeyIdentifier element key = element ≡ Primitive 0x80 key
 
 -- SubjectKeyIdentifier ::= OCTET STRING
 abbrev pub IsSubjectKeyIdentifier : DerElement → List ℕ → Type 0
@@ -33,7 +33,7 @@ IsSubjectKeyIdentifier element key = element ≡ key_identifier key
 
 -- basic constraints have this flag, cA BOOLEAN DEFAULT FALSE, and it is given
 abbrev pub HasCa : CertificateElements → Bool → Type 0
-HasCa = Says CE_BASIC_CONSTRAINTS.now (BeginsWith IsBoolean)
+HasCa = Says CE_BASIC_CONSTRAINTS.now (HasFirstElement IsBoolean)
 
 -- basic constraints have this path length
 abbrev pub HasPathLength : CertificateElements → ℕ → Type 0
@@ -45,4 +45,4 @@ HasSubjectKey = Says CE_SUBJECT_KEY_IDENTIFIER.now IsSubjectKeyIdentifier
 
 -- the key of the authority is named by this identifier
 abbrev pub HasAuthorityKey : CertificateElements → List ℕ → Type 0
-HasAuthorityKey = Says CE_AUTHORITY_KEY_IDENTIFIER.now (BeginsWith IsKeyIdentifier)
+HasAuthorityKey = Says CE_AUTHORITY_KEY_IDENTIFIER.now (HasFirstElement IsAuthorityKeyIdentifier)

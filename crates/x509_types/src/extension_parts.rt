@@ -2,7 +2,7 @@
 
 ghost use Rattle.std.specs.Prelude.{List, ℕ, Bool, MatchOption};
 ghost use Rattle.der_core.specs.Default.{IsBoolean};
-ghost use Rattle.x509_types.specs.ExtensionParts.{BeginsWith, EndsWithLength, IsKeyIdentifier};
+ghost use Rattle.x509_types.specs.ExtensionParts.{HasFirstElement, EndsWithLength, IsAuthorityKeyIdentifier};
 
 use der_core::tag::SEQUENCE;
 use der_core::{Elem, Kids, boolean_at, leaf_at};
@@ -14,8 +14,8 @@ const KEY_IDENTIFIER: u8 = 0x80;
 /// The flag of basic constraints, where it is given.
 pub(crate) fn flag_at(elem: Elem<'_>) -> Option<bool>
     ensures { MatchOption result
-        ((b : Bool) → BeginsWith IsBoolean elem.entry.is.0 b → ⊥)
-        (λ b. BeginsWith IsBoolean elem.entry.is.0 b) }
+        ((b : Bool) → HasFirstElement IsBoolean elem.entry.is.0 b → ⊥)
+        (λ b. HasFirstElement IsBoolean elem.entry.is.0 b) }
 {
     let mut kids = Kids::of(elem, SEQUENCE)?;
     let first = kids.next()?;
@@ -38,8 +38,8 @@ pub(crate) fn length_at(elem: Elem<'_>) -> Option<u8>
 /// The identifier of the key that an AuthorityKeyIdentifier names, where it is given.
 pub(crate) fn key_identifier_at<'a>(elem: Elem<'a>) -> Option<&'a [u8]>
     ensures { MatchOption result
-        ((key : List ℕ) → BeginsWith IsKeyIdentifier elem.entry.is.0 key → ⊥)
-        (λ key. BeginsWith IsKeyIdentifier elem.entry.is.0 key.now) }
+        ((key : List ℕ) → HasFirstElement IsAuthorityKeyIdentifier elem.entry.is.0 key → ⊥)
+        (λ key. HasFirstElement IsAuthorityKeyIdentifier elem.entry.is.0 key.now) }
 {
     let mut kids = Kids::of(elem, SEQUENCE)?;
     let first = kids.next()?;

@@ -3,9 +3,14 @@ use Rattle.std.specs.Prelude.{◌≡◌, ℕ, ◌==◌, if◌then◌else◌, ref
 use Rattle.std.specs.Coded.{Coded-set}
 use Rattle.std.proofs.Common.{sym, ap, ◌∙◌}
 use base.Stored.{Coded, gnum, num}
-use Rattle.cms_types.specs.UnsignedKind.{unsigned_number}
 use Rattle.cms_types.specs.declared.unsigned_kind.UnsignedKind.{UnsignedKind}
 use Rattle.cms_types.specs.declared.unsigned_kind.UnsignedKind.TheVariants as kinds
+
+-- a number for each kind
+abbrev unsigned_number : UnsignedKind → ℕ
+unsigned_number kinds.CounterSign = 0
+unsigned_number kinds.MsCounterSign = 1
+unsigned_number kinds.Other = 2
 
 abbrev kind_at : ℕ → UnsignedKind
 kind_at number =

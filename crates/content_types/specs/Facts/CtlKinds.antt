@@ -3,9 +3,16 @@ use Rattle.std.specs.Prelude.{◌≡◌, ℕ, ◌==◌, if◌then◌else◌, ref
 use Rattle.std.specs.Coded.{Coded-set}
 use Rattle.std.proofs.Common.{sym, ap, ◌∙◌}
 use base.Stored.{Coded, gnum, num}
-use Rattle.content_types.specs.CtlKind.{ctl_number}
 use Rattle.content_types.specs.declared.ctl_kind.CtlKind.{CtlKind}
 use Rattle.content_types.specs.declared.ctl_kind.CtlKind.TheVariants as kinds
+
+-- a number for each kind
+abbrev ctl_number : CtlKind → ℕ
+ctl_number kinds.CertSubjectNameMd5HashPropId = 0
+ctl_number kinds.CertDisallowedFileTimePropId = 1
+ctl_number kinds.UnknownReservedPropId126 = 2
+ctl_number kinds.UnknownReservedPropId127 = 3
+ctl_number kinds.Other = 4
 
 abbrev kind_at : ℕ → CtlKind
 kind_at number =

@@ -13,7 +13,7 @@ use Rattle.der_core.specs.Facts.Grammars.{printed, same_fields, list_once}
 use Rattle.der_core.specs.Facts.Kept.{same_kept}
 use Rattle.der_core.specs.Facts.Lists.{printed_list}
 use Rattle.content_types.specs.CtlEntry.{ctl_entry}
-use Rattle.content_types.specs.Ctl.{Begins, MayBegin, IsNothing, FirstNot, IsInteger, IsString, IsUsage, IsTime, IsAlgorithm, AreEntries, AreExtensions, FromEntries, FromAlgorithm, FromThisUpdate, FromUsage, IsCtl}
+use Rattle.content_types.specs.Ctl.{Begins, MayBegin, IsNothing, FirstNot, IsIntegerElement, IsString, IsPurposeList, IsTime, IsAlgorithm, AreEntries, AreExtensions, FromEntries, FromAlgorithm, FromThisUpdate, FromUsage, IsCtl}
 use Rattle.content_types.specs.CtlElement.{ctl}
 use Rattle.content_types.specs.Facts.CtlEntries.{ctl_entries}
 use Rattle.content_types.specs.declared.ctl.Ctl.{Ctl}
@@ -28,27 +28,27 @@ may_not : (P Q : DerElement → Type 0) (behind : List DerElement → Type 0) (k
 may_not P Q behind kids apart others (MayBegin.LeftOut rest) = others rest
 may_not P Q behind kids apart others (MayBegin.Given b) = begins_not P Q behind kids apart b
 
-integer_tag : (e : DerElement) → IsInteger e → tag_of e ≡ 0x02
+integer_tag : (e : DerElement) → IsIntegerElement e → tag_of e ≡ 0x02
 integer_tag e is = ap tag_of is.1
 
 string_tag : (e : DerElement) → IsString e → tag_of e ≡ 0x04
 string_tag e is = ap tag_of is.1
 
-usage_tag : (e : DerElement) → IsUsage e → tag_of e ≡ 0x30
+usage_tag : (e : DerElement) → IsPurposeList e → tag_of e ≡ 0x30
 usage_tag e is = ap tag_of is.1.holds
 
 algorithm_tag : (e : DerElement) → IsAlgorithm e → tag_of e ≡ 0x30
 algorithm_tag e is = ap tag_of is.1
 
-pub usage_no_integer : (entries : List CTLEntry) (kids : List DerElement) → FromUsage entries kids → FirstNot IsInteger kids
-usage_no_integer entries kids b = begins_not IsUsage IsInteger _ kids (λ e p q. absurd (omega (arith, usage_tag e p, integer_tag e q))) b
+pub usage_no_integer : (entries : List CTLEntry) (kids : List DerElement) → FromUsage entries kids → FirstNot IsIntegerElement kids
+usage_no_integer entries kids b = begins_not IsPurposeList IsIntegerElement _ kids (λ e p q. absurd (omega (arith, usage_tag e p, integer_tag e q))) b
 
-pub this_no_integer : (entries : List CTLEntry) (kids : List DerElement) → FromThisUpdate entries kids → FirstNot IsInteger kids
-this_no_integer entries kids b = begins_not IsTime IsInteger _ kids (λ e p q. absurd (omega (arith, p.0, integer_tag e q))) b
+pub this_no_integer : (entries : List CTLEntry) (kids : List DerElement) → FromThisUpdate entries kids → FirstNot IsIntegerElement kids
+this_no_integer entries kids b = begins_not IsTime IsIntegerElement _ kids (λ e p q. absurd (omega (arith, p.0, integer_tag e q))) b
 
-pub number_no_string : (entries : List CTLEntry) (kids : List DerElement) → MayBegin IsInteger (FromThisUpdate entries) kids → FirstNot IsString kids
+pub number_no_string : (entries : List CTLEntry) (kids : List DerElement) → MayBegin IsIntegerElement (FromThisUpdate entries) kids → FirstNot IsString kids
 number_no_string entries kids m =
-    may_not IsInteger IsString (FromThisUpdate entries) kids (λ e p q. absurd (omega (arith, integer_tag e p, string_tag e q)))
+    may_not IsIntegerElement IsString (FromThisUpdate entries) kids (λ e p q. absurd (omega (arith, integer_tag e p, string_tag e q)))
     (λ b. begins_not IsTime IsString _ kids (λ e p q. absurd (omega (arith, p.0, string_tag e q))) b) m
 
 pub algorithm_no_time : (entries : List CTLEntry) (kids : List DerElement) → FromAlgorithm entries kids → FirstNot IsTime kids
@@ -94,19 +94,19 @@ from_this xs ys kids b c =
     both_begin IsTime (MayBegin IsTime (FromAlgorithm xs)) (MayBegin IsTime (FromAlgorithm ys)) kids
     (λ rest r s. both_may IsTime (FromAlgorithm xs) (FromAlgorithm ys) rest (algorithm_no_time xs rest) (algorithm_no_time ys rest) (from_algorithm xs ys) r s) b c
 
-from_number : (xs ys : List CTLEntry) (kids : List DerElement) → MayBegin IsInteger (FromThisUpdate xs) kids → MayBegin IsInteger (FromThisUpdate ys) kids → xs ≡ ys
-from_number xs ys kids b c = both_may IsInteger (FromThisUpdate xs) (FromThisUpdate ys) kids (this_no_integer xs kids) (this_no_integer ys kids) (from_this xs ys) b c
+from_number : (xs ys : List CTLEntry) (kids : List DerElement) → MayBegin IsIntegerElement (FromThisUpdate xs) kids → MayBegin IsIntegerElement (FromThisUpdate ys) kids → xs ≡ ys
+from_number xs ys kids b c = both_may IsIntegerElement (FromThisUpdate xs) (FromThisUpdate ys) kids (this_no_integer xs kids) (this_no_integer ys kids) (from_this xs ys) b c
 
 from_usage : (xs ys : List CTLEntry) (kids : List DerElement) → FromUsage xs kids → FromUsage ys kids → xs ≡ ys
 from_usage xs ys kids b c =
-    both_begin IsUsage (MayBegin IsString (MayBegin IsInteger (FromThisUpdate xs))) (MayBegin IsString (MayBegin IsInteger (FromThisUpdate ys))) kids
-    (λ rest r s. both_may IsString (MayBegin IsInteger (FromThisUpdate xs)) (MayBegin IsInteger (FromThisUpdate ys)) rest (number_no_string xs rest) (number_no_string ys rest) (from_number xs ys) r s) b c
+    both_begin IsPurposeList (MayBegin IsString (MayBegin IsIntegerElement (FromThisUpdate xs))) (MayBegin IsString (MayBegin IsIntegerElement (FromThisUpdate ys))) kids
+    (λ rest r s. both_may IsString (MayBegin IsIntegerElement (FromThisUpdate xs)) (MayBegin IsIntegerElement (FromThisUpdate ys)) rest (number_no_string xs rest) (number_no_string ys rest) (from_number xs ys) r s) b c
 
 lists_same : (element : DerElement) (xs ys : List CTLEntry) → IsCtl element xs → IsCtl element ys → xs ≡ ys
 lists_same element xs ys p q =
     let same = same_fields p.kids q.kids (sym p.is ∙ q.is) in
-    both_may IsInteger (FromUsage xs) (FromUsage ys) q.kids (usage_no_integer xs q.kids) (usage_no_integer ys q.kids) (from_usage xs ys)
-    (subst (MayBegin IsInteger (FromUsage xs)) same p.fields) q.fields
+    both_may IsIntegerElement (FromUsage xs) (FromUsage ys) q.kids (usage_no_integer xs q.kids) (usage_no_integer ys q.kids) (from_usage xs ys)
+    (subst (MayBegin IsIntegerElement (FromUsage xs)) same p.fields) q.fields
 
 -- ---- an element holds at most one list of entries, however that is known
 

@@ -15,12 +15,12 @@ use Rattle.asn1_types.specs.Elements.{object_identifier}
 use Rattle.asn1_types.specs.Facts.Elements.{identifiers, same_oid}
 use Rattle.asn1_types.specs.Values.{identifier_contents}
 use Rattle.asn1_types.specs.declared.oid.ObjectIdentifier.{ObjectIdentifier}
-use Rattle.content_types.specs.HeldPurposes.{IsIdentifier, ArePurposes, ArePurposesIn}
+use Rattle.content_types.specs.HeldPurposes.{IsPurposeElement, ArePurposes, ArePurposesIn}
 use Rattle.content_types.specs.HeldPurposesElement.{held_purposes}
 use Rattle.content_types.specs.declared.held_purposes.HeldPurposes.{HeldPurposes}
 
 pub purpose_lists : IsGrammar ArePurposes (list_element 0x30 object_identifier) (flat_map (λ (id : ObjectIdentifier). []))
-purpose_lists = lists 0x30 IsIdentifier object_identifier (λ (id : ObjectIdentifier). []) (omega arith, omega arith, omega arith) refl identifiers
+purpose_lists = lists 0x30 IsPurposeElement object_identifier (λ (id : ObjectIdentifier). []) (omega arith, omega arith, omega arith) refl identifiers
 
 -- identifiers are told by their contents octets
 told : ObjectIdentifier → ObjectIdentifier → Bool

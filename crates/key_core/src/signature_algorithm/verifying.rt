@@ -57,8 +57,9 @@ impl SignatureAlgorithm {
         self.told(verdict)
     }
 
-    /// The same, where the caller has the octets of the key: of a key of RSA those that `to_pkcs1`
-    /// gives. They are lent to the scheme, and of no key an encoding is made.
+    /// The same, where the caller has the octets of a key of RSA, those that `to_pkcs1` gives: they are
+    /// lent to the scheme, so of no key an encoding is made. Of a key of another kind they aren't
+    /// looked at.
     pub fn verify_by<S: Scheme>(
         self,
         alloc: Global,

@@ -2,7 +2,7 @@ use Rattle.std.proofs.Common.{◌≡◌}
 use Rattle.der_core.specs.DerElement.{DerElement}
 use Rattle.key_types.specs.AlgorithmIdentifier.{algorithm_identifier}
 use Rattle.key_types.specs.declared.algorithm.AlgorithmIdentifier.{AlgorithmIdentifier}
-use Rattle.content_types.specs.Ctl.{IsUsage, IsAlgorithm, AreEntries}
+use Rattle.content_types.specs.Ctl.{IsPurposeList, IsAlgorithm, AreEntries}
 use Rattle.content_types.specs.HeldPurposes.{ArePurposes}
 use Rattle.content_types.proofs.CtlFields.{unfit_not, took_integer, took_string, took_tagged, not_begun, usage_row, this_row, algorithm_row, entries_row, no_entries, nothing_row, no_more, ctl_whole}
 use Rattle.content_types.proofs.ctl.entries_at.Goals as goal
@@ -11,7 +11,7 @@ pub returns-in_err-_usage : goal.returns-in_err-_usage
 returns-in_err-_usage c =
     rw c.from_residual-in_err-_usage.ensures (λ es of.
     let usage = usage_row _ _ _ _ es c.in_ok-kids.ensures (took_integer _ _ _ c.next_as-version.ensures) of in
-    not_begun IsUsage _ _ (unfit_not ArePurposes _ c.in_err-_usage.ensures.1) usage)
+    not_begun IsPurposeList _ _ (unfit_not ArePurposes _ c.in_err-_usage.ensures.1) usage)
 
 pub returns-in_err-_algorithm : goal.returns-in_err-_algorithm
 returns-in_err-_algorithm c =

@@ -1,5 +1,5 @@
 use Rattle.std.proofs.Common.{refl}
-use Rattle.cms_types.specs.Levels.{IsVersion, IsSignerIdentifier, IsAlgorithm, IsOctets}
+use Rattle.cms_types.specs.Levels.{IsVersion, IsSignerIdentifier, IsAlgorithm, IsOctetString}
 use Rattle.cms_types.proofs.SignerKids.{unfit_first, after, takes, constructed_option, signer_row, signer_third, signed_taken, signed_fits, signer_ends, signer_whole}
 use Rattle.cms_types.proofs.signer_fields.SignerFields.of.Goals as goal
 
@@ -38,7 +38,7 @@ returns-in_err-signature c =
     rw c.from_residual-in_err-signature.ensures (λ f of.
     let third = signer_third _ _ _ _ _ _ _ f c.in_ok-version.ensures.0 c.in_ok-sid.ensures.0 c.in_ok-digest_algorithm.ensures.0 (signer_row _ _ f c.in_ok-kids.ensures of) in
     let tail = (signed_taken _ _ _ _ f c.next_tagged-signed_attrs.ensures of third).1 in
-    unfit_first IsOctets _ f.signature _ c.in_err-signature.ensures.1 (after _ _ f.signature_algorithm _ _ c.in_ok-signature_algorithm.ensures.0 tail) of.fields.signature)
+    unfit_first IsOctetString _ f.signature _ c.in_err-signature.ensures.1 (after _ _ f.signature_algorithm _ _ c.in_ok-signature_algorithm.ensures.0 tail) of.fields.signature)
 
 pub returns-in_err-end : goal.returns-in_err-end
 returns-in_err-end c =
