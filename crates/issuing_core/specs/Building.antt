@@ -156,6 +156,20 @@ abbrev pub given_steps : CertificateBuilder → List (Step CertError)
 given_steps b =
     given_step arguments.ValidFrom b.valid_from ∷ given_step arguments.ValidTo b.valid_to ∷ given_step arguments.IssuerInfos b.issuer_infos ∷ []
 
+-- what the subject needs: nothing where it is the issuer
+abbrev pub subject_arguments : (self_signed : Bool) → CertificateBuilder → List (Step CertError)
+subject_arguments true b = []
+subject_arguments false b =
+    given_step arguments.AuthorityKeyIdentifier b.authority_key_identifier ∷ given_step arguments.SubjectInfos b.subject_infos ∷ []
+
+abbrev pub arguments_by : CertificateBuilder → Option IssuerInfos → List (Step CertError)
+arguments_by b None = []
+arguments_by b (Some issuer) = subject_arguments issuer.self_signed b
+
+-- All that has to be given is given.
+abbrev pub argument_steps : CertificateBuilder → List (Step CertError)
+argument_steps b = given_steps b ++ arguments_by b b.issuer_infos
+
 -- The steps of a building, in their order.
 abbrev pub build_steps : KeyArithmetic → CertificateBuilder → ℕ → List (Step CertError)
 build_steps scheme b word = given_steps b ++ steps_by scheme b word b.issuer_infos

@@ -1,6 +1,6 @@
 //! The certificate that is built, step by step.
 
-ghost use Rattle.std.specs.Prelude.{◌≡◌, [], ◌∷◌, Some, None, IfOk, MatchResult};
+ghost use Rattle.std.specs.Prelude.{◌≡◌, [], ◌∷◌, Some, None, Err, IfOk, MatchResult};
 ghost use Rattle.asn1_types.specs.Integer.{IsUnsignedInteger};
 ghost use Rattle.asn1_types.specs.Values.{integer_contents};
 ghost use Rattle.asn1_types.specs.declared.oids.TheConstants.{CE_BASIC_CONSTRAINTS};
@@ -14,11 +14,12 @@ ghost use Rattle.x509_core.specs.FirstValue.{HasFirst};
 ghost use Rattle.x509_core.specs.KeptCertificate.{KeptCertificate};
 ghost use Rattle.x509_core.specs.Link.{IsSignedBy};
 ghost use Rattle.x509_core.specs.Steps.{IsFirstUntaken, RefusesBySteps};
+ghost use Rattle.x509_core.specs.declared.error.CertError.{CertError};
 ghost use Rattle.x509_core.specs.declared.error.CertError.TheVariants as errors;
 ghost use Rattle.issuing_core.specs.declared.builder.IssuerInfos.{IssuerInfos};
 ghost use Rattle.issuing_core.specs.BuildRefusals.{Tells, no_algorithm as algorithm_refusal};
 ghost use Rattle.issuing_core.specs.BuiltCertificate.{IsIssuedBy, IsTbsBy, IsValidityOf, serial_of};
-ghost use Rattle.issuing_core.specs.Building.{IsBuilt, algorithm_step, build_steps, given_steps};
+ghost use Rattle.issuing_core.specs.Building.{IsBuilt, algorithm_step, argument_steps, build_steps, given_steps};
 ghost use Rattle.issuing_core.specs.Inherited.{AreDistinct};
 ghost use Rattle.issuing_core.specs.MadeExtensions.{constraints_of};
 
@@ -56,6 +57,8 @@ impl<'a> CertificateBuilder<'a> {
         ensures answer { MatchResult result
             (IsBuilt (arithmetic (S.judge scheme.now) (S.signs scheme.now) (S.pair scheme.now)) self.entry word)
             (RefusesBySteps errors.Memory (build_steps (arithmetic (S.judge scheme.now) (S.signs scheme.now) (S.pair scheme.now)) self.entry word)) }
+        // What isn't given is told whatever memory there is.
+        ensures refused { (e : CertError) → IsFirstUntaken (argument_steps self.entry) e → result ≡ Err e }
         // Its signature is one by each certificate whose key pairs with the issuer's.
         ensures linked { IfOk result (λ cert. (issuer : IssuerInfos) (parent : KeptCertificate) → self.entry.issuer_infos ≡ Some issuer
             → IsKeyPair (S.pair scheme.now) issuer.key.now parent.certificate.tbs_certificate.subject_public_key_info → IsSignedBy (S.judge scheme.now) parent.elements cert.elements) }
@@ -69,9 +72,10 @@ impl<'a> CertificateBuilder<'a> {
 
     /// The certificate.
     fn built<S: Scheme>(&self, alloc: Global, word: u32, scheme: &S) -> Result<Cert, CertError>
-        ensures { MatchResult result
+        ensures answer { MatchResult result
             (IsBuilt (arithmetic (S.judge scheme.now) (S.signs scheme.now) (S.pair scheme.now)) self.now word)
             (RefusesBySteps errors.Memory (build_steps (arithmetic (S.judge scheme.now) (S.signs scheme.now) (S.pair scheme.now)) self.now word)) }
+        ensures refused { (e : CertError) → IsFirstUntaken (argument_steps self.now) e → result ≡ Err e }
     {
         let (valid_from, valid_to, issuer) = self.given()?;
         let subject = self.identified(alloc, issuer, scheme)?;

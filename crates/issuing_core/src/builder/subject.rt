@@ -1,15 +1,16 @@
 //! Whom the certificate is for.
 
-ghost use Rattle.std.specs.Prelude.{◌≡◌, [], ◌∷◌, ◌++◌, IfOk, IsSome, MatchResult};
+ghost use Rattle.std.specs.Prelude.{◌≡◌, [], ◌∷◌, ◌++◌, false, Err, IfOk, IsSome, MatchResult};
 ghost use Rattle.key_core.specs.Keys.{info_of};
 ghost use Rattle.key_core.specs.Rules.{OrMemory};
 ghost use Rattle.names_core.specs.Names.{sets_of};
 ghost use Rattle.issuing_core.specs.BuildRefusals.{Tells, no_request as request_refusal};
 ghost use Rattle.issuing_core.specs.BuiltCertificate.{IsGivenSubject, IsHalfOf, IsIssuedTo, IsSubject};
-ghost use Rattle.issuing_core.specs.Building.{half_step, identifier_step, other_steps, subject_steps};
+ghost use Rattle.issuing_core.specs.Building.{half_step, identifier_step, other_steps, subject_arguments, subject_steps};
 ghost use Rattle.issuing_core.specs.CsrRefusals.{IsUnsigned};
 ghost use Rattle.issuing_core.specs.SelfSigned.{IsSelfSigned, RefusesSelfSigned};
-ghost use Rattle.x509_core.specs.Steps.{RefusesBySteps};
+ghost use Rattle.x509_core.specs.Steps.{IsFirstUntaken, RefusesBySteps};
+ghost use Rattle.x509_core.specs.declared.error.CertError.{CertError};
 ghost use Rattle.x509_core.specs.declared.error.CertError.TheVariants as errors;
 
 use super::refusing::{missing, no_half, no_key_id, no_request};
@@ -37,9 +38,10 @@ impl CertificateBuilder<'_> {
         issuer: &IssuerInfos<'_>,
         scheme: &S,
     ) -> Result<Subject, CertError>
-        ensures { MatchResult result
+        ensures answer { MatchResult result
             (λ subject. IsIssuedTo (S.judge scheme.now) self.now issuer.now subject.own.items (sets_of subject.name) (info_of subject.key))
             (RefusesBySteps errors.Memory (subject_steps (S.judge scheme.now) issuer.now.self_signed self.now issuer.now ++ identifier_step (S.judge scheme.now) self.now issuer.now ∷ [])) }
+        ensures refused { (e : CertError) → IsFirstUntaken (subject_arguments issuer.now.self_signed self.now) e → result ≡ Err e }
     {
         let (name, key) = self.subject_of(alloc, issuer, scheme)?;
         match self.key_id_gen_method.generate_from(alloc, &key) {
@@ -55,9 +57,10 @@ impl CertificateBuilder<'_> {
         issuer: &IssuerInfos<'_>,
         scheme: &S,
     ) -> Result<(DirectoryName, PublicKey), CertError>
-        ensures { MatchResult result
+        ensures answer { MatchResult result
             (λ subject. IsSubject (S.judge scheme.now) self.now issuer.now (sets_of subject.0) (info_of subject.1))
             (RefusesBySteps errors.Memory (subject_steps (S.judge scheme.now) issuer.now.self_signed self.now issuer.now)) }
+        ensures refused { (e : CertError) → IsFirstUntaken (subject_arguments issuer.now.self_signed self.now) e → result ≡ Err e }
     {
         if issuer.self_signed {
             own_subject(alloc, issuer)
@@ -72,9 +75,10 @@ impl CertificateBuilder<'_> {
         alloc: Global,
         scheme: &S,
     ) -> Result<(DirectoryName, PublicKey), CertError>
-        ensures { MatchResult result
+        ensures answer { MatchResult result
             (λ subject. IsSome self.now.authority_key_identifier × IsGivenSubject (S.judge scheme.now) self.now.subject_infos (sets_of subject.0) (info_of subject.1))
             (RefusesBySteps errors.Memory (other_steps (S.judge scheme.now) self.now)) }
+        ensures refused { (e : CertError) → IsFirstUntaken (subject_arguments false self.now) e → result ≡ Err e }
     {
         if self.authority_key_identifier.is_none() {
             return Err(missing(Arg::AuthorityKeyIdentifier));

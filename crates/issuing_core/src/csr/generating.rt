@@ -1,14 +1,17 @@
 //! Requests that a private key signs.
 
-ghost use Rattle.std.specs.Prelude.{◌≡◌, ◌⊎◌, [], IfOk, MatchResult};
+ghost use Rattle.std.specs.Prelude.{◌≡◌, ◌⊎◌, [], None, Err, IfOk, MatchResult};
 ghost use Rattle.der_core.specs.Encoding.{encoding};
 ghost use Rattle.asn1_types.specs.Values.{payload_of, unused_of};
 ghost use Rattle.key_types.specs.declared.key_info.SubjectPublicKeyInfo.{SubjectPublicKeyInfo};
+ghost use Rattle.key_core.specs.Keys.{container_of, point_beside};
+ghost use Rattle.key_core.specs.PublicHalf.{IsMissing};
 ghost use Rattle.key_core.specs.SignatureAlgorithm.{IsWrittenAlgorithm, IsUnwritable};
 ghost use Rattle.key_core.specs.Signing.{IsKeyPair, arithmetic};
 ghost use Rattle.key_core.specs.Verifying.{Accepts};
+ghost use Rattle.key_core.specs.declared.error.KeyError.{KeyError};
 ghost use Rattle.request_types.specs.RequestInfo.{request_info};
-ghost use Rattle.issuing_core.specs.CsrRefusals.{IsUnsigned};
+ghost use Rattle.issuing_core.specs.CsrRefusals.{IsUnsigned, keyless};
 ghost use Rattle.issuing_core.specs.Generated.{HasNoHalf, InfoUnsigned, InfoUnwritten, IsGenerated, IsInfoFor, IsInfoSigned, IsInfoWritten, IsMadeOf, RefusesToGenerate, RefusesToMake};
 ghost use Rattle.issuing_core.specs.SelfSigned.{IsSelfSigned};
 
@@ -36,6 +39,8 @@ impl Csr {
         ensures answer { MatchResult result
             (IsGenerated (S.signs scheme.now) subject private_key.now signature_hash_type [])
             (RefusesToGenerate (arithmetic (S.judge scheme.now) (S.signs scheme.now) (S.pair scheme.now)) subject private_key.now signature_hash_type []) }
+        // A public key that is missing is told whatever memory there is.
+        ensures missing { (e : KeyError) → point_beside private_key.now ≡ None → IsMissing (container_of private_key.now).private_key e → result ≡ Err (keyless e) }
         // It is accepted under a key that pairs with its public one.
         ensures verifies { IfOk result (λ csr. IsKeyPair (S.pair scheme.now) private_key.now csr.request.certification_request_info.subject_public_key_info
             → IsSelfSigned (S.judge scheme.now) csr) }
@@ -67,6 +72,8 @@ impl Csr {
         ensures answer { MatchResult result
             (IsGenerated (S.signs scheme.now) subject private_key.now signature_hash_type attributes)
             (RefusesToGenerate (arithmetic (S.judge scheme.now) (S.signs scheme.now) (S.pair scheme.now)) subject private_key.now signature_hash_type attributes) }
+        // A public key that is missing is told whatever memory there is.
+        ensures missing { (e : KeyError) → point_beside private_key.now ≡ None → IsMissing (container_of private_key.now).private_key e → result ≡ Err (keyless e) }
         // It is accepted under a key that pairs with its public one.
         ensures verifies { IfOk result (λ csr. IsKeyPair (S.pair scheme.now) private_key.now csr.request.certification_request_info.subject_public_key_info
             → IsSelfSigned (S.judge scheme.now) csr) }
@@ -85,7 +92,8 @@ fn info_for(
     private_key: &PrivateKey,
     attributes: AttributeList,
 ) -> Result<CertificationRequestInfo, CsrError>
-    ensures { MatchResult result (IsInfoFor subject private_key.now attributes) (HasNoHalf private_key.now) }
+    ensures answer { MatchResult result (IsInfoFor subject private_key.now attributes) (HasNoHalf private_key.now) }
+    ensures missing { (e : KeyError) → point_beside private_key.now ≡ None → IsMissing (container_of private_key.now).private_key e → result ≡ Err (keyless e) }
 {
     match private_key.to_public_key(alloc) {
         Ok(public_key) => Ok(CertificationRequestInfo {

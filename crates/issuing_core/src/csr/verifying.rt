@@ -1,7 +1,12 @@
 //! Whether the signature of a request is one by the key in it.
 
-ghost use Rattle.std.specs.Prelude.{◌≡◌, MatchResult};
-ghost use Rattle.issuing_core.specs.CsrRefusals.{IsUnsigned};
+ghost use Rattle.std.specs.Prelude.{◌≡◌, Err, MatchResult};
+ghost use Rattle.key_core.specs.Rules.{IsFirstBroken};
+ghost use Rattle.key_core.specs.SignatureAlgorithm.{NamesSignature};
+ghost use Rattle.key_core.specs.Verifying.{key_rules};
+ghost use Rattle.key_core.specs.declared.signature_algorithm.SignatureAlgorithm.{SignatureAlgorithm};
+ghost use Rattle.key_core.specs.declared.signature_error.SignatureError.{SignatureError};
+ghost use Rattle.issuing_core.specs.CsrRefusals.{IsUnsigned, unsigned};
 ghost use Rattle.issuing_core.specs.SelfSigned.{IsSelfSigned, RefusesSelfSigned};
 
 use super::{Csr, causes};
@@ -16,9 +21,12 @@ impl Csr {
     /// Whether the signature is one by the key of the request over what is signed, as its octets
     /// were kept (RFC 2986 4.2). The signature's algorithm is the one that the request names.
     pub fn verify<S: Scheme>(&self, alloc: Global, scheme: &S) -> Result<(), CsrError>
-        ensures { MatchResult result
+        ensures answer { MatchResult result
             (λ _. IsSelfSigned (S.judge scheme.now) self.now)
             (IsUnsigned (RefusesSelfSigned (S.judge scheme.now) self.now)) }
+        // A key that the algorithm isn't for is refused whatever memory there is.
+        ensures refused { (algorithm : SignatureAlgorithm) (e : SignatureError) → NamesSignature self.now.request.signature_algorithm algorithm
+            → IsFirstBroken (key_rules algorithm self.now.request.certification_request_info.subject_public_key_info) e → result ≡ Err (unsigned e) }
     {
         match self.judged(alloc, scheme) {
             Ok(()) => Ok(()),
@@ -28,9 +36,11 @@ impl Csr {
 
     /// The verdict on the signature.
     fn judged<S: Scheme>(&self, alloc: Global, scheme: &S) -> Result<(), SignatureError>
-        ensures { MatchResult result
+        ensures answer { MatchResult result
             (λ _. IsSelfSigned (S.judge scheme.now) self.now)
             (RefusesSelfSigned (S.judge scheme.now) self.now) }
+        ensures refused { (algorithm : SignatureAlgorithm) (e : SignatureError) → NamesSignature self.now.request.signature_algorithm algorithm
+            → IsFirstBroken (key_rules algorithm self.now.request.certification_request_info.subject_public_key_info) e → result ≡ Err e }
     {
         let named = &self.signature_algorithm;
         let algorithm = SignatureAlgorithm::from_algorithm_identifier(alloc, named)?;

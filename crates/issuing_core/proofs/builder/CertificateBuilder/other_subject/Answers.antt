@@ -3,8 +3,8 @@ use Rattle.issuing_core.specs.declared.builder.SubjectInfos.TheVariants as subje
 use Rattle.issuing_core.proofs.Subjects.{requested_or_refused}
 use Rattle.issuing_core.proofs.builder.CertificateBuilder.other_subject.Goals as goal
 
-pub returns-in-Some-Request : goal.returns-in-Some-Request
-returns-in-Some-Request g c =
+pub returns-in-Some-Request-clause-answer : goal.returns-in-Some-Request-clause-answer
+returns-in-Some-Request-clause-answer g c =
     let some : IsSome c.args.self.now.authority_key_identifier = search rules in
     let given : c.args.self.now.subject_infos ≡ Some (subjects.Request c.in-Some-Request.csr) = search rules in
     requested_or_refused (g.S.Scheme.judge c.args.scheme.now) c.args.self.now c.in-Some-Request.csr c.requested.result some given c.requested.ensures

@@ -3,7 +3,7 @@ use Rattle.issuing_core.proofs.csr.Csr.generate_with_attributes.Goals as goal
 
 pub returns-in-Ok-clause-answer : goal.returns-in-Ok-clause-answer
 returns-in-Ok-clause-answer g c =
-    generated (g.S.Scheme.judge c.args.scheme.now) (g.S.Scheme.signs c.args.scheme.now) (g.S.Scheme.pair c.args.scheme.now) c.args.subject c.args.private_key.now c.args.signature_hash_type c.args.attributes c.in-Ok.info c.signed.result c.in-Ok.ensures c.signed.ensures.answer
+    generated (g.S.Scheme.judge c.args.scheme.now) (g.S.Scheme.signs c.args.scheme.now) (g.S.Scheme.pair c.args.scheme.now) c.args.subject c.args.private_key.now c.args.signature_hash_type c.args.attributes c.in-Ok.info c.signed.result c.in-Ok.ensures.answer c.signed.ensures.answer
 
 pub returns-in-Ok-clause-verifies : goal.returns-in-Ok-clause-verifies
 returns-in-Ok-clause-verifies g c =
