@@ -1,23 +1,30 @@
--- What is answered for signed data that is refused.
+-- What is answered for a header or signed data that is refused.
 use Rattle.asn1_types.specs.declared.error.CharSetError.{CharSetError}
 use Rattle.asn1_types.specs.declared.error.CharSetError.TheVariants as texts
 use Rattle.der_core.specs.declared.error.DerError.{DerError}
 use Rattle.der_core.specs.declared.error.DerError.TheVariants as der
 use Rattle.key_core.specs.declared.signature_error.SignatureError.{SignatureError}
 use Rattle.key_core.specs.declared.signature_error.SignatureError.TheVariants as signatures
+use Rattle.wincert_core.specs.declared.error.WinCertificateError.{WinCertificateError}
+use Rattle.wincert_core.specs.declared.error.WinCertificateError.TheVariants as headers
 use Rattle.x509_core.specs.declared.error.CertError.{CertError}
 use Rattle.x509_core.specs.declared.error.CertError.TheVariants as certs
 use Rattle.authenticode_core.specs.declared.error.AuthenticodeError.{AuthenticodeError}
 use Rattle.authenticode_core.specs.declared.error.AuthenticodeError.TheVariants as contents
 use Rattle.authenticode_core.specs.declared.error.CheckError.{CheckError}
-use Rattle.authenticode_core.specs.declared.error.CheckError.TheVariants.{Authenticode, Memory}
+use Rattle.authenticode_core.specs.declared.error.CheckError.TheVariants.{Authenticode, Win, Memory}
 
--- want of memory is told as such
+-- the error for one of a header; want of memory is told as such, here and below
+abbrev pub told_of_header : WinCertificateError → CheckError
+told_of_header headers.Memory = Memory
+told_of_header e = Win e
+
+-- the error for one of signed data
 abbrev pub told_of_content : AuthenticodeError → CheckError
 told_of_content contents.Memory = Memory
 told_of_content e = Authenticode e
 
--- the error for one of certificates; want of memory is told as such, here and below
+-- the error for one of certificates
 abbrev pub of_certificates : CertError → AuthenticodeError
 of_certificates certs.Memory = contents.Memory
 of_certificates e = contents.CertError e

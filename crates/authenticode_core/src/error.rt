@@ -3,9 +3,9 @@
 ghost use Rattle.std.specs.Prelude.{◌≡◌, IfOk, string_bytes};
 ghost use Rattle.std.specs.Fmt.{WritesOnOk};
 ghost use Rattle.authenticode_core.specs.ErrorText.{check_error_text, content_error_text, file_mismatch_text, mismatch_text, unnamed_text};
-ghost use Rattle.authenticode_core.specs.ContentRefusal.{of_certificates, of_char_set, of_der, of_signatures, told_of_content};
+ghost use Rattle.authenticode_core.specs.ContentRefusal.{of_certificates, of_char_set, of_der, of_signatures, told_of_content, told_of_header};
 ghost use Rattle.authenticode_core.specs.RefusalName.{content_refusal_name, header_refusal_name, refusal_name, variant_name};
-ghost use Rattle.authenticode_core.specs.declared.error.CheckError.TheVariants.{Memory, Win};
+ghost use Rattle.authenticode_core.specs.declared.error.CheckError.TheVariants.{Memory};
 ghost use Rattle.authenticode_core.specs.declared.error.AuthenticodeError.TheVariants as contents;
 
 use crate::timestamp_error::TimestampError;
@@ -353,11 +353,15 @@ impl fmt::Display for CheckError {
     }
 }
 
+/// Want of memory is told as such.
 impl From<WinCertificateError> for CheckError {
-    ghost from_gives = { λ error e. e ≡ Win error };
+    ghost from_gives = { λ error e. e ≡ told_of_header error };
 
     fn from(error: WinCertificateError) -> CheckError {
-        CheckError::Win(error)
+        match error {
+            WinCertificateError::Memory => CheckError::Memory,
+            error => CheckError::Win(error),
+        }
     }
 }
 

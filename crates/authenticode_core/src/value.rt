@@ -23,7 +23,10 @@ pub(crate) fn signed_data_of<'a>(bytes: &'a [u8]) -> Result<(Elem<'a>, SignedVie
         (λ found. LiesIn bytes.now found.0.is.0 found.1)
         (RefusesValue bytes.now) }
 {
-    let certificate = certificate_of(bytes)?;
+    let certificate = match certificate_of(bytes) {
+        Ok(certificate) => certificate,
+        Err(error) => return Err(CheckError::Win(error)),
+    };
     let elem = match padded_element(certificate) {
         Ok(elem) => elem,
         Err(malformed) => return Err(unread(DerError::Malformed(malformed))),

@@ -15,12 +15,12 @@ use Rattle.wincert_core.specs.declared.error.WinCertificateError.{WinCertificate
 use Rattle.wincert_core.specs.declared.error.WinCertificateError.TheVariants as headers
 use Rattle.wincert_core.specs.declared.kinds.CertificateType.{CertificateType}
 use Rattle.authenticode_core.specs.Basic.{RefusesValue}
-use Rattle.authenticode_core.specs.ContentRefusal.{told_of_content}
+use Rattle.authenticode_core.specs.ContentRefusal.{told_of_content, told_of_header}
 use Rattle.authenticode_core.specs.declared.error.AuthenticodeError.{AuthenticodeError}
 use Rattle.authenticode_core.specs.declared.error.CheckError.{CheckError}
 use Rattle.authenticode_core.specs.declared.error.CheckError.TheVariants.{Win, Authenticode, Memory}
 use Rattle.authenticode_core.proofs.OneData.{one_element, same_certificate}
-use Rattle.authenticode_values.specs.FileRefusals.{GivesFile, GivesSignature, RefusesFile, RefusesHeader, told_of_header}
+use Rattle.authenticode_values.specs.FileRefusals.{GivesFile, GivesSignature, RefusesFile, RefusesHeader}
 use Rattle.authenticode_values.specs.MadeFile.{IsSpelledWhole, wrapped}
 use Rattle.authenticode_values.specs.Pkcs7.{written}
 use Rattle.authenticode_values.specs.Refusals.{IsUnread, Tells, of_signed_data, unread}

@@ -7,22 +7,16 @@ use Rattle.der_core.specs.Refusals.{RefusesInner}
 use Rattle.key_core.specs.Rules.{OrMemory}
 use Rattle.wincert_core.specs.Refusal.{contents_in, current, encoded}
 use Rattle.wincert_core.specs.declared.error.WinCertificateError.{WinCertificateError}
-use Rattle.wincert_core.specs.declared.error.WinCertificateError.TheVariants as headers
 use Rattle.wincert_core.specs.declared.kinds.CertificateType.{CertificateType}
 use Rattle.authenticode_core.specs.Basic.{RefusesValue}
-use Rattle.authenticode_core.specs.ContentRefusal.{told_of_content}
+use Rattle.authenticode_core.specs.ContentRefusal.{told_of_content, told_of_header}
 use Rattle.authenticode_core.specs.declared.error.AuthenticodeError.{AuthenticodeError}
 use Rattle.authenticode_core.specs.declared.error.CheckError.{CheckError}
-use Rattle.authenticode_core.specs.declared.error.CheckError.TheVariants.{Win, Memory}
+use Rattle.authenticode_core.specs.declared.error.CheckError.TheVariants.{Memory}
 use Rattle.authenticode_values.specs.MadeFile.{IsSpelledWhole, wrapped}
 use Rattle.authenticode_values.specs.Pkcs7.{written}
 use Rattle.authenticode_values.specs.Refusals.{IsUnwritten, Tells}
 use Rattle.authenticode_values.specs.declared.signature.AuthenticodeSignature.{AuthenticodeSignature}
-
--- an error of a header: want of memory is told as such
-abbrev pub told_of_header : WinCertificateError → CheckError
-told_of_header headers.Memory = Memory
-told_of_header e = Win e
 
 -- it tells why what is asked for isn't there, unless memory ran out
 abbrev pub RefusesHeader : {A : Type 0} → Result A WinCertificateError → CheckError → Type 0

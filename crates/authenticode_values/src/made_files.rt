@@ -5,10 +5,11 @@ ghost use Rattle.der_core.specs.Encoding.{encoding, IsDer};
 ghost use Rattle.wincert_core.specs.Refusal.{contents_in, current, encoded};
 ghost use Rattle.wincert_core.specs.declared.error.WinCertificateError.{WinCertificateError};
 ghost use Rattle.wincert_core.specs.declared.kinds.CertificateType.{CertificateType};
+ghost use Rattle.authenticode_core.specs.ContentRefusal.{told_of_header};
 ghost use Rattle.authenticode_core.specs.Trusted.{IsAnswer, RefusesForm};
 ghost use Rattle.authenticode_core.specs.declared.error.CheckError.{CheckError};
 ghost use Rattle.authenticode_core.specs.declared.error.CheckError.TheVariants.{Memory};
-ghost use Rattle.authenticode_values.specs.FileRefusals.{GivesFile, GivesSignature, RefusesHeader, told_of_header};
+ghost use Rattle.authenticode_values.specs.FileRefusals.{GivesFile, GivesSignature, RefusesHeader};
 ghost use Rattle.authenticode_values.specs.MadeFile.{IsBasicAlone, IsMadeSignature, IsSpelledWhole, by_the_first, wrapped};
 ghost use Rattle.authenticode_values.specs.Pkcs7.{written};
 ghost use Rattle.authenticode_values.specs.declared.pkcs7.Pkcs7.{Pkcs7};
@@ -17,7 +18,7 @@ use crate::signature::AuthenticodeSignature;
 use authenticode_core::{Accepted, CheckError, Policy, check_wincert};
 use sig_core::Scheme;
 use std::alloc::Global;
-use wincert_core::{CertificateType, WinCertificate, WinCertificateError};
+use wincert_core::{CertificateType, WinCertificate};
 
 /// The octets of the signature file that has the signature: it is written, and wrapped in the current
 /// revision of WIN_CERTIFICATE. It is refused as `to_der`, `from_certificate` and `encode` refuse.
@@ -83,7 +84,7 @@ fn wrap(
 {
     match WinCertificate::from_certificate(alloc, der, certificate_type) {
         Ok(wrapped) => Ok(wrapped),
-        Err(source) => Err(told(source)),
+        Err(source) => Err(CheckError::from(source)),
     }
 }
 
@@ -93,7 +94,7 @@ fn spell(alloc: Global, wrapped: WinCertificate) -> Result<Vec<u8>, CheckError>
 {
     match wrapped.encode(alloc) {
         Ok(octets) => Ok(octets),
-        Err(source) => Err(told(source)),
+        Err(source) => Err(CheckError::from(source)),
     }
 }
 
@@ -104,16 +105,6 @@ fn unwrap(alloc: Global, octets: &[u8]) -> Result<WinCertificate, CheckError>
 {
     match WinCertificate::decode(alloc, octets) {
         Ok(wrapped) => Ok(wrapped),
-        Err(source) => Err(told(source)),
-    }
-}
-
-/// The error of a header: want of memory is told as such.
-fn told(source: WinCertificateError) -> CheckError
-    ensures { result ≡ told_of_header source }
-{
-    match source {
-        WinCertificateError::Memory => CheckError::Memory,
-        source => CheckError::Win(source),
+        Err(source) => Err(CheckError::from(source)),
     }
 }

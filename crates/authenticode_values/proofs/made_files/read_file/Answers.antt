@@ -1,6 +1,6 @@
 use Rattle.std.proofs.Common.{Err, ap}
 use Rattle.std.proofs.lemmas.Result.{err_from_is_err_and}
-use Rattle.authenticode_values.specs.FileRefusals.{told_of_header}
+use Rattle.authenticode_core.specs.ContentRefusal.{told_of_header}
 use Rattle.authenticode_values.proofs.ReadFiles.{no_header, ok_no_err, one_told, unread_file}
 use Rattle.authenticode_values.proofs.made_files.read_file.Goals as goal
 

@@ -7,7 +7,7 @@ pub returns-in-Ok-clause-refused : goal.returns-in-Ok-clause-refused
 returns-in-Ok-clause-refused c = λ source refuses. absurd (ok_no_err _ source (c.in-Ok.ensures.refused source refuses))
 
 pub returns-in-Err-clause-answer : goal.returns-in-Err-clause-answer
-returns-in-Err-clause-answer c = told_so (contents_in c.args.octets.now) c.in-Err.source c.told.result c.told.ensures c.in-Err.ensures.given
+returns-in-Err-clause-answer c = told_so (contents_in c.args.octets.now) c.in-Err.source c.from.result c.from.ensures c.in-Err.ensures.given
 
 pub returns-in-Err-clause-refused : goal.returns-in-Err-clause-refused
-returns-in-Err-clause-refused c = λ source refuses. ap Err (told_as c.in-Err.source source c.told.result (c.in-Err.ensures.refused source refuses) c.told.ensures)
+returns-in-Err-clause-refused c = λ source refuses. ap Err (told_as c.in-Err.source source c.from.result (c.in-Err.ensures.refused source refuses) c.from.ensures)
