@@ -4,7 +4,7 @@
 ghost use Rattle.std.specs.Prelude.{◌≡◌, Err, Result, MatchResult};
 ghost use Rattle.cms_types.specs.Pkcs7Elements.{pkcs7_of};
 ghost use Rattle.cms_types.specs.SignedDataElements.{signed_data_of};
-ghost use Rattle.cms_types.specs.SignedView.{view_elements};
+ghost use Rattle.cms_types.specs.SignedView.{view_elements, IsSignedView};
 ghost use Rattle.key_core.specs.Rules.{IsFirstBroken};
 ghost use Rattle.authenticode_core.specs.Basic.{IsSameUnlessMemory};
 ghost use Rattle.authenticode_core.specs.Form.{AreSpelled};
@@ -50,7 +50,8 @@ pub fn check_wincert<S: Scheme>(
 
 /// Checks signed data under a policy, which lies in this element: where basic validation is asked for,
 /// its form, the digest of the file and the signature of its signer; then, where that is asked for, the
-/// certificate of its first signer. The first rule that is broken is told.
+/// certificate of its first signer. The first rule that is broken is told. The signed data is what
+/// `SignedView::read` gives of the element.
 pub fn check_signed_data<'a, S: Scheme>(
     alloc: Global,
     elem: Elem<'a>,
@@ -58,8 +59,7 @@ pub fn check_signed_data<'a, S: Scheme>(
     policy: &Policy,
     scheme: &S,
 ) -> Result<Accepted, AuthenticodeError>
-    requires is { elem.is.0 ≡ pkcs7_of (signed_data_of (view_elements signed_data.now)) }
-    requires spelled { AreSpelled (view_elements signed_data.now) }
+    requires { IsSignedView elem.is.0 signed_data.now }
     ensures answer { MatchResult result
         (IsTrusted (S.judge scheme.now) policy.now (view_elements signed_data.now))
         (RefusesBy (policy_rules (S.judge scheme.now) policy.now (view_elements signed_data.now))) }

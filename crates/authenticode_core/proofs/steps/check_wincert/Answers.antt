@@ -2,7 +2,6 @@ use Rattle.std.proofs.Common.{Err, Ok, ap, ◌∙◌, refl}
 use Rattle.std.proofs.lemmas.Result.{err_from_is_err_and}
 use Rattle.cms_types.specs.SignedView.{view_elements}
 use Rattle.authenticode_core.specs.ContentRefusal.{told_of_content}
-use Rattle.authenticode_core.proofs.FormFields.{fields_of_view}
 use Rattle.authenticode_core.proofs.OneAnswer.{answer_at, only_at, refusal_is_answer, refused_at, refused_behind, shape_is_answer, value_refuses}
 use Rattle.authenticode_core.proofs.OneData.{lies_there}
 use Rattle.authenticode_core.proofs.PolicyOrder.{answered, told_same}
@@ -25,9 +24,6 @@ returns-in_err-elem-clause-only g c =
     let p = err_from_is_err_and c.from_residual.result c.from_residual.ensures.1 in
     only_at c.one_first_fault.ensures.at_most_one c.one_first_fault.ensures.instead_of_an_element (g.S.Scheme.judge c.args.scheme.now) c.args.policy.now c.args.bytes.now c.from_residual.result (Err c.in_err-elem.field-0.0) (p.1 ∙ ap Err p.2)
     (shape_is_answer (g.S.Scheme.judge c.args.scheme.now) c.args.policy.now c.args.bytes.now c.in_err-elem.field-0.0 (value_refuses c.args.policy.now c.args.bytes.now c.in_err-elem.field-0.0 c.in_err-elem.ensures))
-
-pub check_signed_data-requires-clause-spelled : goal.check_signed_data-requires-clause-spelled
-check_signed_data-requires-clause-spelled g c = (c.in_ok-elem.ensures.is.value.signed_data, fields_of_view c.in_ok-elem.elem.is.0 c.in_ok-elem.signed_data c.in_ok-elem.ensures.is)
 
 pub returns-in_err-accepted-clause-answer : goal.returns-in_err-accepted-clause-answer
 returns-in_err-accepted-clause-answer g c =

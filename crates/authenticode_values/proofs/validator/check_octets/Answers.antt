@@ -1,6 +1,5 @@
 use Rattle.std.proofs.Common.{sym, ap, ◌∙◌}
 use Rattle.cms_types.specs.SignedView.{view_elements}
-use Rattle.authenticode_core.proofs.FormFields.{fields_of_view}
 use Rattle.authenticode_values.proofs.Verdicts.{answered_of, broken_there, lies_there}
 use Rattle.authenticode_values.specs.Pkcs7.{written}
 use Rattle.authenticode_values.proofs.validator.check_octets.Goals as goal
@@ -10,9 +9,6 @@ unreachable-requires g c = c.in_default.ensures (written c.requires.0) c.require
 
 pub unreachable-requires-in_default-read : goal.unreachable-requires-in_default-read
 unreachable-requires-in_default-read g c = c.in_default-read.ensures c.requires.0.signed (lies_there c.args.octets.now c.in-Some.elem.is.0 c.requires.0 c.in-Some.ensures c.requires.1)
-
-pub check_signed_data-requires-clause-spelled : goal.check_signed_data-requires-clause-spelled
-check_signed_data-requires-clause-spelled g c = (c.in-Some-read.ensures.value.signed_data, fields_of_view c.in-Some.elem.is.0 c.in-Some-read.signed_data c.in-Some-read.ensures)
 
 pub returns-clause-answer : goal.returns-clause-answer
 returns-clause-answer g c = λ signed kept.
