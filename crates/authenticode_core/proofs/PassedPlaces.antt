@@ -6,8 +6,8 @@ use Rattle.der_core.specs.DerElement.{DerElement}
 use Rattle.x509_types.specs.CertificateElements.{CertificateElements}
 use Rattle.x509_types.specs.CertificateView.{view_elements}
 use Rattle.authenticode_core.specs.IssuerWalk.{IsWalkFrom}
-use Rattle.authenticode_core.specs.Naming.{AsksNext, FindsNext, IsFoundBefore}
-use Rattle.authenticode_core.specs.Places.{StandsAt, HasNoPlace, IsLeastPlace}
+use Rattle.authenticode_core.specs.Naming.{AsksNext, FindsNext}
+use Rattle.authenticode_core.specs.Places.{StandsAt, HasNoPlace, HoldsOfNone, IsLeastPlace}
 use Rattle.authenticode_core.specs.SigningRules.{AsksForPurposes}
 use Rattle.authenticode_core.specs.WalkCursor.{LooksFrom, StepsTo}
 use Rattle.authenticode_core.specs.Wanted.{IsWanted}
@@ -16,6 +16,11 @@ use Rattle.authenticode_core.specs.declared.issuer_walk.IssuerWalk.{IssuerWalk}
 use Rattle.authenticode_core.specs.declared.wanted.Wanted.{Wanted}
 use Rattle.authenticode_core.proofs.PlaceSteps.{none_behind, none_yet}
 use Rattle.authenticode_core.proofs.WalkedPlaces.{Walked, walked_none, walked_step, walked_all}
+
+-- The certificate at the least place before this one of which the rule holds, or none.
+abbrev pub IsFoundBefore : List CertificateElements → (CertificateElements → Type 0) → ℕ → Option BagCertificate → Type 0
+IsFoundBefore bag holds place None = HoldsOfNone bag holds 0 place
+IsFoundBefore bag holds place (Some found) = IsLeastPlace bag holds 0 found.place (view_elements found.certificate)
 
 -- The walk has passed some places, and the first of these whose certificate is wanted is known.
 pub record Passed (bag : List CertificateElements) (subject : DerElement) (wanted : Wanted) (walk : IssuerWalk) (found : Option BagCertificate) (asks : Bool) : Type 0 where

@@ -31,7 +31,7 @@ use Rattle.x509_types.specs.declared.attribute_values.AttributeValues.TheVariant
 use Rattle.x509_types.specs.Attribute.{IsAttribute}
 use Rattle.authenticode_core.specs.Asn1.{context, object_identifier}
 use Rattle.authenticode_core.specs.Basic.{HasSignedData}
-use Rattle.authenticode_core.specs.PlainForm.{SignatureParts, SignerParts, IsPlain, IsPlainForm, algorithm, attribute, attributes, certificate, content_info, digest_info, empty_link, image_data, indirect_data, issuer_and_serial_number, no_program_name, signed_content, signed_data, signed_data_fields, signer_fields, signer_info}
+use Rattle.authenticode_core.specs.PlainForm.{PlainParts, SignerParts, IsPlain, IsPlainForm, algorithm, attribute, attributes, certificate, content_info, digest_info, empty_link, image_data, indirect_data, issuer_and_serial_number, no_program_name, signed_content, signed_data, signed_data_fields, signer_fields, signer_info}
 use Rattle.authenticode_core.specs.PlainFields.{HasPlainFields, plain_data, plain_elements, plain_signer}
 use Rattle.authenticode_core.specs.SignedFields.{HasMessageDigest, IsAttributeOf, IsFirstSigner}
 use Rattle.authenticode_core.specs.SigningRules.{digested_octets}
@@ -137,7 +137,7 @@ is_signer s some null_der der = Bare {f = plain_signer s} (record { is = refl; f
 
 -- ---- signed data
 
-data_fields_have_shape : (p : SignatureParts) → IsDer null → IsDer (content_info p.file_hash) → AreSignedDataFields (plain_elements p)
+data_fields_have_shape : (p : PlainParts) → IsDer null → IsDer (content_info p.file_hash) → AreSignedDataFields (plain_elements p)
 data_fields_have_shape p null_der der = record {
   version = (versions.V1, refl);
   digest_algorithms = (
@@ -151,12 +151,12 @@ data_fields_have_shape p null_der der = record {
 }
 
 -- the elements that are looked at, in bounds
-pub record Bounded (p : SignatureParts) : Type 0 where
+pub record Bounded (p : PlainParts) : Type 0 where
   pub content : IsDer (content_info p.file_hash)
   pub signer : IsDer (signer_info p.signer)
   pub parameters : IsDer null
 
-pub bounded : (p : SignatureParts) → IsDer (signed_content p) → Bounded p
+pub bounded : (p : PlainParts) → IsDer (signed_content p) → Bounded p
 bounded p der =
     let tagged = (inside 0x30 (signed_content p) (object_identifier identifiers.SIGNED_DATA.now ∷ context 0 (signed_data p ∷ []) ∷ []) der refl).1.0 in
     let data_der = (inside 0xA0 (context 0 (signed_data p ∷ [])) (signed_data p ∷ []) tagged refl).0 in
@@ -168,7 +168,7 @@ bounded p der =
       parameters = (inside 0x30 (algorithm identifiers.SHA256.now) (object_identifier identifiers.SHA256.now ∷ null ∷ []) digest refl).1.0;
     }
 
-pub has_shape : (p : SignatureParts) → p.signer.serial ≢ [] → IsDer (signed_content p) → IsPkcs7 (signed_content p)
+pub has_shape : (p : PlainParts) → p.signer.serial ≢ [] → IsDer (signed_content p) → IsPkcs7 (signed_content p)
 has_shape p some der =
     let b = bounded p der in
     Pkcs7 {signed_data = signed_data p} refl (Signed {f = plain_elements p} {signers = signer_info p.signer ∷ []}
@@ -177,10 +177,10 @@ has_shape p some der =
 within : (f g : SignedDataElements) → pkcs7_of (signed_data_of f) ≡ pkcs7_of (signed_data_of g) → signed_data_of f ≡ signed_data_of g
 within f g e = cc
 
-pub some_serial : (p : SignatureParts) → IsPlain p → p.signer.serial ≢ []
+pub some_serial : (p : PlainParts) → IsPlain p → p.signer.serial ≢ []
 some_serial p plain none = plain.some_serial (sym plain.serial ∙ none)
 
-pub plain_form_has_signed_data : (octets : List ℕ) (p : SignatureParts) → IsPlainForm octets p → HasSignedData octets (plain_elements p)
+pub plain_form_has_signed_data : (octets : List ℕ) (p : PlainParts) → IsPlainForm octets p → HasSignedData octets (plain_elements p)
 plain_form_has_signed_data octets p form =
     let der = form.spelled.0 in
     let value = value_of_pkcs7 (signed_content p) der (has_shape p (some_serial p form.plain) der) in
@@ -196,7 +196,7 @@ plain_form_has_signed_data octets p form =
 
 -- ---- the form
 
-pub first_signer : (p : SignatureParts) → p.signer.serial ≢ [] → IsDer (signed_content p) → IsFirstSigner (plain_elements p) (plain_signer p.signer)
+pub first_signer : (p : PlainParts) → p.signer.serial ≢ [] → IsDer (signed_content p) → IsFirstSigner (plain_elements p) (plain_signer p.signer)
 first_signer p some der =
     let b = bounded p der in
     let value = value_of_signer (signer_info p.signer) b.signer (is_signer p.signer some b.parameters b.signer) in
@@ -210,7 +210,7 @@ first_signer p some der =
 other_type : (oid other : List ℕ) (values : List DerElement) (value : DerElement) → (other ≡ oid → ⊥) → IsAttributeOf oid (attribute other value) values → ⊥
 other_type oid other values value apart is = let same : other ≡ oid = cc in apart same
 
-pub bound_by : (p : SignatureParts) → IsPlain p → HasMessageDigest (plain_signer p.signer) (digest_of SHA2_256 (digested_octets (plain_data p.file_hash)))
+pub bound_by : (p : PlainParts) → IsPlain p → HasMessageDigest (plain_signer p.signer) (digest_of SHA2_256 (digested_octets (plain_data p.file_hash)))
 bound_by p plain = record {
   others = [];
   first = record {
@@ -223,7 +223,7 @@ bound_by p plain = record {
   };
 }
 
-pub plain_form_has_fields : (octets : List ℕ) (p : SignatureParts) → IsPlainForm octets p → HasPlainFields p
+pub plain_form_has_fields : (octets : List ℕ) (p : PlainParts) → IsPlainForm octets p → HasPlainFields p
 plain_form_has_fields octets p form = record {
   form = record {
     version = refl;

@@ -29,7 +29,7 @@ use Rattle.authenticode_core.specs.Basic.{IsVouchedFor}
 use Rattle.authenticode_core.specs.CertificateBag.{IsBag, IsMember}
 use Rattle.authenticode_core.specs.Places.{StandsAt}
 use Rattle.authenticode_core.specs.PlainFields.{HasPlainFields, IsPlainlyAccepted, plain_certificate, plain_data, plain_elements, plain_signer}
-use Rattle.authenticode_core.specs.PlainForm.{CertificateParts, IsPlain, IsPlainForm, SignatureParts, algorithm, certificate, name, public_key_info, signed_message}
+use Rattle.authenticode_core.specs.PlainForm.{CertificateParts, IsPlain, IsPlainForm, PlainParts, algorithm, certificate, name, public_key_info, signed_message}
 use Rattle.authenticode_core.specs.SignedFields.{IndirectData, IsFirstSigner, signers_of}
 use Rattle.authenticode_core.specs.SigningRules.{AsksForPurposes, IsSigned, HasSignatureBy, NamesDigest}
 use Rattle.authenticode_core.proofs.DigestNames.{named_once}
@@ -67,7 +67,7 @@ contents_once s t e = cc
 names_sha256 : NamesDigest (algorithm identifiers.SHA256.now) SHA2_256
 names_sha256 = record { variant = variants.SHA2_256; parameters = null ∷ []; is = refl; named = refl }
 
-module _ (judge : Judge) (p : SignatureParts) where
+module _ (judge : Judge) (p : PlainParts) where
   accepted : (c : CertificateElements) (hash : HashAlgorithm) → IsMember (certificate p.certificate) c → NamesDigest (plain_signer p.signer).digest_algorithm hash → HasSignatureBy judge (plain_signer p.signer) hash c
       → judge RsaSha256 p.certificate.tbs.key (signed_message p) p.signer.signature ≡ Accept
   accepted c hash member named signed =
@@ -97,7 +97,7 @@ module _ (judge : Judge) (p : SignatureParts) where
 
 -- ---- what is accepted is vouched for
 
-plain_parts : (p : SignatureParts) → IsPlain p → IsPlainCertificate p.certificate
+plain_parts : (p : PlainParts) → IsPlain p → IsPlainCertificate p.certificate
 plain_parts p plain = record { some_serial = plain.some_serial; not_before = plain.not_before; not_after = plain.not_after; key = plain.key }
 
 -- the only certificate asks for nothing
@@ -112,7 +112,7 @@ asks_nothing c asks =
         none [] x after e = absurd cc
         none (b ∷ before) x after e = absurd cc
 
-module _ (judge : Judge) (p : SignatureParts) (file_hash : List ℕ) (plain : IsPlain p) (der : IsDer null) (fields : HasPlainFields p) (a : IsPlainlyAccepted judge p file_hash) where
+module _ (judge : Judge) (p : PlainParts) (file_hash : List ℕ) (plain : IsPlain p) (der : IsDer null) (fields : HasPlainFields p) (a : IsPlainlyAccepted judge p file_hash) where
   is_named : IsNamed (signers_of (plain_elements p)) (plain_certificate p.certificate)
   is_named =
       let lent : LendsNamed (plain_signer p.signer).sid (encoding (name p.signer.issuer)) p.signer.serial = record { name = name p.signer.issuer; is = refl; octets = refl } in
@@ -151,7 +151,7 @@ module _ (judge : Judge) (p : SignatureParts) (file_hash : List ℕ) (plain : Is
         };
       }
 
-pub vouched_exactly : (judge : Judge) (octets : List ℕ) (p : SignatureParts) (file_hash : List ℕ) (place : ℕ) → IsPlainForm octets p
+pub vouched_exactly : (judge : Judge) (octets : List ℕ) (p : PlainParts) (file_hash : List ℕ) (place : ℕ) → IsPlainForm octets p
     → IsVouchedFor judge (plain_elements p) file_hash place ↔ ((place ≡ 0) × IsPlainlyAccepted judge p file_hash)
 vouched_exactly judge octets p file_hash place form =
     let fields = plain_form_has_fields octets p form in

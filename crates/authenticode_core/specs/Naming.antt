@@ -3,7 +3,7 @@ use Rattle.std.specs.Prelude.{◌≡◌, ◌↔◌, Bool, true, false, ◌⊎◌
 use Rattle.x509_types.specs.CertificateElements.{CertificateElements}
 use Rattle.x509_types.specs.CertificateView.{view_elements}
 use Rattle.x509_types.specs.Purposes.{HasPurposes}
-use Rattle.authenticode_core.specs.Places.{HoldsOfNone, IsLeastPlace}
+use Rattle.authenticode_core.specs.Places.{IsLeastPlace}
 use Rattle.authenticode_core.specs.SigningRules.{AsksForPurposes}
 use Rattle.authenticode_core.specs.Wanted.{IsNamedBy, IsWanted}
 use Rattle.authenticode_core.specs.declared.bag.BagCertificate.{BagCertificate}
@@ -20,11 +20,6 @@ pub record IsNamedAt (bag : List CertificateElements) (issuer serial_number : Li
   pub asks : IsTrue named.asks_for_purposes ↔ AsksForPurposes bag (view_elements named.certificate.certificate)
 
 -- ---- a bag that is read certificate by certificate
-
--- The certificate at the least place before this one of which the rule holds, or none.
-abbrev pub IsFoundBefore : List CertificateElements → (CertificateElements → Type 0) → ℕ → Option BagCertificate → Type 0
-IsFoundBefore bag holds place None = HoldsOfNone bag holds 0 place
-IsFoundBefore bag holds place (Some found) = IsLeastPlace bag holds 0 found.place (view_elements found.certificate)
 
 -- what was found before, or else the next certificate where it is wanted
 abbrev pub FindsNext : Wanted → Option BagCertificate → BagCertificate → Option BagCertificate → Type 0

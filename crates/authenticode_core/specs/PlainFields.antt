@@ -5,7 +5,7 @@ use Rattle.cms_types.specs.SignedDataElements.{SignedDataElements}
 use Rattle.cms_types.specs.SignerElements.{SignerElements}
 use Rattle.der_core.specs.Elements.{set, octet_string}
 use Rattle.authenticode_core.specs.Asn1.{context, integer}
-use Rattle.authenticode_core.specs.PlainForm.{CertificateParts, SignatureParts, SignerParts, algorithm, attributes, certificate, content_info, image_data, issuer_and_serial_number, name, public_key_info, signed_message, signer_info, validity}
+use Rattle.authenticode_core.specs.PlainForm.{CertificateParts, PlainParts, SignerParts, algorithm, attributes, certificate, content_info, image_data, issuer_and_serial_number, name, public_key_info, signed_message, signer_info, validity}
 use Rattle.x509_types.specs.CertificateElements.{CertificateElements}
 use Rattle.key_core.specs.Verifying.{Judge}
 use Rattle.sig_core.specs.declared.algorithm.SigAlg.TheVariants.{RsaSha256}
@@ -29,7 +29,7 @@ plain_signer s = record {
 }
 
 -- the fields of the signed data
-abbrev pub plain_elements : SignatureParts → SignedDataElements
+abbrev pub plain_elements : PlainParts → SignedDataElements
 plain_elements p = record {
   version = integer (1 ∷ []);
   digest_algorithms = set (algorithm identifiers.SHA256.now ∷ []);
@@ -44,7 +44,7 @@ abbrev pub plain_data : List ℕ → IndirectData
 plain_data file_hash = record { image = image_data; algorithm = algorithm identifiers.SHA256.now; digest = file_hash }
 
 -- Signed data of these parts has the form that is asked for, with their digest of the file, and its attributes hold the digest of the content.
-pub record HasPlainFields (p : SignatureParts) : Type 0 where
+pub record HasPlainFields (p : PlainParts) : Type 0 where
   pub form : HasForm (plain_elements p) (algorithm identifiers.SHA256.now) (plain_data p.file_hash) (plain_signer p.signer)
   pub named : NamesDigest (plain_signer p.signer).digest_algorithm SHA2_256
   pub bound : HasMessageDigest (plain_signer p.signer) (digest_of SHA2_256 (digested_octets (plain_data p.file_hash)))
@@ -71,6 +71,6 @@ plain_certificate c = record {
 
 -- When signed data of the plain form is accepted: the digest of the file is the one that is asked for, and the scheme accepts the signature over the attributes as a SET
 -- under the octets of the key.
-pub record IsPlainlyAccepted (judge : Judge) (p : SignatureParts) (file_hash : List ℕ) : Type 0 where
+pub record IsPlainlyAccepted (judge : Judge) (p : PlainParts) (file_hash : List ℕ) : Type 0 where
   pub digest : p.file_hash ≡ file_hash
   pub accepted : judge RsaSha256 p.certificate.tbs.key (signed_message p) p.signer.signature ≡ Accept

@@ -132,14 +132,14 @@ abbrev pub signer_info : SignerParts → DerElement
 signer_info s = sequence (signer_fields s)
 
 -- what varies in the signed data
-pub record SignatureParts : Type 0 where
+pub record PlainParts : Type 0 where
   pub certificate : CertificateParts
   pub file_hash : List ℕ
   pub signer : SignerParts
 
 -- a SignedData of version 1, with one certificate, an empty list of revocation lists and one signer
 -- (RFC 2315 9.1)
-abbrev pub signed_data_fields : SignatureParts → List DerElement
+abbrev pub signed_data_fields : PlainParts → List DerElement
 signed_data_fields p =
     integer (1 ∷ [])
     ∷ set (algorithm identifiers.SHA256.now ∷ [])
@@ -150,11 +150,11 @@ signed_data_fields p =
     ∷ []
 
 -- these fields in order
-abbrev pub signed_data : SignatureParts → DerElement
+abbrev pub signed_data : PlainParts → DerElement
 signed_data p = sequence (signed_data_fields p)
 
 -- a ContentInfo of it (RFC 2315 7)
-abbrev pub signed_content : SignatureParts → DerElement
+abbrev pub signed_content : PlainParts → DerElement
 signed_content p =
     sequence (object_identifier identifiers.SIGNED_DATA.now ∷ context 0 (signed_data p ∷ []) ∷ [])
 
@@ -194,7 +194,7 @@ abbrev pub bound_contents : List ℕ → List ℕ
 bound_contents file_hash = encodings (row (image_data ∷ digest_info file_hash ∷ []))
 
 -- what the parts keep
-pub record IsPlain (p : SignatureParts) : Type 0 where
+pub record IsPlain (p : PlainParts) : Type 0 where
   pub issuer : p.signer.issuer ≡ p.certificate.tbs.issuer
   pub serial : p.signer.serial ≡ p.certificate.tbs.serial
   pub some_serial : p.certificate.tbs.serial ≢ []
@@ -205,12 +205,12 @@ pub record IsPlain (p : SignatureParts) : Type 0 where
 
 -- The octets begin with a WIN_CERTIFICATE whose certificate is signed data of the plain form, with
 -- these parts.
-pub record IsPlainForm (octets : List ℕ) (p : SignatureParts) : Type 0 where
+pub record IsPlainForm (octets : List ℕ) (p : PlainParts) : Type 0 where
   pub certificate : List ℕ
   pub named : contents_in octets ≡ Ok certificate
   pub spelled : IsPaddedEncoding certificate (signed_content p)
   pub plain : IsPlain p
 
 -- What the signature is over: the signed attributes as a SET (RFC 2315 9.3).
-abbrev pub signed_message : SignatureParts → List ℕ
+abbrev pub signed_message : PlainParts → List ℕ
 signed_message p = encoding (set (attributes p.signer.message_digest))

@@ -24,7 +24,7 @@ use der_core::{Elem, Kids, explicit_at, is_same, leaf_at, two_kids};
 /// The tag of a content under its type.
 const CONTENT: u8 = 0xA0;
 
-/// The version of signed data whose content isn't data (RFC 2315 9.1).
+/// The version of signed data (RFC 2315 9.1).
 const VERSION: u8 = 1;
 
 /// What is signed in the place of a file: its element, and in it the digest algorithm and the digest.

@@ -9,7 +9,7 @@ ghost use Rattle.authenticode_core.specs.CertificateBag.{IsBag};
 ghost use Rattle.key_core.specs.Verifying.{Judge};
 ghost use Rattle.authenticode_core.specs.IssuerWalk.{IsIssuerWalk, IsIssuerPath};
 ghost use Rattle.authenticode_core.specs.PlainFields.{HasPlainFields, IsPlainlyAccepted, plain_elements};
-ghost use Rattle.authenticode_core.specs.PlainForm.{IsPlainForm, SignatureParts};
+ghost use Rattle.authenticode_core.specs.PlainForm.{IsPlainForm, PlainParts};
 ghost use Rattle.authenticode_core.specs.Trusted.{IsTrusted};
 ghost use Rattle.authenticode_core.specs.declared.accepted.Accepted.{Accepted};
 ghost use Rattle.authenticode_core.specs.declared.policy.Policy.{Policy};
@@ -42,8 +42,8 @@ pub fn one_issuer_walk()
 /// digest of the file is the one that is asked for and the scheme accepts the signature, with the only
 /// certificate as the signer's.
 pub fn plain_form_is_judged()
-    ensures shape { (octets : List ℕ) (p : SignatureParts) → IsPlainForm octets p → HasSignedData octets (plain_elements p) }
-    ensures form { (octets : List ℕ) (p : SignatureParts) → IsPlainForm octets p → HasPlainFields p }
-    ensures vouched { (judge : Judge) (octets : List ℕ) (p : SignatureParts) (file_hash : List ℕ) (place : ℕ) → IsPlainForm octets p
+    ensures shape { (octets : List ℕ) (p : PlainParts) → IsPlainForm octets p → HasSignedData octets (plain_elements p) }
+    ensures form { (octets : List ℕ) (p : PlainParts) → IsPlainForm octets p → HasPlainFields p }
+    ensures vouched { (judge : Judge) (octets : List ℕ) (p : PlainParts) (file_hash : List ℕ) (place : ℕ) → IsPlainForm octets p
         → IsVouchedFor judge (plain_elements p) file_hash place ↔ ((place ≡ 0) × IsPlainlyAccepted judge p file_hash) }
 {}

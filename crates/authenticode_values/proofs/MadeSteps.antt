@@ -33,7 +33,7 @@ use Rattle.making_core.specs.Carried.{AreCarried}
 use Rattle.making_core.specs.MadeContent.{attributes_message, content_digest, data_element, opus_element, program_attributes}
 use Rattle.making_core.specs.MadeSignature.{attributes_element, signature_made}
 use Rattle.making_core.specs.SignedProgram.{IsBasicName, IsSignature, IsSignedProgram, Program, algorithm_for, attributes_for, message_for, name_of, program_of}
-use Rattle.authenticode_values.specs.Making.{HasNoFirstSigner, HasSigner, IsFirstSigner, IsMadeOf, attributes_written, certificates_step, code_signing_step, hash_step, making_steps, name_step, signature_step, signing_steps, writing_step}
+use Rattle.authenticode_values.specs.Making.{HasNoFirstForSigning, HasFirstForSigning, IsFirstForSigning, IsMadeOf, attributes_written, certificates_step, code_signing_step, hash_step, making_steps, name_step, signature_step, signing_steps, writing_step}
 use Rattle.x509_core.proofs.TakenSteps.{refused_before, refused_behind}
 
 -- ---- the first step
@@ -53,27 +53,27 @@ module _ (signs : Signs) (f : SignedDataElements) (name : Option (List ℕ)) (p 
       refused_behind errors.Memory (name_step name ∷ []) (hash_step (hash_of p.hash) ∷ certificates_step f ∷ code_signing_step f ∷ signing_steps signs p key) e (basic, tt)
       (refused_before errors.Memory (hash_step (hash_of p.hash) ∷ []) (certificates_step f ∷ code_signing_step f ∷ signing_steps signs p key) e refused)
 
-  pub no_signer : (bag : List CertificateElements) → IsBasicName name → hash_of p.hash ≢ SHA2_224 → IsBagOf f bag → HasNoFirstSigner bag e → RefusesBySteps errors.Memory (making_steps signs f name p key) e
+  pub no_signer : (bag : List CertificateElements) → IsBasicName name → hash_of p.hash ≢ SHA2_224 → IsBagOf f bag → HasNoFirstForSigning bag e → RefusesBySteps errors.Memory (making_steps signs f name p key) e
   no_signer [] basic known is none = inl (inr (basic, inr (known, inl (is, none))))
   no_signer (first ∷ others) basic known is none = inl (inr (basic, inr (known, inr ((first, others, is), inl (first, others, is, none.0, none.1)))))
 
-  has_signer : (bag : List CertificateElements) (first : CertificateElements) → IsBasicName name → hash_of p.hash ≢ SHA2_224 → IsBagOf f bag → IsFirstSigner bag first
+  has_signer : (bag : List CertificateElements) (first : CertificateElements) → IsBasicName name → hash_of p.hash ≢ SHA2_224 → IsBagOf f bag → IsFirstForSigning bag first
       → AreTaken (name_step name ∷ hash_step (hash_of p.hash) ∷ certificates_step f ∷ code_signing_step f ∷ [])
   has_signer bag first basic known is (others, are, may) =
       let of : IsBagOf f (first ∷ others) = subst (IsBagOf f) are is in
       (basic, (known, ((first, others, of), ((first, others, record { bag = of; code_signing = subst (λ (b : List CertificateElements). IsForCodeSigning b first) are may }), tt))))
 
-  pub not_signed : (bag : List CertificateElements) (first : CertificateElements) → IsBasicName name → hash_of p.hash ≢ SHA2_224 → IsBagOf f bag → IsFirstSigner bag first
+  pub not_signed : (bag : List CertificateElements) (first : CertificateElements) → IsBasicName name → hash_of p.hash ≢ SHA2_224 → IsBagOf f bag → IsFirstForSigning bag first
       → RefusesBySteps errors.Memory (signing_steps signs p key) e → RefusesBySteps errors.Memory (making_steps signs f name p key) e
   not_signed bag first basic known is signer refused =
       refused_behind errors.Memory (name_step name ∷ hash_step (hash_of p.hash) ∷ certificates_step f ∷ code_signing_step f ∷ []) (signing_steps signs p key) e (has_signer bag first basic known is signer) refused
 
 pub made_of : (judge : Judge) (signs : Signs) (pair : Pair) (f : SignedDataElements) (hash : ShaVariant) (file_hash : List ℕ) (name : Option (List ℕ)) (key : PrivateKey) (bag : List CertificateElements) (first : CertificateElements) (made : SignedDataElements)
-    → IsBasicName name → hash_of hash ≢ SHA2_224 → IsBagOf f bag → IsFirstSigner bag first → IsSignedProgram (arithmetic judge signs pair) bag first (program_of hash file_hash name) key made
+    → IsBasicName name → hash_of hash ≢ SHA2_224 → IsBagOf f bag → IsFirstForSigning bag first → IsSignedProgram (arithmetic judge signs pair) bag first (program_of hash file_hash name) key made
     → AreTaken (signing_steps signs (program_of hash file_hash name) key) → IsMadeOf (arithmetic judge signs pair) f hash file_hash name key made
 made_of judge signs pair f hash file_hash name key bag first made basic known is (others, are, may) signed taken =
     let of : IsBagOf f (first ∷ others) = subst (IsBagOf f) are is in
-    let signer : HasSigner f first others = record { bag = of; code_signing = subst (λ (b : List CertificateElements). IsForCodeSigning b first) are may } in
+    let signer : HasFirstForSigning f first others = record { bag = of; code_signing = subst (λ (b : List CertificateElements). IsForCodeSigning b first) are may } in
     record {
       basic = basic;
       supported = known;
@@ -206,14 +206,14 @@ sealed_taken judge signs pair bag first p key made digest same der bounded signe
 -- ---- what is said of the program by its name
 
 pub not_signed_as : (signs : Signs) (f : SignedDataElements) (name : Option (List ℕ)) (hash : ShaVariant) (file_hash : List ℕ) (opus : DerElement) (key : PrivateKey) (e : AuthenticodeError) (bag : List CertificateElements) (first : CertificateElements)
-    → opus ≡ opus_element name → IsBasicName name → hash_of hash ≢ SHA2_224 → IsBagOf f bag → IsFirstSigner bag first
+    → opus ≡ opus_element name → IsBasicName name → hash_of hash ≢ SHA2_224 → IsBagOf f bag → IsFirstForSigning bag first
     → RefusesBySteps errors.Memory (signing_steps signs (record { hash = hash; file_hash = file_hash; opus = opus }) key) e → RefusesBySteps errors.Memory (making_steps signs f name (program_of hash file_hash name) key) e
 not_signed_as signs f name hash file_hash opus key e bag first said basic known is signer refused =
     not_signed signs f name (program_of hash file_hash name) key e bag first basic known is signer
     (subst (λ (o : DerElement). RefusesBySteps errors.Memory (signing_steps signs (record { hash = hash; file_hash = file_hash; opus = o }) key) e) said refused)
 
 pub made_as : (judge : Judge) (signs : Signs) (pair : Pair) (f : SignedDataElements) (name : Option (List ℕ)) (hash : ShaVariant) (file_hash : List ℕ) (opus : DerElement) (key : PrivateKey) (bag : List CertificateElements) (first : CertificateElements) (made : SignedDataElements)
-    → opus ≡ opus_element name → IsBasicName name → hash_of hash ≢ SHA2_224 → IsBagOf f bag → IsFirstSigner bag first
+    → opus ≡ opus_element name → IsBasicName name → hash_of hash ≢ SHA2_224 → IsBagOf f bag → IsFirstForSigning bag first
     → IsSignedProgram (arithmetic judge signs pair) bag first (record { hash = hash; file_hash = file_hash; opus = opus }) key made → AreTaken (signing_steps signs (record { hash = hash; file_hash = file_hash; opus = opus }) key)
     → IsMadeOf (arithmetic judge signs pair) f hash file_hash name key made
 made_as judge signs pair f name hash file_hash opus key bag first made said basic known is signer signed taken =

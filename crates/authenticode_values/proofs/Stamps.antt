@@ -19,7 +19,7 @@ use Rattle.authenticode_core.specs.StampRefusal.{stamp_refusal}
 use Rattle.authenticode_core.specs.declared.error.AuthenticodeError.{AuthenticodeError}
 use Rattle.authenticode_core.specs.declared.timestamp_error.TimestampError.{TimestampError}
 use Rattle.authenticode_core.specs.declared.timestamp_error.TimestampError.TheVariants as errors
-use Rattle.authenticode_values.specs.Stamping.{HasFirstSignature, IsRefusedStamp, IsTokenFor, IsUnstamped, of_timestamp}
+use Rattle.authenticode_values.specs.Stamping.{HasFirstSignature, IsRefusedStamp, IsTokenFor, RefusesStamp, of_timestamp}
 use Rattle.authenticode_values.specs.Timestamper.{Giving, Modification}
 use Rattle.authenticode_values.specs.TokenStamp.{AreStamped, CountersignsBy, RefusesCountersigner, with_unsigned}
 use Rattle.authenticode_values.specs.declared.pkcs7.Pkcs7.{Pkcs7}
@@ -41,7 +41,7 @@ token_for gives hash signed token lent octets same first given =
 -- ---- refusals
 
 unstamped : (gives : Giving) (modifies : Modification) (risen : Type 0) (hash : HashAlgorithm) (before : SignedData) (e : TimestampError) → (e ≡ errors.Memory) ⊎ IsRefusedStamp gives modifies hash before e
-    → IsUnstamped gives modifies risen hash before (of_timestamp e)
+    → RefusesStamp gives modifies risen hash before (of_timestamp e)
 unstamped gives modifies risen hash before errors.Memory cause = tt
 unstamped gives modifies risen hash before (errors.Pkcs7Error e) (inl memory) = absurd (cc memory)
 unstamped gives modifies risen hash before (errors.Pkcs7Error e) (inr refused) = (λ same. cc, inr refused)
@@ -51,9 +51,9 @@ unstamped gives modifies risen hash before errors.TimestampTokenEmpty (inl memor
 unstamped gives modifies risen hash before errors.TimestampTokenEmpty (inr refused) = (λ same. cc, inr refused)
 
 pub refused_stamp : (gives : Giving) (modifies : Modification) (risen : Type 0) (hash : HashAlgorithm) (before : SignedData) (e : TimestampError) (told : AuthenticodeError) → told ≡ of_timestamp e
-    → (e ≡ errors.Memory) ⊎ IsRefusedStamp gives modifies hash before e → IsUnstamped gives modifies risen hash before told
+    → (e ≡ errors.Memory) ⊎ IsRefusedStamp gives modifies hash before e → RefusesStamp gives modifies risen hash before told
 refused_stamp gives modifies risen hash before e told is cause =
-    subst (IsUnstamped gives modifies risen hash before) (sym is) (unstamped gives modifies risen hash before e cause)
+    subst (RefusesStamp gives modifies risen hash before) (sym is) (unstamped gives modifies risen hash before e cause)
 
 -- ---- the counter-signature
 

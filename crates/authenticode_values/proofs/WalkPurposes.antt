@@ -10,7 +10,7 @@ use Rattle.authenticode_core.specs.Places.{StandsAt}
 use Rattle.authenticode_core.specs.SigningRules.{AsksForPurposes, IsForCodeSigning}
 use Rattle.authenticode_core.proofs.WalkSteps.{one_walk, same_certificate}
 use Rattle.authenticode_core.specs.declared.error.AuthenticodeError.TheVariants as errors
-use Rattle.authenticode_values.specs.Making.{HasNoFirstSigner}
+use Rattle.authenticode_values.specs.Making.{HasNoFirstForSigning}
 use Rattle.authenticode_values.specs.Walk.{IsWalkOf, SomeHasPurposes, StandAt}
 use Rattle.authenticode_values.proofs.Namings.{stands_at}
 
@@ -90,7 +90,7 @@ may_sign signer certificates items false w is names =
     (λ t asked. absurd (cc (is.1 ((walk_asks signer certificates items w).1 asked))), λ may. refl)
 
 -- the first may not
-pub no_first : (bag others : List KeptCertificate) (first : KeptCertificate) → bag ≡ first ∷ others → (IsForCodeSigning (elements_of bag) first.elements → ⊥) → HasNoFirstSigner (elements_of bag) errors.NoEKUCodeSigning
+pub no_first : (bag others : List KeptCertificate) (first : KeptCertificate) → bag ≡ first ∷ others → (IsForCodeSigning (elements_of bag) first.elements → ⊥) → HasNoFirstForSigning (elements_of bag) errors.NoEKUCodeSigning
 no_first bag others first e fails =
-    subst (λ (ks : List KeptCertificate). HasNoFirstSigner (elements_of ks) errors.NoEKUCodeSigning) (sym e)
+    subst (λ (ks : List KeptCertificate). HasNoFirstForSigning (elements_of ks) errors.NoEKUCodeSigning) (sym e)
     (λ may. fails (subst (λ (ks : List KeptCertificate). IsForCodeSigning (elements_of ks) first.elements) (sym e) may), refl)

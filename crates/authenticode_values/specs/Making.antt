@@ -23,7 +23,7 @@ use Rattle.making_core.specs.MadeSignature.{attributes_element}
 use Rattle.making_core.specs.SignedProgram.{IsBasicName, IsSignedProgram, Program, algorithm_for, attributes_for, message_for, program_of}
 
 -- The first certificate of the signed data, the signer's, may sign code.
-pub record HasSigner (f : SignedDataElements) (first : CertificateElements) (others : List CertificateElements) : Type 0 where
+pub record HasFirstForSigning (f : SignedDataElements) (first : CertificateElements) (others : List CertificateElements) : Type 0 where
   pub bag : IsBagOf f (first ∷ others)
   pub code_signing : IsForCodeSigning (first ∷ others) first
 
@@ -57,20 +57,20 @@ certificates_step f = record {
 -- the first of them may sign code (RFC 5280 4.2.1.12)
 abbrev pub code_signing_step : SignedDataElements → Step AuthenticodeError
 code_signing_step f = record {
-  taken = (first : CertificateElements) × (others : List CertificateElements) × HasSigner f first others;
+  taken = (first : CertificateElements) × (others : List CertificateElements) × HasFirstForSigning f first others;
   refused = λ e.
       (first : CertificateElements) × (others : List CertificateElements) × IsBagOf f (first ∷ others) × (IsForCodeSigning (first ∷ others) first → ⊥)
       × (e ≡ errors.NoEKUCodeSigning);
 }
 
 -- The certificate is the first of these, and may sign code.
-abbrev pub IsFirstSigner : List CertificateElements → CertificateElements → Type 0
-IsFirstSigner bag first = (others : List CertificateElements) × (bag ≡ first ∷ others) × IsForCodeSigning bag first
+abbrev pub IsFirstForSigning : List CertificateElements → CertificateElements → Type 0
+IsFirstForSigning bag first = (others : List CertificateElements) × (bag ≡ first ∷ others) × IsForCodeSigning bag first
 
 -- There is no certificate, or the first may not sign code.
-abbrev pub HasNoFirstSigner : List CertificateElements → AuthenticodeError → Type 0
-HasNoFirstSigner [] e = e ≡ errors.NoCertificates
-HasNoFirstSigner (first ∷ others) e = (IsForCodeSigning (first ∷ others) first → ⊥) × (e ≡ errors.NoEKUCodeSigning)
+abbrev pub HasNoFirstForSigning : List CertificateElements → AuthenticodeError → Type 0
+HasNoFirstForSigning [] e = e ≡ errors.NoCertificates
+HasNoFirstForSigning (first ∷ others) e = (IsForCodeSigning (first ∷ others) first → ⊥) × (e ≡ errors.NoEKUCodeSigning)
 
 -- elements are written, the first of them first
 abbrev pub writing_step : List DerElement → Step AuthenticodeError
@@ -108,6 +108,6 @@ pub record IsMadeOf (scheme : KeyArithmetic) (f : SignedDataElements) (hash : Sh
   pub supported : hash_of hash ≢ SHA2_224
   pub first : CertificateElements
   pub others : List CertificateElements
-  pub signer : HasSigner f first others
+  pub signer : HasFirstForSigning f first others
   pub program : IsSignedProgram scheme (first ∷ others) first (program_of hash file_hash name) key made
   pub taken : AreTaken (making_steps scheme.signs f name (program_of hash file_hash name) key)

@@ -24,7 +24,7 @@ pub record IsTokenFor (gives : Giving) (hash : HashAlgorithm) (signed : SignedDa
   pub given : gives octets hash token
 
 -- Signed data that is left by a modification by such a token.
-pub record IsStamped (gives : Giving) (modifies : Modification) (hash : HashAlgorithm) (before after : SignedData) : Type 0 where
+pub record IsLeftByStamp (gives : Giving) (modifies : Modification) (hash : HashAlgorithm) (before after : SignedData) : Type 0 where
   pub token : Pkcs7
   pub given : IsTokenFor gives hash before token
   pub left : modifies token before (Ok after)
@@ -36,11 +36,11 @@ pub record IsRefusedStamp (gives : Giving) (modifies : Modification) (hash : Has
   pub refused : modifies token before (Err e)
 
 -- Why signed data isn't stamped: there is no signer, the count of faults rose, or the modification comes to the error.
-abbrev pub IsUnstamped : (gives : Giving) (modifies : Modification) (risen : Type 0) (hash : HashAlgorithm) (before : SignedData) → AuthenticodeError → Type 0
-IsUnstamped gives modifies risen hash before (errors.MultipleSignerInfo count) = (before.signers_infos ≡ []) × (count ≡ 0)
-IsUnstamped gives modifies risen hash before (errors.TimestampError e) = (e ≢ stamps.Memory) × (risen ⊎ IsRefusedStamp gives modifies hash before e)
-IsUnstamped gives modifies risen hash before errors.Memory = ⊤
-IsUnstamped gives modifies risen hash before _ = ⊥
+abbrev pub RefusesStamp : (gives : Giving) (modifies : Modification) (risen : Type 0) (hash : HashAlgorithm) (before : SignedData) → AuthenticodeError → Type 0
+RefusesStamp gives modifies risen hash before (errors.MultipleSignerInfo count) = (before.signers_infos ≡ []) × (count ≡ 0)
+RefusesStamp gives modifies risen hash before (errors.TimestampError e) = (e ≢ stamps.Memory) × (risen ⊎ IsRefusedStamp gives modifies hash before e)
+RefusesStamp gives modifies risen hash before errors.Memory = ⊤
+RefusesStamp gives modifies risen hash before _ = ⊥
 
 -- an error of timestamps as one of signatures
 abbrev pub of_timestamp : TimestampError → AuthenticodeError

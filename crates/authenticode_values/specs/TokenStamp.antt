@@ -1,4 +1,4 @@
--- What a timestamper makes of signed data that has one token for all (Windows Authenticode Portable Executable Signature Format; RFC 5652
+-- What a timestamper that has one token for all makes of signed data (Windows Authenticode Portable Executable Signature Format; RFC 5652
 -- 5.1, 5.3, 11.4).
 use Rattle.std.specs.Prelude.{◌≡◌, ◌≢◌, ◌⊎◌, List, [], ◌∷◌, ◌++◌, Option, Some, None, Result, Ok, Err}
 use Rattle.der_core.specs.Writing.{RefusesToWrite}

@@ -5,7 +5,7 @@ ghost use Rattle.cms_types.specs.declared.signer_info.SignerInfo.{SignerInfo};
 ghost use Rattle.authenticode_core.specs.declared.error.AuthenticodeError.TheVariants as errors;
 ghost use Rattle.authenticode_core.specs.Counts.{HasRisen};
 ghost use Rattle.authenticode_values.specs.Pkcs7.{signers_of};
-ghost use Rattle.authenticode_values.specs.Stamping.{HasFirstSignature, IsStamped, IsUnstamped, of_timestamp};
+ghost use Rattle.authenticode_values.specs.Stamping.{HasFirstSignature, IsLeftByStamp, RefusesStamp, of_timestamp};
 ghost use Rattle.authenticode_values.specs.Timestamper.{GiveAlike, ModifyAlike};
 
 use crate::signature::AuthenticodeSignature;
@@ -24,9 +24,9 @@ impl AuthenticodeSignature {
         timestamper: &mut T,
         hash_algo: HashAlgorithm,
     ) -> Result<(), AuthenticodeError>
-        ensures stamped { OnOk result (IsStamped (T.gives timestamper.old) (T.modifies timestamper.old) hash_algo
+        ensures stamped { OnOk result (IsLeftByStamp (T.gives timestamper.old) (T.modifies timestamper.old) hash_algo
             self.old.0.signed.signed_data self.new.0.signed.signed_data) }
-        ensures refused { IfErr result (IsUnstamped (T.gives timestamper.old) (T.modifies timestamper.old)
+        ensures refused { IfErr result (RefusesStamp (T.gives timestamper.old) (T.modifies timestamper.old)
             (HasRisen (T.faults timestamper.old) (T.faults timestamper.new)) hash_algo self.old.0.signed.signed_data) }
         // Where there is no signer this is told, whatever memory there is, and no token is asked for.
         ensures no_signer { signers_of self.old.0 ≡ [] → result ≡ Err (errors.MultipleSignerInfo 0) }

@@ -52,7 +52,7 @@ fn rsa_encryption(alloc: Global) -> Result<AlgorithmIdentifier, AllocError>
 }
 
 /// The signer that signs so.
-pub fn signer_of(
+pub fn signer_info_of(
     alloc: Global,
     sid: SignerIdentifier,
     hash: ShaVariant,

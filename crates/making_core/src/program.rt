@@ -14,7 +14,7 @@ ghost use Rattle.making_core.specs.MadeSignature.{signature_made};
 ghost use Rattle.making_core.specs.SignedProgram.{name_of};
 
 use crate::content::content_of;
-use crate::frame::{digests_of, framed, named_by, signer_of, signers_of};
+use crate::frame::{digests_of, framed, named_by, signer_info_of, signers_of};
 use crate::roots::carried_of;
 use cms_types::{Pkcs7Certificate, SignedAttributes, SpcIndirectDataContent};
 use der_core::Octets;
@@ -44,7 +44,7 @@ pub fn program_signature(
     }))) }
 {
     let sid = named_by(alloc, first)?;
-    let signer = signer_of(alloc, sid, hash, attributes, signature, None)?;
+    let signer = signer_info_of(alloc, sid, hash, attributes, signature, None)?;
     let signers = signers_of(alloc, signer)?;
     let digests = digests_of(alloc, hash)?;
     let certificates = carried_of(alloc, bag)?;

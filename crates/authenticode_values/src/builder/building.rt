@@ -38,7 +38,7 @@ use cms_types::{
 use der_core::{ListOf, Octets, Structure};
 use key_core::PrivateKey;
 use making_core::{
-    digests_of, framed, keep_attributes, message_of, signature_of, signer_of, signers_of,
+    digests_of, framed, keep_attributes, message_of, signature_of, signer_info_of, signers_of,
     without_roots,
 };
 use sig_core::{HashAlgorithm, Scheme, ShaVariant};
@@ -213,7 +213,7 @@ impl AuthenticodeSignatureBuilder<'_> {
     {
         let sid = SignerIdentifier::IssuerAndSerialNumber(given.named.try_clone(alloc)?);
         let unsigned = self.unsigned(alloc)?;
-        let signer = signer_of(alloc, sid, given.hash, attributes, signature, unsigned)?;
+        let signer = signer_info_of(alloc, sid, given.hash, attributes, signature, unsigned)?;
         let signers = signers_of(alloc, signer)?;
         let digests = digests_of(alloc, given.hash)?;
         let certificates = without_roots(alloc, given.certificates)?;

@@ -3,7 +3,7 @@
 ghost use Rattle.std.specs.Prelude.{◌↔◌, IsTrue, MatchResult};
 ghost use Rattle.making_core.specs.Carried.{elements_of};
 ghost use Rattle.authenticode_core.specs.SigningRules.{IsForCodeSigning};
-ghost use Rattle.authenticode_values.specs.Making.{HasNoFirstSigner, IsFirstSigner};
+ghost use Rattle.authenticode_values.specs.Making.{HasNoFirstForSigning, IsFirstForSigning};
 ghost use Rattle.authenticode_values.specs.Walk.{SomeHasPurposes, items_left};
 
 use crate::certificates::SignatureCertificatesIterator;
@@ -14,8 +14,8 @@ use x509_core::Cert;
 /// The first of the certificates, which has to be one for code signing.
 pub(super) fn first_signer(bag: &[Cert]) -> Result<&Cert, AuthenticodeError>
     ensures { MatchResult result
-        (λ first. IsFirstSigner (elements_of bag.now) first.now.elements)
-        (HasNoFirstSigner (elements_of bag.now)) }
+        (λ first. IsFirstForSigning (elements_of bag.now) first.now.elements)
+        (HasNoFirstForSigning (elements_of bag.now)) }
 {
     let Some((first, _)) = bag.split_first() else {
         return Err(AuthenticodeError::NoCertificates);

@@ -6,7 +6,7 @@ use Rattle.x509_core.specs.KeptCertificate.{KeptCertificate}
 use Rattle.authenticode_core.specs.SigningRules.{IsBagOf}
 use Rattle.making_core.specs.SignedProgram.{program_of}
 use Rattle.making_core.specs.Carried.{elements_of}
-use Rattle.authenticode_values.specs.Making.{HasNoFirstSigner, IsFirstSigner}
+use Rattle.authenticode_values.specs.Making.{HasNoFirstForSigning, IsFirstForSigning}
 use Rattle.authenticode_values.specs.Pkcs7.{fields_of}
 use Rattle.authenticode_values.proofs.MadeSteps.{made_as, no_hash, no_name, no_signer, not_signed_as}
 use Rattle.authenticode_values.proofs.making.made.Goals as goal
@@ -30,7 +30,7 @@ returns-in_err-first g c =
     let name = option_copied c.args.program_name in
     rw (p.1, p.2) (no_signer (g.S.Scheme.signs c.args.scheme.now) (fields_of c.args.pkcs7.now) name (program_of c.args.hash_algo c.args.file_hash.now name) c.args.private_key.now c.in_err-first.field-0.0
     (elements_of c.in_ok-bag.bag.items) c.in_ok-opus.ensures.1 c.in_ok-algorithm.ensures.1 c.in_ok-bag.ensures
-    (subst (λ (ks : List KeptCertificate). HasNoFirstSigner (elements_of ks) c.in_err-first.field-0.0) c.deref.ensures.value c.in_err-first.ensures))
+    (subst (λ (ks : List KeptCertificate). HasNoFirstForSigning (elements_of ks) c.in_err-first.field-0.0) c.deref.ensures.value c.in_err-first.ensures))
 
 pub returns-in_err-made : goal.returns-in_err-made
 returns-in_err-made g c =
@@ -49,4 +49,4 @@ returns g c =
     made_as (g.S.Scheme.judge c.args.scheme.now) (g.S.Scheme.signs c.args.scheme.now) (g.S.Scheme.pair c.args.scheme.now) (fields_of c.args.pkcs7.now) (option_copied c.args.program_name) c.args.hash_algo c.args.file_hash.now (opus_info c.in_ok-opus.opus)
     c.args.private_key.now (elements_of c.deref-2.result.now) c.in_ok-first.first.now.elements (fields_of c.in_ok-made.made) c.in_ok-opus.ensures.0 c.in_ok-opus.ensures.1 c.in_ok-algorithm.ensures.1
     (subst (λ (ks : List KeptCertificate). IsBagOf (fields_of c.args.pkcs7.now) (elements_of ks)) (sym other) c.in_ok-bag.ensures)
-    (subst (λ (ks : List KeptCertificate). IsFirstSigner (elements_of ks) c.in_ok-first.first.now.elements) (list ∙ sym other) c.in_ok-first.ensures) c.in_ok-made.ensures.0 c.in_ok-made.ensures.1
+    (subst (λ (ks : List KeptCertificate). IsFirstForSigning (elements_of ks) c.in_ok-first.first.now.elements) (list ∙ sym other) c.in_ok-first.ensures) c.in_ok-made.ensures.0 c.in_ok-made.ensures.1
