@@ -1,11 +1,10 @@
 -- One error tells of an argument that isn't given, and none where all are.
-use Rattle.std.proofs.Common.{◌≡◌, Bool, true, false, Option, Some, None, Result, Ok, Err, IsSome, refl, sym, ◌∙◌, subst, inl, inr}
+use Rattle.std.proofs.Common.{◌≡◌, Bool, true, false, Option, Some, None, Result, Ok, Err, IsSome, refl, sym, ◌∙◌, subst}
 use Rattle.x509_core.specs.Steps.{IsFirstUntaken}
 use Rattle.x509_core.proofs.TakenSteps.{HasOneError, HaveOneError, left_behind, one_before}
 use Rattle.x509_core.specs.declared.error.Arg.{Arg}
 use Rattle.x509_core.specs.declared.error.Arg.TheVariants as arguments
 use Rattle.x509_core.specs.declared.error.CertError.{CertError}
-use Rattle.x509_core.specs.declared.error.CertError.TheVariants as errors
 use Rattle.issuing_core.specs.Building.{argument_steps, arguments_by, given_step, given_steps, subject_arguments}
 use Rattle.issuing_core.specs.declared.builder.CertificateBuilder.{CertificateBuilder}
 use Rattle.issuing_core.specs.declared.builder.IssuerInfos.{IssuerInfos}
@@ -47,24 +46,6 @@ nothing_asked false b e is first = let no : false ≡ true = is in absurd cc
 pub asked_of_other : (own : Bool) (b : CertificateBuilder) (e : CertError) → own ≡ false → IsFirstUntaken (subject_arguments own b) e → IsFirstUntaken (subject_arguments false b) e
 asked_of_other true b e is first = absurd first
 asked_of_other false b e is first = first
-
-module _ (b : CertificateBuilder) (e : CertError) where
-  -- the issuer's key isn't identified
-  pub no_identifier : b.authority_key_identifier ≡ None → IsFirstUntaken (subject_arguments false b) e → errors.MissingBuilderArgument arguments.AuthorityKeyIdentifier ≡ e
-  no_identifier none (inl refused) = sym refused.1
-  no_identifier none (inr (taken, first)) = absurd (some_or_none b.authority_key_identifier taken none)
-
-  -- the subject isn't given
-  pub no_subject_given : IsSome b.authority_key_identifier → IsFirstUntaken (subject_arguments false b) e → errors.MissingBuilderArgument arguments.SubjectInfos ≡ e
-  no_subject_given some (inl refused) = absurd (some_or_none b.authority_key_identifier some refused.0)
-  no_subject_given some (inr (taken, inl refused)) = sym refused.1
-  no_subject_given some (inr (taken, inr (again, none))) = absurd none
-
-  -- both are given
-  pub both_given : IsSome b.authority_key_identifier → IsSome b.subject_infos → IsFirstUntaken (subject_arguments false b) e → ⊥
-  both_given some given (inl refused) = some_or_none b.authority_key_identifier some refused.0
-  both_given some given (inr (taken, inl refused)) = some_or_none b.subject_infos given refused.0
-  both_given some given (inr (taken, inr (again, none))) = none
 
 -- what is answered is no refusal
 pub answered : {A E : Type 0} (x : A) (e : E) → ◌≡◌ {A = Result A E} (Ok x) (Err e) → ⊥

@@ -126,22 +126,22 @@ built_distinct b issuer own authority es built =
 
 -- ---- the first stays
 
-abbrev HasFirstElement : Extension → List Extension → Type 0
-HasFirstElement first es = (others : List Extension) × (es ≡ first ∷ others)
+abbrev IsAtFront : Extension → List Extension → Type 0
+IsAtFront first es = (others : List Extension) × (es ≡ first ∷ others)
 
-begins_or : (first : Extension) (es : List Extension) (e : Extension) (t : Bool) → HasFirstElement first es → HasFirstElement first (if t then es else es ++ e ∷ [])
+begins_or : (first : Extension) (es : List Extension) (e : Extension) (t : Bool) → IsAtFront first es → IsAtFront first (if t then es else es ++ e ∷ [])
 begins_or first es e true begins = begins
 begins_or first es e false begins = (begins.0 ++ e ∷ [], ap (λ (x : List Extension). x ++ e ∷ []) begins.1)
 
-begins_others : (first : Extension) (es others : List Extension) → HasFirstElement first es → HasFirstElement first (with_others es others)
+begins_others : (first : Extension) (es others : List Extension) → IsAtFront first es → IsAtFront first (with_others es others)
 begins_others first es [] begins = begins
 begins_others first es (e ∷ others) begins = begins_others first (with_one es e) others (begins_or first es e (has_one es (identifier_contents e.extn_id)) begins)
 
-first_wanted : (w : Wanted) (ws : List Wanted) (es : List Extension) → AreWanted (w ∷ ws) es → (e : Extension) × IsWanted w e × HasFirstElement e es
+first_wanted : (w : Wanted) (ws : List Wanted) (es : List Extension) → AreWanted (w ∷ ws) es → (e : Extension) × IsWanted w e × IsAtFront e es
 first_wanted w ws [] are = absurd are
 first_wanted w ws (e ∷ es) are = (e, are.0, (es, refl))
 
-first_value : (oid : List ℕ) (value : ExtensionView) (e : Extension) (es : List Extension) → identifier_contents e.extn_id ≡ oid → e.extn_value ≡ value → HasFirstElement e es → HasFirst oid es value
+first_value : (oid : List ℕ) (value : ExtensionView) (e : Extension) (es : List Extension) → identifier_contents e.extn_id ≡ oid → e.extn_value ≡ value → IsAtFront e es → HasFirst oid es value
 first_value oid value e es named valued begins = record {
   extension = e;
   first = record { before = []; after = begins.0; are = begins.1; first = tt; named = named };
@@ -152,7 +152,7 @@ pub built_constrained : (b : CertificateBuilder) (issuer : IssuerInfos) (own aut
 built_constrained b issuer own authority es built =
     let first = first_wanted _ _ built.made built.are_made in
     let begins = begins_others first.0 built.made (inherited issuer.self_signed b.inherits b.subject_infos) first.2 in
-    first_value CE_BASIC_CONSTRAINTS.now (constraints_of b) first.0 es first.1.named first.1.valued (subst (HasFirstElement first.0) (sym built.are) begins)
+    first_value CE_BASIC_CONSTRAINTS.now (constraints_of b) first.0 es first.1.named first.1.valued (subst (IsAtFront first.0) (sym built.are) begins)
 
 -- ---- put together
 
