@@ -1,9 +1,8 @@
 //! Certificates by issuer and serial number.
 
-use crate::list_fields::push_value;
 use asn1_types::IntegerAsn1;
 use der_core::tag::SEQUENCE;
-use der_core::{DerError, Elem, NewKids, Structure, Tree, two_kids};
+use der_core::{DerError, Elem, NewKids, Structure, Tree, push_value, two_kids};
 use std::alloc::{AllocError, Global};
 use x509_types::Name;
 

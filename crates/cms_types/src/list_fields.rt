@@ -29,19 +29,6 @@ pub(crate) fn read_list_option<T: Structure>(
     }
 }
 
-/// Appends the element of the value.
-pub(crate) fn push_value<T: Structure>(
-    alloc: Global,
-    kids: &mut NewKids,
-    value: &T,
-) -> Result<(), DerError>
-    ensures { MatchResult result
-        (λ _. (kids.new.kids ≡ kids.old.kids ++ T.written value.now ∷ []) × AreDer (T.inner value.now))
-        (RefusesInner (T.inner value.now)) }
-{
-    Ok(kids.push(value.write(alloc)?)?)
-}
-
 /// Appends the element of the values.
 pub(crate) fn push_values<T: Structure>(
     alloc: Global,

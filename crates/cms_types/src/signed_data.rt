@@ -3,7 +3,7 @@
 ghost use Rattle.std.specs.Prelude.{◌≡◌, ◌↔◌, IsTrue};
 
 use crate::certificate_choices::CertificateChoices;
-use crate::list_fields::{push_list, push_value, push_values};
+use crate::list_fields::{push_list, push_values};
 use crate::raw_unsigned::RawList;
 use crate::shapes::is_signed_data;
 use crate::signed_data_fields::{CERTIFICATES, REVOCATION_LISTS, SignedDataFields};
@@ -12,7 +12,7 @@ use crate::signer_info::SignerInfo;
 use crate::version::CmsVersion;
 use content_types::EncapsulatedContentInfo;
 use der_core::tag::{SEQUENCE, SET};
-use der_core::{DerError, Elem, ListOf, NewKids, Structure, Tree};
+use der_core::{DerError, Elem, ListOf, NewKids, Structure, Tree, push_value};
 use key_types::AlgorithmIdentifier;
 use std::alloc::{AllocError, Global};
 

@@ -2,7 +2,7 @@
 
 ghost use Rattle.std.specs.Prelude.{◌≡◌, ◌↔◌, IsTrue};
 
-use crate::list_fields::{push_list, push_value};
+use crate::list_fields::push_list;
 use crate::shapes::is_signer_info;
 use crate::signed_attributes::SignedAttributes;
 use crate::signer_fields::{SignerFields, UNSIGNED_ATTRIBUTES};
@@ -11,7 +11,7 @@ use crate::signer_parts::{SignatureFields, SignedBy, join};
 use crate::unsigned_attribute::UnsignedAttributeList;
 use crate::version::CmsVersion;
 use der_core::tag::SEQUENCE;
-use der_core::{DerError, Elem, NewKids, Octets, Structure, Tree};
+use der_core::{DerError, Elem, NewKids, Octets, Structure, Tree, push_value};
 use key_types::AlgorithmIdentifier;
 use std::alloc::{AllocError, Global};
 

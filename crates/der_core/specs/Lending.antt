@@ -10,7 +10,7 @@ pub record LendsKids (element : DerElement) (cursor : Cursor) : Type 0 where
   pub place : cursor.place ≡ 0
   pub level : cursor.level ≡ 2
 
--- The cursor stands before the elements in the element, where there is one, or has nothing left.
+-- The cursor stands before the elements in the element, where there is one, or before none.
 abbrev pub LendsMembers : Option DerElement → Cursor → Type 0
-LendsMembers None cursor = cursor.rest.now ≡ []
+LendsMembers None cursor = (cursor.rest.now ≡ []) × (cursor.place ≡ 0)
 LendsMembers (Some element) cursor = LendsKids element cursor

@@ -45,7 +45,7 @@ pub use new_kids::NewKids;
 pub use octets::{Octets, is_same};
 pub use optional::{
     copy_octets, copy_option, expect, expect_option, has_option, push_explicit, push_leaf,
-    read_option,
+    push_value, read_option,
 };
 pub use raw::Raw;
 pub use reading::{read_exact, read_first};

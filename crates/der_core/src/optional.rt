@@ -1,6 +1,6 @@
-//! Fields that may be left out.
+//! Fields that are there, and fields that may be left out.
 
-ghost use Rattle.std.specs.Prelude.{◌≡◌, ◌++◌, false, IsTrue, IfOk, OnOk, MatchOption, MatchResult, Option};
+ghost use Rattle.std.specs.Prelude.{◌≡◌, ◌++◌, ◌∷◌, [], false, IsTrue, IfOk, OnOk, OnErr, MatchOption, MatchResult, Option};
 ghost use Rattle.std.specs.Option.{option_map, option_copied};
 ghost use Rattle.der_core.specs.Elements.{optional_explicit, optional_leaf};
 ghost use Rattle.der_core.specs.Encoding.{IsTag, form_bit};
@@ -87,6 +87,20 @@ pub fn copy_octets(alloc: Global, octets: Option<&[u8]>) -> Result<Option<Octets
     }
 }
 
+/// Appends the element of the value.
+pub fn push_value<T: Structure>(
+    alloc: Global,
+    kids: &mut NewKids,
+    value: &T,
+) -> Result<(), DerError>
+    ensures answer { MatchResult result
+        (λ _. (kids.new.kids ≡ kids.old.kids ++ T.written value.now ∷ []) × AreDer (T.inner value.now))
+        (RefusesInner (T.inner value.now)) }
+    ensures unchanged { OnErr result (kids.new.kids ≡ kids.old.kids) }
+{
+    Ok(kids.push(value.write(alloc)?)?)
+}
+
 /// Appends the element of the value under an explicit tag, where there is one.
 pub fn push_explicit<T: Structure>(
     alloc: Global,
@@ -95,9 +109,10 @@ pub fn push_explicit<T: Structure>(
     value: &Option<T>,
 ) -> Result<(), DerError>
     requires { IsTag tag × (form_bit tag ≡ 1) }
-    ensures { MatchResult result
+    ensures answer { MatchResult result
         (λ _. (kids.new.kids ≡ kids.old.kids ++ optional_explicit tag (option_map T.written value.now)) × AreDer (inner_option T.inner value.now))
         (RefusesInner (inner_option T.inner value.now)) }
+    ensures unchanged { OnErr result (kids.new.kids ≡ kids.old.kids) }
 {
     if let Some(value) = value {
         kids.push(explicit(alloc, tag, value.write(alloc)?)?)?;
@@ -113,7 +128,8 @@ pub fn push_leaf(
     octets: &Option<Octets>,
 ) -> Result<(), AllocError>
     requires { IsTag tag × (form_bit tag ≡ 0) }
-    ensures { OnOk result (kids.new.kids ≡ kids.old.kids ++ optional_leaf tag octets.now) }
+    ensures ok { OnOk result (kids.new.kids ≡ kids.old.kids ++ optional_leaf tag octets.now) }
+    ensures err { OnErr result (kids.new.kids ≡ kids.old.kids) }
 {
     if let Some(octets) = octets {
         kids.push(leaf(alloc, tag, octets.as_slice())?)?;

@@ -4,7 +4,6 @@ ghost use Rattle.std.specs.Prelude.{◌≡◌, ◌≢◌, ◌∷◌, ◌++◌, [
 ghost use Rattle.std.specs.Option.{option_copied, option_map};
 ghost use Rattle.der_core.specs.Elements.{octet_string, optional_leaf};
 ghost use Rattle.der_core.specs.Lent.{at_option, kept_option};
-ghost use Rattle.der_core.specs.Placed.{AreDer};
 ghost use Rattle.key_core.specs.PrivateKeyFields.{HaveTag};
 ghost use Rattle.der_core.specs.Encoding.{encoding, IsDer, IsWellFormed};
 ghost use Rattle.der_core.specs.Refusals.{RefusesShape, RefusesInner};
@@ -22,7 +21,7 @@ use crate::private_key_value::PrivateKeyValue;
 use crate::private_key_version::PrivateKeyVersion;
 use asn1_types::BitString;
 use der_core::tag::{OCTET_STRING, SEQUENCE};
-use der_core::{DerError, Elem, NewKids, Raw, Structure, Tree, copy_option};
+use der_core::{DerError, Elem, NewKids, Raw, Structure, Tree, copy_option, push_value};
 use key_types::{AlgorithmIdentifier, KeyKind};
 use std::alloc::{AllocError, Global};
 
@@ -144,15 +143,6 @@ fn push_key(alloc: Global, kids: &mut NewKids, key: &PrivateKeyValue) -> Result<
         (RefusesInner (private_key key.now ∷ [])) }
 {
     Ok(kids.push(write_key(alloc, key)?)?)
-}
-
-/// Appends the element of the value.
-fn push_value<T: Structure>(alloc: Global, kids: &mut NewKids, value: &T) -> Result<(), DerError>
-    ensures { MatchResult result
-        (λ _. (kids.new.kids ≡ kids.old.kids ++ T.written value.now ∷ []) × AreDer (T.inner value.now))
-        (RefusesInner (T.inner value.now)) }
-{
-    Ok(kids.push(value.write(alloc)?)?)
 }
 
 /// Appends the attributes, where there are any.

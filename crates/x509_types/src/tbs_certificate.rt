@@ -1,8 +1,7 @@
 //! What is signed of a certificate.
 
-ghost use Rattle.std.specs.Prelude.{◌≡◌, ◌↔◌, ◌++◌, ◌∷◌, [], IsTrue, MatchResult};
+ghost use Rattle.std.specs.Prelude.{◌≡◌, ◌↔◌, IsTrue};
 ghost use Rattle.der_core.specs.Placed.{AreDer};
-ghost use Rattle.der_core.specs.Refusals.{RefusesInner};
 
 use crate::tbs_fields::{EXTENSIONS, ISSUER_UNIQUE_ID, SUBJECT_UNIQUE_ID, TbsFields, VERSION};
 use crate::tbs_parts::{AddedFields, IssuedBy, IssuedTo, join};
@@ -10,7 +9,9 @@ use crate::version::Version;
 use crate::{AlgorithmIdentifier, Extensions, Name, SubjectPublicKeyInfo, Validity};
 use asn1_types::IntegerAsn1;
 use der_core::tag::SEQUENCE;
-use der_core::{DerError, Elem, NewKids, Octets, Structure, Tree, push_explicit, push_leaf};
+use der_core::{
+    DerError, Elem, NewKids, Octets, Structure, Tree, push_explicit, push_leaf, push_value,
+};
 use std::alloc::{AllocError, Global};
 
 /// What is signed of a certificate (RFC 5280 4.1.2). A version that is left out, which means V1, and
@@ -62,15 +63,6 @@ fn are_same_extensions(a: &Option<Extensions>, b: &Option<Extensions>) -> bool
     ensures { IsTrue result ↔ (a.now ≡ b.now) }
 {
     a == b
-}
-
-/// Appends the element of the value.
-fn push_value<T: Structure>(alloc: Global, kids: &mut NewKids, value: &T) -> Result<(), DerError>
-    ensures { MatchResult result
-        (λ _. (kids.new.kids ≡ kids.old.kids ++ T.written value.now ∷ []) × AreDer (T.inner value.now))
-        (RefusesInner (T.inner value.now)) }
-{
-    Ok(kids.push(value.write(alloc)?)?)
 }
 
 impl Structure for TbsCertificate {
