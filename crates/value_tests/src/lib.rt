@@ -1,5 +1,5 @@
-//! Tests of what rows of data can't show: a hash, and lists that grow. The rows of `value_answers`
-//! and `structure_answers` are the others.
+//! Tests of what rows of data can't show: a hash, lists that grow, and values that callers make. The
+//! rows of `value_answers` and `structure_answers` are the others.
 #![tactic(auto)]
 
 #[cfg(test)]
@@ -8,3 +8,5 @@ mod general_names;
 mod identifiers;
 #[cfg(test)]
 mod lists;
+#[cfg(test)]
+mod other_values;

@@ -1,9 +1,11 @@
 //! Values that are no string of a known type.
 
-ghost use Rattle.std.specs.Prelude.{◌≡◌, IfOk, ◌↔◌, IsTrue};
+ghost use Rattle.std.specs.Prelude.{◌≡◌, IfOk, ◌↔◌, IsTrue, MatchOption};
 ghost use Rattle.x501_types.specs.OtherValue.{IsOtherValue};
 
-use der_core::{Elem, Raw};
+use crate::directory_string::DirectoryString;
+use asn1_types::Ia5String;
+use der_core::{Elem, Raw, Structure};
 use std::alloc::{AllocError, Global};
 
 /// An element that is neither a DirectoryString nor an IA5String, kept as it is.
@@ -14,6 +16,21 @@ pub struct OtherValue {
 }
 
 impl OtherValue {
+    /// The element as a value, None where it is a DirectoryString or an IA5String (RFC 5280 4.1.2.4).
+    pub fn new(element: Raw) -> Option<OtherValue>
+        ensures { MatchOption result
+            (IsOtherValue element.element → ⊥)
+            (λ value. value.element ≡ element) }
+    {
+        if DirectoryString::has_shape(element.elem()) {
+            return None;
+        }
+        if Ia5String::has_shape(element.elem()) {
+            return None;
+        }
+        Some(OtherValue { element })
+    }
+
     /// The element that lies in octets, kept as it is.
     pub(crate) fn keep(alloc: Global, elem: Elem<'_>) -> Result<OtherValue, AllocError>
         requires { IsOtherValue elem.is.0 }
