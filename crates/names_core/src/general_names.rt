@@ -1,6 +1,6 @@
 //! General names in a row.
 
-ghost use Rattle.std.specs.Prelude.{◌≡◌, ◌↔◌, ◌++◌, ◌∷◌, [], map, option_map, IsTrue, IfOk, OnOk, OnErr, Ok, None};
+ghost use Rattle.std.specs.Prelude.{◌≡◌, ◌↔◌, ◌++◌, ◌∷◌, [], length, map, option_map, IsTrue, IfOk, OnOk, OnErr, Ok, None};
 ghost use Rattle.std.specs.Option.{option_copied};
 ghost use Rattle.x501_types.specs.declared.general_name.RawGeneralName.TheVariants as raw;
 ghost use Rattle.names_core.specs.GeneralName.{raw_name};
@@ -108,6 +108,20 @@ impl GeneralNames {
         ensures err { OnErr result (self.new ≡ self.old) }
     {
         self.names.push(RawGeneralName::from(name))
+    }
+
+    /// How many names there are.
+    pub fn len(&self) -> usize
+        ensures { result ≡ length self.now }
+    {
+        self.names.len()
+    }
+
+    /// Whether there are none.
+    pub fn is_empty(&self) -> bool
+        ensures { IsTrue result ↔ (self.now ≡ []) }
+    {
+        self.names.is_empty()
     }
 
     /// A copy of the first name of the directory, None exactly where there is none.
