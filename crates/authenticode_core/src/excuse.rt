@@ -39,7 +39,7 @@ pub(crate) fn excuse_of<S: Scheme>(
         (IsExcused (S.judge scheme.now) (data_elements signed_data.now) bag (view_elements signer.now)))
         (OrMemory errors.Memory (HasBadStamp (S.judge scheme.now) (data_elements signed_data.now) bag (view_elements signer.now))) }
 {
-    if signer.names(KP_LIFETIME_SIGNING) {
+    if signer.names_purpose(KP_LIFETIME_SIGNING) {
         return Ok(None);
     }
     if names_time_stamping(signed_data) {
