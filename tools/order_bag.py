@@ -39,26 +39,45 @@ def read_of(member):
         return None
 
 
-def issuer_of(child, candidates):
-    """The first candidate with the name of the issuer and, where one has it, the key that the child names."""
-    fitting = [one for one in candidates if one[1] and one[1].parts.subject == child.parts.issuer]
-    by_key = [one for one in fitting if one[1].subject_key == child.authority_key]
-    return next(iter(by_key or fitting), None)
+class Left:
+    """Members by their places, certificates also by their subject, and by that and their key's identifier."""
+
+    def __init__(self, members):
+        self.members = dict(enumerate(members))
+        self.certificates = {place: read for place, member in enumerate(members) if (read := read_of(member))}
+        self.named = {}
+        for place, read in self.certificates.items():
+            for word in self.words_of(read):
+                self.named.setdefault(word, {})[place] = read
+
+    @staticmethod
+    def words_of(read):
+        return read.parts.subject, (read.parts.subject, read.subject_key)
+
+    def take(self, place):
+        """The member at a place, which is left no longer."""
+        for word in self.words_of(self.certificates[place]):
+            del self.named[word][place]
+        return self.members.pop(place)
+
+    def issuer_of(self, child):
+        """The place of the first with the name of the issuer and, where one has it, the key that the child names."""
+        by_key = self.named.get((child.parts.issuer, child.authority_key))
+        return next(iter(by_key or self.named.get(child.parts.issuer, ())), None)
 
 
 def ordered(members, signer):
     """The members, the certificate of the signer and its issuers in front."""
-    left = [(member, read_of(member)) for member in members]
+    left = Left(members)
     named = signer.kids[1]
-    found = [one for one in left if one[1] and named.tag == 0x30
-             and (one[1].parts.issuer, one[1].parts.serial) == (write(named.kids[0]), named.kids[1].contents)]
+    found = [place for place, read in left.certificates.items() if named.tag == 0x30
+             and (read.parts.issuer, read.parts.serial) == (write(named.kids[0]), named.kids[1].contents)]
     walk = []
-    next_one = found[0] if found else None
-    while next_one:
-        walk.append(next_one[0])
-        left.remove(next_one)
-        next_one = issuer_of(next_one[1], left)
-    return (*walk, *(member for member, _ in left))
+    place = found[0] if found else None
+    while place is not None:
+        walk.append(left.take(place))
+        place = left.issuer_of(left.certificates[place])
+    return (*walk, *left.members.values())
 
 
 def with_order(content_info):

@@ -273,11 +273,11 @@ class SignedProgramsTest(unittest.TestCase):
             self.assertEqual(order_bag.with_ordered_bag(ordered.octets), ordered.octets)
             self.assertEqual(set(verdict_table.table(ordered.octets)[0]), set(program.table.splitlines()), label)
 
-    def test_each_signature_of_an_issuer_is_asked_for(self):
+    def test_each_signature_of_an_issuer_is_asked_for_once(self):
         # Those of the token too, in which osslsigncode puts the certificate that stamps twice.
         program = signed_programs.stored()["stamped, three"].in_order().file()
         asked = [one.what for one in verdict_table.asked_of(program.octets)]
-        places = [f"certificate {place} of the {where}" for where, many in (("signed data", 3), ("token", 4)) for place in range(many)]
+        places = [f"certificate {place} of the {where}" for where, many in (("signed data", 3), ("token", 3)) for place in range(many)]
         self.assertEqual(asked, ["the signer", *places])
 
 
@@ -644,6 +644,16 @@ class VerdictTableTest(unittest.TestCase):
         lines, lacking = verdict_table.table(changed)
         self.assertEqual([line.split()[0] for line in lines], ["rsa-sha256"])
         self.assertEqual(lacking, ["the signer: not accepted as rsa-sha256"])
+
+    def test_too_many(self):
+        one = verdict_table.signed_data_in(self.signed("program, RSA, sha256"))[0][0]
+        many = [one._replace(issuer=one.subject, tbs=one.tbs + bytes([place])) for place in range(4)]
+        asked = list(verdict_table.of_certificates(many * 3, "the signed data"))
+        self.assertEqual([(known.what[:13], known.message) for known in asked], [(f"certificate {place}", many[place].tbs) for place in range(4)])
+        with patch.object(verdict_table, "MOST_ASKED", 3), patch.object(verdict_table.Asked, "is_accepted", lambda asked: True):
+            with self.assertRaises(verdict_table.TooManyAsked):
+                verdict_table.table_of(asked)
+            self.assertEqual(len(verdict_table.table_of(asked[:3] * 2)[0]), 3)
 
     def test_no_signature_file(self):
         for octets in b"", b"\x09\0\0\0\0\2\2\0", b"\x0a\0\0\0\0\2\2\0\5\0", self.signed("cms, written in pieces"):

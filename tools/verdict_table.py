@@ -16,8 +16,10 @@ Each CERT is a file with one certificate in DER, the one that is checked first a
 its nearest parent next.  Each line names the signature of one by the key of the next.
 
 A signature that is asked for and that openssl doesn't accept, or whose algorithm
-has no name in a table, has a line on standard error.  Nothing is said of whether
-a certificate may be believed: that is for who reads the table.
+has no name in a table, has a line on standard error, one for all places where it
+stands.  Nothing is said of whether a certificate may be believed: that is for who
+reads the table.  Many certificates of one name ask for each by each: a file that asks
+for more than 10,000 signatures has no table, and the status is 1.
 """
 
 import sys
@@ -50,6 +52,7 @@ SIGNATURES = {
 }
 NAMES = {f"rsa-{digest}" for digest in DIGESTS.values()} | {"p256-sha256", "p384-sha384", "p521-sha512", "ed25519"}
 MICROSOFT_COUNTERSIGNATURE = "1.3.6.1.4.1.311.3.3.1"
+MOST_ASKED = 10_000
 
 
 class NotASignatureFile(Exception):
@@ -58,6 +61,10 @@ class NotASignatureFile(Exception):
 
 class NotACertificate(Exception):
     """The file isn't one certificate."""
+
+
+class TooManyAsked(Exception):
+    """The check of the file may ask for more signatures than a table is made for."""
 
 
 class Certificate(NamedTuple):
@@ -107,6 +114,10 @@ class Asked(NamedTuple):
             return None
         name = {RSA: f"rsa-{self.digest}", EC: f"{curve}-{self.digest}", ED25519: "ed25519"}[algorithm]
         return name if name in NAMES else None
+
+    def parts(self):
+        """What the answer of openssl rests on."""
+        return write(self.key.key_info), self.algorithm, self.digest, self.message, self.signature
 
     def line(self):
         parts = self.key.key_octets(), self.message, self.signature
@@ -186,12 +197,15 @@ def of_signer(signer, certificates):
 
 
 def of_certificates(certificates, where):
-    """The signature of each certificate by each whose subject is its issuer (RFC 5280 4.1.1.3)."""
-    for place, child in enumerate(certificates):
+    """The signature of each certificate by each whose subject is its issuer (RFC 5280 4.1.1.3), once by each key."""
+    parents, children = {}, {}
+    for place, one in enumerate(certificates):
+        parents.setdefault(one.subject, {}).setdefault(write(one.key_info), one)
+        children.setdefault((one.tbs, one.algorithm, one.signature), (place, one))
+    for place, child in children.values():
         algorithm, digest = SIGNATURES.get(child.algorithm, (None, None))
-        for parent in certificates:
-            if parent.subject == child.issuer:
-                yield Asked(f"certificate {place} of {where}", parent, algorithm, digest, child.tbs, child.signature)
+        for parent in parents.get(child.issuer, {}).values():
+            yield Asked(f"certificate {place} of {where}", parent, algorithm, digest, child.tbs, child.signature)
 
 
 def token_of(signer):
@@ -243,15 +257,20 @@ def chain_table(files):
 
 def table_of(all_asked):
     """The lines for signatures that are asked for, and what has none."""
-    lines, lacking = [], []
+    lines, lacking, seen = [], [], set()
     for asked in all_asked:
+        if asked.parts() in seen:
+            continue
+        if len(seen) == MOST_ASKED:
+            raise TooManyAsked(f"more than {MOST_ASKED} signatures are asked for")
+        seen.add(asked.parts())
         if asked.name() is None:
             lacking.append(f"{asked.what}: no name in a table")
         elif not asked.is_accepted():
             lacking.append(f"{asked.what}: not accepted as {asked.name()}")
-        elif asked.line() not in lines:
+        else:
             lines.append(asked.line())
-    return lines, lacking
+    return list(dict.fromkeys(lines)), lacking
 
 
 def main(arguments):
@@ -264,7 +283,7 @@ def main(arguments):
             lines, lacking = chain_table([Path(file).read_bytes() for file in arguments[1:]])
         else:
             lines, lacking = table(Path(arguments[0]).read_bytes())
-    except (OSError, NotASignatureFile, NotACertificate) as error:
+    except (OSError, NotASignatureFile, NotACertificate, TooManyAsked) as error:
         print(f"verdict_table.py: {error}", file=sys.stderr)
         return 1
     for line in lines:
