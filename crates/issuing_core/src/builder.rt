@@ -309,7 +309,8 @@ impl<'a> CertificateBuilder<'a> {
     }
 
     /// Whether the certificate has the extensions that its request asks for, but for those of an
-    /// identifier that it has already.
+    /// identifier that it has already. Each is compared with all that the certificate has, so the time
+    /// grows with the square of their number: who takes requests of strangers bounds their length.
     pub fn inherit_extensions_from_csr_attributes(mut self, inherits: bool) -> Self
         ensures { result ≡ record self.entry { inherits = inherits } }
     {
