@@ -26,8 +26,9 @@ pub trait Timestamper {
     // How often it has failed.
     ghost faults: { Self → ℕ };
 
-    /// A token for these octets. It is refused for want of memory, and else only where the count of
-    /// faults rose in this call or stands at its last value.
+    /// A token for these octets, which aren't hashed: `AuthenticodeSignature::timestamp` hands in those
+    /// of its first signer's signature. It is refused for want of memory, and else only where the count
+    /// of faults rose in this call or stands at its last value.
     fn timestamp(
         &mut self,
         alloc: Global,
