@@ -30,7 +30,7 @@ use Rattle.authenticode_core.specs.declared.error.AuthenticodeError.TheVariants 
 
 -- ---- how the first signer names its certificate
 
-sid_is : (f : SignedDataElements) (g : SignerElements) → (first : IsFirstSigner f g) → g.sid ≡ signer_identifier first.value.sid
+pub sid_is : (f : SignedDataElements) (g : SignerElements) → (first : IsFirstSigner f g) → g.sid ≡ signer_identifier first.value.sid
 sid_is f g first = ap (λ (x : SignerElements). x.sid) first.is
 
 by_key : (element : DerElement) (sid : SignerIdentifier) → element ≡ signer_identifier sid → ((value : IssuerAndSerialNumber) → element ≢ issuer_and_serial_number value) → (octets : List ℕ) × (element ≡ Primitive 0x80 octets)

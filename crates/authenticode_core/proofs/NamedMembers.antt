@@ -26,6 +26,7 @@ use Rattle.authenticode_core.proofs.OneCertificate.{one_certificate}
 use Rattle.authenticode_core.proofs.PlaceSteps.{here, none_behind, none_yet}
 use Rattle.authenticode_core.proofs.WalkSteps.{least_once}
 use Rattle.authenticode_core.proofs.SignerSteps.{heads, same_sid, two, contents}
+use Rattle.authenticode_core.proofs.NamedCertificates.{sid_is}
 
 -- The members that are left have the end of the bag, and the rule holds of no certificate before it.
 pub record Unnamed (left : List DerElement) (bag : List CertificateElements) (holds : CertificateElements → Type 0) : Type 0 where
@@ -81,13 +82,10 @@ unnamed_all left bag holds e u =
 
 -- ---- named by the first signer
 
-sid_lies : (f : SignedDataElements) (g : SignerElements) → (first : IsFirstSigner f g) → g.sid ≡ signer_identifier first.value.sid
-sid_lies f g first = ap (λ (x : SignerElements). x.sid) first.is
-
 named_there : (f : SignedDataElements) (g : SignerElements) (issuer serial_number : List ℕ) (c : CertificateElements) (first : IsFirstSigner f g) → LendsNamed g.sid issuer serial_number → IsNamedBy issuer serial_number c
     → (sid : SignerIdentifier) → first.value.sid ≡ sid → IsNamed (signers_of f) c
 named_there f g issuer serial_number c first lent by (named.IssuerAndSerialNumber v) sid =
-    let lies : g.sid ≡ issuer_and_serial_number v = sid_lies f g first ∙ ap signer_identifier sid in
+    let lies : g.sid ≡ issuer_and_serial_number v = sid_is f g first ∙ ap signer_identifier sid in
     let parts = two (name v.issuer) lent.name (Primitive 0x02 (integer_contents v.serial_number)) (Primitive 0x02 serial_number) (sym lies ∙ lent.is) in
     record {
       signer = first.value;
@@ -99,14 +97,14 @@ named_there f g issuer serial_number c first lent by (named.IssuerAndSerialNumbe
       serial_number = contents (integer_contents v.serial_number) serial_number parts.1 ∙ sym by.1;
     }
 named_there f g issuer serial_number c first lent by (named.SubjectKeyIdentifier octets) sid =
-    let lies : g.sid ≡ Primitive 0x80 octets = sid_lies f g first ∙ ap signer_identifier sid in
+    let lies : g.sid ≡ Primitive 0x80 octets = sid_is f g first ∙ ap signer_identifier sid in
     let both : Primitive 0x80 octets ≡ sequence (lent.name ∷ Primitive 0x02 serial_number ∷ []) = sym lies ∙ lent.is in
     absurd cc
 
 named_back : (f : SignedDataElements) (g : SignerElements) (issuer serial_number : List ℕ) (c : CertificateElements) → IsFirstSigner f g → LendsNamed g.sid issuer serial_number → IsNamed (signers_of f) c → IsNamedBy issuer serial_number c
 named_back f g issuer serial_number c first lent n =
     let same : signer_info first.value ≡ signer_info n.signer = heads (signer_info first.value) (signer_info n.signer) first.others n.others (sym first.first ∙ n.first) in
-    let lies : g.sid ≡ issuer_and_serial_number n.value = sid_lies f g first ∙ same_sid (signer_elements first.value) (signer_elements n.signer) same ∙ ap signer_identifier n.sid in
+    let lies : g.sid ≡ issuer_and_serial_number n.value = sid_is f g first ∙ same_sid (signer_elements first.value) (signer_elements n.signer) same ∙ ap signer_identifier n.sid in
     let parts = two (name n.value.issuer) lent.name (Primitive 0x02 (integer_contents n.value.serial_number)) (Primitive 0x02 serial_number) (sym lies ∙ lent.is) in
     (sym n.issuer ∙ ap encoding parts.0 ∙ sym lent.octets, sym n.serial_number ∙ contents (integer_contents n.value.serial_number) serial_number parts.1)
 

@@ -1,6 +1,6 @@
 -- The certificate that the first of the signers names.
 use Rattle.std.proofs.Common.{◌≡◌, ◌↔◌, ℕ, List, [], ◌∷◌, Option, Some, None, MatchOption, refl, sym, ap, ◌∙◌, arith}
-use Rattle.der_core.specs.DerElement.{DerElement, Primitive, Constructed, kids_of}
+use Rattle.der_core.specs.DerElement.{DerElement, Primitive}
 use Rattle.der_core.specs.Elements.{sequence}
 use Rattle.der_core.specs.Encoding.{encoding}
 use Rattle.asn1_types.specs.Values.{integer_contents}
@@ -22,10 +22,6 @@ use Rattle.authenticode_core.specs.Wanted.{IsNamedBy}
 use Rattle.authenticode_core.specs.declared.bag.BagCertificate.{BagCertificate}
 
 -- ---- the first of the signers
-
-pub members_are : (element : DerElement) (kids : List DerElement) → kids_of element ≡ Some kids → members_of (Some element) ≡ kids
-members_are (Primitive tag content) kids e = absurd cc
-members_are (Constructed tag elements) kids e = cc
 
 pub heads : (a b : DerElement) (x y : List DerElement) → a ∷ x ≡ b ∷ y → a ≡ b
 heads a b x y e = cc

@@ -5,13 +5,9 @@ use Rattle.std.proofs.lemmas.Bool.{both_ways, cases_lt}
 use Rattle.std.proofs.lemmas.List.{length-map}
 use Rattle.std.proofs.lemmas.Option.{slice_get-map, slice_get_within}
 use Rattle.std.proofs.lemmas.Slice.Eq.{bytes_eq-Decides}
-use Rattle.std.proofs.Math.Logic.{∥∥₁_elim}
-use Rattle.std.specs.Coded.{Coded-set}
 use Rattle.std.specs.Option.{option_map}
 use Rattle.der_core.specs.DerElement.{DerElement}
 use Rattle.der_core.specs.Encoding.{encoding}
-use Rattle.der_core.specs.Facts.Codes.{coded_element}
-use Rattle.der_core.specs.Facts.InBounds.{same_octets}
 use Rattle.asn1_types.specs.Values.{integer_contents}
 use Rattle.x501_types.specs.Name.{name}
 use Rattle.x501_types.specs.declared.attribute.AttributeTypeAndValue.{AttributeTypeAndValue}
@@ -24,17 +20,10 @@ use Rattle.cms_types.specs.declared.signer_identifier.SignerIdentifier.{SignerId
 use Rattle.cms_types.specs.declared.signer_identifier.SignerIdentifier.TheVariants as named
 use Rattle.cms_types.specs.declared.signer_info.SignerInfo.{SignerInfo}
 use Rattle.making_core.specs.Carried.{elements_of}
-use Rattle.authenticode_core.specs.BagSigner.{IsNamed, HasNoSigner}
+use Rattle.making_core.proofs.KeptNames.{issuer_is, serial_is}
+use Rattle.authenticode_core.specs.BagSigner.{IsNamedByFirst, HasNoSigner}
 use Rattle.authenticode_core.specs.Places.{HasNoPlace, HoldsOfNone, IsLeastPlace, StandsAt}
-use Rattle.authenticode_values.specs.SigningCertificate.{FirstNames, IsNamedBy, IsSigningCertificate}
-
--- ---- what a kept certificate says of its issuer and its serial number
-
-pub issuer_is : (kept : KeptCertificate) → kept.elements.tbs.issuer ≡ name kept.certificate.tbs_certificate.issuer
-issuer_is kept = ∥∥₁_elim kept.spelled (Coded-set coded_element kept.elements.tbs.issuer (name kept.certificate.tbs_certificate.issuer)) (λ are. are.tbs.issuer)
-
-pub serial_is : (kept : KeptCertificate) → kept.elements.tbs.serial_number ≡ integer_contents kept.certificate.tbs_certificate.serial_number
-serial_is kept = ∥∥₁_elim kept.spelled (same_octets kept.elements.tbs.serial_number (integer_contents kept.certificate.tbs_certificate.serial_number)) (λ are. are.tbs.serial_number)
+use Rattle.authenticode_values.specs.SigningCertificate.{FirstNames, HasIssuerAndSerial, IsSigningCertificate}
 
 -- ---- the place of a certificate
 

@@ -9,6 +9,7 @@ use Rattle.der_core.specs.DerElement.{DerElement}
 use Rattle.der_core.specs.Encoding.{encoding, IsDer, IsPaddedEncoding}
 use Rattle.der_core.specs.declared.error.DerError.{DerError}
 use Rattle.der_core.specs.declared.error.DerError.TheVariants as der
+use Rattle.x509_core.proofs.OneAnswer.{one_refusal}
 use Rattle.wincert_core.specs.Refusal.{contents_in, current, encoded}
 use Rattle.wincert_core.specs.WinCert.{WinCert, padded, spelling, stated_length, with_padding}
 use Rattle.wincert_core.specs.declared.error.WinCertificateError.{WinCertificateError}
@@ -37,17 +38,8 @@ told_so asked source e told (inl refused) = inl (source, told, refused)
 told_so asked source e told (inr out) = inr (told ∙ ap told_of_header out)
 
 -- one cause is told as one error
-err_is : {A : Type 0} (a b : WinCertificateError) → ◌≡◌ {A = Result A WinCertificateError} (Err a) (Err b) → a ≡ b
-err_is a b same = cc
-
 pub told_as : {A : Type 0} (a b : WinCertificateError) (e : CheckError) → ◌≡◌ {A = Result A WinCertificateError} (Err a) (Err b) → e ≡ told_of_header a → e ≡ told_of_header b
-told_as a b e same told = told ∙ ap told_of_header (err_is a b same)
-
-pub one_told : {A : Type 0} (a b : CheckError) → ◌≡◌ {A = Result A CheckError} (Err a) (Err b) → a ≡ b
-one_told a b same = cc
-
-pub ok_no_err : {A E : Type 0} (x : A) (e : E) → ◌≡◌ {A = Result A E} (Ok x) (Err e) → ⊥
-ok_no_err x e same = cc
+told_as a b e same told = told ∙ ap told_of_header (one_refusal a b same)
 
 -- ---- a file
 

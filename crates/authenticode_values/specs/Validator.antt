@@ -1,5 +1,5 @@
 -- What is asked of a signature that is kept, as it is set, and what is answered.
-use Rattle.std.specs.Prelude.{◌≡◌, ◌⊎◌, Bool, ℕ, List, ◌∷◌, Some, None, Result, Ok, Err, MatchResult, true, false}
+use Rattle.std.specs.Prelude.{◌≡◌, ◌⊎◌, Bool, ℕ, List, ◌∷◌, Some, None, Result, Err, MatchResult, true, false}
 use Rattle.cms_types.specs.SignedDataElements.{SignedDataElements}
 use Rattle.der_core.specs.DerElement.{DerElement}
 use Rattle.der_core.specs.Encoding.{IsDer}

@@ -1,5 +1,5 @@
 -- One error tells of an argument that isn't given, and none where all are.
-use Rattle.std.proofs.Common.{◌≡◌, Bool, true, false, Option, Some, None, Result, Ok, Err, IsSome, refl, sym, ◌∙◌, subst}
+use Rattle.std.proofs.Common.{◌≡◌, Bool, true, false, Option, Some, None, IsSome, refl, sym, ◌∙◌, subst}
 use Rattle.x509_core.specs.Steps.{IsFirstUntaken}
 use Rattle.x509_core.proofs.TakenSteps.{HasOneError, HaveOneError, left_behind, one_before}
 use Rattle.x509_core.specs.declared.error.Arg.{Arg}
@@ -46,10 +46,3 @@ nothing_asked false b e is first = let no : false ≡ true = is in absurd cc
 pub asked_of_other : (own : Bool) (b : CertificateBuilder) (e : CertError) → own ≡ false → IsFirstUntaken (subject_arguments own b) e → IsFirstUntaken (subject_arguments false b) e
 asked_of_other true b e is first = absurd first
 asked_of_other false b e is first = first
-
--- what is answered is no refusal
-pub answered : {A E : Type 0} (x : A) (e : E) → ◌≡◌ {A = Result A E} (Ok x) (Err e) → ⊥
-answered x e same = absurd cc
-
-pub one_told : {A E : Type 0} (x y : E) → ◌≡◌ {A = Result A E} (Err x) (Err y) → x ≡ y
-one_told x y same = cc

@@ -1,11 +1,11 @@
 -- A key that is kept of a container is the one that is kept of it.
-use Rattle.std.proofs.Common.{◌≡◌, ◌∷◌, ℕ, List, Option, Some, None, refl, sym, subst, ap, ◌∙◌}
+use Rattle.std.proofs.Common.{◌≡◌, ℕ, List, Option, Some, None, refl, sym, subst, ap, ◌∙◌}
 use Rattle.std.specs.Option.{option_map}
 use Rattle.der_core.specs.DerElement.{Primitive}
 use Rattle.der_core.specs.Lent.{kept_option}
 use Rattle.asn1_types.specs.Elements.{object_identifier}
 use Rattle.asn1_types.specs.Facts.Elements.{identifiers}
-use Rattle.asn1_types.specs.Values.{identifier_contents, bit_string_contents}
+use Rattle.asn1_types.specs.Values.{identifier_contents}
 use Rattle.asn1_types.specs.declared.bit_string.BitString.{BitString}
 use Rattle.asn1_types.specs.declared.oid.ObjectIdentifier.{ObjectIdentifier}
 use Rattle.sig_core.specs.declared.algorithm.SchemeKind.{SchemeKind}

@@ -1,5 +1,5 @@
 -- Why the RSAPublicKey of a key isn't written, as an error of an identifier.
-use Rattle.std.proofs.Common.{◌≢◌, [], ◌∷◌, refl}
+use Rattle.std.proofs.Common.{[], ◌∷◌, refl}
 use Rattle.der_core.specs.Refusals.{RefusesInner}
 use Rattle.der_core.specs.declared.error.DerError.{DerError}
 use Rattle.der_core.specs.declared.error.DerError.TheVariants as der
@@ -8,12 +8,7 @@ use Rattle.key_types.specs.declared.public_key.RsaPublicKey.{RsaPublicKey}
 use Rattle.key_types.specs.declared.subject_key.SubjectKey.TheVariants as keys
 use Rattle.key_core.specs.KeyIdentifier.{RefusesPayload, payload_refusal}
 use Rattle.key_core.proofs.Unwritten.{alone}
-
-deep_is_not_memory : der.TooDeep ≢ der.Memory
-deep_is_not_memory e = cc
-
-long_is_not_memory : der.TooLong ≢ der.Memory
-long_is_not_memory e = cc
+use Rattle.key_core.proofs.Verifications.{deep_is_not_memory, long_is_not_memory}
 
 pub payload_refused : (k : RsaPublicKey) (source : DerError) → RefusesInner (rsa_public_key k ∷ []) source → RefusesPayload (keys.Rsa k) (payload_refusal source)
 payload_refused k (der.Malformed m) refused = absurd refused

@@ -1,5 +1,5 @@
 -- The octets of a private key of RSA are what the scheme for demonstrations takes for a secret of RSA.
-use Rattle.std.proofs.Common.{◌≡◌, ℕ, List, Option, Some, refl, sym, ap, subst, ◌∙◌}
+use Rattle.std.proofs.Common.{◌≡◌, ℕ, List, Option, Some, sym, ap, subst, ◌∙◌}
 use Rattle.der_core.specs.Encoding.{encoding, IsDer}
 use Rattle.asn1_types.specs.Values.{integer_contents}
 use Rattle.asn1_types.specs.declared.bit_string.BitString.{BitString}

@@ -1,9 +1,8 @@
 -- Which rules a private key meets that is one for an algorithm, that each rule is told by one error, and that a pair of keys fits together.
-use Rattle.std.proofs.Common.{◌≡◌, ◌≢◌, ◌⊎◌, ℕ, List, [], ◌∷◌, ◌++◌, Option, Some, None, Bool, true, false, refl, sym, ap, subst, ◌∙◌, inl, inr, length}
-use Rattle.std.specs.Prelude.{⊤, Result, Ok, Err, IfOk, MatchResult}
+use Rattle.std.proofs.Common.{◌≡◌, ◌⊎◌, ℕ, List, [], ◌∷◌, Option, Some, None, Bool, true, false, refl, sym, ap, subst, ◌∙◌, inl, inr, length}
+use Rattle.std.specs.Prelude.{Result, Ok, Err, IfOk, MatchResult}
 use Rattle.der_core.specs.DerElement.{DerElement, Primitive}
 use Rattle.der_core.specs.Encoding.{IsDer}
-use Rattle.der_core.specs.Lent.{kept_option}
 use Rattle.der_core.specs.Refusals.{RefusesInner}
 use Rattle.der_core.specs.declared.error.DerError.{DerError}
 use Rattle.der_core.specs.declared.error.DerError.TheVariants as der
@@ -26,11 +25,11 @@ use Rattle.key_core.specs.EdAlgorithm.{ed_identifier}
 use Rattle.key_core.specs.KeyRefusals.{CantBeWritten, unwritten}
 use Rattle.key_core.specs.PrivateKeyValue.{private_kind}
 use Rattle.key_core.specs.PrivatePkcs1.{IsPkcs1OfPrivate, RefusesPrivatePkcs1}
-use Rattle.key_core.specs.SchemeNames.{rsa_alg, curve_for, ecdsa_alg}
+use Rattle.key_core.specs.SchemeNames.{rsa_alg, ecdsa_alg}
 use Rattle.key_core.specs.Rules.{IsMet, IsFirstBroken}
 use Rattle.key_core.specs.SignatureRules.{RefusesBy, key_refusal}
-use Rattle.key_core.specs.Signing.{HasCurveOf, HasEdOf, IsSecretOn, IsEd25519Secret, FitsSecret, Signs, Pair, IsAsked, IsRsaPair, IsEcPair, IsEdPair, IsKeyPair, NotRsaSecret, UnwritableSecret, NotEcSecret, UnknownCurveOf, UnpairedSecret, WrongSecretSize, NotEdSecret, NoPublicKey, ForAgreementOnly, NotEd25519Secret, WrongEdSize, Unsigned, scheme_refused, secret_rules, sign_rules}
-use Rattle.key_core.specs.Verifying.{Judge, FitsKey, IsJudged, Accepts, IsPointOn}
+use Rattle.key_core.specs.Signing.{HasCurveOf, HasEdOf, IsEd25519Secret, FitsSecret, Signs, Pair, IsAsked, IsKeyPair, NotRsaSecret, UnwritableSecret, UnpairedSecret, WrongSecretSize, ForAgreementOnly, NotEd25519Secret, WrongEdSize, Unsigned, scheme_refused, secret_rules, sign_rules}
+use Rattle.key_core.specs.Verifying.{Judge, FitsKey, Accepts, IsPointOn}
 use Rattle.key_core.specs.declared.ec_curve.EcCurve.{EcCurve}
 use Rattle.key_core.specs.declared.ec_curve.EcCurve.TheVariants as curves
 use Rattle.key_core.specs.declared.ed_algorithm.EdAlgorithm.{EdAlgorithm}
@@ -51,6 +50,7 @@ use Rattle.key_core.specs.declared.signature_error.Unsupported.TheVariants as un
 use Rattle.key_core.proofs.Curves.{same_curve, same_algorithm}
 use Rattle.key_core.proofs.Unwritten.{written, one_source, alone}
 use Rattle.key_core.proofs.RuleLists.{AreMet, AreToldOnce, broken_behind, left_broken, told_together}
+use Rattle.key_core.proofs.Verifications.{deep_is_not_memory, long_is_not_memory, not_x25519}
 
 -- ---- what a private key names
 
@@ -80,9 +80,6 @@ none_is_not x e = cc
 
 same_some_curve : (x y : EcCurve) → ◌≡◌ {A = Option EcCurve} (Some x) (Some y) → x ≡ y
 same_some_curve x y e = cc
-
-not_x25519 : ed.Ed25519 ≡ ed.X25519 → ⊥
-not_x25519 e = cc
 
 ec_is_not_rsa : (x : ECPrivateKey) (y : RsaPrivateKey) → values.Ec x ≡ values.Rsa y → ⊥
 ec_is_not_rsa x y e = cc
@@ -302,12 +299,6 @@ made_accepts items judge pair self algorithm is key alg secret msg fits (Ok sig)
     (pair_accepts judge pair algorithm key info alg secret msg (items sig) fits made together)
 
 -- ---- keys, rule by rule
-
-deep_is_not_memory : der.TooDeep ≢ der.Memory
-deep_is_not_memory e = cc
-
-long_is_not_memory : der.TooLong ≢ der.Memory
-long_is_not_memory e = cc
 
 rsa_unwritten : (key : PrivateKey) (k : RsaPrivateKey) → key.info.private_key ≡ values.Rsa k → (x : DerError) (source : KeyError)
     → source ≡ unwritten elements.RsaPrivateKey x → RefusesInner (rsa_private_key k ∷ []) x → RefusesBy (NotRsaSecret key ∷ UnwritableSecret key ∷ []) (key_refusal source)

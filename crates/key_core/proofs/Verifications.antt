@@ -65,7 +65,7 @@ same_ed x y e = cc
 same_some : {A : Type 0} (x y : A) → Some x ≡ Some y → x ≡ y
 same_some x y e = cc
 
-not_x25519 : ed.Ed25519 ≡ ed.X25519 → ⊥
+pub not_x25519 : ed.Ed25519 ≡ ed.X25519 → ⊥
 not_x25519 e = cc
 
 -- ---- a key that is one for an algorithm meets the rules on keys
@@ -206,10 +206,10 @@ early judge algorithm info msg sig e (inr memory) = inr memory
 
 -- ---- keys, rule by rule
 
-deep_is_not_memory : der.TooDeep ≢ der.Memory
+pub deep_is_not_memory : der.TooDeep ≢ der.Memory
 deep_is_not_memory e = cc
 
-long_is_not_memory : der.TooLong ≢ der.Memory
+pub long_is_not_memory : der.TooLong ≢ der.Memory
 long_is_not_memory e = cc
 
 -- why a key of RSA isn't written, as an error of a signature

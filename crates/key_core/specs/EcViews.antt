@@ -1,5 +1,5 @@
 -- Views of keys of elliptic curves.
-use Rattle.std.specs.Prelude.{◌≡◌, ◌≢◌, Option, Some, None, Result, MatchResult}
+use Rattle.std.specs.Prelude.{◌≡◌, ◌≢◌, Some, None, Result, MatchResult}
 use Rattle.std.specs.Option.{option_copied}
 use Rattle.der_core.specs.DerElement.{Primitive}
 use Rattle.der_core.specs.Lent.{kept_option}

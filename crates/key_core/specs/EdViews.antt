@@ -1,5 +1,5 @@
 -- Views of keys of a curve 25519 or 448.
-use Rattle.std.specs.Prelude.{◌≡◌, ◌≢◌, Option, Some, None, Result, MatchResult}
+use Rattle.std.specs.Prelude.{◌≡◌, ◌≢◌, Some, None, Result, MatchResult}
 use Rattle.std.specs.Option.{option_copied}
 use Rattle.asn1_types.specs.Values.{payload_of}
 use Rattle.asn1_types.specs.declared.bit_string.BitString.{BitString}

@@ -1,5 +1,5 @@
 -- Private keys by the encoding of a PrivateKeyInfo.
-use Rattle.std.specs.Prelude.{◌≡◌, ◌≢◌, ◌⊎◌, ⊤, ℕ, List, Option, Some, None}
+use Rattle.std.specs.Prelude.{◌≡◌, ◌≢◌, ◌⊎◌, ℕ, List, Option, Some, None}
 use Rattle.der_core.specs.DerElement.{DerElement}
 use Rattle.der_core.specs.Lent.{kept_option}
 use Rattle.der_core.specs.Refusals.{RefusesOctets}

@@ -15,7 +15,7 @@ whole_elements certificates = map certificate_of (elements_of certificates)
 abbrev pub AreKept : List KeptCertificate → List KeptCertificate → List CertificateChoices → Type 0
 AreKept all rest members = map certificate_choice members ++ whole_elements rest ≡ whole_elements all
 
-none_left : (rest : List KeptCertificate) → length rest ≡ 0 → rest ≡ []
+pub none_left : (rest : List KeptCertificate) → length rest ≡ 0 → rest ≡ []
 none_left [] e = refl
 none_left (k ∷ others) e = absurd (omega (arith, e))
 

@@ -9,12 +9,8 @@ use Rattle.x509_core.specs.KeptCertificate.{KeptCertificate}
 use Rattle.x509_core.specs.declared.cert_type.CertType.TheVariants as types
 use Rattle.x509_core.proofs.Depths.{ca_once}
 use Rattle.x509_types.specs.CertificateElements.{CertificateElements, certificate_of}
-use Rattle.making_core.specs.Carried.{AreWithoutRoots, HoldsCarried, HoldsWithoutRoots, IsRoot, elements_of}
-use Rattle.making_core.proofs.CarriedCertificates.{whole_elements}
-
-none_left : (rest : List KeptCertificate) → length rest ≡ 0 → rest ≡ []
-none_left [] e = refl
-none_left (k ∷ others) e = absurd (omega (arith, e))
+use Rattle.making_core.specs.Carried.{AreWithoutRoots, HoldsCarried, HoldsWithoutRoots, IsRootCertificate, elements_of}
+use Rattle.making_core.proofs.CarriedCertificates.{whole_elements, none_left}
 
 pushed_before : (members members' : List CertificateChoices) (member : CertificateChoices) (element : DerElement) (later : List DerElement) → certificate_choice member ≡ element → members' ≡ members ++ member ∷ []
     → map certificate_choice members ++ element ∷ later ≡ map certificate_choice members' ++ later

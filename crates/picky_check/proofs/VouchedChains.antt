@@ -1,5 +1,5 @@
 -- What is accepted of certificates is vouched for.
-use Rattle.std.proofs.Common.{◌≡◌, List, [], ◌∷◌, length, ℕ, Option, Some, Ok, inl, inr, refl, subst}
+use Rattle.std.proofs.Common.{◌≡◌, List, [], ◌∷◌, ℕ, Option, Some, Ok, inl, inr, refl, subst}
 use Rattle.asn1_types.specs.declared.generalized_time.GeneralizedTime.{GeneralizedTime}
 use Rattle.sig_core.specs.declared.verdict_row.VerdictRow.{VerdictRow}
 use Rattle.sig_core.specs.VerdictTable.{IsTable, verdict_of}

@@ -1,10 +1,9 @@
 -- The elements of a certificate and its value say the same of its key.
-use Rattle.std.proofs.Common.{◌≡◌, ℕ, List, Some, refl, sym, ap, subst, ◌∙◌}
+use Rattle.std.proofs.Common.{◌≡◌, ℕ, List, refl, sym, subst, ◌∙◌}
 use Rattle.std.specs.Prelude.{Bool}
 use Rattle.der_core.specs.DerElement.{DerElement}
 use Rattle.der_core.specs.Kept.{IsKept}
 use Rattle.der_core.specs.Structure.{IsWithin}
-use Rattle.asn1_types.specs.Values.{identifier_contents}
 use Rattle.asn1_types.specs.declared.oids.TheConstants.{CE_SUBJECT_KEY_IDENTIFIER, CE_BASIC_CONSTRAINTS, CE_AUTHORITY_KEY_IDENTIFIER}
 use Rattle.x509_values.specs.AuthorityKeyIdentifier.{authority_key_identifier}
 use Rattle.x509_values.specs.BasicConstraints.{IsBasicConstraints}
@@ -13,7 +12,7 @@ use Rattle.x509_values.specs.declared.basic_constraints.BasicConstraints.{BasicC
 use Rattle.x509_types.specs.CertificateElements.{CertificateElements, AreCertificateFields}
 use Rattle.x509_types.specs.ExtensionKind.{named_kind}
 use Rattle.x509_types.specs.ExtensionParts.{HasCa, HasPathLength, HasSubjectKey, HasAuthorityKey}
-use Rattle.x509_types.specs.ExtensionView.{key_identifier, IsOfKind, IsValueIn}
+use Rattle.x509_types.specs.ExtensionView.{IsOfKind, IsValueIn}
 use Rattle.x509_types.specs.Facts.ExtensionViews.{values_once}
 use Rattle.x509_types.specs.FirstExtension.{extensions_of, IsFirstValue}
 use Rattle.x509_types.specs.FirstOfValue.{extensions_in, IsFirstWith}

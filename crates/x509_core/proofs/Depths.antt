@@ -9,14 +9,12 @@ use Rattle.asn1_types.specs.declared.oids.TheConstants.{CE_BASIC_CONSTRAINTS}
 use Rattle.x509_values.specs.BasicConstraints.{small_integer}
 use Rattle.x509_values.specs.Facts.Constraints.{integer_once}
 use Rattle.x509_types.specs.CertificateElements.{CertificateElements}
-use Rattle.x509_types.specs.ExtensionParts.{HasFirstElement, EndsWithLength, HasCa, HasPathLength}
+use Rattle.x509_types.specs.ExtensionParts.{HasCa, HasPathLength}
 use Rattle.x509_types.proofs.FirstExtensions.{value_once}
 use Rattle.x509_core.specs.CertType.{IsOfType}
 use Rattle.x509_core.specs.declared.cert_type.CertType.{CertType}
 use Rattle.x509_core.specs.declared.cert_type.CertType.TheVariants as types
-
-first_kid : (x y : DerElement) (xs ys : List DerElement) → sequence (x ∷ xs) ≡ sequence (y ∷ ys) → x ≡ y
-first_kid x y xs ys e = cc
+use Rattle.x509_core.proofs.KeyIds.{first_kid}
 
 same_octet : (m n : ℕ) → Primitive 0x01 (m ∷ []) ≡ Primitive 0x01 (n ∷ []) → m ≡ n
 same_octet m n e = cc

@@ -9,7 +9,7 @@ use Rattle.x509_types.specs.ExtensionParts.{HasFirstElement, IsAuthorityKeyIdent
 use Rattle.x509_types.proofs.FirstExtensions.{value_once}
 use Rattle.x509_core.specs.Parent.{AgreeByKey}
 
-first_kid : (x y : DerElement) (xs ys : List DerElement) → sequence (x ∷ xs) ≡ sequence (y ∷ ys) → x ≡ y
+pub first_kid : (x y : DerElement) (xs ys : List DerElement) → sequence (x ∷ xs) ≡ sequence (y ∷ ys) → x ≡ y
 first_kid x y xs ys e = cc
 
 same_contents : (a b : List ℕ) → Primitive 0x80 a ≡ Primitive 0x80 b → a ≡ b

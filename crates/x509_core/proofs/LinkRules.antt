@@ -1,8 +1,6 @@
 -- One link of a chain, rule by rule.
-use Rattle.std.proofs.Common.{◌≡◌, ◌≢◌, ◌⊎◌, ◌<◌, ◌≤◌, ℕ, List, [], ◌∷◌, true, Result, Ok, Err, MatchResult, inl, inr, refl, sym, ap, subst, ◌∙◌, arith}
-use Rattle.std.specs.Prelude.{min}
+use Rattle.std.proofs.Common.{◌≡◌, ◌≢◌, ◌<◌, ◌≤◌, ℕ, true, Result, Ok, Err, MatchResult, inl, inr, refl, subst, arith}
 use Rattle.key_core.specs.Verifying.{Judge}
-use Rattle.names_core.specs.declared.name.DirectoryName.{DirectoryName}
 use Rattle.x509_types.specs.CertificateElements.{CertificateElements}
 use Rattle.x509_types.specs.ExtensionParts.{HasCa, HasPathLength}
 use Rattle.x509_core.specs.KeptCertificate.{KeptCertificate}

@@ -1,7 +1,7 @@
 -- At most one error tells of the first broken rule of a chain.
-use Rattle.std.proofs.Common.{◌≡◌, ◌⊎◌, ℕ, List, [], ◌∷◌, ◌++◌, length, Option, Some, inl, inr, refl, sym, ap, subst, ◌∙◌}
+use Rattle.std.proofs.Common.{◌≡◌, ◌⊎◌, List, [], ◌∷◌, ◌++◌, length, Option, inl, inr, refl, sym, ap, subst, ◌∙◌}
 use Rattle.key_core.specs.Verifying.{Judge}
-use Rattle.x509_core.specs.Chain.{IsFirstUnlinked, IsUnlinked, LacksDate, LacksChain, LacksRoot, chain_rules, last_of}
+use Rattle.x509_core.specs.Chain.{IsFirstUnlinked, IsUnlinked, chain_rules, last_of}
 use Rattle.x509_core.specs.KeptCertificate.{KeptCertificate}
 use Rattle.x509_core.specs.Link.{link_rules}
 use Rattle.key_core.specs.Rules.{IsFirstBroken}

@@ -3,7 +3,7 @@ use Rattle.std.proofs.Common.{◌≡◌, ℕ, List, [], ◌∷◌, ◌++◌, Opt
 use Rattle.std.specs.Prelude.{Bool, false, option_to_list}
 use Rattle.der_core.specs.DerElement.{DerElement, Primitive, tag_of}
 use Rattle.der_core.specs.Elements.{sequence, optional_leaf}
-use Rattle.der_core.specs.Default.{IsBoolean, IsDefaultFalse}
+use Rattle.der_core.specs.Default.{IsBoolean}
 use Rattle.der_core.specs.Facts.Fields.{split}
 use Rattle.der_core.specs.Facts.Grammars.{same_fields}
 use Rattle.der_core.specs.Lent.{kept_option}

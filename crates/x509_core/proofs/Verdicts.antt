@@ -1,10 +1,9 @@
 -- What is answered of a certificate over its parents, rule by rule, by what their iterator gave.
-use Rattle.std.proofs.Common.{◌≡◌, ◌≢◌, ◌⊎◌, IsTrue, false, List, [], ◌∷◌, ◌++◌, map, Option, Some, None, Result, Ok, Err, MatchResult, inl, inr, refl, sym, ap, subst, ◌∙◌}
+use Rattle.std.proofs.Common.{◌≡◌, ◌≢◌, ◌⊎◌, IsTrue, false, List, ◌∷◌, ◌++◌, map, Option, Some, None, Result, Ok, Err, MatchResult, inl, inr, refl, sym, ap, subst, ◌∙◌}
 use Rattle.std.proofs.lemmas.Bool.{false≢true}
 use Rattle.std.specs.Borrow.{Bor}
 use Rattle.std.specs.Iterator.{AlwaysYields, Yields, Drains}
 use Rattle.key_core.specs.Verifying.{Judge}
-use Rattle.x509_types.specs.CertificateElements.{CertificateElements}
 use Rattle.x509_core.specs.CertType.{IsOfType}
 use Rattle.x509_core.specs.Chain.{Gives, IsDated, IsLinkedChain, IsFirstUnlinked, IsUnlinked, LacksDate, LacksChain, LacksRoot, IsAccepted, IsRooted, chain_rules, last_of, lent}
 use Rattle.x509_core.specs.KeptCertificate.{KeptCertificate}

@@ -1,5 +1,5 @@
 -- What is answered of a certificate over its parents, by what their iterator gave in that call.
-use Rattle.std.proofs.Common.{◌≡◌, ◌≢◌, ◌⊎◌, IsTrue, false, List, [], ◌∷◌, map, Option, Some, None, Result, Ok, Err, MatchResult, inl, inr, refl, sym, subst, ◌∙◌}
+use Rattle.std.proofs.Common.{◌≡◌, ◌≢◌, ◌⊎◌, IsTrue, false, List, [], map, Option, Some, None, Result, Ok, Err, MatchResult, inl, inr, refl, sym, subst, ◌∙◌}
 use Rattle.std.proofs.lemmas.Bool.{false≢true}
 use Rattle.std.specs.Borrow.{Bor}
 use Rattle.std.specs.Prelude.{IfErr}
@@ -8,7 +8,7 @@ use Rattle.key_core.specs.Verifying.{Judge}
 use Rattle.x509_core.specs.CertType.{IsOfType}
 use Rattle.x509_core.specs.Chain.{GaveSoFar, IsWalked, WasAccepted, WasRefused, IsDated, IsLinkedChain, IsFirstUnlinked, LacksDate, IsAccepted, chain_rules, last_of, lent}
 use Rattle.x509_core.specs.KeptCertificate.{KeptCertificate}
-use Rattle.x509_core.specs.Link.{IsNoAuthority, IsOutside, IsNoParent, link_rules}
+use Rattle.x509_core.specs.Link.{IsOutside, link_rules}
 use Rattle.x509_core.specs.Parent.{RefusesParent}
 use Rattle.key_core.specs.Rules.{IsFirstBroken}
 use Rattle.x509_core.specs.Rules.{Breaks}

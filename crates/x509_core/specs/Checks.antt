@@ -3,7 +3,6 @@ use Rattle.std.specs.Prelude.{Bool, true}
 use Rattle.x509_core.specs.declared.validator.ChainChecks.{ChainChecks}
 use Rattle.x509_core.specs.declared.window.DateCheck.{DateCheck}
 use Rattle.x509_core.specs.declared.window.DateCheck.TheVariants as dates
-use Rattle.x509_core.specs.declared.window.Window.{Window}
 
 -- these dates, these of the two ends of a validity, and whether a chain and a root are asked for
 abbrev pub checks_of : DateCheck → Bool → Bool → Bool → Bool → ChainChecks

@@ -1,5 +1,5 @@
 -- When a certificate may have issued another, as one link of a chain (RFC 5280 6.1.3, 6.1.4, 4.2.1.9).
-use Rattle.std.specs.Prelude.{◌≡◌, ◌≢◌, ◌<◌, ◌≤◌, min, ℕ, List, [], ◌∷◌, Some, true}
+use Rattle.std.specs.Prelude.{◌≡◌, ◌≢◌, ◌<◌, ◌≤◌, min, ℕ, List, [], ◌∷◌, true}
 use Rattle.der_core.specs.Encoding.{encoding}
 use Rattle.key_types.specs.AlgorithmIdentifier.{algorithm_identifier, oid_of}
 use Rattle.key_types.specs.PublicKeyInfo.{public_key_info}
@@ -19,7 +19,6 @@ use Rattle.x509_types.specs.TbsElements.{tbs_of}
 use Rattle.x509_core.specs.KeptCertificate.{KeptCertificate}
 use Rattle.x509_core.specs.Parent.{AgreeByKeyAndName, IsNameOf, RefusesParent}
 use Rattle.x509_core.specs.Window.{IsWithinWindow, window_rules}
-use Rattle.x509_core.specs.declared.error.CaChainError.{CaChainError}
 use Rattle.x509_core.specs.declared.error.CaChainError.TheVariants as chain
 use Rattle.x509_core.specs.declared.error.CertCause.{CertCause}
 use Rattle.x509_core.specs.declared.error.CertCause.TheVariants as causes

@@ -84,7 +84,7 @@ empty_or_unwritten countersigners signers e (inl none) refused = refused.0 none
 empty_or_unwritten countersigners signers e (inr none) refused =
     let first = refused.1.3 in not_none countersigners first.others first.signer none first.first
 
-one_refusal : (countersigners signers : List SignerInfo) (e f : TimestampError) → RefusesStamp countersigners signers e → RefusesStamp countersigners signers f → f ≡ e
+one_refusal : (countersigners signers : List SignerInfo) (e f : TimestampError) → RefusesTokenStamp countersigners signers e → RefusesTokenStamp countersigners signers f → f ≡ e
 one_refusal countersigners signers errors.TimestampTokenEmpty errors.TimestampTokenEmpty a b = refl
 one_refusal countersigners signers errors.TimestampTokenEmpty (errors.Asn1DerError f) a b = absurd (empty_or_unwritten countersigners signers f a b)
 one_refusal countersigners signers errors.TimestampTokenEmpty (errors.Pkcs7Error f) a b = absurd b
@@ -98,7 +98,7 @@ one_refusal countersigners signers (errors.Asn1DerError e) errors.Memory a b = a
 one_refusal countersigners signers (errors.Pkcs7Error e) f a b = absurd a
 one_refusal countersigners signers errors.Memory f a b = absurd a
 
-refused_or_stamped : (token : Pkcs7) (before after : SignedData) (e : TimestampError) → RefusesStamp (signers_of token) before.signers_infos e → IsStampedBy token before after → ⊥
+refused_or_stamped : (token : Pkcs7) (before after : SignedData) (e : TimestampError) → RefusesTokenStamp (signers_of token) before.signers_infos e → IsStampedBy token before after → ⊥
 refused_or_stamped token before after errors.TimestampTokenEmpty refused is =
     let s = is.stamped in
     none_stamped (signers_of token) before.signers_infos s.signer s.countersigns.signer s.others s.countersigns.others refused s.first s.countersigns.first

@@ -1,5 +1,5 @@
 -- Contents with their types: unlike ones have unlike elements, each well formed.
-use Rattle.std.proofs.Common.{◌≡◌, ℕ, [], ◌∷◌, Option, Some, None, refl, ap, sym, subst, ◌∙◌, arith}
+use Rattle.std.proofs.Common.{◌≡◌, [], ◌∷◌, Option, Some, None, refl, ap, sym, subst, ◌∙◌, arith}
 use Rattle.std.specs.Option.{option_map}
 use Rattle.der_core.specs.DerElement.{DerElement, row}
 use Rattle.der_core.specs.Elements.{octet_string, optional_explicit}
@@ -25,6 +25,7 @@ use Rattle.content_types.specs.declared.content_kind.ContentKind.{ContentKind}
 use Rattle.content_types.specs.declared.content_info.EncapsulatedContentInfo.{EncapsulatedContentInfo}
 use Rattle.content_types.specs.declared.content_value.ContentValue.{ContentValue}
 use Rattle.content_types.specs.declared.content_value.ContentValue.TheVariants as contents
+use Rattle.der_core.specs.Facts.Optional.{explicit_once}
 
 -- ---- contents of one kind
 
@@ -65,12 +66,6 @@ options_once kind None None p q e = refl
 options_once kind None (Some y) p q e = absurd cc
 options_once kind (Some x) None p q e = absurd cc
 options_once kind (Some x) (Some y) p q e = let same : content_value x ≡ content_value y = cc in ap Some (values_once x y (p ∙ sym q) same)
-
-explicit_once : (tag : ℕ) (a b : Option DerElement) → optional_explicit tag a ≡ optional_explicit tag b → a ≡ b
-explicit_once tag None None e = refl
-explicit_once tag None (Some y) e = absurd cc
-explicit_once tag (Some x) None e = absurd cc
-explicit_once tag (Some x) (Some y) e = let same : x ≡ y = cc in ap Some same
 
 pub fields_once : (s t : DerElement) (x y : Option DerElement) → content_info_of s x ≡ content_info_of t y → (s ≡ t) × (x ≡ y)
 fields_once s t x y e =

@@ -1,6 +1,6 @@
 -- The fields of a PrivateKeyInfo agree for one reason.
-use Rattle.std.proofs.Common.{◌≡◌, Bool, Option, Some, None}
-use Rattle.std.specs.Coded.{Unit-prop, Coded-set, coded_ℕ, coded_bool}
+use Rattle.std.proofs.Common.{Option, Some, None}
+use Rattle.std.specs.Coded.{Unit-prop, Coded-set, coded_ℕ}
 use Rattle.der_core.specs.DerElement.{DerElement, tag_of}
 use Rattle.der_core.specs.Kept.{KeptElement}
 use Rattle.der_core.specs.Lent.{kept_option}
@@ -8,13 +8,11 @@ use Rattle.key_types.specs.declared.algorithm.AlgorithmIdentifier.{AlgorithmIden
 use Rattle.key_core.specs.PrivateKeyFields.{HaveTag}
 use Rattle.key_core.specs.Agreement.{Agree}
 use Rattle.key_core.specs.declared.private_key_value.PrivateKeyValue.{PrivateKeyValue}
+use Rattle.key_types.specs.Facts.Kinds.{same_bools}
 
 HaveTag-prop : (attributes : Option DerElement) → IsProp (HaveTag attributes)
 HaveTag-prop None = Unit-prop
 HaveTag-prop (Some attributes) = Coded-set coded_ℕ (tag_of attributes) 0xA0
-
-same_bools : (a b : Bool) → IsProp (a ≡ b)
-same_bools a b = Coded-set coded_bool a b
 
 pub Agree-prop : (algorithm : AlgorithmIdentifier) (key : PrivateKeyValue) (attributes : Option KeptElement) → IsProp (Agree algorithm key attributes)
 Agree-prop algorithm key attributes = hlevel (same_bools, HaveTag-prop (kept_option attributes))

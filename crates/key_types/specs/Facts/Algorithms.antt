@@ -17,7 +17,7 @@ use Rattle.key_types.specs.RsaPublicKey.{rsa_public_key}
 use Rattle.key_types.specs.declared.algorithm.AlgorithmIdentifier.{AlgorithmIdentifier}
 use Rattle.key_types.specs.declared.public_key.RsaPublicKey.{RsaPublicKey}
 
-option_once : (a b : Option KeptElement) → option_to_list (kept_option a) ≡ option_to_list (kept_option b) → a ≡ b
+pub option_once : (a b : Option KeptElement) → option_to_list (kept_option a) ≡ option_to_list (kept_option b) → a ≡ b
 option_once None None e = refl
 option_once None (Some y) e = absurd cc
 option_once (Some x) None e = absurd cc
@@ -31,7 +31,7 @@ algorithms_once a b e =
     ap (λ (o : ObjectIdentifier). record { oid = o; parameters = a.parameters }) (identifiers.once (object_identifier a.oid) a.oid b.oid refl first)
     ∙ ap (λ (p : Option KeptElement). record { oid = b.oid; parameters = p }) (option_once a.parameters b.parameters others)
 
-option_formed : (a : Option KeptElement) → AreWellFormed (row (option_to_list (kept_option a)))
+pub option_formed : (a : Option KeptElement) → AreWellFormed (row (option_to_list (kept_option a)))
 option_formed None = tt
 option_formed (Some x) = (x.der.formed, tt)
 

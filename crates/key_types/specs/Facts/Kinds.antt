@@ -16,7 +16,7 @@ use Rattle.key_types.specs.declared.algorithm.AlgorithmIdentifier.{AlgorithmIden
 use Rattle.key_types.specs.declared.key_kind.KeyKind.{KeyKind}
 use Rattle.key_types.specs.declared.key_kind.KeyKind.TheVariants as kinds
 
-IsOid-prop : (element : DerElement) → IsProp (IsOid element)
+pub IsOid-prop : (element : DerElement) → IsProp (IsOid element)
 IsOid-prop (Primitive tag contents) = ×_prop (Coded-set coded_ℕ tag 6) (IsIdentifier-prop contents)
 IsOid-prop (Constructed tag kids) = λ a b. absurd a
 
@@ -28,7 +28,7 @@ MayHave-prop kinds.Ec (Some parameters) = IsOid-prop parameters
 MayHave-prop kinds.Ed parameters = Unit-prop
 MayHave-prop kinds.Mldsa parameters = Unit-prop
 
-same_bools : (a b : Bool) → IsProp (a ≡ b)
+pub same_bools : (a b : Bool) → IsProp (a ≡ b)
 same_bools a b = Coded-set coded_bool a b
 
 IsAlgorithmWith-prop : (kind : KeyKind) (oid : List ℕ) (parameters : Option DerElement) → IsProp (IsAlgorithmWith kind oid parameters)

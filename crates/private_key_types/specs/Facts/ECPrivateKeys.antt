@@ -1,5 +1,5 @@
 -- Private keys of elliptic curves: unlike ones have unlike elements, each well formed.
-use Rattle.std.proofs.Common.{◌≡◌, ℕ, List, [], ◌∷◌, ◌++◌, Option, Some, None, refl, ap, arith}
+use Rattle.std.proofs.Common.{◌≡◌, [], ◌∷◌, ◌++◌, Option, Some, None, refl, arith}
 use Rattle.std.specs.Option.{option_map}
 use Rattle.der_core.specs.DerElement.{DerElement, row}
 use Rattle.der_core.specs.Elements.{octet_string, optional_explicit}

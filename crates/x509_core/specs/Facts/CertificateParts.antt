@@ -3,7 +3,7 @@ use Rattle.std.specs.Prelude.{ℕ, List}
 use Rattle.std.proofs.Common.{◌≡◌, ◌∷◌, refl}
 use Rattle.std.proofs.Math.Logic.{∥∥₁_elim}
 use Rattle.std.specs.Coded.{Coded, Coded-set}
-use Rattle.der_core.specs.DerElement.{DerElement, Primitive}
+use Rattle.der_core.specs.DerElement.{Primitive}
 use Rattle.der_core.specs.Facts.Codes.{octets_code, stored, stored_inj}
 use Rattle.x509_types.specs.TbsElements.{tbs_of}
 use Rattle.x509_types.specs.Certificate.{IsCertificate, certificate_octets}

@@ -1,5 +1,6 @@
 use Rattle.std.proofs.Common.{◌∙◌}
-use Rattle.authenticode_core.proofs.SignerSteps.{members_are, named_or_none}
+use Rattle.authenticode_core.proofs.FormSteps.{members_are}
+use Rattle.authenticode_core.proofs.SignerSteps.{named_or_none}
 use Rattle.authenticode_core.proofs.signer.named_by_first.Goals as goal
 
 pub returns : goal.returns

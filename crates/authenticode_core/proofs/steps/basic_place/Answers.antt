@@ -1,7 +1,8 @@
 use Rattle.std.proofs.Common.{Err, ap, refl, ◌∙◌}
 use Rattle.std.proofs.lemmas.Result.{err_from_is_err_and}
 use Rattle.cms_types.specs.SignedView.{view_elements}
-use Rattle.authenticode_core.proofs.PolicyOrder.{answered, asked_place, asked_refusal, asked_shape, told_same, unasked_place, unasked_shape}
+use Rattle.x509_core.proofs.OneAnswer.{no_refusal}
+use Rattle.authenticode_core.proofs.PolicyOrder.{asked_place, asked_refusal, asked_shape, told_same, unasked_place, unasked_shape}
 use Rattle.authenticode_core.proofs.steps.basic_place.Goals as goal
 
 pub returns-then-not-policy-clause-answer : goal.returns-then-not-policy-clause-answer
@@ -28,4 +29,4 @@ returns-clause-answer g c =
 
 pub returns-clause-shape : goal.returns-clause-shape
 returns-clause-shape g c = λ e broken.
-    absurd (answered c.in_ok-place.place e (c.in_ok-place.ensures.shape e (asked_shape (g.S.Scheme.judge c.args.scheme.now) c.args.policy.now (view_elements c.args.signed_data.now) c.args.policy.now.basic e c.if-not-policy.false broken)))
+    absurd (no_refusal c.in_ok-place.place e (c.in_ok-place.ensures.shape e (asked_shape (g.S.Scheme.judge c.args.scheme.now) c.args.policy.now (view_elements c.args.signed_data.now) c.args.policy.now.basic e c.if-not-policy.false broken)))

@@ -2,7 +2,8 @@ use Rattle.std.proofs.Common.{Err, ap, refl, ◌∙◌}
 use Rattle.std.proofs.lemmas.Result.{err_from_is_err_and}
 use Rattle.cms_types.specs.SignedView.{view_elements}
 use Rattle.authenticode_core.proofs.FormFields.{fields_of_view}
-use Rattle.authenticode_core.proofs.PolicyOrder.{answered, basic_refuses, signer_or_not, told_same, without_signer}
+use Rattle.x509_core.proofs.OneAnswer.{no_refusal}
+use Rattle.authenticode_core.proofs.PolicyOrder.{basic_refuses, signer_or_not, told_same, without_signer}
 use Rattle.authenticode_core.proofs.steps.check_signed_data.Goals as goal
 
 pub basic_place-requires-clause-spelled : goal.basic_place-requires-clause-spelled
@@ -26,11 +27,11 @@ returns-then-policy-clause-answer g c =
     signer_or_not (g.S.Scheme.judge c.args.scheme.now) c.args.policy.now (view_elements c.args.signed_data.now) c.in_ok-signer.signer c.in_ok-signer.ensures.answer c.if-policy.true c.expect_signer.result c.expect_signer.ensures
 
 pub returns-then-policy-clause-shape : goal.returns-then-policy-clause-shape
-returns-then-policy-clause-shape g c = λ e broken. absurd (answered c.in_ok-signer.signer e (c.in_ok-signer.ensures.shape e broken))
+returns-then-policy-clause-shape g c = λ e broken. absurd (no_refusal c.in_ok-signer.signer e (c.in_ok-signer.ensures.shape e broken))
 
 pub returns-clause-answer : goal.returns-clause-answer
 returns-clause-answer g c =
     without_signer (g.S.Scheme.judge c.args.scheme.now) c.args.policy.now (view_elements c.args.signed_data.now) c.in_ok-signer.signer c.new.result c.in_ok-signer.ensures.answer c.if-policy.false c.new.ensures
 
 pub returns-clause-shape : goal.returns-clause-shape
-returns-clause-shape g c = λ e broken. absurd (answered c.in_ok-signer.signer e (c.in_ok-signer.ensures.shape e broken))
+returns-clause-shape g c = λ e broken. absurd (no_refusal c.in_ok-signer.signer e (c.in_ok-signer.ensures.shape e broken))

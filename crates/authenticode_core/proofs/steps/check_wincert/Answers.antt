@@ -4,7 +4,8 @@ use Rattle.cms_types.specs.SignedView.{view_elements}
 use Rattle.authenticode_core.specs.ContentRefusal.{told_of_content}
 use Rattle.authenticode_core.proofs.OneAnswer.{answer_at, only_at, refusal_is_answer, refused_at, refused_behind, shape_is_answer, value_refuses}
 use Rattle.authenticode_core.proofs.OneData.{lies_there}
-use Rattle.authenticode_core.proofs.PolicyOrder.{answered, told_same}
+use Rattle.x509_core.proofs.OneAnswer.{no_refusal}
+use Rattle.authenticode_core.proofs.PolicyOrder.{told_same}
 use Rattle.authenticode_core.proofs.steps.check_wincert.Goals as goal
 
 pub returns-in_err-elem-clause-answer : goal.returns-in_err-elem-clause-answer
@@ -55,7 +56,7 @@ pub returns-clause-refused : goal.returns-clause-refused
 returns-clause-refused g c =
     let has = lies_there c.args.bytes.now c.in_ok-elem.elem.is.0 c.in_ok-elem.signed_data c.in_ok-elem.ensures in
     refused_behind c.one_first_fault.ensures.at_most_one c.one_first_fault.ensures.instead_of_an_element (g.S.Scheme.judge c.args.scheme.now) c.args.policy.now c.args.bytes.now (Ok c.in_ok-accepted.accepted) (view_elements c.in_ok-elem.signed_data) (Ok c.in_ok-accepted.accepted) has
-    c.in_ok-accepted.ensures.shape (λ x same. absurd (answered c.in_ok-accepted.accepted x same))
+    c.in_ok-accepted.ensures.shape (λ x same. absurd (no_refusal c.in_ok-accepted.accepted x same))
 
 pub returns-clause-only : goal.returns-clause-only
 returns-clause-only g c =

@@ -1,10 +1,11 @@
 use Rattle.std.proofs.Common.{Err, ap}
 use Rattle.wincert_core.specs.Refusal.{contents_in}
-use Rattle.authenticode_values.proofs.ReadFiles.{ok_no_err, told_as, told_so}
+use Rattle.x509_core.proofs.OneAnswer.{no_refusal}
+use Rattle.authenticode_values.proofs.ReadFiles.{told_as, told_so}
 use Rattle.authenticode_values.proofs.made_files.unwrap.Goals as goal
 
 pub returns-in-Ok-clause-refused : goal.returns-in-Ok-clause-refused
-returns-in-Ok-clause-refused c = λ source refuses. absurd (ok_no_err _ source (c.in-Ok.ensures.refused source refuses))
+returns-in-Ok-clause-refused c = λ source refuses. absurd (no_refusal _ source (c.in-Ok.ensures.refused source refuses))
 
 pub returns-in-Err-clause-answer : goal.returns-in-Err-clause-answer
 returns-in-Err-clause-answer c = told_so (contents_in c.args.octets.now) c.in-Err.source c.from.result c.from.ensures c.in-Err.ensures.given

@@ -1,5 +1,3 @@
-use Rattle.std.proofs.Common.{sym, ap, ◌∙◌}
-use Rattle.cms_types.specs.SignedView.{view_elements}
 use Rattle.authenticode_values.proofs.Verdicts.{answered_of, broken_there, lies_there}
 use Rattle.authenticode_values.specs.Pkcs7.{written}
 use Rattle.authenticode_values.proofs.validator.check_octets.Goals as goal

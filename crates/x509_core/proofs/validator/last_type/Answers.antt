@@ -1,4 +1,4 @@
-use Rattle.std.proofs.Common.{◌≡◌, ◌⊎◌, Option, List, [], ◌∷◌, ◌++◌, map, length, inl, inr, refl, ap, subst, ◌∙◌}
+use Rattle.std.proofs.Common.{◌⊎◌, Option, List, [], ◌∷◌, ◌++◌, map, length, inl, inr, refl, subst, ◌∙◌}
 use Rattle.std.proofs.lemmas.Result.{err_from_is_err_and}
 use Rattle.std.proofs.iter.Next.{Yields-more}
 use Rattle.std.specs.Borrow.{Bor}

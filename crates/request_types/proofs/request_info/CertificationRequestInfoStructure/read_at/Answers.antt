@@ -1,5 +1,4 @@
 use Rattle.std.proofs.lemmas.Result.{err_from_is_err_and}
-use Rattle.std.proofs.Common.{◌≡◌}
 use Rattle.der_core.specs.Facts.Lists.{list_refused}
 use Rattle.der_core.specs.Lent.{at_option}
 use Rattle.x501_types.specs.Name.{IsName}

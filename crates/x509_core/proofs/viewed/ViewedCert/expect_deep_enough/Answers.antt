@@ -1,4 +1,4 @@
-use Rattle.std.proofs.Common.{◌≡◌, ◌<◌, ◌≤◌, arith, rules, sym, subst}
+use Rattle.std.proofs.Common.{◌<◌, ◌≤◌, arith, rules, sym, subst}
 use Rattle.x509_types.specs.CertificateElements.{CertificateElements}
 use Rattle.x509_types.specs.ExtensionParts.{HasPathLength}
 use Rattle.x509_core.proofs.LinkRules.{deep_enough}

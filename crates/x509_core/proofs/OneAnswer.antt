@@ -1,0 +1,8 @@
+-- What is answered is no refusal, and one refusal tells one error.
+use Rattle.std.proofs.Common.{◌≡◌, Result, Ok, Err}
+
+pub no_refusal : {A E : Type 0} (x : A) (e : E) → ◌≡◌ {A = Result A E} (Ok x) (Err e) → ⊥
+no_refusal x e same = absurd cc
+
+pub one_refusal : {A E : Type 0} (d e : E) → ◌≡◌ {A = Result A E} (Err d) (Err e) → d ≡ e
+one_refusal d e same = cc
