@@ -254,7 +254,7 @@ def constants():
         yield ""
     yield "/// The rows of the table."
     yield "#[rattlefmt::skip]"
-    yield f"pub static TABLE: [KnownRow; {len(KNOWN)}] = ["
+    yield f"pub static TABLE: [TableRow; {len(KNOWN)}] = ["
     for constant, name, text, _ in KNOWN:
         yield f'    ("{name}", "{text}", {constant}),'
     yield "];"

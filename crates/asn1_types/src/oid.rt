@@ -12,7 +12,7 @@ mod subidentifier;
 mod traits;
 
 use crate::TextError;
-use arcs::{arcs_of, root_of};
+use arcs::{parse_arcs, root_of};
 use der_core::{DerError, Octets};
 pub use lent::LentIdentifier;
 use std::alloc::{AllocError, Global};
@@ -34,7 +34,7 @@ impl ObjectIdentifier {
             (λ identifier. text.now ≡ dotted identifier.formed.arcs)
             (RefusesText (IsDottedText text.now)) }
     {
-        let arcs = arcs_of(alloc, text)?;
+        let arcs = parse_arcs(alloc, text)?;
         ObjectIdentifier::from_arcs(alloc, &arcs)
     }
 

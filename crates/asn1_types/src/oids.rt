@@ -18,7 +18,7 @@ pub struct KnownOid {
 
 /// A row of the table: name, dotted text and contents octets. It is a tuple because contracts can't
 /// name a constant of structs that hold references.
-pub type KnownRow = (&'static str, &'static str, &'static [u8]);
+pub type TableRow = (&'static str, &'static str, &'static [u8]);
 
 /// What the table has for these contents octets.
 pub fn by_contents(contents: &[u8]) -> Option<KnownOid>
@@ -39,13 +39,13 @@ pub fn by_name(name: &str) -> Option<KnownOid>
 }
 
 /// The rows of the table.
-fn rows() -> &'static [KnownRow]
+fn rows() -> &'static [TableRow]
     ensures { map (λ row. known_row row.0.now row.1.now row.2.now) result.now ≡ known_rows }
 {
     &TABLE
 }
 
-fn with_contents(rows: &[KnownRow], contents: &[u8]) -> Option<KnownOid>
+fn with_contents(rows: &[TableRow], contents: &[u8]) -> Option<KnownOid>
     ensures { let all = map (λ row. known_row row.0.now row.1.now row.2.now) rows.now in MatchOption result
         (All (λ row. row.contents ≢ contents.now) all)
         (λ known. HasRow all known.name.now known.text.now known.contents.now × (known.contents.now ≡ contents.now)) }
@@ -62,7 +62,7 @@ fn with_contents(rows: &[KnownRow], contents: &[u8]) -> Option<KnownOid>
     None
 }
 
-fn with_name(rows: &[KnownRow], wanted: &str) -> Option<KnownOid>
+fn with_name(rows: &[TableRow], wanted: &str) -> Option<KnownOid>
     ensures { let all = map (λ row. known_row row.0.now row.1.now row.2.now) rows.now in MatchOption result
         (All (λ row. row.name ≢ wanted.now) all)
         (λ known. HasRow all known.name.now known.text.now known.contents.now × (known.name.now ≡ wanted.now)) }
@@ -282,7 +282,7 @@ pub const CE_EXT_KEY_USAGE: &[u8] = b"\x55\x1D\x25";
 
 /// The rows of the table.
 #[rattlefmt::skip]
-pub static TABLE: [KnownRow; 64] = [
+pub static TABLE: [TableRow; 64] = [
     ("rsaEncryption", "1.2.840.113549.1.1.1", RSA_ENCRYPTION),
     ("md5WithRSAEncryption", "1.2.840.113549.1.1.4", MD5_WITH_RSA_ENCRYPTION),
     ("sha1WithRSAEncryption", "1.2.840.113549.1.1.5", SHA1_WITH_RSA_ENCRYPTION),

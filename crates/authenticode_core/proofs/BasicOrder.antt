@@ -6,7 +6,7 @@ use Rattle.cms_types.specs.SignerView.{signer_elements_at}
 use Rattle.der_core.specs.DerElement.{DerElement}
 use Rattle.key_core.specs.Verifying.{Judge}
 use Rattle.key_core.specs.Rules.{IsMet, IsFirstBroken}
-use Rattle.authenticode_core.specs.Basic.{IsRefusedPart, IsVouchedFor}
+use Rattle.authenticode_core.specs.Basic.{IsRefusedPart, VouchesFor}
 use Rattle.authenticode_core.specs.Form.{IsFormOf}
 use Rattle.authenticode_core.specs.FormRules.{FileDiffers, HasForm, form_rules}
 use Rattle.authenticode_core.specs.PolicySteps.{IsVouchedAt}
@@ -28,7 +28,7 @@ file_met f d file_hash has binds e broken = broken.2 (ap (λ (x : IndirectData).
 
 pub vouched_or_not : (judge : Judge) (f : SignedDataElements) (form : Form) (file_hash : List ℕ) (is : IsFormOf f form) → form.content.digest.now ≡ file_hash → (r : Result ℕ AuthenticodeError)
     → MatchResult r (λ place. IsSigned judge f is.d (signer_elements_at form.signer) place) (λ e. IsFirstBroken (signing_rules judge f is.d (signer_elements_at form.signer)) e ⊎ (e ≡ errors.Memory))
-    → MatchResult r (IsVouchedFor judge f file_hash) (λ e. IsRefusedPart judge f file_hash e ⊎ (e ≡ errors.Memory))
+    → MatchResult r (VouchesFor judge f file_hash) (λ e. IsRefusedPart judge f file_hash e ⊎ (e ≡ errors.Memory))
 vouched_or_not judge f form file_hash is binds (Ok place) signed = record {
   algorithm = is.algorithm;
   d = is.d;
@@ -41,7 +41,7 @@ vouched_or_not judge f form file_hash is binds (Err e) (inl broken) =
     inl (is.d, signer_elements_at form.signer, is.has.indirect, is.has.signer, inr (file_met f is.d file_hash is.has.indirect (sym is.content.digest ∙ binds), broken))
 vouched_or_not judge f form file_hash is binds (Err e) (inr memory) = inr memory
 
-one_place : (judge : Judge) (f : SignedDataElements) (file_hash : List ℕ) (p q : ℕ) → IsVouchedFor judge f file_hash p → IsVouchedFor judge f file_hash q → p ≡ q
+one_place : (judge : Judge) (f : SignedDataElements) (file_hash : List ℕ) (p q : ℕ) → VouchesFor judge f file_hash p → VouchesFor judge f file_hash q → p ≡ q
 one_place judge f file_hash p q a b =
     let d = indirect_once f a.d b.d a.form.indirect b.form.indirect in
     let g = signer_once f a.g b.g a.form.signer b.form.signer in
@@ -62,7 +62,7 @@ part_unbroken judge f file_hash place d g e has first binds signed (inl p) =
     p.2 (ap (λ (x : IndirectData). x.digest) (indirect_once f p.0 d p.1 has) ∙ binds)
 part_unbroken judge f file_hash place d g e has first binds signed (inr p) = signed_breaks_no_rule judge f d g place e first signed p.1
 
-part_met : (judge : Judge) (f : SignedDataElements) (file_hash : List ℕ) (place : ℕ) → IsVouchedFor judge f file_hash place → IsMet (IsRefusedPart judge f file_hash)
+part_met : (judge : Judge) (f : SignedDataElements) (file_hash : List ℕ) (place : ℕ) → VouchesFor judge f file_hash place → IsMet (IsRefusedPart judge f file_hash)
 part_met judge f file_hash place v = λ e p.
     let d = indirect_once f p.0 v.d p.2 v.form.indirect in
     let g = signer_once f p.1 v.g p.3 v.form.signer in
@@ -130,13 +130,13 @@ module _ (f : SignedDataElements) (given : Option (List ℕ)) where
 
     -- there is one place
     pub one_vouched_place : (p q : ℕ) → IsVouchedAt judge given f p → IsVouchedAt judge given f q → p ≡ q
-    one_vouched_place p q a b = one_place judge f b.0 p q (subst (λ (hash : List ℕ). IsVouchedFor judge f hash p) (same_hash given a.0 b.0 a.1 b.1) a.2) b.2
+    one_vouched_place p q a b = one_place judge f b.0 p q (subst (λ (hash : List ℕ). VouchesFor judge f hash p) (same_hash given a.0 b.0 a.1 b.1) a.2) b.2
 
     pub shape_in_basic : (e : AuthenticodeError) → IsFirstBroken (shape_rules f given) e → IsFirstBroken (basic_rules judge f given) e
     shape_in_basic e broken = broken_before (shape_rules f given) (IsRefusedFor judge f given ∷ []) e broken
 
     pub vouched_at_or_not : (algorithm : DerElement) (d : IndirectData) (g : SignerElements) (hash : List ℕ) → HasForm f algorithm d g → given ≡ Some hash → (r : Result ℕ AuthenticodeError)
-        → MatchResult r (IsVouchedFor judge f hash) (λ e. IsRefusedPart judge f hash e ⊎ (e ≡ errors.Memory)) → MatchResult r (IsVouchedAt judge given f) (RefusesBy (basic_rules judge f given))
+        → MatchResult r (VouchesFor judge f hash) (λ e. IsRefusedPart judge f hash e ⊎ (e ≡ errors.Memory)) → MatchResult r (IsVouchedAt judge given f) (RefusesBy (basic_rules judge f given))
     vouched_at_or_not algorithm d g hash form is (Ok place) v = (hash, is, v)
     vouched_at_or_not algorithm d g hash form is (Err e) (inl part) =
         inl (broken_behind (shape_rules f given) (IsRefusedFor judge f given ∷ []) e (shape_met algorithm d g hash form is) (inl (hash, is, part)))

@@ -32,7 +32,7 @@ use Rattle.key_types.specs.AlgorithmIdentifier.{algorithm_identifier}
 use Rattle.content_types.specs.SpcAttribute.{spc_attribute}
 use Rattle.authenticode_core.specs.CertificateBag.{members_of}
 use Rattle.authenticode_core.specs.Form.{AreSpelled}
-use Rattle.authenticode_core.specs.SignedFields.{HasVersion, HasContent, HasIndirectData, IndirectData, IsFirstAlgorithm, IsFirstSigner, indirect_kids, signers_of}
+use Rattle.authenticode_core.specs.SignedFields.{HasVersion, HasSignedContent, HasIndirectData, IndirectData, IsFirstAlgorithm, IsFirstSigner, indirect_kids, signers_of}
 
 -- ---- the fields are those of a value
 
@@ -82,7 +82,7 @@ indirect_option kind (Some content) element has named e =
 identified : (s t : List ℕ) → Primitive 0x06 s ≡ Primitive 0x06 t → s ≡ t
 identified s t e = cc
 
-pub indirect_is_spelled : (f : SignedDataElements) (content_type : List ℕ) (content : DerElement) → AreSpelled f → HasContent f content_type (Some content) → content_type ≡ SPC_INDIRECT_DATA.now
+pub indirect_is_spelled : (f : SignedDataElements) (content_type : List ℕ) (content : DerElement) → AreSpelled f → HasSignedContent f content_type (Some content) → content_type ≡ SPC_INDIRECT_DATA.now
     → (d : IndirectData) × (content ≡ sequence (indirect_kids d))
 indirect_is_spelled f content_type content (v, is) has named =
     let info = v.content_info in
@@ -93,7 +93,7 @@ indirect_is_spelled f content_type content (v, is) has named =
 
 -- the type and the content, each found by itself
 pub content_is : (f : SignedDataElements) (content_type : List ℕ) (other : DerElement) (content found : Option DerElement) → f.content_info ≡ content_info_of (Primitive 0x06 content_type) content → f.content_info ≡ content_info_of other found
-    → HasContent f content_type found
+    → HasSignedContent f content_type found
 content_is f content_type other content found p q =
     p ∙ ap (content_info_of (Primitive 0x06 content_type)) (fields_once (Primitive 0x06 content_type) other content found (sym p ∙ q)).1
 
@@ -104,7 +104,7 @@ version_once f a b p q =
     let same : Primitive 0x02 (a ∷ []) ≡ Primitive 0x02 (b ∷ []) = sym p ∙ q in
     cc
 
-pub content_once : (f : SignedDataElements) (s t : List ℕ) (x y : Option DerElement) → HasContent f s x → HasContent f t y → (s ≡ t) × (x ≡ y)
+pub content_once : (f : SignedDataElements) (s t : List ℕ) (x y : Option DerElement) → HasSignedContent f s x → HasSignedContent f t y → (s ≡ t) × (x ≡ y)
 content_once f s t x y p q =
     let parts = fields_once (Primitive 0x06 s) (Primitive 0x06 t) x y (sym p ∙ q) in
     (identified s t parts.0, parts.1)

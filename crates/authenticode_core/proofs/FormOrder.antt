@@ -7,7 +7,7 @@ use Rattle.der_core.specs.DerElement.{DerElement}
 use Rattle.der_core.specs.Elements.{sequence}
 use Rattle.key_core.specs.Rules.{IsMet}
 use Rattle.authenticode_core.specs.FormRules.{HasForm, IsOfOtherVersion, HasOtherSigners, HasOtherAlgorithms, LacksContent, HasOtherContent, ContentDiffers, SignerDiffers, FileDiffers, form_rules}
-use Rattle.authenticode_core.specs.SignedFields.{HasVersion, HasContent, HasIndirectData, IndirectData, IsFirstAlgorithm, IsFirstSigner, IsSameAlgorithm, digest_algorithms_of, indirect_kids, signers_of}
+use Rattle.authenticode_core.specs.SignedFields.{HasVersion, HasSignedContent, HasIndirectData, IndirectData, IsFirstAlgorithm, IsFirstSigner, IsSameAlgorithm, digest_algorithms_of, indirect_kids, signers_of}
 use Rattle.authenticode_core.specs.declared.error.AuthenticodeError.TheVariants as errors
 use Rattle.authenticode_core.proofs.FormFields.{version_once, content_once, indirect_once, algorithm_once, signer_once}
 use Rattle.key_core.proofs.RuleLists.{AreMet, IsToldOnce, AreToldOnce, NoneTells}
@@ -42,7 +42,7 @@ module _ (f : SignedDataElements) where
   pub algorithms_met : length (digest_algorithms_of f) ≡ 1 → IsMet (HasOtherAlgorithms f)
   algorithms_met one e broken = broken.0 one
 
-  pub some_content_met : (content_type : List ℕ) (content : DerElement) → HasContent f content_type (Some content) → IsMet (LacksContent f)
+  pub some_content_met : (content_type : List ℕ) (content : DerElement) → HasSignedContent f content_type (Some content) → IsMet (LacksContent f)
   some_content_met content_type content has e broken =
       let none : Some content ≡ None = (content_once f content_type broken.0 (Some content) None has broken.1).1 in
       absurd cc

@@ -22,9 +22,9 @@ use Rattle.der_core.specs.Encoding.{encoding}
 use Rattle.der_core.specs.Facts.Rows.{listed-row}
 use Rattle.key_core.specs.Rules.{IsFirstBroken}
 use Rattle.authenticode_core.specs.CertificateBag.{members_of}
-use Rattle.authenticode_core.specs.Form.{AreSpelled, IsContentOf}
+use Rattle.authenticode_core.specs.Form.{AreSpelled, IsIndirectContent}
 use Rattle.authenticode_core.specs.FormRules.{HasForm, IsOfOtherVersion, HasOtherSigners, HasOtherAlgorithms, LacksContent, HasOtherContent, form_rules}
-use Rattle.authenticode_core.specs.SignedFields.{HasVersion, HasContent, IndirectData, IsFirstAlgorithm, IsFirstSigner, IsSameAlgorithm, digest_algorithms_of, indirect_kids, signers_of}
+use Rattle.authenticode_core.specs.SignedFields.{HasVersion, HasSignedContent, IndirectData, IsFirstAlgorithm, IsFirstSigner, IsSameAlgorithm, digest_algorithms_of, indirect_kids, signers_of}
 use Rattle.authenticode_core.specs.declared.error.AuthenticodeError.{AuthenticodeError}
 use Rattle.authenticode_core.specs.declared.error.AuthenticodeError.TheVariants as errors
 use Rattle.authenticode_core.specs.declared.form.Content.{Content}
@@ -118,12 +118,12 @@ other_content f content_type other content found p q differs =
 pub the_content : (f : SignedDataElements) (content_type : List ℕ) (other element : DerElement) (found : Option DerElement) (content : Content) → AreSpelled f → f.content_info ≡ content_info_of (Primitive 0x06 content_type) found → f.content_info ≡ content_info_of other (Some element)
     → content_type ≡ SPC_INDIRECT_DATA.now
     → (image : DerElement) × (element ≡ sequence (image ∷ sequence (content.algorithm.is.0 ∷ octet_string content.digest.now ∷ []) ∷ [])) × (content.elem.is.0 ≡ element)
-    → (d : IndirectData) × IsContentOf f d content
+    → (d : IndirectData) × IsIndirectContent f d content
 the_content f content_type other element found content spelled p q named (image, is, same) =
     let has = content_is f content_type other found (Some element) p q in (
       record { image = image; algorithm = content.algorithm.is.0; digest = content.digest.now },
       record {
-        has = subst (λ (t : List ℕ). HasContent f t (Some (sequence (image ∷ sequence (content.algorithm.is.0 ∷ octet_string content.digest.now ∷ []) ∷ [])))) named (has ∙ ap (λ (x : DerElement). content_info_of (Primitive 0x06 content_type) (Some x)) is);
+        has = subst (λ (t : List ℕ). HasSignedContent f t (Some (sequence (image ∷ sequence (content.algorithm.is.0 ∷ octet_string content.digest.now ∷ []) ∷ [])))) named (has ∙ ap (λ (x : DerElement). content_info_of (Primitive 0x06 content_type) (Some x)) is);
         is = same ∙ is;
         algorithm = refl;
         digest = refl;
@@ -153,7 +153,7 @@ module _ (f : SignedDataElements) where
   broken_4 e version one alone (inr (met, inl p)) = inr (version_met f version, inr (signers_met f one, inr (algorithms_met f alone, inr (met, inl p))))
   broken_4 e version one alone (inr (met, inr p)) = absurd p.1
 
-  module _ (version : HasVersion f 1) (one : length (signers_of f) ≡ 1) (algorithm : DerElement) (alone : digest_algorithms_of f ≡ algorithm ∷ []) (d : IndirectData) (content : Content) (is : IsContentOf f d content) where
+  module _ (version : HasVersion f 1) (one : length (signers_of f) ≡ 1) (algorithm : DerElement) (alone : digest_algorithms_of f ≡ algorithm ∷ []) (d : IndirectData) (content : Content) (is : IsIndirectContent f d content) where
     differs : (octets : List ℕ) → octets ≡ encoding content.algorithm.is.0 → (octets ≡ encoding algorithm → ⊥) → IsSameAlgorithm d.algorithm algorithm → ⊥
     differs octets e different same = different (e ∙ ap encoding is.algorithm ∙ same)
 

@@ -14,10 +14,10 @@ use Rattle.der_core.specs.Encoding.{encoding}
 use Rattle.x501_types.specs.Name.{name}
 use Rattle.x509_types.specs.CertificateElements.{CertificateElements}
 use Rattle.x509_types.specs.CertificateView.{view_elements}
-use Rattle.authenticode_core.specs.BagSigner.{IsNamed}
+use Rattle.authenticode_core.specs.BagSigner.{IsNamedByFirst}
 use Rattle.authenticode_core.specs.CertificateBag.{IsBag, IsMember}
 use Rattle.authenticode_core.specs.Places.{StandsAt, HoldsOfNone, HasNoPlace, IsLeastPlace}
-use Rattle.authenticode_core.specs.Naming.{IsFirstNamed, IsNamedAt}
+use Rattle.authenticode_core.specs.Naming.{IsFirstOfName, IsNamedAt}
 use Rattle.authenticode_core.specs.SigningRules.{AsksForPurposes}
 use Rattle.authenticode_core.specs.declared.bag.BagCertificate.{BagCertificate}
 use Rattle.authenticode_core.specs.SignedFields.{IsFirstSigner, signers_of}
@@ -83,7 +83,7 @@ unnamed_all left bag holds e u =
 -- ---- named by the first signer
 
 named_there : (f : SignedDataElements) (g : SignerElements) (issuer serial_number : List ℕ) (c : CertificateElements) (first : IsFirstSigner f g) → LendsNamed g.sid issuer serial_number → IsNamedBy issuer serial_number c
-    → (sid : SignerIdentifier) → first.value.sid ≡ sid → IsNamed (signers_of f) c
+    → (sid : SignerIdentifier) → first.value.sid ≡ sid → IsNamedByFirst (signers_of f) c
 named_there f g issuer serial_number c first lent by (named.IssuerAndSerialNumber v) sid =
     let lies : g.sid ≡ issuer_and_serial_number v = sid_is f g first ∙ ap signer_identifier sid in
     let parts = two (name v.issuer) lent.name (Primitive 0x02 (integer_contents v.serial_number)) (Primitive 0x02 serial_number) (sym lies ∙ lent.is) in
@@ -101,14 +101,14 @@ named_there f g issuer serial_number c first lent by (named.SubjectKeyIdentifier
     let both : Primitive 0x80 octets ≡ sequence (lent.name ∷ Primitive 0x02 serial_number ∷ []) = sym lies ∙ lent.is in
     absurd cc
 
-named_back : (f : SignedDataElements) (g : SignerElements) (issuer serial_number : List ℕ) (c : CertificateElements) → IsFirstSigner f g → LendsNamed g.sid issuer serial_number → IsNamed (signers_of f) c → IsNamedBy issuer serial_number c
+named_back : (f : SignedDataElements) (g : SignerElements) (issuer serial_number : List ℕ) (c : CertificateElements) → IsFirstSigner f g → LendsNamed g.sid issuer serial_number → IsNamedByFirst (signers_of f) c → IsNamedBy issuer serial_number c
 named_back f g issuer serial_number c first lent n =
     let same : signer_info first.value ≡ signer_info n.signer = heads (signer_info first.value) (signer_info n.signer) first.others n.others (sym first.first ∙ n.first) in
     let lies : g.sid ≡ issuer_and_serial_number n.value = sid_is f g first ∙ same_sid (signer_elements first.value) (signer_elements n.signer) same ∙ ap signer_identifier n.sid in
     let parts = two (name n.value.issuer) lent.name (Primitive 0x02 (integer_contents n.value.serial_number)) (Primitive 0x02 serial_number) (sym lies ∙ lent.is) in
     (sym n.issuer ∙ ap encoding parts.0 ∙ sym lent.octets, sym n.serial_number ∙ contents (integer_contents n.value.serial_number) serial_number parts.1)
 
-pub named_or_not : (f : SignedDataElements) (g : SignerElements) (issuer serial_number : List ℕ) → IsFirstSigner f g → LendsNamed g.sid issuer serial_number → (c : CertificateElements) → IsNamedBy issuer serial_number c ↔ IsNamed (signers_of f) c
+pub named_or_not : (f : SignedDataElements) (g : SignerElements) (issuer serial_number : List ℕ) → IsFirstSigner f g → LendsNamed g.sid issuer serial_number → (c : CertificateElements) → IsNamedBy issuer serial_number c ↔ IsNamedByFirst (signers_of f) c
 named_or_not f g issuer serial_number first lent c =
     (λ by. named_there f g issuer serial_number c first lent by first.value.sid refl, λ n. named_back f g issuer serial_number c first lent n)
 
@@ -130,13 +130,13 @@ told_of_same : (bag : List CertificateElements) (asks : Bool) (a b : Certificate
 told_of_same bag asks a b same told = subst (λ (c : CertificateElements). IsTrue asks ↔ AsksForPurposes bag c) same told
 
 named_so : (bag : List CertificateElements) (issuer serial_number : List ℕ) (found : BagCertificate) (asks : Bool) (c first : CertificateElements) → c ≡ view_elements found.certificate
-    → IsLeastPlace bag (IsNamedBy issuer serial_number) 0 found.place c → IsFirstNamed bag issuer serial_number first → IsTrue asks ↔ AsksForPurposes bag first → IsTrue asks ↔ AsksForPurposes bag c
+    → IsLeastPlace bag (IsNamedBy issuer serial_number) 0 found.place c → IsFirstOfName bag issuer serial_number first → IsTrue asks ↔ AsksForPurposes bag first → IsTrue asks ↔ AsksForPurposes bag c
 named_so bag issuer serial_number found asks c first e there is told =
     told_of_same bag asks first c (least_once bag (IsNamedBy issuer serial_number) 0 found.place is.0 c first there is.1).1 told
 
 pub named_where : (bag : List CertificateElements) (issuer serial_number : List ℕ) (r : Option BagCertificate) (found : BagCertificate) (asks : Bool) (first : CertificateElements) → r ≡ Some found
     → MatchOption r (HasNoPlace bag (IsNamedBy issuer serial_number) 0) (λ k. IsLeastPlace bag (IsNamedBy issuer serial_number) 0 k.place (view_elements k.certificate))
-    → IsFirstNamed bag issuer serial_number first → IsTrue asks ↔ AsksForPurposes bag first → IsNamedAt bag issuer serial_number (record { certificate = found; asks_for_purposes = asks })
+    → IsFirstOfName bag issuer serial_number first → IsTrue asks ↔ AsksForPurposes bag first → IsNamedAt bag issuer serial_number (record { certificate = found; asks_for_purposes = asks })
 named_where bag issuer serial_number r found asks first e least is told =
     let B : BagCertificate → Type 0 = λ k. IsLeastPlace bag (IsNamedBy issuer serial_number) 0 k.place (view_elements k.certificate) in
     let there : B found = found_there (HasNoPlace bag (IsNamedBy issuer serial_number) 0) B r found e least in

@@ -26,10 +26,10 @@ use Rattle.x501_types.specs.Name.{name}
 use Rattle.x509_core.proofs.SignedParts.{one_key}
 use Rattle.x509_types.specs.CertificateElements.{CertificateElements}
 use Rattle.x509_types.specs.Purposes.{NamesPurpose}
-use Rattle.authenticode_core.specs.BagSigner.{IsNamed}
+use Rattle.authenticode_core.specs.BagSigner.{IsNamedByFirst}
 use Rattle.authenticode_core.specs.CertificateBag.{members_of}
 use Rattle.authenticode_core.specs.SignedFields.{HasMessageDigest, IndirectData, IsFirstSigner, signed_message, signers_of}
-use Rattle.authenticode_core.specs.SigningRules.{AsksForPurposes, DigestDiffers, HasNoCertificate, HasNoMessageDigest, HasUnknownDigest, IsBadlySigned, IsBagOf, IsForCodeSigning, IsNamedByKey, IsNotForCodeSigning, IsRefusedUnder, IsSigned, HasSignatureBy, IsSignerOf, IsUnsupportedDigest, NamesDigest, digested_octets, signing_rules}
+use Rattle.authenticode_core.specs.SigningRules.{AsksForPurposes, DigestDiffers, HasNoCertificate, HasNoMessageDigest, HasUnknownDigest, IsBadlySigned, IsBagOf, IsForCodeSigning, IsNamedByKey, IsNotForCodeSigning, IsRefusedUnder, IsSigned, HasSignatureBy, IsSignerCertificate, IsUnsupportedDigest, NamesDigest, digested_octets, signing_rules}
 use Rattle.authenticode_core.specs.declared.error.AuthenticodeError.{AuthenticodeError}
 use Rattle.authenticode_core.specs.declared.error.AuthenticodeError.TheVariants as errors
 use Rattle.authenticode_core.proofs.BagSteps.{one_bag}
@@ -41,7 +41,7 @@ use Rattle.authenticode_core.proofs.WalkSteps.{least_once}
 
 -- ---- the first signer, and its certificate
 
-named_sid : (f : SignedDataElements) (g : SignerElements) (c : CertificateElements) → IsFirstSigner f g → (n : IsNamed (signers_of f) c) → g.sid ≡ issuer_and_serial_number n.value
+named_sid : (f : SignedDataElements) (g : SignerElements) (c : CertificateElements) → IsFirstSigner f g → (n : IsNamedByFirst (signers_of f) c) → g.sid ≡ issuer_and_serial_number n.value
 named_sid f g c first n =
     ap (λ (x : SignerElements). x.sid) first.is
     ∙ same_sid (signer_elements first.value) (signer_elements n.signer) (heads (signer_info first.value) (signer_info n.signer) first.others n.others (sym first.first ∙ n.first))
@@ -54,9 +54,9 @@ pub same_bag : (f : SignedDataElements) (a b : List CertificateElements) → IsB
 same_bag f a b = one_bag (members_of f.certificates) a b
 
 -- there is one certificate of the signer, at one place
-pub signer_once : (f : SignedDataElements) (a b : List CertificateElements) (p q : ℕ) (c d : CertificateElements) → IsBagOf f a → IsBagOf f b → IsSignerOf f a p c → IsSignerOf f b q d → (p ≡ q) × (d ≡ c)
+pub signer_once : (f : SignedDataElements) (a b : List CertificateElements) (p q : ℕ) (c d : CertificateElements) → IsBagOf f a → IsBagOf f b → IsSignerCertificate f a p c → IsSignerCertificate f b q d → (p ≡ q) × (d ≡ c)
 signer_once f a b p q c d first second here there =
-    least_once a (IsNamed (signers_of f)) 0 p q c d here (subst (λ (bag : List CertificateElements). IsSignerOf f bag q d) (same_bag f b a second first) there)
+    least_once a (IsNamedByFirst (signers_of f)) 0 p q c d here (subst (λ (bag : List CertificateElements). IsSignerCertificate f bag q d) (same_bag f b a second first) there)
 
 signature_octets : (s t : List ℕ) → Primitive 0x04 s ≡ Primitive 0x04 t → s ≡ t
 signature_octets s t e = cc
@@ -64,14 +64,14 @@ signature_octets s t e = cc
 -- ---- rules that are met
 
 module _ (f : SignedDataElements) (g : SignerElements) where
-  pub named_is_met : (bag : List CertificateElements) (place : ℕ) (c : CertificateElements) → IsFirstSigner f g → IsSignerOf f bag place c → IsMet (IsNamedByKey g)
+  pub named_is_met : (bag : List CertificateElements) (place : ℕ) (c : CertificateElements) → IsFirstSigner f g → IsSignerCertificate f bag place c → IsMet (IsNamedByKey g)
   named_is_met bag place c first signer = λ e broken.
       let named = named_sid f g c first signer.fits in
       key_or_name broken.0 (name signer.fits.value.issuer ∷ integer signer.fits.value.serial_number ∷ []) (sym broken.1 ∙ named)
 
-  pub certificate_is_met : (bag : List CertificateElements) (place : ℕ) (c : CertificateElements) → IsBagOf f bag → IsSignerOf f bag place c → IsMet (HasNoCertificate f g)
+  pub certificate_is_met : (bag : List CertificateElements) (place : ℕ) (c : CertificateElements) → IsBagOf f bag → IsSignerCertificate f bag place c → IsMet (HasNoCertificate f g)
   certificate_is_met bag place c is signer = λ e broken.
-      let there : IsSignerOf f broken.bag place c = subst (λ (b : List CertificateElements). IsSignerOf f b place c) (same_bag f bag broken.bag is broken.is_bag) signer in
+      let there : IsSignerCertificate f broken.bag place c = subst (λ (b : List CertificateElements). IsSignerCertificate f b place c) (same_bag f bag broken.bag is broken.is_bag) signer in
       broken.none place c there.later there.stands there.fits
 
   -- told once
@@ -103,7 +103,7 @@ module _ (judge : Judge) (f : SignedDataElements) (d : IndirectData) (g : Signer
   same_refusal hash other c k e p q refused =
       subst (λ (x : CertificateElements). IsRefusedUnder judge g hash x e) q (subst (λ (h : HashAlgorithm). IsRefusedUnder judge g h k e) p refused)
 
-  pub signature_is_met : (bag : List CertificateElements) (place : ℕ) (c : CertificateElements) (hash : HashAlgorithm) → IsBagOf f bag → IsSignerOf f bag place c → NamesDigest g.digest_algorithm hash → HasSignatureBy judge g hash c
+  pub signature_is_met : (bag : List CertificateElements) (place : ℕ) (c : CertificateElements) (hash : HashAlgorithm) → IsBagOf f bag → IsSignerCertificate f bag place c → NamesDigest g.digest_algorithm hash → HasSignatureBy judge g hash c
       → IsMet (IsBadlySigned judge f g)
   signature_is_met bag place c hash is signer named signed = λ e broken.
       well_signed hash c e signed (same_refusal hash broken.hash c broken.certificate e
@@ -122,7 +122,7 @@ module _ (judge : Judge) (f : SignedDataElements) (d : IndirectData) (g : Signer
       broken.differs (message_digest_once g broken.actual (digest_of hash (digested_octets d)) broken.has has
       ∙ ap (λ (h : HashAlgorithm). digest_of h (digested_octets d)) (named_once g.digest_algorithm hash broken.hash named broken.named))
 
-  pub code_signing_is_met : (bag : List CertificateElements) (place : ℕ) (c : CertificateElements) → IsBagOf f bag → IsSignerOf f bag place c → IsForCodeSigning bag c → IsMet (IsNotForCodeSigning f)
+  pub code_signing_is_met : (bag : List CertificateElements) (place : ℕ) (c : CertificateElements) → IsBagOf f bag → IsSignerCertificate f bag place c → IsForCodeSigning bag c → IsMet (IsNotForCodeSigning f)
   code_signing_is_met bag place c is signer may = λ e broken.
       let same = (signer_once f bag broken.bag place broken.place c broken.certificate is broken.is_bag signer broken.is_signer).1 in
       let asks : AsksForPurposes bag c =

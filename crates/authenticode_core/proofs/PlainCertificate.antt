@@ -19,7 +19,7 @@ use Rattle.x509_types.specs.CertificateElements.{AreCertificateFields}
 use Rattle.x509_types.specs.declared.version.Version.TheVariants as versions
 use Rattle.x509_values.specs.declared.time.Time.TheVariants as times
 use Rattle.authenticode_core.specs.PlainFields.{plain_certificate}
-use Rattle.authenticode_core.specs.PlainForm.{CertificateParts, IsNewYear, IsRsaKey, algorithm, public_key_info}
+use Rattle.authenticode_core.specs.PlainForm.{CertificateParts, IsNewYear, IsPlainKey, algorithm, public_key_info}
 use Rattle.authenticode_core.proofs.PlainShape.{algorithm_value, name_value}
 
 -- ---- the first moment of a year
@@ -54,26 +54,26 @@ new_year time y =
 
 -- ---- the key
 
-abbrev pub key_of : (key : List ℕ) → IsRsaKey key → RsaPublicKey
+abbrev pub key_of : (key : List ℕ) → IsPlainKey key → RsaPublicKey
 key_of key r = record {
   modulus = record { contents = r.public_key.integers.0.contents; formed = r.public_key.integers.0.some };
   public_exponent = record { contents = r.public_key.integers.1.contents; formed = r.public_key.integers.1.some };
 }
 
-element_is : (key : List ℕ) → (r : IsRsaKey key) → r.element ≡ rsa_public_key (key_of key r)
+element_is : (key : List ℕ) → (r : IsPlainKey key) → r.element ≡ rsa_public_key (key_of key r)
 element_is key r = r.public_key.written ∙ (λ i. sequence (r.public_key.integers.0.written i ∷ r.public_key.integers.1.written i ∷ []))
 
-pub key_is_encoded : (key : List ℕ) → (r : IsRsaKey key) → (key ≡ encoding (rsa_public_key (key_of key r))) × IsDer (rsa_public_key (key_of key r))
+pub key_is_encoded : (key : List ℕ) → (r : IsPlainKey key) → (key ≡ encoding (rsa_public_key (key_of key r))) × IsDer (rsa_public_key (key_of key r))
 key_is_encoded key r = (r.encoded ∙ ap encoding (element_is key r), subst IsDer (element_is key r) r.der)
 
-abbrev pub info_of : (key : List ℕ) → IsRsaKey key → IsDer null → SubjectPublicKeyInfo
+abbrev pub info_of : (key : List ℕ) → IsPlainKey key → IsDer null → SubjectPublicKeyInfo
 info_of key r der = record {
   algorithm = algorithm_value identifiers.RSA_ENCRYPTION.now refl der;
   subject_public_key = keys.Rsa (key_of key r);
   fits = record { named = refl; allowed = refl };
 }
 
-pub info_is : (key : List ℕ) → (r : IsRsaKey key) → (der : IsDer null) → public_key_info key ≡ written_info (info_of key r der)
+pub info_is : (key : List ℕ) → (r : IsPlainKey key) → (der : IsDer null) → public_key_info key ≡ written_info (info_of key r der)
 info_is key r der = ap (λ (octets : List ℕ). sequence (algorithm identifiers.RSA_ENCRYPTION.now ∷ bit_octets octets ∷ [])) (key_is_encoded key r).0
 
 -- ---- the certificate
@@ -83,7 +83,7 @@ pub record IsPlainCertificate (c : CertificateParts) : Type 0 where
   pub some_serial : c.tbs.serial ≢ []
   pub not_before : IsNewYear c.tbs.not_before
   pub not_after : IsNewYear c.tbs.not_after
-  pub key : IsRsaKey c.tbs.key
+  pub key : IsPlainKey c.tbs.key
 
 pub certificate_fits : (c : CertificateParts) → IsPlainCertificate c → IsDer null → Fits AreCertificateFields (plain_certificate c)
 certificate_fits c is der =

@@ -24,12 +24,12 @@ use Rattle.sig_core.specs.declared.scheme.Verdict.TheVariants.{Accept}
 use Rattle.sig_core.specs.declared.sha_variant.ShaVariant.TheVariants as variants
 use Rattle.x509_types.specs.CertificateElements.{CertificateElements}
 use Rattle.x509_types.specs.Purposes.{HasPurposes}
-use Rattle.authenticode_core.specs.BagSigner.{IsNamed}
-use Rattle.authenticode_core.specs.Basic.{IsVouchedFor}
+use Rattle.authenticode_core.specs.BagSigner.{IsNamedByFirst}
+use Rattle.authenticode_core.specs.Basic.{VouchesFor}
 use Rattle.authenticode_core.specs.CertificateBag.{IsBag, IsMember}
 use Rattle.authenticode_core.specs.Places.{StandsAt}
 use Rattle.authenticode_core.specs.PlainFields.{HasPlainFields, IsPlainlyAccepted, plain_certificate, plain_data, plain_elements, plain_signer}
-use Rattle.authenticode_core.specs.PlainForm.{CertificateParts, IsPlain, IsPlainForm, PlainParts, algorithm, certificate, name, public_key_info, signed_message}
+use Rattle.authenticode_core.specs.PlainForm.{CertificateParts, IsPlain, IsPlainForm, PlainParts, algorithm, certificate, name, public_key_info, plain_message}
 use Rattle.authenticode_core.specs.SignedFields.{IndirectData, IsFirstSigner, signers_of}
 use Rattle.authenticode_core.specs.SigningRules.{AsksForPurposes, IsSigned, HasSignatureBy, NamesDigest}
 use Rattle.authenticode_core.proofs.DigestNames.{named_once}
@@ -69,7 +69,7 @@ names_sha256 = record { variant = variants.SHA2_256; parameters = null ∷ []; i
 
 module _ (judge : Judge) (p : PlainParts) where
   accepted : (c : CertificateElements) (hash : HashAlgorithm) → IsMember (certificate p.certificate) c → NamesDigest (plain_signer p.signer).digest_algorithm hash → HasSignatureBy judge (plain_signer p.signer) hash c
-      → judge RsaSha256 p.certificate.tbs.key (signed_message p) p.signer.signature ≡ Accept
+      → judge RsaSha256 p.certificate.tbs.key (plain_message p) p.signer.signature ≡ Accept
   accepted c hash member named signed =
       let same : plain_certificate p.certificate ≡ c = one_certificate (plain_certificate p.certificate) c member.is in
       let info : public_key_info p.certificate.tbs.key ≡ written_info signed.info = ap (λ (x : CertificateElements). x.tbs.subject_public_key_info) same ∙ signed.key in
@@ -78,17 +78,17 @@ module _ (judge : Judge) (p : PlainParts) where
       let alg : a.alg ≡ RsaSha256 = a.fits.0 ∙ ap rsa_alg digest in
       let key : a.bytes ≡ p.certificate.tbs.key = key_is signed.info signed.info.subject_public_key p.certificate.tbs.key a.bytes refl info a.fits.1 in
       let signature : signed.signature ≡ p.signer.signature = contents_once signed.signature p.signer.signature (sym signed.octets) in
-      let judged : judge a.alg a.bytes (signed_message p) signed.signature ≡ Accept = a.judged in
-      let moved : judge a.alg a.bytes (signed_message p) signed.signature ≡ judge RsaSha256 p.certificate.tbs.key (signed_message p) p.signer.signature =
-      λ i. judge (alg i) (key i) (signed_message p) (signature i) in
+      let judged : judge a.alg a.bytes (plain_message p) signed.signature ≡ Accept = a.judged in
+      let moved : judge a.alg a.bytes (plain_message p) signed.signature ≡ judge RsaSha256 p.certificate.tbs.key (plain_message p) p.signer.signature =
+      λ i. judge (alg i) (key i) (plain_message p) (signature i) in
       sym moved ∙ judged
 
-  signed_there : (d : IndirectData) (place : ℕ) → IsSigned judge (plain_elements p) d (plain_signer p.signer) place → (place ≡ 0) × (judge RsaSha256 p.certificate.tbs.key (signed_message p) p.signer.signature ≡ Accept)
+  signed_there : (d : IndirectData) (place : ℕ) → IsSigned judge (plain_elements p) d (plain_signer p.signer) place → (place ≡ 0) × (judge RsaSha256 p.certificate.tbs.key (plain_message p) p.signer.signature ≡ Accept)
   signed_there d place s =
       let one = only_one (certificate p.certificate) s.bag place s.certificate s.is_bag s.is_signer.stands in
       (one.0, accepted s.certificate s.hash one.1 s.named s.signed)
 
-  pub was_accepted : (file_hash : List ℕ) (place : ℕ) → IsFirstSigner (plain_elements p) (plain_signer p.signer) → IsVouchedFor judge (plain_elements p) file_hash place → (place ≡ 0) × IsPlainlyAccepted judge p file_hash
+  pub was_accepted : (file_hash : List ℕ) (place : ℕ) → IsFirstSigner (plain_elements p) (plain_signer p.signer) → VouchesFor judge (plain_elements p) file_hash place → (place ≡ 0) × IsPlainlyAccepted judge p file_hash
   was_accepted file_hash place first v =
       let d : v.d ≡ plain_data p.file_hash = indirect_once (plain_elements p) v.d (plain_data p.file_hash) v.form.indirect refl in
       let g : v.g ≡ plain_signer p.signer = signer_once (plain_elements p) v.g (plain_signer p.signer) v.form.signer first in
@@ -113,7 +113,7 @@ asks_nothing c asks =
         none (b ∷ before) x after e = absurd cc
 
 module _ (judge : Judge) (p : PlainParts) (file_hash : List ℕ) (plain : IsPlain p) (der : IsDer null) (fields : HasPlainFields p) (a : IsPlainlyAccepted judge p file_hash) where
-  is_named : IsNamed (signers_of (plain_elements p)) (plain_certificate p.certificate)
+  is_named : IsNamedByFirst (signers_of (plain_elements p)) (plain_certificate p.certificate)
   is_named =
       let lent : LendsNamed (plain_signer p.signer).sid (encoding (name p.signer.issuer)) p.signer.serial = record { name = name p.signer.issuer; is = refl; octets = refl } in
       (named_or_not (plain_elements p) (plain_signer p.signer) (encoding (name p.signer.issuer)) p.signer.serial fields.form.signer lent (plain_certificate p.certificate)).0
@@ -128,7 +128,7 @@ module _ (judge : Judge) (p : PlainParts) (file_hash : List ℕ) (plain : IsPlai
     accepted = record { alg = RsaSha256; bytes = p.certificate.tbs.key; fits = (refl, key_is_encoded p.certificate.tbs.key plain.key); judged = a.accepted };
   }
 
-  pub is_vouched : IsVouchedFor judge (plain_elements p) file_hash 0
+  pub is_vouched : VouchesFor judge (plain_elements p) file_hash 0
   is_vouched =
       let c = plain_certificate p.certificate in
       record {
@@ -152,10 +152,10 @@ module _ (judge : Judge) (p : PlainParts) (file_hash : List ℕ) (plain : IsPlai
       }
 
 pub vouched_exactly : (judge : Judge) (octets : List ℕ) (p : PlainParts) (file_hash : List ℕ) (place : ℕ) → IsPlainForm octets p
-    → IsVouchedFor judge (plain_elements p) file_hash place ↔ ((place ≡ 0) × IsPlainlyAccepted judge p file_hash)
+    → VouchesFor judge (plain_elements p) file_hash place ↔ ((place ≡ 0) × IsPlainlyAccepted judge p file_hash)
 vouched_exactly judge octets p file_hash place form =
     let fields = plain_form_has_fields octets p form in
     let b = bounded p form.spelled.0 in (
       λ v. was_accepted judge p file_hash place fields.form.signer v,
-      λ a. subst (λ (n : ℕ). IsVouchedFor judge (plain_elements p) file_hash n) (sym a.0) (is_vouched judge p file_hash form.plain b.parameters fields a.1),
+      λ a. subst (λ (n : ℕ). VouchesFor judge (plain_elements p) file_hash n) (sym a.0) (is_vouched judge p file_hash form.plain b.parameters fields a.1),
     )

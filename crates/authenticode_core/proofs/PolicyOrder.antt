@@ -155,10 +155,7 @@ module _ (judge : Judge) (policy : Policy) (f : SignedDataElements) where
   asked_shape true e on broken = broken
   asked_shape false e on broken = absurd broken
 
--- what is answered is no refusal, and refusals are the same by what they tell
-pub answered : {A E : Type 0} (x : A) (e : E) → Ok x ≡ Err e → ⊥
-answered x e same = absurd cc
-
+-- refusals of one answer are the same by what they tell
 pub told_same : {A : Type 0} (r : Result A AuthenticodeError) (d e : AuthenticodeError) → r ≡ Err d → r ≡ Err e → d ≡ e
 told_same r d e p q =
     let same = sym p ∙ q in

@@ -26,11 +26,11 @@ use Rattle.authenticode_core.specs.Form.{AreSpelled}
 use Rattle.authenticode_core.specs.Excuses.{HasBadStamp, HasNoExcuse, IsExcused}
 use Rattle.authenticode_core.specs.IssuerWalk.{IsIssuerPath}
 use Rattle.authenticode_core.specs.LinkedPath.{IsUnlinkedAt}
-use Rattle.authenticode_core.specs.Policy.{checks_of, window_of}
+use Rattle.authenticode_core.specs.Policy.{policy_checks, window_of}
 use Rattle.authenticode_core.specs.PolicySteps.{IsExpiry, IsUnlinkedPath, TellsExpiry, standing_rules}
 use Rattle.authenticode_core.specs.SignedFields.{IsFirstSigner, signers_of}
 use Rattle.authenticode_core.specs.SignerRules.{HasKeyName, HasUnknownName, IsBadlyStamped, IsKeptSigner, IsPathAsked, IsSignerVouched, IsStanding, IsVouchedPath, IsUnbegun, IsUndated, IsUnexcused, IsUnvouched, LacksSigner, signer_rules}
-use Rattle.authenticode_core.specs.SigningRules.{HasNoCertificate, IsBagOf, IsNamedByKey, IsSignerOf, RefusesBy}
+use Rattle.authenticode_core.specs.SigningRules.{HasNoCertificate, IsBagOf, IsNamedByKey, IsSignerCertificate, RefusesBy}
 use Rattle.authenticode_core.specs.SigningSteps.{HasSigner}
 use Rattle.authenticode_core.specs.declared.accepted.Accepted.{Accepted}
 use Rattle.authenticode_core.specs.declared.accepted.Excuse.{Excuse}
@@ -67,13 +67,13 @@ key_name_met f g first met = λ e broken. met e (subst (λ (x : SignerElements).
 abbrev pub named_rules : SignedDataElements → List (Rule AuthenticodeError)
 named_rules f = LacksSigner f ∷ HasKeyName f ∷ HasUnknownName f ∷ []
 
-pub named_met : (f : SignedDataElements) (bag : List CertificateElements) (place : ℕ) (c : CertificateElements) → IsBagOf f bag → IsSignerOf f bag place c → AreMet (named_rules f)
+pub named_met : (f : SignedDataElements) (bag : List CertificateElements) (place : ℕ) (c : CertificateElements) → IsBagOf f bag → IsSignerCertificate f bag place c → AreMet (named_rules f)
 named_met f bag place c is_bag is_signer = (
   λ e broken. some_signers (signers_of f) is_signer.fits.others _ is_signer.fits.first broken.0,
   (λ e broken. named_is_met f broken.0 bag place c broken.1 is_signer e broken.2, (λ e broken. certificate_is_met f broken.0 bag place c is_bag is_signer e broken.2, tt)),
 )
 
-pub dated_met : (policy : Policy) → IsDated (checks_of policy) → IsMet (IsUndated policy)
+pub dated_met : (policy : Policy) → IsDated (policy_checks policy) → IsMet (IsUndated policy)
 dated_met policy dated = λ e broken. dated broken.1.0 broken.1.1
 
 -- there is no signer
@@ -104,7 +104,7 @@ told_of_certificates (cert_errors.CertificateExpired not_after now) = inl refl
 told_of_certificates (cert_errors.PrivateKeyToPublicKey source) = inl refl
 told_of_certificates cert_errors.Memory = inr refl
 
-undated_told : (policy : Policy) (cause : CertError) → LacksDate (checks_of policy) cause → of_certificates cause ≡ errors.CertError cause
+undated_told : (policy : Policy) (cause : CertError) → LacksDate (policy_checks policy) cause → of_certificates cause ≡ errors.CertError cause
 undated_told policy cause lacks = ap of_certificates lacks.2 ∙ sym (ap errors.CertError lacks.2)
 
 outside_told : (w : Window) (signer : KeptCertificate) (cause : CertError) → IsOutside w signer cause → of_certificates cause ≡ errors.CertError cause
@@ -152,11 +152,11 @@ module _ (judge : Judge) (policy : Policy) (f : SignedDataElements) where
   unnamed g e first (inl (inr (met, inr none))) = absurd none.1
   unnamed g e first (inr memory) = inr memory
 
-  pub undated : (place : ℕ) (c : CertificateElements) (cause : CertError) → HasSigner f place c → LacksDate (checks_of policy) cause → RefusesBy (signer_rules judge policy f) (of_certificates cause)
+  pub undated : (place : ℕ) (c : CertificateElements) (cause : CertError) → HasSigner f place c → LacksDate (policy_checks policy) cause → RefusesBy (signer_rules judge policy f) (of_certificates cause)
   undated place c cause s lacks =
       inl (broken_behind (named_rules f) (IsUndated policy ∷ standing_rules judge policy f) (of_certificates cause) (named_met f s.0 place c s.1 s.2) (inl (cause, lacks, undated_told policy cause lacks)))
 
-  pub not_standing : (place : ℕ) (c : CertificateElements) (e : AuthenticodeError) → HasSigner f place c → IsDated (checks_of policy) → RefusesBy (standing_rules judge policy f) e → RefusesBy (signer_rules judge policy f) e
+  pub not_standing : (place : ℕ) (c : CertificateElements) (e : AuthenticodeError) → HasSigner f place c → IsDated (policy_checks policy) → RefusesBy (standing_rules judge policy f) e → RefusesBy (signer_rules judge policy f) e
   not_standing place c e s dated (inl broken) =
       inl (broken_behind (named_rules f) (IsUndated policy ∷ standing_rules judge policy f) e (named_met f s.0 place c s.1 s.2) (inr (dated_met policy dated, broken)))
   not_standing place c e s dated (inr memory) = inr memory
@@ -301,14 +301,14 @@ module _ (judge : Judge) (policy : Policy) (f : SignedDataElements) where
     excused_stands path excuses.Bag expired excused empty = (expired, excused, empty)
     excused_stands path excuses.Token expired excused empty = (expired, excused, empty)
 
-    pub vouched_or_not : IsDated (checks_of policy) → (r : Result Accepted AuthenticodeError)
+    pub vouched_or_not : IsDated (policy_checks policy) → (r : Result Accepted AuthenticodeError)
         → MatchResult r (λ a. (a.signer ≡ Some place) × IsStanding judge policy f bag signer a.path a.excuse) (RefusesBy (standing_rules judge policy f)) → MatchResult r (IsSignerVouched judge policy f) (RefusesBy (signer_rules judge policy f))
     vouched_or_not dated (Ok a) h = record { bag = bag; place = place; signer = signer; is = is; told = h.0; dated = dated; stands = h.1 }
     vouched_or_not dated (Err e) h = not_standing place signer.elements e (bag, is.is_bag, is.is_signer) dated h
 
 -- what is kept of the certificate of the signer
 pub kept_signer : (f : SignedDataElements) (place : ℕ) (c : CertificateElements) (signer : KeptCertificate) (s : HasSigner f place c) → signer.elements ≡ c → IsKeptSigner f s.0 place signer
-kept_signer f place c signer s same = record { is_bag = s.1; is_signer = subst (λ (x : CertificateElements). IsSignerOf f s.0 place x) (sym same) s.2 }
+kept_signer f place c signer s same = record { is_bag = s.1; is_signer = subst (λ (x : CertificateElements). IsSignerCertificate f s.0 place x) (sym same) s.2 }
 
 -- ---- whether expiry is told
 

@@ -15,8 +15,7 @@ use Rattle.cms_types.specs.declared.issuer_and_serial.IssuerAndSerialNumber.{Iss
 use Rattle.cms_types.specs.declared.signer_identifier.SignerIdentifier.{SignerIdentifier}
 use Rattle.cms_types.specs.declared.signer_identifier.SignerIdentifier.TheVariants as named
 use Rattle.cms_types.specs.declared.signer_view.SignerView.{SignerView}
-use Rattle.authenticode_core.specs.BagSigner.{IsNamed}
-use Rattle.authenticode_core.specs.CertificateBag.{members_of}
+use Rattle.authenticode_core.specs.BagSigner.{IsNamedByFirst}
 use Rattle.authenticode_core.specs.Places.{HasNoPlace, IsLeastPlace}
 use Rattle.authenticode_core.specs.Wanted.{IsNamedBy}
 use Rattle.authenticode_core.specs.declared.bag.BagCertificate.{BagCertificate}
@@ -26,7 +25,7 @@ use Rattle.authenticode_core.specs.declared.bag.BagCertificate.{BagCertificate}
 pub heads : (a b : DerElement) (x y : List DerElement) → a ∷ x ≡ b ∷ y → a ≡ b
 heads a b x y e = cc
 
-first_is : (signers left : List DerElement) (first : DerElement) (c : CertificateElements) → signers ≡ first ∷ left → (n : IsNamed signers c) → first ≡ signer_info n.signer
+first_is : (signers left : List DerElement) (first : DerElement) (c : CertificateElements) → signers ≡ first ∷ left → (n : IsNamedByFirst signers c) → first ≡ signer_info n.signer
 first_is signers left first c e n = heads first (signer_info n.signer) left n.others (sym e ∙ n.first)
 
 -- ---- what it names
@@ -35,13 +34,13 @@ pub same_sid : (f g : SignerElements) → signer_of f ≡ signer_of g → f.sid 
 same_sid f g e = cc
 
 -- what is named, as it lies there
-named_sid : (signers left : List DerElement) (first : DerElement) (view : SignerView) (c : CertificateElements) → signers ≡ first ∷ left → IsSignerView first view → (n : IsNamed signers c)
+named_sid : (signers left : List DerElement) (first : DerElement) (view : SignerView) (c : CertificateElements) → signers ≡ first ∷ left → IsSignerView first view → (n : IsNamedByFirst signers c)
     → (signer_elements_at view).sid ≡ issuer_and_serial_number n.value
 named_sid signers left first view c e is n =
     same_sid (signer_elements_at view) (signer_elements n.signer) (sym is.is ∙ first_is signers left first c e n) ∙ ap signer_identifier n.sid
 
 pub no_name : (signers left : List DerElement) (first : DerElement) (view : SignerView) → signers ≡ first ∷ left → IsSignerView first view
-    → ((value : IssuerAndSerialNumber) → (signer_elements_at view).sid ≡ issuer_and_serial_number value → ⊥) → (c : CertificateElements) → IsNamed signers c → ⊥
+    → ((value : IssuerAndSerialNumber) → (signer_elements_at view).sid ≡ issuer_and_serial_number value → ⊥) → (c : CertificateElements) → IsNamedByFirst signers c → ⊥
 no_name signers left first view e is none c n = none n.value (named_sid signers left first view c e is n)
 
 pub two : (a b x y : DerElement) → sequence (a ∷ x ∷ []) ≡ sequence (b ∷ y ∷ []) → (a ≡ b) × (x ≡ y)
@@ -51,7 +50,7 @@ pub contents : (s t : List ℕ) → Primitive 0x02 s ≡ Primitive 0x02 t → s 
 contents s t e = cc
 
 is_named : (signers left : List DerElement) (first : DerElement) (view : SignerView) (issuer serial : List ℕ) (c : CertificateElements) → signers ≡ first ∷ left → (is : IsSignerView first view)
-    → LendsNamed (signer_elements_at view).sid issuer serial → IsNamedBy issuer serial c → (sid : SignerIdentifier) → is.value.sid ≡ sid → IsNamed signers c
+    → LendsNamed (signer_elements_at view).sid issuer serial → IsNamedBy issuer serial c → (sid : SignerIdentifier) → is.value.sid ≡ sid → IsNamedByFirst signers c
 is_named signers left first view issuer serial c e is lent by (named.IssuerAndSerialNumber v) sid =
     let lies : (signer_elements_at view).sid ≡ issuer_and_serial_number v = same_sid (signer_elements_at view) (signer_elements is.value) (sym is.is ∙ is.spelled) ∙ ap signer_identifier sid in
     let parts = two (name v.issuer) lent.name (Primitive 0x02 (integer_contents v.serial_number)) (Primitive 0x02 serial) (sym lies ∙ lent.is) in
@@ -70,20 +69,20 @@ is_named signers left first view issuer serial c e is lent by (named.SubjectKeyI
     absurd cc
 
 is_named_by : (signers left : List DerElement) (first : DerElement) (view : SignerView) (issuer serial : List ℕ) (c : CertificateElements) → signers ≡ first ∷ left → IsSignerView first view
-    → LendsNamed (signer_elements_at view).sid issuer serial → IsNamed signers c → IsNamedBy issuer serial c
+    → LendsNamed (signer_elements_at view).sid issuer serial → IsNamedByFirst signers c → IsNamedBy issuer serial c
 is_named_by signers left first view issuer serial c e is lent n =
     let lies = named_sid signers left first view c e is n in
     let parts = two (name n.value.issuer) lent.name (Primitive 0x02 (integer_contents n.value.serial_number)) (Primitive 0x02 serial) (sym lies ∙ lent.is) in
     (sym n.issuer ∙ ap encoding parts.0 ∙ sym lent.octets, sym n.serial_number ∙ contents (integer_contents n.value.serial_number) serial parts.1)
 
 pub names_it : (signers left : List DerElement) (first : DerElement) (view : SignerView) (issuer serial : List ℕ) → signers ≡ first ∷ left → IsSignerView first view
-    → LendsNamed (signer_elements_at view).sid issuer serial → (c : CertificateElements) → IsNamedBy issuer serial c ↔ IsNamed signers c
+    → LendsNamed (signer_elements_at view).sid issuer serial → (c : CertificateElements) → IsNamedBy issuer serial c ↔ IsNamedByFirst signers c
 names_it signers left first view issuer serial e is lent c =
     (λ by. is_named signers left first view issuer serial c e is lent by is.value.sid refl, λ n. is_named_by signers left first view issuer serial c e is lent n)
 
 pub named_or_none : {K : Type 0} (r : Option K) (issuer serial : K → List ℕ) (signers left : List DerElement) (first : DerElement) (view : SignerView) → signers ≡ first ∷ left → IsSignerView first view
     → MatchOption r ((value : IssuerAndSerialNumber) → (signer_elements_at view).sid ≡ issuer_and_serial_number value → ⊥) (λ k. LendsNamed (signer_elements_at view).sid (issuer k) (serial k))
-    → MatchOption r ((c : CertificateElements) → IsNamed signers c → ⊥) (λ k. (c : CertificateElements) → IsNamedBy (issuer k) (serial k) c ↔ IsNamed signers c)
+    → MatchOption r ((c : CertificateElements) → IsNamedByFirst signers c → ⊥) (λ k. (c : CertificateElements) → IsNamedBy (issuer k) (serial k) c ↔ IsNamedByFirst signers c)
 named_or_none None issuer serial signers left first view e is none = no_name signers left first view e is none
 named_or_none (Some k) issuer serial signers left first view e is lent = names_it signers left first view (issuer k) (serial k) e is lent
 

@@ -12,7 +12,7 @@ use Rattle.authenticode_core.specs.Names.{IsSameName}
 use Rattle.authenticode_core.specs.Places.{IsLeastPlace, HasNoPlace}
 
 -- The first of the signers names the certificate by its issuer and its serial number.
-pub record IsNamed (signers : List DerElement) (c : CertificateElements) : Type 0 where
+pub record IsNamedByFirst (signers : List DerElement) (c : CertificateElements) : Type 0 where
   pub signer : SignerInfo
   pub others : List DerElement
   pub first : signers ≡ signer_info signer ∷ others
@@ -23,8 +23,8 @@ pub record IsNamed (signers : List DerElement) (c : CertificateElements) : Type 
 
 -- the place is the least one whose certificate the first of the signers names
 abbrev pub IsSignerPlace : List DerElement → List CertificateElements → ℕ → CertificateElements → Type 0
-IsSignerPlace signers bag place c = IsLeastPlace bag (IsNamed signers) 0 place c
+IsSignerPlace signers bag place c = IsLeastPlace bag (IsNamedByFirst signers) 0 place c
 
 -- There is no such place: there is no signer, it names the identifier of a key, or no certificate fits.
 abbrev pub HasNoSigner : List DerElement → List CertificateElements → Type 0
-HasNoSigner signers bag = HasNoPlace bag (IsNamed signers) 0
+HasNoSigner signers bag = HasNoPlace bag (IsNamedByFirst signers) 0

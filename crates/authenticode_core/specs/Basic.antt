@@ -37,7 +37,7 @@ pub record HasSignedData (octets : List ℕ) (f : SignedDataElements) : Type 0 w
 
 -- Signed data vouches for the digest of a file: it has the form, the digest is the one that is asked for, and the signature of its one signer, whose certificate
 -- stands at this place, is good.
-pub record IsVouchedFor (judge : Judge) (f : SignedDataElements) (file_hash : List ℕ) (place : ℕ) : Type 0 where
+pub record VouchesFor (judge : Judge) (f : SignedDataElements) (file_hash : List ℕ) (place : ℕ) : Type 0 where
   pub algorithm : DerElement
   pub d : IndirectData
   pub g : SignerElements

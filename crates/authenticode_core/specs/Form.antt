@@ -27,7 +27,7 @@ pub record LiesIn (octets : List ℕ) (element : DerElement) (view : SignedView)
   pub is : IsSignedView element view
 
 -- The content is indirect data, whose algorithm and digest lie there.
-pub record IsContentOf (f : SignedDataElements) (d : IndirectData) (content : Content) : Type 0 where
+pub record IsIndirectContent (f : SignedDataElements) (d : IndirectData) (content : Content) : Type 0 where
   pub has : HasIndirectData f d
   pub is : content.elem.is.0 ≡ sequence (indirect_kids d)
   pub algorithm : content.algorithm.is.0 ≡ d.algorithm
@@ -38,4 +38,4 @@ pub record IsFormOf (f : SignedDataElements) (form : Form) : Type 0 where
   pub algorithm : DerElement
   pub d : IndirectData
   pub has : HasForm f algorithm d (signer_elements_at form.signer)
-  pub content : IsContentOf f d form.content
+  pub content : IsIndirectContent f d form.content

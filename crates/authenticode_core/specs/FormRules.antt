@@ -5,7 +5,7 @@ use Rattle.cms_types.specs.SignedDataElements.{SignedDataElements}
 use Rattle.cms_types.specs.SignerElements.{SignerElements}
 use Rattle.der_core.specs.DerElement.{DerElement}
 use Rattle.key_core.specs.Rules.{Rule}
-use Rattle.authenticode_core.specs.SignedFields.{HasVersion, HasContent, HasIndirectData, IndirectData, IsFirstAlgorithm, IsFirstSigner, IsSameAlgorithm, digest_algorithms_of, signers_of}
+use Rattle.authenticode_core.specs.SignedFields.{HasVersion, HasSignedContent, HasIndirectData, IndirectData, IsFirstAlgorithm, IsFirstSigner, IsSameAlgorithm, digest_algorithms_of, signers_of}
 use Rattle.authenticode_core.specs.declared.error.AuthenticodeError.{AuthenticodeError}
 use Rattle.authenticode_core.specs.declared.error.AuthenticodeError.TheVariants as errors
 
@@ -36,12 +36,12 @@ HasOtherAlgorithms f e = (length (digest_algorithms_of f) ≢ 1) × (e ≡ error
 
 -- the content is left out
 abbrev pub LacksContent : SignedDataElements → Rule AuthenticodeError
-LacksContent f e = (content_type : List ℕ) × HasContent f content_type None × (e ≡ errors.NoEncapsulatedContentInfo)
+LacksContent f e = (content_type : List ℕ) × HasSignedContent f content_type None × (e ≡ errors.NoEncapsulatedContentInfo)
 
 -- the content is of another type
 abbrev pub HasOtherContent : SignedDataElements → Rule AuthenticodeError
 HasOtherContent f e =
-    (content_type : List ℕ) × (content : DerElement) × HasContent f content_type (Some content) × (content_type ≢ SPC_INDIRECT_DATA.now)
+    (content_type : List ℕ) × (content : DerElement) × HasSignedContent f content_type (Some content) × (content_type ≢ SPC_INDIRECT_DATA.now)
     × (e ≡ errors.NoSpcIndirectDataContent)
 
 -- the digest of the content is by another algorithm than the first one

@@ -11,8 +11,8 @@ use Rattle.authenticode_core.specs.declared.naming.Named.{Named}
 use Rattle.authenticode_core.specs.declared.wanted.Wanted.{Wanted}
 
 -- the certificate is the first one of the bag that is named so
-abbrev pub IsFirstNamed : List CertificateElements → List ℕ → List ℕ → CertificateElements → Type 0
-IsFirstNamed bag issuer serial_number c = (place : ℕ) × IsLeastPlace bag (IsNamedBy issuer serial_number) 0 place c
+abbrev pub IsFirstOfName : List CertificateElements → List ℕ → List ℕ → CertificateElements → Type 0
+IsFirstOfName bag issuer serial_number c = (place : ℕ) × IsLeastPlace bag (IsNamedBy issuer serial_number) 0 place c
 
 -- The certificate stands at the least place of one that is named so, and what its issuer walk asks for is known.
 pub record IsNamedAt (bag : List CertificateElements) (issuer serial_number : List ℕ) (named : Named) : Type 0 where

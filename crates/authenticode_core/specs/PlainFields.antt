@@ -5,7 +5,7 @@ use Rattle.cms_types.specs.SignedDataElements.{SignedDataElements}
 use Rattle.cms_types.specs.SignerElements.{SignerElements}
 use Rattle.der_core.specs.Elements.{set, octet_string}
 use Rattle.authenticode_core.specs.Asn1.{context, integer}
-use Rattle.authenticode_core.specs.PlainForm.{CertificateParts, PlainParts, SignerParts, algorithm, attributes, certificate, content_info, image_data, issuer_and_serial_number, name, public_key_info, signed_message, signer_info, validity}
+use Rattle.authenticode_core.specs.PlainForm.{CertificateParts, PlainParts, SignerParts, algorithm, attributes, certificate, content_info, image_data, issuer_and_serial_number, name, public_key_info, plain_message, signer_info, validity}
 use Rattle.x509_types.specs.CertificateElements.{CertificateElements}
 use Rattle.key_core.specs.Verifying.{Judge}
 use Rattle.sig_core.specs.declared.algorithm.SigAlg.TheVariants.{RsaSha256}
@@ -73,4 +73,4 @@ plain_certificate c = record {
 -- under the octets of the key.
 pub record IsPlainlyAccepted (judge : Judge) (p : PlainParts) (file_hash : List ℕ) : Type 0 where
   pub digest : p.file_hash ≡ file_hash
-  pub accepted : judge RsaSha256 p.certificate.tbs.key (signed_message p) p.signer.signature ≡ Accept
+  pub accepted : judge RsaSha256 p.certificate.tbs.key (plain_message p) p.signer.signature ≡ Accept

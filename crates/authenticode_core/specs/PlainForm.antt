@@ -176,16 +176,16 @@ pub record IsSomeInteger (element : DerElement) : Type 0 where
   pub written : element ≡ integer contents
 
 -- an RSAPublicKey, with its modulus and exponent (RFC 8017 A.1.1)
-pub record IsRsaPublicKey (element : DerElement) : Type 0 where
+pub record IsPlainPublicKey (element : DerElement) : Type 0 where
   pub modulus : DerElement
   pub exponent : DerElement
   pub integers : IsSomeInteger modulus × IsSomeInteger exponent
   pub written : element ≡ sequence (modulus ∷ exponent ∷ [])
 
 -- the octets of an RSAPublicKey, which is an input of its own
-pub record IsRsaKey (key : List ℕ) : Type 0 where
+pub record IsPlainKey (key : List ℕ) : Type 0 where
   pub element : DerElement
-  pub public_key : IsRsaPublicKey element
+  pub public_key : IsPlainPublicKey element
   pub der : IsDer element
   pub encoded : key ≡ encoding element
 
@@ -200,7 +200,7 @@ pub record IsPlain (p : PlainParts) : Type 0 where
   pub some_serial : p.certificate.tbs.serial ≢ []
   pub not_before : IsNewYear p.certificate.tbs.not_before
   pub not_after : IsNewYear p.certificate.tbs.not_after
-  pub key : IsRsaKey p.certificate.tbs.key
+  pub key : IsPlainKey p.certificate.tbs.key
   pub bound : p.signer.message_digest ≡ sha256 (bound_contents p.file_hash)
 
 -- The octets begin with a WIN_CERTIFICATE whose certificate is signed data of the plain form, with
@@ -212,5 +212,5 @@ pub record IsPlainForm (octets : List ℕ) (p : PlainParts) : Type 0 where
   pub plain : IsPlain p
 
 -- What the signature is over: the signed attributes as a SET (RFC 2315 9.3).
-abbrev pub signed_message : PlainParts → List ℕ
-signed_message p = encoding (set (attributes p.signer.message_digest))
+abbrev pub plain_message : PlainParts → List ℕ
+plain_message p = encoding (set (attributes p.signer.message_digest))

@@ -14,5 +14,5 @@ abbrev pub window_of : Policy → Window
 window_of policy = record { date = policy.date; not_before = policy.not_before; not_after = policy.not_after }
 
 -- what is asked of the certificate of a signer over those of its issuers: no root is
-abbrev pub checks_of : Policy → ChainChecks
-checks_of policy = record { window = window_of policy; chain = policy.chain; root = false }
+abbrev pub policy_checks : Policy → ChainChecks
+policy_checks policy = record { window = window_of policy; chain = policy.chain; root = false }

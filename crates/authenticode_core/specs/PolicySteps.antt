@@ -12,7 +12,7 @@ use Rattle.x509_core.specs.declared.error.CertError.{CertError}
 use Rattle.x509_core.specs.declared.error.CertError.TheVariants as cert_errors
 use Rattle.x509_core.specs.declared.window.Window.{Window}
 use Rattle.x509_types.specs.CertificateElements.{CertificateElements}
-use Rattle.authenticode_core.specs.Basic.{IsVouchedFor}
+use Rattle.authenticode_core.specs.Basic.{VouchesFor}
 use Rattle.authenticode_core.specs.IssuerWalk.{IsIssuerPath}
 use Rattle.authenticode_core.specs.LinkedPath.{IsUnlinkedAt}
 use Rattle.authenticode_core.specs.SignerRules.{IsBadlyStamped, IsUnbegun, IsUnexcused, IsUnvouched}
@@ -21,7 +21,7 @@ use Rattle.authenticode_core.specs.declared.policy.Policy.{Policy}
 
 -- a digest of the file is given, and the signed data vouches for it with the signer's certificate at this place
 abbrev pub IsVouchedAt : Judge → Option (List ℕ) → SignedDataElements → ℕ → Type 0
-IsVouchedAt judge file_hash f place = (hash : List ℕ) × (file_hash ≡ Some hash) × IsVouchedFor judge f hash place
+IsVouchedAt judge file_hash f place = (hash : List ℕ) × (file_hash ≡ Some hash) × VouchesFor judge f hash place
 
 -- where basic validation is asked for, its place is told; else none is
 abbrev pub IsPlaceAsked : Bool → Judge → Option (List ℕ) → SignedDataElements → Option ℕ → Type 0

@@ -28,8 +28,8 @@ abbrev pub IsFirstAlgorithm : SignedDataElements → DerElement → Type 0
 IsFirstAlgorithm f algorithm = (others : List DerElement) × (digest_algorithms_of f ≡ algorithm ∷ others)
 
 -- the content, where it isn't left out, with the contents octets of the identifier of its type
-abbrev pub HasContent : SignedDataElements → List ℕ → Option DerElement → Type 0
-HasContent f content_type content = f.content_info ≡ content_info_of (Primitive 0x06 content_type) content
+abbrev pub HasSignedContent : SignedDataElements → List ℕ → Option DerElement → Type 0
+HasSignedContent f content_type content = f.content_info ≡ content_info_of (Primitive 0x06 content_type) content
 
 -- What varies in an SpcIndirectDataContent: what kind of file it is, the algorithm of the digest, and the digest of the file.
 pub record IndirectData : Type 0 where
@@ -43,7 +43,7 @@ indirect_kids d = d.image ∷ sequence (d.algorithm ∷ octet_string d.digest �
 
 -- the content is indirect data
 abbrev pub HasIndirectData : SignedDataElements → IndirectData → Type 0
-HasIndirectData f d = HasContent f SPC_INDIRECT_DATA.now (Some (sequence (indirect_kids d)))
+HasIndirectData f d = HasSignedContent f SPC_INDIRECT_DATA.now (Some (sequence (indirect_kids d)))
 
 -- The first of the signers, whose element spells a value.
 pub record IsFirstSigner (f : SignedDataElements) (g : SignerElements) : Type 0 where

@@ -15,9 +15,9 @@ use Rattle.x509_types.specs.CertificateElements.{CertificateElements}
 use Rattle.authenticode_core.specs.Excuses.{HasBadStamp, HasNoExcuse, IsExcused}
 use Rattle.authenticode_core.specs.IssuerWalk.{IsIssuerPath}
 use Rattle.authenticode_core.specs.LinkedPath.{AreLinkedAt, IsUnlinkedAt}
-use Rattle.authenticode_core.specs.Policy.{checks_of, window_of}
+use Rattle.authenticode_core.specs.Policy.{policy_checks, window_of}
 use Rattle.authenticode_core.specs.SignedFields.{IsFirstSigner, signers_of}
-use Rattle.authenticode_core.specs.SigningRules.{HasNoCertificate, IsBagOf, IsNamedByKey, IsSignerOf}
+use Rattle.authenticode_core.specs.SigningRules.{HasNoCertificate, IsBagOf, IsNamedByKey, IsSignerCertificate}
 use Rattle.authenticode_core.specs.declared.accepted.Accepted.{Accepted}
 use Rattle.authenticode_core.specs.declared.accepted.Excuse.{Excuse}
 use Rattle.authenticode_core.specs.declared.accepted.Excuse.TheVariants as excuses
@@ -28,7 +28,7 @@ use Rattle.authenticode_core.specs.declared.policy.Policy.{Policy}
 -- The certificate of the first signer, as it is kept, stands at this place of the bag.
 pub record IsKeptSigner (f : SignedDataElements) (bag : List CertificateElements) (place : ℕ) (signer : KeptCertificate) : Type 0 where
   pub is_bag : IsBagOf f bag
-  pub is_signer : IsSignerOf f bag place signer.elements
+  pub is_signer : IsSignerCertificate f bag place signer.elements
 
 -- The certificates of the issuer path are a chain above that of the signer.
 pub record IsVouchedPath (judge : Judge) (w : Window) (bag : List CertificateElements) (signer : KeptCertificate) (path : List ℕ) : Type 0 where
@@ -53,7 +53,7 @@ pub record IsSignerVouched (judge : Judge) (policy : Policy) (f : SignedDataElem
   pub signer : KeptCertificate
   pub is : IsKeptSigner f bag place signer
   pub told : a.signer ≡ Some place
-  pub dated : IsDated (checks_of policy)
+  pub dated : IsDated (policy_checks policy)
   pub stands : IsStanding judge policy f bag signer a.path a.excuse
 
 -- ---- rules, by what breaks them
@@ -72,7 +72,7 @@ HasUnknownName f e = (g : SignerElements) × IsFirstSigner f g × HasNoCertifica
 
 -- dates are asked for, and none is given
 abbrev pub IsUndated : Policy → Rule AuthenticodeError
-IsUndated policy e = (cause : CertError) × LacksDate (checks_of policy) cause × (e ≡ errors.CertError cause)
+IsUndated policy e = (cause : CertError) × LacksDate (policy_checks policy) cause × (e ≡ errors.CertError cause)
 
 -- The certificate of the signer isn't valid, and hasn't expired.
 pub record IsUnbegun (policy : Policy) (f : SignedDataElements) (e : AuthenticodeError) : Type 0 where

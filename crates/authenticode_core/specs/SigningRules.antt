@@ -39,8 +39,8 @@ abbrev pub IsBagOf : SignedDataElements → List CertificateElements → Type 0
 IsBagOf f bag = IsBag (members_of f.certificates) bag
 
 -- the certificate of the first signer, and its place
-abbrev pub IsSignerOf : SignedDataElements → List CertificateElements → ℕ → CertificateElements → Type 0
-IsSignerOf f bag place c = IsSignerPlace (signers_of f) bag place c
+abbrev pub IsSignerCertificate : SignedDataElements → List CertificateElements → ℕ → CertificateElements → Type 0
+IsSignerCertificate f bag place c = IsSignerPlace (signers_of f) bag place c
 
 -- The algorithm is one of digests, by its identifier alone (RFC 8017 appendix B.1).
 pub record NamesDigest (algorithm : DerElement) (hash : HashAlgorithm) : Type 0 where
@@ -81,7 +81,7 @@ pub record IsSigned (judge : Judge) (f : SignedDataElements) (d : IndirectData) 
   pub bag : List CertificateElements
   pub is_bag : IsBagOf f bag
   pub certificate : CertificateElements
-  pub is_signer : IsSignerOf f bag place certificate
+  pub is_signer : IsSignerCertificate f bag place certificate
   pub hash : HashAlgorithm
   pub named : NamesDigest g.digest_algorithm hash
   pub signed : HasSignatureBy judge g hash certificate
@@ -125,7 +125,7 @@ pub record IsBadlySigned (judge : Judge) (f : SignedDataElements) (g : SignerEle
   pub is_bag : IsBagOf f bag
   pub place : ℕ
   pub certificate : CertificateElements
-  pub is_signer : IsSignerOf f bag place certificate
+  pub is_signer : IsSignerCertificate f bag place certificate
   pub hash : HashAlgorithm
   pub named : NamesDigest g.digest_algorithm hash
   pub refused : IsRefusedUnder judge g hash certificate e
@@ -153,7 +153,7 @@ pub record IsNotForCodeSigning (f : SignedDataElements) (e : AuthenticodeError) 
   pub is_bag : IsBagOf f bag
   pub place : ℕ
   pub certificate : CertificateElements
-  pub is_signer : IsSignerOf f bag place certificate
+  pub is_signer : IsSignerCertificate f bag place certificate
   pub asks : AsksForPurposes bag certificate
   pub unnamed : NamesPurpose certificate KP_CODE_SIGNING.now → ⊥
   pub told : e ≡ errors.NoEKUCodeSigning

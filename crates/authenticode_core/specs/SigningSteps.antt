@@ -21,14 +21,14 @@ use Rattle.x509_types.specs.CertificateElements.{CertificateElements}
 use Rattle.x509_types.specs.CertificateView.{view_elements}
 use Rattle.x509_types.specs.Purposes.{NamesPurpose}
 use Rattle.authenticode_core.specs.SignedFields.{HasMessageDigest, IndirectData}
-use Rattle.authenticode_core.specs.SigningRules.{AsksForPurposes, DigestDiffers, HasNoMessageDigest, IsBagOf, IsSignerOf, IsUnsupportedDigest, digested_octets}
+use Rattle.authenticode_core.specs.SigningRules.{AsksForPurposes, DigestDiffers, HasNoMessageDigest, IsBagOf, IsSignerCertificate, IsUnsupportedDigest, digested_octets}
 use Rattle.authenticode_core.specs.declared.error.AuthenticodeError.{AuthenticodeError}
 use Rattle.authenticode_core.specs.declared.error.AuthenticodeError.TheVariants as errors
 use Rattle.authenticode_core.specs.declared.naming.Named.{Named}
 
 -- the certificate of the first signer stands at this place of the bag
 abbrev pub HasSigner : SignedDataElements → ℕ → CertificateElements → Type 0
-HasSigner f place c = (bag : List CertificateElements) × IsBagOf f bag × IsSignerOf f bag place c
+HasSigner f place c = (bag : List CertificateElements) × IsBagOf f bag × IsSignerCertificate f bag place c
 
 -- The certificate of the first signer stands there, and what its issuer walk asks for is known.
 pub record NamesSigner (f : SignedDataElements) (named : Named) : Type 0 where

@@ -4,7 +4,7 @@ use Rattle.cms_types.specs.SignedDataElements.{SignedDataElements}
 use Rattle.key_core.specs.Verifying.{Judge}
 use Rattle.wincert_core.specs.Refusal.{contents_in}
 use Rattle.key_core.specs.Rules.{Rule, IsFirstBroken}
-use Rattle.authenticode_core.specs.Basic.{HasSignedData, IsRefusedPart, IsUnreadSignature, IsVouchedFor}
+use Rattle.authenticode_core.specs.Basic.{HasSignedData, IsRefusedPart, IsUnreadSignature, VouchesFor}
 use Rattle.authenticode_core.specs.FormRules.{form_rules}
 use Rattle.authenticode_core.specs.SignerRules.{IsSignerVouched, signer_rules}
 use Rattle.authenticode_core.specs.declared.accepted.Accepted.{Accepted}
@@ -20,7 +20,7 @@ pub record IsBasicallyVouched (judge : Judge) (file_hash : Option (List ℕ)) (f
   pub hash : List ℕ
   pub given : file_hash ≡ Some hash
   pub place : ℕ
-  pub vouches : IsVouchedFor judge f hash place
+  pub vouches : VouchesFor judge f hash place
   pub told : a.signer ≡ Some place
 
 -- The signed data is trusted under the policy, and this is told of it.

@@ -5,7 +5,7 @@ ghost use Rattle.cms_types.specs.Pkcs7Elements.{pkcs7_of};
 ghost use Rattle.cms_types.specs.SignedDataElements.{signed_data_of};
 ghost use Rattle.cms_types.specs.SignedView.{view_elements};
 ghost use Rattle.key_core.specs.Rules.{IsFirstBroken};
-ghost use Rattle.authenticode_core.specs.Basic.{IsRefusedPart, IsVouchedFor};
+ghost use Rattle.authenticode_core.specs.Basic.{IsRefusedPart, VouchesFor};
 ghost use Rattle.authenticode_core.specs.Form.{AreSpelled, IsFormOf};
 ghost use Rattle.authenticode_core.specs.PolicySteps.{IsVouchedAt};
 ghost use Rattle.authenticode_core.specs.SigningRules.{RefusesBy};
@@ -55,7 +55,7 @@ fn expect_vouched<'a, S: Scheme>(
 ) -> Result<usize, AuthenticodeError>
     requires { IsFormOf (view_elements signed_data.now) form.now }
     ensures { MatchResult result
-        (IsVouchedFor (S.judge scheme.now) (view_elements signed_data.now) file_hash.now)
+        (VouchesFor (S.judge scheme.now) (view_elements signed_data.now) file_hash.now)
         (λ e. IsRefusedPart (S.judge scheme.now) (view_elements signed_data.now) file_hash.now e ⊎ (e ≡ AuthenticodeError.Memory)) }
 {
     if !is_same(form.content.digest, file_hash) {

@@ -11,7 +11,7 @@ ghost use Rattle.der_core.specs.Elements.{sequence, octet_string};
 ghost use Rattle.der_core.specs.Lent.{at_option};
 ghost use Rattle.key_core.specs.Rules.{IsFirstBroken};
 ghost use Rattle.authenticode_core.specs.CertificateBag.{members_of};
-ghost use Rattle.authenticode_core.specs.Form.{AreSpelled, IsContentOf, IsFormOf};
+ghost use Rattle.authenticode_core.specs.Form.{AreSpelled, IsIndirectContent, IsFormOf};
 ghost use Rattle.authenticode_core.specs.FormRules.{IsOfOtherVersion, HasOtherSigners, HasOtherAlgorithms, LacksContent, HasOtherContent, form_rules};
 ghost use Rattle.authenticode_core.specs.SignedFields.{HasVersion, IndirectData, IsFirstSigner, digest_algorithms_of, signers_of, indirect_kids};
 
@@ -135,7 +135,7 @@ fn digest_algorithms_in<'a>(elem: Elem<'a>) -> Option<Elem<'a>>
 fn expect_content<'a>(signed_data: &SignedView<'a>) -> Result<Content<'a>, AuthenticodeError>
     requires { AreSpelled (view_elements signed_data.now) }
     ensures { MatchResult result
-        (λ content. (d : IndirectData) × IsContentOf (view_elements signed_data.now) d content)
+        (λ content. (d : IndirectData) × IsIndirectContent (view_elements signed_data.now) d content)
         (IsFirstBroken (LacksContent (view_elements signed_data.now) ∷ HasOtherContent (view_elements signed_data.now) ∷ [])) }
 {
     let Some(elem) = signed_data.content() else {

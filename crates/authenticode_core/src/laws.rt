@@ -4,7 +4,7 @@ ghost use Rattle.std.specs.Prelude.{◌≡◌, ◌↔◌, ℕ, List};
 ghost use Rattle.cms_types.specs.SignedDataElements.{SignedDataElements};
 ghost use Rattle.der_core.specs.DerElement.{DerElement};
 ghost use Rattle.x509_types.specs.CertificateElements.{CertificateElements};
-ghost use Rattle.authenticode_core.specs.Basic.{HasSignedData, IsVouchedFor};
+ghost use Rattle.authenticode_core.specs.Basic.{HasSignedData, VouchesFor};
 ghost use Rattle.authenticode_core.specs.CertificateBag.{IsBag};
 ghost use Rattle.key_core.specs.Verifying.{Judge};
 ghost use Rattle.authenticode_core.specs.IssuerWalk.{IsIssuerWalk, IsIssuerPath};
@@ -45,5 +45,5 @@ pub fn plain_form_is_judged()
     ensures shape { (octets : List ℕ) (p : PlainParts) → IsPlainForm octets p → HasSignedData octets (plain_elements p) }
     ensures form { (octets : List ℕ) (p : PlainParts) → IsPlainForm octets p → HasPlainFields p }
     ensures vouched { (judge : Judge) (octets : List ℕ) (p : PlainParts) (file_hash : List ℕ) (place : ℕ) → IsPlainForm octets p
-        → IsVouchedFor judge (plain_elements p) file_hash place ↔ ((place ≡ 0) × IsPlainlyAccepted judge p file_hash) }
+        → VouchesFor judge (plain_elements p) file_hash place ↔ ((place ≡ 0) × IsPlainlyAccepted judge p file_hash) }
 {}

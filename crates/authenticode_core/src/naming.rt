@@ -7,7 +7,7 @@ ghost use Rattle.der_core.specs.Lent.{at_option};
 ghost use Rattle.x509_types.specs.CertificateElements.{CertificateElements, certificate_of};
 ghost use Rattle.x509_types.specs.CertificateView.{view_elements};
 ghost use Rattle.authenticode_core.specs.CertificateBag.{IsBag, IsMember, members_of};
-ghost use Rattle.authenticode_core.specs.Naming.{IsFirstNamed, IsNamedAt};
+ghost use Rattle.authenticode_core.specs.Naming.{IsFirstOfName, IsNamedAt};
 ghost use Rattle.authenticode_core.specs.Places.{HasNoPlace};
 ghost use Rattle.authenticode_core.specs.SigningRules.{IsBagOf};
 ghost use Rattle.authenticode_core.specs.Wanted.{IsNamedBy};
@@ -70,7 +70,7 @@ fn first_named<'a>(
 ) -> Option<CertView<'a>>
     ensures { (bag : List CertificateElements) → IsBag (members_of (at_option certificates.entry)) bag → MatchOption result
         (HasNoPlace bag (IsNamedBy issuer.now serial_number.now) 0)
-        (λ first. IsFirstNamed bag issuer.now serial_number.now (view_elements first)) }
+        (λ first. IsFirstOfName bag issuer.now serial_number.now (view_elements first)) }
 {
     let members = Kids::within(certificates?)?;
     first_among(members, issuer, serial_number)
@@ -84,7 +84,7 @@ fn first_among<'a>(
 ) -> Option<CertView<'a>>
     ensures { (bag : List CertificateElements) → IsBag members.entry.are.0 bag → MatchOption result
         (HasNoPlace bag (IsNamedBy issuer.now serial_number.now) 0)
-        (λ first. IsFirstNamed bag issuer.now serial_number.now (view_elements first)) }
+        (λ first. IsFirstOfName bag issuer.now serial_number.now (view_elements first)) }
 {
     while let Some(member) = members.next() {
         if let Some(certificate) = named_at(member, issuer, serial_number) {

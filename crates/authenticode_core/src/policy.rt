@@ -1,7 +1,7 @@
 //! What is asked of a signature file.
 
 ghost use Rattle.std.specs.Prelude.{◌≡◌};
-ghost use Rattle.authenticode_core.specs.Policy.{checks_of, first_policy};
+ghost use Rattle.authenticode_core.specs.Policy.{policy_checks, first_policy};
 
 use der_core::Octets;
 use std::alloc::Global;
@@ -44,7 +44,7 @@ impl Policy {
 
     /// What is asked of the certificate of a signer over those of its issuers. No root is.
     pub(crate) fn checks(&self) -> ChainChecks
-        ensures { result ≡ checks_of self.now }
+        ensures { result ≡ policy_checks self.now }
     {
         ChainChecks {
             window: Window {

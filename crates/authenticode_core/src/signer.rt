@@ -6,7 +6,7 @@ ghost use Rattle.cms_types.specs.SignedView.{view_elements as data_elements};
 ghost use Rattle.x509_types.specs.CertificateElements.{CertificateElements};
 ghost use Rattle.x509_types.specs.CertificateView.{view_elements};
 ghost use Rattle.authenticode_core.specs.BagCursor.{StandsIn};
-ghost use Rattle.authenticode_core.specs.BagSigner.{IsNamed, IsSignerPlace, HasNoSigner};
+ghost use Rattle.authenticode_core.specs.BagSigner.{IsNamedByFirst, IsSignerPlace, HasNoSigner};
 ghost use Rattle.authenticode_core.specs.CertificateBag.{IsBag, members_of};
 ghost use Rattle.authenticode_core.specs.LeftMembers.{left_members};
 ghost use Rattle.authenticode_core.specs.WalkCursor.{LooksFrom};
@@ -52,8 +52,8 @@ pub fn issuer_walk_of<'a>(signed_data: &SignedView<'a>, signer: &CertView<'a>) -
 /// signers names.
 fn named_by_first<'a>(signers: Elem<'a>) -> Option<(&'a [u8], &'a [u8])>
     ensures { MatchOption result
-        ((c : CertificateElements) → IsNamed (members_of (Some signers.entry.is.0)) c → ⊥)
-        (λ named. (c : CertificateElements) → IsNamedBy named.0.now named.1.now c ↔ IsNamed (members_of (Some signers.entry.is.0)) c) }
+        ((c : CertificateElements) → IsNamedByFirst (members_of (Some signers.entry.is.0)) c → ⊥)
+        (λ named. (c : CertificateElements) → IsNamedBy named.0.now named.1.now c ↔ IsNamedByFirst (members_of (Some signers.entry.is.0)) c) }
 {
     let mut kids = Kids::within(signers)?;
     let first = kids.next()?;

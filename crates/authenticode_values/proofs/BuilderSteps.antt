@@ -27,7 +27,7 @@ use Rattle.authenticode_core.specs.declared.error.AuthenticodeError.TheVariants 
 use Rattle.making_core.specs.Carried.{AreWithoutRoots, elements_of}
 use Rattle.making_core.specs.MadeSignature.{attributes_element, signature_made}
 use Rattle.making_core.specs.SignedProgram.{IsSignature}
-use Rattle.authenticode_values.specs.Building.{Given, HasGiven, IsBuilt, IsBuiltOf, IsNamedFirst, IsSigner, algorithm_by, attributes_by, attributes_in, building_steps, content_by, element_step, given_step, given_steps, key_step, message_by, message_in, later_steps, named_step, parts_by, purpose_step, steps_of, supported_step}
+use Rattle.authenticode_values.specs.Building.{Given, HasGiven, IsBuiltSignature, IsBuiltOf, IsNamedFirst, IsSigner, algorithm_by, attributes_by, attributes_in, building_steps, content_by, element_step, given_step, given_steps, key_step, message_by, message_in, later_steps, named_step, parts_by, purpose_step, steps_of, supported_step}
 use Rattle.authenticode_values.specs.declared.builder.AuthenticodeSignatureBuilder.{AuthenticodeSignatureBuilder}
 use Rattle.authenticode_values.specs.declared.builder_error.AuthenticodeSignatureBuilderError.{AuthenticodeSignatureBuilderError}
 use Rattle.authenticode_values.specs.declared.builder_error.AuthenticodeSignatureBuilderError.TheVariants as errors
@@ -183,7 +183,7 @@ all_of [] b x y = y
 all_of (step ∷ a) b x y = (x.0, all_of a b x.1 y)
 
 pub built_as : (judge : Judge) (signs : Signs) (pair : Pair) (b : AuthenticodeSignatureBuilder) (g : Given) (built : SignedDataElements) → HasGiven b g → AreTaken (given_steps b) → IsBuiltOf (arithmetic judge signs pair) b g built → AreTaken (steps_of signs b g)
-    → IsBuilt (arithmetic judge signs pair) b built
+    → IsBuiltSignature (arithmetic judge signs pair) b built
 built_as judge signs pair b g built has taken is later = record {
   given = g;
   are_given = has;

@@ -10,7 +10,7 @@ use Rattle.authenticode_core.specs.IssuerWalk.{IsWalkFrom}
 use Rattle.authenticode_core.specs.Places.{StandsAt}
 use Rattle.authenticode_core.specs.SigningRules.{AsksForPurposes, IsForCodeSigning}
 use Rattle.authenticode_core.proofs.WalkSteps.{one_walk}
-use Rattle.making_core.specs.Carried.{AreCarried, AreWithoutRoots, IsRoot}
+use Rattle.making_core.specs.Carried.{AreCarried, AreWithoutRoots, IsRootCertificate}
 use Rattle.authenticode_values.proofs.Walks.{begun, further, passed}
 
 -- A walk that looks for a subject, by its octets, meets the certificate.
@@ -118,7 +118,7 @@ walk_in (c ∷ bag) subject =
 
 -- ---- among those that are carried
 
-past_root : (c : CertificateElements) (bag : List CertificateElements) (subject : List ℕ) (d : CertificateElements) (test : Bool) → bytes_eq (encoding c.tbs.subject) subject ≡ test → IsRoot c → Meets subject bag d → Meets subject (c ∷ bag) d
+past_root : (c : CertificateElements) (bag : List CertificateElements) (subject : List ℕ) (d : CertificateElements) (test : Bool) → bytes_eq (encoding c.tbs.subject) subject ≡ test → IsRootCertificate c → Meets subject bag d → Meets subject (c ∷ bag) d
 past_root c bag subject d true e root m =
     let has = (bytes_eq-Decides (encoding c.tbs.subject) subject).0 e in
     inl (has, inr (subst (λ (o : List ℕ). Meets o bag d) (sym (ap encoding root.1 ∙ has)) m))

@@ -32,8 +32,8 @@ use Rattle.wincert_core.specs.declared.error.WinCertificateError.{WinCertificate
 use Rattle.wincert_core.proofs.Spelled.{not_refused}
 use Rattle.x501_types.specs.Name.{name}
 use Rattle.x509_types.specs.CertificateElements.{CertificateElements, certificate_of}
-use Rattle.authenticode_core.specs.BagSigner.{IsNamed}
-use Rattle.authenticode_core.specs.Basic.{IsSameUnlessMemory, IsVouchedFor}
+use Rattle.authenticode_core.specs.BagSigner.{IsNamedByFirst}
+use Rattle.authenticode_core.specs.Basic.{IsSameUnlessMemory, VouchesFor}
 use Rattle.authenticode_core.specs.CertificateBag.{IsBag, members_of}
 use Rattle.authenticode_core.specs.FormRules.{HasForm}
 use Rattle.authenticode_core.specs.SignedFields.{HasMessageDigest, IndirectData, IsAttributeOf, signers_of}
@@ -45,7 +45,7 @@ use Rattle.authenticode_core.specs.declared.error.CheckError.TheVariants.{Win, A
 use Rattle.authenticode_core.specs.declared.policy.Policy.{Policy}
 use Rattle.making_core.specs.MadeContent.{attribute_by, content_digest, image_element}
 use Rattle.making_core.specs.MadeSignature.{SignatureParts, signature_made, signer_made}
-use Rattle.making_core.specs.SignedProgram.{Program, name_of, parts_for, program_of}
+use Rattle.making_core.specs.SignedProgram.{Program, issuer_and_serial_of, parts_for, program_of}
 use Rattle.authenticode_values.specs.MadeFile.{AreCertificates, IsBasicAlone, IsMadeFor, IsMadeSignature, IsSpelledWhole, by_the_first, wrapped}
 
 -- ---- the bag is that of the certificates
@@ -68,7 +68,7 @@ two a b x y e = (cc, cc)
 contents : (s t : List ℕ) → Primitive 0x02 s ≡ Primitive 0x02 t → s ≡ t
 contents s t e = cc
 
-named_by : (signers : List DerElement) (s : SignerInfo) (c : CertificateElements) → signers ≡ signer_info s ∷ [] → (sid : SignerIdentifier) → s.sid ≡ sid → signer_identifier sid ≡ name_of c → IsNamed signers c
+named_by : (signers : List DerElement) (s : SignerInfo) (c : CertificateElements) → signers ≡ signer_info s ∷ [] → (sid : SignerIdentifier) → s.sid ≡ sid → signer_identifier sid ≡ issuer_and_serial_of c → IsNamedByFirst signers c
 named_by signers s c one (named.IssuerAndSerialNumber v) sid is =
     let parts = two (name v.issuer) c.tbs.issuer (Primitive 0x02 (integer_contents v.serial_number)) (Primitive 0x02 c.tbs.serial_number) is in
     record { signer = s; others = []; first = one; value = v; sid = sid; issuer = ap encoding parts.0; serial_number = contents (integer_contents v.serial_number) c.tbs.serial_number parts.1 }
@@ -132,7 +132,7 @@ module _ (judge : Judge) (p : Program) (value : Pkcs7Certificate) (m : IsMadeFor
   is_bag : IsBag (members_of fields.certificates) bag
   is_bag = subst (λ (members : List DerElement). IsBag members bag) (sym (listed-row (map certificate_of bag))) (bag_of bag m.are)
 
-  is_named : IsNamed (signers_of fields) m.first
+  is_named : IsNamedByFirst (signers_of fields) m.first
   is_named = named_by (signers_of fields) found.0 m.first alone found.0.sid refl (ap (λ (g : SignerElements). g.sid) found_as)
 
   digested : HasMessageDigest signer (digest_of (hash_of p.hash) (digested_octets indirect))
@@ -165,8 +165,8 @@ module _ (judge : Judge) (p : Program) (value : Pkcs7Certificate) (m : IsMadeFor
     code_signing = m.code_signing;
   }
 
-  pub vouches : IsVouchedFor judge (signed_data_elements value.signed_data) p.file_hash 0
-  vouches = subst (λ (f : SignedDataElements). IsVouchedFor judge f p.file_hash 0) (sym m.fields) (record {
+  pub vouches : VouchesFor judge (signed_data_elements value.signed_data) p.file_hash 0
+  vouches = subst (λ (f : SignedDataElements). VouchesFor judge f p.file_hash 0) (sym m.fields) (record {
     algorithm = digest_algorithm p.hash;
     d = indirect;
     g = signer;
@@ -177,7 +177,7 @@ module _ (judge : Judge) (p : Program) (value : Pkcs7Certificate) (m : IsMadeFor
 
 -- ---- what is asked of it
 
-pub trusted : (judge : Judge) (policy : Policy) (f : SignedDataElements) (file_hash : List ℕ) → IsBasicAlone policy file_hash → IsVouchedFor judge f file_hash 0 → IsTrusted judge policy f by_the_first
+pub trusted : (judge : Judge) (policy : Policy) (f : SignedDataElements) (file_hash : List ℕ) → IsBasicAlone policy file_hash → VouchesFor judge f file_hash 0 → IsTrusted judge policy f by_the_first
 trusted judge policy f file_hash asked vouched = record {
   basic = λ on. record { hash = file_hash; given = asked.given; place = 0; vouches = vouched; told = refl };
   signing = λ on. absurd (cc (on, asked.signing));

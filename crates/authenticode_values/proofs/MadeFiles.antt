@@ -17,7 +17,7 @@ use Rattle.x509_types.specs.CertificateElements.{CertificateElements}
 use Rattle.authenticode_core.specs.CertificateBag.{IsBag}
 use Rattle.authenticode_core.specs.SigningRules.{IsForCodeSigning}
 use Rattle.authenticode_core.specs.declared.error.AuthenticodeError.{AuthenticodeError}
-use Rattle.making_core.specs.Carried.{AreCarried, AreWithoutRoots, IsRoot}
+use Rattle.making_core.specs.Carried.{AreCarried, AreWithoutRoots, IsRootCertificate}
 use Rattle.making_core.specs.MadeSignature.{signature_made}
 use Rattle.making_core.specs.SignedProgram.{Program, parts_for, program_of}
 use Rattle.authenticode_values.specs.MadeFile.{AreCertificates, IsAloneOrNoRoot, IsMadeFor, IsMadeSignature, IsSpelledWhole, NoneIsRoot, wrapped}
@@ -62,7 +62,7 @@ rootless_carried (c ∷ d ∷ bag) carried are = alone_or_none carried (none_is_
 
 -- ---- the first of all is the first that is carried, unless it is a root's
 
-first_carried : (first : CertificateElements) (others carried : List CertificateElements) → AreCarried (first ∷ others) carried → (IsRoot first → others ≡ []) → (more : List CertificateElements) × (carried ≡ first ∷ more)
+first_carried : (first : CertificateElements) (others carried : List CertificateElements) → AreCarried (first ∷ others) carried → (IsRootCertificate first → others ≡ []) → (more : List CertificateElements) × (carried ≡ first ∷ more)
 first_carried first [] carried one root = ([], one)
 first_carried first (d ∷ others) carried (inl (is, are)) root = absurd (cc (root is))
 first_carried first (d ∷ others) carried (inr (other, more, is, are)) root = (more, is)
@@ -70,7 +70,7 @@ first_carried first (d ∷ others) carried (inr (other, more, is, are)) root = (
 -- ---- what is made is as a signature file has it
 
 module _ (judge : Judge) (signs : Signs) (pair : Pair) (f : SignedDataElements) (hash : ShaVariant) (file_hash : List ℕ) (name : Option (List ℕ)) (key : PrivateKey) where
-  pub made_for : (value : Pkcs7Certificate) (m : IsMadeOf (arithmetic judge signs pair) f hash file_hash name key (signed_data_elements value.signed_data)) (info : SubjectPublicKeyInfo) → HasKey m.first info → IsKeyPair pair key info → (IsRoot m.first → m.others ≡ [])
+  pub made_for : (value : Pkcs7Certificate) (m : IsMadeOf (arithmetic judge signs pair) f hash file_hash name key (signed_data_elements value.signed_data)) (info : SubjectPublicKeyInfo) → HasKey m.first info → IsKeyPair pair key info → (IsRootCertificate m.first → m.others ≡ [])
       → IsMadeFor judge (program_of hash file_hash name) value
   made_for value m info has pairs root =
       let p : Program = program_of hash file_hash name in
@@ -94,7 +94,7 @@ module _ (judge : Judge) (signs : Signs) (pair : Pair) (f : SignedDataElements) 
       }
 
   pub made_file : (value : Pkcs7Certificate) (kind : CertificateType) (octets : List ℕ) → IsDer (pkcs7 value) → IsSpelledWhole octets (wrapped kind (encoding (pkcs7 value)))
-      → (m : IsMadeOf (arithmetic judge signs pair) f hash file_hash name key (signed_data_elements value.signed_data)) (info : SubjectPublicKeyInfo) → HasKey m.first info → IsKeyPair pair key info → (IsRoot m.first → m.others ≡ [])
+      → (m : IsMadeOf (arithmetic judge signs pair) f hash file_hash name key (signed_data_elements value.signed_data)) (info : SubjectPublicKeyInfo) → HasKey m.first info → IsKeyPair pair key info → (IsRootCertificate m.first → m.others ≡ [])
       → IsMadeSignature judge octets file_hash
   made_file value kind octets der file m info has pairs root = record {
     kind = kind;
@@ -109,7 +109,7 @@ module _ (judge : Judge) (signs : Signs) (pair : Pair) (f : SignedDataElements) 
 
   -- whatever is answered
   pub made_files : (r : Result AuthenticodeSignature AuthenticodeError)
-      → IfOk r (λ s. (m : IsMadeOf (arithmetic judge signs pair) f hash file_hash name key (fields_of s.0)) → (info : SubjectPublicKeyInfo) → HasKey m.first info → IsKeyPair pair key info → (IsRoot m.first → m.others ≡ [])
+      → IfOk r (λ s. (m : IsMadeOf (arithmetic judge signs pair) f hash file_hash name key (fields_of s.0)) → (info : SubjectPublicKeyInfo) → HasKey m.first info → IsKeyPair pair key info → (IsRootCertificate m.first → m.others ≡ [])
       → (kind : CertificateType) (octets : List ℕ) → IsDer (written s.0) → IsSpelledWhole octets (wrapped kind (encoding (written s.0))) → IsMadeSignature judge octets file_hash)
   made_files (Ok s) = λ m info has pairs root kind octets der file. made_file s.0.signed kind octets der file m info has pairs root
   made_files (Err e) = tt

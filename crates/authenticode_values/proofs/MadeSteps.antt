@@ -32,7 +32,7 @@ use Rattle.authenticode_core.specs.declared.error.AuthenticodeError.TheVariants 
 use Rattle.making_core.specs.Carried.{AreCarried}
 use Rattle.making_core.specs.MadeContent.{attributes_message, content_digest, data_element, opus_element, program_attributes}
 use Rattle.making_core.specs.MadeSignature.{attributes_element, signature_made}
-use Rattle.making_core.specs.SignedProgram.{IsBasicName, IsSignature, IsSignedProgram, Program, algorithm_for, attributes_for, message_for, name_of, program_of}
+use Rattle.making_core.specs.SignedProgram.{IsBasicName, IsSignature, IsSignedProgram, Program, algorithm_for, attributes_for, message_for, issuer_and_serial_of, program_of}
 use Rattle.authenticode_values.specs.Making.{HasNoFirstForSigning, HasFirstForSigning, IsFirstForSigning, IsMadeOf, attributes_written, certificates_step, code_signing_step, hash_step, making_steps, name_step, signature_step, signing_steps, writing_step}
 use Rattle.x509_core.proofs.TakenSteps.{refused_before, refused_behind}
 
@@ -108,7 +108,7 @@ pub signed_program : (judge : Judge) (signs : Signs) (pair : Pair) (bag : List C
       algorithm = digest_algorithm p.hash;
       content_info = content_info_of (Primitive 0x06 SPC_INDIRECT_DATA.now) (Some content);
       certificates = map certificate_of carried;
-      named = name_of first;
+      named = issuer_and_serial_of first;
       attributes = attributes;
       signature = signature;
       unsigned = None;
@@ -123,7 +123,7 @@ signed_program judge signs pair bag first p key made content attributes signatur
     algorithm = digest_algorithm p.hash;
     content_info = content_info_of (Primitive 0x06 SPC_INDIRECT_DATA.now) (Some x);
     certificates = map certificate_of carried;
-    named = name_of first;
+    named = issuer_and_serial_of first;
     attributes = attributes;
     signature = signature;
     unsigned = None;
@@ -131,7 +131,7 @@ signed_program judge signs pair bag first p key made content attributes signatur
     algorithm = digest_algorithm p.hash;
     content_info = content_info_of (Primitive 0x06 SPC_INDIRECT_DATA.now) (Some (data_element p.hash p.file_hash));
     certificates = map certificate_of carried;
-    named = name_of first;
+    named = issuer_and_serial_of first;
     attributes = x;
     signature = signature;
     unsigned = None;
@@ -187,7 +187,7 @@ pub sealed_program : (judge : Judge) (signs : Signs) (pair : Pair) (bag : List C
       algorithm = digest_algorithm p.hash;
       content_info = content_info_of (Primitive 0x06 SPC_INDIRECT_DATA.now) (Some content);
       certificates = map certificate_of carried;
-      named = name_of first;
+      named = issuer_and_serial_of first;
       attributes = attributes;
       signature = signature;
       unsigned = None;

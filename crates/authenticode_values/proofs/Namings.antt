@@ -72,20 +72,20 @@ first_is (x ∷ others) signer sid at is =
 pub first_by_key : (signers : List SignerInfo) (signer : SignerInfo) (octets : List ℕ) → Some signer ≡ slice_get signers 0 → signer.sid ≡ named.SubjectKeyIdentifier octets → (o : List ℕ) × FirstNames signers (named.SubjectKeyIdentifier o)
 first_by_key signers signer octets at is = (octets, first_is signers signer (named.SubjectKeyIdentifier octets) at is)
 
-same_named : (signers : List SignerInfo) (value : IssuerAndSerialNumber) (c : CertificateElements) → FirstNames signers (named.IssuerAndSerialNumber value) → (n : IsNamed (map signer_info signers) c) → n.value ≡ value
+same_named : (signers : List SignerInfo) (value : IssuerAndSerialNumber) (c : CertificateElements) → FirstNames signers (named.IssuerAndSerialNumber value) → (n : IsNamedByFirst (map signer_info signers) c) → n.value ≡ value
 same_named signers value c f n =
     let element : signer_info n.signer ≡ signer_info f.signer = heads (signer_info n.signer) (signer_info f.signer) n.others (map signer_info f.others) (sym n.first ∙ ap (map signer_info) f.first) in
     let signer : n.signer ≡ f.signer = signer_infos.once (signer_info f.signer) n.signer f.signer (sym element) refl in
     values n.value value (sym n.sid ∙ ap (λ (s : SignerInfo). s.sid) signer ∙ f.named)
 
-pub names_it : (signers : List SignerInfo) (value : IssuerAndSerialNumber) (c : CertificateElements) → FirstNames signers (named.IssuerAndSerialNumber value) → IsNamedBy value c ↔ IsNamed (map signer_info signers) c
+pub names_it : (signers : List SignerInfo) (value : IssuerAndSerialNumber) (c : CertificateElements) → FirstNames signers (named.IssuerAndSerialNumber value) → HasIssuerAndSerial value c ↔ IsNamedByFirst (map signer_info signers) c
 names_it signers value c f = (
   λ by. record { signer = f.signer; others = map signer_info f.others; first = ap (map signer_info) f.first; value = value; sid = f.named; issuer = by.0; serial_number = by.1 },
-  λ n. subst (λ (v : IssuerAndSerialNumber). IsNamedBy v c) (same_named signers value c f n) (n.issuer, n.serial_number),
+  λ n. subst (λ (v : IssuerAndSerialNumber). HasIssuerAndSerial v c) (same_named signers value c f n) (n.issuer, n.serial_number),
 )
 
 pub is_signing : (signers : List SignerInfo) (value : IssuerAndSerialNumber) (certificates : List KeptCertificate) (k : KeptCertificate) → FirstNames signers (named.IssuerAndSerialNumber value)
-    → (place : ℕ) → slice_get certificates place ≡ Some k → IsLeastPlace (elements_of certificates) (IsNamedBy value) 0 place k.elements → IsSigningCertificate signers certificates k
+    → (place : ℕ) → slice_get certificates place ≡ Some k → IsLeastPlace (elements_of certificates) (HasIssuerAndSerial value) 0 place k.elements → IsSigningCertificate signers certificates k
 is_signing signers value certificates k f place at is = record {
   place = place;
   stands = at;
@@ -98,20 +98,20 @@ is_signing signers value certificates k f place at is = record {
 }
 
 pub no_signer : (signers : List SignerInfo) (value : IssuerAndSerialNumber) (certificates : List KeptCertificate) → FirstNames signers (named.IssuerAndSerialNumber value)
-    → HasNoPlace (elements_of certificates) (IsNamedBy value) 0 → HasNoSigner (map signer_info signers) (elements_of certificates)
+    → HasNoPlace (elements_of certificates) (HasIssuerAndSerial value) 0 → HasNoSigner (map signer_info signers) (elements_of certificates)
 no_signer signers value certificates f none place c later stands fits = none place c later stands ((names_it signers value c f).1 fits)
 
 -- ---- whether a certificate is named
 
 pub is_named_by : (value : IssuerAndSerialNumber) (kept : KeptCertificate) (test : Bool) (issuer : List (List AttributeTypeAndValue)) → kept.certificate.tbs_certificate.serial_number ≡ value.serial_number
-    → issuer ≡ kept.certificate.tbs_certificate.issuer → test ≡ bytes_eq (encoding (name issuer)) (encoding (name value.issuer)) → IsTrue test ↔ IsNamedBy value kept.elements
+    → issuer ≡ kept.certificate.tbs_certificate.issuer → test ≡ bytes_eq (encoding (name issuer)) (encoding (name value.issuer)) → IsTrue test ↔ HasIssuerAndSerial value kept.elements
 is_named_by value kept test issuer serial copied e =
     let octets : encoding (name issuer) ≡ encoding kept.elements.tbs.issuer = ap (λ (n : List (List AttributeTypeAndValue)). encoding (name n)) copied ∙ sym (ap encoding (issuer_is kept)) in (
       λ holds. (sym ((bytes_eq-Decides (encoding (name issuer)) (encoding (name value.issuer))).0 (sym e ∙ holds)) ∙ octets, ap integer_contents (sym serial) ∙ sym (serial_is kept)),
       λ by. e ∙ (bytes_eq-Decides (encoding (name issuer)) (encoding (name value.issuer))).1 (octets ∙ sym by.0),
     )
 
-pub is_not_named : (value : IssuerAndSerialNumber) (kept : KeptCertificate) (test : Bool) → test ≡ bytes_eq (integer_contents kept.certificate.tbs_certificate.serial_number) (integer_contents value.serial_number) → test ≡ false → IsNamedBy value kept.elements → ⊥
+pub is_not_named : (value : IssuerAndSerialNumber) (kept : KeptCertificate) (test : Bool) → test ≡ bytes_eq (integer_contents kept.certificate.tbs_certificate.serial_number) (integer_contents value.serial_number) → test ≡ false → HasIssuerAndSerial value kept.elements → ⊥
 is_not_named value kept test e fails by =
     let serial = integer_contents kept.certificate.tbs_certificate.serial_number in
     both_ways (bytes_eq serial (integer_contents value.serial_number)) (sym e ∙ fails) ((bytes_eq-Decides serial (integer_contents value.serial_number)).1 (sym (serial_is kept) ∙ sym by.1))

@@ -24,7 +24,7 @@ use Rattle.authenticode_core.proofs.OneData.{one_element, same_certificate}
 use Rattle.authenticode_values.specs.FileRefusals.{GivesFile, GivesSignature, RefusesFile, RefusesHeader}
 use Rattle.authenticode_values.specs.MadeFile.{IsSpelledWhole, wrapped}
 use Rattle.authenticode_values.specs.Pkcs7.{written}
-use Rattle.authenticode_values.specs.Refusals.{IsUnread, Tells, of_signed_data, unread}
+use Rattle.authenticode_values.specs.Refusals.{IsUnread, TellsOfSignedData, of_signed_data, unread}
 use Rattle.authenticode_values.specs.Unread.{RefusesPadded}
 use Rattle.authenticode_values.specs.declared.pkcs7.Pkcs7.{Pkcs7}
 use Rattle.authenticode_values.specs.declared.signature.AuthenticodeSignature.{AuthenticodeSignature}
@@ -81,7 +81,7 @@ unread_or_out octets certificate der.TooDeep named (inl cause) = absurd cause
 unread_or_out octets certificate der.TooLong named (inl cause) = absurd cause
 unread_or_out octets certificate der.Memory named (inl cause) = absurd cause
 
-pub unread_file : (octets certificate : List ℕ) (e : AuthenticodeError) (r : CheckError) → r ≡ told_of_content e → contents_in octets ≡ Ok certificate → Tells (IsUnread (RefusesPadded certificate)) e → RefusesValue octets r ⊎ (r ≡ Memory)
+pub unread_file : (octets certificate : List ℕ) (e : AuthenticodeError) (r : CheckError) → r ≡ told_of_content e → contents_in octets ≡ Ok certificate → TellsOfSignedData (IsUnread (RefusesPadded certificate)) e → RefusesValue octets r ⊎ (r ≡ Memory)
 unread_file octets certificate e r told named (source, of, (cause, is, refused)) =
     subst (λ (x : CheckError). RefusesValue octets x ⊎ (x ≡ Memory)) (sym (told ∙ ap told_of_content (of ∙ ap of_signed_data is))) (unread_or_out octets certificate cause named refused)
 

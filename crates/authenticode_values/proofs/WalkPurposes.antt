@@ -11,7 +11,7 @@ use Rattle.authenticode_core.specs.SigningRules.{AsksForPurposes, IsForCodeSigni
 use Rattle.authenticode_core.proofs.WalkSteps.{one_walk, same_certificate}
 use Rattle.authenticode_core.specs.declared.error.AuthenticodeError.TheVariants as errors
 use Rattle.authenticode_values.specs.Making.{HasNoFirstForSigning}
-use Rattle.authenticode_values.specs.Walk.{IsWalkOf, SomeHasPurposes, StandAt}
+use Rattle.authenticode_values.specs.Walk.{IsWalkOf, SomeHasPurposes, AreAtPlaces}
 use Rattle.authenticode_values.proofs.Namings.{stands_at}
 
 -- A certificate at one of the places has an extended key usage.
@@ -40,7 +40,7 @@ among_first certificates place places k others at later (inr more) =
     let a = later more in
     record { place = a.place; among = contains_more place a.place places a.among; c = a.c; stands = a.stands; purposes = a.purposes }
 
-among_of : (certificates : List KeptCertificate) (places : List ℕ) (items : List KeptCertificate) → StandAt certificates places items → SomeHasPurposes items → Among (elements_of certificates) places
+among_of : (certificates : List KeptCertificate) (places : List ℕ) (items : List KeptCertificate) → AreAtPlaces certificates places items → SomeHasPurposes items → Among (elements_of certificates) places
 among_of certificates [] items stand some = absurd (subst SomeHasPurposes stand some)
 among_of certificates (place ∷ places) items (k, others, are, at, rest) some =
     among_first certificates place places k others at (λ more. among_of certificates places others rest more) (subst SomeHasPurposes are some)
@@ -52,7 +52,7 @@ some_first certificates place places k others at later a (inl same) =
 some_first certificates place places k others at later a (inr more) =
     inr (later (record { place = a.place; among = more; c = a.c; stands = a.stands; purposes = a.purposes }))
 
-some_of : (certificates : List KeptCertificate) (places : List ℕ) (items : List KeptCertificate) → StandAt certificates places items → Among (elements_of certificates) places → SomeHasPurposes items
+some_of : (certificates : List KeptCertificate) (places : List ℕ) (items : List KeptCertificate) → AreAtPlaces certificates places items → Among (elements_of certificates) places → SomeHasPurposes items
 some_of certificates [] items stand a = let among = a.among in absurd (omega (arith, among.1))
 some_of certificates (place ∷ places) items (k, others, are, at, rest) a =
     subst SomeHasPurposes (sym are) (some_first certificates place places k others at (λ b. some_of certificates places others rest b) a (contains_cases place a.place places a.among))

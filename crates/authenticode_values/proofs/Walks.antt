@@ -11,7 +11,7 @@ use Rattle.making_core.specs.Carried.{elements_of}
 use Rattle.authenticode_core.specs.IssuerWalk.{IsWalkFrom}
 use Rattle.authenticode_core.specs.Names.{HasSubject}
 use Rattle.authenticode_core.specs.Places.{HasNoPlace, HoldsOfNone, IsLeastPlace}
-use Rattle.authenticode_values.specs.Walk.{IsWalkOf, StandAt, walked}
+use Rattle.authenticode_values.specs.Walk.{IsWalkOf, AreAtPlaces, walked}
 
 -- ---- one certificate more before the others
 
@@ -36,7 +36,7 @@ further c bag from subject [] none = further_none c bag (HasSubject subject) fro
 further c bag from subject (place ∷ places) w =
     (w.0, further_least c bag (HasSubject subject) from place w.0 w.1, further c bag (suc place) w.0.tbs.issuer places w.2)
 
-stand_further : (k : KeptCertificate) (certificates : List KeptCertificate) (places : List ℕ) (items : List KeptCertificate) → StandAt certificates places items → StandAt (k ∷ certificates) (map (λ n. suc n) places) items
+stand_further : (k : KeptCertificate) (certificates : List KeptCertificate) (places : List ℕ) (items : List KeptCertificate) → AreAtPlaces certificates places items → AreAtPlaces (k ∷ certificates) (map (λ n. suc n) places) items
 stand_further k certificates [] items none = none
 stand_further k certificates (place ∷ places) items s = (s.0, s.1, s.2, s.3, stand_further k certificates places s.1 s.4)
 
@@ -81,7 +81,7 @@ begun c bag subject places has w = (
 record Gives (subject : DerElement) (certificates items : List KeptCertificate) : Type 0 where
   places : List ℕ
   walk : IsWalkFrom (elements_of certificates) 0 subject places
-  stand : StandAt certificates places items
+  stand : AreAtPlaces certificates places items
 
 nothing : (subject : DerElement) → Gives subject [] []
 nothing subject = record { places = []; walk = λ place c later stands fits. absurd (cc stands); stand = refl }

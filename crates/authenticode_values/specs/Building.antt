@@ -40,7 +40,7 @@ use Rattle.making_core.specs.MadeSignature.{SignatureParts, attributes_element, 
 use Rattle.making_core.specs.SignedProgram.{IsSignature}
 use Rattle.authenticode_values.specs.BuilderError.{builder_refusal, unwritten_in_builder}
 use Rattle.authenticode_values.specs.Making.{TellsOf}
-use Rattle.authenticode_values.specs.SigningCertificate.{IsNamedBy}
+use Rattle.authenticode_values.specs.SigningCertificate.{HasIssuerAndSerial}
 use Rattle.authenticode_values.specs.declared.builder.AuthenticodeSignatureBuilder.{AuthenticodeSignatureBuilder}
 use Rattle.authenticode_values.specs.declared.builder_error.AuthenticodeSignatureBuilderError.{AuthenticodeSignatureBuilderError}
 use Rattle.authenticode_values.specs.declared.builder_error.AuthenticodeSignatureBuilderError.TheVariants as errors
@@ -115,7 +115,7 @@ parts_by b g carried signature = record {
 
 -- The certificate is the first of those that are named so.
 abbrev pub IsNamedFirst : Given → CertificateElements → Type 0
-IsNamedFirst g c = (place : ℕ) × IsLeastPlace g.bag (IsNamedBy g.named) 0 place c
+IsNamedFirst g c = (place : ℕ) × IsLeastPlace g.bag (HasIssuerAndSerial g.named) 0 place c
 
 -- It is the signer's: the first that is named, and it may sign code (RFC 5280 4.2.1.12).
 pub record IsSigner (g : Given) (c : CertificateElements) : Type 0 where
@@ -143,7 +143,7 @@ abbrev pub named_step : Given → Step AuthenticodeSignatureBuilderError
 named_step g = record {
   taken = (c : CertificateElements) × IsNamedFirst g c;
   refused = λ e.
-      HasNoPlace g.bag (IsNamedBy g.named) 0 × (e ≡ errors.AuthenticodeError (signatures.NoCertificatesAssociatedWithIssuerAndSerialNumber (record { name = g.named.issuer }) g.named.serial_number));
+      HasNoPlace g.bag (HasIssuerAndSerial g.named) 0 × (e ≡ errors.AuthenticodeError (signatures.NoCertificatesAssociatedWithIssuerAndSerialNumber (record { name = g.named.issuer }) g.named.serial_number));
 }
 
 -- the first of them may sign code
@@ -221,7 +221,7 @@ pub record IsBuiltOf (scheme : KeyArithmetic) (b : AuthenticodeSignatureBuilder)
   pub fields : built ≡ signature_made (parts_by b g carried signature)
 
 -- The signed data is what the builder asks for, and no step was refused.
-pub record IsBuilt (scheme : KeyArithmetic) (b : AuthenticodeSignatureBuilder) (built : SignedDataElements) : Type 0 where
+pub record IsBuiltSignature (scheme : KeyArithmetic) (b : AuthenticodeSignatureBuilder) (built : SignedDataElements) : Type 0 where
   pub given : Given
   pub are_given : HasGiven b given
   pub is_built : IsBuiltOf scheme b given built

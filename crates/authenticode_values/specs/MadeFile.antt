@@ -19,14 +19,14 @@ use Rattle.authenticode_core.specs.SigningRules.{IsForCodeSigning}
 use Rattle.authenticode_core.specs.declared.accepted.Accepted.{Accepted}
 use Rattle.authenticode_core.specs.declared.accepted.Excuse.TheVariants as excuses
 use Rattle.authenticode_core.specs.declared.policy.Policy.{Policy}
-use Rattle.making_core.specs.Carried.{IsRoot}
+use Rattle.making_core.specs.Carried.{IsRootCertificate}
 use Rattle.making_core.specs.MadeSignature.{signature_made}
 use Rattle.making_core.specs.SignedProgram.{IsBasicName, Program, algorithm_for, message_for, parts_for, program_of}
 
 -- none of the certificates is a root's
 abbrev pub NoneIsRoot : List CertificateElements → Type 0
 NoneIsRoot [] = ⊤
-NoneIsRoot (c ∷ others) = (IsRoot c → ⊥) × NoneIsRoot others
+NoneIsRoot (c ∷ others) = (IsRootCertificate c → ⊥) × NoneIsRoot others
 
 -- none of them is, unless it stands alone
 abbrev pub IsAloneOrNoRoot : List CertificateElements → Type 0

@@ -39,5 +39,5 @@ abbrev pub IsUnwritten : (DerError → Type 0) → Pkcs7Error → Type 0
 IsUnwritten Refuses e = (source : DerError) × (e ≡ unwritten source) × Refuses source
 
 -- the error of a signature tells so
-abbrev pub Tells : (Pkcs7Error → Type 0) → AuthenticodeError → Type 0
-Tells Refuses e = (source : Pkcs7Error) × (e ≡ of_signed_data source) × Refuses source
+abbrev pub TellsOfSignedData : (Pkcs7Error → Type 0) → AuthenticodeError → Type 0
+TellsOfSignedData Refuses e = (source : Pkcs7Error) × (e ≡ of_signed_data source) × Refuses source

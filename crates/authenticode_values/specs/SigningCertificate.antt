@@ -46,5 +46,5 @@ IsNamedOtherwise signers errors.IncorrectSignerIdentifier = (octets : List ℕ) 
 IsNamedOtherwise signers _ = ⊥
 
 -- the certificate has this issuer and this serial number
-abbrev pub IsNamedBy : IssuerAndSerialNumber → CertificateElements → Type 0
-IsNamedBy value c = IsSameName (name value.issuer) c.tbs.issuer × (integer_contents value.serial_number ≡ c.tbs.serial_number)
+abbrev pub HasIssuerAndSerial : IssuerAndSerialNumber → CertificateElements → Type 0
+HasIssuerAndSerial value c = IsSameName (name value.issuer) c.tbs.issuer × (integer_contents value.serial_number ≡ c.tbs.serial_number)

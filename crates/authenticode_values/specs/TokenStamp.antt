@@ -78,12 +78,12 @@ RefusesCountersigner signers (errors.Asn1DerError e) = (source : DerError) × (s
 RefusesCountersigner signers _ = ⊥
 
 -- Why signers aren't stamped: there are none on either side, or else the countersigner can't be written.
-abbrev pub RefusesStamp : (countersigners signers : List SignerInfo) → TimestampError → Type 0
-RefusesStamp countersigners signers errors.TimestampTokenEmpty = (signers ≡ []) ⊎ (countersigners ≡ [])
-RefusesStamp countersigners signers (errors.Asn1DerError e) = (signers ≢ []) × RefusesCountersigner countersigners (errors.Asn1DerError e)
-RefusesStamp countersigners signers _ = ⊥
+abbrev pub RefusesTokenStamp : (countersigners signers : List SignerInfo) → TimestampError → Type 0
+RefusesTokenStamp countersigners signers errors.TimestampTokenEmpty = (signers ≡ []) ⊎ (countersigners ≡ [])
+RefusesTokenStamp countersigners signers (errors.Asn1DerError e) = (signers ≢ []) × RefusesCountersigner countersigners (errors.Asn1DerError e)
+RefusesTokenStamp countersigners signers _ = ⊥
 
 -- what the modification of signed data by a token comes to
 abbrev pub token_modifies : Pkcs7 → SignedData → Result SignedData TimestampError → Type 0
 token_modifies token before (Ok after) = IsStampedBy token before after
-token_modifies token before (Err e) = RefusesStamp (signers_of token) before.signers_infos e
+token_modifies token before (Err e) = RefusesTokenStamp (signers_of token) before.signers_infos e

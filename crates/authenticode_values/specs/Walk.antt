@@ -8,16 +8,16 @@ use Rattle.authenticode_core.specs.IssuerWalk.{IsIssuerWalk}
 use Rattle.authenticode_values.specs.declared.certificates.SignatureCertificatesIterator.{SignatureCertificatesIterator}
 
 -- the items are those of the certificates that stand at the places, in their order
-abbrev pub StandAt : List KeptCertificate → List ℕ → List KeptCertificate → Type 0
-StandAt certificates [] items = items ≡ []
-StandAt certificates (place ∷ places) items =
-    (c : KeptCertificate) × (others : List KeptCertificate) × (items ≡ c ∷ others) × (slice_get certificates place ≡ Some c) × StandAt certificates places others
+abbrev pub AreAtPlaces : List KeptCertificate → List ℕ → List KeptCertificate → Type 0
+AreAtPlaces certificates [] items = items ≡ []
+AreAtPlaces certificates (place ∷ places) items =
+    (c : KeptCertificate) × (others : List KeptCertificate) × (items ≡ c ∷ others) × (slice_get certificates place ≡ Some c) × AreAtPlaces certificates places others
 
 -- The items are the certificates at the places of the issuer walk of the signer's certificate.
 pub record IsWalkOf (signer : KeptCertificate) (certificates items : List KeptCertificate) : Type 0 where
   pub places : List ℕ
   pub walk : IsIssuerWalk (elements_of certificates) signer.elements places
-  pub stand : StandAt certificates places items
+  pub stand : AreAtPlaces certificates places items
 
 -- What a walk under way still gives: of the certificates that are left the first one with the subject that it looks for, by its octets, then what a walk gives
 -- that looks for its issuer behind it. What the walk is as a whole is said above.

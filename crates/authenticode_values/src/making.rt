@@ -17,7 +17,7 @@ ghost use Rattle.wincert_core.specs.declared.kinds.CertificateType.{CertificateT
 ghost use Rattle.x509_core.specs.Link.{HasKey};
 ghost use Rattle.x509_core.specs.Steps.{AreTaken, RefusesBySteps};
 ghost use Rattle.authenticode_core.specs.declared.error.AuthenticodeError.TheVariants as errors;
-ghost use Rattle.making_core.specs.Carried.{IsRoot, elements_of};
+ghost use Rattle.making_core.specs.Carried.{IsRootCertificate, elements_of};
 ghost use Rattle.making_core.specs.MadeContent.{attributes_message, content_digest, data_element, opus_element, program_attributes};
 ghost use Rattle.making_core.specs.MadeSignature.{attributes_element};
 ghost use Rattle.making_core.specs.SignedProgram.{IsBasicName, IsSignature, IsSignedProgram, program_of};
@@ -76,7 +76,7 @@ impl AuthenticodeSignature {
         // Made by a key of the first certificate, which is no root's unless it stands alone, its file is
         // a signature file as it is made.
         ensures file { IfOk result (λ s. (m : IsMadeOf (arithmetic (S.judge scheme.now) (S.signs scheme.now) (S.pair scheme.now)) (fields_of pkcs7.now) hash_algo file_hash.now (option_copied program_name.entry) private_key.now (fields_of s.0))
-            → (info : SubjectPublicKeyInfo) → HasKey m.first info → IsKeyPair (S.pair scheme.now) private_key.now info → (IsRoot m.first → m.others ≡ [])
+            → (info : SubjectPublicKeyInfo) → HasKey m.first info → IsKeyPair (S.pair scheme.now) private_key.now info → (IsRootCertificate m.first → m.others ≡ [])
             → (certificate_type : CertificateType) (octets : List ℕ) → IsDer (written s.0) → IsSpelledWhole octets (wrapped certificate_type (encoding (written s.0)))
             → IsMadeSignature (S.judge scheme.now) octets file_hash.now) }
     {

@@ -13,7 +13,7 @@ ghost use Rattle.der_core.specs.declared.fault.DerFault.{DerFault};
 ghost use Rattle.cms_types.specs.Pkcs7.{pkcs7};
 ghost use Rattle.cms_types.specs.declared.pkcs7.Pkcs7Certificate.{Pkcs7Certificate};
 ghost use Rattle.authenticode_values.specs.Pkcs7.{IsPkcs7Of, signers_of, written};
-ghost use Rattle.authenticode_values.specs.Refusals.{IsUnread, IsUnwritten, Tells, of_signed_data, unread};
+ghost use Rattle.authenticode_values.specs.Refusals.{IsUnread, IsUnwritten, TellsOfSignedData, of_signed_data, unread};
 ghost use Rattle.authenticode_values.specs.SignedFields.{file_hash_in, signed_attributes_in, unsigned_attributes_in};
 ghost use Rattle.authenticode_values.specs.SigningCertificate.{HasNoSigningCertificate, IsSigningCertificate};
 ghost use Rattle.authenticode_core.specs.Basic.{IsNoSignedData};
@@ -42,7 +42,7 @@ impl AuthenticodeSignature {
     pub fn from_der(alloc: Global, der: &[u8]) -> Result<AuthenticodeSignature, AuthenticodeError>
         ensures answer { MatchResult result
             (λ s. IsWithin IsPkcs7Of der.now s.0.signed)
-            (Tells (IsUnread (RefusesOctets IsPkcs7Of der.now))) }
+            (TellsOfSignedData (IsUnread (RefusesOctets IsPkcs7Of der.now))) }
         // Octets with a fault are refused with it, whatever memory there is.
         ensures faulty { (at : ℕ) (fault : DerFault) → IsExactFault der.now at fault
             → result ≡ Err (of_signed_data (unread (der_errors.Malformed (record { at = at; fault = fault })))) }
@@ -61,7 +61,7 @@ impl AuthenticodeSignature {
     pub fn to_der(&self, alloc: Global) -> Result<Vec<u8>, AuthenticodeError>
         ensures { MatchResult result
             (λ octets. (octets.items ≡ encoding (written self.now.0)) × IsDer (written self.now.0))
-            (Tells (IsUnwritten (RefusesInner (written self.now.0 ∷ [])))) }
+            (TellsOfSignedData (IsUnwritten (RefusesInner (written self.now.0 ∷ [])))) }
     {
         match self.0.to_der(alloc) {
             Ok(octets) => Ok(octets),
@@ -77,7 +77,7 @@ impl AuthenticodeSignature {
     ) -> Result<AuthenticodeSignature, AuthenticodeError>
         ensures answer { MatchResult result
             (λ s. IsPaddedEncoding cert.now.certificate (written s.0))
-            (Tells (IsUnread (RefusesPadded cert.now.certificate))) }
+            (TellsOfSignedData (IsUnread (RefusesPadded cert.now.certificate))) }
         // What is no signed data is refused as such, whatever memory there is.
         ensures refused { (source : DerError) → IsNoSignedData cert.now.certificate source → result ≡ Err (of_signed_data (unread source)) }
     {

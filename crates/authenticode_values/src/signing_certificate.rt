@@ -4,7 +4,7 @@ ghost use Rattle.std.specs.Prelude.{◌≡◌, ◌↔◌, Some, IfOk, IsTrue, Ma
 ghost use Rattle.cms_types.specs.declared.signer_identifier.SignerIdentifier.TheVariants as named;
 ghost use Rattle.making_core.specs.Carried.{elements_of};
 ghost use Rattle.authenticode_core.specs.Places.{HasNoPlace, IsLeastPlace};
-ghost use Rattle.authenticode_values.specs.SigningCertificate.{HasNoSigningCertificate, FirstNames, IsNamedBy, IsNamedOtherwise, IsSigningCertificate};
+ghost use Rattle.authenticode_values.specs.SigningCertificate.{HasNoSigningCertificate, FirstNames, HasIssuerAndSerial, IsNamedOtherwise, IsSigningCertificate};
 ghost use Rattle.authenticode_core.specs.declared.error.AuthenticodeError.TheVariants as errors;
 
 use authenticode_core::AuthenticodeError;
@@ -57,9 +57,9 @@ pub(crate) fn first_named<'a>(
     named: &IssuerAndSerialNumber,
 ) -> Result<Option<&'a Cert>, AllocError>
     ensures { IfOk result (λ found. MatchOption found
-        (HasNoPlace (elements_of certificates.now) (IsNamedBy named.now) 0)
+        (HasNoPlace (elements_of certificates.now) (HasIssuerAndSerial named.now) 0)
         (λ c. (place : ℕ) × (slice_get certificates.now place ≡ Some c.now)
-        × IsLeastPlace (elements_of certificates.now) (IsNamedBy named.now) 0 place c.now.elements)) }
+        × IsLeastPlace (elements_of certificates.now) (HasIssuerAndSerial named.now) 0 place c.now.elements)) }
 {
     for certificate in certificates {
         if is_named(alloc, certificate, named)? {
@@ -76,7 +76,7 @@ fn is_named(
     certificate: &Cert,
     named: &IssuerAndSerialNumber,
 ) -> Result<bool, AllocError>
-    ensures { IfOk result (λ is. IsTrue is ↔ IsNamedBy named.now certificate.now.elements) }
+    ensures { IfOk result (λ is. IsTrue is ↔ HasIssuerAndSerial named.now certificate.now.elements) }
 {
     if *certificate.serial_number() == named.serial_number {
         let issuer = Name::from(certificate.issuer_name(alloc)?);

@@ -18,7 +18,7 @@ ghost use Rattle.authenticode_values.specs.Pkcs7.{IsPkcs7Of};
 ghost use Rattle.authenticode_values.specs.Refusals.{IsUnread, unread};
 ghost use Rattle.authenticode_values.specs.RequestRefusals.{IsRefusedRequest, IsRefusedToken, IsTooLong};
 ghost use Rattle.authenticode_values.specs.TimestampRequest.{asking_for, requested};
-ghost use Rattle.authenticode_values.specs.TokenStamp.{AreStamped, CountersignsBy, RefusesCountersigner, RefusesStamp, joined_lists, token_modifies, with_unsigned};
+ghost use Rattle.authenticode_values.specs.TokenStamp.{AreStamped, CountersignsBy, RefusesCountersigner, RefusesTokenStamp, joined_lists, token_modifies, with_unsigned};
 
 use crate::pkcs7::Pkcs7;
 use crate::timestamp_request::TimestampRequest;
@@ -140,7 +140,7 @@ fn stamped_signers(
 ) -> Result<SignersInfos, TimestampError>
     ensures { MatchResult result
         (AreStamped countersigners.now signers.now)
-        (λ e. (e ≡ errors.Memory) ⊎ RefusesStamp countersigners.now signers.now e) }
+        (λ e. (e ≡ errors.Memory) ⊎ RefusesTokenStamp countersigners.now signers.now e) }
 {
     let Some((first, others)) = signers.split_first() else {
         return Err(TimestampError::TimestampTokenEmpty);

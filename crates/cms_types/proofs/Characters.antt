@@ -5,7 +5,7 @@ use Rattle.std.specs.Int.{to_be_bytes, w16}
 use Rattle.std.proofs.lemmas.List.{nil_from_length}
 use Rattle.std.proofs.lemmas.List.Elements.{All-nil, All-cons, All-head, All-tail}
 use Rattle.std.proofs.lemmas.Str.{chars-nil, chars_past_char}
-use Rattle.cms_types.specs.Units.{IsBasic, unit_octets, text_units}
+use Rattle.cms_types.specs.Units.{IsBasicPlane, unit_octets, text_units}
 
 abbrev basic : ℕ → Type 0
 basic character = character ≤ 0xFFFF
@@ -14,20 +14,20 @@ chars_of_empty : (text : List ℕ) → length text ≡ 0 → chars text ≡ []
 chars_of_empty text none = ap chars (nil_from_length text none) ∙ chars-nil
 
 -- no text is basic, and has no units
-pub basic_empty : (text : List ℕ) → length text ≡ 0 → IsBasic text
+pub basic_empty : (text : List ℕ) → length text ≡ 0 → IsBasicPlane text
 basic_empty text none = subst (All basic) (sym (chars_of_empty text none)) (All-nil basic)
 
 pub units_empty : (text : List ℕ) → length text ≡ 0 → text_units text ≡ []
 units_empty text none = ap (flat_map unit_octets) (chars_of_empty text none)
 
 -- a text is basic where its first character and what follows are
-pub basic_front : (text rest : List ℕ) (c : ℕ) → IsUtf8 text → text ≡ encode_utf8 c ++ rest → IsBasic text → c ≤ 0xFFFF
+pub basic_front : (text rest : List ℕ) (c : ℕ) → IsUtf8 text → text ≡ encode_utf8 c ++ rest → IsBasicPlane text → c ≤ 0xFFFF
 basic_front text rest c utf8 parts all = All-head basic c (chars rest) (subst (All basic) (chars_past_char text rest c utf8 parts) all)
 
-pub basic_back : (text rest : List ℕ) (c : ℕ) → IsUtf8 text → text ≡ encode_utf8 c ++ rest → IsBasic text → IsBasic rest
+pub basic_back : (text rest : List ℕ) (c : ℕ) → IsUtf8 text → text ≡ encode_utf8 c ++ rest → IsBasicPlane text → IsBasicPlane rest
 basic_back text rest c utf8 parts all = All-tail basic c (chars rest) (subst (All basic) (chars_past_char text rest c utf8 parts) all)
 
-pub basic_step : (text rest : List ℕ) (c : ℕ) → IsUtf8 text → text ≡ encode_utf8 c ++ rest → c ≤ 0xFFFF → IsBasic rest → IsBasic text
+pub basic_step : (text rest : List ℕ) (c : ℕ) → IsUtf8 text → text ≡ encode_utf8 c ++ rest → c ≤ 0xFFFF → IsBasicPlane rest → IsBasicPlane text
 basic_step text rest c utf8 parts here all = subst (All basic) (sym (chars_past_char text rest c utf8 parts)) (All-cons basic c (chars rest) here all)
 
 -- its units are that of the first character and those of what follows

@@ -14,9 +14,9 @@ use Rattle.cms_types.specs.SignedAttributesElement.{signed_attributes}
 use Rattle.cms_types.specs.SignerElements.{SignerElements, signer_of}
 use Rattle.cms_types.specs.SignedDataElements.{SignedDataElements, signed_data_of}
 use Rattle.cms_types.specs.SignerInfo.{AreFieldsOf, signer_elements, signer_info}
-use Rattle.cms_types.specs.SignerParts.{AreSignatureFields, IsSignedBy, signature_fields, signed_by}
+use Rattle.cms_types.specs.SignerParts.{AreSignatureFields, AreSignedByFields, signature_fields, signed_by}
 use Rattle.cms_types.specs.SignedData.{AreDataFields, signed_data_elements, signed_data}
-use Rattle.cms_types.specs.SignedDataParts.{AreCarried, AreSigned, carried_of, signed_of}
+use Rattle.cms_types.specs.SignedDataParts.{AreCarriedFields, AreSigned, carried_of, signed_of}
 use Rattle.cms_types.specs.UnsignedAttribute.{unsigned_attribute}
 use Rattle.cms_types.specs.Facts.SignerElements.{told_fields, told_data, same_signer, same_data}
 use Rattle.cms_types.specs.Facts.SignerInfos.{told_signer}
@@ -64,8 +64,8 @@ signer_of_fields e f (Ok s) of are = of.is ∙ ap signer_of (signer_same f s are
 signer_of_fields e f (Err error) of refused = list_refused (AreFieldsOf f) (λ (s : SignerInfo). e ≡ signer_info s) error (λ s is. (s, signer_by_fields e f s of is)) refused
 
 -- where a part spells nothing, nothing is spelled by all
-pub no_signed_by : (f : SignerElements) (e : DerError) → RefusesShape (IsSignedBy f) e → RefusesShape (AreFieldsOf f) e
-no_signed_by f e = list_refused (IsSignedBy f) (AreFieldsOf f) e (λ s p. (signed_by s, record { sid = p.sid; digest_algorithm = p.digest_algorithm; signature_algorithm = p.signature_algorithm }))
+pub no_signed_by : (f : SignerElements) (e : DerError) → RefusesShape (AreSignedByFields f) e → RefusesShape (AreFieldsOf f) e
+no_signed_by f e = list_refused (AreSignedByFields f) (AreFieldsOf f) e (λ s p. (signed_by s, record { sid = p.sid; digest_algorithm = p.digest_algorithm; signature_algorithm = p.signature_algorithm }))
 
 pub no_signature : (f : SignerElements) (e : DerError) → RefusesShape (AreSignatureFields f) e → RefusesShape (AreFieldsOf f) e
 no_signature f e = list_refused (AreSignatureFields f) (AreFieldsOf f) e (λ s p. (signature_fields s, record { signed_attrs = p.signed_attrs; signature = p.signature; unsigned_attrs = p.unsigned_attrs }))
@@ -111,5 +111,5 @@ data_of_fields e f (Err error) of refused = list_refused (AreDataFields f) (λ (
 pub none_signed : (f : SignedDataElements) (e : DerError) → RefusesShape (AreSigned f) e → RefusesShape (AreDataFields f) e
 none_signed f e = list_refused (AreSigned f) (AreDataFields f) e (λ d p. (signed_of d, record { digest_algorithms = p.digest_algorithms; content_info = p.content_info; signers_infos = p.signers_infos }))
 
-pub none_carried : (f : SignedDataElements) (e : DerError) → RefusesShape (AreCarried f) e → RefusesShape (AreDataFields f) e
-none_carried f e = list_refused (AreCarried f) (AreDataFields f) e (λ d p. (carried_of d, record { certificates = p.certificates; crls = p.crls }))
+pub none_carried : (f : SignedDataElements) (e : DerError) → RefusesShape (AreCarriedFields f) e → RefusesShape (AreDataFields f) e
+none_carried f e = list_refused (AreCarriedFields f) (AreDataFields f) e (λ d p. (carried_of d, record { certificates = p.certificates; crls = p.crls }))

@@ -31,8 +31,8 @@ abbrev pub IsConstructed : ℕ → DerElement → Type 0
 IsConstructed tag element = (kids : List DerElement) × (element ≡ Constructed tag (row kids))
 
 -- the element is that of a version
-abbrev pub IsVersion : DerElement → CmsVersion → Type 0
-IsVersion element value = element ≡ cms_version value
+abbrev pub IsCmsVersion : DerElement → CmsVersion → Type 0
+IsCmsVersion element value = element ≡ cms_version value
 
 -- the element is that of the identifier of a signer
 abbrev pub IsSignerIdentifier : DerElement → SignerIdentifier → Type 0
@@ -52,7 +52,7 @@ IsContentInfo element value = element ≡ content_info value
 
 -- Each field of a SignerInfo has its shape, but what the unsigned attributes are isn't asked.
 pub record AreSignerFields (f : SignerElements) : Type 0 where
-  pub version : Fits IsVersion f.version
+  pub version : Fits IsCmsVersion f.version
   pub sid : Fits IsSignerIdentifier f.sid
   pub digest_algorithm : Fits IsAlgorithm f.digest_algorithm
   pub signed_attrs : OfOption (Fits AreSignedAttributes) f.signed_attrs
@@ -62,7 +62,7 @@ pub record AreSignerFields (f : SignerElements) : Type 0 where
 
 -- Each field of SignedData has its shape, but what the signers are isn't asked. CertificateSet and RevocationInfoChoices hold any elements.
 pub record AreSignedDataFields (f : SignedDataElements) : Type 0 where
-  pub version : Fits IsVersion f.version
+  pub version : Fits IsCmsVersion f.version
   pub digest_algorithms : Fits (IsListOf 0x31 IsAlgorithm) f.digest_algorithms
   pub content_info : Fits IsContentInfo f.content_info
   pub certificates : OfOption (IsConstructed 0xA0) f.certificates

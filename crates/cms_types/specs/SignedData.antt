@@ -7,7 +7,7 @@ use Rattle.der_core.specs.Kept.{KeptElement}
 use Rattle.key_types.specs.AlgorithmIdentifier.{algorithm_identifier}
 use Rattle.content_types.specs.ContentInfo.{content_info}
 use Rattle.cms_types.specs.CmsVersion.{cms_version}
-use Rattle.cms_types.specs.Levels.{IsVersion, IsAlgorithm, IsContentInfo}
+use Rattle.cms_types.specs.Levels.{IsCmsVersion, IsAlgorithm, IsContentInfo}
 use Rattle.der_core.specs.Optional.{SpellsOption}
 use Rattle.cms_types.specs.CertificateChoices.{certificate_choice}
 use Rattle.cms_types.specs.Members.{element_of_kept}
@@ -34,7 +34,7 @@ signed_data value = signed_data_of (signed_data_elements value)
 
 -- Each element spells the field that it stands for.
 pub record AreDataFields (f : SignedDataElements) (value : SignedData) : Type 0 where
-  pub version : IsVersion f.version value.version
+  pub version : IsCmsVersion f.version value.version
   pub digest_algorithms : IsListOf 0x31 IsAlgorithm f.digest_algorithms value.digest_algorithms
   pub content_info : IsContentInfo f.content_info value.content_info
   pub certificates : SpellsOption (IsListOf 0xA0 (λ (element : DerElement) (choice : CertificateChoices). element ≡ certificate_choice choice)) f.certificates value.certificates

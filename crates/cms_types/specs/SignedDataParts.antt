@@ -22,7 +22,7 @@ pub record AreSigned (f : SignedDataElements) (part : SignedPart) : Type 0 where
   pub signers_infos : IsListOf 0x31 (λ (element : DerElement) (signer : SignerInfo). element ≡ signer_info signer) f.signers_infos part.signers_infos
 
 -- Each element spells the field of the second part.
-pub record AreCarried (f : SignedDataElements) (part : CarriedPart) : Type 0 where
+pub record AreCarriedFields (f : SignedDataElements) (part : CarriedPart) : Type 0 where
   pub certificates : SpellsOption (IsListOf 0xA0 (λ (element : DerElement) (choice : CertificateChoices). element ≡ certificate_choice choice)) f.certificates part.certificates
   pub crls : SpellsOption (IsListOf 0xA1 (λ (element : DerElement) (kept : KeptElement). element ≡ kept.element)) f.crls part.crls
 

@@ -6,7 +6,7 @@ use Rattle.der_core.specs.Each.{IsListOf, list_element}
 use Rattle.der_core.specs.Elements.{octet_string}
 use Rattle.key_types.specs.AlgorithmIdentifier.{algorithm_identifier}
 use Rattle.cms_types.specs.CmsVersion.{cms_version}
-use Rattle.cms_types.specs.Levels.{IsVersion, IsSignerIdentifier, IsAlgorithm, IsOctetString}
+use Rattle.cms_types.specs.Levels.{IsCmsVersion, IsSignerIdentifier, IsAlgorithm, IsOctetString}
 use Rattle.der_core.specs.Optional.{SpellsOption}
 use Rattle.cms_types.specs.SignerIdentifier.{signer_identifier}
 use Rattle.cms_types.specs.SignedAttributesElement.{signed_attributes}
@@ -34,7 +34,7 @@ signer_info signer = signer_of (signer_elements signer)
 
 -- Each element spells the field that it stands for.
 pub record AreFieldsOf (f : SignerElements) (signer : SignerInfo) : Type 0 where
-  pub version : IsVersion f.version signer.version
+  pub version : IsCmsVersion f.version signer.version
   pub sid : IsSignerIdentifier f.sid signer.sid
   pub digest_algorithm : IsAlgorithm f.digest_algorithm signer.digest_algorithm
   pub signed_attrs : SpellsOption (λ (element : DerElement) (value : SignedAttributes). element ≡ signed_attributes value) f.signed_attrs signer.signed_attrs

@@ -15,7 +15,7 @@ use Rattle.cms_types.specs.declared.unsigned_attribute.UnsignedAttribute.{Unsign
 use Rattle.cms_types.specs.declared.version.CmsVersion.{CmsVersion}
 
 -- Each element spells the field of the first part.
-pub record IsSignedBy (f : SignerElements) (part : SignedBy) : Type 0 where
+pub record AreSignedByFields (f : SignerElements) (part : SignedBy) : Type 0 where
   pub sid : IsSignerIdentifier f.sid part.sid
   pub digest_algorithm : IsAlgorithm f.digest_algorithm part.digest_algorithm
   pub signature_algorithm : IsAlgorithm f.signature_algorithm part.signature_algorithm

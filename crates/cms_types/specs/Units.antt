@@ -12,8 +12,8 @@ abbrev pub unit_octets : ℕ → List ℕ
 unit_octets unit = unit / 256 ∷ unit % 256 ∷ []
 
 -- Each character of a text is in the basic plane: it has a number below 2^16, which is its unit.
-abbrev pub IsBasic : List ℕ → Type 0
-IsBasic text = All (λ character. character ≤ 0xFFFF) (chars text)
+abbrev pub IsBasicPlane : List ℕ → Type 0
+IsBasicPlane text = All (λ character. character ≤ 0xFFFF) (chars text)
 
 -- the octets of the units of such a text
 abbrev pub text_units : List ℕ → List ℕ

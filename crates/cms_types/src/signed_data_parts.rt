@@ -3,7 +3,7 @@
 ghost use Rattle.std.specs.Prelude.{◌≡◌, IfOk, MatchResult};
 ghost use Rattle.der_core.specs.Refusals.{RefusesShape};
 ghost use Rattle.cms_types.specs.Lent.{signed_data_at};
-ghost use Rattle.cms_types.specs.SignedDataParts.{AreCarried, AreSigned, carried_of, data_of_parts, signed_of};
+ghost use Rattle.cms_types.specs.SignedDataParts.{AreCarriedFields, AreSigned, carried_of, data_of_parts, signed_of};
 
 use crate::list_fields::{copy_list, read_list_option};
 use crate::raw_unsigned::RawList;
@@ -61,8 +61,8 @@ impl CarriedPart {
     /// The part that the elements spell.
     pub fn read(alloc: Global, fields: &SignedDataFields<'_>) -> Result<CarriedPart, DerError>
         ensures { MatchResult result
-            (AreCarried (signed_data_at fields.now))
-            (RefusesShape (AreCarried (signed_data_at fields.now))) }
+            (AreCarriedFields (signed_data_at fields.now))
+            (RefusesShape (AreCarriedFields (signed_data_at fields.now))) }
     {
         Ok(CarriedPart {
             certificates: read_list_option(alloc, fields.certificates, CERTIFICATES)?,

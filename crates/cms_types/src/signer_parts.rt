@@ -3,7 +3,7 @@
 ghost use Rattle.std.specs.Prelude.{◌≡◌, IfOk, MatchResult};
 ghost use Rattle.der_core.specs.Refusals.{RefusesShape};
 ghost use Rattle.cms_types.specs.Lent.{signer_at};
-ghost use Rattle.cms_types.specs.SignerParts.{AreSignatureFields, IsSignedBy, signature_fields, signed_by, signer_of_parts};
+ghost use Rattle.cms_types.specs.SignerParts.{AreSignatureFields, AreSignedByFields, signature_fields, signed_by, signer_of_parts};
 
 use crate::list_fields::{copy_list, read_list_option};
 use crate::signed_attributes::SignedAttributes;
@@ -36,8 +36,8 @@ impl SignedBy {
     /// The part that the elements spell.
     pub fn read(alloc: Global, fields: &SignerFields<'_>) -> Result<SignedBy, DerError>
         ensures { MatchResult result
-            (IsSignedBy (signer_at fields.now))
-            (RefusesShape (IsSignedBy (signer_at fields.now))) }
+            (AreSignedByFields (signer_at fields.now))
+            (RefusesShape (AreSignedByFields (signer_at fields.now))) }
     {
         Ok(SignedBy {
             digest_algorithm: AlgorithmIdentifier::read_at(alloc, fields.digest_algorithm)?,

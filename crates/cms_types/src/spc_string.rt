@@ -4,7 +4,7 @@ ghost use Rattle.std.specs.Prelude.{◌≡◌, ◌↔◌, ◌≤◌, ◌++◌, I
 ghost use Rattle.std.proofs.Props.{props};
 ghost use Rattle.asn1_types.specs.Contents.{RefusesContents};
 ghost use Rattle.asn1_types.specs.Ia5String.{RefusesCharSet};
-ghost use Rattle.cms_types.specs.Units.{AreUnits, IsBasic, text_units, unit_octets};
+ghost use Rattle.cms_types.specs.Units.{AreUnits, IsBasicPlane, text_units, unit_octets};
 
 use asn1_types::CharSetError;
 use der_core::{DerError, Elem, Octets, Structure, Tree, leaf, leaf_at};
@@ -26,9 +26,9 @@ impl SpcString {
     pub fn from_text(alloc: Global, text: &str) -> Result<SpcString, CharSetError>
         ensures made { MatchResult result
             (λ string. string.octets ≡ text_units text.now)
-            (RefusesCharSet (IsBasic text.now)) }
+            (RefusesCharSet (IsBasicPlane text.now)) }
         // A refusal comes before memory is asked for.
-        ensures refused { (IsBasic text.now → ⊥) → result ≡ Err CharSetError.CharSet }
+        ensures refused { (IsBasicPlane text.now → ⊥) → result ≡ Err CharSetError.CharSet }
     {
         if !is_basic(text) {
             return Err(CharSetError::CharSet);
@@ -71,7 +71,7 @@ impl SpcString {
 
 /// Whether each character is in the basic plane, so that it is one unit.
 fn is_basic(text: &str) -> bool
-    ensures { IsTrue result ↔ IsBasic text.now }
+    ensures { IsTrue result ↔ IsBasicPlane text.now }
 {
     for character in text.chars() {
         if character as u32 > 0xFFFF {
@@ -83,7 +83,7 @@ fn is_basic(text: &str) -> bool
 
 /// The octets of the units of a text.
 fn units_of(alloc: Global, text: &str) -> Result<Octets, AllocError>
-    requires { IsBasic text.now }
+    requires { IsBasicPlane text.now }
     ensures { IfOk result (λ octets. octets ≡ text_units text.now) }
 {
     let mut octets = Vec::new(alloc);

@@ -8,7 +8,7 @@ use Rattle.der_core.specs.declared.elem.Elem.{Elem}
 use Rattle.der_core.proofs.Parts.{same_kids}
 use Rattle.asn1_types.specs.Elements.{integer}
 use Rattle.asn1_types.specs.declared.integer.IntegerAsn1.{IntegerAsn1}
-use Rattle.content_types.specs.Ctl.{Begins, MayBegin, IsNothing, FirstNot, IsIntegerElement, IsString, IsPurposeList, IsTime, IsAlgorithm, AreEntries, AreExtensions, FromEntries, FromAlgorithm, FromThisUpdate, FromUsage, IsCtl}
+use Rattle.content_types.specs.Ctl.{Begins, MayBegin, IsNothing, FirstNot, IsIntegerElement, IsString, IsPurposeList, IsTime, IsAlgorithmElement, AreEntries, AreExtensions, FromEntries, FromAlgorithm, FromThisUpdate, FromUsage, IsCtl}
 use Rattle.content_types.specs.Facts.Ctls.{usage_no_integer, this_no_integer, number_no_string, algorithm_no_time, nothing_no_extensions}
 use Rattle.content_types.specs.CtlElement.{ctl}
 use Rattle.content_types.specs.declared.ctl.Ctl.{Ctl}
@@ -80,7 +80,7 @@ algorithm_row es t k4 k5 k6 next are n of =
     goes_on IsTime (FromAlgorithm es) next k5 k6 n (algorithm_no_time es k5) (behind_first IsTime (MayBegin IsTime (FromAlgorithm es)) k4 t k5 are of)
 
 pub entries_row : (es : List CTLEntry) (a : DerElement) (k6 k7 : List DerElement) → k6 ≡ a ∷ k7 → FromAlgorithm es k6 → FromEntries es k7
-entries_row es a k6 k7 are of = behind_first IsAlgorithm (FromEntries es) k6 a k7 are of
+entries_row es a k6 k7 are of = behind_first IsAlgorithmElement (FromEntries es) k6 a k7 are of
 
 pub no_entries : (es : List CTLEntry) (kids : List DerElement) → FirstNot (Fits AreEntries) kids → FromEntries es kids → ⊥
 no_entries es kids unfit b = subst (FirstNot (Fits AreEntries)) b.are unfit (es, b.is)
@@ -94,7 +94,7 @@ no_more kids more none = let same : more.kid ∷ more.rest ≡ [] = sym more.are
 
 pub ctl_whole : (e u t a x : DerElement) (k0 k1 k2 k3 k4 k5 k6 k7 k8 k9 : List DerElement) (version identifier number next extensions : Option Elem) (es : List CTLEntry)
     → e ≡ Constructed 0x30 (row k0) → Took IsIntegerElement version k0 k1 → (k1 ≡ u ∷ k2) × IsPurposeList u → Took IsString identifier k2 k3 → Took IsIntegerElement number k3 k4 → (k4 ≡ t ∷ k5) × IsTime t → Took IsTime next k5 k6
-    → (k6 ≡ a ∷ k7) × IsAlgorithm a → k7 ≡ x ∷ k8 → Took AreExtensions extensions k8 k9 → k9 ≡ [] → AreEntries x es → IsCtl e es
+    → (k6 ≡ a ∷ k7) × IsAlgorithmElement a → k7 ≡ x ∷ k8 → Took AreExtensions extensions k8 k9 → k9 ≡ [] → AreEntries x es → IsCtl e es
 ctl_whole e u t a x k0 k1 k2 k3 k4 k5 k6 k7 k8 k9 version identifier number next extensions es is tv tu ti tn tt' tx ta te te' none list =
     let entries : FromEntries es k7 = record { first = x; others = k8; are = te; is = list; rest = goes_back AreExtensions IsNothing extensions k8 k9 te' none } in
     let algorithm : FromAlgorithm es k6 = record { first = a; others = k7; are = ta.0; is = ta.1; rest = entries } in

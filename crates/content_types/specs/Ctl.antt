@@ -53,8 +53,8 @@ abbrev pub IsTime : DerElement → Type 0
 IsTime element = (0x17 ≤ tag_of element) × (tag_of element ≤ 0x18)
 
 -- an AlgorithmIdentifier
-abbrev pub IsAlgorithm : DerElement → Type 0
-IsAlgorithm = Fits (λ (element : DerElement) (value : AlgorithmIdentifier). element ≡ algorithm_identifier value)
+abbrev pub IsAlgorithmElement : DerElement → Type 0
+IsAlgorithmElement = Fits (λ (element : DerElement) (value : AlgorithmIdentifier). element ≡ algorithm_identifier value)
 
 -- The element holds the entries, in order.
 abbrev pub AreEntries : DerElement → List CTLEntry → Type 0
@@ -72,7 +72,7 @@ FromEntries entries = Begins (λ element. AreEntries element entries) (MayBegin 
 
 -- the fields from the algorithm on
 abbrev pub FromAlgorithm : List CTLEntry → List DerElement → Type 0
-FromAlgorithm entries = Begins IsAlgorithm (FromEntries entries)
+FromAlgorithm entries = Begins IsAlgorithmElement (FromEntries entries)
 
 -- the fields from the time of the update on
 abbrev pub FromThisUpdate : List CTLEntry → List DerElement → Type 0

@@ -27,7 +27,7 @@ use Rattle.asn1_types.specs.declared.integer.IntegerAsn1.{IntegerAsn1}
 use Rattle.key_types.specs.declared.algorithm.AlgorithmIdentifier.{AlgorithmIdentifier}
 use Rattle.x509_types.specs.declared.version.Version.TheVariants as versions
 use Rattle.x509_values.specs.declared.validity.Validity.{Validity}
-use Rattle.issuing_core.specs.BuiltCertificate.{authority_of, IsIssuedBy, IsIssuedTo, IsTbsBy, IsTbsFor, IsValidityOf, Name}
+use Rattle.issuing_core.specs.BuiltCertificate.{authority_of, IsBuiltBy, IsBuiltFor, IsTbsBy, IsTbsFor, IsValidityOf, NameSets}
 use Rattle.issuing_core.specs.Building.{IsBuilt, IsMade, algorithm_step, build_steps, given_steps, identifier_step, message_of, signing_steps, steps_by, subject_steps}
 use Rattle.issuing_core.specs.Inherited.{AreDistinct}
 use Rattle.issuing_core.specs.MadeExtensions.{AreBuilt, constraints_of}
@@ -61,7 +61,7 @@ module _ (judge : Judge) (signs : Signs) (pair : Pair) (b : CertificateBuilder) 
       behind_given e (refused_within errors.Memory (subject_steps judge issuer.self_signed b issuer) (identifier_step judge b issuer ∷ [])
       (algorithm_step b ∷ signing_steps (arithmetic judge signs pair) b.signature_hash_type issuer.key.now (IsTbsFor judge b issuer word)) e refused)
 
-  behind_subject : (own : List ℕ) (name : Name) (key : SubjectPublicKeyInfo) (e : CertError) → IsIssuedTo judge b issuer own name key
+  behind_subject : (own : List ℕ) (name : NameSets) (key : SubjectPublicKeyInfo) (e : CertError) → IsBuiltFor judge b issuer own name key
       → RefusesBySteps errors.Memory (algorithm_step b ∷ signing_steps (arithmetic judge signs pair) b.signature_hash_type issuer.key.now (IsTbsFor judge b issuer word)) e → RefusesBySteps errors.Memory (build_steps (arithmetic judge signs pair) b word) e
   behind_subject own name key e to_whom refused =
       behind_given e (refused_behind errors.Memory (subject_steps judge issuer.self_signed b issuer)
@@ -70,14 +70,14 @@ module _ (judge : Judge) (signs : Signs) (pair : Pair) (b : CertificateBuilder) 
       (refused_behind errors.Memory (identifier_step judge b issuer ∷ []) (algorithm_step b ∷ signing_steps (arithmetic judge signs pair) b.signature_hash_type issuer.key.now (IsTbsFor judge b issuer word)) e
       ((name, key, own, to_whom), tt) refused))
 
-  pub no_algorithm : (own : List ℕ) (name : Name) (key : SubjectPublicKeyInfo) (e : CertError) → IsIssuedTo judge b issuer own name key → RefusesBySteps errors.Memory (algorithm_step b ∷ []) e
+  pub no_algorithm : (own : List ℕ) (name : NameSets) (key : SubjectPublicKeyInfo) (e : CertError) → IsBuiltFor judge b issuer own name key → RefusesBySteps errors.Memory (algorithm_step b ∷ []) e
       → RefusesBySteps errors.Memory (build_steps (arithmetic judge signs pair) b word) e
   no_algorithm own name key e to_whom refused =
       behind_subject own name key e to_whom
       (refused_within errors.Memory [] (algorithm_step b ∷ []) (signing_steps (arithmetic judge signs pair) b.signature_hash_type issuer.key.now (IsTbsFor judge b issuer word)) e refused)
 
   -- what is signed is that of the builder
-  tbs_for : (own : List ℕ) (name : Name) (key : SubjectPublicKeyInfo) (tbs : TbsCertificate) → IsIssuedTo judge b issuer own name key → IsTbsBy b issuer word own tbs
+  tbs_for : (own : List ℕ) (name : NameSets) (key : SubjectPublicKeyInfo) (tbs : TbsCertificate) → IsBuiltFor judge b issuer own name key → IsTbsBy b issuer word own tbs
       → IsValidityOf from to tbs.validity → tbs.subject ≡ name → tbs.subject_public_key_info ≡ key → IsTbsFor judge b issuer word tbs
   tbs_for own name key tbs to_whom by validity named keyed = record {
     from = from;
@@ -86,11 +86,11 @@ module _ (judge : Judge) (signs : Signs) (pair : Pair) (b : CertificateBuilder) 
     valid_to = ends;
     validity = validity;
     own = own;
-    issued_to = subst (λ (n : Name). IsIssuedTo judge b issuer own n tbs.subject_public_key_info) (sym named) (subst (λ (k : SubjectPublicKeyInfo). IsIssuedTo judge b issuer own name k) (sym keyed) to_whom);
+    issued_to = subst (λ (n : NameSets). IsBuiltFor judge b issuer own n tbs.subject_public_key_info) (sym named) (subst (λ (k : SubjectPublicKeyInfo). IsBuiltFor judge b issuer own name k) (sym keyed) to_whom);
     by = by;
   }
 
-  pub built_or_refused : (own : List ℕ) (name : Name) (key : SubjectPublicKeyInfo) (tbs : TbsCertificate) (r : Result KeptCertificate CertError) → IsIssuedTo judge b issuer own name key → IsTbsBy b issuer word own tbs
+  pub built_or_refused : (own : List ℕ) (name : NameSets) (key : SubjectPublicKeyInfo) (tbs : TbsCertificate) (r : Result KeptCertificate CertError) → IsBuiltFor judge b issuer own name key → IsTbsBy b issuer word own tbs
       → IsValidityOf from to tbs.validity → tbs.subject ≡ name → tbs.subject_public_key_info ≡ key
       → MatchResult r (IsMade (arithmetic judge signs pair) b.signature_hash_type issuer.key.now (λ t. t ≡ tbs)) (RefusesBySteps errors.Memory (signing_steps (arithmetic judge signs pair) b.signature_hash_type issuer.key.now (λ t. t ≡ tbs)))
       → MatchResult r (IsBuilt (arithmetic judge signs pair) b word) (RefusesBySteps errors.Memory (build_steps (arithmetic judge signs pair) b word))
@@ -125,7 +125,7 @@ constrained judge signs pair b word (Err e) Refused is = tt
 
 -- ---- what is signed, of its parts
 
-abbrev parts : IntegerAsn1 → AlgorithmIdentifier → Name → Validity → Name → SubjectPublicKeyInfo → List Extension → TbsCertificate
+abbrev parts : IntegerAsn1 → AlgorithmIdentifier → NameSets → Validity → NameSets → SubjectPublicKeyInfo → List Extension → TbsCertificate
 parts serial algorithm issuer validity subject key extensions = record {
   version = Some versions.V3;
   serial_number = serial;
@@ -139,8 +139,8 @@ parts serial algorithm issuer validity subject key extensions = record {
   extensions = Some extensions;
 }
 
-pub tbs_by : (b : CertificateBuilder) (issuer : IssuerInfos) (word : ℕ) (own : List ℕ) (serial : IntegerAsn1) (algorithm : AlgorithmIdentifier) (by : Name) (validity : Validity) (subject : Name) (key : SubjectPublicKeyInfo)
-    (extensions : List Extension) (tbs : TbsCertificate) → tbs ≡ parts serial algorithm by validity subject key extensions → IsIssuedBy b issuer word serial algorithm by
+pub tbs_by : (b : CertificateBuilder) (issuer : IssuerInfos) (word : ℕ) (own : List ℕ) (serial : IntegerAsn1) (algorithm : AlgorithmIdentifier) (by : NameSets) (validity : Validity) (subject : NameSets) (key : SubjectPublicKeyInfo)
+    (extensions : List Extension) (tbs : TbsCertificate) → tbs ≡ parts serial algorithm by validity subject key extensions → IsBuiltBy b issuer word serial algorithm by
     → AreBuilt b issuer own (authority_of issuer.self_signed b.authority_key_identifier own) extensions
     → IsTbsBy b issuer word own tbs × (tbs.validity ≡ validity) × (tbs.subject ≡ subject) × (tbs.subject_public_key_info ≡ key)
 tbs_by b issuer word own serial algorithm by validity subject key extensions tbs is issued built =

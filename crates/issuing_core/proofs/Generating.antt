@@ -17,7 +17,7 @@ use Rattle.request_types.specs.CertificationRequest.{request}
 use Rattle.request_types.specs.declared.request.CertificationRequest.{CertificationRequest}
 use Rattle.request_types.specs.declared.request_info.CertificationRequestInfo.{CertificationRequestInfo}
 use Rattle.issuing_core.specs.CsrRefusals.{IsUnwrittenCsr, IsUnsigned}
-use Rattle.issuing_core.specs.Generated.{InfoUnsigned, InfoUnwritten, IsGenerated, IsInfoFor, IsInfoSigned, IsInfoWritten, IsMadeOf, IsSignedWhole, RefusesToGenerate, RefusesToMake}
+use Rattle.issuing_core.specs.Generated.{InfoUnsigned, InfoUnwritten, IsGenerated, IsInfoFor, IsInfoSigned, IsInfoWritten, IsRequestFor, IsSignedWhole, RefusesToGenerate, RefusesToMake}
 use Rattle.issuing_core.specs.KeptRequest.{KeptRequest, kept_request, request_elements}
 use Rattle.issuing_core.specs.SelfSigned.{IsSelfSigned}
 use Rattle.issuing_core.specs.Facts.Csrs.{info_once}
@@ -39,7 +39,7 @@ written_info csr r e = info_once csr.info (request_info r.certification_request_
 pub made : (judge : Judge) (signs : Signs) (pair : Pair) (key : PrivateKey) (algorithm : SignatureAlgorithm) (r : CertificationRequest) (result : Result KeptRequest CsrError)
     → IsInfoWritten r.certification_request_info → IsInfoSigned signs key algorithm r.certification_request_info → IsSignedWhole judge pair key algorithm r.certification_request_info r
     → MatchResult result (λ csr. (kept_request csr ≡ request r) × (csr.request ≡ r)) (IsUnwrittenCsr elements.Request (RefusesInner (request_elements r)))
-    → MatchResult result (λ csr. IsMadeOf algorithm r.certification_request_info csr × IsInfoSigned signs key algorithm r.certification_request_info) (RefusesToMake (arithmetic judge signs pair) key algorithm r.certification_request_info)
+    → MatchResult result (λ csr. IsRequestFor algorithm r.certification_request_info csr × IsInfoSigned signs key algorithm r.certification_request_info) (RefusesToMake (arithmetic judge signs pair) key algorithm r.certification_request_info)
 made judge signs pair key algorithm r (Ok csr) written signed whole (kept, value) = (
   record {
     info_is = ap (λ (x : CertificationRequest). x.certification_request_info) value;
@@ -63,14 +63,14 @@ accepted judge pair private algorithm r (Err e) Refused accepts is = tt
 
 pub generated : (judge : Judge) (signs : Signs) (pair : Pair) (subject : DirectoryName) (key : PrivateKey) (algorithm : SignatureAlgorithm) (attributes : List Attribute) (info : CertificationRequestInfo) (result : Result KeptRequest CsrError)
     → IsInfoFor subject key attributes info
-    → MatchResult result (λ csr. IsMadeOf algorithm info csr × IsInfoSigned signs key algorithm info) (RefusesToMake (arithmetic judge signs pair) key algorithm info)
+    → MatchResult result (λ csr. IsRequestFor algorithm info csr × IsInfoSigned signs key algorithm info) (RefusesToMake (arithmetic judge signs pair) key algorithm info)
     → MatchResult result (IsGenerated signs subject key algorithm attributes) (RefusesToGenerate (arithmetic judge signs pair) subject key algorithm attributes)
 generated judge signs pair subject key algorithm attributes info (Ok csr) asked (is, signed) = record { info = info; asked = asked; signed = signed; made = is }
 generated judge signs pair subject key algorithm attributes info (Err e) asked refused = inr (info, asked, refused)
 
 -- a request that names the algorithm and is accepted under its own key is self-signed
 pub self_signed : (signs : Signs) (judge : Judge) (pair : Pair) (private : PrivateKey) (algorithm : SignatureAlgorithm) (info : CertificationRequestInfo) (result : Result KeptRequest CsrError)
-    → MatchResult result (λ csr. IsMadeOf algorithm info csr × IsInfoSigned signs private algorithm info) (RefusesToMake (arithmetic judge signs pair) private algorithm info)
+    → MatchResult result (λ csr. IsRequestFor algorithm info csr × IsInfoSigned signs private algorithm info) (RefusesToMake (arithmetic judge signs pair) private algorithm info)
     → IfOk result (λ csr. (key : SubjectPublicKeyInfo) → IsKeyPair pair private key → Accepts judge algorithm key (encoding csr.info) csr.request.signature.payload)
     → IfOk result (λ csr. IsKeyPair pair private csr.request.certification_request_info.subject_public_key_info → IsSelfSigned judge csr)
 self_signed signs judge pair private algorithm info (Ok csr) (is, signed) accepts = λ paired. record {

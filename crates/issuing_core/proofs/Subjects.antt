@@ -9,7 +9,7 @@ use Rattle.x509_core.specs.Steps.{AreTaken, RefusesBySteps}
 use Rattle.x509_core.specs.declared.error.CertError.{CertError}
 use Rattle.x509_core.specs.declared.error.CertError.TheVariants as errors
 use Rattle.issuing_core.specs.BuildRefusals.{no_request, Tells}
-use Rattle.issuing_core.specs.BuiltCertificate.{IsGivenSubject, IsHalfOf, IsSubjectBy, Name}
+use Rattle.issuing_core.specs.BuiltCertificate.{IsGivenSubject, IsHalfOf, IsSubjectBy, NameSets}
 use Rattle.issuing_core.specs.Building.{half_step, other_steps, subject_steps}
 use Rattle.issuing_core.specs.CsrRefusals.{IsUnsigned}
 use Rattle.issuing_core.specs.KeptRequest.{KeptRequest}
@@ -25,7 +25,7 @@ other_request name key csr e = cc
 same_request : (a b : KeptRequest) → ◌≡◌ {A = Option SubjectInfos} (Some (subjects.Request a)) (Some (subjects.Request b)) → a ≡ b
 same_request a b e = cc
 
-other_taken : (judge : Judge) (issuer : IssuerInfos) (authority : Option (List ℕ)) (subject : Option SubjectInfos) (name : Name) (key : SubjectPublicKeyInfo) → IsSubjectBy judge false issuer authority subject name key
+other_taken : (judge : Judge) (issuer : IssuerInfos) (authority : Option (List ℕ)) (subject : Option SubjectInfos) (name : NameSets) (key : SubjectPublicKeyInfo) → IsSubjectBy judge false issuer authority subject name key
     → IsSome authority × (IsSome subject × (((csr : KeptRequest) → subject ≡ Some (subjects.Request csr) → IsSelfSigned judge csr) × Unit {0}))
 other_taken judge issuer None subject name key is = absurd is
 other_taken judge issuer (Some authority) None name key is = absurd is
@@ -33,12 +33,12 @@ other_taken judge issuer (Some authority) (Some (subjects.Named given own)) name
 other_taken judge issuer (Some authority) (Some (subjects.Request asked)) name key is = (refl, (refl, (λ csr e. subst (IsSelfSigned judge) (same_request asked csr e) is.0, tt)))
 
 -- where the subject is known, the steps to it are taken
-pub subject_taken : (judge : Judge) (own : Bool) (b : CertificateBuilder) (issuer : IssuerInfos) (name : Name) (key : SubjectPublicKeyInfo)
+pub subject_taken : (judge : Judge) (own : Bool) (b : CertificateBuilder) (issuer : IssuerInfos) (name : NameSets) (key : SubjectPublicKeyInfo)
     → IsSubjectBy judge own issuer b.authority_key_identifier b.subject_infos name key → AreTaken (subject_steps judge own b issuer)
 subject_taken judge true b issuer name key is = ((key, is.1), tt)
 subject_taken judge false b issuer name key is = other_taken judge issuer b.authority_key_identifier b.subject_infos name key is
 
-subject_by : (judge : Judge) (issuer : IssuerInfos) (authority : Option (List ℕ)) (subject : Option SubjectInfos) (name : Name) (key : SubjectPublicKeyInfo)
+subject_by : (judge : Judge) (issuer : IssuerInfos) (authority : Option (List ℕ)) (subject : Option SubjectInfos) (name : NameSets) (key : SubjectPublicKeyInfo)
     → IsSome authority → IsGivenSubject judge subject name key → IsSubjectBy judge false issuer authority subject name key
 subject_by judge issuer None subject name key some given = let no : false ≡ true = some in absurd cc
 subject_by judge issuer (Some authority) subject name key some given = given

@@ -15,7 +15,7 @@ use Rattle.x509_values.specs.declared.extended_key_usage.ExtendedKeyUsage.{Exten
 use Rattle.x509_values.specs.declared.key_usage.KeyUsage.{KeyUsage}
 use Rattle.x509_core.specs.FirstValue.{HasFirst}
 use Rattle.issuing_core.specs.Inherited.{has_one, with_one, with_others, AreDistinct}
-use Rattle.issuing_core.specs.MadeExtensions.{Wanted, IsWanted, AreWanted, AreBuilt, HasUses, IsConstraints, constraints_of, inherited, where_given, wanted, wanted_keys, wanted_names, wanted_uses}
+use Rattle.issuing_core.specs.MadeExtensions.{Wanted, IsWantedExtension, AreWanted, AreBuilt, HasUses, IsConstraints, constraints_of, inherited, where_given, wanted, wanted_keys, wanted_names, wanted_uses}
 use Rattle.issuing_core.specs.declared.builder.CertificateBuilder.{CertificateBuilder}
 use Rattle.issuing_core.specs.declared.builder.IssuerInfos.{IssuerInfos}
 
@@ -137,7 +137,7 @@ begins_others : (first : Extension) (es others : List Extension) → IsAtFront f
 begins_others first es [] begins = begins
 begins_others first es (e ∷ others) begins = begins_others first (with_one es e) others (begins_or first es e (has_one es (identifier_contents e.extn_id)) begins)
 
-first_wanted : (w : Wanted) (ws : List Wanted) (es : List Extension) → AreWanted (w ∷ ws) es → (e : Extension) × IsWanted w e × IsAtFront e es
+first_wanted : (w : Wanted) (ws : List Wanted) (es : List Extension) → AreWanted (w ∷ ws) es → (e : Extension) × IsWantedExtension w e × IsAtFront e es
 first_wanted w ws [] are = absurd are
 first_wanted w ws (e ∷ es) are = (e, are.0, (es, refl))
 

@@ -30,7 +30,7 @@ use Rattle.x509_core.specs.declared.error.Arg.TheVariants as arguments
 use Rattle.x509_core.specs.declared.error.CertError.{CertError}
 use Rattle.x509_core.specs.declared.error.CertError.TheVariants as errors
 use Rattle.issuing_core.specs.BuildRefusals.{no_half, no_request, no_key_id, no_algorithm, no_octets, no_signature, Tells}
-use Rattle.issuing_core.specs.BuiltCertificate.{IsHalfOf, Name, IsSubject, IsIssuedTo, IsTbsFor}
+use Rattle.issuing_core.specs.BuiltCertificate.{IsHalfOf, NameSets, IsSubject, IsBuiltFor, IsTbsFor}
 use Rattle.issuing_core.specs.CsrRefusals.{IsUnsigned}
 use Rattle.issuing_core.specs.KeptRequest.{KeptRequest}
 use Rattle.issuing_core.specs.SelfSigned.{IsSelfSigned, RefusesSelfSigned}
@@ -103,8 +103,8 @@ subject_steps judge false b issuer = other_steps judge b
 -- The key of the subject is identified. Where the issuer is the subject, so is the issuer's.
 abbrev pub identifier_step : Judge → CertificateBuilder → IssuerInfos → Step CertError
 identifier_step judge b issuer = record {
-  taken = (name : Name) × (key : SubjectPublicKeyInfo) × (own : List ℕ) × IsIssuedTo judge b issuer own name key;
-  refused = λ e. (name : Name) × (key : SubjectPublicKeyInfo) × IsSubject judge b issuer name key × Tells no_key_id (RefusesKeyIdentifier b.key_id_gen_method key) e;
+  taken = (name : NameSets) × (key : SubjectPublicKeyInfo) × (own : List ℕ) × IsBuiltFor judge b issuer own name key;
+  refused = λ e. (name : NameSets) × (key : SubjectPublicKeyInfo) × IsSubject judge b issuer name key × Tells no_key_id (RefusesKeyIdentifier b.key_id_gen_method key) e;
 }
 
 -- the algorithm has an identifier

@@ -36,24 +36,24 @@ abbrev pub IsHalfOf : PrivateKey → SubjectPublicKeyInfo → Type 0
 IsHalfOf key = IsPublicHalf (container_of key).private_key (container_of key).private_key_algorithm (point_beside key)
 
 -- a name, by its sets of attributes
-abbrev pub Name : Type 0
-Name = List (List AttributeTypeAndValue)
+abbrev pub NameSets : Type 0
+NameSets = List (List AttributeTypeAndValue)
 
 -- The name and the key are those of the subject that is given. A request has to be signed by its own key.
-abbrev pub IsGivenSubject : Judge → Option SubjectInfos → Name → SubjectPublicKeyInfo → Type 0
+abbrev pub IsGivenSubject : Judge → Option SubjectInfos → NameSets → SubjectPublicKeyInfo → Type 0
 IsGivenSubject judge None name key = ⊥
 IsGivenSubject judge (Some (subjects.Named given own)) name key = (name ≡ sets_of given) × (key ≡ info_of own)
 IsGivenSubject judge (Some (subjects.Request csr)) name key =
     IsSelfSigned judge csr × (name ≡ csr.request.certification_request_info.subject) × (key ≡ csr.request.certification_request_info.subject_public_key_info)
 
 -- The name and the key are those of the subject: of the issuer where it signs its own key, else the given ones, and the key of the issuer is identified.
-abbrev pub IsSubjectBy : Judge → (self_signed : Bool) → IssuerInfos → Option (List ℕ) → Option SubjectInfos → Name → SubjectPublicKeyInfo → Type 0
+abbrev pub IsSubjectBy : Judge → (self_signed : Bool) → IssuerInfos → Option (List ℕ) → Option SubjectInfos → NameSets → SubjectPublicKeyInfo → Type 0
 IsSubjectBy judge true issuer authority given name key = (name ≡ sets_of issuer.name) × IsHalfOf issuer.key.now key
 IsSubjectBy judge false issuer None given name key = ⊥
 IsSubjectBy judge false issuer (Some authority) given name key = IsGivenSubject judge given name key
 
 -- The name and the key are those of the subject that the builder asks for.
-abbrev pub IsSubject : Judge → CertificateBuilder → IssuerInfos → Name → SubjectPublicKeyInfo → Type 0
+abbrev pub IsSubject : Judge → CertificateBuilder → IssuerInfos → NameSets → SubjectPublicKeyInfo → Type 0
 IsSubject judge b issuer = IsSubjectBy judge issuer.self_signed issuer b.authority_key_identifier b.subject_infos
 
 -- how the key of the issuer is identified: as it is given, but as the subject's where they are the same (RFC 5280 4.2.1.1)
@@ -68,20 +68,20 @@ pub record IsValidityOf (from to : GeneralizedTime) (validity : Validity) : Type
   pub ends : IsTimeOf to validity.not_after
 
 -- By whom it is issued: the number, the algorithm, the name of the issuer.
-pub record IsIssuedBy (b : CertificateBuilder) (issuer : IssuerInfos) (word : ℕ) (serial_number : IntegerAsn1) (algorithm : AlgorithmIdentifier) (name : Name) : Type 0 where
+pub record IsBuiltBy (b : CertificateBuilder) (issuer : IssuerInfos) (word : ℕ) (serial_number : IntegerAsn1) (algorithm : AlgorithmIdentifier) (name : NameSets) : Type 0 where
   pub numbered : IsUnsignedInteger (serial_of b.serial_number word) (integer_contents serial_number)
   pub signs : IsWrittenAlgorithm b.signature_hash_type algorithm
   pub named : name ≡ sets_of issuer.name
 
 -- To whom: the name, the key, and how it is identified.
-pub record IsIssuedTo (judge : Judge) (b : CertificateBuilder) (issuer : IssuerInfos) (own : List ℕ) (name : Name) (key : SubjectPublicKeyInfo) : Type 0 where
+pub record IsBuiltFor (judge : Judge) (b : CertificateBuilder) (issuer : IssuerInfos) (own : List ℕ) (name : NameSets) (key : SubjectPublicKeyInfo) : Type 0 where
   pub subject : IsSubject judge b issuer name key
   pub identified : IsKeyIdentifier b.key_id_gen_method key own
 
 -- Its fields are the builder's, but for the times, the subject and its key, which is identified so.
 pub record IsTbsBy (b : CertificateBuilder) (issuer : IssuerInfos) (word : ℕ) (own : List ℕ) (tbs : TbsCertificate) : Type 0 where
   pub version : tbs.version ≡ Some versions.V3
-  pub issued_by : IsIssuedBy b issuer word tbs.serial_number tbs.signature tbs.issuer
+  pub issued_by : IsBuiltBy b issuer word tbs.serial_number tbs.signature tbs.issuer
   pub issuer_unique_id : tbs.issuer_unique_id ≡ None
   pub subject_unique_id : tbs.subject_unique_id ≡ None
   pub extensions : List Extension
@@ -96,5 +96,5 @@ pub record IsTbsFor (judge : Judge) (b : CertificateBuilder) (issuer : IssuerInf
   pub valid_to : b.valid_to ≡ Some to
   pub validity : IsValidityOf from to tbs.validity
   pub own : List ℕ
-  pub issued_to : IsIssuedTo judge b issuer own tbs.subject tbs.subject_public_key_info
+  pub issued_to : IsBuiltFor judge b issuer own tbs.subject tbs.subject_public_key_info
   pub by : IsTbsBy b issuer word own tbs

@@ -36,7 +36,7 @@ abbrev pub IsInfoSigned : Signs → PrivateKey → SignatureAlgorithm → Certif
 IsInfoSigned signs key algorithm info = IsAsked signs algorithm key (encoding (request_info info)) true
 
 -- The request is what is written for this that is asked for, this algorithm, and a signature without unused bits.
-pub record IsMadeOf (algorithm : SignatureAlgorithm) (info : CertificationRequestInfo) (csr : KeptRequest) : Type 0 where
+pub record IsRequestFor (algorithm : SignatureAlgorithm) (info : CertificationRequestInfo) (csr : KeptRequest) : Type 0 where
   pub info_is : csr.request.certification_request_info ≡ info
   pub algorithm_is : IsWrittenAlgorithm algorithm csr.request.signature_algorithm
   pub unused : unused_of csr.request.signature ≡ 0
@@ -47,7 +47,7 @@ pub record IsGenerated (signs : Signs) (subject : DirectoryName) (key : PrivateK
   pub info : CertificationRequestInfo
   pub asked : IsInfoFor subject key attributes info
   pub signed : IsInfoSigned signs key algorithm info
-  pub made : IsMadeOf algorithm info csr
+  pub made : IsRequestFor algorithm info csr
 
 -- ---- why none is generated
 

@@ -23,7 +23,7 @@ pub record Wanted : Type 0 where
   pub value : ExtensionView
 
 -- The extension is the wanted one.
-pub record IsWanted (w : Wanted) (e : Extension) : Type 0 where
+pub record IsWantedExtension (w : Wanted) (e : Extension) : Type 0 where
   pub named : identifier_contents (extension_id e) ≡ w.oid
   pub flagged : is_critical e ≡ w.critical
   pub valued : extension_value e ≡ w.value
@@ -33,7 +33,7 @@ abbrev pub AreWanted : List Wanted → List Extension → Type 0
 AreWanted [] [] = ⊤
 AreWanted [] (e ∷ extensions) = ⊥
 AreWanted (w ∷ wanted) [] = ⊥
-AreWanted (w ∷ wanted) (e ∷ extensions) = IsWanted w e × AreWanted wanted extensions
+AreWanted (w ∷ wanted) (e ∷ extensions) = IsWantedExtension w e × AreWanted wanted extensions
 
 -- one of this identifier, where its value is given
 abbrev pub where_given : {X : Type 0} → List ℕ → Bool → (X → ExtensionView) → Option X → List Wanted

@@ -19,7 +19,7 @@ use Rattle.key_core.specs.CurveKeys.{IsCurveKey, RefusesCurveKey}
 use Rattle.key_core.specs.DerivedKeys.{Derivation, IsDerived, RefusesDerived, IsPointOf, RefusesPoint, IsEdKeyOf, RefusesEdKey, IsEcRefusal, IsEdRefusal, curve_kind, ed_kind}
 use Rattle.key_core.specs.EcCurve.{field_size}
 use Rattle.key_core.specs.KeyRefusals.{IsUnread}
-use Rattle.key_core.specs.Pkcs8.{IsKeptEc, IsKeptEd, IsKept, KeepsItself, RefusesEcInfo, RefusesEdInfo, RefusesKept, RefusesPkcs8}
+use Rattle.key_core.specs.Pkcs8.{IsKeptEc, IsKeptEd, IsKeptKey, KeepsItself, RefusesEcInfo, RefusesEdInfo, RefusesKept, RefusesPkcs8}
 use Rattle.key_core.specs.PrivateKeyInfo.{private_key_info, inner_private_key, IsPrivateKeyInfo}
 use Rattle.key_core.specs.Facts.PrivateKeyInfos.{infos_once, infos_formed}
 use Rattle.key_core.specs.declared.ec_curve.EcCurve.{EcCurve}
@@ -118,7 +118,7 @@ ed_for_memory Refuses none (errors.UnsupportedAlgorithm kind) refused = absurd r
 ed_for_memory Refuses none errors.Memory refused = refl
 
 kept_for_memory : (derives : Derivation) (value : PrivateKeyValue) (info : PrivateKeyInfo) (key : PrivateKey) (e : KeyError)
-    → IsKept derives value info key → RefusesKept derives value info e → e ≡ errors.Memory
+    → IsKeptKey derives value info key → RefusesKept derives value info e → e ≡ errors.Memory
 kept_for_memory derives (values.Rsa rsa) info key e kept refused = refused
 kept_for_memory derives (values.Ec read) info key e kept refused =
     ec_for_memory (RefusesEcInfo derives read (kept_option info.private_key_algorithm.parameters)) (λ context. not_ec_info derives read info key context kept) e refused

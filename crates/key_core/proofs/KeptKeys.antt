@@ -16,7 +16,7 @@ use Rattle.private_key_types.specs.declared.ec_private_key.ECPrivateKey.{ECPriva
 use Rattle.key_core.specs.CurveKeys.{anew, IsEcContainer, IsCurveKey}
 use Rattle.key_core.specs.DerivedKeys.{Derivation, IsCurveOf, IsEdOf, IsDerived, IsPointOf, IsEdKeyOf, whole_bits, curve_kind, ed_kind}
 use Rattle.key_core.specs.EcCurve.{field_size}
-use Rattle.key_core.specs.Pkcs8.{IsKeptEd, IsKeptEc, IsKept}
+use Rattle.key_core.specs.Pkcs8.{IsKeptEd, IsKeptEc, IsKeptKey}
 use Rattle.key_core.specs.Facts.PrivateKeyInfos.{same_info, bits_once}
 use Rattle.key_core.specs.Facts.PrivateKeys.{same_key}
 use Rattle.key_core.specs.declared.ec_curve.EcCurve.{EcCurve}
@@ -90,7 +90,7 @@ one_kept_ed derives secret info a b p q =
     let known = one_algorithm (identifier_contents info.private_key_algorithm.oid) p.known q.known p.named q.named in
     same_key a b (p.as_read ∙ sym q.as_read) (one_ed_key derives q.known secret a.public_key b.public_key (subst (λ (k : Option EdAlgorithm). IsEdKeyOf derives k secret a.public_key) known p.derived) q.derived)
 
-pub one_kept : (derives : Derivation) (value : PrivateKeyValue) (info : PrivateKeyInfo) (a b : PrivateKey) → IsKept derives value info a → IsKept derives value info b → a ≡ b
+pub one_kept : (derives : Derivation) (value : PrivateKeyValue) (info : PrivateKeyInfo) (a b : PrivateKey) → IsKeptKey derives value info a → IsKeptKey derives value info b → a ≡ b
 one_kept derives (values.Rsa rsa) info a b p q = same_key a b (p.0 ∙ sym q.0) (p.1 ∙ sym q.1)
 one_kept derives (values.Ec read) info a b p q = one_kept_ec derives read info a b p q
 one_kept derives (values.Ed secret) info a b p q = one_kept_ed derives secret info a b p q
@@ -104,7 +104,7 @@ again_curve curve (Some read) = refl
 anew_again : (curve : ObjectIdentifier) (read : ECPrivateKey) → anew curve read ≡ anew curve (anew curve read)
 anew_again curve read = λ i. record { private_key = read.private_key; parameters = sym (again_curve curve read.parameters) i; public_key = read.public_key }
 
-pub curve_key_again : (derives : Derivation) (curve : ObjectIdentifier) (read : ECPrivateKey) (key : PrivateKey) → IsCurveKey derives curve read key → IsKept derives key.info.private_key key.info key
+pub curve_key_again : (derives : Derivation) (curve : ObjectIdentifier) (read : ECPrivateKey) (key : PrivateKey) → IsCurveKey derives curve read key → IsKeptKey derives key.info.private_key key.info key
 curve_key_again derives curve read key is =
     let again : IsCurveKey derives curve (anew curve read) key = record {
       known = is.known;
@@ -112,12 +112,12 @@ curve_key_again derives curve read key is =
       container = subst (λ (k : ECPrivateKey). IsEcContainer curve k key.info) (anew_again curve read) is.container;
       point = is.point;
     } in
-    let kept : IsKept derives (values.Ec (anew curve read)) key.info key = record { curve = curve; parameters = is.container.parameters; is = again } in
-    subst (λ (v : PrivateKeyValue). IsKept derives v key.info key) (sym is.container.is) kept
+    let kept : IsKeptKey derives (values.Ec (anew curve read)) key.info key = record { curve = curve; parameters = is.container.parameters; is = again } in
+    subst (λ (v : PrivateKeyValue). IsKeptKey derives v key.info key) (sym is.container.is) kept
 
-pub kept_again : (derives : Derivation) (value : PrivateKeyValue) (info : PrivateKeyInfo) → info.private_key ≡ value → (key : PrivateKey) → IsKept derives value info key → IsKept derives key.info.private_key key.info key
+pub kept_again : (derives : Derivation) (value : PrivateKeyValue) (info : PrivateKeyInfo) → info.private_key ≡ value → (key : PrivateKey) → IsKeptKey derives value info key → IsKeptKey derives key.info.private_key key.info key
 kept_again derives (values.Rsa rsa) info is key kept =
-    subst (λ (v : PrivateKeyValue). IsKept derives v key.info key) (sym (ap (λ (i : PrivateKeyInfo). i.private_key) kept.0 ∙ is)) (refl, kept.1)
+    subst (λ (v : PrivateKeyValue). IsKeptKey derives v key.info key) (sym (ap (λ (i : PrivateKeyInfo). i.private_key) kept.0 ∙ is)) (refl, kept.1)
 kept_again derives (values.Ec read) info is key kept = curve_key_again derives kept.curve read key kept.is
 kept_again derives (values.Ed secret) info is key kept =
     let own : IsKeptEd derives secret key.info key = record {
@@ -126,4 +126,4 @@ kept_again derives (values.Ed secret) info is key kept =
       named = subst (λ (i : PrivateKeyInfo). IsEdOf (identifier_contents i.private_key_algorithm.oid) kept.known) (sym kept.as_read) kept.named;
       derived = kept.derived;
     } in
-    subst (λ (v : PrivateKeyValue). IsKept derives v key.info key) (sym (ap (λ (i : PrivateKeyInfo). i.private_key) kept.as_read ∙ is)) own
+    subst (λ (v : PrivateKeyValue). IsKeptKey derives v key.info key) (sym (ap (λ (i : PrivateKeyInfo). i.private_key) kept.as_read ∙ is)) own

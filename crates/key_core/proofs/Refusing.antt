@@ -11,7 +11,7 @@ use Rattle.private_key_types.specs.declared.ec_private_key.ECPrivateKey.{ECPriva
 use Rattle.key_core.specs.CurveKeys.{IsECPrivateKey, IsCurveKey, RefusesCurveKey, IsSec1Key, IsSec1KeyOnKnown, RefusesSec1, RefusesOwnCurve, RefusesKnownCurve}
 use Rattle.key_core.specs.DerivedKeys.{Derivation, IsEcRefusal, RefusesPoint}
 use Rattle.key_core.specs.EcCurve.{curve_identifier}
-use Rattle.key_core.specs.Pkcs8.{IsKept, RefusesEcInfo, RefusesKept, IsPkcs8Key, RefusesPkcs8}
+use Rattle.key_core.specs.Pkcs8.{IsKeptKey, RefusesEcInfo, RefusesKept, IsPkcs8Key, RefusesPkcs8}
 use Rattle.key_core.specs.PrivateKeyInfo.{IsPrivateKeyInfo}
 use Rattle.key_core.specs.declared.ec_curve.EcCurve.{EcCurve}
 use Rattle.key_core.specs.declared.error.KeyContext.{KeyContext}
@@ -66,16 +66,16 @@ on_parameters derives parameters octets curve read found is (Err e) refused =
 
 as_ec : (derives : Derivation) (info : PrivateKeyInfo) (read : ECPrivateKey)
     → (r : Result PrivateKey KeyError) → MatchResult r (λ key. (o : ObjectIdentifier) × (kept_option info.private_key_algorithm.parameters ≡ Some (object_identifier o)) × IsCurveKey derives o read key) (IsEcRefusal (RefusesEcInfo derives read (kept_option info.private_key_algorithm.parameters)))
-    → MatchResult r (IsKept derives (values.Ec read) info) (RefusesKept derives (values.Ec read) info)
+    → MatchResult r (IsKeptKey derives (values.Ec read) info) (RefusesKept derives (values.Ec read) info)
 as_ec derives info read (Ok key) made = record { curve = made.0; parameters = made.1; is = made.2 }
 as_ec derives info read (Err e) refused = refused
 
 -- a container with a key of an elliptic curve
 pub kept_as_ec : (derives : Derivation) (info : PrivateKeyInfo) (read : ECPrivateKey) → info.private_key ≡ values.Ec read
     → (r : Result PrivateKey KeyError) → MatchResult r (λ key. (o : ObjectIdentifier) × (kept_option info.private_key_algorithm.parameters ≡ Some (object_identifier o)) × IsCurveKey derives o read key) (IsEcRefusal (RefusesEcInfo derives read (kept_option info.private_key_algorithm.parameters)))
-    → MatchResult r (IsKept derives info.private_key info) (RefusesKept derives info.private_key info)
+    → MatchResult r (IsKeptKey derives info.private_key info) (RefusesKept derives info.private_key info)
 kept_as_ec derives info read is r answer =
-    subst (λ (v : PrivateKeyValue). MatchResult r (IsKept derives v info) (RefusesKept derives v info)) (sym is) (as_ec derives info read r answer)
+    subst (λ (v : PrivateKeyValue). MatchResult r (IsKeptKey derives v info) (RefusesKept derives v info)) (sym is) (as_ec derives info read r answer)
 
 -- ---- answers on octets
 
@@ -109,7 +109,7 @@ sec1_known derives curve octets read within (Ok key) made =
 sec1_known derives curve octets read within (Err e) refused = refused_sec1 (RefusesKnownCurve derives curve) octets read within e refused
 
 pub pkcs8_kept : (derives : Derivation) (octets : List ℕ) (info : PrivateKeyInfo) → IsWithin IsPrivateKeyInfo octets info
-    → (r : Result PrivateKey KeyError) → MatchResult r (IsKept derives info.private_key info) (RefusesKept derives info.private_key info)
+    → (r : Result PrivateKey KeyError) → MatchResult r (IsKeptKey derives info.private_key info) (RefusesKept derives info.private_key info)
     → MatchResult r (IsPkcs8Key derives octets) (RefusesPkcs8 derives octets)
 pkcs8_kept derives octets info within (Ok key) kept = record { info = info; within = within; kept = kept }
 pkcs8_kept derives octets info within (Err e) refused = inr (info, within, refused)

@@ -38,14 +38,14 @@ pub record IsKeptEc (derives : Derivation) (read : ECPrivateKey) (info : Private
   pub is : IsCurveKey derives curve read key
 
 -- the key that is kept of a container with this private key; one of RSA is kept as it was read
-abbrev pub IsKept : Derivation → PrivateKeyValue → PrivateKeyInfo → PrivateKey → Type 0
-IsKept derives (values.Rsa rsa) info key = (key.info ≡ info) × (key.public_key ≡ None)
-IsKept derives (values.Ec read) info key = IsKeptEc derives read info key
-IsKept derives (values.Ed secret) info key = IsKeptEd derives secret info key
+abbrev pub IsKeptKey : Derivation → PrivateKeyValue → PrivateKeyInfo → PrivateKey → Type 0
+IsKeptKey derives (values.Rsa rsa) info key = (key.info ≡ info) × (key.public_key ≡ None)
+IsKeptKey derives (values.Ec read) info key = IsKeptEc derives read info key
+IsKeptKey derives (values.Ed secret) info key = IsKeptEd derives secret info key
 
 -- the key is what is kept of its own container, as every key is that was read
 abbrev pub KeepsItself : Derivation → PrivateKey → Type 0
-KeepsItself derives key = IsKept derives key.info.private_key key.info key
+KeepsItself derives key = IsKeptKey derives key.info.private_key key.info key
 
 -- why a container with a key of an elliptic curve isn't kept: the parameters name no curve, or there is no key on it
 abbrev pub RefusesEcInfo : Derivation → ECPrivateKey → Option DerElement → KeyContext → Type 0
@@ -67,7 +67,7 @@ RefusesKept derives (values.Ed secret) info e = IsEdRefusal (RefusesEdInfo deriv
 pub record IsPkcs8Key (derives : Derivation) (octets : List ℕ) (key : PrivateKey) : Type 0 where
   pub info : PrivateKeyInfo
   pub within : IsWithin IsPrivateKeyInfo octets info
-  pub kept : IsKept derives info.private_key info key
+  pub kept : IsKeptKey derives info.private_key info key
 
 -- The octets aren't those of a PrivateKeyInfo, or the one that they are isn't kept.
 abbrev pub RefusesPkcs8 : Derivation → List ℕ → KeyError → Type 0

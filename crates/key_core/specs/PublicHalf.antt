@@ -35,7 +35,7 @@ RefusesPublicHalf (values.Ec key) public_key e = IsEcRefusal (λ context. (conte
 RefusesPublicHalf (values.Ed secret) public_key e = IsEdRefusal (λ context. (context ≡ contexts.PublicKeyMissing) × (public_key ≡ None)) e
 
 -- what is told where there is none, of a key of RSA nothing
-abbrev pub IsMissing : PrivateKeyValue → KeyError → Type 0
-IsMissing (values.Rsa key) e = ⊥
-IsMissing (values.Ec key) e = e ≡ errors.EC contexts.PublicKeyMissing
-IsMissing (values.Ed secret) e = e ≡ errors.ED contexts.PublicKeyMissing
+abbrev pub IsMissingHalf : PrivateKeyValue → KeyError → Type 0
+IsMissingHalf (values.Rsa key) e = ⊥
+IsMissingHalf (values.Ec key) e = e ≡ errors.EC contexts.PublicKeyMissing
+IsMissingHalf (values.Ed secret) e = e ≡ errors.ED contexts.PublicKeyMissing

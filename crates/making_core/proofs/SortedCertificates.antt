@@ -30,11 +30,11 @@ AreSorted all rest members =
 pub none_sorted : (all : List KeptCertificate) (members : List CertificateChoices) → members ≡ [] → AreSorted all all members
 none_sorted all members e later p = (later, p, ap (λ (ms : List CertificateChoices). map certificate_choice ms ++ map certificate_of later) e)
 
-pub root_passed : (all rest others : List KeptCertificate) (k : KeptCertificate) (members : List CertificateChoices) → AreSorted all rest members → rest ≡ k ∷ others → IsRoot k.elements → AreSorted all others members
+pub root_passed : (all rest others : List KeptCertificate) (k : KeptCertificate) (members : List CertificateChoices) → AreSorted all rest members → rest ≡ k ∷ others → IsRootCertificate k.elements → AreSorted all others members
 root_passed all rest others k members sorted e root later p =
     sorted later (subst (λ (ks : List KeptCertificate). AreWithoutRoots (elements_of ks) later) (sym e) (inl (root, p)))
 
-pub other_kept : (all rest others : List KeptCertificate) (k : KeptCertificate) (members members' : List CertificateChoices) (member : CertificateChoices) → AreSorted all rest members → rest ≡ k ∷ others → (IsRoot k.elements → ⊥)
+pub other_kept : (all rest others : List KeptCertificate) (k : KeptCertificate) (members members' : List CertificateChoices) (member : CertificateChoices) → AreSorted all rest members → rest ≡ k ∷ others → (IsRootCertificate k.elements → ⊥)
     → certificate_choice member ≡ certificate_of k.elements → members' ≡ members ++ member ∷ [] → AreSorted all others members'
 other_kept all rest others k members members' member sorted e other is pushed later p =
     subst (HoldsWithoutRoots (elements_of all)) (pushed_before members members' member (certificate_of k.elements) (map certificate_of later) is pushed)
@@ -59,28 +59,28 @@ others_carried (k ∷ l ∷ bag) members e h = h
 
 -- ---- whether one is a root's
 
-no_intermediate : (f : CertificateElements) → IsOfType f types.Intermediate → IsRoot f → ⊥
+no_intermediate : (f : CertificateElements) → IsOfType f types.Intermediate → IsRootCertificate f → ⊥
 no_intermediate f other root = other.1 root.1
 
-no_leaf : (f : CertificateElements) → IsOfType f types.Leaf → IsRoot f → ⊥
+no_leaf : (f : CertificateElements) → IsOfType f types.Leaf → IsRootCertificate f → ⊥
 no_leaf f other root = absurd (cc (ca_once f false true other root.0))
 
-no_unknown : (f : CertificateElements) → IsOfType f types.Unknown → IsRoot f → ⊥
+no_unknown : (f : CertificateElements) → IsOfType f types.Unknown → IsRootCertificate f → ⊥
 no_unknown f other root = other true root.0
 
 never : {P : Type 0} → (P → ⊥) → IsTrue false ↔ P
 never none = (λ t. absurd (cc t), λ p. absurd (none p))
 
-pub is_root : (f : CertificateElements) → IsRoot f → IsTrue true ↔ IsRoot f
+pub is_root : (f : CertificateElements) → IsRootCertificate f → IsTrue true ↔ IsRootCertificate f
 is_root f root = (λ t. root, λ r. refl)
 
-pub is_intermediate : (f : CertificateElements) → IsOfType f types.Intermediate → IsTrue false ↔ IsRoot f
+pub is_intermediate : (f : CertificateElements) → IsOfType f types.Intermediate → IsTrue false ↔ IsRootCertificate f
 is_intermediate f other = never (no_intermediate f other)
 
-pub is_leaf : (f : CertificateElements) → IsOfType f types.Leaf → IsTrue false ↔ IsRoot f
+pub is_leaf : (f : CertificateElements) → IsOfType f types.Leaf → IsTrue false ↔ IsRootCertificate f
 is_leaf f other = never (no_leaf f other)
 
-pub is_unknown : (f : CertificateElements) → IsOfType f types.Unknown → IsTrue false ↔ IsRoot f
+pub is_unknown : (f : CertificateElements) → IsOfType f types.Unknown → IsTrue false ↔ IsRootCertificate f
 is_unknown f other = never (no_unknown f other)
 
 -- those of several

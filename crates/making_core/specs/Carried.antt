@@ -11,15 +11,15 @@ abbrev pub elements_of : List KeptCertificate → List CertificateElements
 elements_of certificates = map (λ (kept : KeptCertificate). kept.elements) certificates
 
 -- the certificate is a root's
-abbrev pub IsRoot : CertificateElements → Type 0
-IsRoot c = IsOfType c types.Root
+abbrev pub IsRootCertificate : CertificateElements → Type 0
+IsRootCertificate c = IsOfType c types.Root
 
 -- those that are no root's, in order
 abbrev pub AreWithoutRoots : List CertificateElements → List CertificateElements → Type 0
 AreWithoutRoots [] carried = carried ≡ []
 AreWithoutRoots (c ∷ bag) carried =
-    (IsRoot c × AreWithoutRoots bag carried)
-    ⊎ ((IsRoot c → ⊥) × (others : List CertificateElements) × (carried ≡ c ∷ others) × AreWithoutRoots bag others)
+    (IsRootCertificate c × AreWithoutRoots bag carried)
+    ⊎ ((IsRootCertificate c → ⊥) × (others : List CertificateElements) × (carried ≡ c ∷ others) × AreWithoutRoots bag others)
 
 -- of one certificate this one, of others those that are no root's
 abbrev pub AreCarried : List CertificateElements → List CertificateElements → Type 0

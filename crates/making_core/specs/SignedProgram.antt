@@ -2,7 +2,7 @@
 use Rattle.std.specs.Prelude.{◌≡◌, ⊤, ℕ, List, [], ◌∷◌, map, true, Option, Some, None}
 use Rattle.cms_types.specs.DigestAlgorithm.{digest_algorithm}
 use Rattle.cms_types.specs.SignedDataElements.{SignedDataElements}
-use Rattle.cms_types.specs.Units.{IsBasic}
+use Rattle.cms_types.specs.Units.{IsBasicPlane}
 use Rattle.der_core.specs.DerElement.{DerElement, Primitive}
 use Rattle.der_core.specs.Elements.{sequence}
 use Rattle.key_core.specs.Signing.{KeyArithmetic, IsAsked, IsKeyPair}
@@ -31,7 +31,7 @@ program_of hash file_hash name = record { hash = hash; file_hash = file_hash; op
 -- the name, where there is one, is one of characters of the basic plane
 abbrev pub IsBasicName : Option (List ℕ) → Type 0
 IsBasicName None = ⊤
-IsBasicName (Some text) = IsBasic text
+IsBasicName (Some text) = IsBasicPlane text
 
 -- the attributes that are signed
 abbrev pub attributes_for : Program → List DerElement
@@ -46,8 +46,8 @@ abbrev pub message_for : Program → List ℕ
 message_for p = attributes_message (attributes_for p)
 
 -- the issuer and the serial number of a certificate (RFC 5652 10.2.4)
-abbrev pub name_of : CertificateElements → DerElement
-name_of c = sequence (c.tbs.issuer ∷ Primitive 0x02 c.tbs.serial_number ∷ [])
+abbrev pub issuer_and_serial_of : CertificateElements → DerElement
+issuer_and_serial_of c = sequence (c.tbs.issuer ∷ Primitive 0x02 c.tbs.serial_number ∷ [])
 
 -- The signature of a program by the first of these certificates.
 abbrev pub parts_for : Program → (first : CertificateElements) → (carried : List CertificateElements) → (signature : List ℕ) → SignatureParts
@@ -55,7 +55,7 @@ parts_for p first carried signature = record {
   algorithm = digest_algorithm p.hash;
   content_info = program_content p.hash p.file_hash;
   certificates = map certificate_of carried;
-  named = name_of first;
+  named = issuer_and_serial_of first;
   attributes = attributes_element (attributes_for p);
   signature = signature;
   unsigned = None;

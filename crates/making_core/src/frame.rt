@@ -14,7 +14,7 @@ ghost use Rattle.der_core.specs.DerElement.{Constructed, row};
 ghost use Rattle.der_core.specs.Each.{list_element};
 ghost use Rattle.der_core.specs.Elements.{octet_string, set};
 ghost use Rattle.key_types.specs.AlgorithmIdentifier.{algorithm_identifier};
-ghost use Rattle.making_core.specs.SignedProgram.{name_of};
+ghost use Rattle.making_core.specs.SignedProgram.{issuer_and_serial_of};
 ghost use Rattle.making_core.specs.MadeSignature.{rsa_encryption as rsa_element, version_one};
 
 use asn1_types::ObjectIdentifier;
@@ -32,7 +32,7 @@ use x509_core::Cert;
 
 /// What names a certificate: its issuer and its serial number (RFC 5652 10.2.4).
 pub fn named_by(alloc: Global, certificate: &Cert) -> Result<SignerIdentifier, AllocError>
-    ensures { IfOk result (λ sid. signer_identifier sid ≡ name_of certificate.now.elements) }
+    ensures { IfOk result (λ sid. signer_identifier sid ≡ issuer_and_serial_of certificate.now.elements) }
 {
     let issuer = Name::from(certificate.issuer_name(alloc)?);
     let serial_number = certificate.serial_number().try_clone(alloc)?;

@@ -11,7 +11,7 @@ ghost use Rattle.der_core.specs.DerElement.{Primitive};
 ghost use Rattle.x509_types.specs.CertificateElements.{CertificateElements, certificate_of};
 ghost use Rattle.making_core.specs.Carried.{AreCarried, elements_of};
 ghost use Rattle.making_core.specs.MadeSignature.{signature_made};
-ghost use Rattle.making_core.specs.SignedProgram.{name_of};
+ghost use Rattle.making_core.specs.SignedProgram.{issuer_and_serial_of};
 
 use crate::content::content_of;
 use crate::frame::{digests_of, framed, named_by, signer_info_of, signers_of};
@@ -37,7 +37,7 @@ pub fn program_signature(
       algorithm = digest_algorithm hash;
       content_info = content_info_of (Primitive 0x06 SPC_INDIRECT_DATA.now) (Some (indirect_data_content indirect));
       certificates = map certificate_of carried;
-      named = name_of first.now.elements;
+      named = issuer_and_serial_of first.now.elements;
       attributes = signed_attributes attributes;
       signature = signature;
       unsigned = None;

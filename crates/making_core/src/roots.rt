@@ -2,7 +2,7 @@
 
 ghost use Rattle.std.specs.Prelude.{◌↔◌, IfOk, IsTrue, map};
 ghost use Rattle.cms_types.specs.CertificateChoices.{certificate_choice};
-ghost use Rattle.making_core.specs.Carried.{HoldsCarried, HoldsWithoutRoots, IsRoot, elements_of};
+ghost use Rattle.making_core.specs.Carried.{HoldsCarried, HoldsWithoutRoots, IsRootCertificate, elements_of};
 
 use crate::carrying::{kept_certificates, member_of};
 use cms_types::CertificateSet;
@@ -12,7 +12,7 @@ use x509_core::{Cert, CertType};
 
 /// Whether the certificate is a root's (RFC 5280 3.2).
 fn is_root(certificate: &Cert) -> bool
-    ensures { IsTrue result ↔ IsRoot certificate.now.elements }
+    ensures { IsTrue result ↔ IsRootCertificate certificate.now.elements }
 {
     match certificate.ty() {
         CertType::Root => true,

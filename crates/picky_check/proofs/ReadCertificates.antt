@@ -12,7 +12,7 @@ use Rattle.x509_core.specs.KeptCertificate.{KeptCertificate, kept_octets}
 use Rattle.x509_core.specs.Rules.{RefusesBy}
 use Rattle.x509_core.specs.declared.error.CertError.{CertError}
 use Rattle.x509_core.specs.declared.error.CertError.TheVariants as cert
-use Rattle.picky_check.specs.ChainAnswer.{AreCertificates, IsFirstUnread, IsAnswerOver, IsChainAnswer, all_checks}
+use Rattle.picky_check.specs.ChainAnswer.{AreKeptCertificates, IsFirstUnread, IsAnswerOver, IsChainAnswer, all_checks}
 
 -- where the first isn't read
 pub first_unread : (octets : List ℕ) (others all : List (List ℕ)) (e : CertError) → all ≡ octets ∷ others → IsUnread elements.Certificate (RefusesOctets IsCertificate octets) e → IsFirstUnread all e
@@ -29,8 +29,8 @@ later_unread octets others all e certificate are kept unread = subst (λ (xs : L
 -- where it is read, and all behind it are
 pub read_behind : (octets : List ℕ) (others all : List (List ℕ)) (certificate : KeptCertificate) (before kept after : List KeptCertificate)
     → all ≡ octets ∷ others → kept_octets certificate ≡ octets → kept ≡ before ++ certificate ∷ []
-    → (read : List KeptCertificate) × (after ≡ kept ++ read) × AreCertificates others read
-    → (read : List KeptCertificate) × (after ≡ before ++ read) × AreCertificates all read
+    → (read : List KeptCertificate) × (after ≡ kept ++ read) × AreKeptCertificates others read
+    → (read : List KeptCertificate) × (after ≡ before ++ read) × AreKeptCertificates all read
 read_behind octets others all certificate before kept after are is pushed h = (
   certificate ∷ h.0,
   h.1 ∙ ap (λ (xs : List KeptCertificate). xs ++ h.0) pushed ∙ append_assoc before (certificate ∷ []) h.0,
@@ -49,8 +49,8 @@ answer_over judge date octets others checked answer kept (inr judged) =
 
 -- all that was read are the parents, where nothing was read before
 module _ (judge : Judge) (date : GeneralizedTime) (octets : List (List ℕ)) (checked : KeptCertificate) (before all : List KeptCertificate) (none : before ≡ [])
-    (read : (x : List KeptCertificate) × (all ≡ before ++ x) × AreCertificates octets x) where
-  are_all : AreCertificates octets all
+    (read : (x : List KeptCertificate) × (all ≡ before ++ x) × AreKeptCertificates octets x) where
+  are_all : AreKeptCertificates octets all
   are_all = ap (map kept_octets) (read.1 ∙ ap (λ (xs : List KeptCertificate). xs ++ read.0) none) ∙ read.2
 
   pub refused_over : (lent : List KeptCertificate) (e : CertError) → lent ≡ all → RefusesBy (chain_rules judge (all_checks date) checked (Some lent)) e

@@ -24,7 +24,7 @@ use Rattle.x509_core.specs.declared.validator.ChainChecks.{ChainChecks}
 use Rattle.picky_check.specs.declared.report.Report.{Report}
 use Rattle.picky_check.specs.declared.stop.Stop.{Stop}
 use Rattle.picky_check.specs.Answer.{IsCertificateAnswer}
-use Rattle.picky_check.specs.ChainAnswer.{AreCertificates, IsFirstUnread, IsJudged, IsChainAnswer, all_checks}
+use Rattle.picky_check.specs.ChainAnswer.{AreKeptCertificates, IsFirstUnread, IsChainJudged, IsChainAnswer, all_checks}
 use Rattle.picky_check.specs.Report.{Answer, OfSignature, OfChain, WantsMemory}
 use Rattle.picky_check.specs.Inquiry.{IsReported, GivesReport, Reports}
 use Rattle.picky_check.proofs.Reported.{reported_is, out_of_memory, GivesReport-reported}
@@ -58,7 +58,7 @@ refused_for_memory kept octets der.TooLong is refused = absurd refused
 refused_for_memory kept octets der.Memory is refused = refl
 
 -- where all are certificates, none is refused but for want of memory
-unread_is_memory : (octets : List (List ℕ)) (certificates : List KeptCertificate) (e : CertError) → AreCertificates octets certificates → IsFirstUnread octets e → e ≡ cert.Memory
+unread_is_memory : (octets : List (List ℕ)) (certificates : List KeptCertificate) (e : CertError) → AreKeptCertificates octets certificates → IsFirstUnread octets e → e ≡ cert.Memory
 unread_is_memory [] certificates e are unread = absurd unread
 unread_is_memory (one ∷ others) [] e are unread = absurd cc
 unread_is_memory (one ∷ others) (kept ∷ certificates) e are (inl refused) =
@@ -98,11 +98,11 @@ wants : (e : CertError) → e ≡ cert.Memory → WantsMemory (OfChain (Err e))
 wants e is = subst (λ (x : CertError). WantsMemory (OfChain (Err x))) (sym is) tt
 
 accepted_parts : (judge : Judge) (date : GeneralizedTime) (octets : List (List ℕ)) (count : ℕ) → IsChainAnswer judge date octets (Ok count)
-    → (certificates : List KeptCertificate) × AreCertificates octets certificates × IsJudged judge date certificates (Ok count)
+    → (certificates : List KeptCertificate) × AreKeptCertificates octets certificates × IsChainJudged judge date certificates (Ok count)
 accepted_parts judge date octets count (inl unread) = absurd unread
 accepted_parts judge date octets count (inr judged) = judged
 
-one_count : (judge : Judge) (date : GeneralizedTime) (certificates : List KeptCertificate) (m n : ℕ) → IsJudged judge date certificates (Ok m) → IsJudged judge date certificates (Ok n) → m ≡ n
+one_count : (judge : Judge) (date : GeneralizedTime) (certificates : List KeptCertificate) (m n : ℕ) → IsChainJudged judge date certificates (Ok m) → IsChainJudged judge date certificates (Ok n) → m ≡ n
 one_count judge date [] m n a b = absurd a
 one_count judge date (checked ∷ parents) m n a b = a.0 ∙ sym b.0
 
@@ -112,7 +112,7 @@ module _ (unbroken : (judge : Judge) (checks : ChainChecks) (checked : KeptCerti
     (once : (judge : Judge) (checks : ChainChecks) (checked : KeptCertificate) (given : Option (List KeptCertificate)) (e f : CertError)
     → IsFirstBroken (chain_rules judge checks checked given) e → IsFirstBroken (chain_rules judge checks checked given) f → e ≡ f) where
   judged_alike : (judge : Judge) (date : GeneralizedTime) (certificates : List KeptCertificate) (e f : CertError)
-      → IsJudged judge date certificates (Err e) → IsJudged judge date certificates (Err f) → IsNamedAlike e f
+      → IsChainJudged judge date certificates (Err e) → IsChainJudged judge date certificates (Err f) → IsNamedAlike e f
   judged_alike judge date [] e f a b = absurd a
   judged_alike judge date (checked ∷ parents) e f (inr memory) b = inl memory
   judged_alike judge date (checked ∷ parents) e f (inl a) (inr memory) = inr (inl memory)
@@ -120,7 +120,7 @@ module _ (unbroken : (judge : Judge) (checks : ChainChecks) (checked : KeptCerti
       inr (inr (ap cert_error_name (once judge (all_checks date) checked (Some parents) e f a b)))
 
   not_both : (judge : Judge) (date : GeneralizedTime) (certificates : List KeptCertificate) (count : ℕ) (e : CertError)
-      → IsJudged judge date certificates (Ok count) → IsJudged judge date certificates (Err e) → e ≡ cert.Memory
+      → IsChainJudged judge date certificates (Ok count) → IsChainJudged judge date certificates (Err e) → e ≡ cert.Memory
   not_both judge date [] count e accepted refused = absurd accepted
   not_both judge date (checked ∷ parents) count e accepted (inl broken) = absurd (unbroken judge (all_checks date) checked (Some parents) e accepted.1 broken)
   not_both judge date (checked ∷ parents) count e accepted (inr memory) = memory
@@ -134,14 +134,14 @@ module _ (unbroken : (judge : Judge) (checks : ChainChecks) (checked : KeptCerti
   refused_is_memory judge date octets count e accepted (inr judged) =
       let parts = accepted_parts judge date octets count accepted in
       not_both judge date parts.0 count e parts.2
-      (subst (λ (cs : List KeptCertificate). IsJudged judge date cs (Err e)) (same_certificates judged.0 parts.0 (judged.1 ∙ sym parts.1)) judged.2)
+      (subst (λ (cs : List KeptCertificate). IsChainJudged judge date cs (Err e)) (same_certificates judged.0 parts.0 (judged.1 ∙ sym parts.1)) judged.2)
 
   same_count : (judge : Judge) (date : GeneralizedTime) (octets : List (List ℕ)) (m n : ℕ) → IsChainAnswer judge date octets (Ok m) → IsChainAnswer judge date octets (Ok n) → m ≡ n
   same_count judge date octets m n a b =
       let x = accepted_parts judge date octets m a in
       let y = accepted_parts judge date octets n b in
       one_count judge date x.0 m n x.2
-      (subst (λ (cs : List KeptCertificate). IsJudged judge date cs (Ok n)) (same_certificates y.0 x.0 (y.1 ∙ sym x.1)) y.2)
+      (subst (λ (cs : List KeptCertificate). IsChainJudged judge date cs (Ok n)) (same_certificates y.0 x.0 (y.1 ∙ sym x.1)) y.2)
 
   -- two refusals have one name, want of memory aside
   one_name : (judge : Judge) (date : GeneralizedTime) (octets : List (List ℕ)) (e f : CertError)
@@ -150,7 +150,7 @@ module _ (unbroken : (judge : Judge) (checks : ChainChecks) (checked : KeptCerti
   one_name judge date octets e f (inl a) (inr b) = inl (unread_is_memory octets b.0 e b.1 a)
   one_name judge date octets e f (inr a) (inl b) = inr (inl (unread_is_memory octets a.0 f a.1 b))
   one_name judge date octets e f (inr a) (inr b) =
-      judged_alike judge date a.0 e f a.2 (subst (λ (cs : List KeptCertificate). IsJudged judge date cs (Err f)) (same_certificates b.0 a.0 (b.1 ∙ sym a.1)) b.2)
+      judged_alike judge date a.0 e f a.2 (subst (λ (cs : List KeptCertificate). IsChainJudged judge date cs (Err f)) (same_certificates b.0 a.0 (b.1 ∙ sym a.1)) b.2)
 
   refused_alike : (e f : CertError) (result : Result Report Stop) → IsNamedAlike e f → IsReported (OfChain (Err e)) result
       → (WantsMemory (OfChain (Err f)) → ⊥) → IsReported (OfChain (Err f)) result

@@ -8,7 +8,7 @@ use Rattle.x509_core.specs.CertType.{IsOfType}
 use Rattle.x509_core.specs.Chain.{IsLinkedChain, IsPath, last_of}
 use Rattle.x509_core.specs.KeptCertificate.{KeptCertificate}
 use Rattle.x509_core.specs.declared.cert_type.CertType.TheVariants as types
-use Rattle.picky_check.specs.ChainAnswer.{AreCertificates, IsChainAnswer, IsJudged, all_checks}
+use Rattle.picky_check.specs.ChainAnswer.{AreKeptCertificates, IsChainAnswer, IsChainJudged, all_checks}
 use Rattle.picky_check.specs.ChainHeadline.{IsVouchedChain, window_at}
 use Rattle.picky_check.specs.Limits.{IsWholeFile, AreWholeFiles}
 use Rattle.picky_check.specs.Report.{parents_line}
@@ -29,8 +29,8 @@ the_path judge date checked parents path =
 module _ (words : List (List ℕ)) (files : Option Files) (held held_now : Option (List ℕ)) (table : List ℕ) (date : GeneralizedTime) (names : List (List ℕ))
     (asked : AsksFor words (Chain table date names)) (text : List ℕ) (rows : List VerdictRow) (octets : List (List ℕ))
     (table_file : IsWholeFile files table text) (certificate_files : AreWholeFiles files names octets) (is_table : IsTable text rows) where
-  of_certificates : (count : ℕ) (certificates : List KeptCertificate) → AreCertificates octets certificates
-      → IsJudged (verdict_of rows) date certificates (Ok count) → Appends held (parents_line count) held_now → IsVouchedChain words files held held_now
+  of_certificates : (count : ℕ) (certificates : List KeptCertificate) → AreKeptCertificates octets certificates
+      → IsChainJudged (verdict_of rows) date certificates (Ok count) → Appends held (parents_line count) held_now → IsVouchedChain words files held held_now
   of_certificates count [] are judged written = absurd judged
   of_certificates count (checked ∷ parents) are judged written =
       let path = the_path (verdict_of rows) date checked parents (judged.1.chained refl) in record {

@@ -11,7 +11,7 @@ use Rattle.x509_core.specs.KeptCertificate.{KeptCertificate}
 use Rattle.x509_core.specs.Window.{IsExpired, IsWithinWindow}
 use Rattle.x509_core.specs.declared.window.Window.{Window}
 use Rattle.x509_types.specs.CertificateElements.{CertificateElements}
-use Rattle.authenticode_core.specs.Basic.{HasSignedData, IsVouchedFor as Vouches}
+use Rattle.authenticode_core.specs.Basic.{HasSignedData, VouchesFor}
 use Rattle.authenticode_core.specs.Excuses.{IsExcused}
 use Rattle.authenticode_core.specs.IssuerWalk.{IsIssuerPath}
 use Rattle.authenticode_core.specs.LinkedPath.{StandAt}
@@ -37,8 +37,8 @@ same_hash a b is = cc
 same_place : (told : Option ℕ) (a b : ℕ) → told ≡ Some a → told ≡ Some b → a ≡ b
 same_place told a b x y = cc
 
-of_hash : (judge : Judge) (f : SignedDataElements) (hash : List ℕ) (a : Accepted) (h : IsBasicallyVouched judge (Some hash) f a) → Vouches judge f hash h.place
-of_hash judge f hash a h = subst (λ (x : List ℕ). Vouches judge f x h.place) (same_hash hash h.hash h.given) h.vouches
+of_hash : (judge : Judge) (f : SignedDataElements) (hash : List ℕ) (a : Accepted) (h : IsBasicallyVouched judge (Some hash) f a) → VouchesFor judge f hash h.place
+of_hash judge f hash a h = subst (λ (x : List ℕ). VouchesFor judge f x h.place) (same_hash hash h.hash h.given) h.vouches
 
 -- ---- the path, and the excuse
 
@@ -174,7 +174,7 @@ module _ (words : List (List ℕ)) (files : Option Files) (signature table hash 
           written = written;
           place = signing.place;
           place_told = signing.told;
-          vouches = subst (λ (p : ℕ). Vouches (verdict_of rows) answer.0 hash p) (same_place told.signer basic.place signing.place basic.told signing.told)
+          vouches = subst (λ (p : ℕ). VouchesFor (verdict_of rows) answer.0 hash p) (same_place told.signer basic.place signing.place basic.told signing.told)
               (of_hash (verdict_of rows) answer.0 hash told basic);
           bag = signing.bag;
           is_bag = signing.is.is_bag;

@@ -20,8 +20,8 @@ abbrev pub all_checks : GeneralizedTime → ChainChecks
 all_checks date = checks_at (dates.Exact date) first_checks
 
 -- the octets are those of these certificates, as they are kept
-abbrev pub AreCertificates : List (List ℕ) → List KeptCertificate → Type 0
-AreCertificates octets certificates = map kept_octets certificates ≡ octets
+abbrev pub AreKeptCertificates : List (List ℕ) → List KeptCertificate → Type 0
+AreKeptCertificates octets certificates = map kept_octets certificates ≡ octets
 
 -- The error tells of the first octets that aren't a certificate.
 abbrev pub IsFirstUnread : List (List ℕ) → CertError → Type 0
@@ -31,19 +31,19 @@ IsFirstUnread (octets ∷ others) e =
     ⊎ (((certificate : KeptCertificate) × (kept_octets certificate ≡ octets)) × IsFirstUnread others e)
 
 -- The first certificate is accepted over the others, and these are counted; or the error tells of the first rule that is broken.
-abbrev pub IsJudged : Judge → GeneralizedTime → List KeptCertificate → Result ℕ CertError → Type 0
-IsJudged judge date [] answer = ⊥
-IsJudged judge date (checked ∷ parents) (Ok count) = (count ≡ length parents) × IsAccepted judge (all_checks date) checked (Some parents)
-IsJudged judge date (checked ∷ parents) (Err e) = RefusesBy (chain_rules judge (all_checks date) checked (Some parents)) e
+abbrev pub IsChainJudged : Judge → GeneralizedTime → List KeptCertificate → Result ℕ CertError → Type 0
+IsChainJudged judge date [] answer = ⊥
+IsChainJudged judge date (checked ∷ parents) (Ok count) = (count ≡ length parents) × IsAccepted judge (all_checks date) checked (Some parents)
+IsChainJudged judge date (checked ∷ parents) (Err e) = RefusesBy (chain_rules judge (all_checks date) checked (Some parents)) e
 
 -- Octets that aren't all certificates are refused for the first that is none; else the answer is one about the certificates.
 abbrev pub IsChainAnswer : Judge → GeneralizedTime → List (List ℕ) → Result ℕ CertError → Type 0
 IsChainAnswer judge date octets answer =
     IsErrAnd answer (IsFirstUnread octets)
-    ⊎ ((certificates : List KeptCertificate) × AreCertificates octets certificates × IsJudged judge date certificates answer)
+    ⊎ ((certificates : List KeptCertificate) × AreKeptCertificates octets certificates × IsChainJudged judge date certificates answer)
 
 -- The same for a certificate that was read, about the octets of the others.
 abbrev pub IsAnswerOver : Judge → GeneralizedTime → KeptCertificate → List (List ℕ) → Result ℕ CertError → Type 0
 IsAnswerOver judge date checked octets answer =
     IsErrAnd answer (IsFirstUnread octets)
-    ⊎ ((parents : List KeptCertificate) × AreCertificates octets parents × IsJudged judge date (checked ∷ parents) answer)
+    ⊎ ((parents : List KeptCertificate) × AreKeptCertificates octets parents × IsChainJudged judge date (checked ∷ parents) answer)

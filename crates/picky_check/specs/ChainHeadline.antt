@@ -10,7 +10,7 @@ use Rattle.x509_core.specs.Window.{IsWithinWindow}
 use Rattle.x509_core.specs.declared.cert_type.CertType.TheVariants as types
 use Rattle.x509_core.specs.declared.window.DateCheck.TheVariants as dates
 use Rattle.x509_core.specs.declared.window.Window.{Window}
-use Rattle.picky_check.specs.ChainAnswer.{AreCertificates}
+use Rattle.picky_check.specs.ChainAnswer.{AreKeptCertificates}
 use Rattle.picky_check.specs.Limits.{IsWholeFile, AreWholeFiles}
 use Rattle.picky_check.specs.Report.{parents_line}
 use Rattle.picky_check.specs.Shelf.{Files}
@@ -40,7 +40,7 @@ pub record IsVouchedChain (words : List (List ℕ)) (files : Option Files) (held
   pub table_file : IsWholeFile files table text
   pub certificate_files : AreWholeFiles files names octets
   pub is_table : IsTable text rows
-  pub are_certificates : AreCertificates octets (checked ∷ parents)
+  pub are_certificates : AreKeptCertificates octets (checked ∷ parents)
   pub written : Appends held (parents_line (length parents)) held_now
   pub valid : IsWithinWindow (window_at date) checked.elements
   pub linked : IsLinkedChain (verdict_of rows) (window_at date) checked parents

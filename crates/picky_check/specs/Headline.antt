@@ -9,11 +9,11 @@ use Rattle.x509_core.specs.KeptCertificate.{KeptCertificate}
 use Rattle.x509_core.specs.Window.{IsExpired, IsWithinWindow}
 use Rattle.x509_core.specs.declared.window.Window.{Window}
 use Rattle.x509_types.specs.CertificateElements.{CertificateElements}
-use Rattle.authenticode_core.specs.Basic.{HasSignedData, IsVouchedFor as Vouches}
+use Rattle.authenticode_core.specs.Basic.{HasSignedData, VouchesFor}
 use Rattle.authenticode_core.specs.Excuses.{IsExcused}
 use Rattle.authenticode_core.specs.IssuerWalk.{IsIssuerPath}
 use Rattle.authenticode_core.specs.LinkedPath.{StandAt}
-use Rattle.authenticode_core.specs.SigningRules.{IsBagOf, IsSignerOf}
+use Rattle.authenticode_core.specs.SigningRules.{IsBagOf, IsSignerCertificate}
 use Rattle.authenticode_core.specs.declared.accepted.Accepted.{Accepted}
 use Rattle.authenticode_core.specs.declared.accepted.Excuse.TheVariants as excuses
 use Rattle.picky_check.specs.declared.options.CheckOptions.{CheckOptions}
@@ -52,7 +52,7 @@ pub record IsVouchedFor (words : List (List ℕ)) (files : Option Files) (held h
   -- the signature, under the key of the certificate at the place that is told
   pub place : ℕ
   pub place_told : told.signer ≡ Some place
-  pub vouches : Vouches (verdict_of rows) signed_data hash place
+  pub vouches : VouchesFor (verdict_of rows) signed_data hash place
 
 -- when certificates have to be valid, but for what the options leave out: already and still at DATE, or already at the date of --until and still at DATE
 abbrev pub asked_window : (date : GeneralizedTime) → CheckOptions → Window
@@ -91,11 +91,11 @@ pub record IsVouchedSignature (words : List (List ℕ)) (files : Option Files) (
   -- the signature, under the key of the certificate at the place that is told
   pub place : ℕ
   pub place_told : told.signer ≡ Some place
-  pub vouches : Vouches (verdict_of rows) signed_data hash place
+  pub vouches : VouchesFor (verdict_of rows) signed_data hash place
   pub bag : List CertificateElements
   pub is_bag : IsBagOf signed_data bag
   pub signer : KeptCertificate
-  pub is_signer : IsSignerOf signed_data bag place signer.elements
+  pub is_signer : IsSignerCertificate signed_data bag place signer.elements
   -- unless an excuse is told
   pub valid : told.excuse ≡ excuses.None → IsWithinWindow (asked_window date options) signer.elements
   pub is_path : told.excuse ≡ excuses.None → options.no_chain ≡ false → IsIssuerPath bag signer.elements told.path

@@ -7,11 +7,11 @@ use Rattle.std.specs.List.{list_any}
 use Rattle.authenticode_core.specs.Counts.{last_count}
 use Rattle.picky_check.specs.Shelf.{Files, ShelfState, file_of}
 use Rattle.picky_check.specs.Sink.{SinkState}
-use Rattle.picky_check.specs.Stored.{latest, octets_at}
+use Rattle.picky_check.specs.Stored.{latest_file, octets_at}
 
 -- the files of a shelf in memory
 abbrev pub shelf_files : MemShelf → Option Files
-shelf_files shelf = Some (latest shelf.files.items)
+shelf_files shelf = Some (latest_file shelf.files.items)
 
 -- the file under the name is this one from now on, and the others stay
 abbrev pub AddsFile : Option Files → List ℕ → List ℕ → Option Files → Type 0

@@ -8,10 +8,10 @@ abbrev pub octets_of : StoredFile → List ℕ
 octets_of file = file.octets.items
 
 -- the file of this name; of two, the one that was added later
-abbrev pub latest : List StoredFile → List ℕ → Option (List ℕ)
-latest [] name = None
-latest (file ∷ later) name =
-    option_or (latest later name)
+abbrev pub latest_file : List StoredFile → List ℕ → Option (List ℕ)
+latest_file [] name = None
+latest_file (file ∷ later) name =
+    option_or (latest_file later name)
     (if bytes_eq (string_bytes file.name) name then Some (octets_of file) else None)
 
 -- the octets of the file that was found there

@@ -4,7 +4,7 @@ ghost use Rattle.std.specs.Prelude.{◌≡◌, ◌++◌, ◌∷◌, List, Some, 
 ghost use Rattle.x509_core.specs.Chain.{IsAccepted, chain_rules};
 ghost use Rattle.x509_core.specs.KeptCertificate.{KeptCertificate};
 ghost use Rattle.x509_core.specs.Rules.{RefusesBy};
-ghost use Rattle.picky_check.specs.ChainAnswer.{AreCertificates, IsAnswerOver, IsChainAnswer, IsFirstUnread, all_checks};
+ghost use Rattle.picky_check.specs.ChainAnswer.{AreKeptCertificates, IsAnswerOver, IsChainAnswer, IsFirstUnread, all_checks};
 
 use names_core::UtcDate;
 use sig_core::Scheme;
@@ -49,7 +49,7 @@ fn check_over<S: Scheme>(
 fn read_on(alloc: Global, octets: &[Vec<u8>], certificates: &mut Vec<Cert>) -> Result<(), CertError>
     ensures read { OnOk result ((read : List KeptCertificate)
         × (certificates.new.items ≡ certificates.old.items ++ read)
-        × AreCertificates (map (λ octets. octets.items) octets.now) read) }
+        × AreKeptCertificates (map (λ octets. octets.items) octets.now) read) }
     ensures unread { IfErr result (IsFirstUnread (map (λ octets. octets.items) octets.now)) }
 {
     let [first, others @ ..] = octets else {

@@ -1,7 +1,7 @@
 //! Files that are stored by name.
 
 ghost use Rattle.std.specs.Prelude.{◌≡◌, ◌<◌, ℕ, length, drop, Some, IfSome};
-ghost use Rattle.picky_check.specs.Stored.{latest, found_at, octets_at};
+ghost use Rattle.picky_check.specs.Stored.{latest_file, found_at, octets_at};
 
 #[derive(Drop)]
 pub(crate) struct StoredFile {
@@ -11,7 +11,7 @@ pub(crate) struct StoredFile {
 
 // The place of the file of this name; of two, of the one that was added later.
 pub(crate) fn find_latest(files: &[StoredFile], name: &str) -> Option<usize>
-    ensures found { latest files.now name.now ≡ found_at files.now result }
+    ensures found { latest_file files.now name.now ≡ found_at files.now result }
     ensures within { IfSome result (λ place. place < length files.now) }
 {
     let mut found = None;

@@ -4,7 +4,7 @@ use Rattle.key_core.specs.Verifying.{Judge}
 use Rattle.x509_types.specs.CertificateElements.{CertificateElements}
 use Rattle.x509_types.specs.ExtensionParts.{HasCa, HasPathLength}
 use Rattle.x509_core.specs.KeptCertificate.{KeptCertificate}
-use Rattle.x509_core.specs.Link.{IsDeepEnough, IsStandingFor, IsLink, IsSignedBy, IsNoAuthority, IsTooDeep, IsOutside, IsNoParent, link_rules, signing_rules}
+use Rattle.x509_core.specs.Link.{IsDeepEnough, IsStandingFor, IsLink, IsSignedBy, IsNoAuthority, IsTooDeep, IsOutside, link_rules, link_signature_rules}
 use Rattle.x509_core.specs.Parent.{AgreeByKeyAndName, RefusesParent}
 use Rattle.key_core.specs.Rules.{IsMet}
 use Rattle.x509_core.specs.Rules.{Breaks, RefusesBy}
@@ -61,7 +61,7 @@ module _ (judge : Judge) (w : Window) (count : ℕ) (parent child : KeptCertific
   parent_refused e ca deep valid refused = absurd refused
 
   pub signed_or_not : {X : Type 0} (r : Result X CertError) → HasCa parent.elements true → IsDeepEnough count parent.elements → IsWithinWindow w parent.elements → AgreeByKeyAndName parent.elements child.elements
-      → MatchResult r (λ _. IsSignedBy judge parent.elements child.elements) (RefusesBy (signing_rules judge parent child))
+      → MatchResult r (λ _. IsSignedBy judge parent.elements child.elements) (RefusesBy (link_signature_rules judge parent child))
       → MatchResult r (λ _. IsLink judge w count parent.elements child.elements) (RefusesBy (link_rules judge w count parent child))
   signed_or_not (Ok v) ca deep valid agreed signed = record { authority = ca; depth = deep; valid = valid; agreed = agreed; signed = signed }
   signed_or_not (Err e) ca deep valid agreed (inl broken) =

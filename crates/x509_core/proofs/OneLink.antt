@@ -20,7 +20,7 @@ use Rattle.names_core.specs.declared.name.DirectoryName.{DirectoryName}
 use Rattle.x501_types.specs.declared.attribute.AttributeTypeAndValue.{AttributeTypeAndValue}
 use Rattle.x509_types.specs.CertificateElements.{CertificateElements}
 use Rattle.x509_core.specs.KeptCertificate.{KeptCertificate}
-use Rattle.x509_core.specs.Link.{IsToldOf, IsNoAuthority, IsTooDeep, IsNoParent, IsUnsupported, IsBadlySigned, signed_octets, link_rules}
+use Rattle.x509_core.specs.Link.{IsToldOf, IsNoAuthority, IsTooDeep, IsNoParent, IsUnsupported, IsBadlySignedLink, signed_octets, link_rules}
 use Rattle.x509_core.specs.Parent.{IsNameOf, LacksKey, DifferByKey, DifferByName, RefusesChain, RefusesLink, RefusesParent}
 use Rattle.x509_core.specs.Window.{IsTimeAt, IsNotYetValid, IsOver, window_rules}
 use Rattle.x509_core.specs.declared.error.CaChainError.{CaChainError}
@@ -170,7 +170,7 @@ unsupported_once : (child : KeptCertificate) → IsToldOnce (IsUnsupported child
 unsupported_once child = λ a b p q.
     p.told ∙ ap (λ (id : AlgorithmIdentifier). errors.Signature (signature_errors.UnsupportedAlgorithm (unsupported.Oid id.oid))) (one_algorithm child.elements p.id q.id p.beside q.beside) ∙ sym q.told
 
-signature_told_once : (judge : Judge) (parent child : CertificateElements) → IsToldOnce (IsBadlySigned judge parent child)
+signature_told_once : (judge : Judge) (parent child : CertificateElements) → IsToldOnce (IsBadlySignedLink judge parent child)
 signature_told_once judge parent child = λ a b p q.
     let id = one_algorithm child p.parts.id q.parts.id p.parts.beside q.parts.beside in
     let named = subst (λ (id : AlgorithmIdentifier). NamesSignature id p.algorithm) id p.parts.named in
@@ -194,7 +194,7 @@ link_once judge w count parent child = λ a b p q. one_broken (link_rules judge 
         parent_once parent child,
         (
           unsupported_once child,
-          (told_once child (IsBadlySigned judge parent.elements child.elements) (signature_told_once judge parent.elements child.elements), tt),
+          (told_once child (IsBadlySignedLink judge parent.elements child.elements) (signature_told_once judge parent.elements child.elements), tt),
         ),
       ),
     ),

@@ -25,7 +25,7 @@ use Rattle.x509_types.specs.CertificateElements.{CertificateElements}
 use Rattle.x509_types.specs.CertificateFields.{key_octets_of}
 use Rattle.x509_core.specs.Facts.LentKeys.{lent_key}
 use Rattle.x509_core.specs.KeptCertificate.{KeptCertificate}
-use Rattle.x509_core.specs.Link.{HasAlgorithm, HasKey, IsSignedWith, IsSignedBy, IsBadlySigned, IsUnsupported, IsToldOf, signed_octets, signature_refusal, signing_rules}
+use Rattle.x509_core.specs.Link.{HasAlgorithm, HasKey, IsSignedWith, IsSignedBy, IsBadlySignedLink, IsUnsupported, IsToldOf, signed_octets, signature_refusal, link_signature_rules}
 use Rattle.x509_core.specs.Parent.{IsInvalid}
 use Rattle.x509_core.specs.Rules.{Breaks, RefusesBy}
 use Rattle.x509_core.specs.declared.error.CertCause.{CertCause}
@@ -72,7 +72,7 @@ supported child algorithm named = λ e broken.
     broken.unnamed algorithm (subst (λ (id : AlgorithmIdentifier). NamesSignature id algorithm) (one_algorithm child.elements child.certificate.signature_algorithm broken.id (algorithm_of child) broken.beside) named)
 
 pub unsupported : (judge : Judge) (parent child : KeptCertificate) (source : SignatureError) (e : CertError) → IsUnnamed child.certificate.signature_algorithm source → e ≡ signature_refusal source
-    → RefusesBy (signing_rules judge parent child) e
+    → RefusesBy (link_signature_rules judge parent child) e
 unsupported judge parent child source e (none, inl told) is =
     inl (inl (record { id = child.certificate.signature_algorithm; beside = algorithm_of child; unnamed = none; told = is ∙ ap signature_refusal told }))
 unsupported judge parent child source e (none, inr memory) is = inr (is ∙ ap signature_refusal memory)
@@ -101,10 +101,10 @@ signed_by judge parent child algorithm info msg sig parts message signature acce
 pub badly_signed : (judge : Judge) (parent child : KeptCertificate) (algorithm : SignatureAlgorithm) (info : SubjectPublicKeyInfo) (msg sig : List ℕ) (source : SignatureError) (e : CertError)
     → IsSignedWith parent.elements child.elements algorithm info → msg ≡ signed_octets child.elements → sig ≡ child.elements.signature
     → RefusesSignatureBy (verify_rules judge algorithm info msg sig) source → (source ≡ signature_errors.Memory → e ≡ errors.Memory) → IsInvalid child (causes.Signature source) e
-    → Breaks (IsToldOf child (IsBadlySigned judge parent.elements child.elements)) e
+    → Breaks (IsToldOf child (IsBadlySignedLink judge parent.elements child.elements)) e
 badly_signed judge parent child algorithm info msg sig source e parts message signature (inr none) memory told = inr (memory none)
 badly_signed judge parent child algorithm info msg sig source e parts message signature (inl broken) memory told =
-    told_of child (IsBadlySigned judge parent.elements child.elements) (causes.Signature source) e (record {
+    told_of child (IsBadlySignedLink judge parent.elements child.elements) (causes.Signature source) e (record {
       algorithm = algorithm;
       info = info;
       source = source;
@@ -115,8 +115,8 @@ badly_signed judge parent child algorithm info msg sig source e parts message si
     }) told
 
 pub accepted_or_not : {X : Type 0} (judge : Judge) (parent child : KeptCertificate) (algorithm : SignatureAlgorithm) (r : Result X CertError) → NamesSignature child.certificate.signature_algorithm algorithm
-    → MatchResult r (λ _. IsSignedBy judge parent.elements child.elements) (Breaks (IsToldOf child (IsBadlySigned judge parent.elements child.elements)))
-    → MatchResult r (λ _. IsSignedBy judge parent.elements child.elements) (RefusesBy (signing_rules judge parent child))
+    → MatchResult r (λ _. IsSignedBy judge parent.elements child.elements) (Breaks (IsToldOf child (IsBadlySignedLink judge parent.elements child.elements)))
+    → MatchResult r (λ _. IsSignedBy judge parent.elements child.elements) (RefusesBy (link_signature_rules judge parent child))
 accepted_or_not judge parent child algorithm (Ok v) named signed = signed
 accepted_or_not judge parent child algorithm (Err e) named (inl broken) = inl (inr (supported child algorithm named, inl broken))
 accepted_or_not judge parent child algorithm (Err e) named (inr memory) = inr memory

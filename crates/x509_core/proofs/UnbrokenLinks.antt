@@ -11,7 +11,7 @@ use Rattle.key_core.proofs.SignatureIdentifiers.{same_algorithm}
 use Rattle.key_core.proofs.Verifications.{accepted_is_met}
 use Rattle.x509_types.specs.CertificateElements.{CertificateElements}
 use Rattle.x509_core.specs.KeptCertificate.{KeptCertificate}
-use Rattle.x509_core.specs.Link.{IsLink, IsSignedBy, IsBadlySigned, IsUnsupported, signed_octets, link_rules}
+use Rattle.x509_core.specs.Link.{IsLink, IsSignedBy, IsBadlySignedLink, IsUnsupported, signed_octets, link_rules}
 use Rattle.x509_core.specs.declared.error.CertCause.{CertCause}
 use Rattle.x509_core.specs.declared.error.CertError.{CertError}
 use Rattle.x509_core.specs.declared.window.Window.{Window}
@@ -23,7 +23,7 @@ supported_by : (judge : Judge) (parent : CertificateElements) (child : KeptCerti
 supported_by judge parent child s = λ e broken.
     broken.unnamed s.algorithm (subst (λ (id : AlgorithmIdentifier). NamesSignature id s.algorithm) (one_algorithm child.elements s.parts.id broken.id s.parts.beside broken.beside) s.parts.named)
 
-well_signed : (judge : Judge) (parent child : CertificateElements) (cause : CertCause) → IsSignedBy judge parent child → IsBadlySigned judge parent child cause → ⊥
+well_signed : (judge : Judge) (parent child : CertificateElements) (cause : CertCause) → IsSignedBy judge parent child → IsBadlySignedLink judge parent child cause → ⊥
 well_signed judge parent child cause s b =
     let id = one_algorithm child s.parts.id b.parts.id s.parts.beside b.parts.beside in
     let named = subst (λ (id : AlgorithmIdentifier). NamesSignature id s.algorithm) id s.parts.named in

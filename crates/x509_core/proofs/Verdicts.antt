@@ -5,7 +5,7 @@ use Rattle.std.specs.Borrow.{Bor}
 use Rattle.std.specs.Iterator.{AlwaysYields, Yields, Drains}
 use Rattle.key_core.specs.Verifying.{Judge}
 use Rattle.x509_core.specs.CertType.{IsOfType}
-use Rattle.x509_core.specs.Chain.{Gives, IsDated, IsLinkedChain, IsFirstUnlinked, IsUnlinked, LacksDate, LacksChain, LacksRoot, IsAccepted, IsRooted, chain_rules, last_of, lent}
+use Rattle.x509_core.specs.Chain.{YieldsParents, IsDated, IsLinkedChain, IsFirstUnlinked, IsUnlinked, LacksDate, LacksChain, LacksRoot, IsAccepted, IsRooted, chain_rules, last_of, lent}
 use Rattle.x509_core.specs.KeptCertificate.{KeptCertificate}
 use Rattle.x509_core.specs.Link.{IsOutside}
 use Rattle.key_core.specs.Rules.{IsMet, IsFirstBroken}
@@ -30,12 +30,12 @@ pub same_list : (a b : List KeptCertificate) → ◌≡◌ {A = Option (List Kep
 same_list a b e = cc
 
 -- where an iterator is given, it gives a list
-listed : {S : Type 0} (steps : S → Option (Bor KeptCertificate) → S → Type 0) (chain : S) (given : Option (List KeptCertificate)) → Gives steps (Some chain) given → (parents : List KeptCertificate) × (given ≡ Some parents) × AlwaysYields steps lent chain parents
+listed : {S : Type 0} (steps : S → Option (Bor KeptCertificate) → S → Type 0) (chain : S) (given : Option (List KeptCertificate)) → YieldsParents steps (Some chain) given → (parents : List KeptCertificate) × (given ≡ Some parents) × AlwaysYields steps lent chain parents
 listed steps chain None gives = absurd gives
 listed steps chain (Some parents) gives = (parents, refl, gives)
 
 -- where none is, it gives none
-unlisted : {S : Type 0} (steps : S → Option (Bor KeptCertificate) → S → Type 0) (given : Option (List KeptCertificate)) → Gives steps None given → given ≡ None
+unlisted : {S : Type 0} (steps : S → Option (Bor KeptCertificate) → S → Type 0) (given : Option (List KeptCertificate)) → YieldsParents steps None given → given ≡ None
 unlisted steps None gives = refl
 unlisted steps (Some parents) gives = absurd gives
 
@@ -78,7 +78,7 @@ module _ (judge : Judge) (checks : ChainChecks) (checked : KeptCertificate) (giv
     pub lacking_chain : given ≡ None → IsFirstBroken (chain_rules judge checks checked given) (errors.MissingBuilderArgument arguments.Chain)
     lacking_chain none = inr (date_is_met dated, inr (window_is_met checks.window checked valid, inl (asked, none, refl)))
 
-    pub no_chain : {S : Type 0} (steps : S → Option (Bor KeptCertificate) → S → Type 0) → Gives steps None given → Refuses (errors.MissingBuilderArgument arguments.Chain)
+    pub no_chain : {S : Type 0} (steps : S → Option (Bor KeptCertificate) → S → Type 0) → YieldsParents steps None given → Refuses (errors.MissingBuilderArgument arguments.Chain)
     no_chain steps gives = inl (lacking_chain (unlisted steps given gives))
 
     -- where these parents are given
@@ -126,7 +126,7 @@ module _ (judge : Judge) (checks : ChainChecks) (checked : KeptCertificate) (giv
         verdict_over last (Err e) is h =
             subst (IsFirstBroken (chain_rules judge checks checked given)) (sym h.2) (rootless (λ rooted. h.1 (one_type (last_of checked parents).elements last is (rooted h.0))))
 
-    module _ {S : Type 0} (steps : S → Option (Bor KeptCertificate) → S → Type 0) (chain : S) (gives : Gives steps (Some chain) given) where
+    module _ {S : Type 0} (steps : S → Option (Bor KeptCertificate) → S → Type 0) (chain : S) (gives : YieldsParents steps (Some chain) given) where
       unlinked_by : (e : CertError) (rest : S) (xs : List (Bor KeptCertificate)) → Yields steps chain xs rest → IsFirstUnlinked judge checks.window checked (map lent xs) e → Refuses e
       unlinked_by e rest xs ran first =
           let l = listed steps chain given gives in

@@ -104,11 +104,11 @@ nearest checked None = checked
 nearest checked (Some parent) = parent.cert.now
 
 -- where there is an iterator, it gives these and no others
-abbrev pub Gives : {S : Type 0} → (S → Option (Bor KeptCertificate) → S → Type 0) → Option S → Option (List KeptCertificate) → Type 0
-Gives steps None None = ⊤
-Gives steps None (Some parents) = ⊥
-Gives steps (Some chain) None = ⊥
-Gives steps (Some chain) (Some parents) = AlwaysYields steps lent chain parents
+abbrev pub YieldsParents : {S : Type 0} → (S → Option (Bor KeptCertificate) → S → Type 0) → Option S → Option (List KeptCertificate) → Type 0
+YieldsParents steps None None = ⊤
+YieldsParents steps None (Some parents) = ⊥
+YieldsParents steps (Some chain) None = ⊥
+YieldsParents steps (Some chain) (Some parents) = AlwaysYields steps lent chain parents
 
 -- ---- what an iterator gave in one call, where it may give this or that
 

@@ -15,5 +15,5 @@ pub record HasFirst (oid : List ℕ) (extensions : List Extension) (value : Exte
   pub valued : extension_value extension ≡ value
 
 -- The error tells that no extension has this identifier, and none has.
-abbrev pub IsMissing : List ℕ → ExtName → List Extension → CertError → Type 0
-IsMissing oid name extensions e = (e ≡ errors.ExtensionNotFound name) × NoneHas oid extensions
+abbrev pub IsMissingExtension : List ℕ → ExtName → List Extension → CertError → Type 0
+IsMissingExtension oid name extensions e = (e ≡ errors.ExtensionNotFound name) × NoneHas oid extensions

@@ -115,7 +115,7 @@ signature_refusal signature_errors.Memory = errors.Memory
 signature_refusal source = errors.Signature source
 
 -- the signature is refused, and the cause has why
-pub record IsBadlySigned (judge : Judge) (parent child : CertificateElements) (cause : CertCause) : Type 0 where
+pub record IsBadlySignedLink (judge : Judge) (parent child : CertificateElements) (cause : CertCause) : Type 0 where
   pub algorithm : SignatureAlgorithm
   pub info : SubjectPublicKeyInfo
   pub source : SignatureError
@@ -124,10 +124,10 @@ pub record IsBadlySigned (judge : Judge) (parent child : CertificateElements) (c
   pub told : cause ≡ causes.Signature source
 
 -- the rules of signatures, in their order
-abbrev pub signing_rules : Judge → (parent child : KeptCertificate) → List (Rule CertError)
-signing_rules judge parent child = IsUnsupported child ∷ IsToldOf child (IsBadlySigned judge parent.elements child.elements) ∷ []
+abbrev pub link_signature_rules : Judge → (parent child : KeptCertificate) → List (Rule CertError)
+link_signature_rules judge parent child = IsUnsupported child ∷ IsToldOf child (IsBadlySignedLink judge parent.elements child.elements) ∷ []
 
 -- The rules of a link, in their order.
 abbrev pub link_rules : Judge → Window → ℕ → (parent child : KeptCertificate) → List (Rule CertError)
 link_rules judge w number parent child =
-    IsNoAuthority parent ∷ IsTooDeep number parent ∷ IsOutside w parent ∷ IsNoParent parent child ∷ signing_rules judge parent child
+    IsNoAuthority parent ∷ IsTooDeep number parent ∷ IsOutside w parent ∷ IsNoParent parent child ∷ link_signature_rules judge parent child

@@ -5,7 +5,7 @@ ghost use Rattle.std.specs.Prelude.{MatchOption, MatchResult};
 ghost use Rattle.asn1_types.specs.declared.oids.TheConstants.{CE_SUBJECT_KEY_IDENTIFIER, CE_BASIC_CONSTRAINTS, CE_AUTHORITY_KEY_IDENTIFIER};
 ghost use Rattle.x509_types.specs.FirstOfValue.{extensions_in, NoneHas, IsFirstWith};
 ghost use Rattle.x509_types.specs.declared.extension_view.ExtensionView.TheVariants as views;
-ghost use Rattle.x509_core.specs.FirstValue.{HasFirst, IsMissing};
+ghost use Rattle.x509_core.specs.FirstValue.{HasFirst, IsMissingExtension};
 ghost use Rattle.x509_core.specs.declared.error.ExtName.TheVariants as names;
 
 use crate::cert::Cert;
@@ -22,7 +22,7 @@ impl Cert {
     pub fn subject_key_identifier(&self) -> Result<&[u8], CertError>
         ensures { MatchResult result
             (λ key. HasFirst CE_SUBJECT_KEY_IDENTIFIER.now (extensions_in self.now.certificate.tbs_certificate.extensions) (views.SubjectKeyIdentifier key.now))
-            (IsMissing CE_SUBJECT_KEY_IDENTIFIER.now names.SubjectKeyIdentifier (extensions_in self.now.certificate.tbs_certificate.extensions)) }
+            (IsMissingExtension CE_SUBJECT_KEY_IDENTIFIER.now names.SubjectKeyIdentifier (extensions_in self.now.certificate.tbs_certificate.extensions)) }
     {
         match first_with(self.extensions(), CE_SUBJECT_KEY_IDENTIFIER) {
             Some(extension) => match extension.extn_value() {
@@ -40,7 +40,7 @@ impl Cert {
     pub fn authority_key_identifier(&self) -> Result<&AuthorityKeyIdentifier, CertError>
         ensures { MatchResult result
             (λ key. HasFirst CE_AUTHORITY_KEY_IDENTIFIER.now (extensions_in self.now.certificate.tbs_certificate.extensions) (views.AuthorityKeyIdentifier key.now))
-            (IsMissing CE_AUTHORITY_KEY_IDENTIFIER.now names.AuthorityKeyIdentifier (extensions_in self.now.certificate.tbs_certificate.extensions)) }
+            (IsMissingExtension CE_AUTHORITY_KEY_IDENTIFIER.now names.AuthorityKeyIdentifier (extensions_in self.now.certificate.tbs_certificate.extensions)) }
     {
         match first_with(self.extensions(), CE_AUTHORITY_KEY_IDENTIFIER) {
             Some(extension) => match extension.extn_value() {
@@ -58,7 +58,7 @@ impl Cert {
     pub fn basic_constraints(&self) -> Result<&BasicConstraints, CertError>
         ensures { MatchResult result
             (λ constraints. HasFirst CE_BASIC_CONSTRAINTS.now (extensions_in self.now.certificate.tbs_certificate.extensions) (views.BasicConstraints constraints.now))
-            (IsMissing CE_BASIC_CONSTRAINTS.now names.BasicConstraints (extensions_in self.now.certificate.tbs_certificate.extensions)) }
+            (IsMissingExtension CE_BASIC_CONSTRAINTS.now names.BasicConstraints (extensions_in self.now.certificate.tbs_certificate.extensions)) }
     {
         match first_with(self.extensions(), CE_BASIC_CONSTRAINTS) {
             Some(extension) => match extension.extn_value() {

@@ -4,7 +4,7 @@ ghost use Rattle.std.specs.Prelude.{◌≡◌, ◌↔◌, ◌<◌, ℕ, true, Is
 ghost use Rattle.key_core.specs.SignatureAlgorithm.{NamesSignature};
 ghost use Rattle.key_core.specs.declared.signature_error.SignatureError.TheVariants as signature_errors;
 ghost use Rattle.x509_types.specs.ExtensionParts.{HasCa, HasPathLength};
-ghost use Rattle.x509_core.specs.Link.{IsBadlySigned, IsDeepEnough, IsLink, IsNoAuthority, IsOutside, IsSignedBy, IsStandingFor, IsTooDeep, IsToldOf, link_rules, signing_rules, signature_refusal};
+ghost use Rattle.x509_core.specs.Link.{IsBadlySignedLink, IsDeepEnough, IsLink, IsNoAuthority, IsOutside, IsSignedBy, IsStandingFor, IsTooDeep, IsToldOf, link_rules, link_signature_rules, signature_refusal};
 ghost use Rattle.x509_core.specs.Parent.{IsInvalid};
 ghost use Rattle.x509_core.specs.Rules.{Breaks, RefusesBy};
 ghost use Rattle.x509_core.specs.Window.{IsWithinWindow};
@@ -173,7 +173,7 @@ impl ViewedCert<'_> {
     ) -> Result<(), CertError>
         ensures { MatchResult result
             (λ _. IsSignedBy (S.judge scheme.now) parent.now.cert.now.elements self.now.cert.now.elements)
-            (RefusesBy (signing_rules (S.judge scheme.now) parent.now.cert.now self.now.cert.now)) }
+            (RefusesBy (link_signature_rules (S.judge scheme.now) parent.now.cert.now self.now.cert.now)) }
     {
         match SignatureAlgorithm::from_algorithm_identifier(alloc, self.cert.outer_algorithm()) {
             Ok(algorithm) => self.expect_accepted(alloc, algorithm, parent, scheme),
@@ -193,7 +193,7 @@ impl ViewedCert<'_> {
         requires { NamesSignature self.now.cert.now.certificate.signature_algorithm algorithm }
         ensures { MatchResult result
             (λ _. IsSignedBy (S.judge scheme.now) parent.now.cert.now.elements self.now.cert.now.elements)
-            (Breaks (IsToldOf self.now.cert.now (IsBadlySigned (S.judge scheme.now) parent.now.cert.now.elements self.now.cert.now.elements))) }
+            (Breaks (IsToldOf self.now.cert.now (IsBadlySignedLink (S.judge scheme.now) parent.now.cert.now.elements self.now.cert.now.elements))) }
     {
         match algorithm.verify_by(
             alloc,

@@ -5,7 +5,7 @@ ghost use Rattle.std.specs.Borrow.{Bor};
 ghost use Rattle.std.specs.Iterator.{IsFinite, Drains, Yields};
 ghost use Rattle.key_core.specs.Rules.{OrMemory};
 ghost use Rattle.x509_core.specs.CertType.{IsOfType};
-ghost use Rattle.x509_core.specs.Chain.{Gives, IsAccepted, WasAccepted, WasRefused, AsksForMemory, GivesParent, IsLinkedChain, IsFirstUnlinked, AsksForDate, IsDated, LacksDate, chain_rules, last_of, lent, nearest};
+ghost use Rattle.x509_core.specs.Chain.{YieldsParents, IsAccepted, WasAccepted, WasRefused, AsksForMemory, GivesParent, IsLinkedChain, IsFirstUnlinked, AsksForDate, IsDated, LacksDate, chain_rules, last_of, lent, nearest};
 ghost use Rattle.x509_core.specs.Checks.{checks_at, first_checks, with_not_before, with_not_after, with_chain, with_root};
 ghost use Rattle.x509_core.specs.KeptCertificate.{KeptCertificate};
 ghost use Rattle.x509_core.specs.Link.{IsLink, IsStandingFor, link_rules};
@@ -197,7 +197,7 @@ impl<'a, 'b, Chain: Iterator<Item = &'b Cert> + Drop> CertValidator<'a, 'b, Chai
         requires can { IsTrue self.checks.chain → IfSome self.chain Chain.can_next }
         requires ends { IsTrue self.checks.chain → IfSome self.chain (λ chain. IsFinite (Chain.remaining chain)) }
         // Of an iterator that gives one list on every run; where the chain isn't asked for, of any.
-        ensures answer { (given : Option (List KeptCertificate)) → (IsTrue self.entry.checks.chain → Gives Chain.next_gives self.entry.chain given)
+        ensures answer { (given : Option (List KeptCertificate)) → (IsTrue self.entry.checks.chain → YieldsParents Chain.next_gives self.entry.chain given)
             → MatchResult result
             (λ _. IsAccepted (S.judge scheme.now) self.entry.checks self.entry.cert.now given)
             (RefusesBy (chain_rules (S.judge scheme.now) self.entry.checks self.entry.cert.now given)) }

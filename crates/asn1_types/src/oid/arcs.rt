@@ -10,7 +10,7 @@ use crate::TextError;
 use std::alloc::Global;
 
 /// The numbers whose dotted text this is, `BadText` only where it is that of no identifier.
-pub fn arcs_of(alloc: Global, text: &str) -> Result<Vec<u128>, TextError>
+pub fn parse_arcs(alloc: Global, text: &str) -> Result<Vec<u128>, TextError>
     ensures { MatchResult result
         (λ arcs. AllByRecursion IsSubidentifier arcs.items × (text.now ≡ dotted arcs.items))
         (RefusesText (IsDottedText text.now)) }

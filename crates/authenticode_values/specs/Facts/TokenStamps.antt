@@ -17,7 +17,7 @@ use Rattle.cms_types.specs.declared.signer_info.SignerInfo.{SignerInfo}
 use Rattle.authenticode_core.specs.declared.timestamp_error.TimestampError.{TimestampError}
 use Rattle.authenticode_core.specs.declared.timestamp_error.TimestampError.TheVariants as errors
 use Rattle.authenticode_values.specs.Pkcs7.{signers_of}
-use Rattle.authenticode_values.specs.TokenStamp.{CountersignsBy, IsFirstUnwritten, IsStampedBy, RefusesStamp, token_modifies}
+use Rattle.authenticode_values.specs.TokenStamp.{CountersignsBy, IsFirstUnwritten, IsStampedBy, RefusesTokenStamp, token_modifies}
 use Rattle.authenticode_values.specs.declared.pkcs7.Pkcs7.{Pkcs7}
 
 -- ---- causes
@@ -79,7 +79,7 @@ none_stamped : (countersigners signers : List SignerInfo) (a b : SignerInfo) (ot
 none_stamped countersigners signers a b others others' (inl none) first first' = not_none signers others a none first
 none_stamped countersigners signers a b others others' (inr none) first first' = not_none countersigners others' b none first'
 
-empty_or_unwritten : (countersigners signers : List SignerInfo) (e : CertError) → RefusesStamp countersigners signers errors.TimestampTokenEmpty → RefusesStamp countersigners signers (errors.Asn1DerError e) → ⊥
+empty_or_unwritten : (countersigners signers : List SignerInfo) (e : CertError) → RefusesTokenStamp countersigners signers errors.TimestampTokenEmpty → RefusesTokenStamp countersigners signers (errors.Asn1DerError e) → ⊥
 empty_or_unwritten countersigners signers e (inl none) refused = refused.0 none
 empty_or_unwritten countersigners signers e (inr none) refused =
     let first = refused.1.3 in not_none countersigners first.others first.signer none first.first

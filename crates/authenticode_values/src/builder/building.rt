@@ -16,7 +16,7 @@ ghost use Rattle.x509_types.specs.Attribute.{attribute};
 ghost use Rattle.x509_types.specs.CertificateElements.{CertificateElements};
 ghost use Rattle.x509_core.specs.Steps.{AreTaken, IsFirstUntaken, RefusesBySteps};
 ghost use Rattle.authenticode_values.specs.BuilderParts.{given_of};
-ghost use Rattle.authenticode_values.specs.Building.{HasGiven, IsBuilt, IsBuiltOf, IsNamedFirst, IsSigner, attributes_by, attributes_in, building_steps, content_by, element_step, given_step, given_steps, key_step, message_in, named_step, parts_by, purpose_step, steps_of, supported_step, unsigned_in};
+ghost use Rattle.authenticode_values.specs.Building.{HasGiven, IsBuiltSignature, IsBuiltOf, IsNamedFirst, IsSigner, attributes_by, attributes_in, building_steps, content_by, element_step, given_step, given_steps, key_step, message_in, named_step, parts_by, purpose_step, steps_of, supported_step, unsigned_in};
 ghost use Rattle.making_core.specs.Carried.{AreWithoutRoots};
 ghost use Rattle.making_core.specs.MadeSignature.{attributes_element, signature_made};
 ghost use Rattle.making_core.specs.SignedProgram.{IsSignature};
@@ -72,7 +72,7 @@ impl AuthenticodeSignatureBuilder<'_> {
         scheme: &S,
     ) -> Result<AuthenticodeSignature, AuthenticodeSignatureBuilderError>
         ensures answer { MatchResult result
-            (λ s. IsBuilt (arithmetic (S.judge scheme.now) (S.signs scheme.now) (S.pair scheme.now)) self.entry (fields_of s.0))
+            (λ s. IsBuiltSignature (arithmetic (S.judge scheme.now) (S.signs scheme.now) (S.pair scheme.now)) self.entry (fields_of s.0))
             (RefusesBySteps errors.Memory (building_steps (S.signs scheme.now) self.entry)) }
         // What isn't given, and SHA-224, is told whatever memory there is.
         ensures refused { (e : AuthenticodeSignatureBuilderError) → IsFirstUntaken (given_steps self.entry) e → result ≡ Err e }
@@ -87,7 +87,7 @@ impl AuthenticodeSignatureBuilder<'_> {
         scheme: &S,
     ) -> Result<AuthenticodeSignature, AuthenticodeSignatureBuilderError>
         ensures answer { MatchResult result
-            (λ s. IsBuilt (arithmetic (S.judge scheme.now) (S.signs scheme.now) (S.pair scheme.now)) self.now (fields_of s.0))
+            (λ s. IsBuiltSignature (arithmetic (S.judge scheme.now) (S.signs scheme.now) (S.pair scheme.now)) self.now (fields_of s.0))
             (RefusesBySteps errors.Memory (building_steps (S.signs scheme.now) self.now)) }
         ensures refused { (e : AuthenticodeSignatureBuilderError) → IsFirstUntaken (given_steps self.now) e → result ≡ Err e }
     {

@@ -13,7 +13,7 @@ use Rattle.der_core.specs.Facts.Grammars.{printed, same_fields, list_once}
 use Rattle.der_core.specs.Facts.Kept.{same_kept}
 use Rattle.der_core.specs.Facts.Lists.{printed_list}
 use Rattle.content_types.specs.CtlEntry.{ctl_entry}
-use Rattle.content_types.specs.Ctl.{Begins, MayBegin, IsNothing, FirstNot, IsIntegerElement, IsString, IsPurposeList, IsTime, IsAlgorithm, AreEntries, AreExtensions, FromEntries, FromAlgorithm, FromThisUpdate, FromUsage, IsCtl}
+use Rattle.content_types.specs.Ctl.{Begins, MayBegin, IsNothing, FirstNot, IsIntegerElement, IsString, IsPurposeList, IsTime, IsAlgorithmElement, AreEntries, AreExtensions, FromEntries, FromAlgorithm, FromThisUpdate, FromUsage, IsCtl}
 use Rattle.content_types.specs.CtlElement.{ctl}
 use Rattle.content_types.specs.Facts.CtlEntries.{ctl_entries}
 use Rattle.content_types.specs.declared.ctl.Ctl.{Ctl}
@@ -37,7 +37,7 @@ string_tag e is = ap tag_of is.1
 usage_tag : (e : DerElement) → IsPurposeList e → tag_of e ≡ 0x30
 usage_tag e is = ap tag_of is.1.holds
 
-algorithm_tag : (e : DerElement) → IsAlgorithm e → tag_of e ≡ 0x30
+algorithm_tag : (e : DerElement) → IsAlgorithmElement e → tag_of e ≡ 0x30
 algorithm_tag e is = ap tag_of is.1
 
 pub usage_no_integer : (entries : List CTLEntry) (kids : List DerElement) → FromUsage entries kids → FirstNot IsIntegerElement kids
@@ -52,7 +52,7 @@ number_no_string entries kids m =
     (λ b. begins_not IsTime IsString _ kids (λ e p q. absurd (omega (arith, p.0, string_tag e q))) b) m
 
 pub algorithm_no_time : (entries : List CTLEntry) (kids : List DerElement) → FromAlgorithm entries kids → FirstNot IsTime kids
-algorithm_no_time entries kids b = begins_not IsAlgorithm IsTime _ kids (λ e p q. absurd (omega (arith, algorithm_tag e p, q.1))) b
+algorithm_no_time entries kids b = begins_not IsAlgorithmElement IsTime _ kids (λ e p q. absurd (omega (arith, algorithm_tag e p, q.1))) b
 
 pub nothing_no_extensions : (kids : List DerElement) → IsNothing kids → FirstNot AreExtensions kids
 nothing_no_extensions kids none = subst (FirstNot AreExtensions) (sym none) tt
@@ -87,7 +87,7 @@ from_entries xs ys kids b c =
     (subst (λ (e : DerElement). AreEntries e xs) (same_rest (λ element. AreEntries element xs) (λ element. AreEntries element ys) (MayBegin AreExtensions IsNothing) (MayBegin AreExtensions IsNothing) kids b c).0 b.is) c.is
 
 from_algorithm : (xs ys : List CTLEntry) (kids : List DerElement) → FromAlgorithm xs kids → FromAlgorithm ys kids → xs ≡ ys
-from_algorithm xs ys kids b c = both_begin IsAlgorithm (FromEntries xs) (FromEntries ys) kids (from_entries xs ys) b c
+from_algorithm xs ys kids b c = both_begin IsAlgorithmElement (FromEntries xs) (FromEntries ys) kids (from_entries xs ys) b c
 
 from_this : (xs ys : List CTLEntry) (kids : List DerElement) → FromThisUpdate xs kids → FromThisUpdate ys kids → xs ≡ ys
 from_this xs ys kids b c =

@@ -6,7 +6,7 @@ use mathlib.Core.HLevel.{Σ_prop_path}
 use Rattle.der_core.specs.DerElement.{DerElements}
 use Rattle.der_core.specs.Encoding.{encodings}
 use Rattle.der_core.specs.Facts.Fronts.{same_kids}
-use Rattle.der_core.specs.Facts.InBounds.{same_octets, AreWellFormed-prop, AreShort-prop}
+use Rattle.der_core.specs.Facts.InBounds.{octets-set, AreWellFormed-prop, AreShort-prop}
 use Rattle.der_core.specs.Reading.{AreDerWithin}
 use Rattle.der_core.specs.Cursor.{AreInner, WereTested}
 
@@ -14,7 +14,7 @@ AreDerWithin-prop : (levels : ℕ) (elements : DerElements) → IsProp (AreDerWi
 AreDerWithin-prop levels elements = hlevel (le_prop, AreWellFormed-prop elements, AreShort-prop elements)
 
 AreInner-prop : (octets : List ℕ) (elements : DerElements) → IsProp (AreInner octets elements)
-AreInner-prop octets elements = ×_prop (AreDerWithin-prop 63 elements) (same_octets octets (encodings elements))
+AreInner-prop octets elements = ×_prop (AreDerWithin-prop 63 elements) (octets-set octets (encodings elements))
 
 inner_once : (octets : List ℕ) → IsProp ((elements : DerElements) × AreInner octets elements)
 inner_once octets a b =

@@ -4,19 +4,19 @@ use Rattle.std.specs.Coded.{Coded-set, coded_ℕ, coded_list, ×_prop, Unit-prop
 use Rattle.der_core.specs.DerElement.{DerElement, Primitive, Constructed, DerElements, Nil, Cons}
 use Rattle.der_core.specs.Encoding.{IsTag, IsWellFormed, AreWellFormed, IsShort, AreShort, IsDerWithin}
 
-pub same_numbers : (m n : ℕ) → IsProp (m ≡ n)
-same_numbers m n = Coded-set coded_ℕ m n
+pub numbers-set : (m n : ℕ) → IsProp (m ≡ n)
+numbers-set m n = Coded-set coded_ℕ m n
 
-pub same_octets : (a b : List ℕ) → IsProp (a ≡ b)
-same_octets a b = Coded-set (coded_list coded_ℕ) a b
+pub octets-set : (a b : List ℕ) → IsProp (a ≡ b)
+octets-set a b = Coded-set (coded_list coded_ℕ) a b
 
 IsTag-prop : (tag : ℕ) → IsProp (IsTag tag)
 IsTag-prop tag = hlevel (le_prop)
 
 mutual
   IsWellFormed-prop : (element : DerElement) → IsProp (IsWellFormed element)
-  IsWellFormed-prop (Primitive tag content) = hlevel (IsTag-prop, same_numbers)
-  IsWellFormed-prop (Constructed tag kids) = hlevel (IsTag-prop, same_numbers, AreWellFormed-prop kids)
+  IsWellFormed-prop (Primitive tag content) = hlevel (IsTag-prop, numbers-set)
+  IsWellFormed-prop (Constructed tag kids) = hlevel (IsTag-prop, numbers-set, AreWellFormed-prop kids)
 
   pub AreWellFormed-prop : (elements : DerElements) → IsProp (AreWellFormed elements)
   AreWellFormed-prop Nil = Unit-prop

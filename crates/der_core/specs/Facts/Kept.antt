@@ -9,10 +9,10 @@ use Rattle.der_core.specs.Encoding.{encoding, IsDer}
 use Rattle.der_core.specs.Kept.{KeptElement, IsKept, Kept}
 use Rattle.der_core.specs.Facts.Codes.{stored, stored_inj}
 use Rattle.der_core.specs.Facts.Fronts.{fronts}
-use Rattle.der_core.specs.Facts.InBounds.{same_octets, IsDerWithin-prop}
+use Rattle.der_core.specs.Facts.InBounds.{octets-set, IsDerWithin-prop}
 
 IsKept-prop : (octets : List ℕ) (element : DerElement) → IsProp (IsKept octets element)
-IsKept-prop octets element = ×_prop (IsDerWithin-prop 64 element) (same_octets octets (encoding element))
+IsKept-prop octets element = ×_prop (IsDerWithin-prop 64 element) (octets-set octets (encoding element))
 
 -- octets are the encoding of one element in bounds at most
 pub same_encoded : (a b : DerElement) → IsDer a → IsDer b → encoding a ≡ encoding b → a ≡ b

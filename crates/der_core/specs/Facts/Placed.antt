@@ -8,14 +8,14 @@ use Rattle.der_core.specs.Facts.Rows.{listed-row}
 use Rattle.der_core.specs.Encoding.{encoding, encodings, IsDer, AreWellFormed, AreShort}
 use Rattle.der_core.specs.Placed.{AreDer, IsElem, HasElem, AreElems, HasElems}
 use Rattle.der_core.specs.Facts.Fronts.{fronts, same_kids}
-use Rattle.der_core.specs.Facts.InBounds.{same_numbers, same_octets, IsDerWithin-prop}
+use Rattle.der_core.specs.Facts.InBounds.{numbers-set, octets-set, IsDerWithin-prop}
 
 pub AreDer-prop : (kids : List DerElement) → IsProp (AreDer kids)
 AreDer-prop [] = Unit-prop
 AreDer-prop (kid ∷ kids) = ×_prop (IsDerWithin-prop 64 kid) (AreDer-prop kids)
 
 IsElem-prop : (whole : List ℕ) (tag : ℕ) (content : List ℕ) (element : DerElement) → IsProp (IsElem whole tag content element)
-IsElem-prop whole tag content element = hlevel (IsDerWithin-prop 64 element, same_octets, same_numbers)
+IsElem-prop whole tag content element = hlevel (IsDerWithin-prop 64 element, octets-set, numbers-set)
 
 pub HasElem-prop : (whole : List ℕ) (tag : ℕ) (content : List ℕ) → IsProp (HasElem whole tag content)
 HasElem-prop whole tag content a b =
@@ -34,7 +34,7 @@ same_elements a b der der' e =
     sym (listed-row a) ∙ ap listed (same_kids (row a) (row b) (all_formed a der) (all_formed b der') (all_short a der) (all_short b der') e) ∙ listed-row b
 
 AreElems-prop : (octets : List ℕ) (elements : List DerElement) → IsProp (AreElems octets elements)
-AreElems-prop octets elements = ×_prop (AreDer-prop elements) (same_octets octets (encodings (row elements)))
+AreElems-prop octets elements = ×_prop (AreDer-prop elements) (octets-set octets (encodings (row elements)))
 
 pub HasElems-prop : (octets : List ℕ) → IsProp (HasElems octets)
 HasElems-prop octets a b = Σ_prop_path (AreElems-prop octets) (same_elements a.0 b.0 a.1.0 b.1.0 (sym a.1.1 ∙ b.1.1))

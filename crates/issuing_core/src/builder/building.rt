@@ -18,7 +18,7 @@ ghost use Rattle.x509_core.specs.declared.error.CertError.{CertError};
 ghost use Rattle.x509_core.specs.declared.error.CertError.TheVariants as errors;
 ghost use Rattle.issuing_core.specs.declared.builder.IssuerInfos.{IssuerInfos};
 ghost use Rattle.issuing_core.specs.BuildRefusals.{Tells, no_algorithm as algorithm_refusal};
-ghost use Rattle.issuing_core.specs.BuiltCertificate.{IsIssuedBy, IsTbsBy, IsValidityOf, serial_of};
+ghost use Rattle.issuing_core.specs.BuiltCertificate.{IsBuiltBy, IsTbsBy, IsValidityOf, serial_of};
 ghost use Rattle.issuing_core.specs.Building.{IsBuilt, algorithm_step, argument_steps, build_steps, given_steps};
 ghost use Rattle.issuing_core.specs.Inherited.{AreDistinct};
 ghost use Rattle.issuing_core.specs.MadeExtensions.{constraints_of};
@@ -132,7 +132,7 @@ impl<'a> CertificateBuilder<'a> {
         issuer: &IssuerInfos<'_>,
     ) -> Result<IssuedBy, CertError>
         ensures { MatchResult result
-            (λ by. IsIssuedBy self.now issuer.now word by.serial_number by.signature (sets_of by.name))
+            (λ by. IsBuiltBy self.now issuer.now word by.serial_number by.signature (sets_of by.name))
             (RefusesBySteps errors.Memory (algorithm_step self.now ∷ [])) }
     {
         let signature = identifier_of(alloc, self.signature_hash_type)?;

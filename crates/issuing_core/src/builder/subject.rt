@@ -5,7 +5,7 @@ ghost use Rattle.key_core.specs.Keys.{info_of};
 ghost use Rattle.key_core.specs.Rules.{OrMemory};
 ghost use Rattle.names_core.specs.Names.{sets_of};
 ghost use Rattle.issuing_core.specs.BuildRefusals.{Tells, no_request as request_refusal};
-ghost use Rattle.issuing_core.specs.BuiltCertificate.{IsGivenSubject, IsHalfOf, IsIssuedTo, IsSubject};
+ghost use Rattle.issuing_core.specs.BuiltCertificate.{IsGivenSubject, IsHalfOf, IsBuiltFor, IsSubject};
 ghost use Rattle.issuing_core.specs.Building.{half_step, identifier_step, other_steps, subject_arguments, subject_steps};
 ghost use Rattle.issuing_core.specs.CsrRefusals.{IsUnsigned};
 ghost use Rattle.issuing_core.specs.SelfSigned.{IsSelfSigned, RefusesSelfSigned};
@@ -39,7 +39,7 @@ impl CertificateBuilder<'_> {
         scheme: &S,
     ) -> Result<Subject, CertError>
         ensures answer { MatchResult result
-            (λ subject. IsIssuedTo (S.judge scheme.now) self.now issuer.now subject.own.items (sets_of subject.name) (info_of subject.key))
+            (λ subject. IsBuiltFor (S.judge scheme.now) self.now issuer.now subject.own.items (sets_of subject.name) (info_of subject.key))
             (RefusesBySteps errors.Memory (subject_steps (S.judge scheme.now) issuer.now.self_signed self.now issuer.now ++ identifier_step (S.judge scheme.now) self.now issuer.now ∷ [])) }
         ensures refused { (e : CertError) → IsFirstUntaken (subject_arguments issuer.now.self_signed self.now) e → result ≡ Err e }
     {

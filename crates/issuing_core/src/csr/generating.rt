@@ -5,14 +5,14 @@ ghost use Rattle.der_core.specs.Encoding.{encoding};
 ghost use Rattle.asn1_types.specs.Values.{payload_of, unused_of};
 ghost use Rattle.key_types.specs.declared.key_info.SubjectPublicKeyInfo.{SubjectPublicKeyInfo};
 ghost use Rattle.key_core.specs.Keys.{container_of, point_beside};
-ghost use Rattle.key_core.specs.PublicHalf.{IsMissing};
+ghost use Rattle.key_core.specs.PublicHalf.{IsMissingHalf};
 ghost use Rattle.key_core.specs.SignatureAlgorithm.{IsWrittenAlgorithm, IsUnwritable};
 ghost use Rattle.key_core.specs.Signing.{IsKeyPair, arithmetic};
 ghost use Rattle.key_core.specs.Verifying.{Accepts};
 ghost use Rattle.key_core.specs.declared.error.KeyError.{KeyError};
 ghost use Rattle.request_types.specs.RequestInfo.{request_info};
 ghost use Rattle.issuing_core.specs.CsrRefusals.{IsUnsigned, keyless};
-ghost use Rattle.issuing_core.specs.Generated.{HasNoHalf, InfoUnsigned, InfoUnwritten, IsGenerated, IsInfoFor, IsInfoSigned, IsInfoWritten, IsMadeOf, RefusesToGenerate, RefusesToMake};
+ghost use Rattle.issuing_core.specs.Generated.{HasNoHalf, InfoUnsigned, InfoUnwritten, IsGenerated, IsInfoFor, IsInfoSigned, IsInfoWritten, IsRequestFor, RefusesToGenerate, RefusesToMake};
 ghost use Rattle.issuing_core.specs.SelfSigned.{IsSelfSigned};
 
 use super::{Csr, causes};
@@ -40,7 +40,7 @@ impl Csr {
             (IsGenerated (S.signs scheme.now) subject private_key.now signature_hash_type [])
             (RefusesToGenerate (arithmetic (S.judge scheme.now) (S.signs scheme.now) (S.pair scheme.now)) subject private_key.now signature_hash_type []) }
         // A public key that is missing is told whatever memory there is.
-        ensures missing { (e : KeyError) → point_beside private_key.now ≡ None → IsMissing (container_of private_key.now).private_key e → result ≡ Err (keyless e) }
+        ensures missing { (e : KeyError) → point_beside private_key.now ≡ None → IsMissingHalf (container_of private_key.now).private_key e → result ≡ Err (keyless e) }
         // It is accepted under a key that pairs with its public one.
         ensures verifies { IfOk result (λ csr. IsKeyPair (S.pair scheme.now) private_key.now csr.request.certification_request_info.subject_public_key_info
             → IsSelfSigned (S.judge scheme.now) csr) }
@@ -73,7 +73,7 @@ impl Csr {
             (IsGenerated (S.signs scheme.now) subject private_key.now signature_hash_type attributes)
             (RefusesToGenerate (arithmetic (S.judge scheme.now) (S.signs scheme.now) (S.pair scheme.now)) subject private_key.now signature_hash_type attributes) }
         // A public key that is missing is told whatever memory there is.
-        ensures missing { (e : KeyError) → point_beside private_key.now ≡ None → IsMissing (container_of private_key.now).private_key e → result ≡ Err (keyless e) }
+        ensures missing { (e : KeyError) → point_beside private_key.now ≡ None → IsMissingHalf (container_of private_key.now).private_key e → result ≡ Err (keyless e) }
         // It is accepted under a key that pairs with its public one.
         ensures verifies { IfOk result (λ csr. IsKeyPair (S.pair scheme.now) private_key.now csr.request.certification_request_info.subject_public_key_info
             → IsSelfSigned (S.judge scheme.now) csr) }
@@ -93,7 +93,7 @@ fn info_for(
     attributes: AttributeList,
 ) -> Result<CertificationRequestInfo, CsrError>
     ensures answer { MatchResult result (IsInfoFor subject private_key.now attributes) (HasNoHalf private_key.now) }
-    ensures missing { (e : KeyError) → point_beside private_key.now ≡ None → IsMissing (container_of private_key.now).private_key e → result ≡ Err (keyless e) }
+    ensures missing { (e : KeyError) → point_beside private_key.now ≡ None → IsMissingHalf (container_of private_key.now).private_key e → result ≡ Err (keyless e) }
 {
     match private_key.to_public_key(alloc) {
         Ok(public_key) => Ok(CertificationRequestInfo {
@@ -114,7 +114,7 @@ fn signed<S: Scheme>(
     scheme: &S,
 ) -> Result<Csr, CsrError>
     ensures answer { MatchResult result
-        (λ csr. IsMadeOf algorithm info csr × IsInfoSigned (S.signs scheme.now) private_key.now algorithm info)
+        (λ csr. IsRequestFor algorithm info csr × IsInfoSigned (S.signs scheme.now) private_key.now algorithm info)
         (RefusesToMake (arithmetic (S.judge scheme.now) (S.signs scheme.now) (S.pair scheme.now)) private_key.now algorithm info) }
     ensures verifies { IfOk result (λ csr. (key : SubjectPublicKeyInfo) → IsKeyPair (S.pair scheme.now) private_key.now key
         → Accepts (S.judge scheme.now) algorithm key (encoding csr.info) (payload_of csr.request.signature)) }

@@ -15,7 +15,7 @@ ghost use Rattle.der_core.specs.declared.fault.DerFault.{DerFault};
 ghost use Rattle.key_types.specs.AlgorithmIdentifier.{parameters_of};
 ghost use Rattle.key_core.specs.CurveKeys.{IsCurveKey};
 ghost use Rattle.key_core.specs.DerivedKeys.{IsEdOf, IsEdKeyOf, IsEcRefusal, IsEdRefusal};
-ghost use Rattle.key_core.specs.Pkcs8.{IsKept, IsKeptEc, RefusesEcInfo, RefusesEdInfo, RefusesKept, IsPkcs8Key, RefusesPkcs8};
+ghost use Rattle.key_core.specs.Pkcs8.{IsKeptKey, IsKeptEc, RefusesEcInfo, RefusesEdInfo, RefusesKept, IsPkcs8Key, RefusesPkcs8};
 ghost use Rattle.key_core.specs.PrivateKeyInfo.{IsPrivateKeyInfo};
 ghost use Rattle.key_core.specs.declared.ed_algorithm.EdAlgorithm.{EdAlgorithm};
 ghost use Rattle.key_core.specs.declared.element.Element.TheVariants as elements;
@@ -70,7 +70,7 @@ impl PrivateKey {
 /// The key that is kept of a container.
 fn kept<S: Scheme>(alloc: Global, info: PrivateKeyInfo, scheme: &S) -> Result<PrivateKey, KeyError>
     ensures { MatchResult result
-        (IsKept (S.derives scheme.now) info.private_key info)
+        (IsKeptKey (S.derives scheme.now) info.private_key info)
         (RefusesKept (S.derives scheme.now) info.private_key info) }
 {
     let public_key = match &info.private_key {

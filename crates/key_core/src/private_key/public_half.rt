@@ -2,7 +2,7 @@
 
 ghost use Rattle.std.specs.Prelude.{◌≡◌, None, Err, IfOk, MatchResult};
 ghost use Rattle.key_core.specs.MadeKeys.{IsRsaInfo};
-ghost use Rattle.key_core.specs.PublicHalf.{public_numbers, IsPublicHalf, RefusesPublicHalf, IsMissing};
+ghost use Rattle.key_core.specs.PublicHalf.{public_numbers, IsPublicHalf, RefusesPublicHalf, IsMissingHalf};
 ghost use Rattle.key_core.specs.declared.error.KeyError.{KeyError};
 
 use super::PrivateKey;
@@ -22,7 +22,7 @@ impl PrivateKey {
             (λ key. IsPublicHalf self.now.info.private_key self.now.info.private_key_algorithm self.now.public_key key.info)
             (RefusesPublicHalf self.now.info.private_key self.now.public_key) }
         // A public key that is missing is told, whatever memory there is.
-        ensures missing { (e : KeyError) → self.now.public_key ≡ None → IsMissing self.now.info.private_key e → result ≡ Err e }
+        ensures missing { (e : KeyError) → self.now.public_key ≡ None → IsMissingHalf self.now.info.private_key e → result ≡ Err e }
     {
         let algorithm = &self.info.private_key_algorithm;
         match (&self.info.private_key, &self.public_key) {

@@ -2,7 +2,7 @@ use Rattle.std.proofs.Common.{◌≡◌}
 use Rattle.der_core.specs.DerElement.{DerElement}
 use Rattle.key_types.specs.AlgorithmIdentifier.{algorithm_identifier}
 use Rattle.key_types.specs.declared.algorithm.AlgorithmIdentifier.{AlgorithmIdentifier}
-use Rattle.content_types.specs.Ctl.{IsPurposeList, IsAlgorithm, AreEntries}
+use Rattle.content_types.specs.Ctl.{IsPurposeList, IsAlgorithmElement, AreEntries}
 use Rattle.content_types.specs.HeldPurposes.{ArePurposes}
 use Rattle.content_types.proofs.CtlFields.{unfit_not, took_integer, took_string, took_tagged, not_begun, usage_row, this_row, algorithm_row, entries_row, no_entries, nothing_row, no_more, ctl_whole}
 use Rattle.content_types.proofs.ctl.entries_at.Goals as goal
@@ -19,7 +19,7 @@ returns-in_err-_algorithm c =
     let usage = usage_row _ _ _ _ es c.in_ok-kids.ensures (took_integer _ _ _ c.next_as-version.ensures) of in
     let this = this_row es _ _ _ _ _ _ _ c.in_ok-_usage.ensures.0 (took_string _ _ _ c.next_as-list_identifier.ensures) (took_integer _ _ _ c.next_as-sequence_number.ensures) usage in
     let algorithm = algorithm_row es _ _ _ _ _ c.in_ok-_this_update.ensures.0 c.next_time-next_update.ensures this in
-    not_begun IsAlgorithm _ _ (unfit_not (λ (element : DerElement) (value : AlgorithmIdentifier). element ≡ algorithm_identifier value) _ c.in_err-_algorithm.ensures.1) algorithm)
+    not_begun IsAlgorithmElement _ _ (unfit_not (λ (element : DerElement) (value : AlgorithmIdentifier). element ≡ algorithm_identifier value) _ c.in_err-_algorithm.ensures.1) algorithm)
 
 pub returns-in_err-entries : goal.returns-in_err-entries
 returns-in_err-entries c =

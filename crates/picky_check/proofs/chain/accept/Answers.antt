@@ -2,7 +2,7 @@ use Rattle.std.proofs.Common.{◌≡◌, List, Iter, Option, Some, Result, Match
 use Rattle.std.specs.Iterator.{AlwaysYields}
 use Rattle.std.proofs.lemmas.Fn.{fronts, slice_gives}
 use Rattle.key_core.specs.Verifying.{Judge}
-use Rattle.x509_core.specs.Chain.{Gives, IsAccepted, chain_rules, lent}
+use Rattle.x509_core.specs.Chain.{YieldsParents, IsAccepted, chain_rules, lent}
 use Rattle.x509_core.specs.Checks.{checks_at}
 use Rattle.x509_core.specs.KeptCertificate.{KeptCertificate}
 use Rattle.x509_core.specs.Rules.{RefusesBy}
@@ -21,7 +21,7 @@ answer_of judge given a b x y r checks certificate h =
 
 -- the iterator that was set, over these in their order, gives them
 given_by : (chain : Option (Iter KeptCertificate)) (iterator : Iter KeptCertificate) (parents : List KeptCertificate)
-    → chain ≡ Some iterator → iterator.rest.now ≡ parents → Gives fronts chain (Some parents)
+    → chain ≡ Some iterator → iterator.rest.now ≡ parents → YieldsParents fronts chain (Some parents)
 given_by chain iterator parents is are = rw is (subst (AlwaysYields fronts lent iterator) are (slice_gives iterator))
 
 pub returns : goal.returns

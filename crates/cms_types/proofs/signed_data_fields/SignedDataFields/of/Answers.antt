@@ -1,7 +1,7 @@
 use Rattle.std.proofs.Common.{refl}
 use Rattle.der_core.specs.Each.{IsListOf}
 use Rattle.der_core.specs.Structure.{Fits}
-use Rattle.cms_types.specs.Levels.{IsVersion, IsContentInfo, IsAlgorithm}
+use Rattle.cms_types.specs.Levels.{IsCmsVersion, IsContentInfo, IsAlgorithm}
 use Rattle.cms_types.proofs.SignerKids.{unfit_first, after, no_first, not_first, takes, constructed_option, constructed_elem, data_row, data_third, last_taken, no_signers, data_ends, data_whole}
 use Rattle.cms_types.proofs.signed_data_fields.SignedDataFields.of.Goals as goal
 
@@ -10,7 +10,7 @@ returns-in_err-kids c = rw c.from_residual.ensures (λ f of. c.in_err-kids.ensur
 
 pub returns-in_err-version : goal.returns-in_err-version
 returns-in_err-version c =
-    rw c.from_residual-in_err-version.ensures (λ f of. unfit_first IsVersion _ f.version _ c.in_err-version.ensures.1 (data_row _ _ f c.in_ok-kids.ensures of) of.fields.version)
+    rw c.from_residual-in_err-version.ensures (λ f of. unfit_first IsCmsVersion _ f.version _ c.in_err-version.ensures.1 (data_row _ _ f c.in_ok-kids.ensures of) of.fields.version)
 
 pub returns-in_err-digest_algorithms : goal.returns-in_err-digest_algorithms
 returns-in_err-digest_algorithms c =

@@ -1,5 +1,5 @@
 use Rattle.std.proofs.Common.{refl}
-use Rattle.cms_types.specs.Levels.{IsVersion, IsSignerIdentifier, IsAlgorithm, IsOctetString}
+use Rattle.cms_types.specs.Levels.{IsCmsVersion, IsSignerIdentifier, IsAlgorithm, IsOctetString}
 use Rattle.cms_types.proofs.SignerKids.{unfit_first, after, takes, constructed_option, signer_row, signer_third, signed_taken, signed_fits, signer_ends, signer_whole}
 use Rattle.cms_types.proofs.signer_fields.SignerFields.of.Goals as goal
 
@@ -8,7 +8,7 @@ returns-in_err-kids c = rw c.from_residual.ensures (λ f of. c.in_err-kids.ensur
 
 pub returns-in_err-version : goal.returns-in_err-version
 returns-in_err-version c =
-    rw c.from_residual-in_err-version.ensures (λ f of. unfit_first IsVersion _ f.version _ c.in_err-version.ensures.1 (signer_row _ _ f c.in_ok-kids.ensures of) of.fields.version)
+    rw c.from_residual-in_err-version.ensures (λ f of. unfit_first IsCmsVersion _ f.version _ c.in_err-version.ensures.1 (signer_row _ _ f c.in_ok-kids.ensures of) of.fields.version)
 
 pub returns-in_err-sid : goal.returns-in_err-sid
 returns-in_err-sid c =

@@ -1,6 +1,6 @@
 use Rattle.std.proofs.Common.{◌≡◌, IsTrue, false, Option, inl, inr, subst, rules}
 use Rattle.std.proofs.lemmas.Result.{err_from_is_err_and}
-use Rattle.x509_core.specs.Chain.{Gives}
+use Rattle.x509_core.specs.Chain.{YieldsParents}
 use Rattle.x509_core.specs.KeptCertificate.{KeptCertificate}
 use Rattle.x509_core.specs.Link.{IsOutside}
 use Rattle.x509_core.specs.Rules.{Breaks}
@@ -48,7 +48,7 @@ returns-in_default g c =
     let valid = same_valid _ _ _ c.viewed-checked.ensures c.in_ok-expect_valid.ensures.answer in
     record {
       answer = λ given gives.
-          let by = subst (λ (chain : Option _). Gives g.Chain.Iterator.next_gives chain given) c.in_default.is (gives asked) in
+          let by = subst (λ (chain : Option _). YieldsParents g.Chain.Iterator.next_gives chain given) c.in_default.is (gives asked) in
           no_chain (g.S.Scheme.judge c.args.scheme.now) c.args.self.checks c.args.self.cert.now given c.in_ok-expect_date.ensures valid asked g.Chain.Iterator.next_gives by;
       walked = chainless (g.S.Scheme.judge c.args.scheme.now) g.Chain.Iterator.next_gives c.args.self.checks c.args.self.cert.now c.in_ok-expect_date.ensures valid asked c.args.self.chain c.in_default.is;
       memory = λ none. absurd cc;
@@ -62,7 +62,7 @@ returns-in_err-last g c =
     let refused = same_refusal (g.S.Scheme.judge c.args.scheme.now) g.Chain.Iterator.next_gives _ _ _ c.in-Some.chain c.in_err-last.field-0.0 c.viewed-checked.ensures c.in_err-last.ensures.answer in
     record {
       answer = λ given gives.
-          let by = subst (λ (chain : Option _). Gives g.Chain.Iterator.next_gives chain given) c.in-Some.is (gives asked) in
+          let by = subst (λ (chain : Option _). YieldsParents g.Chain.Iterator.next_gives chain given) c.in-Some.is (gives asked) in
           rw (p.1, p.2) (refused_chain (g.S.Scheme.judge c.args.scheme.now) c.args.self.checks c.args.self.cert.now given c.in_ok-expect_date.ensures valid asked
           g.Chain.Iterator.next_gives c.in-Some.chain by c.in_err-last.field-0.0 refused);
       walked =
@@ -83,7 +83,7 @@ returns g c =
     let kind = same_kind _ _ ran.0 c.in_ok-last.last c.viewed-checked.ensures ran.3 in
     record {
       answer = λ given gives.
-          let by = subst (λ (chain : Option _). Gives g.Chain.Iterator.next_gives chain given) c.in-Some.is (gives asked) in
+          let by = subst (λ (chain : Option _). YieldsParents g.Chain.Iterator.next_gives chain given) c.in-Some.is (gives asked) in
           verdict (g.S.Scheme.judge c.args.scheme.now) c.args.self.checks c.args.self.cert.now given c.in_ok-expect_date.ensures valid asked
           g.Chain.Iterator.next_gives c.in-Some.chain by ran.0 ran.1 linked c.in_ok-last.last c.expect_root.result kind c.expect_root.ensures;
       walked =
