@@ -12,7 +12,7 @@ the repetitions: the seconds that processors worked, and the memory that was res
   - `links`: a signer, and the certificate of its authority, a root, over and over.  It
     is its own issuer, so that each of its places is one link of the path more.  The
     table has the three rows of the file, or as many rows of other files before them as
-    fit into 16 MiB, each of which is compared for each link.
+    fit into 16 MiB, among which each link is looked for.
   - `sets`: the name of a signer's issuer, of sets with one short attribute each; by
     `basic`, where no certificate has it and it is written into the error, and by
     `check`, where the signer's certificate has it.

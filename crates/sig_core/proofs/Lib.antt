@@ -6,3 +6,4 @@ pub mod Lines
 pub mod Rows
 pub mod Tables
 pub mod Verdicts
+pub mod RowIndexes

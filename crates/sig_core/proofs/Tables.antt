@@ -45,3 +45,8 @@ pub cause_at_bad_line : (text : List ℕ) (number : ℕ) (e : TableError) → Is
     → (e ≡ BadLine number) ⊎ (e ≡ Memory)
 cause_at_bad_line text number (BadLine other) h bad = inl (ap BadLine (bad_line_once text other number bad h))
 cause_at_bad_line text number Memory h cause = inr refl
+
+-- a table of some rows begins with a line
+pub begins_where_some : (text : List ℕ) (rows : List VerdictRow) → IsTable text rows → (rows ≡ [] → ⊥) → BeginsWithLine text
+begins_where_some text [] table some = absurd (some refl)
+begins_where_some text (row ∷ others) table some = record { row = row; after = lines_of others; is_row = table.0.0; spelled = table.1 }

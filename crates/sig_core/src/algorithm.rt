@@ -16,7 +16,7 @@ pub enum SchemeKind {
 }
 
 /// The algorithms of signatures: a kind of key and the digest that it signs.
-#[derive(Clone, Copy, PartialEq, Eq, Debug)]
+#[derive(Clone, Copy, PartialEq, Eq, PartialOrd, Ord, Debug)]
 pub enum SigAlg {
     RsaMd5,
     RsaSha1,

@@ -16,7 +16,7 @@ const DIGITS_LEN: usize = 64;
 
 /// What a table accepts: an algorithm, and the SHA-256 of key bytes, of a message and of a
 /// signature.
-#[derive(Clone, Copy, PartialEq, Eq, Debug)]
+#[derive(Clone, Copy, PartialEq, Eq, PartialOrd, Ord, Debug)]
 pub struct VerdictRow {
     pub alg: SigAlg,
     pub key: [u8; DIGEST_LEN],

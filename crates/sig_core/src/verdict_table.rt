@@ -5,6 +5,7 @@ ghost use Rattle.std.specs.Cmp.Lexicographic.{pointwise, lists_per, lists_equiv}
 ghost use Rattle.std.specs.Cmp.Rules.{comparing};
 ghost use Rattle.std.proofs.Common.{rules};
 ghost use Rattle.sig_core.specs.ErrorText.{table_error_text};
+ghost use Rattle.sig_core.specs.RowIndex.{IsIndex};
 ghost use Rattle.sig_core.specs.VerdictTable.{IsTable, IsFirstBadLine, IsCause, row_of, verdict_of, is_same_row};
 ghost use Rattle.sig_core.specs.declared.verdict_row.VerdictRow.{VerdictRow};
 ghost use Rattle.sig_core.specs.declared.verdict_table.TableError.TheVariants.{Memory};
@@ -57,19 +58,24 @@ impl<T: Drop> From<AllocFailed<T>> for TableError {
     }
 }
 
-/// A table of what is accepted, seen by contracts as the list of its rows.
+/// A table of what is accepted, seen by contracts as the list of its rows. It keeps them in order a
+/// second time, so that one is found by halves.
 #[derive(Debug, Drop)]
 pub struct VerdictTable {
     rows: Vec<VerdictRow>,
+    sorted: Vec<VerdictRow>,
 }
 
 impl Model for VerdictTable {
     ghost use Rattle.std.specs.Prelude.{List};
     ghost use Rattle.sig_core.specs.declared.verdict_row.VerdictRow.{VerdictRow};
+    ghost use Rattle.sig_core.specs.RowIndex.{IsIndex};
 
     ghost Value = { List VerdictRow };
 
     ghost view = { λ table. table.rows.items };
+
+    ghost invariant = { λ table. IsIndex ⟦<VerdictRow as Ord>⟧.cmp table.rows.items table.sorted.items };
 }
 
 impl VerdictTable {
@@ -87,9 +93,9 @@ impl VerdictTable {
             → MatchResult result (λ _. ⊥)
             (λ e. (e ≡ TableError.BadLine number) ⊎ (e ≡ TableError.Memory)) }
     {
-        Ok(VerdictTable {
-            rows: rows_of(alloc, bytes)?,
-        })
+        let rows = rows_of(alloc, bytes)?;
+        let sorted = sorted_copy(alloc, &rows)?;
+        Ok(VerdictTable { rows, sorted })
     }
 
     /// A copy of the table.
@@ -98,6 +104,7 @@ impl VerdictTable {
     {
         Ok(VerdictTable {
             rows: Vec::from_slice(alloc, &self.rows)?,
+            sorted: Vec::from_slice(alloc, &self.sorted)?,
         })
     }
 
@@ -119,7 +126,7 @@ impl VerdictTable {
     fn contains(&self, row: &VerdictRow) -> bool
         ensures { IsTrue result ↔ Contains self.now row.now }
     {
-        self.rows.contains(row)
+        self.sorted.binary_search(row).is_ok()
     }
 }
 
@@ -158,6 +165,20 @@ fn rows_of(alloc: Global, text: &[u8]) -> Result<Vec<VerdictRow>, TableError>
         rest = after;
     }
     Ok(rows)
+}
+
+/// The rows in the order of their types, in which one is found by halves.
+fn sorted_copy(alloc: Global, rows: &[VerdictRow]) -> Result<Vec<VerdictRow>, AllocError>
+    ensures index { IfOk result (λ sorted. IsIndex ⟦<VerdictRow as Ord>⟧.cmp rows.now sorted.items) }
+    // Nothing is asked for where there are no rows.
+    ensures none { rows.now ≡ [] → IsOk result }
+{
+    if rows.is_empty() {
+        return Ok(Vec::new(alloc));
+    }
+    let mut sorted = Vec::from_slice(alloc, rows)?;
+    sorted.sort_unstable();
+    Ok(sorted)
 }
 
 impl Scheme for VerdictTable {
