@@ -18,7 +18,7 @@ use crate::testing::first_from;
 /// Octets that are read element by element where they lie, without memory: those that are left,
 /// the place of the first of them, and the level of the elements: 1 where octets were handed in, 2
 /// within an element that was tested, however deep.
-#[derive(Clone, Copy)]
+#[derive(Clone, Copy, Debug)]
 pub struct Cursor<'a> {
     rest: &'a [u8],
     place: usize,

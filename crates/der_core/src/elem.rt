@@ -5,7 +5,7 @@ ghost use Rattle.der_core.specs.Facts.Placed.{HasElem-prop};
 
 /// An element in bounds where its octets lie: its identifier octet, all of its octets, and its
 /// contents octets (X.690 8.1.1).
-#[derive(Clone, Copy)]
+#[derive(Clone, Copy, Debug)]
 pub struct Elem<'a> {
     pub tag: u8,
     pub whole: &'a [u8],

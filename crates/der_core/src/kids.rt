@@ -18,7 +18,7 @@ use crate::tag::BOOLEAN;
 use crate::tagging::explicit_at;
 
 /// Elements in bounds, one after another, that aren't read yet.
-#[derive(Clone, Copy)]
+#[derive(Clone, Copy, Debug)]
 pub struct Kids<'a> {
     pub(crate) rest: &'a [u8],
     pub ghost are: { HasElems rest.now } by { HasElems-prop rest.now },
@@ -43,6 +43,16 @@ impl<'a> Kids<'a> {
         ensures { IsTrue result ↔ (self.now.are.0 ≡ []) }
     {
         self.rest.is_empty()
+    }
+
+    /// How many elements are left, to make room for them: nothing is promised of it. Their heads
+    /// alone are read.
+    pub(crate) fn room(mut self) -> usize {
+        let mut count = 0usize;
+        while self.next().is_some() {
+            count = count.saturating_add(1);
+        }
+        count
     }
 
     /// The next element. Its head alone is read.

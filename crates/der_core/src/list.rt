@@ -47,6 +47,15 @@ impl<T> ListOf<T> {
         }
     }
 
+    /// No values, with room for so many.
+    pub fn with_capacity(alloc: Global, capacity: usize) -> Result<ListOf<T>, AllocError>
+        ensures { IfOk result (λ list. list ≡ []) }
+    {
+        Ok(ListOf {
+            items: Vec::with_capacity(alloc, capacity)?,
+        })
+    }
+
     /// Appends a value.
     pub fn push(&mut self, item: T) -> Result<(), AllocError>
     where
@@ -134,7 +143,7 @@ pub fn has_each<T: Structure>(mut kids: Kids<'_>) -> bool
 pub fn read_each<T: Structure>(alloc: Global, mut kids: Kids<'_>) -> Result<ListOf<T>, DerError>
     ensures { MatchResult result (AreEach T.spells kids.entry.are.0) (RefusesShape (AreEach T.spells kids.entry.are.0)) }
 {
-    let mut values = ListOf::new(alloc);
+    let mut values = ListOf::with_capacity(alloc, kids.room())?;
     while let Some(kid) = kids.next() {
         values.push(T::read_at(alloc, kid)?)?;
     }
@@ -158,7 +167,7 @@ pub fn write_each<T: Structure>(alloc: Global, values: &ListOf<T>) -> Result<New
 pub fn copy_each<T: Structure>(alloc: Global, values: &ListOf<T>) -> Result<ListOf<T>, AllocError>
     ensures { IfOk result (λ copies. copies ≡ values.now) }
 {
-    let mut copies = ListOf::new(alloc);
+    let mut copies = ListOf::with_capacity(alloc, values.len())?;
     for value in values.as_slice() {
         copies.push(value.try_clone(alloc)?)?;
     }
