@@ -37,10 +37,11 @@ all_same (a ∷ rows) [] = false
 all_same (a ∷ rows) (b ∷ bs) = same a b && all_same rows bs
 
 rows_same : all_same known_rows named_identifiers ≡ true
+unfolding known_rows
 rows_same = refl
 
 all_agree : list_all agrees known_rows ≡ true
-unfolding subidentifier digits
+unfolding known_rows subidentifier digits
 all_agree = refl
 
 abbrev differ : KnownRow → KnownRow → Bool
@@ -51,6 +52,7 @@ all_differ [] = true
 all_differ (row ∷ rows) = list_all (differ row) rows && all_differ rows
 
 rows_differ : all_differ known_rows ≡ true
+unfolding known_rows
 rows_differ = refl
 
 -- ---- what the tests mean
@@ -153,4 +155,5 @@ known_among contents (row ∷ rows) all e = elim (or_cases (bytes_eq row.content
 
 -- the contents octets of a row are those of an identifier
 pub known_is : (contents : List ℕ) → is_known contents ≡ true → IsIdentifier contents
+unfolding known_rows
 known_is contents e = known_among contents known_rows each_agrees e

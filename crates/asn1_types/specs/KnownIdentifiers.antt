@@ -16,7 +16,7 @@ abbrev pub known_row : List ℕ → List ℕ → List ℕ → KnownRow
 known_row name text contents = record { name = name; text = text; contents = contents }
 
 -- The rows of the table.
-abbrev pub known_rows : List KnownRow
+unfoldable pub known_rows : List KnownRow
 known_rows = map (λ row. known_row row.0.now row.1.now row.2.now) TABLE
 
 -- One of the rows has this name, text and contents octets.
@@ -25,7 +25,7 @@ HasRow rows name text contents = Any (λ row. row ≡ known_row name text conten
 
 -- Whether octets are the contents of a row.
 abbrev pub is_known : List ℕ → Bool
-is_known contents = list_any (λ row. bytes_eq row.contents contents) known_rows
+is_known contents = list_any (λ row. bytes_eq row.2.now contents) TABLE
 
 -- The text and the contents octets of a row are those of one identifier.
 pub record IsOfOneIdentifier (row : KnownRow) : Type 0 where
