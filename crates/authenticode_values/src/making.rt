@@ -79,6 +79,9 @@ impl AuthenticodeSignature {
             → (info : SubjectPublicKeyInfo) → HasKey m.first info → IsKeyPair (S.pair scheme.now) private_key.now info → (IsRootCertificate m.first → m.others ≡ [])
             → (certificate_type : CertificateType) (octets : List ℕ) → IsDer (written s.0) → IsSpelledWhole octets (wrapped certificate_type (encoding (written s.0)))
             → IsMadeSignature (S.judge scheme.now) octets file_hash.now) }
+        // A name past U+FFFF, and SHA-224 where there is no name, are told whatever memory there is.
+        ensures refused { (IsBasicName (option_copied program_name.entry) → ⊥) → result ≡ Err errors.ProgramNameCharSet }
+        ensures unsupported { option_copied program_name.entry ≡ None → hash_of hash_algo ≡ SHA2_224 → result ≡ Err (errors.UnsupportedHashAlgorithmError (record { algorithm = SHA2_224 })) }
     {
         made(
             alloc,
@@ -105,6 +108,8 @@ fn made<S: Scheme>(
     ensures { MatchResult result
         (λ s. IsMadeOf (arithmetic (S.judge scheme.now) (S.signs scheme.now) (S.pair scheme.now)) (fields_of pkcs7.now) hash_algo file_hash.now (option_copied program_name.entry) private_key.now (fields_of s.0))
         (RefusesBySteps errors.Memory (making_steps (S.signs scheme.now) (fields_of pkcs7.now) (option_copied program_name.entry) (program_of hash_algo file_hash.now (option_copied program_name.entry)) private_key.now)) }
+    ensures refused { (IsBasicName (option_copied program_name.entry) → ⊥) → result ≡ Err errors.ProgramNameCharSet }
+    ensures unsupported { option_copied program_name.entry ≡ None → hash_of hash_algo ≡ SHA2_224 → result ≡ Err (errors.UnsupportedHashAlgorithmError (record { algorithm = SHA2_224 })) }
 {
     let opus = opus_for(alloc, program_name)?;
     let algorithm = algorithm_of(hash_algo)?;
@@ -125,6 +130,8 @@ fn opus_for(alloc: Global, name: Option<&str>) -> Result<SpcSpOpusInfo, Authenti
     ensures { MatchResult result
         (λ info. (opus_info info ≡ opus_element (option_copied name.entry)) × IsBasicName (option_copied name.entry))
         (RefusesBySteps errors.Memory (name_step (option_copied name.entry) ∷ [])) }
+    ensures refused { (IsBasicName (option_copied name.entry) → ⊥) → result ≡ Err errors.ProgramNameCharSet }
+    ensures nameless { option_copied name.entry ≡ None → IsOk result }
 {
     match opus_of(alloc, name) {
         Ok(opus) => Ok(opus),

@@ -32,6 +32,9 @@ const SIGNED_ATTRIBUTES: u8 = 0xA0;
 pub fn opus_of(alloc: Global, name: Option<&str>) -> Result<SpcSpOpusInfo, CharSetError>
     ensures { MatchResult result
         (λ info. (opus_info info ≡ opus_element (option_copied name.entry)) × IsBasicName (option_copied name.entry))
+    // A name is refused before memory is asked for, and none asks for none.
+    ensures refused { (IsBasicName (option_copied name.entry) → ⊥) → result ≡ Err CharSetError.CharSet }
+    ensures nameless { option_copied name.entry ≡ None → IsOk result }
         (RefusesCharSet (IsBasicName (option_copied name.entry))) }
 {
     let program_name = match name {
