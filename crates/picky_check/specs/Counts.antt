@@ -11,3 +11,8 @@ pub record RisesBy (number before now : ℕ) : Type 0 where
 -- it rose by more than a number, or stands at its last value
 abbrev pub RisesBeyond : ℕ → ℕ → ℕ → Type 0
 RisesBeyond number before now = (before + number < now) ⊎ (now ≡ last_count)
+
+-- At most one of the calls failed: then it is told, and else the count stands.
+pub record FailsOnce (Told : Type 0) (before now : ℕ) : Type 0 where
+  pub once : now ≤ before + 1
+  pub told : Told ⊎ (now ≡ before)

@@ -2,7 +2,7 @@
 
 ghost use Rattle.std.specs.Prelude.{◌≡◌, ◌+◌, ◌≤◌, ◌++◌, ℕ, List, Err, length, map, string_bytes, IfOk, IfErr, OnOk, OnErr, IsOk, IsSome, IsErrOf, MatchResult};
 ghost use Rattle.authenticode_core.specs.Counts.{GoesOn, HasRisen};
-ghost use Rattle.picky_check.specs.Counts.{RisesBy};
+ghost use Rattle.picky_check.specs.Counts.{FailsOnce, RisesBy};
 ghost use Rattle.picky_check.specs.Jobs.{contents_held, names_held};
 ghost use Rattle.picky_check.specs.Limits.{longest_file, IsWholeFile, IsLongFile, IsMissingFile, AreWholeFiles};
 ghost use Rattle.picky_check.specs.Shelf.{file_of};
@@ -35,6 +35,9 @@ pub fn read_file<F: Shelf>(alloc: Global, shelf: &mut F, name: &str) -> Result<V
     ensures no_fault { (F.state shelf.old).is_quiet
         → IsSome (file_of (F.state shelf.old).files name.now)
         → ¬ IsErrOf result FileError.Fault }
+    // A call that failed is the last, and is told.
+    ensures once { FailsOnce (result ≡ Err FileError.Fault)
+        (F.state shelf.old).faults (F.state shelf.new).faults }
 
     ensures same { (F.state shelf.new).files ≡ (F.state shelf.old).files }
     ensures quiet { (F.state shelf.old).is_quiet
@@ -65,6 +68,8 @@ pub fn write_report<O: Sink>(out: &mut O, text: &str) -> Result<(), Failed>
     ensures cut { OnErr result (IsCutShort text.now (O.state out.old) (O.state out.new)) }
     ensures counted { (O.state out.old).faults ≤ (O.state out.new).faults }
     ensures cause { OnErr result (HasRisen (O.state out.old).faults (O.state out.new).faults) }
+    // A call that failed is the last, and is told.
+    ensures once { FailsOnce (IsErr result) (O.state out.old).faults (O.state out.new).faults }
     ensures room { HasRoom (O.state out.old).room (length text.now) → IsOk result }
 {
     let octets = text.as_bytes();
@@ -100,6 +105,8 @@ pub(crate) fn read_files<F: Shelf>(
     ensures { MatchResult result
         (λ read. AreWholeFiles (F.state shelf.old).files (names_held names.now) (contents_held read))
         (AreUnread (F.state shelf.old) (F.state shelf.new) (names_held names.now)) }
+    ensures once { FailsOnce (result ≡ Err FileError.Fault)
+        (F.state shelf.old).faults (F.state shelf.new).faults }
 {
     let first = read_file(alloc, shelf, names.first)?;
     let second = read_file(alloc, shelf, names.second)?;
@@ -124,6 +131,8 @@ fn read_on<F: Shelf>(
         × AreWholeFiles (F.state shelf.old).files (map string_bytes names.now) read) }
     ensures unread { IfErr result
         (AreUnread (F.state shelf.old) (F.state shelf.new) (map string_bytes names.now)) }
+    ensures once { FailsOnce (result ≡ Err FileError.Fault)
+        (F.state shelf.old).faults (F.state shelf.new).faults }
 {
     let [name, others @ ..] = names else {
         return Ok(());

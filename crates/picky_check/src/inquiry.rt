@@ -4,6 +4,7 @@ ghost use Rattle.std.specs.Prelude.{◌≡◌, ◌⊎◌, ◌∷◌, ℕ, Err, m
 ghost use Rattle.sig_core.specs.declared.verdict_row.VerdictRow.{VerdictRow};
 ghost use Rattle.sig_core.specs.VerdictTable.{IsTable, IsFirstBadLine, verdict_of};
 ghost use Rattle.picky_check.specs.Answer.{IsAnswerTo, IsCertificateAnswer, IsSignatureAnswer, table_in};
+ghost use Rattle.picky_check.specs.Counts.{FailsOnce};
 ghost use Rattle.picky_check.specs.Inquiry.{IsReportOf, GivesReport, GivesStop, StopsForText, IsInquiry, Inquires, Reports};
 ghost use Rattle.picky_check.specs.Jobs.{contents_held, job_held};
 ghost use Rattle.picky_check.specs.Policies.{basic_policy, check_policy};
@@ -33,6 +34,8 @@ pub(crate) fn inquire<F: Shelf>(
     ensures usage { AsksForNothing (map string_bytes words.now) → result ≡ Err Stop.Usage }
     ensures asked { Inquires (map string_bytes words.now)
         (F.state shelf.old) (F.state shelf.new) result }
+    ensures once { FailsOnce (result ≡ Err Stop.Shelf)
+        (F.state shelf.old).faults (F.state shelf.new).faults }
     ensures settled { AsksForNothing (map string_bytes words.now)
         ⊎ ((asked : AskedJob) × AsksFor (map string_bytes words.now) asked) }
 {
@@ -44,7 +47,9 @@ pub(crate) fn inquire<F: Shelf>(
 
 /// Reads the files of a job, and judges what they hold.
 fn answer<F: Shelf>(alloc: Global, shelf: &mut F, job: &Job<'_>) -> Result<Report, Stop>
-    ensures { IsInquiry (F.state shelf.old) (F.state shelf.new) (job_held job.now) result }
+    ensures found { IsInquiry (F.state shelf.old) (F.state shelf.new) (job_held job.now) result }
+    ensures once { FailsOnce (result ≡ Err Stop.Shelf)
+        (F.state shelf.old).faults (F.state shelf.new).faults }
 {
     let contents = read_files(alloc, shelf, &job.names())?;
     judge(alloc, job, &contents)

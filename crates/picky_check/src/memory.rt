@@ -4,7 +4,7 @@
 ghost use Rattle.std.specs.Prelude.{◌≡◌, ◌<◌, ◌≤◌, ◌+◌, ℕ, List, [], ◌∷◌, ◌++◌, length, Some, None, IfOk, OnOk, OnErr, IsOk, IsErr, IsSome, true, false, vec_capacity, drop, is_err, min, ◌==◌};
 ghost use Rattle.std.specs.List.{list_any};
 ghost use Rattle.authenticode_core.specs.Counts.{last_count, GoesOn, HasRisen};
-ghost use Rattle.picky_check.specs.Counts.{RisesBy};
+ghost use Rattle.picky_check.specs.Counts.{FailsOnce, RisesBy};
 
 use crate::stored::{StoredFile, after, find_latest, octets_at};
 use crate::{Failed, Shelf, Sink};
@@ -53,6 +53,7 @@ impl Calls {
         ensures same { self.new.failing ≡ self.old.failing }
         ensures counted { GoesOn self.old.faults self.new.faults }
         ensures cause { OnErr result (HasRisen self.old.faults self.new.faults) }
+        ensures once { FailsOnce (IsErr result) self.old.faults self.new.faults }
         ensures quiet { is_quiet_from_now self.old → IsOk result × is_quiet_from_now self.new }
     {
         let fails = self.failing.contains(&self.count);
@@ -64,6 +65,7 @@ impl Calls {
     fn fail(&mut self) -> Failed
         ensures counted { GoesOn self.old.faults self.new.faults }
         ensures risen { HasRisen self.old.faults self.new.faults }
+        ensures once { self.new.faults ≤ self.old.faults + 1 }
         ensures same { (self.new.failing ≡ self.old.failing) × (self.new.count ≡ self.old.count) }
     {
         self.faults = self.faults.saturating_add(1);
@@ -140,6 +142,7 @@ impl Shelf for MemShelf {
         ensures none_given { RisesBy 0 (shelf_given self.old) (shelf_given self.new) }
         ensures counted { GoesOn (shelf_faults self.old) (shelf_faults self.new) }
         ensures cause { OnErr result (HasRisen (shelf_faults self.old) (shelf_faults self.new)) }
+        ensures once { FailsOnce (IsErr result) (shelf_faults self.old) (shelf_faults self.new) }
         ensures quiet { shelf_is_quiet self.old → IsSome (file_of (shelf_files self.old) name.now)
             → IsOk result × shelf_is_quiet self.new }
         ensures fails { is_set_to_fail self.old ≡ true → IsErr result }
@@ -166,6 +169,7 @@ impl Shelf for MemShelf {
         ensures kept { GoesOn (shelf_given self.old) (shelf_given self.new) }
         ensures counted { GoesOn (shelf_faults self.old) (shelf_faults self.new) }
         ensures cause { OnErr result (HasRisen (shelf_faults self.old) (shelf_faults self.new)) }
+        ensures once { FailsOnce (IsErr result) (shelf_faults self.old) (shelf_faults self.new) }
         ensures quiet { shelf_is_quiet self.old → IsOk result × shelf_is_quiet self.new }
         ensures fails { is_err result ≡ is_set_to_fail self.old }
         ensures next { IsNextCall self.old self.new }

@@ -4,6 +4,7 @@ ghost use Rattle.std.specs.Prelude.{◌≡◌, ◌⊎◌, map, string_bytes};
 ghost use Rattle.std.specs.IoError.{error_kind};
 ghost use Rattle.authenticode_core.specs.Counts.{HasRisen};
 ghost use Rattle.picky_check.specs.ChainHeadline.{IsVouchedChain};
+ghost use Rattle.picky_check.specs.Counts.{FailsOnce};
 ghost use Rattle.picky_check.specs.Headline.{IsVouchedFor, IsVouchedSignature};
 ghost use Rattle.picky_check.specs.Run.{IsRun};
 ghost use Rattle.picky_check.specs.Sink.{Appends, IsCutShort};
@@ -27,6 +28,9 @@ pub fn run<F: Shelf, O: Sink>(alloc: Global, words: &[String], shelf: &mut F, ou
         (O.state out.old).held (O.state out.new).held
         ⊎ IsVouchedChain (map string_bytes words.now) (F.state shelf.old).files
         (O.state out.old).held (O.state out.new).held) }
+    // A call of the shelf or of the sink that failed is the last, and the status tells it.
+    ensures shelf_once { FailsOnce (result ≡ 4) (F.state shelf.old).faults (F.state shelf.new).faults }
+    ensures sink_once { FailsOnce (result ≡ 5) (O.state out.old).faults (O.state out.new).faults }
     // What each status tells, and when it comes.
     ensures ends { IsRun (map string_bytes words.now) (F.state shelf.old) (F.state shelf.new)
         (O.state out.old) (O.state out.new) result }
@@ -44,6 +48,7 @@ fn deliver<O: Sink>(out: &mut O, report: &Report) -> u8
         × Appends (O.state out.old).held (string_bytes report.now.line) (O.state out.new).held)
         ⊎ ((result ≡ 5) × HasRisen (O.state out.old).faults (O.state out.new).faults
         × IsCutShort (string_bytes report.now.line) (O.state out.old) (O.state out.new)) }
+    ensures once { FailsOnce (result ≡ 5) (O.state out.old).faults (O.state out.new).faults }
 {
     match write_report(out, report.line.as_str()) {
         Ok(()) => report.status,

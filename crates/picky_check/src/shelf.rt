@@ -2,7 +2,7 @@
 
 ghost use Rattle.std.specs.Prelude.{◌≡◌, ◌≤◌, ℕ, List, Some, length, IfOk, OnOk, OnErr, IsOk, IsSome};
 ghost use Rattle.authenticode_core.specs.Counts.{GoesOn, HasRisen};
-ghost use Rattle.picky_check.specs.Counts.{RisesBy};
+ghost use Rattle.picky_check.specs.Counts.{FailsOnce, RisesBy};
 ghost use Rattle.picky_check.specs.Shelf.{ShelfState, file_of, IsPicked, Moves};
 
 use thiserror::Error;
@@ -12,7 +12,8 @@ use thiserror::Error;
 #[error("the outside failed")]
 pub struct Failed;
 
-/// Files that are picked by name and read piece by piece.
+/// Files that are picked by name and read piece by piece. A call that fails counts one fault, and no
+/// other call counts any.
 pub trait Shelf {
     /// What is seen of it.
     ghost state: { Self → ShelfState };
@@ -26,6 +27,7 @@ pub trait Shelf {
         ensures none_given { RisesBy 0 (state self.old).given (state self.new).given }
         ensures counted { GoesOn (state self.old).faults (state self.new).faults }
         ensures cause { OnErr result (HasRisen (state self.old).faults (state self.new).faults) }
+        ensures once { FailsOnce (IsErr result) (state self.old).faults (state self.new).faults }
         ensures quiet { (state self.old).is_quiet → IsSome (file_of (state self.old).files name.now)
             → IsOk result × (state self.new).is_quiet };
 
@@ -41,5 +43,6 @@ pub trait Shelf {
         ensures kept { GoesOn (state self.old).given (state self.new).given }
         ensures counted { GoesOn (state self.old).faults (state self.new).faults }
         ensures cause { OnErr result (HasRisen (state self.old).faults (state self.new).faults) }
+        ensures once { FailsOnce (IsErr result) (state self.old).faults (state self.new).faults }
         ensures quiet { (state self.old).is_quiet → IsOk result × (state self.new).is_quiet };
 }

@@ -2,11 +2,13 @@
 
 ghost use Rattle.std.specs.Prelude.{◌≡◌, ◌<◌, ◌≤◌, length, take, IfOk, OnErr};
 ghost use Rattle.authenticode_core.specs.Counts.{GoesOn, HasRisen};
+ghost use Rattle.picky_check.specs.Counts.{FailsOnce};
 ghost use Rattle.picky_check.specs.Sink.{SinkState, Appends, Keeps, Lowers, IsFull};
 
 use crate::Failed;
 
-/// An output that takes octets piece by piece.
+/// An output that takes octets piece by piece. A call that fails counts one fault, and no other call
+/// counts any.
 pub trait Sink {
     /// What is seen of it.
     ghost state: { Self → SinkState };
@@ -22,5 +24,6 @@ pub trait Sink {
         ensures kept_room { OnErr result (Keeps (state self.old).room (state self.new).room) }
         ensures full { OnErr result (IsFull (state self.old).room piece.now) }
         ensures counted { GoesOn (state self.old).faults (state self.new).faults }
-        ensures cause { OnErr result (HasRisen (state self.old).faults (state self.new).faults) };
+        ensures cause { OnErr result (HasRisen (state self.old).faults (state self.new).faults) }
+        ensures once { FailsOnce (IsErr result) (state self.old).faults (state self.new).faults };
 }

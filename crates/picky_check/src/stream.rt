@@ -53,6 +53,7 @@ impl<D: Opener> ReaderShelf<D> {
     fn fail(&mut self) -> Failed
         ensures counted { GoesOn self.old.faults self.new.faults }
         ensures risen { HasRisen self.old.faults self.new.faults }
+        ensures once { self.new.faults ≤ self.old.faults + 1 }
         ensures same { (self.new.opener ≡ self.old.opener) × (self.new.picked ≡ self.old.picked)
             × (self.new.given ≡ self.old.given) }
     {

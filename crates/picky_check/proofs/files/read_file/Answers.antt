@@ -2,6 +2,7 @@ use Rattle.std.proofs.Common.{◌≡◌, ◌<◌, length, drop, ◌+◌, ℕ, su
 use Rattle.std.proofs.lemmas.List.{take-append-le, length-take, length-take-le, length-append, length-drop, length-replicate}
 use Rattle.picky_check.specs.Counts.{RisesBy}
 use Rattle.picky_check.proofs.Reading.{reads_nothing, reads_more, reads_all, reads_too_much, rises_more, goes_further, has_risen_since}
+use Rattle.picky_check.proofs.Failing.{failed_as, failed_then, none_failed, stands}
 use Rattle.picky_check.proofs.files.read_file.Goals as goal
 
 pub loop-piece-init : goal.loop-piece-init
@@ -14,6 +15,7 @@ loop-piece-init g c =
       given = rw none c.pick.ensures.none_given;
       counted = c.pick.ensures.counted;
       same = c.pick.ensures.same;
+      still = stands c.in_ok-pick.ensures.once (λ none. absurd cc);
       quiet = λ quiet has. (c.pick.ensures.quiet quiet has).1;
     }
 
@@ -27,6 +29,19 @@ pub returns-in_err-count-clause-quiet : goal.returns-in_err-count-clause-quiet
 returns-in_err-count-clause-quiet g c quiet has = (c.read.ensures.quiet (c.loop-piece.invariant.quiet quiet has)).1
 
 pub returns-then-count-eq0-clause-whole : goal.returns-then-count-eq0-clause-whole
+pub returns-in_err-pick-clause-once : goal.returns-in_err-pick-clause-once
+returns-in_err-pick-clause-once g c =
+    let p = err_from_is_err_and c.from_residual.result c.from_residual.ensures.1 in
+    failed_as (λ _. p.1 ∙ ap Err p.2) c.in_err-pick.ensures.once
+
+pub returns-in_err-count-clause-once : goal.returns-in_err-count-clause-once
+returns-in_err-count-clause-once g c =
+    let p = err_from_is_err_and c.from_residual-in_err-count.result c.from_residual-in_err-count.ensures.1 in
+    failed_as (λ _. p.1 ∙ ap Err p.2) (failed_then c.loop-piece.invariant.still c.in_err-count.ensures.once)
+
+pub returns-then-count-eq0-clause-once : goal.returns-then-count-eq0-clause-once
+returns-then-count-eq0-clause-once g c = none_failed (stands c.in_ok-count.ensures.once (λ none. absurd cc) ∙ c.loop-piece.invariant.still)
+
 returns-then-count-eq0-clause-whole g c = record {
   as_told = λ told.
       let read = c.loop-piece.invariant.read told in
@@ -63,6 +78,7 @@ loop-piece-preserved g c =
       given = rw size (rises_more _ _ _ _ _ c.loop-piece.invariant.given c.in_ok-count.ensures.given);
       counted = goes_further _ _ _ c.loop-piece.invariant.counted c.read.ensures.counted;
       same = c.read.ensures.same ∙ c.loop-piece.invariant.same;
+      still = stands c.in_ok-count.ensures.once (λ none. absurd cc) ∙ c.loop-piece.invariant.still;
       quiet = λ quiet has. (c.read.ensures.quiet (c.loop-piece.invariant.quiet quiet has)).1;
     }
 
@@ -70,6 +86,12 @@ pub returns-in_err-extend_from_slice-clause-quiet : goal.returns-in_err-extend_f
 returns-in_err-extend_from_slice-clause-quiet g c quiet has = (c.read.ensures.quiet (c.loop-piece.invariant.quiet quiet has)).1
 
 pub returns-clause-too_long : goal.returns-clause-too_long
+pub returns-in_err-extend_from_slice-clause-once : goal.returns-in_err-extend_from_slice-clause-once
+returns-in_err-extend_from_slice-clause-once g c = none_failed (stands c.in_ok-count.ensures.once (λ none. absurd cc) ∙ c.loop-piece.invariant.still)
+
+pub returns-clause-once : goal.returns-clause-once
+returns-clause-once g c = none_failed c.loop-piece.invariant.still
+
 returns-clause-too_long g c _ told =
     reads_too_much _ _ _ _ (c.loop-piece.invariant.read told) (omega (arith, c.loop-piece-test.false, c.len.ensures))
 

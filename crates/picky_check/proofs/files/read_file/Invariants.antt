@@ -13,6 +13,7 @@ invariant-loop-piece g l = record {
   read : IsSome (g.F.Shelf.state l.fn.shelf).files → HasRead (g.F.Shelf.state l.fn.shelf).files l.name l.octets.items (g.F.Shelf.state l.shelf).rest;
   given : RisesBy (length l.octets.items) (g.F.Shelf.state l.fn.shelf).given (g.F.Shelf.state l.shelf).given;
   counted : GoesOn (g.F.Shelf.state l.fn.shelf).faults (g.F.Shelf.state l.shelf).faults;
+  still : (g.F.Shelf.state l.shelf).faults ≡ (g.F.Shelf.state l.fn.shelf).faults;
   same : (g.F.Shelf.state l.shelf).files ≡ (g.F.Shelf.state l.fn.shelf).files;
   quiet : (g.F.Shelf.state l.fn.shelf).is_quiet → IsSome (file_of (g.F.Shelf.state l.fn.shelf).files l.name) → (g.F.Shelf.state l.shelf).is_quiet;
 }

@@ -1,5 +1,7 @@
 use Rattle.std.proofs.Common.{◌∷◌, Err, ap, map, string_bytes}
 use Rattle.std.proofs.lemmas.Result.{err_from_is_err_and}
+use Rattle.x509_core.proofs.NoRefusal.{one_error}
+use Rattle.picky_check.proofs.Failing.{failed_as, failed_then, none_failed, stands}
 use Rattle.picky_check.proofs.SeveralFiles.{unread_first, unread_behind}
 use Rattle.picky_check.proofs.files.read_files.Goals as goal
 
@@ -37,4 +39,24 @@ returns-in_err-read_on g c =
     (unread_behind (g.F.Shelf.state c.read_file.new.shelf) (g.F.Shelf.state c.read_file-2.new.shelf) (g.F.Shelf.state c.read_on.new.shelf)
     c.args.names.now.second.now (map string_bytes c.args.names.now.others.now) c.in_err-read_on.field-0.0 c.in_ok-second.second.items
     c.in_ok-second.ensures.whole c.in_ok-second.ensures.same c.in_ok-second.ensures.quiet c.in_ok-second.ensures.counted c.in_ok-second.ensures.counted_given
-    c.in_err-read_on.ensures.unread))
+    c.in_err-read_others.ensures.unread))
+
+pub returns-in_err-first-clause-once : goal.returns-in_err-first-clause-once
+returns-in_err-first-clause-once g c =
+    let p = err_from_is_err_and c.from_residual.result c.from_residual.ensures.1 in
+    failed_as (λ told. p.1 ∙ ap Err (p.2 ∙ one_error c.in_err-first.field-0.0 _ told)) c.in_err-first.ensures.once
+
+pub returns-in_err-second-clause-once : goal.returns-in_err-second-clause-once
+returns-in_err-second-clause-once g c =
+    let p = err_from_is_err_and c.from_residual-in_err-second.result c.from_residual-in_err-second.ensures.1 in
+    failed_as (λ told. p.1 ∙ ap Err (p.2 ∙ one_error c.in_err-second.field-0.0 _ told)) (failed_then (stands c.in_ok-first.ensures.once (λ none. absurd cc)) c.in_err-second.ensures.once)
+
+pub returns-in_err-read_others-clause-once : goal.returns-in_err-read_others-clause-once
+returns-in_err-read_others-clause-once g c =
+    let p = err_from_is_err_and c.from_residual-in_err-read_others.result c.from_residual-in_err-read_others.ensures.1 in
+    failed_as (λ told. p.1 ∙ ap Err (p.2 ∙ one_error c.in_err-read_others.field-0.0 _ told))
+    (failed_then (stands c.in_ok-second.ensures.once (λ none. absurd cc) ∙ stands c.in_ok-first.ensures.once (λ none. absurd cc)) c.in_err-read_others.ensures.once)
+
+pub returns-clause-once : goal.returns-clause-once
+returns-clause-once g c =
+    none_failed (stands c.in_ok-read_others.ensures.once (λ none. absurd cc) ∙ stands c.in_ok-second.ensures.once (λ none. absurd cc) ∙ stands c.in_ok-first.ensures.once (λ none. absurd cc))

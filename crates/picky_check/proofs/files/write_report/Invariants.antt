@@ -8,7 +8,7 @@ invariant-loop-done g l = record {
   within : l.done ≤ length l.octets;
   held : Appends (g.O.Sink.state l.initial.out).held (take l.done l.octets) (g.O.Sink.state l.out).held;
   room : Lowers (g.O.Sink.state l.initial.out).room l.done (g.O.Sink.state l.out).room;
-  counted : (g.O.Sink.state l.initial.out).faults ≤ (g.O.Sink.state l.out).faults;
+  still : (g.O.Sink.state l.out).faults ≡ (g.O.Sink.state l.initial.out).faults;
 }
 
 abbrev pub decreases-loop-done : goal.decreases-loop-done

@@ -3,6 +3,9 @@ use Rattle.std.proofs.lemmas.Result.{err_from_is_err_and}
 use Rattle.picky_check.specs.Jobs.{contents_held, job_held}
 use Rattle.picky_check.specs.Limits.{AreWholeFiles}
 use Rattle.picky_check.specs.Unread.{AreUnread}
+use Rattle.x509_core.proofs.NoRefusal.{one_error}
+use Rattle.picky_check.specs.Stops.{stop_for_file}
+use Rattle.picky_check.proofs.Failing.{failed_as, none_failed, stands}
 use Rattle.picky_check.proofs.Inquiries.{IsInquiry-unread, IsInquiry-read}
 use Rattle.picky_check.proofs.inquiry.answer.Goals as goal
 
@@ -17,3 +20,11 @@ returns g c =
     IsInquiry-read (g.F.Shelf.state c.args.shelf.now) (g.F.Shelf.state c.read_files.new.shelf) (job_held c.args.job.now) (contents_held c.in_ok-contents.contents)
     (subst (λ (names : List (List ℕ)). AreWholeFiles (g.F.Shelf.state c.args.shelf.now).files names (contents_held c.in_ok-contents.contents)) c.names.ensures c.in_ok-contents.ensures)
     c.judge.result c.judge.ensures.reported c.judge.ensures.stopped c.judge.ensures.only c.judge.ensures.bad
+
+pub returns-in_err-contents-clause-once : goal.returns-in_err-contents-clause-once
+returns-in_err-contents-clause-once g c =
+    let p = err_from_is_err_and c.from_residual.result c.from_residual.ensures.1 in
+    failed_as (λ told. p.1 ∙ ap Err (p.2 ∙ ap stop_for_file (one_error c.in_err-contents.field-0.0 _ told))) c.in_err-contents.ensures.once
+
+pub returns-clause-once : goal.returns-clause-once
+returns-clause-once g c = none_failed (stands c.in_ok-contents.ensures.once (λ none. absurd cc))

@@ -1,4 +1,7 @@
-use Rattle.std.proofs.Common.{◌∙◌, arith}
+use Rattle.std.proofs.Common.{◌∙◌, ap, arith}
+use Rattle.x509_core.proofs.NoRefusal.{one_error}
+use Rattle.picky_check.specs.Stops.{status_for}
+use Rattle.picky_check.proofs.Failing.{failed_as, none_failed, stands}
 use Rattle.picky_check.proofs.Runs.{IsRun-stopped, IsRun-delivered}
 use Rattle.picky_check.proofs.Vouching.{vouched_for}
 use Rattle.picky_check.proofs.program.run.Goals as goal
@@ -15,3 +18,12 @@ returns-in-Ok-clause-vouched_for g c zero =
 pub returns-in-Err-clause-ends : goal.returns-in-Err-clause-ends
 returns-in-Err-clause-ends g c =
     rw c.status.ensures (IsRun-stopped _ _ _ c.in-Err.ensures.settled c.in-Err.stop c.in-Err.ensures.usage c.in-Err.ensures.asked _)
+
+pub returns-in-Ok-clause-shelf_once : goal.returns-in-Ok-clause-shelf_once
+returns-in-Ok-clause-shelf_once g c = none_failed (stands c.in-Ok.ensures.once (λ none. absurd cc))
+
+pub returns-in-Ok-clause-sink_once : goal.returns-in-Ok-clause-sink_once
+returns-in-Ok-clause-sink_once g c = c.deliver.ensures.once
+
+pub returns-in-Err-clause-shelf_once : goal.returns-in-Err-clause-shelf_once
+returns-in-Err-clause-shelf_once g c = failed_as (λ told. c.status.ensures ∙ ap status_for (one_error c.in-Err.stop _ told)) c.in-Err.ensures.once
