@@ -23,7 +23,7 @@ use Rattle.making_core.specs.Carried.{elements_of}
 use Rattle.making_core.proofs.KeptNames.{issuer_is, serial_is}
 use Rattle.authenticode_core.specs.BagSigner.{IsNamedByFirst, HasNoSigner}
 use Rattle.authenticode_core.specs.Places.{HasNoPlace, HoldsOfNone, IsLeastPlace, StandsAt}
-use Rattle.authenticode_values.specs.SigningCertificate.{FirstNames, HasIssuerAndSerial, IsSigningCertificate}
+use Rattle.authenticode_values.specs.SigningCertificate.{FirstNames, IsNamedOtherwise, IsSigningCertificate}
 
 -- ---- the place of a certificate
 
@@ -77,6 +77,24 @@ same_named signers value c f n =
     let element : signer_info n.signer ≡ signer_info f.signer = heads (signer_info n.signer) (signer_info f.signer) n.others (map signer_info f.others) (sym n.first ∙ ap (map signer_info) f.first) in
     let signer : n.signer ≡ f.signer = signer_infos.once (signer_info f.signer) n.signer f.signer (sym element) refl in
     values n.value value (sym n.sid ∙ ap (λ (s : SignerInfo). s.sid) signer ∙ f.named)
+-- it is named by one thing
+pub not_otherwise : (signers : List SignerInfo) (value : IssuerAndSerialNumber) (e : AuthenticodeError) → FirstNames signers (named.IssuerAndSerialNumber value) → IsNamedOtherwise signers e → ⊥
+not_otherwise signers value (errors.MultipleSignerInfo count) f is = let none : f.signer ∷ f.others ≡ [] = sym f.first ∙ is.0 in absurd cc
+not_otherwise signers value errors.IncorrectSignerIdentifier f is =
+    let signer : f.signer ≡ is.1.signer = one_first f.signer is.1.signer f.others is.1.others (sym f.first ∙ is.1.first) in
+    let both : named.IssuerAndSerialNumber value ≡ named.SubjectKeyIdentifier is.0 = sym f.named ∙ ap (λ (s : SignerInfo). s.sid) signer ∙ is.1.named in
+    absurd cc
+not_otherwise signers value _ f is = absurd is
+
+pub one_otherwise : (signers : List SignerInfo) (a b : AuthenticodeError) → IsNamedOtherwise signers a → IsNamedOtherwise signers b → a ≡ b
+one_otherwise signers (errors.MultipleSignerInfo count) (errors.MultipleSignerInfo other) p q = ap errors.MultipleSignerInfo (p.1 ∙ sym q.1)
+one_otherwise signers (errors.MultipleSignerInfo count) errors.IncorrectSignerIdentifier p q = let none : q.1.signer ∷ q.1.others ≡ [] = sym q.1.first ∙ p.0 in absurd cc
+one_otherwise signers errors.IncorrectSignerIdentifier (errors.MultipleSignerInfo count) p q = let none : p.1.signer ∷ p.1.others ≡ [] = sym p.1.first ∙ q.0 in absurd cc
+one_otherwise signers errors.IncorrectSignerIdentifier errors.IncorrectSignerIdentifier p q = refl
+one_otherwise signers (errors.MultipleSignerInfo count) _ p q = absurd q
+one_otherwise signers errors.IncorrectSignerIdentifier _ p q = absurd q
+one_otherwise signers _ b p q = absurd p
+
 
 pub names_it : (signers : List SignerInfo) (value : IssuerAndSerialNumber) (c : CertificateElements) → FirstNames signers (named.IssuerAndSerialNumber value) → HasIssuerAndSerial value c ↔ IsNamedByFirst (map signer_info signers) c
 names_it signers value c f = (

@@ -45,6 +45,10 @@ IsNamedOtherwise signers (errors.MultipleSignerInfo count) = (signers ≡ []) ×
 IsNamedOtherwise signers errors.IncorrectSignerIdentifier = (octets : List ℕ) × FirstNames signers (named.SubjectKeyIdentifier octets)
 IsNamedOtherwise signers _ = ⊥
 
--- the certificate has this issuer and this serial number
-abbrev pub HasIssuerAndSerial : IssuerAndSerialNumber → CertificateElements → Type 0
-HasIssuerAndSerial value c = IsSameName (name value.issuer) c.tbs.issuer × (integer_contents value.serial_number ≡ c.tbs.serial_number)
+-- Why none of the certificates is the signer's: the first signer isn't named by an issuer and a serial number, or none of them has these.
+abbrev pub HasNoSigningCertificate : List SignerInfo → List KeptCertificate → AuthenticodeError → Type 0
+HasNoSigningCertificate signers certificates (errors.NoCertificatesAssociatedWithIssuerAndSerialNumber issuer serial_number) =
+    FirstNames signers (named.IssuerAndSerialNumber (record { issuer = sets_of issuer; serial_number = serial_number }))
+    × HasNoSigner (map signer_info signers) (elements_of certificates)
+HasNoSigningCertificate signers certificates errors.Memory = ⊤
+HasNoSigningCertificate signers certificates e = IsNamedOtherwise signers e

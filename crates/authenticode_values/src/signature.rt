@@ -15,7 +15,7 @@ ghost use Rattle.cms_types.specs.declared.pkcs7.Pkcs7Certificate.{Pkcs7Certifica
 ghost use Rattle.authenticode_values.specs.Pkcs7.{IsPkcs7Of, signers_of, written};
 ghost use Rattle.authenticode_values.specs.Refusals.{IsUnread, IsUnwritten, TellsOfSignedData, of_signed_data, unread};
 ghost use Rattle.authenticode_values.specs.SignedFields.{file_hash_in, signed_attributes_in, unsigned_attributes_in};
-ghost use Rattle.authenticode_values.specs.SigningCertificate.{HasNoSigningCertificate, IsSigningCertificate};
+ghost use Rattle.authenticode_values.specs.SigningCertificate.{HasNoSigningCertificate, IsNamedOtherwise, IsSigningCertificate};
 ghost use Rattle.authenticode_core.specs.Basic.{IsNoSignedData};
 ghost use Rattle.authenticode_values.specs.Unread.{RefusesPadded};
 
@@ -94,9 +94,12 @@ impl AuthenticodeSignature {
         alloc: Global,
         certificates: &'a [Cert],
     ) -> Result<&'a Cert, AuthenticodeError>
-        ensures { MatchResult result
-            (λ c. IsSigningCertificate (signers_of self.now.0) certificates.now c.now)
-            (HasNoSigningCertificate (signers_of self.now.0) certificates.now) }
+        ensures found { MatchResult result
+            (λ c. IsSigningCertificate (signer_infos_of self.now.0) certificates.now c.now)
+            (HasNoSigningCertificate (signer_infos_of self.now.0) certificates.now) }
+        // Where there is no signer, or the first is named by the identifier of a key, that is told
+        // whatever memory there is.
+        ensures refused { (e : AuthenticodeError) → IsNamedOtherwise (signer_infos_of self.now.0) e → result ≡ Err e }
     {
         signing_certificate_of(alloc, self.0.signer_infos(), certificates)
     }

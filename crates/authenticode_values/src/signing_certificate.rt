@@ -4,7 +4,9 @@ ghost use Rattle.std.specs.Prelude.{◌≡◌, ◌↔◌, Some, IfOk, IsTrue, Ma
 ghost use Rattle.cms_types.specs.declared.signer_identifier.SignerIdentifier.TheVariants as named;
 ghost use Rattle.making_core.specs.Carried.{elements_of};
 ghost use Rattle.authenticode_core.specs.Places.{HasNoPlace, IsLeastPlace};
-ghost use Rattle.authenticode_values.specs.SigningCertificate.{HasNoSigningCertificate, FirstNames, HasIssuerAndSerial, IsNamedOtherwise, IsSigningCertificate};
+ghost use Rattle.authenticode_core.specs.BagSigner.{HasIssuerAndSerial};
+ghost use Rattle.authenticode_values.specs.SigningCertificate.{HasNoSigningCertificate, FirstNames, IsNamedOtherwise, IsSigningCertificate};
+ghost use Rattle.authenticode_core.specs.declared.error.AuthenticodeError.{AuthenticodeError};
 ghost use Rattle.authenticode_core.specs.declared.error.AuthenticodeError.TheVariants as errors;
 
 use authenticode_core::AuthenticodeError;
@@ -21,9 +23,11 @@ pub(crate) fn signing_certificate_of<'a>(
     signers: &[SignerInfo],
     certificates: &'a [Cert],
 ) -> Result<&'a Cert, AuthenticodeError>
-    ensures { MatchResult result
+    ensures found { MatchResult result
         (λ c. IsSigningCertificate signers.now certificates.now c.now)
         (HasNoSigningCertificate signers.now certificates.now) }
+    // What the first signer doesn't name is told before memory is asked for.
+    ensures refused { (e : AuthenticodeError) → IsNamedOtherwise signers.now e → result ≡ Err e }
 {
     let named = named_by_first(signers)?;
     let found = first_named(alloc, certificates, named)?;

@@ -75,7 +75,7 @@ impl AuthenticodeSignatureBuilder<'_> {
             (λ s. IsBuiltSignature (arithmetic (S.judge scheme.now) (S.signs scheme.now) (S.pair scheme.now)) self.entry (fields_of s.0))
             (RefusesBySteps errors.Memory (building_steps (S.signs scheme.now) self.entry)) }
         // What isn't given, and SHA-224, is told whatever memory there is.
-        ensures refused { (e : AuthenticodeSignatureBuilderError) → IsFirstUntaken (given_steps self.entry) e → result ≡ Err e }
+        ensures refused { (e : AuthenticodeSignatureBuilderError) → IsFirstUntaken (part_steps self.entry) e → result ≡ Err e }
     {
         self.signature(alloc, scheme)
     }
@@ -89,7 +89,7 @@ impl AuthenticodeSignatureBuilder<'_> {
         ensures answer { MatchResult result
             (λ s. IsBuiltSignature (arithmetic (S.judge scheme.now) (S.signs scheme.now) (S.pair scheme.now)) self.now (fields_of s.0))
             (RefusesBySteps errors.Memory (building_steps (S.signs scheme.now) self.now)) }
-        ensures refused { (e : AuthenticodeSignatureBuilderError) → IsFirstUntaken (given_steps self.now) e → result ≡ Err e }
+        ensures refused { (e : AuthenticodeSignatureBuilderError) → IsFirstUntaken (part_steps self.now) e → result ≡ Err e }
     {
         let given = self.given()?;
         let built = self.built(alloc, &given, scheme)?;
