@@ -1,4 +1,5 @@
 -- Elements of the values (X.690 8): a tag and the contents octets.
+use Rattle.std.specs.Prelude.{ℕ, List}
 use Rattle.der_core.specs.DerElement.{DerElement, Primitive}
 use Rattle.asn1_types.specs.Values.{identifier_contents, integer_contents, bit_string_contents, ia5_contents}
 use Rattle.asn1_types.specs.Time.{utc_contents, generalized_contents}
@@ -8,6 +9,10 @@ use Rattle.asn1_types.specs.declared.bit_string.BitString.{BitString}
 use Rattle.asn1_types.specs.declared.ia5_string.Ia5String.{Ia5String}
 use Rattle.asn1_types.specs.declared.utc_time.UTCTime.{UTCTime}
 use Rattle.asn1_types.specs.declared.generalized_time.GeneralizedTime.{GeneralizedTime}
+
+-- an INTEGER of these contents octets (X.690 8.3)
+abbrev pub integer_of : List ℕ → DerElement
+integer_of contents = Primitive 0x02 contents
 
 -- INTEGER (X.690 8.3)
 abbrev pub integer : IntegerAsn1 → DerElement

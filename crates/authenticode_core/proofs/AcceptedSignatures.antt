@@ -3,7 +3,7 @@ use Rattle.std.proofs.Common.{◌≡◌, ℕ, List, [], ◌∷◌, inl, inr, sym
 use Rattle.cms_types.specs.SignerElements.{SignerElements}
 use Rattle.der_core.specs.DerElement.{DerElement, Primitive}
 use Rattle.key_core.specs.Rules.{IsFirstBroken}
-use Rattle.key_core.specs.SignatureRules.{RefusesBy as RefusesSignatureBy}
+use Rattle.key_core.specs.SignatureRules.{RefusesSignatureBy}
 use Rattle.key_core.specs.Verifying.{Judge, Accepts, verify_rules}
 use Rattle.key_core.specs.declared.signature_algorithm.SignatureAlgorithm.TheVariants.{RsaPkcs1v15}
 use Rattle.key_core.specs.declared.signature_error.SignatureError.{SignatureError}
@@ -14,8 +14,8 @@ use Rattle.sig_core.specs.declared.hash.HashAlgorithm.{HashAlgorithm}
 use Rattle.x509_core.specs.Link.{HasKey}
 use Rattle.x509_types.specs.CertificateElements.{CertificateElements}
 use Rattle.authenticode_core.specs.SignedFields.{signed_message}
-use Rattle.authenticode_core.specs.SigningRules.{IsRefusedUnder, HasSignatureBy, RefusesBy}
-use Rattle.authenticode_core.specs.SigningSteps.{signature_refusal}
+use Rattle.authenticode_core.specs.SigningRules.{IsRefusedUnder, HasSignatureBy, RefusesAuthenticodeBy}
+use Rattle.authenticode_core.specs.SigningSteps.{signer_refusal}
 use Rattle.authenticode_core.specs.declared.error.AuthenticodeError.{AuthenticodeError}
 use Rattle.authenticode_core.specs.declared.error.AuthenticodeError.TheVariants as errors
 
@@ -33,7 +33,7 @@ module _ (judge : Judge) (g : SignerElements) (hash : HashAlgorithm) (c : Certif
   }
 
   told : (source : SignatureError) (e : AuthenticodeError) → HasKey c info → msg ≡ signed_message g → g.signature ≡ Primitive 0x04 sig
-      → e ≡ errors.SignatureError source → IsFirstBroken (verify_rules judge (RsaPkcs1v15 hash) info msg sig) source → RefusesBy (IsRefusedUnder judge g hash c ∷ []) e
+      → e ≡ errors.SignatureError source → IsFirstBroken (verify_rules judge (RsaPkcs1v15 hash) info msg sig) source → RefusesAuthenticodeBy (IsRefusedUnder judge g hash c ∷ []) e
   told source e key message signature is broken =
       inl (inl (record {
         info = info;
@@ -46,7 +46,7 @@ module _ (judge : Judge) (g : SignerElements) (hash : HashAlgorithm) (c : Certif
       }))
 
   broken_by : (source : SignatureError) (e : AuthenticodeError) → HasKey c info → msg ≡ signed_message g → g.signature ≡ Primitive 0x04 sig
-      → e ≡ signature_refusal source → IsFirstBroken (verify_rules judge (RsaPkcs1v15 hash) info msg sig) source → RefusesBy (IsRefusedUnder judge g hash c ∷ []) e
+      → e ≡ signer_refusal source → IsFirstBroken (verify_rules judge (RsaPkcs1v15 hash) info msg sig) source → RefusesAuthenticodeBy (IsRefusedUnder judge g hash c ∷ []) e
   broken_by (signature_errors.Key x) e key message signature is broken = told (signature_errors.Key x) e key message signature is broken
   broken_by (signature_errors.Rsa x) e key message signature is broken = told (signature_errors.Rsa x) e key message signature is broken
   broken_by (signature_errors.Ec x) e key message signature is broken = told (signature_errors.Ec x) e key message signature is broken
@@ -56,6 +56,6 @@ module _ (judge : Judge) (g : SignerElements) (hash : HashAlgorithm) (c : Certif
   broken_by signature_errors.Memory e key message signature is broken = inr is
 
   pub refused_under : (source : SignatureError) (e : AuthenticodeError) → HasKey c info → msg ≡ signed_message g → g.signature ≡ Primitive 0x04 sig
-      → e ≡ signature_refusal source → RefusesSignatureBy (verify_rules judge (RsaPkcs1v15 hash) info msg sig) source → RefusesBy (IsRefusedUnder judge g hash c ∷ []) e
+      → e ≡ signer_refusal source → RefusesSignatureBy (verify_rules judge (RsaPkcs1v15 hash) info msg sig) source → RefusesAuthenticodeBy (IsRefusedUnder judge g hash c ∷ []) e
   refused_under source e key message signature is (inl broken) = broken_by source e key message signature is broken
-  refused_under source e key message signature is (inr memory) = inr (is ∙ ap signature_refusal memory)
+  refused_under source e key message signature is (inr memory) = inr (is ∙ ap signer_refusal memory)

@@ -11,7 +11,7 @@ use Rattle.authenticode_core.specs.Form.{IsFormOf}
 use Rattle.authenticode_core.specs.FormRules.{FileDiffers, HasForm, form_rules}
 use Rattle.authenticode_core.specs.PolicySteps.{IsVouchedAt}
 use Rattle.authenticode_core.specs.SignedFields.{HasIndirectData, IndirectData, IsFirstSigner}
-use Rattle.authenticode_core.specs.SigningRules.{IsSigned, RefusesBy, signing_rules}
+use Rattle.authenticode_core.specs.SigningRules.{IsSigned, RefusesAuthenticodeBy, signing_rules}
 use Rattle.authenticode_core.specs.Trusted.{IsRefusedFor, LacksHash, basic_rules, shape_rules}
 use Rattle.authenticode_core.specs.declared.error.AuthenticodeError.{AuthenticodeError}
 use Rattle.authenticode_core.specs.declared.error.AuthenticodeError.TheVariants as errors
@@ -136,7 +136,7 @@ module _ (f : SignedDataElements) (given : Option (List ℕ)) where
     shape_in_basic e broken = broken_before (shape_rules f given) (IsRefusedFor judge f given ∷ []) e broken
 
     pub vouched_at_or_not : (algorithm : DerElement) (d : IndirectData) (g : SignerElements) (hash : List ℕ) → HasForm f algorithm d g → given ≡ Some hash → (r : Result ℕ AuthenticodeError)
-        → MatchResult r (VouchesFor judge f hash) (λ e. IsRefusedPart judge f hash e ⊎ (e ≡ errors.Memory)) → MatchResult r (IsVouchedAt judge given f) (RefusesBy (basic_rules judge f given))
+        → MatchResult r (VouchesFor judge f hash) (λ e. IsRefusedPart judge f hash e ⊎ (e ≡ errors.Memory)) → MatchResult r (IsVouchedAt judge given f) (RefusesAuthenticodeBy (basic_rules judge f given))
     vouched_at_or_not algorithm d g hash form is (Ok place) v = (hash, is, v)
     vouched_at_or_not algorithm d g hash form is (Err e) (inl part) =
         inl (broken_behind (shape_rules f given) (IsRefusedFor judge f given ∷ []) e (shape_met algorithm d g hash form is) (inl (hash, is, part)))

@@ -11,7 +11,7 @@ use Rattle.cms_types.specs.Facts.SignerInfos.{told_signer}
 use Rattle.cms_types.specs.Pkcs7Elements.{pkcs7_of}
 use Rattle.cms_types.specs.SignedData.{signed_data_elements}
 use Rattle.cms_types.specs.SignedDataElements.{SignedDataElements, signed_data_of}
-use Rattle.cms_types.specs.SignedView.{IsSignedView, view_elements}
+use Rattle.cms_types.specs.SignedView.{IsSignedView, data_elements}
 use Rattle.cms_types.specs.SignerElements.{SignerElements}
 use Rattle.cms_types.specs.SignerInfo.{signer_info, signer_elements}
 use Rattle.cms_types.specs.declared.signed_data.SignedData.{SignedData}
@@ -39,9 +39,9 @@ use Rattle.authenticode_core.specs.SignedFields.{HasVersion, HasSignedContent, H
 inside : (f g : SignedDataElements) → pkcs7_of (signed_data_of f) ≡ pkcs7_of (signed_data_of g) → signed_data_of f ≡ signed_data_of g
 inside f g e = cc
 
-pub fields_of_view : (element : DerElement) (view : SignedView) (is : IsSignedView element view) → view_elements view ≡ signed_data_elements is.value.signed_data
+pub fields_of_view : (element : DerElement) (view : SignedView) (is : IsSignedView element view) → data_elements view ≡ signed_data_elements is.value.signed_data
 fields_of_view element view is =
-    let f = view_elements view in
+    let f = data_elements view in
     let g = signed_data_elements is.value.signed_data in
     same_data f g (told_data f is.fields) (told_value is.value.signed_data) (inside f g (sym is.is ∙ is.spelled))
 

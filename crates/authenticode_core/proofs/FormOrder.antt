@@ -7,7 +7,8 @@ use Rattle.der_core.specs.DerElement.{DerElement}
 use Rattle.der_core.specs.Elements.{sequence}
 use Rattle.key_core.specs.Rules.{IsMet}
 use Rattle.authenticode_core.specs.FormRules.{HasForm, IsOfOtherVersion, HasOtherSigners, HasOtherAlgorithms, LacksContent, HasOtherContent, ContentDiffers, SignerDiffers, FileDiffers, form_rules}
-use Rattle.authenticode_core.specs.SignedFields.{HasVersion, HasSignedContent, HasIndirectData, IndirectData, IsFirstAlgorithm, IsFirstSigner, IsSameAlgorithm, digest_algorithms_of, indirect_kids, signers_of}
+use Rattle.authenticode_core.specs.SameElements.{IsSameElement}
+use Rattle.authenticode_core.specs.SignedFields.{HasVersion, HasSignedContent, HasIndirectData, IndirectData, IsFirstAlgorithm, IsFirstSigner, digest_algorithms_of, indirect_kids, signers_of}
 use Rattle.authenticode_core.specs.declared.error.AuthenticodeError.TheVariants as errors
 use Rattle.authenticode_core.proofs.FormFields.{version_once, content_once, indirect_once, algorithm_once, signer_once}
 use Rattle.key_core.proofs.RuleLists.{AreMet, IsToldOnce, AreToldOnce, NoneTells}
@@ -54,17 +55,17 @@ module _ (f : SignedDataElements) where
   indirect_met d has e broken =
       broken.3 (sym (content_once f SPC_INDIRECT_DATA.now broken.0 (Some (sequence (indirect_kids d))) (Some broken.1) has broken.2).0)
 
-  pub content_same_met : (algorithm : DerElement) (d : IndirectData) → IsFirstAlgorithm f algorithm → HasIndirectData f d → IsSameAlgorithm d.algorithm algorithm → IsMet (ContentDiffers f)
+  pub content_same_met : (algorithm : DerElement) (d : IndirectData) → IsFirstAlgorithm f algorithm → HasIndirectData f d → IsSameElement d.algorithm algorithm → IsMet (ContentDiffers f)
   content_same_met algorithm d first has same e broken =
       let a : algorithm ≡ broken.0 = algorithm_once f algorithm broken.0 first broken.2 in
       let b : d ≡ broken.1 = indirect_once f d broken.1 has broken.3 in
-      broken.4 (subst (λ (x : DerElement). IsSameAlgorithm broken.1.algorithm x) a (subst (λ (x : IndirectData). IsSameAlgorithm x.algorithm algorithm) b same))
+      broken.4 (subst (λ (x : DerElement). IsSameElement broken.1.algorithm x) a (subst (λ (x : IndirectData). IsSameElement x.algorithm algorithm) b same))
 
-  pub signer_same_met : (algorithm : DerElement) (g : SignerElements) → IsFirstAlgorithm f algorithm → IsFirstSigner f g → IsSameAlgorithm g.digest_algorithm algorithm → IsMet (SignerDiffers f)
+  pub signer_same_met : (algorithm : DerElement) (g : SignerElements) → IsFirstAlgorithm f algorithm → IsFirstSigner f g → IsSameElement g.digest_algorithm algorithm → IsMet (SignerDiffers f)
   signer_same_met algorithm g first is same e broken =
       let a : algorithm ≡ broken.0 = algorithm_once f algorithm broken.0 first broken.2 in
       let b : g ≡ broken.1 = signer_once f g broken.1 is broken.3 in
-      broken.4 (subst (λ (x : DerElement). IsSameAlgorithm broken.1.digest_algorithm x) a (subst (λ (x : SignerElements). IsSameAlgorithm x.digest_algorithm algorithm) b same))
+      broken.4 (subst (λ (x : DerElement). IsSameElement broken.1.digest_algorithm x) a (subst (λ (x : SignerElements). IsSameElement x.digest_algorithm algorithm) b same))
 
   pub form_met : (algorithm : DerElement) (d : IndirectData) (g : SignerElements) → HasForm f algorithm d g → AreMet (form_rules f)
   form_met algorithm d g form =

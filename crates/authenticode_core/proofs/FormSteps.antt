@@ -24,7 +24,8 @@ use Rattle.key_core.specs.Rules.{IsFirstBroken}
 use Rattle.authenticode_core.specs.CertificateBag.{members_of}
 use Rattle.authenticode_core.specs.Form.{AreSpelled, IsIndirectContent}
 use Rattle.authenticode_core.specs.FormRules.{HasForm, IsOfOtherVersion, HasOtherSigners, HasOtherAlgorithms, LacksContent, HasOtherContent, form_rules}
-use Rattle.authenticode_core.specs.SignedFields.{HasVersion, HasSignedContent, IndirectData, IsFirstAlgorithm, IsFirstSigner, IsSameAlgorithm, digest_algorithms_of, indirect_kids, signers_of}
+use Rattle.authenticode_core.specs.SameElements.{IsSameElement}
+use Rattle.authenticode_core.specs.SignedFields.{HasVersion, HasSignedContent, IndirectData, IsFirstAlgorithm, IsFirstSigner, digest_algorithms_of, indirect_kids, signers_of}
 use Rattle.authenticode_core.specs.declared.error.AuthenticodeError.{AuthenticodeError}
 use Rattle.authenticode_core.specs.declared.error.AuthenticodeError.TheVariants as errors
 use Rattle.authenticode_core.specs.declared.form.Content.{Content}
@@ -154,7 +155,7 @@ module _ (f : SignedDataElements) where
   broken_4 e version one alone (inr (met, inr p)) = absurd p.1
 
   module _ (version : HasVersion f 1) (one : length (signers_of f) ≡ 1) (algorithm : DerElement) (alone : digest_algorithms_of f ≡ algorithm ∷ []) (d : IndirectData) (content : Content) (is : IsIndirectContent f d content) where
-    differs : (octets : List ℕ) → octets ≡ encoding content.algorithm.is.0 → (octets ≡ encoding algorithm → ⊥) → IsSameAlgorithm d.algorithm algorithm → ⊥
+    differs : (octets : List ℕ) → octets ≡ encoding content.algorithm.is.0 → (octets ≡ encoding algorithm → ⊥) → IsSameElement d.algorithm algorithm → ⊥
     differs octets e different same = different (e ∙ ap encoding is.algorithm ∙ same)
 
     first : IsFirstAlgorithm f algorithm
@@ -164,7 +165,7 @@ module _ (f : SignedDataElements) where
     broken_5 octets e different =
         inr (version_met f version, inr (signers_met f one, inr (algorithms_met f (ap length alone), inr (content_met f d is.has, inr (indirect_met f d is.has, inl (algorithm, d, first, is.has, differs octets e different, refl))))))
 
-    same_content : (octets : List ℕ) → octets ≡ encoding content.algorithm.is.0 → octets ≡ encoding algorithm → IsSameAlgorithm d.algorithm algorithm
+    same_content : (octets : List ℕ) → octets ≡ encoding content.algorithm.is.0 → octets ≡ encoding algorithm → IsSameElement d.algorithm algorithm
     same_content octets e same = ap encoding (sym is.algorithm) ∙ sym e ∙ same
 
     module _ (octets : List ℕ) (lent : octets ≡ encoding content.algorithm.is.0) (same : octets ≡ encoding algorithm) (g : SignerElements) (signer : IsFirstSigner f g) (named : List ℕ) (names : named ≡ encoding g.digest_algorithm) where

@@ -7,7 +7,7 @@ use Rattle.x509_core.specs.Chain.{last_of}
 use Rattle.x509_core.specs.KeptCertificate.{KeptCertificate}
 use Rattle.x509_core.specs.Link.{IsLink, IsStandingFor, link_rules}
 use Rattle.key_core.specs.Rules.{IsFirstBroken}
-use Rattle.x509_core.specs.Rules.{RefusesBy}
+use Rattle.x509_core.specs.Rules.{RefusesCertBy}
 use Rattle.x509_core.specs.declared.error.CertError.{CertError}
 use Rattle.x509_core.specs.declared.error.CertError.TheVariants as errors
 use Rattle.x509_core.specs.declared.window.Window.{Window}
@@ -47,7 +47,7 @@ counted_more below parent n m so_far more =
     let long : length (below ++ parent ∷ []) ≡ length below + 1 = one_more below parent in
     omega (arith, so_far, more, long)
 
-pub no_link : (judge : Judge) (w : Window) (count : ℕ) (child : KeptCertificate) (c : CertificateElements) (parent : KeptCertificate) (e : CertError) → parent.elements ≡ c → RefusesBy (link_rules judge w count parent child) e → IsNoLink judge w count child c e ⊎ (e ≡ errors.Memory)
+pub no_link : (judge : Judge) (w : Window) (count : ℕ) (child : KeptCertificate) (c : CertificateElements) (parent : KeptCertificate) (e : CertError) → parent.elements ≡ c → RefusesCertBy (link_rules judge w count parent child) e → IsNoLink judge w count child c e ⊎ (e ≡ errors.Memory)
 no_link judge w count child c parent e is (inl broken) = inl (record { parent = parent; is = is; broken = broken })
 no_link judge w count child c parent e is (inr memory) = inr memory
 

@@ -23,7 +23,7 @@ use Rattle.x509_types.specs.CertificateElements.{CertificateElements}
 use Rattle.authenticode_core.specs.BagSigner.{HasNoSigner}
 use Rattle.authenticode_core.specs.CertificateBag.{IsBag, members_of}
 use Rattle.authenticode_core.specs.SignedFields.{IsFirstSigner, signers_of}
-use Rattle.authenticode_core.specs.SigningRules.{HasNoCertificate, IsBagOf, IsNamedByKey, RefusesBy}
+use Rattle.authenticode_core.specs.SigningRules.{HasNoCertificate, IsBagOf, IsNamedByKey, RefusesAuthenticodeBy}
 use Rattle.authenticode_core.specs.SigningSteps.{TellsName}
 use Rattle.authenticode_core.specs.declared.error.AuthenticodeError.{AuthenticodeError}
 use Rattle.authenticode_core.specs.declared.error.AuthenticodeError.TheVariants as errors
@@ -37,7 +37,7 @@ by_key : (element : DerElement) (sid : SignerIdentifier) → element ≡ signer_
 by_key element (named.IssuerAndSerialNumber value) is none = absurd (none value is)
 by_key element (named.SubjectKeyIdentifier octets) is none = (octets, is)
 
-pub named_by_key : (f : SignedDataElements) (g : SignerElements) → IsFirstSigner f g → ((value : IssuerAndSerialNumber) → g.sid ≢ issuer_and_serial_number value) → RefusesBy (IsNamedByKey g ∷ HasNoCertificate f g ∷ []) errors.IncorrectSignerIdentifier
+pub named_by_key : (f : SignedDataElements) (g : SignerElements) → IsFirstSigner f g → ((value : IssuerAndSerialNumber) → g.sid ≢ issuer_and_serial_number value) → RefusesAuthenticodeBy (IsNamedByKey g ∷ HasNoCertificate f g ∷ []) errors.IncorrectSignerIdentifier
 named_by_key f g first none =
     let key = by_key g.sid first.value.sid (sid_is f g first) none in
     inl (inl (key.0, key.1, refl))
@@ -85,7 +85,7 @@ has_no_certificate f g bag issuer serial_number e first is none lent tells =
     }
 
 pub no_certificate : (f : SignedDataElements) (g : SignerElements) (bag : List CertificateElements) (issuer serial_number : List ℕ) (e : AuthenticodeError) → IsFirstSigner f g → IsBagOf f bag → HasNoSigner (signers_of f) bag
-    → LendsNamed g.sid issuer serial_number → TellsName issuer serial_number e ⊎ (e ≡ errors.Memory) → RefusesBy (IsNamedByKey g ∷ HasNoCertificate f g ∷ []) e
+    → LendsNamed g.sid issuer serial_number → TellsName issuer serial_number e ⊎ (e ≡ errors.Memory) → RefusesAuthenticodeBy (IsNamedByKey g ∷ HasNoCertificate f g ∷ []) e
 no_certificate f g bag issuer serial_number e first is none lent (inl tells) =
     let met : IsMet (IsNamedByKey g) = λ x broken. key_or_name broken.0 (lent.name ∷ Primitive 0x02 serial_number ∷ []) (sym broken.1 ∙ lent.is) in
     inl (inr (met, inl (has_no_certificate f g bag issuer serial_number e first is none lent tells)))

@@ -93,8 +93,7 @@ named_there f g issuer serial_number c first lent by (named.IssuerAndSerialNumbe
       first = first.first;
       value = v;
       sid = sid;
-      issuer = ap encoding parts.0 ∙ sym lent.octets ∙ sym by.0;
-      serial_number = contents (integer_contents v.serial_number) serial_number parts.1 ∙ sym by.1;
+      has = (ap encoding parts.0 ∙ sym lent.octets ∙ sym by.0, contents (integer_contents v.serial_number) serial_number parts.1 ∙ sym by.1);
     }
 named_there f g issuer serial_number c first lent by (named.SubjectKeyIdentifier octets) sid =
     let lies : g.sid ≡ Primitive 0x80 octets = sid_is f g first ∙ ap signer_identifier sid in
@@ -106,7 +105,7 @@ named_back f g issuer serial_number c first lent n =
     let same : signer_info first.value ≡ signer_info n.signer = heads (signer_info first.value) (signer_info n.signer) first.others n.others (sym first.first ∙ n.first) in
     let lies : g.sid ≡ issuer_and_serial_number n.value = sid_is f g first ∙ same_sid (signer_elements first.value) (signer_elements n.signer) same ∙ ap signer_identifier n.sid in
     let parts = two (name n.value.issuer) lent.name (Primitive 0x02 (integer_contents n.value.serial_number)) (Primitive 0x02 serial_number) (sym lies ∙ lent.is) in
-    (sym n.issuer ∙ ap encoding parts.0 ∙ sym lent.octets, sym n.serial_number ∙ contents (integer_contents n.value.serial_number) serial_number parts.1)
+    (sym n.has.0 ∙ ap encoding parts.0 ∙ sym lent.octets, sym n.has.1 ∙ contents (integer_contents n.value.serial_number) serial_number parts.1)
 
 pub named_or_not : (f : SignedDataElements) (g : SignerElements) (issuer serial_number : List ℕ) → IsFirstSigner f g → LendsNamed g.sid issuer serial_number → (c : CertificateElements) → IsNamedBy issuer serial_number c ↔ IsNamedByFirst (signers_of f) c
 named_or_not f g issuer serial_number first lent c =

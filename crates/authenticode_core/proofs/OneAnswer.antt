@@ -17,11 +17,11 @@ use Rattle.key_core.specs.Verifying.{Judge}
 use Rattle.key_core.specs.declared.element.Element.TheVariants.{Pkcs7}
 use Rattle.wincert_core.specs.Refusal.{contents_in}
 use Rattle.wincert_core.specs.declared.error.WinCertificateError.{WinCertificateError}
-use Rattle.key_core.specs.Rules.{IsFirstBroken}
+use Rattle.key_core.specs.Rules.{IsFirstBroken, AreOneUnlessMemory}
 use Rattle.x509_core.specs.declared.error.CertError.TheVariants.{Asn1Deserialization}
-use Rattle.authenticode_core.specs.Basic.{HasSignedData, IsNoSignedData, IsSameUnlessMemory, IsShapeless, IsMalformedPadded, IsUnreadSignature, RefusesValue}
+use Rattle.authenticode_core.specs.Basic.{HasSignedData, IsNoSignedData, IsShapeless, IsMalformedPadded, IsUnreadSignature, RefusesValue}
 use Rattle.authenticode_core.specs.ContentRefusal.{told_of_content}
-use Rattle.authenticode_core.specs.SigningRules.{RefusesBy}
+use Rattle.authenticode_core.specs.SigningRules.{RefusesAuthenticodeBy}
 use Rattle.authenticode_core.specs.Trusted.{IsAnswer, IsTrusted, RefusesForm, asked, policy_rules, shape_rules}
 use Rattle.authenticode_core.specs.declared.accepted.Accepted.{Accepted}
 use Rattle.authenticode_core.specs.declared.error.AuthenticodeError.{AuthenticodeError}
@@ -102,14 +102,14 @@ shape_is_answer judge policy octets (Authenticode e) (inl p) = inl p
 shape_is_answer judge policy octets (Authenticode e) (inr p) = inr (p.0, p.1, shape_in_policy judge policy p.0 e p.2)
 shape_is_answer judge policy octets Memory p = absurd p
 
-rules_told : (judge : Judge) (policy : Policy) (octets : List ℕ) (f : SignedDataElements) (e : AuthenticodeError) → HasSignedData octets f → RefusesBy (policy_rules judge policy f) e → (told_of_content e ≡ Authenticode e) ⊎ (e ≡ errors.Memory)
+rules_told : (judge : Judge) (policy : Policy) (octets : List ℕ) (f : SignedDataElements) (e : AuthenticodeError) → HasSignedData octets f → RefusesAuthenticodeBy (policy_rules judge policy f) e → (told_of_content e ≡ Authenticode e) ⊎ (e ≡ errors.Memory)
     → IsAnswer judge policy octets (Err (told_of_content e))
 rules_told judge policy octets f e has (inl broken) (inl told) = rw told (inr (f, has, broken))
 rules_told judge policy octets f e has p (inr memory) = rw memory tt
 rules_told judge policy octets f e has (inr memory) told = rw memory tt
 
 -- of the rules, and want of memory
-pub refusal_is_answer : (judge : Judge) (policy : Policy) (octets : List ℕ) (f : SignedDataElements) (e : AuthenticodeError) → HasSignedData octets f → RefusesBy (policy_rules judge policy f) e → IsAnswer judge policy octets (Err (told_of_content e))
+pub refusal_is_answer : (judge : Judge) (policy : Policy) (octets : List ℕ) (f : SignedDataElements) (e : AuthenticodeError) → HasSignedData octets f → RefusesAuthenticodeBy (policy_rules judge policy f) e → IsAnswer judge policy octets (Err (told_of_content e))
 refusal_is_answer judge policy octets f e has p = rules_told judge policy octets f e has p (told_or_memory e)
 
 -- a refusal of the form is never told as want of memory
@@ -225,22 +225,22 @@ module _ (at_most_one : FaultsAreOne) (exclude : FaultsExclude) where
   unnamed judge policy octets header e refused (inl p) = named_once octets p.certificate header p.named refused
   unnamed judge policy octets header e refused (inr p) = named_once octets p.1.certificate header p.1.named refused
 
-  pub one_answer : (judge : Judge) (policy : Policy) (octets : List ℕ) (r s : Result Accepted CheckError) → IsAnswer judge policy octets r → IsAnswer judge policy octets s → IsSameUnlessMemory r s
-  one_answer judge policy octets (Err Memory) s h k = tt
-  one_answer judge policy octets (Ok a) (Err Memory) h k = tt
+  pub one_answer : (judge : Judge) (policy : Policy) (octets : List ℕ) (r s : Result Accepted CheckError) → IsAnswer judge policy octets r → IsAnswer judge policy octets s → AreOneUnlessMemory Memory r s
+  one_answer judge policy octets (Err Memory) s h k = inr (inl refl)
+  one_answer judge policy octets (Ok a) (Err Memory) h k = inr (inr refl)
   one_answer judge policy octets (Ok a) (Ok b) h k =
       let same = one_data octets h.0 k.0 h.1 k.1 in
-      ap Ok (one_trusted judge policy k.0 a b (subst (λ (f : SignedDataElements). IsTrusted judge policy f a) same h.2) k.2)
+      inl (ap Ok (one_trusted judge policy k.0 a b (subst (λ (f : SignedDataElements). IsTrusted judge policy f a) same h.2) k.2))
   one_answer judge policy octets (Ok a) (Err (Win e)) h k = absurd (named_once octets h.1.certificate e h.1.named k)
   one_answer judge policy octets (Ok a) (Err (Authenticode e)) h k = absurd (no_cause judge policy octets h.0 a e h.1 h.2 k)
-  one_answer judge policy octets (Err (Win e)) (Err Memory) h k = tt
+  one_answer judge policy octets (Err (Win e)) (Err Memory) h k = inr (inr refl)
   one_answer judge policy octets (Err (Win e)) (Ok b) h k = absurd (named_once octets k.1.certificate e k.1.named h)
-  one_answer judge policy octets (Err (Win e)) (Err (Win other)) h k = let same : e ≡ other = cc in ap (λ (x : WinCertificateError). Err (Win x)) same
+  one_answer judge policy octets (Err (Win e)) (Err (Win other)) h k = let same : e ≡ other = cc in inl (ap (λ (x : WinCertificateError). Err (Win x)) same)
   one_answer judge policy octets (Err (Win e)) (Err (Authenticode other)) h k = absurd (unnamed judge policy octets e other h k)
-  one_answer judge policy octets (Err (Authenticode e)) (Err Memory) h k = tt
+  one_answer judge policy octets (Err (Authenticode e)) (Err Memory) h k = inr (inr refl)
   one_answer judge policy octets (Err (Authenticode e)) (Ok b) h k = absurd (no_cause judge policy octets k.0 b e k.1 k.2 h)
   one_answer judge policy octets (Err (Authenticode e)) (Err (Win other)) h k = absurd (unnamed judge policy octets other e k h)
-  one_answer judge policy octets (Err (Authenticode e)) (Err (Authenticode other)) h k = ap (λ (x : AuthenticodeError). Err (Authenticode x)) (one_cause judge policy octets e other h k)
+  one_answer judge policy octets (Err (Authenticode e)) (Err (Authenticode other)) h k = inl (ap (λ (x : AuthenticodeError). Err (Authenticode x)) (one_cause judge policy octets e other h k))
 
   -- ---- exits
 
@@ -248,9 +248,9 @@ module _ (at_most_one : FaultsAreOne) (exclude : FaultsExclude) where
     pub answer_at : (r s : Result Accepted CheckError) → r ≡ s → IsAnswer judge policy octets s → IsAnswer judge policy octets r
     answer_at r s e answer = subst (λ (x : Result Accepted CheckError). IsAnswer judge policy octets x) (sym e) answer
 
-    pub only_at : (r s : Result Accepted CheckError) → r ≡ s → IsAnswer judge policy octets s → (other : Result Accepted CheckError) → IsAnswer judge policy octets other → IsSameUnlessMemory r other
+    pub only_at : (r s : Result Accepted CheckError) → r ≡ s → IsAnswer judge policy octets s → (other : Result Accepted CheckError) → IsAnswer judge policy octets other → AreOneUnlessMemory Memory r other
     only_at r s e answer other k =
-        subst (λ (x : Result Accepted CheckError). IsSameUnlessMemory x other) (sym e) (one_answer judge policy octets s other answer k)
+        subst (λ (x : Result Accepted CheckError). AreOneUnlessMemory Memory x other) (sym e) (one_answer judge policy octets s other answer k)
 
     pub refused_at : (r : Result Accepted CheckError) (e : CheckError) → r ≡ Err e → RefusesForm policy octets e → (f : CheckError) → RefusesForm policy octets f → r ≡ Err f
     refused_at r e is refuses f k = is ∙ ap Err (one_refusal policy octets e f refuses k)

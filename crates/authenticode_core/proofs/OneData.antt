@@ -3,7 +3,7 @@ use Rattle.std.proofs.Common.{◌≡◌, ℕ, List, Ok, sym, ◌∙◌, subst}
 use Rattle.std.specs.Prelude.{replicate}
 use Rattle.cms_types.specs.Pkcs7.{pkcs7}
 use Rattle.cms_types.specs.SignedDataElements.{SignedDataElements}
-use Rattle.cms_types.specs.SignedView.{view_elements}
+use Rattle.cms_types.specs.SignedView.{data_elements}
 use Rattle.cms_types.specs.declared.signed_view.SignedView.{SignedView}
 use Rattle.der_core.specs.DerElement.{DerElement}
 use Rattle.der_core.specs.Encoding.{IsPaddedEncoding}
@@ -27,7 +27,7 @@ one_data octets f g p q =
     p.fields ∙ same_fields_of p.value.signed_data q.value.signed_data element ∙ sym q.fields
 
 -- signed data that lies there
-pub lies_there : (octets : List ℕ) (element : DerElement) (view : SignedView) → LiesIn octets element view → HasSignedData octets (view_elements view)
+pub lies_there : (octets : List ℕ) (element : DerElement) (view : SignedView) → LiesIn octets element view → HasSignedData octets (data_elements view)
 lies_there octets element view lies = record {
   certificate = lies.certificate;
   named = lies.named;

@@ -2,6 +2,7 @@
 use Rattle.std.proofs.Common.{◌≡◌, ◌≢◌, ◌⊎◌, ◌+◌, ◌*◌, ◌-◌, ◌%◌, ◌/◌, ◌<◌, ◌≤◌, ℕ, List, [], ◌∷◌, Some, None, inl, inr, refl, subst, ◌∙◌, ap, arith}
 use Rattle.std.specs.Prelude.{codes}
 use Rattle.std.proofs.lemmas.Bool.{cases_lt}
+use Rattle.asn1_types.specs.Elements.{integer_of}
 use Rattle.asn1_types.specs.Calendar.{IsMoment, IsUtcYear}
 use Rattle.asn1_types.specs.Time.{utc_contents}
 use Rattle.asn1_types.specs.declared.oids.TheConstants as identifiers
@@ -15,11 +16,10 @@ use Rattle.key_types.specs.RsaPublicKey.{rsa_public_key}
 use Rattle.key_types.specs.declared.key_info.SubjectPublicKeyInfo.{SubjectPublicKeyInfo}
 use Rattle.key_types.specs.declared.public_key.RsaPublicKey.{RsaPublicKey}
 use Rattle.key_types.specs.declared.subject_key.SubjectKey.TheVariants as keys
-use Rattle.x509_types.specs.CertificateElements.{AreCertificateFields}
+use Rattle.x509_types.specs.CertificateElements.{AreCertificateFields, CertificateElements}
 use Rattle.x509_types.specs.declared.version.Version.TheVariants as versions
 use Rattle.x509_values.specs.declared.time.Time.TheVariants as times
-use Rattle.authenticode_core.specs.PlainFields.{plain_certificate}
-use Rattle.authenticode_core.specs.PlainForm.{CertificateParts, IsNewYear, IsPlainKey, algorithm, public_key_info}
+use Rattle.authenticode_core.specs.PlainForm.{CertificateParts, IsNewYear, IsPlainKey, algorithm, plain_name, plain_public_key_info, plain_validity}
 use Rattle.authenticode_core.proofs.PlainShape.{algorithm_value, name_value}
 
 -- ---- the first moment of a year
@@ -73,10 +73,30 @@ info_of key r der = record {
   fits = record { named = refl; allowed = refl };
 }
 
-pub info_is : (key : List ℕ) → (r : IsPlainKey key) → (der : IsDer null) → public_key_info key ≡ written_info (info_of key r der)
+pub info_is : (key : List ℕ) → (r : IsPlainKey key) → (der : IsDer null) → plain_public_key_info key ≡ written_info (info_of key r der)
 info_is key r der = ap (λ (octets : List ℕ). sequence (algorithm identifiers.RSA_ENCRYPTION.now ∷ bit_octets octets ∷ [])) (key_is_encoded key r).0
 
 -- ---- the certificate
+
+-- the fields of the certificate
+abbrev pub plain_certificate_fields : CertificateParts → CertificateElements
+plain_certificate_fields c = record {
+  tbs = record {
+    version = Some (integer_of (2 ∷ []));
+    serial_number = c.tbs.serial;
+    signature = algorithm identifiers.SHA256_WITH_RSA_ENCRYPTION.now;
+    issuer = plain_name c.tbs.issuer;
+    validity = plain_validity c.tbs.not_before c.tbs.not_after;
+    subject = plain_name c.tbs.subject;
+    subject_public_key_info = plain_public_key_info c.tbs.key;
+    issuer_unique_id = None;
+    subject_unique_id = None;
+    extensions = None;
+  };
+  algorithm = algorithm identifiers.SHA256_WITH_RSA_ENCRYPTION.now;
+  unused = 0;
+  signature = c.signature;
+}
 
 -- What the parts of a certificate keep.
 pub record IsPlainCertificate (c : CertificateParts) : Type 0 where
@@ -85,7 +105,7 @@ pub record IsPlainCertificate (c : CertificateParts) : Type 0 where
   pub not_after : IsNewYear c.tbs.not_after
   pub key : IsPlainKey c.tbs.key
 
-pub certificate_fits : (c : CertificateParts) → IsPlainCertificate c → IsDer null → Fits AreCertificateFields (plain_certificate c)
+pub certificate_fits : (c : CertificateParts) → IsPlainCertificate c → IsDer null → Fits AreCertificateFields (plain_certificate_fields c)
 certificate_fits c is der =
     let begins = new_year c.tbs.not_before is.not_before in
     let ends = new_year c.tbs.not_after is.not_after in (

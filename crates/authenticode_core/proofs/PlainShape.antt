@@ -10,7 +10,6 @@ use Rattle.cms_types.specs.Facts.SignerElements.{told_data, told_fields, same_da
 use Rattle.cms_types.specs.Facts.SignerInfos.{told_signer}
 use Rattle.cms_types.specs.Levels.{AreSignerFields, AreSignedDataFields, IsAlgorithm, IsContentInfo, IsSignerIdentifier}
 use Rattle.cms_types.specs.Pkcs7Elements.{pkcs7_of}
-use Rattle.cms_types.specs.SignedAttributes.{AreSignedAttributes}
 use Rattle.cms_types.specs.SignedData.{signed_data_elements}
 use Rattle.cms_types.specs.SignedDataElements.{SignedDataElements, signed_data_of}
 use Rattle.cms_types.specs.SignerInfo.{signer_elements}
@@ -28,10 +27,10 @@ use Rattle.x501_types.specs.declared.attribute.AttributeTypeAndValue.{AttributeT
 use Rattle.x501_types.specs.declared.attribute_value.AttributeValue.TheVariants as strings
 use Rattle.x501_types.specs.declared.directory_string.DirectoryString.TheVariants as directory_strings
 use Rattle.x509_types.specs.declared.attribute_values.AttributeValues.TheVariants as values
-use Rattle.x509_types.specs.Attribute.{IsAttribute}
-use Rattle.authenticode_core.specs.Asn1.{context, object_identifier}
+use Rattle.x509_types.specs.Attribute.{IsAttribute, AreAttributes}
+use Rattle.authenticode_core.specs.Asn1.{context, object_identifier_of}
 use Rattle.authenticode_core.specs.Basic.{HasSignedData}
-use Rattle.authenticode_core.specs.PlainForm.{PlainParts, SignerParts, IsPlain, IsPlainForm, algorithm, attribute, attributes, certificate, content_info, digest_info, empty_link, image_data, indirect_data, issuer_and_serial_number, no_program_name, signed_content, signed_data, signed_data_fields, signer_fields, signer_info}
+use Rattle.authenticode_core.specs.PlainForm.{PlainParts, SignerParts, IsPlain, IsPlainForm, algorithm, plain_attribute, plain_attributes, plain_certificate, plain_content_info, plain_digest_info, empty_link, image_data, indirect_data, plain_issuer_and_serial_number, no_program_name, signed_content, plain_signed_data, signed_data_fields, signer_fields, plain_signer_info}
 use Rattle.authenticode_core.specs.PlainFields.{HasPlainFields, plain_data, plain_elements, plain_signer}
 use Rattle.authenticode_core.specs.SignedFields.{HasMessageDigest, IsAttributeOf, IsFirstSigner}
 use Rattle.authenticode_core.specs.SigningRules.{digested_octets}
@@ -56,7 +55,7 @@ has_algorithm contents known der = (algorithm_value contents known der, refl)
 abbrev pub name_value : List ℕ → List (List AttributeTypeAndValue)
 name_value text = (record { ty = identifier identifiers.AT_COMMON_NAME.now refl; value = strings.DirectoryString (directory_strings.Utf8String text) } ∷ []) ∷ []
 
-has_sid : (issuer serial : List ℕ) → serial ≢ [] → Fits IsSignerIdentifier (issuer_and_serial_number issuer serial)
+has_sid : (issuer serial : List ℕ) → serial ≢ [] → Fits IsSignerIdentifier (plain_issuer_and_serial_number issuer serial)
 has_sid issuer serial some = (named.IssuerAndSerialNumber (record { issuer = name_value issuer; serial_number = record { contents = serial; formed = some } }), refl)
 
 -- ---- the content
@@ -64,14 +63,14 @@ has_sid issuer serial some = (named.IssuerAndSerialNumber (record { issuer = nam
 abbrev image_value : DerElement
 image_value = sequence (bit_octets [] ∷ empty_link ∷ [])
 
-image_value_der : (file_hash : List ℕ) → IsDer (content_info file_hash) → IsDer image_value
+image_value_der : (file_hash : List ℕ) → IsDer (plain_content_info file_hash) → IsDer image_value
 image_value_der file_hash der =
-    let tagged = (inside 0x30 (content_info file_hash) (object_identifier identifiers.SPC_INDIRECT_DATA.now ∷ context 0 (indirect_data file_hash ∷ []) ∷ []) der refl).1.0 in
+    let tagged = (inside 0x30 (plain_content_info file_hash) (object_identifier_of identifiers.SPC_INDIRECT_DATA.now ∷ context 0 (indirect_data file_hash ∷ []) ∷ []) der refl).1.0 in
     let data_der = (inside 0xA0 (context 0 (indirect_data file_hash ∷ [])) (indirect_data file_hash ∷ []) tagged refl).0 in
-    let image = (inside 0x30 (indirect_data file_hash) (image_data ∷ digest_info file_hash ∷ []) data_der refl).0 in
-    (inside 0x30 image_data (object_identifier identifiers.SPC_PE_IMAGE_DATA.now ∷ image_value ∷ []) image refl).1.0
+    let image = (inside 0x30 (indirect_data file_hash) (image_data ∷ plain_digest_info file_hash ∷ []) data_der refl).0 in
+    (inside 0x30 image_data (object_identifier_of identifiers.SPC_PE_IMAGE_DATA.now ∷ image_value ∷ []) image refl).1.0
 
-has_content : (file_hash : List ℕ) → IsDer null → IsDer (content_info file_hash) → Fits IsContentInfo (content_info file_hash)
+has_content : (file_hash : List ℕ) → IsDer null → IsDer (plain_content_info file_hash) → Fits IsContentInfo (plain_content_info file_hash)
 has_content file_hash null_der der = (
   record {
     content_type = identifier identifiers.SPC_INDIRECT_DATA.now refl;
@@ -86,40 +85,40 @@ has_content file_hash null_der der = (
 
 -- ---- the signer
 
-has_type : (known : is_known identifiers.CONTENT_TYPE.now ≡ true) → Fits IsAttribute (attribute identifiers.CONTENT_TYPE.now (object_identifier identifiers.SPC_INDIRECT_DATA.now))
+has_type : (known : is_known identifiers.CONTENT_TYPE.now ≡ true) → Fits IsAttribute (plain_attribute identifiers.CONTENT_TYPE.now (object_identifier_of identifiers.SPC_INDIRECT_DATA.now))
 has_type known =
-    let value = object_identifier identifiers.SPC_INDIRECT_DATA.now in (
+    let value = object_identifier_of identifiers.SPC_INDIRECT_DATA.now in (
       record { ty = identifier identifiers.CONTENT_TYPE.now known; value = values.ContentType (identifier identifiers.SPC_INDIRECT_DATA.now refl ∷ []); fits = refl },
       record { values = set (value ∷ []); is = refl; spelled = record { kids = value ∷ []; holds = refl; each = (refl, tt) } },
     )
 
-has_program : (known : is_known identifiers.SPC_SP_OPUS_INFO.now ≡ true) → IsDer no_program_name → Fits IsAttribute (attribute identifiers.SPC_SP_OPUS_INFO.now no_program_name)
+has_program : (known : is_known identifiers.SPC_SP_OPUS_INFO.now ≡ true) → IsDer no_program_name → Fits IsAttribute (plain_attribute identifiers.SPC_SP_OPUS_INFO.now no_program_name)
 has_program known der = (
   record { ty = identifier identifiers.SPC_SP_OPUS_INFO.now known; value = values.Raw (kept no_program_name der ∷ []); fits = refl },
   record { values = set (no_program_name ∷ []); is = refl; spelled = record { kids = no_program_name ∷ []; holds = refl; each = (refl, tt) } },
 )
 
-has_digest : (known : is_known identifiers.MESSAGE_DIGEST.now ≡ true) (digest : List ℕ) → Fits IsAttribute (attribute identifiers.MESSAGE_DIGEST.now (octet_string digest))
+has_digest : (known : is_known identifiers.MESSAGE_DIGEST.now ≡ true) (digest : List ℕ) → Fits IsAttribute (plain_attribute identifiers.MESSAGE_DIGEST.now (octet_string digest))
 has_digest known digest = (
   record { ty = identifier identifiers.MESSAGE_DIGEST.now known; value = values.MessageDigest (digest ∷ []); fits = refl },
   record { values = set (octet_string digest ∷ []); is = refl; spelled = record { kids = octet_string digest ∷ []; holds = refl; each = (refl, tt) } },
 )
 
-has_attributes : (message_digest : List ℕ) → IsDer no_program_name → Fits AreSignedAttributes (context 0 (attributes message_digest))
+has_attributes : (message_digest : List ℕ) → IsDer no_program_name → Fits AreAttributes (context 0 (plain_attributes message_digest))
 has_attributes message_digest der =
     let kind = has_type refl in
     let program = has_program refl der in
     let digest = has_digest refl message_digest in
-    (kind.0 ∷ program.0 ∷ digest.0 ∷ [], record { kids = attributes message_digest; holds = refl; each = (kind.1, (program.1, (digest.1, tt))) })
+    (kind.0 ∷ program.0 ∷ digest.0 ∷ [], record { kids = plain_attributes message_digest; holds = refl; each = (kind.1, (program.1, (digest.1, tt))) })
 
-program_der : (s : SignerParts) → IsDer (signer_info s) → IsDer no_program_name
+program_der : (s : SignerParts) → IsDer (plain_signer_info s) → IsDer no_program_name
 program_der s der =
-    let signed = (inside 0x30 (signer_info s) (signer_fields s) der refl).1.1.1.0 in
-    let opus = (inside 0xA0 (context 0 (attributes s.message_digest)) (attributes s.message_digest) signed refl).1.0 in
-    let programs = (inside 0x30 (attribute identifiers.SPC_SP_OPUS_INFO.now no_program_name) (object_identifier identifiers.SPC_SP_OPUS_INFO.now ∷ set (no_program_name ∷ []) ∷ []) opus refl).1.0 in
+    let signed = (inside 0x30 (plain_signer_info s) (signer_fields s) der refl).1.1.1.0 in
+    let opus = (inside 0xA0 (context 0 (plain_attributes s.message_digest)) (plain_attributes s.message_digest) signed refl).1.0 in
+    let programs = (inside 0x30 (plain_attribute identifiers.SPC_SP_OPUS_INFO.now no_program_name) (object_identifier_of identifiers.SPC_SP_OPUS_INFO.now ∷ set (no_program_name ∷ []) ∷ []) opus refl).1.0 in
     (inside 0x31 (set (no_program_name ∷ [])) (no_program_name ∷ []) programs refl).0
 
-signer_fields_have_shape : (s : SignerParts) → s.serial ≢ [] → IsDer null → IsDer (signer_info s) → AreSignerFields (plain_signer s)
+signer_fields_have_shape : (s : SignerParts) → s.serial ≢ [] → IsDer null → IsDer (plain_signer_info s) → AreSignerFields (plain_signer s)
 signer_fields_have_shape s some null_der der =
     let program = program_der s der in
     record {
@@ -132,12 +131,12 @@ signer_fields_have_shape s some null_der der =
       unsigned_attrs = tt;
     }
 
-is_signer : (s : SignerParts) → s.serial ≢ [] → IsDer null → IsDer (signer_info s) → IsSignerInfo (signer_info s)
+is_signer : (s : SignerParts) → s.serial ≢ [] → IsDer null → IsDer (plain_signer_info s) → IsSignerInfo (plain_signer_info s)
 is_signer s some null_der der = Bare {f = plain_signer s} (record { is = refl; fields = signer_fields_have_shape s some null_der der }) refl
 
 -- ---- signed data
 
-data_fields_have_shape : (p : PlainParts) → IsDer null → IsDer (content_info p.file_hash) → AreSignedDataFields (plain_elements p)
+data_fields_have_shape : (p : PlainParts) → IsDer null → IsDer (plain_content_info p.file_hash) → AreSignedDataFields (plain_elements p)
 data_fields_have_shape p null_der der = record {
   version = (versions.V1, refl);
   digest_algorithms = (
@@ -145,33 +144,33 @@ data_fields_have_shape p null_der der = record {
     record { kids = algorithm identifiers.SHA256.now ∷ []; holds = refl; each = (refl, tt) },
   );
   content_info = has_content p.file_hash null_der der;
-  certificates = (certificate p.certificate ∷ [], refl);
+  certificates = (plain_certificate p.certificate ∷ [], refl);
   crls = ([], refl);
-  signers_infos = (signer_info p.signer ∷ [], refl);
+  signers_infos = (plain_signer_info p.signer ∷ [], refl);
 }
 
 -- the elements that are looked at, in bounds
 pub record Bounded (p : PlainParts) : Type 0 where
-  pub content : IsDer (content_info p.file_hash)
-  pub signer : IsDer (signer_info p.signer)
+  pub content : IsDer (plain_content_info p.file_hash)
+  pub signer : IsDer (plain_signer_info p.signer)
   pub parameters : IsDer null
 
 pub bounded : (p : PlainParts) → IsDer (signed_content p) → Bounded p
 bounded p der =
-    let tagged = (inside 0x30 (signed_content p) (object_identifier identifiers.SIGNED_DATA.now ∷ context 0 (signed_data p ∷ []) ∷ []) der refl).1.0 in
-    let data_der = (inside 0xA0 (context 0 (signed_data p ∷ [])) (signed_data p ∷ []) tagged refl).0 in
-    let kids = inside 0x30 (signed_data p) (signed_data_fields p) data_der refl in
+    let tagged = (inside 0x30 (signed_content p) (object_identifier_of identifiers.SIGNED_DATA.now ∷ context 0 (plain_signed_data p ∷ []) ∷ []) der refl).1.0 in
+    let data_der = (inside 0xA0 (context 0 (plain_signed_data p ∷ [])) (plain_signed_data p ∷ []) tagged refl).0 in
+    let kids = inside 0x30 (plain_signed_data p) (signed_data_fields p) data_der refl in
     let digest = (inside 0x31 (set (algorithm identifiers.SHA256.now ∷ [])) (algorithm identifiers.SHA256.now ∷ []) kids.1.0 refl).0 in
     record {
       content = kids.1.1.0;
-      signer = (inside 0x31 (set (signer_info p.signer ∷ [])) (signer_info p.signer ∷ []) kids.1.1.1.1.1.0 refl).0;
-      parameters = (inside 0x30 (algorithm identifiers.SHA256.now) (object_identifier identifiers.SHA256.now ∷ null ∷ []) digest refl).1.0;
+      signer = (inside 0x31 (set (plain_signer_info p.signer ∷ [])) (plain_signer_info p.signer ∷ []) kids.1.1.1.1.1.0 refl).0;
+      parameters = (inside 0x30 (algorithm identifiers.SHA256.now) (object_identifier_of identifiers.SHA256.now ∷ null ∷ []) digest refl).1.0;
     }
 
 pub has_shape : (p : PlainParts) → p.signer.serial ≢ [] → IsDer (signed_content p) → IsPkcs7 (signed_content p)
 has_shape p some der =
     let b = bounded p der in
-    Pkcs7 {signed_data = signed_data p} refl (Signed {f = plain_elements p} {signers = signer_info p.signer ∷ []}
+    Pkcs7 {signed_data = plain_signed_data p} refl (Signed {f = plain_elements p} {signers = plain_signer_info p.signer ∷ []}
     (record { is = refl; fields = data_fields_have_shape p b.parameters b.content }) refl (MoreSigners (is_signer p.signer some b.parameters b.signer) NoSigners))
 
 within : (f g : SignedDataElements) → pkcs7_of (signed_data_of f) ≡ pkcs7_of (signed_data_of g) → signed_data_of f ≡ signed_data_of g
@@ -199,7 +198,7 @@ plain_form_has_signed_data octets p form =
 pub first_signer : (p : PlainParts) → p.signer.serial ≢ [] → IsDer (signed_content p) → IsFirstSigner (plain_elements p) (plain_signer p.signer)
 first_signer p some der =
     let b = bounded p der in
-    let value = value_of_signer (signer_info p.signer) b.signer (is_signer p.signer some b.parameters b.signer) in
+    let value = value_of_signer (plain_signer_info p.signer) b.signer (is_signer p.signer some b.parameters b.signer) in
     record {
       value = value.0;
       others = [];
@@ -207,19 +206,19 @@ first_signer p some der =
       first = ap (λ (e : DerElement). e ∷ []) value.1;
     }
 
-other_type : (oid other : List ℕ) (values : List DerElement) (value : DerElement) → (other ≡ oid → ⊥) → IsAttributeOf oid (attribute other value) values → ⊥
+other_type : (oid other : List ℕ) (values : List DerElement) (value : DerElement) → (other ≡ oid → ⊥) → IsAttributeOf oid (plain_attribute other value) values → ⊥
 other_type oid other values value apart is = let same : other ≡ oid = cc in apart same
 
 pub bound_by : (p : PlainParts) → IsPlain p → HasMessageDigest (plain_signer p.signer) (digest_of SHA2_256 (digested_octets (plain_data p.file_hash)))
 bound_by p plain = record {
   others = [];
   first = record {
-    before = attribute identifiers.CONTENT_TYPE.now _ ∷ attribute identifiers.SPC_SP_OPUS_INFO.now no_program_name ∷ [];
-    attribute = attribute identifiers.MESSAGE_DIGEST.now (octet_string p.signer.message_digest);
+    before = plain_attribute identifiers.CONTENT_TYPE.now _ ∷ plain_attribute identifiers.SPC_SP_OPUS_INFO.now no_program_name ∷ [];
+    attribute = plain_attribute identifiers.MESSAGE_DIGEST.now (octet_string p.signer.message_digest);
     after = [];
     are = refl;
     first = (λ values. other_type _ _ values _ (λ e. absurd cc), (λ values. other_type _ _ values _ (λ e. absurd cc), tt));
-    named = ap (λ (digest : List ℕ). attribute identifiers.MESSAGE_DIGEST.now (octet_string digest)) plain.bound;
+    named = ap (λ (digest : List ℕ). plain_attribute identifiers.MESSAGE_DIGEST.now (octet_string digest)) plain.bound;
   };
 }
 

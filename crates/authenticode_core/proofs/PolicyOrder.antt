@@ -5,7 +5,7 @@ use Rattle.key_core.specs.Verifying.{Judge}
 use Rattle.key_core.specs.Rules.{Rule, IsFirstBroken}
 use Rattle.authenticode_core.specs.PolicySteps.{IsPlaceAsked, IsVouchedAt}
 use Rattle.authenticode_core.specs.SignerRules.{IsSignerVouched, signer_rules}
-use Rattle.authenticode_core.specs.SigningRules.{RefusesBy}
+use Rattle.authenticode_core.specs.SigningRules.{RefusesAuthenticodeBy}
 use Rattle.authenticode_core.specs.Trusted.{IsBasicallyVouched, IsTrusted, asked, basic_rules, policy_rules, shape_rules}
 use Rattle.authenticode_core.specs.declared.accepted.Accepted.{Accepted}
 use Rattle.authenticode_core.specs.declared.accepted.Excuse.TheVariants as excuses
@@ -85,7 +85,7 @@ module _ (judge : Judge) (policy : Policy) (f : SignedDataElements) where
   pub shape_in_policy : (e : AuthenticodeError) → IsFirstBroken (asked policy.basic (shape_rules f given)) e → IsFirstBroken (policy_rules judge policy f) e
   shape_in_policy e broken = broken_before first_rules last_rules e (shape_asked policy.basic e broken)
 
-  pub basic_refuses : (e : AuthenticodeError) → RefusesBy first_rules e → RefusesBy (policy_rules judge policy f) e
+  pub basic_refuses : (e : AuthenticodeError) → RefusesAuthenticodeBy first_rules e → RefusesAuthenticodeBy (policy_rules judge policy f) e
   basic_refuses e (inl broken) = inl (broken_before first_rules last_rules e broken)
   basic_refuses e (inr memory) = inr memory
 
@@ -112,8 +112,8 @@ module _ (judge : Judge) (policy : Policy) (f : SignedDataElements) where
     placeless = λ none off. absurd (on_or_off policy.signing signing off);
   }
 
-  pub signer_or_not : (told : Option ℕ) → IsPlaceAsked policy.basic judge given f told → policy.signing ≡ true → (r : Result Accepted AuthenticodeError) → MatchResult r (IsSignerVouched judge policy f) (RefusesBy (signer_rules judge policy f))
-      → MatchResult r (IsTrusted judge policy f) (RefusesBy (policy_rules judge policy f))
+  pub signer_or_not : (told : Option ℕ) → IsPlaceAsked policy.basic judge given f told → policy.signing ≡ true → (r : Result Accepted AuthenticodeError) → MatchResult r (IsSignerVouched judge policy f) (RefusesAuthenticodeBy (signer_rules judge policy f))
+      → MatchResult r (IsTrusted judge policy f) (RefusesAuthenticodeBy (policy_rules judge policy f))
   signer_or_not told at signing (Ok a) v = with_signer told a at signing v
   signer_or_not told at signing (Err e) (inl broken) = inl (behind_asked policy.signing first_rules (signer_rules judge policy f) e signing (place_met policy.basic told at) broken)
   signer_or_not told at signing (Err e) (inr memory) = inr memory
@@ -147,7 +147,7 @@ module _ (judge : Judge) (policy : Policy) (f : SignedDataElements) where
   asked_place true place on at = (place, at, refl)
   asked_place false place on at = absurd cc
 
-  pub asked_refusal : (b : Bool) (e : AuthenticodeError) → b ≡ true → RefusesBy (basic_rules judge f given) e → RefusesBy (asked b (basic_rules judge f given)) e
+  pub asked_refusal : (b : Bool) (e : AuthenticodeError) → b ≡ true → RefusesAuthenticodeBy (basic_rules judge f given) e → RefusesAuthenticodeBy (asked b (basic_rules judge f given)) e
   asked_refusal true e on refuses = refuses
   asked_refusal false e on refuses = absurd cc
 

@@ -3,7 +3,7 @@ use Rattle.std.proofs.Common.{◌≡◌, ℕ, List, [], ◌∷◌, ◌++◌, Opt
 use mathlib.Core.Logic.{∥∥₁_elim}
 use Rattle.std.proofs.Props.{props}
 use Rattle.cms_types.specs.Levels.{AreSignerFields, OfOption}
-use Rattle.cms_types.specs.SignedAttributes.{AreSignedAttributes}
+use Rattle.x509_types.specs.Attribute.{AreAttributes}
 use Rattle.cms_types.specs.SignerElements.{SignerElements, signer_of}
 use Rattle.cms_types.specs.Signers.{IsSignerInfo}
 use Rattle.der_core.specs.DerElement.{DerElement, DerElements, Primitive, Constructed, tag_of}
@@ -38,9 +38,9 @@ same_tail (Constructed tag kids) formed bit = record {
 bit_prop : (e : DerElement) → IsProp (form_bit (tag_of e) ≡ 1)
 bit_prop e = hlevel props
 
-bit_of : (a : Option DerElement) (e : DerElement) → OfOption (Fits AreSignedAttributes) a → a ≡ Some e → form_bit (tag_of e) ≡ 1
+bit_of : (a : Option DerElement) (e : DerElement) → OfOption (Fits AreAttributes) a → a ≡ Some e → form_bit (tag_of e) ≡ 1
 bit_of a e are same =
-    let fits : Fits AreSignedAttributes e = subst (OfOption (Fits AreSignedAttributes)) same are in
+    let fits : Fits AreAttributes e = subst (OfOption (Fits AreAttributes)) same are in
     ap (λ (x : DerElement). form_bit (tag_of x)) fits.1.holds
 
 -- the attributes are a constructed element

@@ -30,7 +30,7 @@ use Rattle.authenticode_core.specs.Policy.{policy_checks, window_of}
 use Rattle.authenticode_core.specs.PolicySteps.{IsExpiry, IsUnlinkedPath, TellsExpiry, standing_rules}
 use Rattle.authenticode_core.specs.SignedFields.{IsFirstSigner, signers_of}
 use Rattle.authenticode_core.specs.SignerRules.{HasKeyName, HasUnknownName, IsBadlyStamped, IsKeptSigner, IsPathAsked, IsSignerVouched, IsStanding, IsVouchedPath, IsUnbegun, IsUndated, IsUnexcused, IsUnvouched, LacksSigner, signer_rules}
-use Rattle.authenticode_core.specs.SigningRules.{HasNoCertificate, IsBagOf, IsNamedByKey, IsSignerCertificate, RefusesBy}
+use Rattle.authenticode_core.specs.SigningRules.{HasNoCertificate, IsBagOf, IsNamedByKey, IsSignerCertificate, RefusesAuthenticodeBy}
 use Rattle.authenticode_core.specs.SigningSteps.{HasSigner}
 use Rattle.authenticode_core.specs.declared.accepted.Accepted.{Accepted}
 use Rattle.authenticode_core.specs.declared.accepted.Excuse.{Excuse}
@@ -143,20 +143,20 @@ none_given (Some y) N P e m = absurd (cc e)
 -- ---- refusals before the certificate is looked at
 
 module _ (judge : Judge) (policy : Policy) (f : SignedDataElements) where
-  pub no_signer : (e : AuthenticodeError) → LacksSigner f e → RefusesBy (signer_rules judge policy f) e
+  pub no_signer : (e : AuthenticodeError) → LacksSigner f e → RefusesAuthenticodeBy (signer_rules judge policy f) e
   no_signer e broken = inl (inl broken)
 
-  pub unnamed : (g : SignerElements) (e : AuthenticodeError) → IsFirstSigner f g → RefusesBy (IsNamedByKey g ∷ HasNoCertificate f g ∷ []) e → RefusesBy (signer_rules judge policy f) e
+  pub unnamed : (g : SignerElements) (e : AuthenticodeError) → IsFirstSigner f g → RefusesAuthenticodeBy (IsNamedByKey g ∷ HasNoCertificate f g ∷ []) e → RefusesAuthenticodeBy (signer_rules judge policy f) e
   unnamed g e first (inl (inl broken)) = inl (inr (first_met f g first, inl (g, first, broken)))
   unnamed g e first (inl (inr (met, inl broken))) = inl (inr (first_met f g first, inr (key_name_met f g first met, inl (g, first, broken))))
   unnamed g e first (inl (inr (met, inr none))) = absurd none.1
   unnamed g e first (inr memory) = inr memory
 
-  pub undated : (place : ℕ) (c : CertificateElements) (cause : CertError) → HasSigner f place c → LacksDate (policy_checks policy) cause → RefusesBy (signer_rules judge policy f) (of_certificates cause)
+  pub undated : (place : ℕ) (c : CertificateElements) (cause : CertError) → HasSigner f place c → LacksDate (policy_checks policy) cause → RefusesAuthenticodeBy (signer_rules judge policy f) (of_certificates cause)
   undated place c cause s lacks =
       inl (broken_behind (named_rules f) (IsUndated policy ∷ standing_rules judge policy f) (of_certificates cause) (named_met f s.0 place c s.1 s.2) (inl (cause, lacks, undated_told policy cause lacks)))
 
-  pub not_standing : (place : ℕ) (c : CertificateElements) (e : AuthenticodeError) → HasSigner f place c → IsDated (policy_checks policy) → RefusesBy (standing_rules judge policy f) e → RefusesBy (signer_rules judge policy f) e
+  pub not_standing : (place : ℕ) (c : CertificateElements) (e : AuthenticodeError) → HasSigner f place c → IsDated (policy_checks policy) → RefusesAuthenticodeBy (standing_rules judge policy f) e → RefusesAuthenticodeBy (signer_rules judge policy f) e
   not_standing place c e s dated (inl broken) =
       inl (broken_behind (named_rules f) (IsUndated policy ∷ standing_rules judge policy f) e (named_met f s.0 place c s.1 s.2) (inr (dated_met policy dated, broken)))
   not_standing place c e s dated (inr memory) = inr memory
@@ -213,7 +213,7 @@ module _ (judge : Judge) (policy : Policy) (f : SignedDataElements) where
 
     -- ---- refusals
 
-    pub unbegun : (cause : CertError) → IsOutside (window_of policy) signer cause → (TellsExpiry cause → ⊥) → RefusesBy (standing_rules judge policy f) (of_certificates cause)
+    pub unbegun : (cause : CertError) → IsOutside (window_of policy) signer cause → (TellsExpiry cause → ⊥) → RefusesAuthenticodeBy (standing_rules judge policy f) (of_certificates cause)
     unbegun cause outside untold = inl (inl (record {
       bag = bag;
       place = place;
@@ -225,7 +225,7 @@ module _ (judge : Judge) (policy : Policy) (f : SignedDataElements) where
       told = outside_told (window_of policy) signer cause outside;
     }))
 
-    pub unexcused : (cause : CertError) → IsOutside (window_of policy) signer cause → IsExpired (window_of policy) signer.elements → HasNoExcuse f bag signer.elements → RefusesBy (standing_rules judge policy f) (of_certificates cause)
+    pub unexcused : (cause : CertError) → IsOutside (window_of policy) signer cause → IsExpired (window_of policy) signer.elements → HasNoExcuse f bag signer.elements → RefusesAuthenticodeBy (standing_rules judge policy f) (of_certificates cause)
     unexcused cause outside expired none = inl (inr (
       begun_met expired,
       inl (record {
@@ -241,12 +241,12 @@ module _ (judge : Judge) (policy : Policy) (f : SignedDataElements) where
       }),
     ))
 
-    pub badly_stamped : (e : AuthenticodeError) → IsExpired (window_of policy) signer.elements → HasBadStamp judge f bag signer.elements e → RefusesBy (standing_rules judge policy f) e
+    pub badly_stamped : (e : AuthenticodeError) → IsExpired (window_of policy) signer.elements → HasBadStamp judge f bag signer.elements e → RefusesAuthenticodeBy (standing_rules judge policy f) e
     badly_stamped e expired stamp =
         inl (inr (begun_met expired, inr (unexcused_met e stamp, inl (record { bag = bag; place = place; signer = signer; is = is; expired = expired; stamp = stamp }))))
 
     unvouched_told : (cause : CertError) → IsWithinWindow (window_of policy) signer.elements → IsTrue policy.chain → IsUnlinkedPath judge (window_of policy) bag signer cause → (of_certificates cause ≡ errors.CertError cause) ⊎ (cause ≡ cert_errors.Memory)
-        → RefusesBy (standing_rules judge policy f) (of_certificates cause)
+        → RefusesAuthenticodeBy (standing_rules judge policy f) (of_certificates cause)
     unvouched_told cause valid asked unlinked (inl told) =
         inl (broken_behind (IsUnbegun policy f ∷ IsUnexcused policy f ∷ IsBadlyStamped judge policy f ∷ []) (IsUnvouched judge policy f ∷ []) (of_certificates cause) (valid_met valid) (inl (record {
           bag = bag;
@@ -263,7 +263,7 @@ module _ (judge : Judge) (policy : Policy) (f : SignedDataElements) where
         })))
     unvouched_told cause valid asked unlinked (inr memory) = inr (ap of_certificates memory)
 
-    pub unvouched : (cause : CertError) → IsWithinWindow (window_of policy) signer.elements → IsTrue policy.chain → IsUnlinkedPath judge (window_of policy) bag signer cause → RefusesBy (standing_rules judge policy f) (of_certificates cause)
+    pub unvouched : (cause : CertError) → IsWithinWindow (window_of policy) signer.elements → IsTrue policy.chain → IsUnlinkedPath judge (window_of policy) bag signer cause → RefusesAuthenticodeBy (standing_rules judge policy f) (of_certificates cause)
     unvouched cause valid asked unlinked = unvouched_told cause valid asked unlinked (told_of_certificates cause)
 
     -- ---- what isn't valid
@@ -277,20 +277,20 @@ module _ (judge : Judge) (policy : Policy) (f : SignedDataElements) where
     pub has_expired : (cause : CertError) → Breaks (IsOutside (window_of policy) signer) cause → TellsExpiry cause → IsExpired (window_of policy) signer.elements
     has_expired cause breaks tells = expired_if_told (window_of policy) signer cause (expired_by cause breaks tells) tells
 
-    pub unbegun_or_memory : (cause : CertError) → Breaks (IsOutside (window_of policy) signer) cause → (TellsExpiry cause → ⊥) → RefusesBy (standing_rules judge policy f) (of_certificates cause)
+    pub unbegun_or_memory : (cause : CertError) → Breaks (IsOutside (window_of policy) signer) cause → (TellsExpiry cause → ⊥) → RefusesAuthenticodeBy (standing_rules judge policy f) (of_certificates cause)
     unbegun_or_memory cause (inl outside) untold = unbegun cause outside untold
     unbegun_or_memory cause (inr memory) untold = inr (ap of_certificates memory)
 
-    pub no_excuse : (cause : CertError) → Breaks (IsOutside (window_of policy) signer) cause → TellsExpiry cause → HasNoExcuse f bag signer.elements → RefusesBy (standing_rules judge policy f) (of_certificates cause)
+    pub no_excuse : (cause : CertError) → Breaks (IsOutside (window_of policy) signer) cause → TellsExpiry cause → HasNoExcuse f bag signer.elements → RefusesAuthenticodeBy (standing_rules judge policy f) (of_certificates cause)
     no_excuse cause breaks tells none = unexcused cause (expired_by cause breaks tells) (has_expired cause breaks tells) none
 
     pub stamped_or_memory : (cause : CertError) (e : AuthenticodeError) → Breaks (IsOutside (window_of policy) signer) cause → TellsExpiry cause → HasBadStamp judge f bag signer.elements e ⊎ (e ≡ errors.Memory)
-        → RefusesBy (standing_rules judge policy f) e
+        → RefusesAuthenticodeBy (standing_rules judge policy f) e
     stamped_or_memory cause e breaks tells (inl stamp) = badly_stamped e (has_expired cause breaks tells) stamp
     stamped_or_memory cause e breaks tells (inr memory) = inr memory
 
     pub unvouched_or_memory : (cause : CertError) → IsWithinWindow (window_of policy) signer.elements → (IsTrue policy.chain × IsUnlinkedPath judge (window_of policy) bag signer cause) ⊎ (cause ≡ cert_errors.Memory)
-        → RefusesBy (standing_rules judge policy f) (of_certificates cause)
+        → RefusesAuthenticodeBy (standing_rules judge policy f) (of_certificates cause)
     unvouched_or_memory cause valid (inl (asked, unlinked)) = unvouched cause valid asked unlinked
     unvouched_or_memory cause valid (inr memory) = inr (ap of_certificates memory)
 
@@ -302,7 +302,7 @@ module _ (judge : Judge) (policy : Policy) (f : SignedDataElements) where
     excused_stands path excuses.Token expired excused empty = (expired, excused, empty)
 
     pub vouched_or_not : IsDated (policy_checks policy) → (r : Result Accepted AuthenticodeError)
-        → MatchResult r (λ a. (a.signer ≡ Some place) × IsStanding judge policy f bag signer a.path a.excuse) (RefusesBy (standing_rules judge policy f)) → MatchResult r (IsSignerVouched judge policy f) (RefusesBy (signer_rules judge policy f))
+        → MatchResult r (λ a. (a.signer ≡ Some place) × IsStanding judge policy f bag signer a.path a.excuse) (RefusesAuthenticodeBy (standing_rules judge policy f)) → MatchResult r (IsSignerVouched judge policy f) (RefusesAuthenticodeBy (signer_rules judge policy f))
     vouched_or_not dated (Ok a) h = record { bag = bag; place = place; signer = signer; is = is; told = h.0; dated = dated; stands = h.1 }
     vouched_or_not dated (Err e) h = not_standing place signer.elements e (bag, is.is_bag, is.is_signer) dated h
 

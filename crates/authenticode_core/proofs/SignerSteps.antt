@@ -60,8 +60,7 @@ is_named signers left first view issuer serial c e is lent by (named.IssuerAndSe
       first = e ∙ ap (λ (x : DerElement). x ∷ left) is.spelled;
       value = v;
       sid = sid;
-      issuer = ap encoding parts.0 ∙ sym lent.octets ∙ sym by.0;
-      serial_number = contents (integer_contents v.serial_number) serial parts.1 ∙ sym by.1;
+      has = (ap encoding parts.0 ∙ sym lent.octets ∙ sym by.0, contents (integer_contents v.serial_number) serial parts.1 ∙ sym by.1);
     }
 is_named signers left first view issuer serial c e is lent by (named.SubjectKeyIdentifier octets) sid =
     let lies : (signer_elements_at view).sid ≡ Primitive 0x80 octets = same_sid (signer_elements_at view) (signer_elements is.value) (sym is.is ∙ is.spelled) ∙ ap signer_identifier sid in
@@ -73,7 +72,7 @@ is_named_by : (signers left : List DerElement) (first : DerElement) (view : Sign
 is_named_by signers left first view issuer serial c e is lent n =
     let lies = named_sid signers left first view c e is n in
     let parts = two (name n.value.issuer) lent.name (Primitive 0x02 (integer_contents n.value.serial_number)) (Primitive 0x02 serial) (sym lies ∙ lent.is) in
-    (sym n.issuer ∙ ap encoding parts.0 ∙ sym lent.octets, sym n.serial_number ∙ contents (integer_contents n.value.serial_number) serial parts.1)
+    (sym n.has.0 ∙ ap encoding parts.0 ∙ sym lent.octets, sym n.has.1 ∙ contents (integer_contents n.value.serial_number) serial parts.1)
 
 pub names_it : (signers left : List DerElement) (first : DerElement) (view : SignerView) (issuer serial : List ℕ) → signers ≡ first ∷ left → IsSignerView first view
     → LendsNamed (signer_elements_at view).sid issuer serial → (c : CertificateElements) → IsNamedBy issuer serial c ↔ IsNamedByFirst signers c

@@ -3,7 +3,7 @@ use Rattle.std.proofs.Common.{◌≡◌, ◌≢◌, List, [], ◌∷◌, Option,
 use Rattle.asn1_types.specs.declared.oids.TheConstants.{RFC3161_COUNTER_SIGN}
 use Rattle.cms_types.specs.Pkcs7.{pkcs7}
 use Rattle.cms_types.specs.SignedDataElements.{SignedDataElements}
-use Rattle.cms_types.specs.SignedView.{IsSignedView, view_elements}
+use Rattle.cms_types.specs.SignedView.{IsSignedView, data_elements}
 use Rattle.cms_types.specs.SignerElements.{SignerElements}
 use Rattle.cms_types.specs.SignerInfo.{signer_info}
 use Rattle.cms_types.specs.SignerView.{IsSignerView, signer_elements_at}
@@ -75,7 +75,7 @@ module _ (f t : SignedDataElements) (g : SignerElements) (attribute : DerElement
 
 pub token_or_none : (r : Option SignedView) (f : SignedDataElements) (g : SignerElements) (attribute token : DerElement) (attributes values tokens : List DerElement) → IsFirstSigner f g → members_of g.unsigned_attrs ≡ attribute ∷ attributes
     → IsAttributeOf RFC3161_COUNTER_SIGN.now attribute values → values ≡ token ∷ tokens → MatchOption r ((value : Pkcs7Certificate) → token ≢ pkcs7 value) (IsSignedView token)
-    → MatchOption r ((t : SignedDataElements) → HasToken f t → ⊥) (λ view. HasToken f (view_elements view))
+    → MatchOption r ((t : SignedDataElements) → HasToken f t → ⊥) (λ view. HasToken f (data_elements view))
 token_or_none None f g attribute token attributes values tokens first unsigned named are none = λ t has.
     none has.value (token_is f t g attribute attributes first unsigned values tokens token named are has ∙ has.spelled)
 token_or_none (Some view) f g attribute token attributes values tokens first unsigned named are is = record {

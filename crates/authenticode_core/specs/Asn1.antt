@@ -6,18 +6,14 @@ use Rattle.der_core.specs.DerElement.{DerElement, Primitive, Constructed, row}
 abbrev pub context : ℕ → List DerElement → DerElement
 context number kids = Constructed (0xA0 + number) (row kids)
 
--- an INTEGER (X.690 8.3), of any contents
-abbrev pub integer : List ℕ → DerElement
-integer contents = Primitive 0x02 contents
-
 -- an OBJECT IDENTIFIER (X.690 8.19)
-abbrev pub object_identifier : List ℕ → DerElement
-object_identifier contents = Primitive 0x06 contents
+abbrev pub object_identifier_of : List ℕ → DerElement
+object_identifier_of contents = Primitive 0x06 contents
 
 -- a UTF8String (X.690 8.23), of any octets
-abbrev pub utf8_string : List ℕ → DerElement
-utf8_string text = Primitive 0x0C text
+abbrev pub utf8_string_of : List ℕ → DerElement
+utf8_string_of text = Primitive 0x0C text
 
 -- a UTCTime (X.690 8.25), of any octets
-abbrev pub utc_time : List ℕ → DerElement
-utc_time text = Primitive 0x17 text
+abbrev pub utc_time_of : List ℕ → DerElement
+utc_time_of text = Primitive 0x17 text

@@ -8,8 +8,12 @@ use Rattle.cms_types.specs.SignerInfo.{signer_info}
 use Rattle.cms_types.specs.declared.issuer_and_serial.IssuerAndSerialNumber.{IssuerAndSerialNumber}
 use Rattle.cms_types.specs.declared.signer_identifier.SignerIdentifier.TheVariants as named
 use Rattle.cms_types.specs.declared.signer_info.SignerInfo.{SignerInfo}
-use Rattle.authenticode_core.specs.Names.{IsSameName}
+use Rattle.authenticode_core.specs.SameElements.{IsSameElement}
 use Rattle.authenticode_core.specs.Places.{IsLeastPlace, HasNoPlace}
+
+-- the certificate has this issuer and this serial number
+abbrev pub HasIssuerAndSerial : IssuerAndSerialNumber → CertificateElements → Type 0
+HasIssuerAndSerial value c = IsSameElement (name value.issuer) c.tbs.issuer × (integer_contents value.serial_number ≡ c.tbs.serial_number)
 
 -- The first of the signers names the certificate by its issuer and its serial number.
 pub record IsNamedByFirst (signers : List DerElement) (c : CertificateElements) : Type 0 where
@@ -18,8 +22,7 @@ pub record IsNamedByFirst (signers : List DerElement) (c : CertificateElements) 
   pub first : signers ≡ signer_info signer ∷ others
   pub value : IssuerAndSerialNumber
   pub sid : signer.sid ≡ named.IssuerAndSerialNumber value
-  pub issuer : IsSameName (name value.issuer) c.tbs.issuer
-  pub serial_number : integer_contents value.serial_number ≡ c.tbs.serial_number
+  pub has : HasIssuerAndSerial value c
 
 -- the place is the least one whose certificate the first of the signers names
 abbrev pub IsSignerPlace : List DerElement → List CertificateElements → ℕ → CertificateElements → Type 0

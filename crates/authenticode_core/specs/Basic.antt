@@ -1,5 +1,5 @@
 -- The signed data of a signature file: when it is there, when it vouches for the digest of a file, and why not.
-use Rattle.std.specs.Prelude.{◌≡◌, ◌≤◌, ◌⊎◌, ⊤, ℕ, drop, replicate, List, ◌∷◌, Result, Ok, Err}
+use Rattle.std.specs.Prelude.{◌≡◌, ◌≤◌, ◌⊎◌, ℕ, drop, replicate, List, ◌∷◌, Ok, Err}
 use Rattle.cms_types.specs.Pkcs7.{pkcs7}
 use Rattle.cms_types.specs.SignedData.{signed_data_elements}
 use Rattle.cms_types.specs.SignedDataElements.{SignedDataElements}
@@ -21,7 +21,6 @@ use Rattle.x509_core.specs.declared.error.CertError.TheVariants.{Asn1Deserializa
 use Rattle.authenticode_core.specs.FormRules.{HasForm, FileDiffers}
 use Rattle.authenticode_core.specs.SignedFields.{HasIndirectData, IndirectData, IsFirstSigner}
 use Rattle.authenticode_core.specs.SigningRules.{IsSigned, signing_rules}
-use Rattle.authenticode_core.specs.declared.accepted.Accepted.{Accepted}
 use Rattle.authenticode_core.specs.declared.error.AuthenticodeError.{AuthenticodeError}
 use Rattle.authenticode_core.specs.declared.error.AuthenticodeError.TheVariants.{CertError}
 use Rattle.authenticode_core.specs.declared.error.CheckError.{CheckError}
@@ -99,9 +98,3 @@ abbrev pub RefusesValue : List ℕ → CheckError → Type 0
 RefusesValue octets (Win e) = contents_in octets ≡ Err e
 RefusesValue octets (Authenticode e) = IsUnreadSignature octets e
 RefusesValue octets Memory = ⊥
-
--- Two answers are one, but where one of them is want of memory.
-abbrev pub IsSameUnlessMemory : Result Accepted CheckError → Result Accepted CheckError → Type 0
-IsSameUnlessMemory (Err Memory) b = ⊤
-IsSameUnlessMemory a (Err Memory) = ⊤
-IsSameUnlessMemory a b = a ≡ b

@@ -5,7 +5,8 @@ use Rattle.cms_types.specs.SignedDataElements.{SignedDataElements}
 use Rattle.cms_types.specs.SignerElements.{SignerElements}
 use Rattle.der_core.specs.DerElement.{DerElement}
 use Rattle.key_core.specs.Rules.{Rule}
-use Rattle.authenticode_core.specs.SignedFields.{HasVersion, HasSignedContent, HasIndirectData, IndirectData, IsFirstAlgorithm, IsFirstSigner, IsSameAlgorithm, digest_algorithms_of, signers_of}
+use Rattle.authenticode_core.specs.SameElements.{IsSameElement}
+use Rattle.authenticode_core.specs.SignedFields.{HasVersion, HasSignedContent, HasIndirectData, IndirectData, IsFirstAlgorithm, IsFirstSigner, digest_algorithms_of, signers_of}
 use Rattle.authenticode_core.specs.declared.error.AuthenticodeError.{AuthenticodeError}
 use Rattle.authenticode_core.specs.declared.error.AuthenticodeError.TheVariants as errors
 
@@ -16,9 +17,9 @@ pub record HasForm (f : SignedDataElements) (algorithm : DerElement) (d : Indire
   pub one_algorithm : length (digest_algorithms_of f) ≡ 1
   pub indirect : HasIndirectData f d
   pub first_algorithm : IsFirstAlgorithm f algorithm
-  pub same_content : IsSameAlgorithm d.algorithm algorithm
+  pub same_content : IsSameElement d.algorithm algorithm
   pub signer : IsFirstSigner f g
-  pub same_signer : IsSameAlgorithm g.digest_algorithm algorithm
+  pub same_signer : IsSameElement g.digest_algorithm algorithm
 
 -- ---- rules, by what breaks them
 
@@ -47,13 +48,13 @@ HasOtherContent f e =
 -- the digest of the content is by another algorithm than the first one
 abbrev pub ContentDiffers : SignedDataElements → Rule AuthenticodeError
 ContentDiffers f e =
-    (algorithm : DerElement) × (d : IndirectData) × IsFirstAlgorithm f algorithm × HasIndirectData f d × (IsSameAlgorithm d.algorithm algorithm → ⊥)
+    (algorithm : DerElement) × (d : IndirectData) × IsFirstAlgorithm f algorithm × HasIndirectData f d × (IsSameElement d.algorithm algorithm → ⊥)
     × (e ≡ errors.DigestAlgorithmMismatch)
 
 -- the digests of the signer are by another algorithm than the first one
 abbrev pub SignerDiffers : SignedDataElements → Rule AuthenticodeError
 SignerDiffers f e =
-    (algorithm : DerElement) × (g : SignerElements) × IsFirstAlgorithm f algorithm × IsFirstSigner f g × (IsSameAlgorithm g.digest_algorithm algorithm → ⊥)
+    (algorithm : DerElement) × (g : SignerElements) × IsFirstAlgorithm f algorithm × IsFirstSigner f g × (IsSameElement g.digest_algorithm algorithm → ⊥)
     × (e ≡ errors.DigestAlgorithmMismatch)
 
 -- the digest of the file is another one than is asked for

@@ -2,6 +2,7 @@ pub mod Asn1
 pub mod PlainForm
 pub mod CertificateBag
 pub mod Places
+pub mod SameElements
 pub mod Names
 pub mod BagSigner
 pub mod IssuerWalk

@@ -2,30 +2,31 @@
 -- signed attributes. Identifiers are the constants of `asn1_types::oids`, which
 -- `asn1_types.specs.NamedIdentifiers` lists by name.
 use Rattle.std.specs.Prelude.{◌≡◌, ◌≢◌, ℕ, ◌≤◌, List, [], ◌∷◌, codes, Ok}
+use Rattle.asn1_types.specs.Elements.{integer_of}
 use Rattle.sha2.specs.Sha256.{sha256}
 use Rattle.der_core.specs.DerElement.{DerElement, Primitive, row}
 use Rattle.der_core.specs.Encoding.{encoding, encodings, IsDer, IsPaddedEncoding}
 use Rattle.wincert_core.specs.Refusal.{contents_in}
 use Rattle.der_core.specs.Elements.{sequence, set, null, bit_octets, octet_string}
-use Rattle.authenticode_core.specs.Asn1.{context, integer, object_identifier, utf8_string, utc_time}
+use Rattle.authenticode_core.specs.Asn1.{context, object_identifier_of, utf8_string_of, utc_time_of}
 use Rattle.asn1_types.specs.declared.oids.TheConstants as identifiers
 
 -- an AlgorithmIdentifier with NULL parameters (RFC 5280 4.1.1.2)
 abbrev pub algorithm : List ℕ → DerElement
-algorithm oid = sequence (object_identifier oid ∷ null ∷ [])
+algorithm oid = sequence (object_identifier_of oid ∷ null ∷ [])
 
 -- a Name of one common name (RFC 5280 4.1.2.4)
-abbrev pub name : List ℕ → DerElement
-name text =
-    sequence (set (sequence (object_identifier identifiers.AT_COMMON_NAME.now ∷ utf8_string text ∷ []) ∷ []) ∷ [])
+abbrev pub plain_name : List ℕ → DerElement
+plain_name text =
+    sequence (set (sequence (object_identifier_of identifiers.AT_COMMON_NAME.now ∷ utf8_string_of text ∷ []) ∷ []) ∷ [])
 
 -- a Validity between two times of two-digit years (RFC 5280 4.1.2.5)
-abbrev pub validity : List ℕ → List ℕ → DerElement
-validity not_before not_after = sequence (utc_time not_before ∷ utc_time not_after ∷ [])
+abbrev pub plain_validity : List ℕ → List ℕ → DerElement
+plain_validity not_before not_after = sequence (utc_time_of not_before ∷ utc_time_of not_after ∷ [])
 
 -- the SubjectPublicKeyInfo of an RSA key (RFC 5280 4.1.2.7)
-abbrev pub public_key_info : List ℕ → DerElement
-public_key_info key = sequence (algorithm identifiers.RSA_ENCRYPTION.now ∷ bit_octets key ∷ [])
+abbrev pub plain_public_key_info : List ℕ → DerElement
+plain_public_key_info key = sequence (algorithm identifiers.RSA_ENCRYPTION.now ∷ bit_octets key ∷ [])
 
 -- what varies in the part of a certificate that is signed
 pub record TbsParts : Type 0 where
@@ -38,23 +39,23 @@ pub record TbsParts : Type 0 where
 
 -- the version of certificates that may have extensions (RFC 5280 4.1.2.1)
 abbrev pub version_3 : DerElement
-version_3 = context 0 (integer (2 ∷ []) ∷ [])
+version_3 = context 0 (integer_of (2 ∷ []) ∷ [])
 
 -- a TBSCertificate of version 3 without extensions (RFC 5280 4.1.2)
 abbrev pub tbs_fields : TbsParts → List DerElement
 tbs_fields c =
     version_3
-    ∷ integer c.serial
+    ∷ integer_of c.serial
     ∷ algorithm identifiers.SHA256_WITH_RSA_ENCRYPTION.now
-    ∷ name c.issuer
-    ∷ validity c.not_before c.not_after
-    ∷ name c.subject
-    ∷ public_key_info c.key
+    ∷ plain_name c.issuer
+    ∷ plain_validity c.not_before c.not_after
+    ∷ plain_name c.subject
+    ∷ plain_public_key_info c.key
     ∷ []
 
 -- these fields in order
-abbrev pub tbs_certificate : TbsParts → DerElement
-tbs_certificate c =
+abbrev pub plain_tbs_certificate : TbsParts → DerElement
+plain_tbs_certificate c =
     sequence (tbs_fields c)
 
 -- what varies in a certificate
@@ -63,8 +64,8 @@ pub record CertificateParts : Type 0 where
   pub signature : List ℕ
 
 -- a Certificate (RFC 5280 4.1.1)
-abbrev pub certificate : CertificateParts → DerElement
-certificate c = sequence (tbs_certificate c.tbs ∷ algorithm identifiers.SHA256_WITH_RSA_ENCRYPTION.now ∷ bit_octets c.signature ∷ [])
+abbrev pub plain_certificate : CertificateParts → DerElement
+plain_certificate c = sequence (plain_tbs_certificate c.tbs ∷ algorithm identifiers.SHA256_WITH_RSA_ENCRYPTION.now ∷ bit_octets c.signature ∷ [])
 
 -- an SpcLink to a file without a name (Authenticode)
 abbrev pub empty_link : DerElement
@@ -73,24 +74,24 @@ empty_link = context 0 (context 2 (Primitive 0x80 [] ∷ []) ∷ [])
 -- an SpcAttributeTypeAndOptionalValue: a portable executable, without page hashes (Authenticode)
 abbrev pub image_data : DerElement
 image_data =
-    sequence (object_identifier identifiers.SPC_PE_IMAGE_DATA.now ∷ sequence (bit_octets [] ∷ empty_link ∷ []) ∷ [])
+    sequence (object_identifier_of identifiers.SPC_PE_IMAGE_DATA.now ∷ sequence (bit_octets [] ∷ empty_link ∷ []) ∷ [])
 
 -- a DigestInfo of SHA-256 (Authenticode, RFC 2315 9.4)
-abbrev pub digest_info : List ℕ → DerElement
-digest_info file_hash = sequence (algorithm identifiers.SHA256.now ∷ octet_string file_hash ∷ [])
+abbrev pub plain_digest_info : List ℕ → DerElement
+plain_digest_info file_hash = sequence (algorithm identifiers.SHA256.now ∷ octet_string file_hash ∷ [])
 
 -- an SpcIndirectDataContent: what the file is, and its digest (Authenticode)
 abbrev pub indirect_data : List ℕ → DerElement
-indirect_data file_hash = sequence (image_data ∷ digest_info file_hash ∷ [])
+indirect_data file_hash = sequence (image_data ∷ plain_digest_info file_hash ∷ [])
 
 -- a ContentInfo of indirect data (RFC 2315 7)
-abbrev pub content_info : List ℕ → DerElement
-content_info file_hash =
-    sequence (object_identifier identifiers.SPC_INDIRECT_DATA.now ∷ context 0 (indirect_data file_hash ∷ []) ∷ [])
+abbrev pub plain_content_info : List ℕ → DerElement
+plain_content_info file_hash =
+    sequence (object_identifier_of identifiers.SPC_INDIRECT_DATA.now ∷ context 0 (indirect_data file_hash ∷ []) ∷ [])
 
 -- an Attribute of one value (RFC 5652 5.3)
-abbrev pub attribute : List ℕ → DerElement → DerElement
-attribute oid value = sequence (object_identifier oid ∷ set (value ∷ []) ∷ [])
+abbrev pub plain_attribute : List ℕ → DerElement → DerElement
+plain_attribute oid value = sequence (object_identifier_of oid ∷ set (value ∷ []) ∷ [])
 
 -- an SpcSpOpusInfo without a program's name, and with an address of no octets (Authenticode)
 abbrev pub no_program_name : DerElement
@@ -98,11 +99,11 @@ no_program_name = sequence (context 1 (Primitive 0x80 [] ∷ []) ∷ [])
 
 -- the signed attributes: the type of the content, the publisher's information, and the digest of
 -- the content (RFC 2985 5.3, Authenticode)
-abbrev pub attributes : List ℕ → List DerElement
-attributes message_digest =
-    attribute identifiers.CONTENT_TYPE.now (object_identifier identifiers.SPC_INDIRECT_DATA.now)
-    ∷ attribute identifiers.SPC_SP_OPUS_INFO.now no_program_name
-    ∷ attribute identifiers.MESSAGE_DIGEST.now (octet_string message_digest)
+abbrev pub plain_attributes : List ℕ → List DerElement
+plain_attributes message_digest =
+    plain_attribute identifiers.CONTENT_TYPE.now (object_identifier_of identifiers.SPC_INDIRECT_DATA.now)
+    ∷ plain_attribute identifiers.SPC_SP_OPUS_INFO.now no_program_name
+    ∷ plain_attribute identifiers.MESSAGE_DIGEST.now (octet_string message_digest)
     ∷ []
 
 -- what varies in the signer
@@ -113,23 +114,23 @@ pub record SignerParts : Type 0 where
   pub signature : List ℕ
 
 -- IssuerAndSerialNumber (RFC 2315 6.7)
-abbrev pub issuer_and_serial_number : List ℕ → List ℕ → DerElement
-issuer_and_serial_number issuer serial = sequence (name issuer ∷ integer serial ∷ [])
+abbrev pub plain_issuer_and_serial_number : List ℕ → List ℕ → DerElement
+plain_issuer_and_serial_number issuer serial = sequence (plain_name issuer ∷ integer_of serial ∷ [])
 
 -- a SignerInfo of version 1, whose signature algorithm is named by its key's (RFC 2315 9.2)
 abbrev pub signer_fields : SignerParts → List DerElement
 signer_fields s =
-    integer (1 ∷ [])
-    ∷ issuer_and_serial_number s.issuer s.serial
+    integer_of (1 ∷ [])
+    ∷ plain_issuer_and_serial_number s.issuer s.serial
     ∷ algorithm identifiers.SHA256.now
-    ∷ context 0 (attributes s.message_digest)
+    ∷ context 0 (plain_attributes s.message_digest)
     ∷ algorithm identifiers.RSA_ENCRYPTION.now
     ∷ octet_string s.signature
     ∷ []
 
 -- these fields in order
-abbrev pub signer_info : SignerParts → DerElement
-signer_info s = sequence (signer_fields s)
+abbrev pub plain_signer_info : SignerParts → DerElement
+plain_signer_info s = sequence (signer_fields s)
 
 -- what varies in the signed data
 pub record PlainParts : Type 0 where
@@ -141,22 +142,22 @@ pub record PlainParts : Type 0 where
 -- (RFC 2315 9.1)
 abbrev pub signed_data_fields : PlainParts → List DerElement
 signed_data_fields p =
-    integer (1 ∷ [])
+    integer_of (1 ∷ [])
     ∷ set (algorithm identifiers.SHA256.now ∷ [])
-    ∷ content_info p.file_hash
-    ∷ context 0 (certificate p.certificate ∷ [])
+    ∷ plain_content_info p.file_hash
+    ∷ context 0 (plain_certificate p.certificate ∷ [])
     ∷ context 1 []
-    ∷ set (signer_info p.signer ∷ [])
+    ∷ set (plain_signer_info p.signer ∷ [])
     ∷ []
 
 -- these fields in order
-abbrev pub signed_data : PlainParts → DerElement
-signed_data p = sequence (signed_data_fields p)
+abbrev pub plain_signed_data : PlainParts → DerElement
+plain_signed_data p = sequence (signed_data_fields p)
 
 -- a ContentInfo of it (RFC 2315 7)
 abbrev pub signed_content : PlainParts → DerElement
 signed_content p =
-    sequence (object_identifier identifiers.SIGNED_DATA.now ∷ context 0 (signed_data p ∷ []) ∷ [])
+    sequence (object_identifier_of identifiers.SIGNED_DATA.now ∷ context 0 (plain_signed_data p ∷ []) ∷ [])
 
 -- `0` to `9`
 abbrev pub IsDigit : ℕ → Type 0
@@ -173,7 +174,7 @@ pub record IsNewYear (time : List ℕ) : Type 0 where
 pub record IsSomeInteger (element : DerElement) : Type 0 where
   pub contents : List ℕ
   pub some : contents ≢ []
-  pub written : element ≡ integer contents
+  pub written : element ≡ integer_of contents
 
 -- an RSAPublicKey, with its modulus and exponent (RFC 8017 A.1.1)
 pub record IsPlainPublicKey (element : DerElement) : Type 0 where
@@ -191,7 +192,7 @@ pub record IsPlainKey (key : List ℕ) : Type 0 where
 
 -- The contents octets of the indirect data, which the signed attributes bind by their digest.
 abbrev pub bound_contents : List ℕ → List ℕ
-bound_contents file_hash = encodings (row (image_data ∷ digest_info file_hash ∷ []))
+bound_contents file_hash = encodings (row (image_data ∷ plain_digest_info file_hash ∷ []))
 
 -- what the parts keep
 pub record IsPlain (p : PlainParts) : Type 0 where
@@ -213,4 +214,4 @@ pub record IsPlainForm (octets : List ℕ) (p : PlainParts) : Type 0 where
 
 -- What the signature is over: the signed attributes as a SET (RFC 2315 9.3).
 abbrev pub plain_message : PlainParts → List ℕ
-plain_message p = encoding (set (attributes p.signer.message_digest))
+plain_message p = encoding (set (plain_attributes p.signer.message_digest))

@@ -1,5 +1,6 @@
 -- The fields of signed data that a check asks for, by the elements that stand for them (RFC 2315 9.1, 9.2; Windows Authenticode Portable Executable Signature Format).
 use Rattle.std.specs.Prelude.{◌≡◌, ⊤, ℕ, List, [], ◌∷◌, ◌++◌, Option, Some}
+use Rattle.asn1_types.specs.Elements.{integer_of}
 use Rattle.asn1_types.specs.declared.oids.TheConstants.{MESSAGE_DIGEST, SPC_INDIRECT_DATA}
 use Rattle.cms_types.specs.SignedDataElements.{SignedDataElements}
 use Rattle.cms_types.specs.SignerElements.{SignerElements}
@@ -13,7 +14,7 @@ use Rattle.authenticode_core.specs.CertificateBag.{members_of}
 
 -- the number of the version
 abbrev pub HasVersion : SignedDataElements → ℕ → Type 0
-HasVersion f number = f.version ≡ Primitive 0x02 (number ∷ [])
+HasVersion f number = f.version ≡ integer_of (number ∷ [])
 
 -- the digest algorithms
 abbrev pub digest_algorithms_of : SignedDataElements → List DerElement
@@ -51,10 +52,6 @@ pub record IsFirstSigner (f : SignedDataElements) (g : SignerElements) : Type 0 
   pub others : List DerElement
   pub is : g ≡ signer_elements value
   pub first : signers_of f ≡ signer_info value ∷ others
-
--- two algorithms are the same where their octets are
-abbrev pub IsSameAlgorithm : DerElement → DerElement → Type 0
-IsSameAlgorithm a b = encoding a ≡ encoding b
 
 -- the signed attributes: where they are left out there are none
 abbrev pub signed_attributes_of : SignerElements → List DerElement

@@ -1,6 +1,6 @@
 -- What the signature of the first signer has to be, rule by rule, in their order (RFC 2315 9.3, 9.4; Windows Authenticode Portable Executable Signature Format).
 use Rattle.std.specs.Prelude.{◌≡◌, ◌≢◌, ℕ, List, [], ◌∷◌, Contains}
-use Rattle.asn1_types.specs.Values.{integer_contents}
+use Rattle.asn1_types.specs.Elements.{integer}
 use Rattle.asn1_types.specs.declared.integer.IntegerAsn1.{IntegerAsn1}
 use Rattle.asn1_types.specs.declared.oids.TheConstants.{KP_CODE_SIGNING}
 use Rattle.cms_types.specs.SignedDataElements.{SignedDataElements}
@@ -99,7 +99,7 @@ IsNamedByKey g e = (octets : List ℕ) × (g.sid ≡ Primitive 0x80 octets) × (
 pub record HasNoCertificate (f : SignedDataElements) (g : SignerElements) (e : AuthenticodeError) : Type 0 where
   pub issuer : DirectoryName
   pub serial_number : IntegerAsn1
-  pub named : g.sid ≡ sequence (name (sets_of issuer) ∷ Primitive 0x02 (integer_contents serial_number) ∷ [])
+  pub named : g.sid ≡ sequence (name (sets_of issuer) ∷ integer serial_number ∷ [])
   pub bag : List CertificateElements
   pub is_bag : IsBagOf f bag
   pub none : HasNoSigner (signers_of f) bag
@@ -165,5 +165,5 @@ signing_rules judge f d g =
     ∷ IsNotForCodeSigning f ∷ []
 
 -- the error tells of the first broken rule, unless memory ran out
-abbrev pub RefusesBy : List (Rule AuthenticodeError) → AuthenticodeError → Type 0
-RefusesBy = RefusesByRules errors.Memory
+abbrev pub RefusesAuthenticodeBy : List (Rule AuthenticodeError) → AuthenticodeError → Type 0
+RefusesAuthenticodeBy = RefusesByRules errors.Memory

@@ -44,9 +44,9 @@ pub record TellsName (issuer serial_number : List ℕ) (e : AuthenticodeError) :
   pub told : e ≡ errors.NoCertificatesAssociatedWithIssuerAndSerialNumber made number
 
 -- an error of a signature as one of a signer: want of memory is told as such
-abbrev pub signature_refusal : SignatureError → AuthenticodeError
-signature_refusal signature_errors.Memory = errors.Memory
-signature_refusal source = errors.SignatureError source
+abbrev pub signer_refusal : SignatureError → AuthenticodeError
+signer_refusal signature_errors.Memory = errors.Memory
+signer_refusal source = errors.SignatureError source
 
 -- an AlgorithmIdentifier has an identifier of these contents octets
 abbrev pub IsOfIdentifier : DerElement → List ℕ → Type 0

@@ -3,12 +3,12 @@
 ghost use Rattle.std.specs.Prelude.{◌≡◌, ◌⊎◌, Err, MatchResult};
 ghost use Rattle.cms_types.specs.Pkcs7Elements.{pkcs7_of};
 ghost use Rattle.cms_types.specs.SignedDataElements.{signed_data_of};
-ghost use Rattle.cms_types.specs.SignedView.{view_elements};
+ghost use Rattle.cms_types.specs.SignedView.{data_elements};
 ghost use Rattle.key_core.specs.Rules.{IsFirstBroken};
 ghost use Rattle.authenticode_core.specs.Basic.{IsRefusedPart, VouchesFor};
 ghost use Rattle.authenticode_core.specs.Form.{AreSpelled, IsFormOf};
 ghost use Rattle.authenticode_core.specs.PolicySteps.{IsVouchedAt};
-ghost use Rattle.authenticode_core.specs.SigningRules.{RefusesBy};
+ghost use Rattle.authenticode_core.specs.SigningRules.{RefusesAuthenticodeBy};
 ghost use Rattle.authenticode_core.specs.Trusted.{basic_rules, shape_rules};
 
 use crate::error::AuthenticodeError;
@@ -30,13 +30,13 @@ pub(crate) fn expect_basic<'a, S: Scheme>(
     policy: &Policy,
     scheme: &S,
 ) -> Result<usize, AuthenticodeError>
-    requires is { elem.is.0 ≡ pkcs7_of (signed_data_of (view_elements signed_data.now)) }
-    requires spelled { AreSpelled (view_elements signed_data.now) }
+    requires is { elem.is.0 ≡ pkcs7_of (signed_data_of (data_elements signed_data.now)) }
+    requires spelled { AreSpelled (data_elements signed_data.now) }
     ensures answer { MatchResult result
-        (IsVouchedAt (S.judge scheme.now) policy.now.file_hash (view_elements signed_data.now))
-        (RefusesBy (basic_rules (S.judge scheme.now) (view_elements signed_data.now) policy.now.file_hash)) }
+        (IsVouchedAt (S.judge scheme.now) policy.now.file_hash (data_elements signed_data.now))
+        (RefusesAuthenticodeBy (basic_rules (S.judge scheme.now) (data_elements signed_data.now) policy.now.file_hash)) }
     // A refusal of the form comes whatever memory there is, and that no digest is given, too.
-    ensures shape { (e : AuthenticodeError) → IsFirstBroken (shape_rules (view_elements signed_data.now) policy.now.file_hash) e → result ≡ Err e }
+    ensures shape { (e : AuthenticodeError) → IsFirstBroken (shape_rules (data_elements signed_data.now) policy.now.file_hash) e → result ≡ Err e }
 {
     let form = expect_form(elem, signed_data)?;
     let Some(file_hash) = &policy.file_hash else {
@@ -53,10 +53,10 @@ fn expect_vouched<'a, S: Scheme>(
     file_hash: &[u8],
     scheme: &S,
 ) -> Result<usize, AuthenticodeError>
-    requires { IsFormOf (view_elements signed_data.now) form.now }
+    requires { IsFormOf (data_elements signed_data.now) form.now }
     ensures { MatchResult result
-        (VouchesFor (S.judge scheme.now) (view_elements signed_data.now) file_hash.now)
-        (λ e. IsRefusedPart (S.judge scheme.now) (view_elements signed_data.now) file_hash.now e ⊎ (e ≡ AuthenticodeError.Memory)) }
+        (VouchesFor (S.judge scheme.now) (data_elements signed_data.now) file_hash.now)
+        (λ e. IsRefusedPart (S.judge scheme.now) (data_elements signed_data.now) file_hash.now e ⊎ (e ≡ AuthenticodeError.Memory)) }
 {
     if !is_same(form.content.digest, file_hash) {
         return Err(file_mismatch(alloc, form.content.digest, file_hash));

@@ -4,7 +4,7 @@
 ghost use Rattle.std.specs.Prelude.{◌≡◌, ◌≢◌, List, [], ◌∷◌, length, Some, MatchOption, MatchResult};
 ghost use Rattle.cms_types.specs.Pkcs7Elements.{pkcs7_of};
 ghost use Rattle.cms_types.specs.SignedDataElements.{SignedDataElements, signed_data_of};
-ghost use Rattle.cms_types.specs.SignedView.{view_elements};
+ghost use Rattle.cms_types.specs.SignedView.{data_elements};
 ghost use Rattle.cms_types.specs.SignerView.{signer_elements_at};
 ghost use Rattle.der_core.specs.DerElement.{DerElement};
 ghost use Rattle.der_core.specs.Elements.{sequence, octet_string};
@@ -47,11 +47,11 @@ pub(crate) fn expect_form<'a>(
     elem: Elem<'a>,
     signed_data: &SignedView<'a>,
 ) -> Result<Form<'a>, AuthenticodeError>
-    requires is { elem.is.0 ≡ pkcs7_of (signed_data_of (view_elements signed_data.now)) }
-    requires spelled { AreSpelled (view_elements signed_data.now) }
+    requires is { elem.is.0 ≡ pkcs7_of (signed_data_of (data_elements signed_data.now)) }
+    requires spelled { AreSpelled (data_elements signed_data.now) }
     ensures { MatchResult result
-        (IsFormOf (view_elements signed_data.now))
-        (IsFirstBroken (form_rules (view_elements signed_data.now))) }
+        (IsFormOf (data_elements signed_data.now))
+        (IsFirstBroken (form_rules (data_elements signed_data.now))) }
 {
     expect_version(signed_data)?;
     let signer = one_signer(signed_data)?;
@@ -69,8 +69,8 @@ pub(crate) fn expect_form<'a>(
 /// The version is 1.
 fn expect_version(signed_data: &SignedView<'_>) -> Result<(), AuthenticodeError>
     ensures { MatchResult result
-        (λ _. HasVersion (view_elements signed_data.now) 1)
-        (IsOfOtherVersion (view_elements signed_data.now)) }
+        (λ _. HasVersion (data_elements signed_data.now) 1)
+        (IsOfOtherVersion (data_elements signed_data.now)) }
 {
     let got = signed_data.version();
     if got != VERSION {
@@ -84,10 +84,10 @@ fn expect_version(signed_data: &SignedView<'_>) -> Result<(), AuthenticodeError>
 
 /// The one signer.
 fn one_signer<'a>(signed_data: &SignedView<'a>) -> Result<SignerView<'a>, AuthenticodeError>
-    requires { AreSpelled (view_elements signed_data.now) }
+    requires { AreSpelled (data_elements signed_data.now) }
     ensures { MatchResult result
-        (λ signer. (length (signers_of (view_elements signed_data.now)) ≡ 1) × IsFirstSigner (view_elements signed_data.now) (signer_elements_at signer))
-        (HasOtherSigners (view_elements signed_data.now)) }
+        (λ signer. (length (signers_of (data_elements signed_data.now)) ≡ 1) × IsFirstSigner (data_elements signed_data.now) (signer_elements_at signer))
+        (HasOtherSigners (data_elements signed_data.now)) }
 {
     let only = match only_within(signed_data.signers_infos()) {
         Ok(only) => only,
@@ -104,10 +104,10 @@ fn one_algorithm<'a>(
     elem: Elem<'a>,
     signed_data: &SignedView<'a>,
 ) -> Result<Elem<'a>, AuthenticodeError>
-    requires { elem.is.0 ≡ pkcs7_of (signed_data_of (view_elements signed_data.now)) }
+    requires { elem.is.0 ≡ pkcs7_of (signed_data_of (data_elements signed_data.now)) }
     ensures { MatchResult result
-        (λ algorithm. digest_algorithms_of (view_elements signed_data.now) ≡ algorithm.is.0 ∷ [])
-        (HasOtherAlgorithms (view_elements signed_data.now)) }
+        (λ algorithm. digest_algorithms_of (data_elements signed_data.now) ≡ algorithm.is.0 ∷ [])
+        (HasOtherAlgorithms (data_elements signed_data.now)) }
 {
     let Some(algorithms) = digest_algorithms_in(elem) else {
         unreachable!();
@@ -133,10 +133,10 @@ fn digest_algorithms_in<'a>(elem: Elem<'a>) -> Option<Elem<'a>>
 
 /// The content is what is signed in the place of a file.
 fn expect_content<'a>(signed_data: &SignedView<'a>) -> Result<Content<'a>, AuthenticodeError>
-    requires { AreSpelled (view_elements signed_data.now) }
+    requires { AreSpelled (data_elements signed_data.now) }
     ensures { MatchResult result
-        (λ content. (d : IndirectData) × IsIndirectContent (view_elements signed_data.now) d content)
-        (IsFirstBroken (LacksContent (view_elements signed_data.now) ∷ HasOtherContent (view_elements signed_data.now) ∷ [])) }
+        (λ content. (d : IndirectData) × IsIndirectContent (data_elements signed_data.now) d content)
+        (IsFirstBroken (LacksContent (data_elements signed_data.now) ∷ HasOtherContent (data_elements signed_data.now) ∷ [])) }
 {
     let Some(elem) = signed_data.content() else {
         return Err(AuthenticodeError::NoEncapsulatedContentInfo);

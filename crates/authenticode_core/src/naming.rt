@@ -1,7 +1,7 @@
 //! The certificate of a signer, by its issuer and its serial number, and what its issuer walk asks for.
 
 ghost use Rattle.std.specs.Prelude.{◌≡◌, List, IsTrue, IfSome, MatchOption};
-ghost use Rattle.cms_types.specs.SignedView.{view_elements as data_elements};
+ghost use Rattle.cms_types.specs.SignedView.{data_elements};
 ghost use Rattle.der_core.specs.Encoding.{encoding};
 ghost use Rattle.der_core.specs.Lent.{at_option};
 ghost use Rattle.x509_types.specs.CertificateElements.{CertificateElements, certificate_of};

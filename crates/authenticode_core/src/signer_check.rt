@@ -2,7 +2,7 @@
 //! 5280 6.1; Windows Authenticode Portable Executable Signature Format).
 
 ghost use Rattle.std.specs.Prelude.{◌≡◌, ◌⊎◌, ◌↔◌, ℕ, List, Some, IsTrue, MatchResult};
-ghost use Rattle.cms_types.specs.SignedView.{view_elements as data_elements};
+ghost use Rattle.cms_types.specs.SignedView.{data_elements};
 ghost use Rattle.cms_types.specs.SignerView.{signer_elements_at};
 ghost use Rattle.x509_core.specs.KeptCertificate.{KeptCertificate};
 ghost use Rattle.x509_core.specs.Link.{IsOutside};
@@ -17,7 +17,7 @@ ghost use Rattle.authenticode_core.specs.Policy.{window_of};
 ghost use Rattle.authenticode_core.specs.PolicySteps.{IsExpiry, IsUnlinkedPath, TellsExpiry, standing_rules};
 ghost use Rattle.authenticode_core.specs.SignedFields.{IsFirstSigner};
 ghost use Rattle.authenticode_core.specs.SignerRules.{IsKeptSigner, IsPathAsked, IsSignerVouched, IsStanding, LacksSigner, signer_rules};
-ghost use Rattle.authenticode_core.specs.SigningRules.{IsBagOf, RefusesBy};
+ghost use Rattle.authenticode_core.specs.SigningRules.{IsBagOf, RefusesAuthenticodeBy};
 
 use crate::accepted::{Accepted, Excuse, Places};
 use crate::bag::BagCertificate;
@@ -46,7 +46,7 @@ pub(crate) fn expect_signer<S: Scheme>(
     requires { AreSpelled (data_elements signed_data.now) }
     ensures { MatchResult result
         (IsSignerVouched (S.judge scheme.now) policy.now (data_elements signed_data.now))
-        (RefusesBy (signer_rules (S.judge scheme.now) policy.now (data_elements signed_data.now))) }
+        (RefusesAuthenticodeBy (signer_rules (S.judge scheme.now) policy.now (data_elements signed_data.now))) }
 {
     let first = expect_first(signed_data)?;
     let named = expect_certificate(alloc, signed_data, &first)?;
@@ -89,7 +89,7 @@ fn expect_standing<S: Scheme>(
     requires { signer.elements ≡ view_elements named.now.certificate }
     ensures { (bag : List CertificateElements) → IsKeptSigner (data_elements signed_data.now) bag named.now.place signer → MatchResult result
         (λ a. (a.signer ≡ Some named.now.place) × IsStanding (S.judge scheme.now) policy.now (data_elements signed_data.now) bag signer a.path a.excuse)
-        (RefusesBy (standing_rules (S.judge scheme.now) policy.now (data_elements signed_data.now))) }
+        (RefusesAuthenticodeBy (standing_rules (S.judge scheme.now) policy.now (data_elements signed_data.now))) }
 {
     let checks = policy.checks();
     match signer.expect_valid(alloc, &checks.window) {
@@ -143,7 +143,7 @@ fn expect_excuse<S: Scheme>(
         → IsKeptSigner (data_elements signed_data.now) bag place signer' → signer'.elements ≡ view_elements signer.now
         → Breaks (IsOutside (window_of policy) signer') error → MatchResult result
         (λ excuse. IsExpired (window_of policy) signer'.elements × IsExcused (S.judge scheme.now) (data_elements signed_data.now) bag signer'.elements excuse)
-        (RefusesBy (standing_rules (S.judge scheme.now) policy (data_elements signed_data.now))) }
+        (RefusesAuthenticodeBy (standing_rules (S.judge scheme.now) policy (data_elements signed_data.now))) }
 {
     if !tells_expiry(&error) {
         return Err(AuthenticodeError::from(error));

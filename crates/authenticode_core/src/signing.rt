@@ -2,7 +2,7 @@
 //! Authenticode Portable Executable Signature Format).
 
 ghost use Rattle.std.specs.Prelude.{◌≡◌, ◌⊎◌, [], ◌∷◌, IfOk, MatchResult};
-ghost use Rattle.cms_types.specs.SignedView.{view_elements as data_elements};
+ghost use Rattle.cms_types.specs.SignedView.{data_elements};
 ghost use Rattle.cms_types.specs.SignerView.{signer_elements_at};
 ghost use Rattle.der_core.specs.Elements.{sequence};
 ghost use Rattle.der_core.specs.Placed.{AreDer};
@@ -11,8 +11,8 @@ ghost use Rattle.key_core.specs.Keys.{info_of};
 ghost use Rattle.x509_core.specs.Link.{HasKey};
 ghost use Rattle.x509_types.specs.CertificateView.{view_elements};
 ghost use Rattle.authenticode_core.specs.SignedFields.{IndirectData, IsFirstSigner, indirect_kids};
-ghost use Rattle.authenticode_core.specs.SigningRules.{HasNoCertificate, HasUnknownDigest, IsNamedByKey, IsRefusedUnder, IsSigned, HasSignatureBy, NamesDigest, RefusesBy, digested_octets, signing_rules};
-ghost use Rattle.authenticode_core.specs.SigningSteps.{IsBoundBy, NamesSigner, TellsName, digest_rules, signature_refusal};
+ghost use Rattle.authenticode_core.specs.SigningRules.{HasNoCertificate, HasUnknownDigest, IsNamedByKey, IsRefusedUnder, IsSigned, HasSignatureBy, NamesDigest, RefusesAuthenticodeBy, digested_octets, signing_rules};
+ghost use Rattle.authenticode_core.specs.SigningSteps.{IsBoundBy, NamesSigner, TellsName, digest_rules, signer_refusal};
 ghost use Rattle.authenticode_core.specs.declared.error.AuthenticodeError.TheVariants as errors;
 
 use crate::attributes::{message_digest_of, signed_message_of};
@@ -46,7 +46,7 @@ pub(crate) fn expect_signed<'a, S: Scheme>(
     requires { IsFirstSigner (data_elements signed_data.now) (signer_elements_at signer.now) }
     ensures { (d : IndirectData) → content.entry.is.0 ≡ sequence (indirect_kids d) → MatchResult result
         (λ place. IsSigned (S.judge scheme.now) (data_elements signed_data.now) d (signer_elements_at signer.now) place)
-        (RefusesBy (signing_rules (S.judge scheme.now) (data_elements signed_data.now) d (signer_elements_at signer.now))) }
+        (RefusesAuthenticodeBy (signing_rules (S.judge scheme.now) (data_elements signed_data.now) d (signer_elements_at signer.now))) }
 {
     let named = expect_certificate(alloc, signed_data, signer)?;
     let hash = expect_known_digest(signer)?;
@@ -65,7 +65,7 @@ pub(crate) fn expect_certificate<'a>(
     requires { IsFirstSigner (data_elements signed_data.now) (signer_elements_at signer.now) }
     ensures { MatchResult result
         (NamesSigner (data_elements signed_data.now))
-        (RefusesBy (IsNamedByKey (signer_elements_at signer.now) ∷ HasNoCertificate (data_elements signed_data.now) (signer_elements_at signer.now) ∷ [])) }
+        (RefusesAuthenticodeBy (IsNamedByKey (signer_elements_at signer.now) ∷ HasNoCertificate (data_elements signed_data.now) (signer_elements_at signer.now) ∷ [])) }
 {
     let Some((issuer, serial_number)) = signer.issuer_and_serial() else {
         return Err(AuthenticodeError::IncorrectSignerIdentifier);
@@ -117,7 +117,7 @@ fn expect_signature<S: Scheme>(
 ) -> Result<(), AuthenticodeError>
     ensures { MatchResult result
         (λ _. HasSignatureBy (S.judge scheme.now) (signer_elements_at signer.now) hash (view_elements certificate.now))
-        (RefusesBy (IsRefusedUnder (S.judge scheme.now) (signer_elements_at signer.now) hash (view_elements certificate.now) ∷ [])) }
+        (RefusesAuthenticodeBy (IsRefusedUnder (S.judge scheme.now) (signer_elements_at signer.now) hash (view_elements certificate.now) ∷ [])) }
 {
     let key = key_of(alloc, certificate)?;
     let message = signed_message_of(alloc, signer)?;
@@ -131,7 +131,7 @@ fn expect_signature<S: Scheme>(
         scheme,
     ) {
         Ok(()) => Ok(()),
-        Err(source) => Err(signature_refusal(source)),
+        Err(source) => Err(signer_refusal(source)),
     }
 }
 
@@ -146,8 +146,8 @@ fn key_of(alloc: Global, certificate: &CertView<'_>) -> Result<PublicKey, AllocE
 }
 
 /// Why a signature isn't accepted: want of memory is told as such.
-fn signature_refusal(source: SignatureError) -> AuthenticodeError
-    ensures { result ≡ signature_refusal source }
+fn signer_refusal(source: SignatureError) -> AuthenticodeError
+    ensures { result ≡ signer_refusal source }
 {
     match source {
         SignatureError::Memory => AuthenticodeError::Memory,
@@ -166,7 +166,7 @@ fn expect_message_digest(
     requires { NamesDigest (signer_elements_at signer.now).digest_algorithm hash }
     ensures { (d : IndirectData) → octets.now ≡ digested_octets d → MatchResult result
         (λ _. IsBoundBy d (signer_elements_at signer.now) hash)
-        (RefusesBy (digest_rules d (signer_elements_at signer.now))) }
+        (RefusesAuthenticodeBy (digest_rules d (signer_elements_at signer.now))) }
 {
     let Some(actual) = message_digest_of(signer) else {
         return Err(AuthenticodeError::NoMessageDigest);

@@ -4,12 +4,11 @@
 ghost use Rattle.std.specs.Prelude.{◌≡◌, Err, Result, MatchResult};
 ghost use Rattle.cms_types.specs.Pkcs7Elements.{pkcs7_of};
 ghost use Rattle.cms_types.specs.SignedDataElements.{signed_data_of};
-ghost use Rattle.cms_types.specs.SignedView.{view_elements, IsSignedView};
-ghost use Rattle.key_core.specs.Rules.{IsFirstBroken};
-ghost use Rattle.authenticode_core.specs.Basic.{IsSameUnlessMemory};
+ghost use Rattle.cms_types.specs.SignedView.{data_elements, IsSignedView};
+ghost use Rattle.key_core.specs.Rules.{AreOneUnlessMemory, IsFirstBroken};
 ghost use Rattle.authenticode_core.specs.Form.{AreSpelled};
 ghost use Rattle.authenticode_core.specs.PolicySteps.{IsPlaceAsked};
-ghost use Rattle.authenticode_core.specs.SigningRules.{RefusesBy};
+ghost use Rattle.authenticode_core.specs.SigningRules.{RefusesAuthenticodeBy};
 ghost use Rattle.authenticode_core.specs.Trusted.{IsAnswer, IsTrusted, RefusesForm, asked, basic_rules, policy_rules, shape_rules};
 ghost use Rattle.authenticode_core.specs.declared.accepted.Accepted.{Accepted};
 ghost use Rattle.authenticode_core.specs.declared.error.CheckError.{CheckError};
@@ -40,7 +39,7 @@ pub fn check_wincert<S: Scheme>(
     // No other answer has its cause, want of memory aside.
     ensures only { (other : Result Accepted CheckError)
         → IsAnswer (S.judge scheme.now) policy.now bytes.now other
-        → IsSameUnlessMemory result other }
+        → AreOneUnlessMemory CheckError.Memory result other }
 {
     one_first_fault();
     let (elem, signed_data) = signed_data_of(bytes)?;
@@ -61,10 +60,10 @@ pub fn check_signed_data<'a, S: Scheme>(
 ) -> Result<Accepted, AuthenticodeError>
     requires { IsSignedView elem.is.0 signed_data.now }
     ensures answer { MatchResult result
-        (IsTrusted (S.judge scheme.now) policy.now (view_elements signed_data.now))
-        (RefusesBy (policy_rules (S.judge scheme.now) policy.now (view_elements signed_data.now))) }
+        (IsTrusted (S.judge scheme.now) policy.now (data_elements signed_data.now))
+        (RefusesAuthenticodeBy (policy_rules (S.judge scheme.now) policy.now (data_elements signed_data.now))) }
     // A refusal of the form comes whatever memory there is, and that no digest is given, too.
-    ensures shape { (e : AuthenticodeError) → IsFirstBroken (asked policy.now.basic (shape_rules (view_elements signed_data.now) policy.now.file_hash)) e → result ≡ Err e }
+    ensures shape { (e : AuthenticodeError) → IsFirstBroken (asked policy.now.basic (shape_rules (data_elements signed_data.now) policy.now.file_hash)) e → result ≡ Err e }
 {
     let signer = basic_place(alloc, elem, signed_data, policy, scheme)?;
     if policy.signing {
@@ -85,12 +84,12 @@ fn basic_place<'a, S: Scheme>(
     policy: &Policy,
     scheme: &S,
 ) -> Result<Option<usize>, AuthenticodeError>
-    requires is { elem.is.0 ≡ pkcs7_of (signed_data_of (view_elements signed_data.now)) }
-    requires spelled { AreSpelled (view_elements signed_data.now) }
+    requires is { elem.is.0 ≡ pkcs7_of (signed_data_of (data_elements signed_data.now)) }
+    requires spelled { AreSpelled (data_elements signed_data.now) }
     ensures answer { MatchResult result
-        (IsPlaceAsked policy.now.basic (S.judge scheme.now) policy.now.file_hash (view_elements signed_data.now))
-        (RefusesBy (asked policy.now.basic (basic_rules (S.judge scheme.now) (view_elements signed_data.now) policy.now.file_hash))) }
-    ensures shape { (e : AuthenticodeError) → IsFirstBroken (asked policy.now.basic (shape_rules (view_elements signed_data.now) policy.now.file_hash)) e → result ≡ Err e }
+        (IsPlaceAsked policy.now.basic (S.judge scheme.now) policy.now.file_hash (data_elements signed_data.now))
+        (RefusesAuthenticodeBy (asked policy.now.basic (basic_rules (S.judge scheme.now) (data_elements signed_data.now) policy.now.file_hash))) }
+    ensures shape { (e : AuthenticodeError) → IsFirstBroken (asked policy.now.basic (shape_rules (data_elements signed_data.now) policy.now.file_hash)) e → result ≡ Err e }
 {
     if !policy.basic {
         return Ok(None);

@@ -3,7 +3,7 @@
 
 ghost use Rattle.std.specs.Prelude.{◌≡◌, [], ◌∷◌, List, MatchOption};
 ghost use Rattle.cms_types.specs.SignedDataElements.{SignedDataElements};
-ghost use Rattle.cms_types.specs.SignedView.{view_elements};
+ghost use Rattle.cms_types.specs.SignedView.{data_elements};
 ghost use Rattle.cms_types.specs.SignerElements.{SignerElements};
 ghost use Rattle.cms_types.specs.SignerView.{signer_elements_at};
 ghost use Rattle.der_core.specs.DerElement.{DerElement};
@@ -21,8 +21,8 @@ use der_core::Elem;
 /// attribute holds such. It takes no memory.
 pub(crate) fn token_of<'a>(signed_data: &SignedView<'a>) -> Option<SignedView<'a>>
     ensures { MatchOption result
-        ((t : SignedDataElements) → HasToken (view_elements signed_data.now) t → ⊥)
-        (λ token. HasToken (view_elements signed_data.now) (view_elements token)) }
+        ((t : SignedDataElements) → HasToken (data_elements signed_data.now) t → ⊥)
+        (λ token. HasToken (data_elements signed_data.now) (data_elements token)) }
 {
     let signer = first_signer_of(signed_data)?;
     let attribute = first_unsigned_of(&signer)?;
@@ -34,8 +34,8 @@ pub(crate) fn token_of<'a>(signed_data: &SignedView<'a>) -> Option<SignedView<'a
 /// The first of the signers.
 pub(crate) fn first_signer_of<'a>(signed_data: &SignedView<'a>) -> Option<SignerView<'a>>
     ensures { MatchOption result
-        ((g : SignerElements) → IsFirstSigner (view_elements signed_data.now) g → ⊥)
-        (λ signer. IsFirstSigner (view_elements signed_data.now) (signer_elements_at signer)) }
+        ((g : SignerElements) → IsFirstSigner (data_elements signed_data.now) g → ⊥)
+        (λ signer. IsFirstSigner (data_elements signed_data.now) (signer_elements_at signer)) }
 {
     let first = first_within(signed_data.signers_infos())?;
     SignerView::read(first)

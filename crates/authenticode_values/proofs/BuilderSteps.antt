@@ -27,7 +27,7 @@ use Rattle.authenticode_core.specs.declared.error.AuthenticodeError.TheVariants 
 use Rattle.making_core.specs.Carried.{AreWithoutRoots, elements_of}
 use Rattle.making_core.specs.MadeSignature.{attributes_element, signature_made}
 use Rattle.making_core.specs.SignedProgram.{IsSignature}
-use Rattle.authenticode_values.specs.Building.{Given, HasGiven, IsBuiltSignature, IsBuiltOf, IsNamedFirst, IsSigner, algorithm_by, attributes_by, attributes_in, building_steps, content_by, element_step, given_step, given_steps, key_step, message_by, message_in, later_steps, named_step, parts_by, purpose_step, steps_of, supported_step}
+use Rattle.authenticode_values.specs.Building.{Given, HasGiven, IsBuiltSignature, IsBuiltOf, IsNamedFirst, IsSigner, algorithm_by, attributes_by, attributes_in, building_steps, content_by, element_step, part_step, part_steps, key_step, message_by, message_in, later_steps, named_step, parts_by, purpose_step, steps_of, supported_step}
 use Rattle.authenticode_values.specs.declared.builder.AuthenticodeSignatureBuilder.{AuthenticodeSignatureBuilder}
 use Rattle.authenticode_values.specs.declared.builder_error.AuthenticodeSignatureBuilderError.{AuthenticodeSignatureBuilderError}
 use Rattle.authenticode_values.specs.declared.builder_error.AuthenticodeSignatureBuilderError.TheVariants as errors
@@ -36,30 +36,30 @@ use Rattle.x509_core.proofs.TakenSteps.{refused_before, refused_behind, untaken_
 -- ---- what has to be given
 
 abbrev first_two : AuthenticodeSignatureBuilder → List (Step AuthenticodeSignatureBuilderError)
-first_two b = given_step errors.MissingDigestAlgorithm b.digest_algorithm ∷ supported_step b.digest_algorithm ∷ []
+first_two b = part_step errors.MissingDigestAlgorithm b.digest_algorithm ∷ supported_step b.digest_algorithm ∷ []
 
 module _ (b : AuthenticodeSignatureBuilder) where
-  pub not_supported : (e : AuthenticodeSignatureBuilderError) → IsFirstUntaken (first_two b) e → IsFirstUntaken (given_steps b) e
+  pub not_supported : (e : AuthenticodeSignatureBuilderError) → IsFirstUntaken (first_two b) e → IsFirstUntaken (part_steps b) e
   not_supported e refused =
       untaken_before (first_two b)
-      (given_step errors.MissingContentInfo b.content_info ∷ given_step errors.MissingSigningKey b.signing_key ∷ given_step errors.MissingIssuerAndSerialNumber b.named ∷ given_step errors.MissingCertificatesRequired b.certs ∷ []) e refused
+      (part_step errors.MissingContentInfo b.content_info ∷ part_step errors.MissingSigningKey b.signing_key ∷ part_step errors.MissingIssuerAndSerialNumber b.named ∷ part_step errors.MissingCertificatesRequired b.certs ∷ []) e refused
 
-  pub no_content_given : AreTaken (first_two b) → b.content_info ≡ None → IsFirstUntaken (given_steps b) errors.MissingContentInfo
+  pub no_content_given : AreTaken (first_two b) → b.content_info ≡ None → IsFirstUntaken (part_steps b) errors.MissingContentInfo
   no_content_given taken none = inr (taken.0, inr (taken.1.0, inl (none, refl)))
 
-  pub no_key_given : (content : EncapsulatedContentInfo) → AreTaken (first_two b) → b.content_info ≡ Some content → b.signing_key ≡ None → IsFirstUntaken (given_steps b) errors.MissingSigningKey
+  pub no_key_given : (content : EncapsulatedContentInfo) → AreTaken (first_two b) → b.content_info ≡ Some content → b.signing_key ≡ None → IsFirstUntaken (part_steps b) errors.MissingSigningKey
   no_key_given content taken is none = inr (taken.0, inr (taken.1.0, inr ((content, is), inl (none, refl))))
 
   pub no_name_given : (content : EncapsulatedContentInfo) (key : Bor PrivateKey) → AreTaken (first_two b) → b.content_info ≡ Some content → b.signing_key ≡ Some key → b.named ≡ None
-      → IsFirstUntaken (given_steps b) errors.MissingIssuerAndSerialNumber
+      → IsFirstUntaken (part_steps b) errors.MissingIssuerAndSerialNumber
   no_name_given content key taken is by none = inr (taken.0, inr (taken.1.0, inr ((content, is), inr ((key, by), inl (none, refl)))))
 
   pub no_certificates_given : (content : EncapsulatedContentInfo) (key : Bor PrivateKey) (named : IssuerAndSerialNumber) → AreTaken (first_two b) → b.content_info ≡ Some content → b.signing_key ≡ Some key → b.named ≡ Some named → b.certs ≡ None
-      → IsFirstUntaken (given_steps b) errors.MissingCertificatesRequired
+      → IsFirstUntaken (part_steps b) errors.MissingCertificatesRequired
   no_certificates_given content key named taken is by of none = inr (taken.0, inr (taken.1.0, inr ((content, is), inr ((key, by), inr ((named, of), inl (none, refl))))))
 
   pub are_taken : (content : EncapsulatedContentInfo) (key : Bor PrivateKey) (named : IssuerAndSerialNumber) (certificates : Vec KeptCertificate Global) → AreTaken (first_two b) → b.content_info ≡ Some content → b.signing_key ≡ Some key → b.named ≡ Some named
-      → b.certs ≡ Some certificates → AreTaken (given_steps b)
+      → b.certs ≡ Some certificates → AreTaken (part_steps b)
   are_taken content key named certificates taken is by of in_all = (taken.0, (taken.1.0, ((content, is), ((key, by), ((named, of), ((certificates, in_all), tt))))))
 
   pub has_given : (hash : ShaVariant) (algorithm : HashAlgorithm) (content : EncapsulatedContentInfo) (key : Bor PrivateKey) (named : IssuerAndSerialNumber) (certificates : Vec KeptCertificate Global) (list : List KeptCertificate)
@@ -168,12 +168,12 @@ later_untaken signs b g e has (inr (named, inr (purpose, inr (content, inl refus
 later_untaken signs b g e has (inr (named, inr (purpose, inr (content, inr (attributes, inl refused))))) = inr ((g, has, named), inr ((g, has, purpose), inr ((g, has, content), inr (attributes, inl (g, has, refused)))))
 later_untaken signs b g e has (inr (named, inr (purpose, inr (content, inr (attributes, inr (key, none)))))) = absurd none
 
-pub not_given : (signs : Signs) (b : AuthenticodeSignatureBuilder) (e : AuthenticodeSignatureBuilderError) → IsFirstUntaken (given_steps b) e → RefusesBySteps errors.Memory (building_steps signs b) e
-not_given signs b e refused = inl (untaken_before (given_steps b) (later_steps signs b) e refused)
+pub not_given : (signs : Signs) (b : AuthenticodeSignatureBuilder) (e : AuthenticodeSignatureBuilderError) → IsFirstUntaken (part_steps b) e → RefusesBySteps errors.Memory (building_steps signs b) e
+not_given signs b e refused = inl (untaken_before (part_steps b) (later_steps signs b) e refused)
 
-pub not_built : (signs : Signs) (b : AuthenticodeSignatureBuilder) (g : Given) (e : AuthenticodeSignatureBuilderError) → HasGiven b g → AreTaken (given_steps b) → RefusesBySteps errors.Memory (steps_of signs b g) e
+pub not_built : (signs : Signs) (b : AuthenticodeSignatureBuilder) (g : Given) (e : AuthenticodeSignatureBuilderError) → HasGiven b g → AreTaken (part_steps b) → RefusesBySteps errors.Memory (steps_of signs b g) e
     → RefusesBySteps errors.Memory (building_steps signs b) e
-not_built signs b g e has taken (inl first) = inl (untaken_behind (given_steps b)
+not_built signs b g e has taken (inl first) = inl (untaken_behind (part_steps b)
     (later_steps signs b) e taken
     (later_untaken signs b g e has first))
 not_built signs b g e has taken (inr out) = inr out
@@ -182,13 +182,13 @@ all_of : {E : Type 0} (a b : List (Step E)) → AreTaken a → AreTaken b → Ar
 all_of [] b x y = y
 all_of (step ∷ a) b x y = (x.0, all_of a b x.1 y)
 
-pub built_as : (judge : Judge) (signs : Signs) (pair : Pair) (b : AuthenticodeSignatureBuilder) (g : Given) (built : SignedDataElements) → HasGiven b g → AreTaken (given_steps b) → IsBuiltOf (arithmetic judge signs pair) b g built → AreTaken (steps_of signs b g)
+pub built_as : (judge : Judge) (signs : Signs) (pair : Pair) (b : AuthenticodeSignatureBuilder) (g : Given) (built : SignedDataElements) → HasGiven b g → AreTaken (part_steps b) → IsBuiltOf (arithmetic judge signs pair) b g built → AreTaken (steps_of signs b g)
     → IsBuiltSignature (arithmetic judge signs pair) b built
 built_as judge signs pair b g built has taken is later = record {
   given = g;
   are_given = has;
   is_built = is;
-  taken = all_of (given_steps b)
+  taken = all_of (part_steps b)
       (later_steps signs b)
       taken
       ((g, has, later.0), ((g, has, later.1.0), ((g, has, later.1.1.0), (later.1.1.1.0, ((g, has, later.1.1.1.1.0), tt)))));

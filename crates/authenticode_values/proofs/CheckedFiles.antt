@@ -1,5 +1,5 @@
 -- A signature file as it is made is accepted under basic validation alone.
-use Rattle.std.proofs.Common.{◌≡◌, ℕ, ◌-◌, List, [], ◌∷◌, ◌++◌, Option, Result, Ok, Err, MatchResult, map, length, take, inr, refl, sym, ap, subst, ◌∙◌, arith, append-nil}
+use Rattle.std.proofs.Common.{◌≡◌, ℕ, ◌-◌, List, [], ◌∷◌, ◌++◌, Option, Result, Ok, Err, MatchResult, map, length, take, inl, inr, refl, sym, ap, subst, ◌∙◌, arith, append-nil}
 use Rattle.std.specs.Prelude.{replicate, slice_range}
 use Rattle.std.specs.Int.{next_multiple_of}
 use Rattle.std.proofs.Math.Seq.{take-append_seam}
@@ -23,6 +23,7 @@ use Rattle.der_core.specs.DerElement.{DerElement, Primitive}
 use Rattle.der_core.specs.Elements.{null, sequence, octet_string}
 use Rattle.der_core.specs.Encoding.{encoding, IsDer, IsPaddedEncoding}
 use Rattle.der_core.specs.Facts.Rows.{listed-row}
+use Rattle.key_core.specs.Rules.{AreOneUnlessMemory}
 use Rattle.key_core.specs.Verifying.{Judge}
 use Rattle.sig_core.specs.Digest.{digest_of}
 use Rattle.sig_core.specs.ShaVariant.{hash_of}
@@ -33,7 +34,7 @@ use Rattle.wincert_core.proofs.Spelled.{not_refused}
 use Rattle.x501_types.specs.Name.{name}
 use Rattle.x509_types.specs.CertificateElements.{CertificateElements, certificate_of}
 use Rattle.authenticode_core.specs.BagSigner.{IsNamedByFirst}
-use Rattle.authenticode_core.specs.Basic.{IsSameUnlessMemory, VouchesFor}
+use Rattle.authenticode_core.specs.Basic.{VouchesFor}
 use Rattle.authenticode_core.specs.CertificateBag.{IsBag, members_of}
 use Rattle.authenticode_core.specs.FormRules.{HasForm}
 use Rattle.authenticode_core.specs.SignedFields.{HasMessageDigest, IndirectData, IsAttributeOf, signers_of}
@@ -41,7 +42,7 @@ use Rattle.authenticode_core.specs.SigningRules.{IsSigned, digested_octets}
 use Rattle.authenticode_core.specs.Trusted.{IsAnswer, IsTrusted}
 use Rattle.authenticode_core.specs.declared.accepted.Accepted.{Accepted}
 use Rattle.authenticode_core.specs.declared.error.CheckError.{CheckError}
-use Rattle.authenticode_core.specs.declared.error.CheckError.TheVariants.{Win, Authenticode, Memory}
+use Rattle.authenticode_core.specs.declared.error.CheckError.TheVariants.{Memory}
 use Rattle.authenticode_core.specs.declared.policy.Policy.{Policy}
 use Rattle.making_core.specs.MadeContent.{attribute_by, content_digest, image_element}
 use Rattle.making_core.specs.MadeSignature.{SignatureParts, signature_made, signer_made}
@@ -71,7 +72,7 @@ contents s t e = cc
 named_by : (signers : List DerElement) (s : SignerInfo) (c : CertificateElements) → signers ≡ signer_info s ∷ [] → (sid : SignerIdentifier) → s.sid ≡ sid → signer_identifier sid ≡ issuer_and_serial_of c → IsNamedByFirst signers c
 named_by signers s c one (named.IssuerAndSerialNumber v) sid is =
     let parts = two (name v.issuer) c.tbs.issuer (Primitive 0x02 (integer_contents v.serial_number)) (Primitive 0x02 c.tbs.serial_number) is in
-    record { signer = s; others = []; first = one; value = v; sid = sid; issuer = ap encoding parts.0; serial_number = contents (integer_contents v.serial_number) c.tbs.serial_number parts.1 }
+    record { signer = s; others = []; first = one; value = v; sid = sid; has = (ap encoding parts.0, contents (integer_contents v.serial_number) c.tbs.serial_number parts.1) }
 named_by signers s c one (named.SubjectKeyIdentifier octets) sid is = absurd cc
 
 -- ---- other attributes
@@ -224,8 +225,10 @@ answers_so judge policy octets file_hash asked made =
       trusted judge policy f file_hash asked (vouches judge (program_of made.hash file_hash made.name) made.value made.made),
     )
 
-pub answered : (r : Result Accepted CheckError) → IsSameUnlessMemory r (Ok by_the_first) → MatchResult r (λ a. a ≡ by_the_first) (λ e. e ≡ Memory)
-answered (Ok a) same = cc
-answered (Err (Win e)) same = absurd cc
-answered (Err (Authenticode e)) same = absurd cc
-answered (Err Memory) same = refl
+pub answered : (r : Result Accepted CheckError) → AreOneUnlessMemory Memory r (Ok by_the_first) → MatchResult r (λ a. a ≡ by_the_first) (λ e. e ≡ Memory)
+answered (Ok a) (inl same) = cc
+answered (Ok a) (inr (inl none)) = absurd cc
+answered (Ok a) (inr (inr none)) = absurd cc
+answered (Err e) (inl same) = absurd cc
+answered (Err e) (inr (inl none)) = cc
+answered (Err e) (inr (inr none)) = absurd cc

@@ -6,12 +6,12 @@ use Rattle.sig_core.specs.declared.hash.HashAlgorithm.{HashAlgorithm}
 use Rattle.x509_core.specs.Steps.{AreTaken, IsFirstUntaken}
 use Rattle.x509_core.proofs.TakenSteps.{HasOneError, HaveOneError, left_behind, one_before, untaken_before}
 use Rattle.authenticode_core.specs.declared.error.AuthenticodeError.TheVariants as signatures
-use Rattle.authenticode_values.specs.Building.{given_step, given_steps, supported_step}
+use Rattle.authenticode_values.specs.Building.{part_step, part_steps, supported_step}
 use Rattle.authenticode_values.specs.declared.builder.AuthenticodeSignatureBuilder.{AuthenticodeSignatureBuilder}
 use Rattle.authenticode_values.specs.declared.builder_error.AuthenticodeSignatureBuilderError.{AuthenticodeSignatureBuilderError}
 use Rattle.authenticode_values.specs.declared.builder_error.AuthenticodeSignatureBuilderError.TheVariants as errors
 
-given_has : {X : Type 0} (missing : AuthenticodeSignatureBuilderError) (option : Option X) → HasOneError (given_step missing option)
+given_has : {X : Type 0} (missing : AuthenticodeSignatureBuilderError) (option : Option X) → HasOneError (part_step missing option)
 given_has missing option = record {
   one = λ e other a b. a.1 ∙ sym b.1;
   none = λ e taken refused. none-some taken.0 (sym refused.0 ∙ taken.1);
@@ -30,7 +30,7 @@ one_hash hash e other (algorithm, is, (source, told, (bad, named))) (algorithm',
 no_hash : (hash : Option HashAlgorithm) (e : AuthenticodeSignatureBuilderError) → (supported_step hash).taken → (supported_step hash).refused e → ⊥
 no_hash hash e taken (algorithm, is, (source, told, (bad, named))) = taken (is ∙ ap Some bad)
 
-have_one_error : (b : AuthenticodeSignatureBuilder) → HaveOneError (given_steps b)
+have_one_error : (b : AuthenticodeSignatureBuilder) → HaveOneError (part_steps b)
 have_one_error b = (
   given_has errors.MissingDigestAlgorithm b.digest_algorithm,
   (
@@ -48,8 +48,8 @@ have_one_error b = (
   ),
 )
 
-pub told_once : (b : AuthenticodeSignatureBuilder) (e other : AuthenticodeSignatureBuilderError) → IsFirstUntaken (given_steps b) e → IsFirstUntaken (given_steps b) other → e ≡ other
-told_once b e other first second = one_before (given_steps b) [] e other (have_one_error b) first (untaken_before (given_steps b) [] other second)
+pub told_once : (b : AuthenticodeSignatureBuilder) (e other : AuthenticodeSignatureBuilderError) → IsFirstUntaken (part_steps b) e → IsFirstUntaken (part_steps b) other → e ≡ other
+told_once b e other first second = one_before (part_steps b) [] e other (have_one_error b) first (untaken_before (part_steps b) [] other second)
 
-pub not_told : (b : AuthenticodeSignatureBuilder) (e : AuthenticodeSignatureBuilderError) → AreTaken (given_steps b) → IsFirstUntaken (given_steps b) e → ⊥
-not_told b e taken first = left_behind (given_steps b) [] e (have_one_error b) taken (untaken_before (given_steps b) [] e first)
+pub not_told : (b : AuthenticodeSignatureBuilder) (e : AuthenticodeSignatureBuilderError) → AreTaken (part_steps b) → IsFirstUntaken (part_steps b) e → ⊥
+not_told b e taken first = left_behind (part_steps b) [] e (have_one_error b) taken (untaken_before (part_steps b) [] e first)

@@ -6,6 +6,8 @@ use Rattle.std.proofs.lemmas.List.{length-map}
 use Rattle.std.proofs.lemmas.Option.{slice_get-map, slice_get_within}
 use Rattle.std.proofs.lemmas.Slice.Eq.{bytes_eq-Decides}
 use Rattle.std.specs.Option.{option_map}
+use Rattle.authenticode_core.specs.declared.error.AuthenticodeError.{AuthenticodeError}
+use Rattle.authenticode_core.specs.declared.error.AuthenticodeError.TheVariants as errors
 use Rattle.der_core.specs.DerElement.{DerElement}
 use Rattle.der_core.specs.Encoding.{encoding}
 use Rattle.asn1_types.specs.Values.{integer_contents}
@@ -21,7 +23,7 @@ use Rattle.cms_types.specs.declared.signer_identifier.SignerIdentifier.TheVarian
 use Rattle.cms_types.specs.declared.signer_info.SignerInfo.{SignerInfo}
 use Rattle.making_core.specs.Carried.{elements_of}
 use Rattle.making_core.proofs.KeptNames.{issuer_is, serial_is}
-use Rattle.authenticode_core.specs.BagSigner.{IsNamedByFirst, HasNoSigner}
+use Rattle.authenticode_core.specs.BagSigner.{IsNamedByFirst, HasNoSigner, HasIssuerAndSerial}
 use Rattle.authenticode_core.specs.Places.{HasNoPlace, HoldsOfNone, IsLeastPlace, StandsAt}
 use Rattle.authenticode_values.specs.SigningCertificate.{FirstNames, IsNamedOtherwise, IsSigningCertificate}
 
@@ -60,6 +62,9 @@ found_at certificates holds place k at none fits =
 heads : (a b : DerElement) (x y : List DerElement) → a ∷ x ≡ b ∷ y → a ≡ b
 heads a b x y e = cc
 
+one_first : (a b : SignerInfo) (x y : List SignerInfo) → a ∷ x ≡ b ∷ y → a ≡ b
+one_first a b x y e = cc
+
 values : (v w : IssuerAndSerialNumber) → named.IssuerAndSerialNumber v ≡ named.IssuerAndSerialNumber w → v ≡ w
 values v w e = cc
 
@@ -72,11 +77,6 @@ first_is (x ∷ others) signer sid at is =
 pub first_by_key : (signers : List SignerInfo) (signer : SignerInfo) (octets : List ℕ) → Some signer ≡ slice_get signers 0 → signer.sid ≡ named.SubjectKeyIdentifier octets → (o : List ℕ) × FirstNames signers (named.SubjectKeyIdentifier o)
 first_by_key signers signer octets at is = (octets, first_is signers signer (named.SubjectKeyIdentifier octets) at is)
 
-same_named : (signers : List SignerInfo) (value : IssuerAndSerialNumber) (c : CertificateElements) → FirstNames signers (named.IssuerAndSerialNumber value) → (n : IsNamedByFirst (map signer_info signers) c) → n.value ≡ value
-same_named signers value c f n =
-    let element : signer_info n.signer ≡ signer_info f.signer = heads (signer_info n.signer) (signer_info f.signer) n.others (map signer_info f.others) (sym n.first ∙ ap (map signer_info) f.first) in
-    let signer : n.signer ≡ f.signer = signer_infos.once (signer_info f.signer) n.signer f.signer (sym element) refl in
-    values n.value value (sym n.sid ∙ ap (λ (s : SignerInfo). s.sid) signer ∙ f.named)
 -- it is named by one thing
 pub not_otherwise : (signers : List SignerInfo) (value : IssuerAndSerialNumber) (e : AuthenticodeError) → FirstNames signers (named.IssuerAndSerialNumber value) → IsNamedOtherwise signers e → ⊥
 not_otherwise signers value (errors.MultipleSignerInfo count) f is = let none : f.signer ∷ f.others ≡ [] = sym f.first ∙ is.0 in absurd cc
@@ -95,11 +95,16 @@ one_otherwise signers (errors.MultipleSignerInfo count) _ p q = absurd q
 one_otherwise signers errors.IncorrectSignerIdentifier _ p q = absurd q
 one_otherwise signers _ b p q = absurd p
 
+same_named : (signers : List SignerInfo) (value : IssuerAndSerialNumber) (c : CertificateElements) → FirstNames signers (named.IssuerAndSerialNumber value) → (n : IsNamedByFirst (map signer_info signers) c) → n.value ≡ value
+same_named signers value c f n =
+    let element : signer_info n.signer ≡ signer_info f.signer = heads (signer_info n.signer) (signer_info f.signer) n.others (map signer_info f.others) (sym n.first ∙ ap (map signer_info) f.first) in
+    let signer : n.signer ≡ f.signer = signer_infos.once (signer_info f.signer) n.signer f.signer (sym element) refl in
+    values n.value value (sym n.sid ∙ ap (λ (s : SignerInfo). s.sid) signer ∙ f.named)
 
 pub names_it : (signers : List SignerInfo) (value : IssuerAndSerialNumber) (c : CertificateElements) → FirstNames signers (named.IssuerAndSerialNumber value) → HasIssuerAndSerial value c ↔ IsNamedByFirst (map signer_info signers) c
 names_it signers value c f = (
-  λ by. record { signer = f.signer; others = map signer_info f.others; first = ap (map signer_info) f.first; value = value; sid = f.named; issuer = by.0; serial_number = by.1 },
-  λ n. subst (λ (v : IssuerAndSerialNumber). HasIssuerAndSerial v c) (same_named signers value c f n) (n.issuer, n.serial_number),
+  λ by. record { signer = f.signer; others = map signer_info f.others; first = ap (map signer_info) f.first; value = value; sid = f.named; has = by },
+  λ n. subst (λ (v : IssuerAndSerialNumber). HasIssuerAndSerial v c) (same_named signers value c f n) n.has,
 )
 
 pub is_signing : (signers : List SignerInfo) (value : IssuerAndSerialNumber) (certificates : List KeptCertificate) (k : KeptCertificate) → FirstNames signers (named.IssuerAndSerialNumber value)

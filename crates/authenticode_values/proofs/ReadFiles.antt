@@ -9,7 +9,7 @@ use Rattle.der_core.specs.DerElement.{DerElement}
 use Rattle.der_core.specs.Encoding.{encoding, IsDer, IsPaddedEncoding}
 use Rattle.der_core.specs.declared.error.DerError.{DerError}
 use Rattle.der_core.specs.declared.error.DerError.TheVariants as der
-use Rattle.x509_core.proofs.OneAnswer.{one_refusal}
+use Rattle.x509_core.proofs.NoRefusal.{one_error}
 use Rattle.wincert_core.specs.Refusal.{contents_in, current, encoded}
 use Rattle.wincert_core.specs.WinCert.{WinCert, padded, spelling, stated_length, with_padding}
 use Rattle.wincert_core.specs.declared.error.WinCertificateError.{WinCertificateError}
@@ -24,7 +24,7 @@ use Rattle.authenticode_core.proofs.OneData.{one_element, same_certificate}
 use Rattle.authenticode_values.specs.FileRefusals.{GivesFile, GivesSignature, RefusesFile, RefusesHeader}
 use Rattle.authenticode_values.specs.MadeFile.{IsSpelledWhole, wrapped}
 use Rattle.authenticode_values.specs.Pkcs7.{written}
-use Rattle.authenticode_values.specs.Refusals.{IsUnread, TellsOfSignedData, of_signed_data, unread}
+use Rattle.authenticode_values.specs.Refusals.{IsUnreadPkcs7, TellsOfSignedData, of_signed_data, unread}
 use Rattle.authenticode_values.specs.Unread.{RefusesPadded}
 use Rattle.authenticode_values.specs.declared.pkcs7.Pkcs7.{Pkcs7}
 use Rattle.authenticode_values.specs.declared.signature.AuthenticodeSignature.{AuthenticodeSignature}
@@ -39,7 +39,7 @@ told_so asked source e told (inr out) = inr (told ∙ ap told_of_header out)
 
 -- one cause is told as one error
 pub told_as : {A : Type 0} (a b : WinCertificateError) (e : CheckError) → ◌≡◌ {A = Result A WinCertificateError} (Err a) (Err b) → e ≡ told_of_header a → e ≡ told_of_header b
-told_as a b e same told = told ∙ ap told_of_header (one_refusal a b same)
+told_as a b e same told = told ∙ ap told_of_header (one_error a b same)
 
 -- ---- a file
 
@@ -81,7 +81,7 @@ unread_or_out octets certificate der.TooDeep named (inl cause) = absurd cause
 unread_or_out octets certificate der.TooLong named (inl cause) = absurd cause
 unread_or_out octets certificate der.Memory named (inl cause) = absurd cause
 
-pub unread_file : (octets certificate : List ℕ) (e : AuthenticodeError) (r : CheckError) → r ≡ told_of_content e → contents_in octets ≡ Ok certificate → TellsOfSignedData (IsUnread (RefusesPadded certificate)) e → RefusesValue octets r ⊎ (r ≡ Memory)
+pub unread_file : (octets certificate : List ℕ) (e : AuthenticodeError) (r : CheckError) → r ≡ told_of_content e → contents_in octets ≡ Ok certificate → TellsOfSignedData (IsUnreadPkcs7 (RefusesPadded certificate)) e → RefusesValue octets r ⊎ (r ≡ Memory)
 unread_file octets certificate e r told named (source, of, (cause, is, refused)) =
     subst (λ (x : CheckError). RefusesValue octets x ⊎ (x ≡ Memory)) (sym (told ∙ ap told_of_content (of ∙ ap of_signed_data is))) (unread_or_out octets certificate cause named refused)
 

@@ -6,7 +6,7 @@ use Rattle.der_core.specs.Writing.{RefusesToWrite}
 use Rattle.der_core.specs.declared.error.DerError.{DerError}
 use Rattle.der_core.specs.declared.error.DerError.TheVariants as der
 use Rattle.key_core.specs.declared.element.Element.TheVariants as elements
-use Rattle.x509_core.specs.CertRefusals.{IsUnwritten}
+use Rattle.x509_core.specs.CertRefusals.{IsUnwrittenCert}
 use Rattle.x509_core.specs.declared.error.CertError.{CertError}
 use Rattle.authenticode_core.specs.StampRefusal.{stamp_refusal}
 use Rattle.authenticode_core.specs.declared.timestamp_error.TimestampError.{TimestampError}
@@ -33,7 +33,7 @@ refused_alone x der.TooLong refused = first_alone x der.TooLong refused
 refused_alone x der.Memory refused = tt
 
 -- a request has few levels, so only its length keeps it from being written
-unwritten_request : (digest : List ℕ) (e : CertError) → IsUnwritten elements.TimestampRequest (RefusesInner (asking_for digest ∷ [])) e
+unwritten_request : (digest : List ℕ) (e : CertError) → IsUnwrittenCert elements.TimestampRequest (RefusesInner (asking_for digest ∷ [])) e
     → IsTooLong (asking_for digest) (stamp_refusal e)
 unwritten_request digest e (der.Malformed m, is, refused) = absurd refused
 unwritten_request digest e (der.Shape, is, refused) = absurd refused
@@ -43,7 +43,7 @@ unwritten_request digest e (der.TooLong, is, refused) = inr (ap stamp_refusal is
 unwritten_request digest e (der.Memory, is, refused) = inl (ap stamp_refusal is)
 
 pub request_refused : (digest : List ℕ) (element : DerElement) (e : TimestampError) → element ≡ asking_for digest
-    → IsRefusedRequest (IsUnwritten elements.TimestampRequest (RefusesInner (element ∷ []))) e → IsTooLong (asking_for digest) e
+    → IsRefusedRequest (IsUnwrittenCert elements.TimestampRequest (RefusesInner (element ∷ []))) e → IsTooLong (asking_for digest) e
 request_refused digest element e same (source, is, refused) =
-    let asked = subst (λ (x : DerElement). IsUnwritten elements.TimestampRequest (RefusesInner (x ∷ [])) source) same refused in
+    let asked = subst (λ (x : DerElement). IsUnwrittenCert elements.TimestampRequest (RefusesInner (x ∷ [])) source) same refused in
     subst (IsTooLong (asking_for digest)) (sym is) (unwritten_request digest source asked)

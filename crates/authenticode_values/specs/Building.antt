@@ -15,7 +15,7 @@ use Rattle.der_core.specs.Each.{list_element}
 use Rattle.der_core.specs.Encoding.{encoding}
 use Rattle.der_core.specs.Placed.{AreDer}
 use Rattle.der_core.specs.Refusals.{RefusesInner}
-use Rattle.key_core.specs.SignatureRules.{RefusesBy}
+use Rattle.key_core.specs.SignatureRules.{RefusesSignatureBy}
 use Rattle.key_core.specs.Signing.{Signs, KeyArithmetic, IsAsked, sign_rules}
 use Rattle.key_core.specs.declared.private_key.PrivateKey.{PrivateKey}
 use Rattle.key_core.specs.declared.signature_algorithm.SignatureAlgorithm.{SignatureAlgorithm}
@@ -26,7 +26,7 @@ use Rattle.sig_core.specs.declared.hash.HashAlgorithm.TheVariants.{SHA2_224}
 use Rattle.sig_core.specs.declared.sha_variant.ShaVariant.{ShaVariant}
 use Rattle.x509_core.specs.KeptCertificate.{KeptCertificate}
 use Rattle.x509_core.specs.Steps.{Step, AreTaken}
-use Rattle.x509_types.specs.Attribute.{attribute}
+use Rattle.x509_types.specs.Attribute.{attribute, inner_attributes}
 use Rattle.x509_types.specs.CertificateElements.{CertificateElements, certificate_of}
 use Rattle.x509_types.specs.declared.attribute.Attribute.{Attribute}
 use Rattle.authenticode_core.specs.ContentRefusal.{of_signatures}
@@ -34,13 +34,12 @@ use Rattle.authenticode_core.specs.Places.{HasNoPlace, IsLeastPlace}
 use Rattle.authenticode_core.specs.SigningRules.{IsForCodeSigning}
 use Rattle.authenticode_core.specs.declared.error.AuthenticodeError.TheVariants as signatures
 use Rattle.making_core.specs.Carried.{AreWithoutRoots, elements_of}
-use Rattle.making_core.specs.MadeAttributes.{inner_attributes}
 use Rattle.making_core.specs.MadeContent.{attributes_message}
 use Rattle.making_core.specs.MadeSignature.{SignatureParts, attributes_element, signature_made}
 use Rattle.making_core.specs.SignedProgram.{IsSignature}
 use Rattle.authenticode_values.specs.BuilderError.{builder_refusal, unwritten_in_builder}
-use Rattle.authenticode_values.specs.Making.{TellsOf}
-use Rattle.authenticode_values.specs.SigningCertificate.{HasIssuerAndSerial}
+use Rattle.der_core.specs.Refusals.{Tells}
+use Rattle.authenticode_core.specs.BagSigner.{HasIssuerAndSerial}
 use Rattle.authenticode_values.specs.declared.builder.AuthenticodeSignatureBuilder.{AuthenticodeSignatureBuilder}
 use Rattle.authenticode_values.specs.declared.builder_error.AuthenticodeSignatureBuilderError.{AuthenticodeSignatureBuilderError}
 use Rattle.authenticode_values.specs.declared.builder_error.AuthenticodeSignatureBuilderError.TheVariants as errors
@@ -125,8 +124,8 @@ pub record IsSigner (g : Given) (c : CertificateElements) : Type 0 where
 -- ---- steps
 
 -- what is needed is given
-abbrev pub given_step : {X : Type 0} → AuthenticodeSignatureBuilderError → Option X → Step AuthenticodeSignatureBuilderError
-given_step {X} missing option = record {
+abbrev pub part_step : {X : Type 0} → AuthenticodeSignatureBuilderError → Option X → Step AuthenticodeSignatureBuilderError
+part_step {X} missing option = record {
   taken = (x : X) × (option ≡ Some x);
   refused = λ e. (option ≡ None) × (e ≡ missing);
 }
@@ -135,7 +134,7 @@ given_step {X} missing option = record {
 abbrev pub supported_step : Option HashAlgorithm → Step AuthenticodeSignatureBuilderError
 supported_step hash = record {
   taken = hash ≢ Some SHA2_224;
-  refused = λ e. (algorithm : HashAlgorithm) × (hash ≡ Some algorithm) × TellsOf (λ source. errors.AuthenticodeError (signatures.UnsupportedHashAlgorithmError source)) (RefusesHash algorithm) e;
+  refused = λ e. (algorithm : HashAlgorithm) × (hash ≡ Some algorithm) × Tells (λ source. errors.AuthenticodeError (signatures.UnsupportedHashAlgorithmError source)) (RefusesHash algorithm) e;
 }
 
 -- one of the certificates is named
@@ -157,7 +156,7 @@ purpose_step g = record {
 abbrev pub element_step : List DerElement → Step AuthenticodeSignatureBuilderError
 element_step elements = record {
   taken = AreDer elements;
-  refused = TellsOf unwritten_in_builder (RefusesInner elements);
+  refused = Tells unwritten_in_builder (RefusesInner elements);
 }
 
 -- what is written for the content
@@ -176,15 +175,15 @@ algorithm_by g = RsaPkcs1v15 (hash_of g.hash)
 abbrev pub key_step : Signs → SignatureAlgorithm → PrivateKey → (message : List ℕ) → Step AuthenticodeSignatureBuilderError
 key_step signs algorithm key message = record {
   taken = IsAsked signs algorithm key message true;
-  refused = TellsOf (λ source. builder_refusal (of_signatures source)) (RefusesBy (sign_rules signs algorithm key message));
+  refused = Tells (λ source. builder_refusal (of_signatures source)) (RefusesSignatureBy (sign_rules signs algorithm key message));
 }
 
 -- what has to be given, in its order
-abbrev pub given_steps : AuthenticodeSignatureBuilder → List (Step AuthenticodeSignatureBuilderError)
-given_steps b =
-    given_step errors.MissingDigestAlgorithm b.digest_algorithm ∷ supported_step b.digest_algorithm ∷ given_step errors.MissingContentInfo b.content_info
-    ∷ given_step errors.MissingSigningKey b.signing_key ∷ given_step errors.MissingIssuerAndSerialNumber b.named
-    ∷ given_step errors.MissingCertificatesRequired b.certs ∷ []
+abbrev pub part_steps : AuthenticodeSignatureBuilder → List (Step AuthenticodeSignatureBuilderError)
+part_steps b =
+    part_step errors.MissingDigestAlgorithm b.digest_algorithm ∷ supported_step b.digest_algorithm ∷ part_step errors.MissingContentInfo b.content_info
+    ∷ part_step errors.MissingSigningKey b.signing_key ∷ part_step errors.MissingIssuerAndSerialNumber b.named
+    ∷ part_step errors.MissingCertificatesRequired b.certs ∷ []
 
 -- the steps of what is given
 abbrev pub steps_of : Signs → AuthenticodeSignatureBuilder → Given → List (Step AuthenticodeSignatureBuilderError)
@@ -206,7 +205,7 @@ later_steps signs b =
 
 -- All steps, in their order.
 abbrev pub building_steps : Signs → AuthenticodeSignatureBuilder → List (Step AuthenticodeSignatureBuilderError)
-building_steps signs b = given_steps b ++ later_steps signs b
+building_steps signs b = part_steps b ++ later_steps signs b
 
 -- ---- what holds of the signature that is built
 

@@ -1,5 +1,6 @@
 -- Signed data that signs nothing, and has certificates alone (RFC 5652 5.1).
 use Rattle.std.specs.Prelude.{List, [], ◌∷◌, Some, None}
+use Rattle.asn1_types.specs.Elements.{integer_of}
 use Rattle.asn1_types.specs.declared.oids.TheConstants.{DATA}
 use Rattle.cms_types.specs.SignedDataElements.{SignedDataElements}
 use Rattle.content_types.specs.ContentInfoElements.{content_info_of}
@@ -9,7 +10,7 @@ use Rattle.der_core.specs.Elements.{set}
 -- version 1, no digest algorithm, a content that is left out, of the type of data, the certificates, revocation lists that are given, but none of them, no signer
 abbrev pub certificates_alone : List DerElement → SignedDataElements
 certificates_alone certificates = record {
-  version = Primitive 0x02 (1 ∷ []);
+  version = integer_of (1 ∷ []);
   digest_algorithms = set [];
   content_info = content_info_of (Primitive 0x06 DATA.now) None;
   certificates = Some (Constructed 0xA0 (row certificates));

@@ -15,7 +15,7 @@ use Rattle.authenticode_core.specs.declared.error.CheckError.{CheckError}
 use Rattle.authenticode_core.specs.declared.error.CheckError.TheVariants.{Memory}
 use Rattle.authenticode_values.specs.MadeFile.{IsSpelledWhole, wrapped}
 use Rattle.authenticode_values.specs.Pkcs7.{written}
-use Rattle.authenticode_values.specs.Refusals.{IsUnwritten, TellsOfSignedData}
+use Rattle.authenticode_values.specs.Refusals.{IsUnwrittenPkcs7, TellsOfSignedData}
 use Rattle.authenticode_values.specs.declared.signature.AuthenticodeSignature.{AuthenticodeSignature}
 
 -- it tells why what is asked for isn't there, unless memory ran out
@@ -25,7 +25,7 @@ RefusesHeader asked = OrMemory Memory (λ e. (source : WinCertificateError) × (
 -- the element can't be written, or it is too long for a WIN_CERTIFICATE, or for one with its padding
 abbrev pub RefusesFile : DerElement → CertificateType → CheckError → Type 0
 RefusesFile element kind e =
-    ((source : AuthenticodeError) × (e ≡ told_of_content source) × TellsOfSignedData (IsUnwritten (RefusesInner (element ∷ []))) source)
+    ((source : AuthenticodeError) × (e ≡ told_of_content source) × TellsOfSignedData (IsUnwrittenPkcs7 (RefusesInner (element ∷ []))) source)
     ⊎ (IsDer element × (RefusesHeader (current (encoding element) kind) e ⊎ RefusesHeader (encoded (wrapped kind (encoding element))) e))
 
 -- What is answered for the element of a signature: the file that has it.

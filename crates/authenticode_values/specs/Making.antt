@@ -3,8 +3,8 @@ use Rattle.std.specs.Prelude.{◌≡◌, ◌≢◌, ℕ, List, [], ◌∷◌, tr
 use Rattle.cms_types.specs.SignedDataElements.{SignedDataElements}
 use Rattle.der_core.specs.DerElement.{DerElement}
 use Rattle.der_core.specs.Placed.{AreDer}
-use Rattle.der_core.specs.Refusals.{RefusesInner}
-use Rattle.key_core.specs.SignatureRules.{RefusesBy}
+use Rattle.der_core.specs.Refusals.{RefusesInner, Tells}
+use Rattle.key_core.specs.SignatureRules.{RefusesSignatureBy}
 use Rattle.key_core.specs.Signing.{Signs, KeyArithmetic, IsAsked, sign_rules}
 use Rattle.key_core.specs.declared.private_key.PrivateKey.{PrivateKey}
 use Rattle.key_core.specs.declared.signature_algorithm.SignatureAlgorithm.{SignatureAlgorithm}
@@ -29,10 +29,6 @@ pub record HasFirstForSigning (f : SignedDataElements) (first : CertificateEleme
 
 -- ---- steps
 
--- The error tells of a cause that refuses the step.
-abbrev pub TellsOf : {S E : Type 0} → (S → E) → (S → Type 0) → E → Type 0
-TellsOf {S} told Refuses e = (source : S) × (e ≡ told source) × Refuses source
-
 -- the name has characters of the basic plane alone
 abbrev pub name_step : Option (List ℕ) → Step AuthenticodeError
 name_step name = record {
@@ -44,7 +40,7 @@ name_step name = record {
 abbrev pub hash_step : HashAlgorithm → Step AuthenticodeError
 hash_step hash = record {
   taken = hash ≢ SHA2_224;
-  refused = TellsOf errors.UnsupportedHashAlgorithmError (RefusesHash hash);
+  refused = Tells errors.UnsupportedHashAlgorithmError (RefusesHash hash);
 }
 
 -- there are certificates
@@ -76,7 +72,7 @@ HasNoFirstForSigning (first ∷ others) e = (IsForCodeSigning (first ∷ others)
 abbrev pub writing_step : List DerElement → Step AuthenticodeError
 writing_step elements = record {
   taken = AreDer elements;
-  refused = TellsOf of_der (RefusesInner elements);
+  refused = Tells of_der (RefusesInner elements);
 }
 
 -- the signed attributes are written, what is said of the program first
@@ -84,20 +80,20 @@ abbrev pub attributes_written : Program → List DerElement
 attributes_written p = p.opus ∷ attributes_element (attributes_for p) ∷ []
 
 -- the key signs the message
-abbrev pub signature_step : Signs → SignatureAlgorithm → PrivateKey → List ℕ → Step AuthenticodeError
-signature_step signs algorithm key message = record {
+abbrev pub sealing_step : Signs → SignatureAlgorithm → PrivateKey → List ℕ → Step AuthenticodeError
+sealing_step signs algorithm key message = record {
   taken = IsAsked signs algorithm key message true;
-  refused = TellsOf of_signatures (RefusesBy (sign_rules signs algorithm key message));
+  refused = Tells of_signatures (RefusesSignatureBy (sign_rules signs algorithm key message));
 }
 
 -- the steps that make a signature by a certificate
-abbrev pub signing_steps : Signs → Program → PrivateKey → List (Step AuthenticodeError)
-signing_steps signs p key =
-    writing_step (data_element p.hash p.file_hash ∷ []) ∷ writing_step (attributes_written p) ∷ signature_step signs (algorithm_for p) key (message_for p) ∷ []
+abbrev pub program_steps : Signs → Program → PrivateKey → List (Step AuthenticodeError)
+program_steps signs p key =
+    writing_step (data_element p.hash p.file_hash ∷ []) ∷ writing_step (attributes_written p) ∷ sealing_step signs (algorithm_for p) key (message_for p) ∷ []
 
 -- The steps, in their order.
 abbrev pub making_steps : Signs → SignedDataElements → Option (List ℕ) → Program → PrivateKey → List (Step AuthenticodeError)
-making_steps signs f name p key = name_step name ∷ hash_step (hash_of p.hash) ∷ certificates_step f ∷ code_signing_step f ∷ signing_steps signs p key
+making_steps signs f name p key = name_step name ∷ hash_step (hash_of p.hash) ∷ certificates_step f ∷ code_signing_step f ∷ program_steps signs p key
 
 -- ---- what is made
 

@@ -21,5 +21,5 @@ abbrev pub fields_of : Pkcs7 → SignedDataElements
 fields_of p = signed_data_elements p.signed.signed_data
 
 -- the signers
-abbrev pub signers_of : Pkcs7 → List SignerInfo
-signers_of p = p.signed.signed_data.signers_infos
+abbrev pub signer_infos_of : Pkcs7 → List SignerInfo
+signer_infos_of p = p.signed.signed_data.signers_infos

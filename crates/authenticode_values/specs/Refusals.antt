@@ -1,7 +1,7 @@
 -- Why signed data isn't read or written, by why its element isn't.
-use Rattle.std.specs.Prelude.{◌≡◌}
 use Rattle.der_core.specs.declared.error.DerError.{DerError}
 use Rattle.der_core.specs.declared.error.DerError.TheVariants as der
+use Rattle.der_core.specs.Refusals.{Tells}
 use Rattle.key_core.specs.declared.element.Element.TheVariants as structures
 use Rattle.x509_core.specs.declared.error.CertError.TheVariants as certs
 use Rattle.authenticode_core.specs.declared.error.AuthenticodeError.{AuthenticodeError}
@@ -31,13 +31,13 @@ of_signed_data (errors.Cert e) = authenticode.CertError e
 of_signed_data errors.Memory = authenticode.Memory
 
 -- the error tells of octets that aren't read, for a cause that refuses them
-abbrev pub IsUnread : (DerError → Type 0) → Pkcs7Error → Type 0
-IsUnread Refuses e = (source : DerError) × (e ≡ unread source) × Refuses source
+abbrev pub IsUnreadPkcs7 : (DerError → Type 0) → Pkcs7Error → Type 0
+IsUnreadPkcs7 = Tells unread
 
 -- the error tells of signed data that isn't written, for a cause that refuses it
-abbrev pub IsUnwritten : (DerError → Type 0) → Pkcs7Error → Type 0
-IsUnwritten Refuses e = (source : DerError) × (e ≡ unwritten source) × Refuses source
+abbrev pub IsUnwrittenPkcs7 : (DerError → Type 0) → Pkcs7Error → Type 0
+IsUnwrittenPkcs7 = Tells unwritten
 
 -- the error of a signature tells so
 abbrev pub TellsOfSignedData : (Pkcs7Error → Type 0) → AuthenticodeError → Type 0
-TellsOfSignedData Refuses e = (source : Pkcs7Error) × (e ≡ of_signed_data source) × Refuses source
+TellsOfSignedData = Tells of_signed_data

@@ -3,6 +3,7 @@ use Rattle.std.specs.Prelude.{◌≡◌, ◌⊎◌}
 use Rattle.der_core.specs.DerElement.{DerElement}
 use Rattle.der_core.specs.Encoding.{IsShort}
 use Rattle.der_core.specs.declared.error.DerError.TheVariants as der
+use Rattle.der_core.specs.Refusals.{Tells}
 use Rattle.key_core.specs.declared.element.Element.TheVariants as structures
 use Rattle.x509_core.specs.declared.error.CertError.{CertError}
 use Rattle.x509_core.specs.declared.error.CertError.TheVariants as certs
@@ -17,7 +18,7 @@ IsRefusedToken Refuses e = (source : Pkcs7Error) × (e ≡ token_refusal source)
 
 -- the error tells of a request that isn't written
 abbrev pub IsRefusedRequest : (CertError → Type 0) → TimestampError → Type 0
-IsRefusedRequest Refuses e = (source : CertError) × (e ≡ stamp_refusal source) × Refuses source
+IsRefusedRequest = Tells stamp_refusal
 
 -- no memory was left, or the error tells that contents of a request pass 4,294,967,295 octets
 abbrev pub IsTooLong : DerElement → TimestampError → Type 0

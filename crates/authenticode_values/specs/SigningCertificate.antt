@@ -1,18 +1,14 @@
 -- The signer's certificate among others (RFC 5652 5.3, 10.2.4).
 use Rattle.std.specs.Prelude.{◌≡◌, ⊤, ℕ, List, [], ◌∷◌, Some, map, slice_get}
-use Rattle.asn1_types.specs.Values.{integer_contents}
 use Rattle.cms_types.specs.SignerInfo.{signer_info}
 use Rattle.cms_types.specs.declared.issuer_and_serial.IssuerAndSerialNumber.{IssuerAndSerialNumber}
 use Rattle.cms_types.specs.declared.signer_identifier.SignerIdentifier.{SignerIdentifier}
 use Rattle.cms_types.specs.declared.signer_identifier.SignerIdentifier.TheVariants as named
 use Rattle.cms_types.specs.declared.signer_info.SignerInfo.{SignerInfo}
 use Rattle.names_core.specs.Names.{sets_of}
-use Rattle.x501_types.specs.Name.{name}
 use Rattle.x509_core.specs.KeptCertificate.{KeptCertificate}
-use Rattle.x509_types.specs.CertificateElements.{CertificateElements}
 use Rattle.making_core.specs.Carried.{elements_of}
 use Rattle.authenticode_core.specs.BagSigner.{IsSignerPlace, HasNoSigner}
-use Rattle.authenticode_core.specs.Names.{IsSameName}
 use Rattle.authenticode_core.specs.declared.error.AuthenticodeError.{AuthenticodeError}
 use Rattle.authenticode_core.specs.declared.error.AuthenticodeError.TheVariants as errors
 
@@ -28,16 +24,6 @@ pub record FirstNames (signers : List SignerInfo) (sid : SignerIdentifier) : Typ
   pub others : List SignerInfo
   pub first : signers ≡ signer ∷ others
   pub named : signer.sid ≡ sid
-
--- Why none of the certificates is the signer's: there is no signer, it is named by the identifier of a key, or none of them is named.
-abbrev pub HasNoSigningCertificate : List SignerInfo → List KeptCertificate → AuthenticodeError → Type 0
-HasNoSigningCertificate signers certificates (errors.MultipleSignerInfo count) = (signers ≡ []) × (count ≡ 0)
-HasNoSigningCertificate signers certificates errors.IncorrectSignerIdentifier = (octets : List ℕ) × FirstNames signers (named.SubjectKeyIdentifier octets)
-HasNoSigningCertificate signers certificates (errors.NoCertificatesAssociatedWithIssuerAndSerialNumber issuer serial_number) =
-    FirstNames signers (named.IssuerAndSerialNumber (record { issuer = sets_of issuer; serial_number = serial_number }))
-    × HasNoSigner (map signer_info signers) (elements_of certificates)
-HasNoSigningCertificate signers certificates errors.Memory = ⊤
-HasNoSigningCertificate signers certificates _ = ⊥
 
 -- why the first of the signers isn't named by an issuer and a serial number
 abbrev pub IsNamedOtherwise : List SignerInfo → AuthenticodeError → Type 0

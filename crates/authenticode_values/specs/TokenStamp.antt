@@ -16,7 +16,7 @@ use Rattle.cms_types.specs.declared.unsigned_attribute.UnsignedAttribute.{Unsign
 use Rattle.cms_types.specs.declared.unsigned_attribute.UnsignedAttribute.TheVariants as attributes
 use Rattle.authenticode_core.specs.declared.timestamp_error.TimestampError.{TimestampError}
 use Rattle.authenticode_core.specs.declared.timestamp_error.TimestampError.TheVariants as errors
-use Rattle.authenticode_values.specs.Pkcs7.{signers_of}
+use Rattle.authenticode_values.specs.Pkcs7.{signer_infos_of}
 use Rattle.authenticode_values.specs.declared.pkcs7.Pkcs7.{Pkcs7}
 
 -- the items, none where the list is left out
@@ -61,7 +61,7 @@ certificates_of p = p.signed.signed_data.certificates
 -- else is as it was.
 pub record IsStampedBy (token : Pkcs7) (before after : SignedData) : Type 0 where
   pub signers : List SignerInfo
-  pub stamped : AreStamped (signers_of token) before.signers_infos signers
+  pub stamped : AreStamped (signer_infos_of token) before.signers_infos signers
   pub is : after ≡ record before { certificates = joined_lists before.certificates (certificates_of token); signers_infos = signers }
 
 -- The first of the signers can't be written, for this cause.
@@ -86,4 +86,4 @@ RefusesTokenStamp countersigners signers _ = ⊥
 -- what the modification of signed data by a token comes to
 abbrev pub token_modifies : Pkcs7 → SignedData → Result SignedData TimestampError → Type 0
 token_modifies token before (Ok after) = IsStampedBy token before after
-token_modifies token before (Err e) = RefusesTokenStamp (signers_of token) before.signers_infos e
+token_modifies token before (Err e) = RefusesTokenStamp (signer_infos_of token) before.signers_infos e

@@ -1,5 +1,5 @@
 -- What is asked of a signature that is kept, as it is set, and what is answered.
-use Rattle.std.specs.Prelude.{◌≡◌, ◌⊎◌, Bool, ℕ, List, ◌∷◌, Some, None, Result, Err, MatchResult, true, false}
+use Rattle.std.specs.Prelude.{◌≡◌, Bool, ℕ, List, ◌∷◌, Some, None, Result, MatchResult, true, false}
 use Rattle.cms_types.specs.SignedDataElements.{SignedDataElements}
 use Rattle.der_core.specs.DerElement.{DerElement}
 use Rattle.der_core.specs.Encoding.{IsDer}
@@ -8,7 +8,7 @@ use Rattle.key_core.specs.KeyRefusals.{CantBeWritten}
 use Rattle.key_core.specs.Verifying.{Judge}
 use Rattle.key_core.specs.Rules.{Rule}
 use Rattle.x509_core.specs.declared.window.DateCheck.{DateCheck}
-use Rattle.authenticode_core.specs.SigningRules.{RefusesBy}
+use Rattle.authenticode_core.specs.SigningRules.{RefusesAuthenticodeBy}
 use Rattle.authenticode_core.specs.Trusted.{IsTrusted, policy_rules}
 use Rattle.authenticode_core.specs.declared.accepted.Accepted.{Accepted}
 use Rattle.authenticode_core.specs.declared.error.AuthenticodeError.{AuthenticodeError}
@@ -20,16 +20,16 @@ abbrev pub at_dates : DateCheck → Policy → Policy
 at_dates date policy = record policy { date = date }
 
 -- the policy with this answer to whether a certificate has to be valid already
-abbrev pub with_not_before : Bool → Policy → Policy
-with_not_before asked policy = record policy { not_before = asked }
+abbrev pub policy_with_not_before : Bool → Policy → Policy
+policy_with_not_before asked policy = record policy { not_before = asked }
 
 -- the policy with this answer to whether a certificate has to be still valid
-abbrev pub with_not_after : Bool → Policy → Policy
-with_not_after asked policy = record policy { not_after = asked }
+abbrev pub policy_with_not_after : Bool → Policy → Policy
+policy_with_not_after asked policy = record policy { not_after = asked }
 
 -- the policy with this answer to whether the chain is asked for
-abbrev pub with_chain : Bool → Policy → Policy
-with_chain asked policy = record policy { chain = asked }
+abbrev pub policy_with_chain : Bool → Policy → Policy
+policy_with_chain asked policy = record policy { chain = asked }
 
 -- the policy with this answer to whether the signer's certificate has to be valid, or its expiry excused
 abbrev pub with_signing : Bool → Policy → Policy
@@ -59,8 +59,4 @@ IsKeptTrusted judge policy element f accepted = IsDer element × IsTrusted judge
 
 -- The answer: that it is trusted; the first rule that is broken; want of memory.
 abbrev pub IsVerdict : Judge → Policy → DerElement → SignedDataElements → Result Accepted AuthenticodeError → Type 0
-IsVerdict judge policy element f r = MatchResult r (IsKeptTrusted judge policy element f) (RefusesBy (kept_rules judge policy element f))
-
--- Two answers are one, but where one of them is want of memory.
-abbrev pub AreOneUnlessMemory : Result Accepted AuthenticodeError → Result Accepted AuthenticodeError → Type 0
-AreOneUnlessMemory a b = (a ≡ b) ⊎ ((a ≡ Err errors.Memory) ⊎ (b ≡ Err errors.Memory))
+IsVerdict judge policy element f r = MatchResult r (IsKeptTrusted judge policy element f) (RefusesAuthenticodeBy (kept_rules judge policy element f))

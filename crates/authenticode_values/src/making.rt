@@ -1,6 +1,6 @@
 //! Signatures of programs, made step by step.
 
-ghost use Rattle.std.specs.Prelude.{◌≡◌, ◌≢◌, ◌∷◌, [], List, ℕ, IfOk, MatchResult};
+ghost use Rattle.std.specs.Prelude.{◌≡◌, ◌≢◌, ◌∷◌, [], List, ℕ, Err, None, IfOk, IfErr, IsOk, MatchResult};
 ghost use Rattle.std.specs.Option.{option_copied};
 ghost use Rattle.cms_types.specs.OpusInfo.{opus_info};
 ghost use Rattle.cms_types.specs.SignedAttributesElement.{signed_attributes};
@@ -21,7 +21,7 @@ ghost use Rattle.making_core.specs.Carried.{IsRootCertificate, elements_of};
 ghost use Rattle.making_core.specs.MadeContent.{attributes_message, content_digest, data_element, opus_element, program_attributes};
 ghost use Rattle.making_core.specs.MadeSignature.{attributes_element};
 ghost use Rattle.making_core.specs.SignedProgram.{IsBasicName, IsSignature, IsSignedProgram, program_of};
-ghost use Rattle.authenticode_values.specs.Making.{IsMadeOf, hash_step, making_steps, name_step, signature_step, signing_steps, writing_step};
+ghost use Rattle.authenticode_values.specs.Making.{IsMadeOf, hash_step, making_steps, name_step, sealing_step, program_steps, writing_step};
 ghost use Rattle.authenticode_values.specs.MadeFile.{IsMadeSignature, IsSpelledWhole, wrapped};
 ghost use Rattle.authenticode_values.specs.MadeProgram.{program_for};
 ghost use Rattle.authenticode_values.specs.Pkcs7.{fields_of, written};
@@ -105,7 +105,7 @@ fn made<S: Scheme>(
     program_name: Option<&str>,
     scheme: &S,
 ) -> Result<AuthenticodeSignature, AuthenticodeError>
-    ensures { MatchResult result
+    ensures answer { MatchResult result
         (λ s. IsMadeOf (arithmetic (S.judge scheme.now) (S.signs scheme.now) (S.pair scheme.now)) (fields_of pkcs7.now) hash_algo file_hash.now (option_copied program_name.entry) private_key.now (fields_of s.0))
         (RefusesBySteps errors.Memory (making_steps (S.signs scheme.now) (fields_of pkcs7.now) (option_copied program_name.entry) (program_of hash_algo file_hash.now (option_copied program_name.entry)) private_key.now)) }
     ensures refused { (IsBasicName (option_copied program_name.entry) → ⊥) → result ≡ Err errors.ProgramNameCharSet }
@@ -127,7 +127,7 @@ fn made<S: Scheme>(
 
 /// What is said of the program.
 fn opus_for(alloc: Global, name: Option<&str>) -> Result<SpcSpOpusInfo, AuthenticodeError>
-    ensures { MatchResult result
+    ensures answer { MatchResult result
         (λ info. (opus_info info ≡ opus_element (option_copied name.entry)) × IsBasicName (option_copied name.entry))
         (RefusesBySteps errors.Memory (name_step (option_copied name.entry) ∷ [])) }
     ensures refused { (IsBasicName (option_copied name.entry) → ⊥) → result ≡ Err errors.ProgramNameCharSet }
@@ -141,9 +141,10 @@ fn opus_for(alloc: Global, name: Option<&str>) -> Result<SpcSpOpusInfo, Authenti
 
 /// The digest algorithm, which isn't SHA-224.
 fn algorithm_of(hash: ShaVariant) -> Result<HashAlgorithm, AuthenticodeError>
-    ensures { MatchResult result
+    ensures answer { MatchResult result
         (λ algorithm. (algorithm ≡ hash_of hash) × (hash_of hash ≢ SHA2_224))
         (RefusesBySteps errors.Memory (hash_step (hash_of hash) ∷ [])) }
+    ensures told { IfErr result (λ e. e ≡ errors.UnsupportedHashAlgorithmError (record { algorithm = SHA2_224 })) }
 {
     match HashAlgorithm::try_from(hash) {
         Ok(algorithm) => Ok(algorithm),
@@ -171,7 +172,7 @@ fn content_for(
 }
 
 /// The attributes that are signed.
-fn attributes_for(
+fn signed_attributes_for(
     alloc: Global,
     opus: &SpcSpOpusInfo,
     digest: &[u8],
@@ -196,7 +197,7 @@ fn sealed<S: Scheme>(
 ) -> Result<Octets, AuthenticodeError>
     ensures { (members : List DerElement) → signed_attributes attributes.now ≡ attributes_element members → MatchResult result
         (IsSignature (arithmetic (S.judge scheme.now) (S.signs scheme.now) (S.pair scheme.now)) (RsaPkcs1v15 algorithm) private_key.now (attributes_message members))
-        (RefusesBySteps errors.Memory (signature_step (S.signs scheme.now) (RsaPkcs1v15 algorithm) private_key.now (attributes_message members) ∷ [])) }
+        (RefusesBySteps errors.Memory (sealing_step (S.signs scheme.now) (RsaPkcs1v15 algorithm) private_key.now (attributes_message members) ∷ [])) }
 {
     let message = message_of(alloc, attributes)?;
     match signature_of(alloc, algorithm, &message, private_key, scheme) {
@@ -217,11 +218,11 @@ fn signed<S: Scheme>(
     requires { program.now.algorithm ≡ hash_of program.now.hash }
     ensures { let p = program_for program.now in MatchResult result
         (λ made. IsSignedProgram (arithmetic (S.judge scheme.now) (S.signs scheme.now) (S.pair scheme.now)) (elements_of bag.now) first.now.elements p private_key.now (fields_of made)
-        × AreTaken (signing_steps (S.signs scheme.now) p private_key.now))
-        (RefusesBySteps errors.Memory (signing_steps (S.signs scheme.now) p private_key.now)) }
+        × AreTaken (program_steps (S.signs scheme.now) p private_key.now))
+        (RefusesBySteps errors.Memory (program_steps (S.signs scheme.now) p private_key.now)) }
 {
     let (indirect, digest) = content_for(alloc, program)?;
-    let attributes = attributes_for(alloc, program.opus, &digest)?;
+    let attributes = signed_attributes_for(alloc, program.opus, &digest)?;
     let signature = sealed(alloc, &attributes, program.algorithm, private_key, scheme)?;
     let hash = program.hash;
     let made = program_signature(alloc, bag, first, hash, indirect, attributes, signature)?;

@@ -16,7 +16,7 @@ ghost use Rattle.authenticode_core.specs.CertificateBag.{IsBag, members_of};
 ghost use Rattle.authenticode_core.specs.declared.pkcs7_error.Pkcs7Error.TheVariants as errors;
 ghost use Rattle.authenticode_values.specs.CertificatesAlone.{certificates_alone};
 ghost use Rattle.authenticode_values.specs.Pkcs7.{IsPkcs7Of, fields_of, written};
-ghost use Rattle.authenticode_values.specs.Refusals.{IsUnread, IsUnwritten, unread};
+ghost use Rattle.authenticode_values.specs.Refusals.{IsUnreadPkcs7, IsUnwrittenPkcs7, unread};
 
 use crate::alone::without_signers;
 use crate::bag::certificates_of;
@@ -48,7 +48,7 @@ impl Pkcs7 {
     pub fn from_der(alloc: Global, der: &[u8]) -> Result<Pkcs7, Pkcs7Error>
         ensures answer { MatchResult result
             (λ p. IsWithin IsPkcs7Of der.now p.signed)
-            (IsUnread (RefusesOctets IsPkcs7Of der.now)) }
+            (IsUnreadPkcs7 (RefusesOctets IsPkcs7Of der.now)) }
         // Octets with a fault are refused with it, whatever memory there is.
         ensures faulty { (at : ℕ) (fault : DerFault) → IsExactFault der.now at fault
             → result ≡ Err (unread (der_errors.Malformed (record { at = at; fault = fault }))) }
@@ -79,7 +79,7 @@ impl Pkcs7 {
     pub fn to_der(&self, alloc: Global) -> Result<Vec<u8>, Pkcs7Error>
         ensures { MatchResult result
             (λ octets. (octets.items ≡ encoding (written self.now)) × IsDer (written self.now))
-            (IsUnwritten (RefusesInner (written self.now ∷ []))) }
+            (IsUnwrittenPkcs7 (RefusesInner (written self.now ∷ []))) }
     {
         match self.signed.to_der(alloc) {
             Ok(octets) => Ok(octets),

@@ -12,11 +12,12 @@ ghost use Rattle.der_core.specs.declared.error.DerError.TheVariants as der_error
 ghost use Rattle.der_core.specs.declared.fault.DerFault.{DerFault};
 ghost use Rattle.cms_types.specs.Pkcs7.{pkcs7};
 ghost use Rattle.cms_types.specs.declared.pkcs7.Pkcs7Certificate.{Pkcs7Certificate};
-ghost use Rattle.authenticode_values.specs.Pkcs7.{IsPkcs7Of, signers_of, written};
-ghost use Rattle.authenticode_values.specs.Refusals.{IsUnread, IsUnwritten, TellsOfSignedData, of_signed_data, unread};
+ghost use Rattle.authenticode_values.specs.Pkcs7.{IsPkcs7Of, signer_infos_of, written};
+ghost use Rattle.authenticode_values.specs.Refusals.{IsUnreadPkcs7, IsUnwrittenPkcs7, TellsOfSignedData, of_signed_data, unread};
 ghost use Rattle.authenticode_values.specs.SignedFields.{file_hash_in, signed_attributes_in, unsigned_attributes_in};
 ghost use Rattle.authenticode_values.specs.SigningCertificate.{HasNoSigningCertificate, IsNamedOtherwise, IsSigningCertificate};
 ghost use Rattle.authenticode_core.specs.Basic.{IsNoSignedData};
+ghost use Rattle.authenticode_core.specs.declared.error.AuthenticodeError.{AuthenticodeError};
 ghost use Rattle.authenticode_values.specs.Unread.{RefusesPadded};
 
 use crate::padded::read_padded;
@@ -42,7 +43,7 @@ impl AuthenticodeSignature {
     pub fn from_der(alloc: Global, der: &[u8]) -> Result<AuthenticodeSignature, AuthenticodeError>
         ensures answer { MatchResult result
             (λ s. IsWithin IsPkcs7Of der.now s.0.signed)
-            (TellsOfSignedData (IsUnread (RefusesOctets IsPkcs7Of der.now))) }
+            (TellsOfSignedData (IsUnreadPkcs7 (RefusesOctets IsPkcs7Of der.now))) }
         // Octets with a fault are refused with it, whatever memory there is.
         ensures faulty { (at : ℕ) (fault : DerFault) → IsExactFault der.now at fault
             → result ≡ Err (of_signed_data (unread (der_errors.Malformed (record { at = at; fault = fault })))) }
@@ -61,7 +62,7 @@ impl AuthenticodeSignature {
     pub fn to_der(&self, alloc: Global) -> Result<Vec<u8>, AuthenticodeError>
         ensures { MatchResult result
             (λ octets. (octets.items ≡ encoding (written self.now.0)) × IsDer (written self.now.0))
-            (TellsOfSignedData (IsUnwritten (RefusesInner (written self.now.0 ∷ [])))) }
+            (TellsOfSignedData (IsUnwrittenPkcs7 (RefusesInner (written self.now.0 ∷ [])))) }
     {
         match self.0.to_der(alloc) {
             Ok(octets) => Ok(octets),
@@ -77,7 +78,7 @@ impl AuthenticodeSignature {
     ) -> Result<AuthenticodeSignature, AuthenticodeError>
         ensures answer { MatchResult result
             (λ s. IsPaddedEncoding cert.now.certificate (written s.0))
-            (TellsOfSignedData (IsUnread (RefusesPadded cert.now.certificate))) }
+            (TellsOfSignedData (IsUnreadPkcs7 (RefusesPadded cert.now.certificate))) }
         // What is no signed data is refused as such, whatever memory there is.
         ensures refused { (source : DerError) → IsNoSignedData cert.now.certificate source → result ≡ Err (of_signed_data (unread source)) }
     {
@@ -119,7 +120,7 @@ impl AuthenticodeSignature {
 
     /// The signed attributes of the first signer, None exactly where there is none or it has none.
     pub fn authenticated_attributes(&self) -> Option<&[Attribute]>
-        ensures { option_copied result ≡ signed_attributes_in (signers_of self.now.0) }
+        ensures { option_copied result ≡ signed_attributes_in (signer_infos_of self.now.0) }
     {
         match self.0.signer_infos().first() {
             Some(signer) => match &signer.signed_attrs {
@@ -132,7 +133,7 @@ impl AuthenticodeSignature {
 
     /// The unsigned attributes of the first signer, None exactly where there is none or it has none.
     pub fn unauthenticated_attributes(&self) -> Option<&[UnsignedAttribute]>
-        ensures { option_copied result ≡ unsigned_attributes_in (signers_of self.now.0) }
+        ensures { option_copied result ≡ unsigned_attributes_in (signer_infos_of self.now.0) }
     {
         match self.0.signer_infos().first() {
             Some(signer) => match &signer.unsigned_attrs {

@@ -1,6 +1,6 @@
 //! The certificate of the signer, among certificates that a caller keeps.
 
-ghost use Rattle.std.specs.Prelude.{◌≡◌, ◌↔◌, Some, IfOk, IsTrue, MatchOption, MatchResult, slice_get, ℕ};
+ghost use Rattle.std.specs.Prelude.{◌≡◌, ◌↔◌, Some, Err, IfOk, IsTrue, MatchOption, MatchResult, slice_get, ℕ};
 ghost use Rattle.cms_types.specs.declared.signer_identifier.SignerIdentifier.TheVariants as named;
 ghost use Rattle.making_core.specs.Carried.{elements_of};
 ghost use Rattle.authenticode_core.specs.Places.{HasNoPlace, IsLeastPlace};

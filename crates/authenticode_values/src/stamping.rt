@@ -4,7 +4,7 @@ ghost use Rattle.std.specs.Prelude.{◌≡◌, ◌≤◌, [], IfErr, OnErr, OnOk
 ghost use Rattle.cms_types.specs.declared.signer_info.SignerInfo.{SignerInfo};
 ghost use Rattle.authenticode_core.specs.declared.error.AuthenticodeError.TheVariants as errors;
 ghost use Rattle.authenticode_core.specs.Counts.{HasRisen};
-ghost use Rattle.authenticode_values.specs.Pkcs7.{signers_of};
+ghost use Rattle.authenticode_values.specs.Pkcs7.{signer_infos_of};
 ghost use Rattle.authenticode_values.specs.Stamping.{HasFirstSignature, IsLeftByStamp, RefusesStamp, of_timestamp};
 ghost use Rattle.authenticode_values.specs.Timestamper.{GiveAlike, ModifyAlike};
 
@@ -29,8 +29,8 @@ impl AuthenticodeSignature {
         ensures refused { IfErr result (RefusesStamp (T.gives timestamper.old) (T.modifies timestamper.old)
             (HasRisen (T.faults timestamper.old) (T.faults timestamper.new)) hash_algo self.old.0.signed.signed_data) }
         // Where there is no signer this is told, whatever memory there is, and no token is asked for.
-        ensures no_signer { signers_of self.old.0 ≡ [] → result ≡ Err (errors.MultipleSignerInfo 0) }
-        ensures not_asked { signers_of self.old.0 ≡ [] → timestamper.new ≡ timestamper.old }
+        ensures no_signer { signer_infos_of self.old.0 ≡ [] → result ≡ Err (errors.MultipleSignerInfo 0) }
+        ensures not_asked { signer_infos_of self.old.0 ≡ [] → timestamper.new ≡ timestamper.old }
         ensures unchanged { OnErr result (self.new ≡ self.old) }
         ensures counted { T.faults timestamper.old ≤ T.faults timestamper.new }
         ensures same_tokens { GiveAlike (T.gives timestamper.old) (T.gives timestamper.new) }

@@ -11,7 +11,7 @@ ghost use Rattle.der_core.specs.Structure.{IsWithin};
 ghost use Rattle.der_core.specs.declared.error.DerError.TheVariants as der_errors;
 ghost use Rattle.der_core.specs.declared.fault.DerFault.{DerFault};
 ghost use Rattle.key_core.specs.declared.element.Element.TheVariants as elements;
-ghost use Rattle.x509_core.specs.CertRefusals.{IsUnread, IsUnwritten};
+ghost use Rattle.x509_core.specs.CertRefusals.{IsUnreadCert, IsUnwrittenCert};
 ghost use Rattle.x509_core.specs.declared.error.CertError.TheVariants as errors;
 ghost use Rattle.content_types.specs.ContentInfo.{content_info};
 ghost use Rattle.content_types.specs.ContentInfoElements.{content_info_of};
@@ -78,7 +78,7 @@ impl TimestampRequest {
     pub fn from_der(alloc: Global, der: &[u8]) -> Result<TimestampRequest, CertError>
         ensures answer { MatchResult result
             (λ r. IsWithin IsRequestOf der.now r.request)
-            (IsUnread elements.TimestampRequest (RefusesOctets IsRequestOf der.now)) }
+            (IsUnreadCert elements.TimestampRequest (RefusesOctets IsRequestOf der.now)) }
         // Octets with a fault are refused with it, whatever memory there is.
         ensures faulty { (at : ℕ) (fault : DerFault) → IsExactFault der.now at fault
             → result ≡ Err (errors.Asn1Deserialization elements.TimestampRequest (der_errors.Malformed (record { at = at; fault = fault }))) }
@@ -97,7 +97,7 @@ impl TimestampRequest {
     pub fn to_der(&self, alloc: Global) -> Result<Vec<u8>, CertError>
         ensures { MatchResult result
             (λ octets. (octets.items ≡ encoding (requested self.now)) × IsDer (requested self.now))
-            (IsUnwritten elements.TimestampRequest (RefusesInner (requested self.now ∷ []))) }
+            (IsUnwrittenCert elements.TimestampRequest (RefusesInner (requested self.now ∷ []))) }
     {
         match self.request.to_der(alloc) {
             Ok(octets) => Ok(octets),
@@ -144,7 +144,8 @@ impl From<TimestampRequest> for RequestValue {
 
 /// Requests are equal exactly where their octets are.
 impl PartialEq for TimestampRequest {
-    ghost use Rattle.der_core.specs.Equality.{same_octets, same_octets_per};
+    ghost use Rattle.der_core.specs.Equality.{same_octets};
+    ghost use Rattle.der_core.specs.Facts.Equality.{same_octets_per};
 
     ghost eq = { same_octets requested };
 
@@ -159,7 +160,7 @@ impl PartialEq for TimestampRequest {
 }
 
 impl Eq for TimestampRequest {
-    ghost use Rattle.der_core.specs.Equality.{same_octets_equiv};
+    ghost use Rattle.der_core.specs.Facts.Equality.{same_octets_equiv};
 
     ghost laws = { same_octets_equiv requested };
 }

@@ -9,13 +9,13 @@ ghost use Rattle.der_core.specs.Structure.{IsWithin};
 ghost use Rattle.der_core.specs.declared.error.DerError.TheVariants as der_errors;
 ghost use Rattle.der_core.specs.declared.fault.DerFault.{DerFault};
 ghost use Rattle.key_core.specs.declared.element.Element.TheVariants as elements;
-ghost use Rattle.x509_core.specs.CertRefusals.{IsUnwritten};
+ghost use Rattle.x509_core.specs.CertRefusals.{IsUnwrittenCert};
 ghost use Rattle.cms_types.specs.Pkcs7.{pkcs7};
 ghost use Rattle.cms_types.specs.declared.pkcs7.Pkcs7Certificate.{Pkcs7Certificate};
 ghost use Rattle.authenticode_core.specs.StampRefusal.{token_refusal};
 ghost use Rattle.authenticode_core.specs.declared.timestamp_error.TimestampError.TheVariants as errors;
 ghost use Rattle.authenticode_values.specs.Pkcs7.{IsPkcs7Of};
-ghost use Rattle.authenticode_values.specs.Refusals.{IsUnread, unread};
+ghost use Rattle.authenticode_values.specs.Refusals.{IsUnreadPkcs7, unread};
 ghost use Rattle.authenticode_values.specs.RequestRefusals.{IsRefusedRequest, IsRefusedToken, IsTooLong};
 ghost use Rattle.authenticode_values.specs.TimestampRequest.{asking_for, requested};
 ghost use Rattle.authenticode_values.specs.TokenStamp.{AreStamped, CountersignsBy, RefusesCountersigner, RefusesTokenStamp, joined_lists, token_modifies, with_unsigned};
@@ -45,7 +45,7 @@ impl TokenTimestamper {
     pub fn from_der(alloc: Global, der: &[u8]) -> Result<TokenTimestamper, TimestampError>
         ensures answer { MatchResult result
             (λ t. IsWithin IsPkcs7Of der.now t.token.signed)
-            (IsRefusedToken (IsUnread (RefusesOctets IsPkcs7Of der.now))) }
+            (IsRefusedToken (IsUnreadPkcs7 (RefusesOctets IsPkcs7Of der.now))) }
         // Octets with a fault are refused with it, whatever memory there is.
         ensures faulty { (at : ℕ) (fault : DerFault) → IsExactFault der.now at fault
             → result ≡ Err (token_refusal (unread (der_errors.Malformed (record { at = at; fault = fault })))) }
@@ -84,7 +84,7 @@ impl TokenTimestamper {
 fn written(alloc: Global, request: &TimestampRequest) -> Result<Vec<u8>, TimestampError>
     ensures { MatchResult result
         (λ octets. (octets.items ≡ encoding (requested request.now)) × IsDer (requested request.now))
-        (IsRefusedRequest (IsUnwritten elements.TimestampRequest (RefusesInner (requested request.now ∷ [])))) }
+        (IsRefusedRequest (IsUnwrittenCert elements.TimestampRequest (RefusesInner (requested request.now ∷ [])))) }
 {
     match request.to_der(alloc) {
         Ok(octets) => Ok(octets),

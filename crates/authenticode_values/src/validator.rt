@@ -2,15 +2,15 @@
 
 ghost use Rattle.std.specs.Prelude.{◌≡◌, true, false, Err, Result, MatchResult};
 ghost use Rattle.der_core.specs.Kept.{IsKept};
-ghost use Rattle.key_core.specs.Rules.{IsFirstBroken};
+ghost use Rattle.key_core.specs.Rules.{AreOneUnlessMemory, IsFirstBroken};
 ghost use Rattle.x509_core.specs.declared.window.DateCheck.TheVariants as dates;
 ghost use Rattle.authenticode_core.specs.Policy.{first_policy};
-ghost use Rattle.authenticode_core.specs.SigningRules.{RefusesBy};
+ghost use Rattle.authenticode_core.specs.SigningRules.{RefusesAuthenticodeBy};
 ghost use Rattle.authenticode_core.specs.Trusted.{IsTrusted, asked, policy_rules, shape_rules};
 ghost use Rattle.authenticode_core.specs.declared.accepted.Accepted.{Accepted};
 ghost use Rattle.authenticode_core.specs.declared.error.AuthenticodeError.{AuthenticodeError};
 ghost use Rattle.authenticode_values.specs.Pkcs7.{fields_of, written};
-ghost use Rattle.authenticode_values.specs.Validator.{AreOneUnlessMemory, IsVerdict, at_dates, with_basic, with_chain, with_not_after, with_not_before, with_signing, without_basic};
+ghost use Rattle.authenticode_values.specs.Validator.{IsVerdict, at_dates, with_basic, policy_with_chain, policy_with_not_after, policy_with_not_before, with_signing, without_basic};
 ghost use Rattle.authenticode_values.specs.declared.pkcs7.Pkcs7.{Pkcs7};
 
 use crate::signature::AuthenticodeSignature;
@@ -75,7 +75,7 @@ impl<'a> AuthenticodeValidator<'a> {
 
     /// Certificates have to be valid already.
     pub fn require_not_before_check(mut self) -> Self
-        ensures policy { result.policy ≡ with_not_before true self.entry.policy }
+        ensures policy { result.policy ≡ policy_with_not_before true self.entry.policy }
         ensures signature { result.signature.now ≡ self.entry.signature.now }
     {
         self.policy.not_before = true;
@@ -84,7 +84,7 @@ impl<'a> AuthenticodeValidator<'a> {
 
     /// Certificates may be valid later.
     pub fn ignore_not_before_check(mut self) -> Self
-        ensures policy { result.policy ≡ with_not_before false self.entry.policy }
+        ensures policy { result.policy ≡ policy_with_not_before false self.entry.policy }
         ensures signature { result.signature.now ≡ self.entry.signature.now }
     {
         self.policy.not_before = false;
@@ -93,7 +93,7 @@ impl<'a> AuthenticodeValidator<'a> {
 
     /// Certificates have to be valid still.
     pub fn require_not_after_check(mut self) -> Self
-        ensures policy { result.policy ≡ with_not_after true self.entry.policy }
+        ensures policy { result.policy ≡ policy_with_not_after true self.entry.policy }
         ensures signature { result.signature.now ≡ self.entry.signature.now }
     {
         self.policy.not_after = true;
@@ -102,7 +102,7 @@ impl<'a> AuthenticodeValidator<'a> {
 
     /// Certificates may have expired.
     pub fn ignore_not_after_check(mut self) -> Self
-        ensures policy { result.policy ≡ with_not_after false self.entry.policy }
+        ensures policy { result.policy ≡ policy_with_not_after false self.entry.policy }
         ensures signature { result.signature.now ≡ self.entry.signature.now }
     {
         self.policy.not_after = false;
@@ -111,7 +111,7 @@ impl<'a> AuthenticodeValidator<'a> {
 
     /// The certificate of the signer has to be linked to those of its issuers.
     pub fn require_chain_check(mut self) -> Self
-        ensures policy { result.policy ≡ with_chain true self.entry.policy }
+        ensures policy { result.policy ≡ policy_with_chain true self.entry.policy }
         ensures signature { result.signature.now ≡ self.entry.signature.now }
     {
         self.policy.chain = true;
@@ -120,7 +120,7 @@ impl<'a> AuthenticodeValidator<'a> {
 
     /// The certificates of the issuers aren't looked at.
     pub fn ignore_chain_check(mut self) -> Self
-        ensures policy { result.policy ≡ with_chain false self.entry.policy }
+        ensures policy { result.policy ≡ policy_with_chain false self.entry.policy }
         ensures signature { result.signature.now ≡ self.entry.signature.now }
     {
         self.policy.chain = false;
@@ -185,7 +185,7 @@ impl<'a> AuthenticodeValidator<'a> {
         // No other answer has its cause, want of memory aside.
         ensures only { (other : Result Accepted AuthenticodeError)
             → IsVerdict (S.judge scheme.now) self.now.policy (written self.now.signature.now.0) (fields_of self.now.signature.now.0) other
-            → AreOneUnlessMemory result other }
+            → AreOneUnlessMemory AuthenticodeError.Memory result other }
     {
         let octets = self.signature.0.signed.to_der(alloc)?;
         check_octets(alloc, &octets, &self.policy, scheme)
@@ -203,7 +203,7 @@ fn check_octets<S: Scheme>(
     ensures answer { (signed : Pkcs7) → IsKept octets.now (written signed)
         → MatchResult result
         (IsTrusted (S.judge scheme.now) policy.now (fields_of signed))
-        (RefusesBy (policy_rules (S.judge scheme.now) policy.now (fields_of signed))) }
+        (RefusesAuthenticodeBy (policy_rules (S.judge scheme.now) policy.now (fields_of signed))) }
     // A refusal of the form comes whatever memory there is, and that no digest is given, too.
     ensures shape { (signed : Pkcs7) → IsKept octets.now (written signed) → (e : AuthenticodeError)
         → IsFirstBroken (asked policy.now.basic (shape_rules (fields_of signed) policy.now.file_hash)) e

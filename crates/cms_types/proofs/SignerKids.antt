@@ -9,7 +9,7 @@ use Rattle.der_core.specs.Lent.{at_option}
 use Rattle.der_core.specs.Structure.{Fits, BeginsOtherwise, BeginsUnfit, HasMore}
 use Rattle.der_core.specs.declared.elem.Elem.{Elem}
 use Rattle.der_core.proofs.Parts.{same_kids}
-use Rattle.cms_types.specs.SignedAttributes.{AreSignedAttributes}
+use Rattle.x509_types.specs.Attribute.{AreAttributes}
 use Rattle.cms_types.specs.SignerElements.{SignerElements, signer_of}
 use Rattle.cms_types.specs.SignedDataElements.{SignedDataElements, signed_data_of}
 use Rattle.cms_types.specs.Levels.{OfOption, IsConstructed, IsSignerOf, IsSignedDataOf}
@@ -75,8 +75,8 @@ signed_taken e found k3 k4 f m of is =
     let told = told_fields f of.fields in
     takes_once 0xA0 k3 (at_option found) f.signed_attrs k4 (signer_tail f) (takes 0xA0 found k3 k4 m) (record { are = is; tagged = told.signed_attrs; once = λ none. told.signature_algorithm })
 
-pub signed_fits : (f : SignerElements) (e : DerElement) (a : Option DerElement) → a ≡ f.signed_attrs → IsSignerOf e f → OfOption (Fits AreSignedAttributes) a
-signed_fits f e a same of = subst (OfOption (Fits AreSignedAttributes)) (sym same) of.fields.signed_attrs
+pub signed_fits : (f : SignerElements) (e : DerElement) (a : Option DerElement) → a ≡ f.signed_attrs → IsSignerOf e f → OfOption (Fits AreAttributes) a
+signed_fits f e a same of = subst (OfOption (Fits AreAttributes)) (sym same) of.fields.signed_attrs
 
 nothing_more : (tag : ℕ) (found : Option Elem) (k6 k7 : List DerElement) (u : Option DerElement) → MatchOption found ((k7 ≡ k6) × BeginsOtherwise tag k6) (λ elem. (k6 ≡ elem.is.0 ∷ k7) × (tag_of elem.is.0 ≡ tag))
     → OfOption (λ e. tag_of e ≡ tag) u → k6 ≡ option_to_list u → k7 ≡ []

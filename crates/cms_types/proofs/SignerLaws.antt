@@ -26,7 +26,7 @@ use Rattle.asn1_types.proofs.KnownTable.{known_is}
 use Rattle.asn1_types.specs.declared.oids.TheConstants.{COUNTERSIGNATURE, RFC3161_COUNTER_SIGN}
 use Rattle.key_types.specs.AlgorithmIdentifier.{algorithm_identifier}
 use Rattle.cms_types.specs.CertificateChoices.{certificate_choice}
-use Rattle.cms_types.specs.SignedAttributes.{AreSignedAttributes}
+use Rattle.x509_types.specs.Attribute.{AreAttributes}
 use Rattle.cms_types.specs.SignedAttributesElement.{signed_attributes}
 use Rattle.cms_types.specs.Members.{element_of_kept, elements_of_kept}
 use Rattle.cms_types.specs.UnsignedKind.{named_unsigned}
@@ -152,7 +152,7 @@ unsigned_of_values (a ∷ us) = ∥∥₁_map₂ (unsigned_of_value (unsigned_at
 
 -- ---- the fields of signers
 
-signed_value : (a : Option DerElement) → OfOption IsDer a → OfOption (Fits AreSignedAttributes) a → (v : Option SignedAttributes) × (a ≡ option_map signed_attributes v)
+signed_value : (a : Option DerElement) → OfOption IsDer a → OfOption (Fits AreAttributes) a → (v : Option SignedAttributes) × (a ≡ option_map signed_attributes v)
 signed_value None der fits = (None, refl)
 signed_value (Some e) der fits = (Some (record { element = record { element = e; der = der }; list = fits.0; are = ∣ fits.1 ∣₁ }), refl)
 
@@ -202,7 +202,7 @@ value_of_signer e der (WithUnsigned {f = f} {attributes = a} of some each) =
     let values = values_of_unsigned a (inside 0xA1 (Constructed 0xA1 (row a)) a (held_der e f (Constructed 0xA1 (row a)) der of some) refl) each in
     signer_with e f (Some values.0) der of (some ∙ ap (λ k. Some (Constructed 0xA1 (row k))) values.1)
 
-signed_fits : (v : Option SignedAttributes) → ∥ OfOption (Fits AreSignedAttributes) (option_map signed_attributes v) ∥₁
+signed_fits : (v : Option SignedAttributes) → ∥ OfOption (Fits AreAttributes) (option_map signed_attributes v) ∥₁
 signed_fits None = ∣ tt ∣₁
 signed_fits (Some v) = ∥∥₁_map v.are (λ list. (v.list, list))
 

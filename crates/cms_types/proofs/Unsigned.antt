@@ -15,7 +15,7 @@ use Rattle.x509_types.specs.declared.attribute.Attribute.{Attribute}
 use Rattle.cms_types.specs.Levels.{IsUnsignedOf}
 use Rattle.cms_types.specs.Members.{element_of_kept, elements_of_kept}
 use Rattle.cms_types.specs.Signers.{AreSignerInfos, ArePkcs7s}
-use Rattle.cms_types.specs.SignedAttributes.{AreSignedAttributes}
+use Rattle.x509_types.specs.Attribute.{AreAttributes}
 use Rattle.cms_types.specs.SignedAttributesElement.{signed_attributes}
 use Rattle.cms_types.specs.UnsignedElement.{unsigned_of}
 use Rattle.cms_types.specs.UnsignedAttribute.{unsigned_attribute}
@@ -65,5 +65,5 @@ other_read e ty values id kept is spelled each =
 
 -- ---- signed attributes
 
-pub no_signed : (e : DerElement) (v : SignedAttributes) → e ≡ signed_attributes v → ((list : List Attribute) → AreSignedAttributes e list → ⊥) → ⊥
-no_signed e v is none = no_value v.are (λ list. none v.list (subst (λ (t : DerElement). AreSignedAttributes t v.list) (sym is) list))
+pub no_signed : (e : DerElement) (v : SignedAttributes) → e ≡ signed_attributes v → ((list : List Attribute) → AreAttributes e list → ⊥) → ⊥
+no_signed e v is none = no_value v.are (λ list. none v.list (subst (λ (t : DerElement). AreAttributes t v.list) (sym is) list))

@@ -13,7 +13,7 @@ use Rattle.content_types.specs.ContentInfo.{content_info}
 use Rattle.content_types.specs.declared.content_info.EncapsulatedContentInfo.{EncapsulatedContentInfo}
 use Rattle.cms_types.specs.CmsVersion.{cms_version}
 use Rattle.cms_types.specs.SignerIdentifier.{signer_identifier}
-use Rattle.cms_types.specs.SignedAttributes.{AreSignedAttributes}
+use Rattle.x509_types.specs.Attribute.{AreAttributes}
 use Rattle.cms_types.specs.SignerElements.{SignerElements, signer_of}
 use Rattle.cms_types.specs.SignedDataElements.{SignedDataElements, signed_data_of}
 use Rattle.cms_types.specs.UnsignedKind.{named_unsigned}
@@ -55,7 +55,7 @@ pub record AreSignerFields (f : SignerElements) : Type 0 where
   pub version : Fits IsCmsVersion f.version
   pub sid : Fits IsSignerIdentifier f.sid
   pub digest_algorithm : Fits IsAlgorithm f.digest_algorithm
-  pub signed_attrs : OfOption (Fits AreSignedAttributes) f.signed_attrs
+  pub signed_attrs : OfOption (Fits AreAttributes) f.signed_attrs
   pub signature_algorithm : Fits IsAlgorithm f.signature_algorithm
   pub signature : Fits IsOctetString f.signature
   pub unsigned_attrs : OfOption (IsConstructed 0xA1) f.unsigned_attrs

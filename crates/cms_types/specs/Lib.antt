@@ -7,7 +7,6 @@ pub mod OpusInfo
 pub mod CmsVersion
 pub mod CertificateChoices
 pub mod SignerIdentifier
-pub mod SignedAttributes
 pub mod SignedAttributesElement
 pub mod SignerElements
 pub mod SignedDataElements

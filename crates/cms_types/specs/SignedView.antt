@@ -10,12 +10,12 @@ use Rattle.cms_types.specs.declared.pkcs7.Pkcs7Certificate.{Pkcs7Certificate}
 use Rattle.cms_types.specs.declared.signed_view.SignedView.{SignedView}
 
 -- the elements that lie there
-abbrev pub view_elements : SignedView → SignedDataElements
-view_elements view = signed_data_at view.fields
+abbrev pub data_elements : SignedView → SignedDataElements
+data_elements view = signed_data_at view.fields
 
 -- The view is one of this element: its elements are those of the fields, each of its shape, and it is that of a value.
 pub record IsSignedView (element : DerElement) (view : SignedView) : Type 0 where
-  pub is : element ≡ pkcs7_of (signed_data_of (view_elements view))
-  pub fields : AreSignedDataFields (view_elements view)
+  pub is : element ≡ pkcs7_of (signed_data_of (data_elements view))
+  pub fields : AreSignedDataFields (data_elements view)
   pub value : Pkcs7Certificate
   pub spelled : element ≡ pkcs7 value

@@ -1,6 +1,7 @@
 -- A signer where its octets lie.
 use Rattle.std.specs.Prelude.{◌≡◌, ℕ, List, [], ◌∷◌}
-use Rattle.der_core.specs.DerElement.{DerElement, Primitive}
+use Rattle.asn1_types.specs.Elements.{integer_of}
+use Rattle.der_core.specs.DerElement.{DerElement}
 use Rattle.der_core.specs.Elements.{sequence}
 use Rattle.der_core.specs.Encoding.{encoding}
 use Rattle.cms_types.specs.Lent.{signer_at}
@@ -24,5 +25,5 @@ pub record IsSignerView (element : DerElement) (view : SignerView) : Type 0 wher
 -- The octets are those of the issuer, and the contents octets of the serial number, in the element (RFC 5652 10.2.4).
 pub record LendsNamed (sid : DerElement) (issuer serial_number : List ℕ) : Type 0 where
   pub name : DerElement
-  pub is : sid ≡ sequence (name ∷ Primitive 0x02 serial_number ∷ [])
+  pub is : sid ≡ sequence (name ∷ integer_of serial_number ∷ [])
   pub octets : issuer ≡ encoding name

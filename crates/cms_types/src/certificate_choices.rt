@@ -84,7 +84,8 @@ impl Structure for CertificateChoices {
 /// Certificates are equal exactly where their elements are.
 impl PartialEq for CertificateChoices {
     ghost use Rattle.std.specs.Prelude.{◌≡◌, ◌↔◌, IsTrue};
-    ghost use Rattle.der_core.specs.Equality.{same_octets, same_octets_per};
+    ghost use Rattle.der_core.specs.Equality.{same_octets};
+    ghost use Rattle.der_core.specs.Facts.Equality.{same_octets_per};
     ghost use Rattle.cms_types.specs.CertificateChoices.{certificate_choice};
 
     ghost eq = { same_octets certificate_choice };
@@ -100,7 +101,7 @@ impl PartialEq for CertificateChoices {
 }
 
 impl Eq for CertificateChoices {
-    ghost use Rattle.der_core.specs.Equality.{same_octets_equiv};
+    ghost use Rattle.der_core.specs.Facts.Equality.{same_octets_equiv};
     ghost use Rattle.cms_types.specs.CertificateChoices.{certificate_choice};
 
     ghost laws = { same_octets_equiv certificate_choice };

@@ -63,7 +63,8 @@ impl Structure for IssuerAndSerialNumber {
 /// Values are equal exactly where their octets are.
 impl PartialEq for IssuerAndSerialNumber {
     ghost use Rattle.std.specs.Prelude.{◌≡◌, ◌↔◌, IsTrue};
-    ghost use Rattle.der_core.specs.Equality.{same_octets, same_octets_per};
+    ghost use Rattle.der_core.specs.Equality.{same_octets};
+    ghost use Rattle.der_core.specs.Facts.Equality.{same_octets_per};
     ghost use Rattle.cms_types.specs.SignerIdentifier.{issuer_and_serial_number};
 
     ghost eq = { same_octets issuer_and_serial_number };
@@ -79,7 +80,7 @@ impl PartialEq for IssuerAndSerialNumber {
 }
 
 impl Eq for IssuerAndSerialNumber {
-    ghost use Rattle.der_core.specs.Equality.{same_octets_equiv};
+    ghost use Rattle.der_core.specs.Facts.Equality.{same_octets_equiv};
     ghost use Rattle.cms_types.specs.SignerIdentifier.{issuer_and_serial_number};
 
     ghost laws = { same_octets_equiv issuer_and_serial_number };

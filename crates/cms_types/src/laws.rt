@@ -5,7 +5,7 @@ ghost use Rattle.der_core.specs.DerElement.{DerElement};
 ghost use Rattle.der_core.specs.Encoding.{IsDer};
 ghost use Rattle.cms_types.specs.Pkcs7.{pkcs7};
 ghost use Rattle.cms_types.specs.SignedData.{signed_data, signed_data_elements};
-ghost use Rattle.cms_types.specs.SignedView.{view_elements, IsSignedView};
+ghost use Rattle.cms_types.specs.SignedView.{data_elements, IsSignedView};
 ghost use Rattle.cms_types.specs.SignerInfo.{signer_info, signer_elements};
 ghost use Rattle.cms_types.specs.SignerView.{signer_elements_at, IsSignerView};
 ghost use Rattle.cms_types.specs.Signers.{IsSignerInfo, IsUnsignedAttribute, IsSignedData, IsPkcs7};
@@ -32,6 +32,6 @@ pub fn shapes_are_those_of_values()
 
 /// What lies in signed data, and in a signer, are the fields of the value that is read of it.
 pub fn views_lend_what_signed_data_has()
-    ensures signed { (element : DerElement) (view : SignedView) (value : Pkcs7Certificate) → IsSignedView element view → element ≡ pkcs7 value → view_elements view ≡ signed_data_elements value.signed_data }
+    ensures signed { (element : DerElement) (view : SignedView) (value : Pkcs7Certificate) → IsSignedView element view → element ≡ pkcs7 value → data_elements view ≡ signed_data_elements value.signed_data }
     ensures signers { (element : DerElement) (view : SignerView) (value : SignerInfo) → IsSignerView element view → element ≡ signer_info value → signer_elements_at view ≡ signer_elements value }
 {}

@@ -97,7 +97,8 @@ impl Structure for SpcSpOpusInfo {
 
 /// Values are equal exactly where their octets are.
 impl PartialEq for SpcSpOpusInfo {
-    ghost use Rattle.der_core.specs.Equality.{same_octets, same_octets_per};
+    ghost use Rattle.der_core.specs.Equality.{same_octets};
+    ghost use Rattle.der_core.specs.Facts.Equality.{same_octets_per};
 
     ghost eq = { same_octets opus_info };
 
@@ -112,7 +113,7 @@ impl PartialEq for SpcSpOpusInfo {
 }
 
 impl Eq for SpcSpOpusInfo {
-    ghost use Rattle.der_core.specs.Equality.{same_octets_equiv};
+    ghost use Rattle.der_core.specs.Facts.Equality.{same_octets_equiv};
 
     ghost laws = { same_octets_equiv opus_info };
 }

@@ -68,7 +68,8 @@ impl Structure for Pkcs7Certificate {
 /// Values are equal exactly where they are written as the same element.
 impl PartialEq for Pkcs7Certificate {
     ghost use Rattle.std.specs.Prelude.{◌↔◌, IsTrue};
-    ghost use Rattle.der_core.specs.Equality.{same_octets, same_octets_per};
+    ghost use Rattle.der_core.specs.Equality.{same_octets};
+    ghost use Rattle.der_core.specs.Facts.Equality.{same_octets_per};
     ghost use Rattle.cms_types.specs.Pkcs7.{pkcs7};
 
     ghost eq = { same_octets pkcs7 };
@@ -85,7 +86,7 @@ impl PartialEq for Pkcs7Certificate {
 }
 
 impl Eq for Pkcs7Certificate {
-    ghost use Rattle.der_core.specs.Equality.{same_octets_equiv};
+    ghost use Rattle.der_core.specs.Facts.Equality.{same_octets_equiv};
     ghost use Rattle.cms_types.specs.Pkcs7.{pkcs7};
 
     ghost laws = { same_octets_equiv pkcs7 };

@@ -1,7 +1,7 @@
 //! The signed attributes of a signer, kept as they are.
 
 ghost use Rattle.std.specs.Prelude.{◌≡◌};
-ghost use Rattle.cms_types.specs.SignedAttributes.{AreSignedAttributes};
+ghost use Rattle.x509_types.specs.Attribute.{AreAttributes};
 
 use der_core::{DerError, Elem, Raw, Structure, Tree, has_list, read_list};
 use std::alloc::{AllocError, Global};
@@ -10,12 +10,12 @@ use x509_types::{Attribute, AttributeList};
 pub(crate) const SIGNED_ATTRIBUTES: u8 = 0xA0;
 
 /// The attributes that a signer signs, with the element that they were read from (RFC 5652 5.3): what
-/// is signed of them are its octets.
+/// is signed of them are its octets. A set of none is read, too.
 #[derive(Debug, Drop)]
 pub struct SignedAttributes {
     element: Raw,
     list: AttributeList,
-    pub ghost are: { ∥ AreSignedAttributes element.element list ∥₁ },
+    pub ghost are: { ∥ AreAttributes element.element list ∥₁ },
 }
 
 impl SignedAttributes {
@@ -69,7 +69,8 @@ impl Structure for SignedAttributes {
 /// Signed attributes are equal exactly where their elements are: these tell the attributes.
 impl PartialEq for SignedAttributes {
     ghost use Rattle.std.specs.Prelude.{◌↔◌, IsTrue};
-    ghost use Rattle.der_core.specs.Equality.{same_octets, same_octets_per};
+    ghost use Rattle.der_core.specs.Equality.{same_octets};
+    ghost use Rattle.der_core.specs.Facts.Equality.{same_octets_per};
     ghost use Rattle.cms_types.specs.SignedAttributesElement.{signed_attributes};
 
     ghost eq = { same_octets signed_attributes };
@@ -85,7 +86,7 @@ impl PartialEq for SignedAttributes {
 }
 
 impl Eq for SignedAttributes {
-    ghost use Rattle.der_core.specs.Equality.{same_octets_equiv};
+    ghost use Rattle.der_core.specs.Facts.Equality.{same_octets_equiv};
     ghost use Rattle.cms_types.specs.SignedAttributesElement.{signed_attributes};
 
     ghost laws = { same_octets_equiv signed_attributes };

@@ -153,7 +153,8 @@ impl Structure for SignedData {
 
 /// Signed data is equal exactly where it is written as the same element.
 impl PartialEq for SignedData {
-    ghost use Rattle.der_core.specs.Equality.{same_octets, same_octets_per};
+    ghost use Rattle.der_core.specs.Equality.{same_octets};
+    ghost use Rattle.der_core.specs.Facts.Equality.{same_octets_per};
     ghost use Rattle.cms_types.specs.SignedData.{signed_data};
 
     ghost eq = { same_octets signed_data };
@@ -170,7 +171,7 @@ impl PartialEq for SignedData {
 }
 
 impl Eq for SignedData {
-    ghost use Rattle.der_core.specs.Equality.{same_octets_equiv};
+    ghost use Rattle.der_core.specs.Facts.Equality.{same_octets_equiv};
     ghost use Rattle.cms_types.specs.SignedData.{signed_data};
 
     ghost laws = { same_octets_equiv signed_data };

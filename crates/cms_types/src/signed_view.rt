@@ -29,7 +29,7 @@ impl<'a> SignedView<'a> {
     ghost use Rattle.der_core.specs.Lent.{at_option};
     ghost use Rattle.content_types.specs.ContentInfoElements.{content_info_of};
     ghost use Rattle.cms_types.specs.Pkcs7.{pkcs7};
-    ghost use Rattle.cms_types.specs.SignedView.{view_elements, IsSignedView};
+    ghost use Rattle.cms_types.specs.SignedView.{data_elements, IsSignedView};
     ghost use Rattle.der_core.specs.Lending.{LendsMembers};
     ghost use Rattle.cms_types.specs.declared.pkcs7.Pkcs7Certificate.{Pkcs7Certificate};
 
@@ -49,7 +49,7 @@ impl<'a> SignedView<'a> {
 
     /// The number of the version.
     pub fn version(&self) -> u8
-        ensures { (view_elements self.now).version ≡ Primitive 0x02 (result ∷ []) }
+        ensures { (data_elements self.now).version ≡ Primitive 0x02 (result ∷ []) }
     {
         match CmsVersion::at(self.fields.version) {
             Some(version) => version.number(),
@@ -59,35 +59,35 @@ impl<'a> SignedView<'a> {
 
     /// The digest algorithms.
     pub fn digest_algorithms(&self) -> Cursor<'a>
-        ensures { LendsKids (view_elements self.now).digest_algorithms result }
+        ensures { LendsKids (data_elements self.now).digest_algorithms result }
     {
         kids_of(self.fields.digest_algorithms)
     }
 
     /// The contents octets of the identifier of the content's type.
     pub fn content_type(&self) -> &'a [u8]
-        ensures { (content : Option DerElement) × ((view_elements self.now).content_info ≡ content_info_of (Primitive 0x06 result.now) content) }
+        ensures { (content : Option DerElement) × ((data_elements self.now).content_info ≡ content_info_of (Primitive 0x06 result.now) content) }
     {
         ContentView::of_known(self.fields.content_info).content_type()
     }
 
     /// The content, where it isn't left out.
     pub fn content(&self) -> Option<Elem<'a>>
-        ensures { (content_type : DerElement) × ((view_elements self.now).content_info ≡ content_info_of content_type (at_option result)) }
+        ensures { (content_type : DerElement) × ((data_elements self.now).content_info ≡ content_info_of content_type (at_option result)) }
     {
         ContentView::of_known(self.fields.content_info).content()
     }
 
     /// The element of the certificates, where they aren't left out.
     pub fn certificates(&self) -> Option<Elem<'a>>
-        ensures { at_option result ≡ (view_elements self.now).certificates }
+        ensures { at_option result ≡ (data_elements self.now).certificates }
     {
         self.fields.certificates
     }
 
     /// The certificates, none where they are left out.
     pub fn members(&self) -> Cursor<'a>
-        ensures { LendsMembers (view_elements self.now).certificates result }
+        ensures { LendsMembers (data_elements self.now).certificates result }
     {
         match self.fields.certificates {
             Some(certificates) => kids_of(certificates),
@@ -97,14 +97,14 @@ impl<'a> SignedView<'a> {
 
     /// The element of the signers.
     pub fn signers_infos(&self) -> Elem<'a>
-        ensures { result.is.0 ≡ (view_elements self.now).signers_infos }
+        ensures { result.is.0 ≡ (data_elements self.now).signers_infos }
     {
         self.fields.signers_infos
     }
 
     /// The signers.
     pub fn signers(&self) -> Cursor<'a>
-        ensures { LendsKids (view_elements self.now).signers_infos result }
+        ensures { LendsKids (data_elements self.now).signers_infos result }
     {
         kids_of(self.fields.signers_infos)
     }

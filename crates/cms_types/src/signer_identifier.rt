@@ -70,7 +70,8 @@ impl Structure for SignerIdentifier {
 /// Values are equal exactly where their octets are.
 impl PartialEq for SignerIdentifier {
     ghost use Rattle.std.specs.Prelude.{◌≡◌, ◌↔◌, IsTrue};
-    ghost use Rattle.der_core.specs.Equality.{same_octets, same_octets_per};
+    ghost use Rattle.der_core.specs.Equality.{same_octets};
+    ghost use Rattle.der_core.specs.Facts.Equality.{same_octets_per};
     ghost use Rattle.cms_types.specs.SignerIdentifier.{signer_identifier};
 
     ghost eq = { same_octets signer_identifier };
@@ -96,7 +97,7 @@ impl PartialEq for SignerIdentifier {
 }
 
 impl Eq for SignerIdentifier {
-    ghost use Rattle.der_core.specs.Equality.{same_octets_equiv};
+    ghost use Rattle.der_core.specs.Facts.Equality.{same_octets_equiv};
     ghost use Rattle.cms_types.specs.SignerIdentifier.{signer_identifier};
 
     ghost laws = { same_octets_equiv signer_identifier };

@@ -133,7 +133,8 @@ impl Structure for SignerInfo {
 
 /// Signers are equal exactly where they are written as the same element.
 impl PartialEq for SignerInfo {
-    ghost use Rattle.der_core.specs.Equality.{same_octets, same_octets_per};
+    ghost use Rattle.der_core.specs.Equality.{same_octets};
+    ghost use Rattle.der_core.specs.Facts.Equality.{same_octets_per};
     ghost use Rattle.cms_types.specs.SignerInfo.{signer_info};
 
     ghost eq = { same_octets signer_info };
@@ -150,7 +151,7 @@ impl PartialEq for SignerInfo {
 }
 
 impl Eq for SignerInfo {
-    ghost use Rattle.der_core.specs.Equality.{same_octets_equiv};
+    ghost use Rattle.der_core.specs.Facts.Equality.{same_octets_equiv};
     ghost use Rattle.cms_types.specs.SignerInfo.{signer_info};
 
     ghost laws = { same_octets_equiv signer_info };

@@ -53,7 +53,8 @@ impl Structure for SpcLink {
 
 /// Links are equal exactly where their octets are.
 impl PartialEq for SpcLink {
-    ghost use Rattle.der_core.specs.Equality.{same_octets, same_octets_per};
+    ghost use Rattle.der_core.specs.Equality.{same_octets};
+    ghost use Rattle.der_core.specs.Facts.Equality.{same_octets_per};
     ghost use Rattle.cms_types.specs.SpcLink.{spc_link};
 
     ghost eq = { same_octets spc_link };
@@ -69,7 +70,7 @@ impl PartialEq for SpcLink {
 }
 
 impl Eq for SpcLink {
-    ghost use Rattle.der_core.specs.Equality.{same_octets_equiv};
+    ghost use Rattle.der_core.specs.Facts.Equality.{same_octets_equiv};
     ghost use Rattle.cms_types.specs.SpcLink.{spc_link};
 
     ghost laws = { same_octets_equiv spc_link };

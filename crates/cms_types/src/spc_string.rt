@@ -138,7 +138,8 @@ impl Structure for SpcString {
 
 /// Strings are equal exactly where their octets are.
 impl PartialEq for SpcString {
-    ghost use Rattle.der_core.specs.Equality.{same_octets, same_octets_per};
+    ghost use Rattle.der_core.specs.Equality.{same_octets};
+    ghost use Rattle.der_core.specs.Facts.Equality.{same_octets_per};
     ghost use Rattle.cms_types.specs.SpcString.{spc_string};
 
     ghost eq = { same_octets spc_string };
@@ -154,7 +155,7 @@ impl PartialEq for SpcString {
 }
 
 impl Eq for SpcString {
-    ghost use Rattle.der_core.specs.Equality.{same_octets_equiv};
+    ghost use Rattle.der_core.specs.Facts.Equality.{same_octets_equiv};
     ghost use Rattle.cms_types.specs.SpcString.{spc_string};
 
     ghost laws = { same_octets_equiv spc_string };

@@ -118,7 +118,8 @@ impl UnsignedAttribute {
 /// Attributes are equal exactly where they are written as the same element.
 impl PartialEq for UnsignedAttribute {
     ghost use Rattle.std.specs.Prelude.{◌≡◌, ◌↔◌, IsTrue};
-    ghost use Rattle.der_core.specs.Equality.{same_octets, same_octets_per};
+    ghost use Rattle.der_core.specs.Equality.{same_octets};
+    ghost use Rattle.der_core.specs.Facts.Equality.{same_octets_per};
     ghost use Rattle.cms_types.specs.UnsignedAttribute.{unsigned_attribute};
 
     ghost eq = { same_octets unsigned_attribute };
@@ -135,7 +136,7 @@ impl PartialEq for UnsignedAttribute {
 }
 
 impl Eq for UnsignedAttribute {
-    ghost use Rattle.der_core.specs.Equality.{same_octets_equiv};
+    ghost use Rattle.der_core.specs.Facts.Equality.{same_octets_equiv};
     ghost use Rattle.cms_types.specs.UnsignedAttribute.{unsigned_attribute};
 
     ghost laws = { same_octets_equiv unsigned_attribute };

@@ -1,7 +1,7 @@
 //! Versions of signed data and of signers.
 
 ghost use Rattle.std.specs.Prelude.{◌≡◌, ◌≢◌, ◌↔◌, IsTrue, MatchOption};
-ghost use Rattle.cms_types.specs.CmsVersion.{cms_version, version_number};
+ghost use Rattle.cms_types.specs.CmsVersion.{cms_version, cms_version_number};
 
 use der_core::tag::INTEGER;
 use der_core::{DerError, Elem, Structure, Tree, leaf, leaf_at};
@@ -23,7 +23,7 @@ impl CmsVersion {
 
     /// The number of the version.
     pub fn number(self) -> u8
-        ensures { result ≡ version_number self }
+        ensures { result ≡ cms_version_number self }
     {
         match self {
             CmsVersion::V0 => 0,
@@ -81,7 +81,8 @@ impl Structure for CmsVersion {
 
 /// Versions are equal exactly where their octets are.
 impl PartialEq for CmsVersion {
-    ghost use Rattle.der_core.specs.Equality.{same_octets, same_octets_per};
+    ghost use Rattle.der_core.specs.Equality.{same_octets};
+    ghost use Rattle.der_core.specs.Facts.Equality.{same_octets_per};
 
     ghost eq = { same_octets cms_version };
 
@@ -96,7 +97,7 @@ impl PartialEq for CmsVersion {
 }
 
 impl Eq for CmsVersion {
-    ghost use Rattle.der_core.specs.Equality.{same_octets_equiv};
+    ghost use Rattle.der_core.specs.Facts.Equality.{same_octets_equiv};
 
     ghost laws = { same_octets_equiv cms_version };
 }

@@ -143,7 +143,8 @@ impl Structure for EncapsulatedContentInfo {
 
 /// Contents with their types are equal exactly where their octets are.
 impl PartialEq for EncapsulatedContentInfo {
-    ghost use Rattle.der_core.specs.Equality.{same_octets, same_octets_per};
+    ghost use Rattle.der_core.specs.Equality.{same_octets};
+    ghost use Rattle.der_core.specs.Facts.Equality.{same_octets_per};
     ghost use Rattle.content_types.specs.ContentInfo.{content_info};
 
     ghost eq = { same_octets content_info };
@@ -159,7 +160,7 @@ impl PartialEq for EncapsulatedContentInfo {
 }
 
 impl Eq for EncapsulatedContentInfo {
-    ghost use Rattle.der_core.specs.Equality.{same_octets_equiv};
+    ghost use Rattle.der_core.specs.Facts.Equality.{same_octets_equiv};
     ghost use Rattle.content_types.specs.ContentInfo.{content_info};
 
     ghost laws = { same_octets_equiv content_info };

@@ -113,7 +113,8 @@ impl Structure for Ctl {
 
 /// Trust lists are equal exactly where their octets are.
 impl PartialEq for Ctl {
-    ghost use Rattle.der_core.specs.Equality.{same_octets, same_octets_per};
+    ghost use Rattle.der_core.specs.Equality.{same_octets};
+    ghost use Rattle.der_core.specs.Facts.Equality.{same_octets_per};
     ghost use Rattle.content_types.specs.CtlElement.{ctl};
 
     ghost eq = { same_octets ctl };
@@ -129,7 +130,7 @@ impl PartialEq for Ctl {
 }
 
 impl Eq for Ctl {
-    ghost use Rattle.der_core.specs.Equality.{same_octets_equiv};
+    ghost use Rattle.der_core.specs.Facts.Equality.{same_octets_equiv};
     ghost use Rattle.content_types.specs.CtlElement.{ctl};
 
     ghost laws = { same_octets_equiv ctl };

@@ -59,7 +59,8 @@ impl Structure for DigestInfo {
 
 /// Digests with their algorithms are equal exactly where their octets are.
 impl PartialEq for DigestInfo {
-    ghost use Rattle.der_core.specs.Equality.{same_octets, same_octets_per};
+    ghost use Rattle.der_core.specs.Equality.{same_octets};
+    ghost use Rattle.der_core.specs.Facts.Equality.{same_octets_per};
     ghost use Rattle.content_types.specs.DigestInfo.{digest_info};
 
     ghost eq = { same_octets digest_info };
@@ -75,7 +76,7 @@ impl PartialEq for DigestInfo {
 }
 
 impl Eq for DigestInfo {
-    ghost use Rattle.der_core.specs.Equality.{same_octets_equiv};
+    ghost use Rattle.der_core.specs.Facts.Equality.{same_octets_equiv};
     ghost use Rattle.content_types.specs.DigestInfo.{digest_info};
 
     ghost laws = { same_octets_equiv digest_info };

@@ -65,7 +65,8 @@ impl Structure for SpcIndirectDataContent {
 
 /// Contents are equal exactly where their octets are.
 impl PartialEq for SpcIndirectDataContent {
-    ghost use Rattle.der_core.specs.Equality.{same_octets, same_octets_per};
+    ghost use Rattle.der_core.specs.Equality.{same_octets};
+    ghost use Rattle.der_core.specs.Facts.Equality.{same_octets_per};
     ghost use Rattle.content_types.specs.IndirectData.{indirect_data_content};
 
     ghost eq = { same_octets indirect_data_content };
@@ -81,7 +82,7 @@ impl PartialEq for SpcIndirectDataContent {
 }
 
 impl Eq for SpcIndirectDataContent {
-    ghost use Rattle.der_core.specs.Equality.{same_octets_equiv};
+    ghost use Rattle.der_core.specs.Facts.Equality.{same_octets_equiv};
     ghost use Rattle.content_types.specs.IndirectData.{indirect_data_content};
 
     ghost laws = { same_octets_equiv indirect_data_content };

@@ -94,7 +94,8 @@ impl Structure for SpcAttributeTypeAndOptionalValue {
 
 /// Attributes are equal exactly where their octets are.
 impl PartialEq for SpcAttributeTypeAndOptionalValue {
-    ghost use Rattle.der_core.specs.Equality.{same_octets, same_octets_per};
+    ghost use Rattle.der_core.specs.Equality.{same_octets};
+    ghost use Rattle.der_core.specs.Facts.Equality.{same_octets_per};
 
     ghost eq = { same_octets spc_attribute };
 
@@ -109,7 +110,7 @@ impl PartialEq for SpcAttributeTypeAndOptionalValue {
 }
 
 impl Eq for SpcAttributeTypeAndOptionalValue {
-    ghost use Rattle.der_core.specs.Equality.{same_octets_equiv};
+    ghost use Rattle.der_core.specs.Facts.Equality.{same_octets_equiv};
 
     ghost laws = { same_octets_equiv spc_attribute };
 }

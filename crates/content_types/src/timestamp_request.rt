@@ -65,7 +65,8 @@ impl Structure for TimestampRequest {
 
 /// Requests are equal exactly where their octets are.
 impl PartialEq for TimestampRequest {
-    ghost use Rattle.der_core.specs.Equality.{same_octets, same_octets_per};
+    ghost use Rattle.der_core.specs.Equality.{same_octets};
+    ghost use Rattle.der_core.specs.Facts.Equality.{same_octets_per};
     ghost use Rattle.content_types.specs.TimestampRequest.{timestamp_request};
 
     ghost eq = { same_octets timestamp_request };
@@ -81,7 +82,7 @@ impl PartialEq for TimestampRequest {
 }
 
 impl Eq for TimestampRequest {
-    ghost use Rattle.der_core.specs.Equality.{same_octets_equiv};
+    ghost use Rattle.der_core.specs.Facts.Equality.{same_octets_equiv};
     ghost use Rattle.content_types.specs.TimestampRequest.{timestamp_request};
 
     ghost laws = { same_octets_equiv timestamp_request };

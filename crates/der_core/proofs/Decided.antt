@@ -9,7 +9,8 @@ use Rattle.der_core.specs.Fault.{header_length, IsFirstFault}
 use Rattle.der_core.specs.Facts.Fronts.{some_octets}
 use Rattle.der_core.specs.Head.{IsOctets, head_at, HasHead}
 use Rattle.der_core.specs.Facts.InnerFault.{ElementFault, KidsFault, Here, Inside, First, Next}
-use Rattle.der_core.specs.Reading.{AreDerWithin, HasElement, HasElements, HasNoFirst}
+use Rattle.der_core.specs.Reading.{AreDerWithin, HasElements, HasNoFirst}
+use Rattle.der_core.proofs.Begins.{HasElement}
 use Rattle.der_core.proofs.Lengths.{IsOctets-front}
 use Rattle.der_core.proofs.Heads.{head_taken}
 use Rattle.der_core.proofs.Elements.{leaf_read, branch_read, first_read}

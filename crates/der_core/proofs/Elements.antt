@@ -6,7 +6,8 @@ use Rattle.der_core.specs.DerElement.{DerElement, Primitive, Constructed, DerEle
 use Rattle.der_core.specs.Encoding.{encoding, encodings, form_bit, IsDerWithin}
 use Rattle.der_core.specs.Facts.Fronts.{ok_is, some_octets, fronts}
 use Rattle.der_core.specs.Head.{head_at, HasHead}
-use Rattle.der_core.specs.Reading.{AreDerWithin, HasElement, HasElements, IsFirst}
+use Rattle.der_core.specs.Reading.{AreDerWithin, HasElements, IsFirst}
+use Rattle.der_core.proofs.Begins.{HasElement}
 use Rattle.der_core.proofs.Heads.{contents_of, head_again}
 
 -- ---- what is read

@@ -9,7 +9,8 @@ use Rattle.der_core.specs.Fault.{header_length, IsStart, Outermost, Within, Afte
 use Rattle.der_core.specs.Facts.InnerFault.{ElementFault, KidsFault, Here, Inside, First, Next}
 use Rattle.der_core.specs.Facts.Fronts.{ok_is, some_octets, fronts}
 use Rattle.der_core.specs.Head.{head_at, HasHead}
-use Rattle.der_core.specs.Reading.{HasElement, HasElements, IsFaultFrom}
+use Rattle.der_core.specs.Reading.{HasElements, IsFaultFrom}
+use Rattle.der_core.proofs.Begins.{HasElement}
 use Rattle.der_core.proofs.Elements.{no_head, no_kids, no_first, rest_goes_on}
 
 -- ---- there is no element where there is a fault

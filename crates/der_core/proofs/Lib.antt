@@ -1,5 +1,6 @@
 pub mod Lengths
 pub mod Heads
+pub mod Begins
 pub mod Elements
 pub mod Faults
 pub mod Exact

@@ -1,8 +1,8 @@
 -- Octets read element by element where they lie.
 use Rattle.std.specs.Prelude.{◌≡◌, ℕ, ◌+◌, ◌-◌, ◌≤◌, ◌<◌, List, ◌++◌, length}
-use Rattle.der_core.specs.DerElement.{DerElement, DerElements}
-use Rattle.der_core.specs.Encoding.{nesting, encodings, most_levels}
-use Rattle.der_core.specs.Reading.{IsFirst, AreDerWithin}
+use Rattle.der_core.specs.DerElement.{DerElement}
+use Rattle.der_core.specs.Encoding.{nesting, most_levels}
+use Rattle.der_core.specs.Reading.{IsFirst, HasElements}
 
 -- The first n octets are the encoding of an element that is read at this level: all levels around it and in it together are at most `most_levels`.
 pub record BeginsAt (level : ℕ) (octets : List ℕ) (element : DerElement) (n : ℕ) : Type 0 where
@@ -14,10 +14,6 @@ pub record MovesPast (whole rest rest_now : List ℕ) (place place_now : ℕ) : 
   pub gone : rest ≡ whole ++ rest_now
   pub placed : place_now ≡ place + length whole
 
--- The octets are the encodings of elements of one level less than the most, one after another.
-abbrev pub AreInner : List ℕ → DerElements → Type 0
-AreInner octets elements = AreDerWithin (most_levels - 1) elements × (octets ≡ encodings elements)
-
--- Octets past the first level were tested as the contents of an element.
+-- Octets past the first level were tested as the contents of an element: they are elements of one level less than the most.
 abbrev pub WereTested : ℕ → List ℕ → Type 0
-WereTested level octets = 1 < level → (elements : DerElements) × AreInner octets elements
+WereTested level octets = 1 < level → HasElements (most_levels - 1) octets

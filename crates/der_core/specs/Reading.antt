@@ -7,17 +7,13 @@ use Rattle.der_core.specs.declared.fault.Malformed.{Malformed}
 use Rattle.der_core.specs.Fault.{IsFirstFault}
 use Rattle.der_core.specs.Causes.{Refuses}
 use Rattle.der_core.specs.DerElement.{DerElement, DerElements}
-use Rattle.der_core.specs.Encoding.{encoding, encodings, AreWellFormed, deepest, AreShort, IsDerWithin, IsDer}
+use Rattle.der_core.specs.Encoding.{encoding, encodings, AreWellFormed, deepest, AreShort, IsDer}
 
 -- elements in order, each of which is read within so many levels
 pub record AreDerWithin (levels : ℕ) (elements : DerElements) : Type 0 where
   pub formed : AreWellFormed elements
   pub nested : deepest elements ≤ levels
   pub short : AreShort elements
-
--- Octets begin with an element of at most so many levels.
-abbrev pub HasElement : ℕ → List ℕ → Type 0
-HasElement levels octets = (element : DerElement) × (rest : List ℕ) × IsDerWithin levels element × (octets ≡ encoding element ++ rest)
 
 -- Octets are elements of at most so many levels.
 abbrev pub HasElements : ℕ → List ℕ → Type 0

@@ -9,6 +9,10 @@ use Rattle.der_core.specs.Placed.{AreDer}
 use Rattle.der_core.specs.declared.error.DerError.{DerError}
 use Rattle.der_core.specs.declared.error.DerError.TheVariants as errors
 
+-- The error tells of a cause that refuses: it is what is told of it.
+abbrev pub Tells : {S E : Type 0} → (S → E) → (S → Type 0) → E → Type 0
+Tells {S} told Refuses e = (source : S) × (e ≡ told source) × Refuses source
+
 -- The shape is refused exactly where the element is that of no value.
 abbrev pub RefusesShape : {X : Type 0} → (X → Type 0) → DerError → Type 0
 RefusesShape {X} Is = Refuses NoFault ((value : X) → Is value → ⊥) ⊥ ⊥

@@ -3,7 +3,8 @@
 ghost use Rattle.std.specs.Prelude.{◌≡◌, ◌↔◌, ◌<◌, Err, IfOk, IsTrue, MatchResult};
 ghost use Rattle.der_core.specs.DerElement.{tag_of};
 ghost use Rattle.der_core.specs.Encoding.{encoding, nesting, IsWellFormed, IsDer, most_levels};
-ghost use Rattle.der_core.specs.Equality.{same_octets, same_octets_per, same_octets_equiv};
+ghost use Rattle.der_core.specs.Equality.{same_octets};
+ghost use Rattle.der_core.specs.Facts.Equality.{same_octets_per, same_octets_equiv};
 ghost use Rattle.der_core.specs.Kept.{Kept, IsKept};
 ghost use Rattle.der_core.specs.Facts.Kept.{Kept-prop};
 ghost use Rattle.der_core.specs.Writing.{RefusesToWrite};

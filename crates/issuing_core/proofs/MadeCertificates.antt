@@ -5,7 +5,7 @@ use Rattle.der_core.specs.Facts.Fronts.{formed_encoding_once}
 use Rattle.der_core.specs.Placed.{AreDer}
 use Rattle.der_core.specs.Refusals.{RefusesInner}
 use Rattle.key_types.specs.declared.key_info.SubjectPublicKeyInfo.{SubjectPublicKeyInfo}
-use Rattle.key_core.specs.SignatureRules.{RefusesBy}
+use Rattle.key_core.specs.SignatureRules.{RefusesSignatureBy}
 use Rattle.key_core.specs.Signing.{Signs, Pair, IsKeyPair, arithmetic, sign_rules}
 use Rattle.key_core.specs.Verifying.{Judge, Accepts}
 use Rattle.key_core.specs.declared.element.Element.TheVariants as elements
@@ -17,12 +17,13 @@ use Rattle.x509_types.specs.Facts.Certificates.{certificates}
 use Rattle.x509_types.specs.TbsCertificate.{tbs_certificate, inner_tbs}
 use Rattle.x509_types.specs.declared.certificate.Certificate.{Certificate}
 use Rattle.x509_types.specs.declared.tbs_certificate.TbsCertificate.{TbsCertificate}
-use Rattle.x509_core.specs.CertRefusals.{IsUnwritten}
+use Rattle.x509_core.specs.CertRefusals.{IsUnwrittenCert}
 use Rattle.x509_core.specs.KeptCertificate.{KeptCertificate, kept_octets, written_octets, written_elements}
 use Rattle.x509_core.specs.Steps.{IsFirstUntaken, RefusesBySteps}
 use Rattle.x509_core.specs.declared.error.CertError.{CertError}
 use Rattle.x509_core.specs.declared.error.CertError.TheVariants as errors
-use Rattle.issuing_core.specs.BuildRefusals.{no_octets, no_signature, Tells}
+use Rattle.der_core.specs.Refusals.{Tells}
+use Rattle.issuing_core.specs.BuildRefusals.{no_octets, no_signature}
 use Rattle.issuing_core.specs.Building.{IsMade, IsSignedCertificate, IsTbsSigned, message_of, signing_steps, tbs_written}
 
 -- the kept element is the written one
@@ -34,7 +35,7 @@ module _ (judge : Judge) (signs : Signs) (pair : Pair) (algorithm : SignatureAlg
   pub made_or_not : (tbs : TbsCertificate) (c : Certificate) (r : Result KeptCertificate CertError) → c.tbs_certificate ≡ tbs → c.signature_algorithm ≡ tbs.signature → c.signature_value.unused ≡ 0
       → IsDer (tbs_certificate tbs) → AreDer (inner_tbs tbs) → IsTbsSigned signs algorithm key tbs
       → ((public : SubjectPublicKeyInfo) → IsKeyPair pair key public → Accepts judge algorithm public (message_of tbs) c.signature_value.payload)
-      → MatchResult r (λ cert. (kept_octets cert ≡ written_octets c) × (cert.certificate ≡ c)) (IsUnwritten elements.Certificate (RefusesInner (written_elements c)))
+      → MatchResult r (λ cert. (kept_octets cert ≡ written_octets c) × (cert.certificate ≡ c)) (IsUnwrittenCert elements.Certificate (RefusesInner (written_elements c)))
       → MatchResult r (IsMade (arithmetic judge signs pair) algorithm key (λ t. t ≡ tbs)) (RefusesBySteps errors.Memory (signing_steps (arithmetic judge signs pair) algorithm key (λ t. t ≡ tbs)))
   made_or_not tbs c r is beside unused der inner signed accepted made =
       let whole : IsSignedCertificate judge pair algorithm key (λ t. t ≡ tbs) c = record {
@@ -46,7 +47,7 @@ module _ (judge : Judge) (signs : Signs) (pair : Pair) (algorithm : SignatureAlg
       by r whole made
     where
       by : (r : Result KeptCertificate CertError) → IsSignedCertificate judge pair algorithm key (λ t. t ≡ tbs) c
-          → MatchResult r (λ cert. (kept_octets cert ≡ written_octets c) × (cert.certificate ≡ c)) (IsUnwritten elements.Certificate (RefusesInner (written_elements c)))
+          → MatchResult r (λ cert. (kept_octets cert ≡ written_octets c) × (cert.certificate ≡ c)) (IsUnwrittenCert elements.Certificate (RefusesInner (written_elements c)))
           → MatchResult r (IsMade (arithmetic judge signs pair) algorithm key (λ t. t ≡ tbs)) (RefusesBySteps errors.Memory (signing_steps (arithmetic judge signs pair) algorithm key (λ t. t ≡ tbs)))
       by (Ok cert) whole (octets, value) = record {
         signed = subst (λ (x : Certificate). IsTbsSigned signs algorithm key x.tbs_certificate) (sym value) (subst (IsTbsSigned signs algorithm key) (sym is) signed);
@@ -80,7 +81,7 @@ module _ (judge : Judge) (signs : Signs) (pair : Pair) (algorithm : SignatureAlg
 -- what is signed can't be written, or isn't signed
 pub not_made : (judge : Judge) (signs : Signs) (pair : Pair) (algorithm : SignatureAlgorithm) (key : PrivateKey) (tbs : TbsCertificate) (e : CertError)
     → (e ≡ errors.Memory) ⊎ (Tells no_octets (RefusesInner (tbs_written tbs)) e
-    ⊎ (IsDer (tbs_certificate tbs) × AreDer (inner_tbs tbs) × Tells no_signature (RefusesBy (sign_rules signs algorithm key (message_of tbs))) e))
+    ⊎ (IsDer (tbs_certificate tbs) × AreDer (inner_tbs tbs) × Tells no_signature (RefusesSignatureBy (sign_rules signs algorithm key (message_of tbs))) e))
     → RefusesBySteps errors.Memory (signing_steps (arithmetic judge signs pair) algorithm key (λ t. t ≡ tbs)) e
 not_made judge signs pair algorithm key tbs e (inl memory) = inr memory
 not_made judge signs pair algorithm key tbs e (inr (inl told)) = inl (inl (tbs, refl, told))

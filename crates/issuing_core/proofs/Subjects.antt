@@ -8,7 +8,8 @@ use Rattle.names_core.specs.declared.name.DirectoryName.{DirectoryName}
 use Rattle.x509_core.specs.Steps.{AreTaken, RefusesBySteps}
 use Rattle.x509_core.specs.declared.error.CertError.{CertError}
 use Rattle.x509_core.specs.declared.error.CertError.TheVariants as errors
-use Rattle.issuing_core.specs.BuildRefusals.{no_request, Tells}
+use Rattle.der_core.specs.Refusals.{Tells}
+use Rattle.issuing_core.specs.BuildRefusals.{no_request}
 use Rattle.issuing_core.specs.BuiltCertificate.{IsGivenSubject, IsHalfOf, IsSubjectBy, NameSets}
 use Rattle.issuing_core.specs.Building.{half_step, other_steps, subject_steps}
 use Rattle.issuing_core.specs.CsrRefusals.{IsUnsigned}

@@ -15,11 +15,11 @@ use Rattle.x509_values.specs.declared.extended_key_usage.ExtendedKeyUsage.{Exten
 use Rattle.x509_values.specs.declared.key_usage.KeyUsage.{KeyUsage}
 use Rattle.x509_core.specs.FirstValue.{HasFirst}
 use Rattle.issuing_core.specs.Inherited.{has_one, with_one, with_others, AreDistinct}
-use Rattle.issuing_core.specs.MadeExtensions.{Wanted, IsWantedExtension, AreWanted, AreBuilt, HasUses, IsConstraints, constraints_of, inherited, where_given, wanted, wanted_keys, wanted_names, wanted_uses}
+use Rattle.issuing_core.specs.MadeExtensions.{WantedExtension, IsWantedExtension, AreWanted, AreBuilt, HasUses, IsConstraints, constraints_of, inherited, where_given, wanted, wanted_keys, wanted_names, wanted_uses}
 use Rattle.issuing_core.specs.declared.builder.CertificateBuilder.{CertificateBuilder}
 use Rattle.issuing_core.specs.declared.builder.IssuerInfos.{IssuerInfos}
 
-pub wanted_both : (a b : List Wanted) (xs ys : List Extension) → AreWanted a xs → AreWanted b ys → AreWanted (a ++ b) (xs ++ ys)
+pub wanted_both : (a b : List WantedExtension) (xs ys : List Extension) → AreWanted a xs → AreWanted b ys → AreWanted (a ++ b) (xs ++ ys)
 wanted_both [] b [] ys p q = q
 wanted_both [] b (x ∷ xs) ys p q = absurd p
 wanted_both (w ∷ a) b [] ys p q = absurd p
@@ -39,15 +39,15 @@ not_parts true e = let no : false ≡ true = e in absurd cc
 not_parts false e = refl
 
 -- none of the wanted has this identifier, and no two have the same, as tests
-abbrev lack : List ℕ → List Wanted → Bool
+abbrev lack : List ℕ → List WantedExtension → Bool
 lack oid [] = true
 lack oid (w ∷ others) = not (bytes_eq w.oid oid) && lack oid others
 
-abbrev differ : List Wanted → Bool
+abbrev differ : List WantedExtension → Bool
 differ [] = true
 differ (w ∷ others) = lack w.oid others && differ others
 
-none_of : (oid : List ℕ) (ws : List Wanted) (es : List Extension) → AreWanted ws es → lack oid ws ≡ true → NoneHas oid es
+none_of : (oid : List ℕ) (ws : List WantedExtension) (es : List Extension) → AreWanted ws es → lack oid ws ≡ true → NoneHas oid es
 none_of oid [] [] are test = tt
 none_of oid [] (e ∷ es) are test = absurd are
 none_of oid (w ∷ ws) [] are test = absurd are
@@ -55,7 +55,7 @@ none_of oid (w ∷ ws) (e ∷ es) are test =
     let parts = and_parts _ _ test in
     (subst (λ (id : List ℕ). id ≢ oid) (sym are.0.named) (differs w.oid oid (not_parts _ parts.0)), none_of oid ws es are.1 parts.1)
 
-distinct_of : (ws : List Wanted) (es : List Extension) → AreWanted ws es → differ ws ≡ true → AreDistinct es
+distinct_of : (ws : List WantedExtension) (es : List Extension) → AreWanted ws es → differ ws ≡ true → AreDistinct es
 distinct_of [] [] are test = tt
 distinct_of [] (e ∷ es) are test = absurd are
 distinct_of (w ∷ ws) [] are test = absurd are
@@ -64,7 +64,7 @@ distinct_of (w ∷ ws) (e ∷ es) are test =
     (subst (λ (id : List ℕ). NoneHas id es) (sym are.0.named) (none_of w.oid ws es are.1 parts.0), distinct_of ws es are.1 parts.1)
 
 -- those that a builder wants
-abbrev all_wanted : Bool → ExtensionView → Option KeyUsage → Option ExtendedKeyUsage → Option (List RawGeneralName) → Option (List RawGeneralName) → (own authority : List ℕ) → List Wanted
+abbrev all_wanted : Bool → ExtensionView → Option KeyUsage → Option ExtendedKeyUsage → Option (List RawGeneralName) → Option (List RawGeneralName) → (own authority : List ℕ) → List WantedExtension
 all_wanted critical constraints uses purposes subject issuer own authority =
     (record { oid = CE_BASIC_CONSTRAINTS.now; critical = critical; value = constraints }
     ∷ (where_given CE_KEY_USAGE.now true views.KeyUsage uses ++ where_given CE_EXT_KEY_USAGE.now false views.ExtendedKeyUsage purposes))
@@ -137,7 +137,7 @@ begins_others : (first : Extension) (es others : List Extension) → IsAtFront f
 begins_others first es [] begins = begins
 begins_others first es (e ∷ others) begins = begins_others first (with_one es e) others (begins_or first es e (has_one es (identifier_contents e.extn_id)) begins)
 
-first_wanted : (w : Wanted) (ws : List Wanted) (es : List Extension) → AreWanted (w ∷ ws) es → (e : Extension) × IsWantedExtension w e × IsAtFront e es
+first_wanted : (w : WantedExtension) (ws : List WantedExtension) (es : List Extension) → AreWanted (w ∷ ws) es → (e : Extension) × IsWantedExtension w e × IsAtFront e es
 first_wanted w ws [] are = absurd are
 first_wanted w ws (e ∷ es) are = (e, are.0, (es, refl))
 

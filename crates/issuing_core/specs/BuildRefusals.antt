@@ -1,5 +1,4 @@
 -- What is told of a certificate that isn't built, by what refuses the step.
-use Rattle.std.specs.Prelude.{◌≡◌}
 use Rattle.der_core.specs.declared.error.DerError.{DerError}
 use Rattle.der_core.specs.declared.error.DerError.TheVariants as der
 use Rattle.key_core.specs.declared.element.Element.TheVariants as elements
@@ -44,7 +43,3 @@ no_octets source = errors.CertGeneration (causes.Asn1Serialization elements.TbsC
 abbrev pub no_signature : SignatureError → CertError
 no_signature signature.Memory = errors.Memory
 no_signature source = errors.CertGeneration (causes.Signature source)
-
--- The error tells of a cause that refuses the step.
-abbrev pub Tells : {E : Type 0} → (E → CertError) → (E → Type 0) → CertError → Type 0
-Tells {E} told Refuses e = (source : E) × (e ≡ told source) × Refuses source

@@ -11,7 +11,7 @@ use Rattle.key_core.specs.KeyIdentifier.{RefusesKeyIdentifier}
 use Rattle.key_core.specs.Keys.{container_of, point_beside}
 use Rattle.key_core.specs.PublicHalf.{RefusesPublicHalf}
 use Rattle.key_core.specs.SignatureAlgorithm.{IsWrittenAlgorithm, IsUnwritable}
-use Rattle.key_core.specs.SignatureRules.{RefusesBy}
+use Rattle.key_core.specs.SignatureRules.{RefusesSignatureBy}
 use Rattle.key_core.specs.Signing.{Signs, Pair, KeyArithmetic, IsAsked, IsKeyPair, sign_rules}
 use Rattle.key_core.specs.Verifying.{Judge, Accepts}
 use Rattle.key_core.specs.declared.element.Element.TheVariants as elements
@@ -22,14 +22,15 @@ use Rattle.x509_types.specs.CertificateElements.{certificate_of}
 use Rattle.x509_types.specs.TbsCertificate.{tbs_certificate, inner_tbs}
 use Rattle.x509_types.specs.declared.certificate.Certificate.{Certificate}
 use Rattle.x509_types.specs.declared.tbs_certificate.TbsCertificate.{TbsCertificate}
-use Rattle.x509_core.specs.CertRefusals.{IsUnwritten}
+use Rattle.x509_core.specs.CertRefusals.{IsUnwrittenCert}
 use Rattle.x509_core.specs.KeptCertificate.{KeptCertificate, written_elements}
 use Rattle.x509_core.specs.Steps.{Step}
 use Rattle.x509_core.specs.declared.error.Arg.{Arg}
 use Rattle.x509_core.specs.declared.error.Arg.TheVariants as arguments
 use Rattle.x509_core.specs.declared.error.CertError.{CertError}
 use Rattle.x509_core.specs.declared.error.CertError.TheVariants as errors
-use Rattle.issuing_core.specs.BuildRefusals.{no_half, no_request, no_key_id, no_algorithm, no_octets, no_signature, Tells}
+use Rattle.der_core.specs.Refusals.{Tells}
+use Rattle.issuing_core.specs.BuildRefusals.{no_half, no_request, no_key_id, no_algorithm, no_octets, no_signature}
 use Rattle.issuing_core.specs.BuiltCertificate.{IsHalfOf, NameSets, IsSubject, IsBuiltFor, IsTbsFor}
 use Rattle.issuing_core.specs.CsrRefusals.{IsUnsigned}
 use Rattle.issuing_core.specs.KeptRequest.{KeptRequest}
@@ -130,14 +131,14 @@ module _ (scheme : KeyArithmetic) (algorithm : SignatureAlgorithm) (key : Privat
   abbrev pub signature_step : Step CertError
   signature_step = record {
     taken = (tbs : TbsCertificate) × IsTbs tbs × IsTbsSigned scheme.signs algorithm key tbs;
-    refused = λ e. (tbs : TbsCertificate) × IsTbs tbs × Tells no_signature (RefusesBy (sign_rules scheme.signs algorithm key (message_of tbs))) e;
+    refused = λ e. (tbs : TbsCertificate) × IsTbs tbs × Tells no_signature (RefusesSignatureBy (sign_rules scheme.signs algorithm key (message_of tbs))) e;
   }
 
   -- the whole can be written
   abbrev pub whole_step : Step CertError
   whole_step = record {
     taken = (cert : KeptCertificate) × IsMade scheme algorithm key IsTbs cert;
-    refused = λ e. (c : Certificate) × IsSignedCertificate scheme.judge scheme.pair algorithm key IsTbs c × IsUnwritten elements.Certificate (RefusesInner (written_elements c)) e;
+    refused = λ e. (c : Certificate) × IsSignedCertificate scheme.judge scheme.pair algorithm key IsTbs c × IsUnwrittenCert elements.Certificate (RefusesInner (written_elements c)) e;
   }
 
   -- the steps that make a certificate of what is signed

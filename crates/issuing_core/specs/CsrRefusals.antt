@@ -1,7 +1,7 @@
 -- Why a request isn't read, written, accepted or made, by what refuses the step.
-use Rattle.std.specs.Prelude.{◌≡◌}
 use Rattle.der_core.specs.declared.error.DerError.{DerError}
 use Rattle.der_core.specs.declared.error.DerError.TheVariants as der
+use Rattle.der_core.specs.Refusals.{Tells}
 use Rattle.key_core.specs.declared.element.Element.{Element}
 use Rattle.key_core.specs.declared.error.KeyError.{KeyError}
 use Rattle.key_core.specs.declared.error.KeyError.TheVariants as key
@@ -38,16 +38,16 @@ keyless source = errors.PrivateKeyToPublicKey source
 
 -- The error tells of this structure, for a cause that refuses it.
 abbrev pub IsUnreadCsr : Element → (DerError → Type 0) → CsrError → Type 0
-IsUnreadCsr element Refuses e = (source : DerError) × (e ≡ unread_csr element source) × Refuses source
+IsUnreadCsr element = Tells (unread_csr element)
 
 -- The error tells of this structure, for a cause that refuses to write it.
 abbrev pub IsUnwrittenCsr : Element → (DerError → Type 0) → CsrError → Type 0
-IsUnwrittenCsr element Refuses e = (source : DerError) × (e ≡ unwritten_csr element source) × Refuses source
+IsUnwrittenCsr element = Tells (unwritten_csr element)
 
 -- The error tells of a signature, for a cause that refuses it.
 abbrev pub IsUnsigned : (SignatureError → Type 0) → CsrError → Type 0
-IsUnsigned Refuses e = (source : SignatureError) × (e ≡ unsigned source) × Refuses source
+IsUnsigned = Tells unsigned
 
 -- The error tells of a private key, for a cause that refuses its public one.
 abbrev pub IsKeyless : (KeyError → Type 0) → CsrError → Type 0
-IsKeyless Refuses e = (source : KeyError) × (e ≡ keyless source) × Refuses source
+IsKeyless = Tells keyless

@@ -8,7 +8,7 @@ use Rattle.key_types.specs.declared.key_info.SubjectPublicKeyInfo.{SubjectPublic
 use Rattle.key_core.specs.Keys.{container_of, point_beside}
 use Rattle.key_core.specs.PublicHalf.{IsPublicHalf, RefusesPublicHalf}
 use Rattle.key_core.specs.SignatureAlgorithm.{IsWrittenAlgorithm, IsUnwritable}
-use Rattle.key_core.specs.SignatureRules.{RefusesBy}
+use Rattle.key_core.specs.SignatureRules.{RefusesSignatureBy}
 use Rattle.key_core.specs.Signing.{Signs, Pair, KeyArithmetic, IsAsked, IsKeyPair, sign_rules}
 use Rattle.key_core.specs.Verifying.{Judge, Accepts}
 use Rattle.key_core.specs.declared.element.Element.TheVariants as elements
@@ -78,7 +78,7 @@ IsInfoWritten info = IsDer (request_info info) × AreDer (inner_request info)
 
 -- the private key doesn't sign it
 abbrev pub InfoUnsigned : Signs → PrivateKey → SignatureAlgorithm → CertificationRequestInfo → CsrError → Type 0
-InfoUnsigned signs key algorithm info = IsUnsigned (RefusesBy (sign_rules signs algorithm key (encoding (request_info info))))
+InfoUnsigned signs key algorithm info = IsUnsigned (RefusesSignatureBy (sign_rules signs algorithm key (encoding (request_info info))))
 
 -- The first step refuses that isn't taken: to write what is signed, to sign it, to name the algorithm, to write the whole.
 abbrev pub RefusesToMake : KeyArithmetic → PrivateKey → SignatureAlgorithm → CertificationRequestInfo → CsrError → Type 0

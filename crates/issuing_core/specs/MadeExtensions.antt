@@ -17,26 +17,26 @@ use Rattle.issuing_core.specs.declared.builder.SubjectInfos.{SubjectInfos}
 use Rattle.issuing_core.specs.declared.builder.SubjectInfos.TheVariants as subjects
 
 -- An extension by its identifier's contents octets, whether it is critical, and its value.
-pub record Wanted : Type 0 where
+pub record WantedExtension : Type 0 where
   pub oid : List ℕ
   pub critical : Bool
   pub value : ExtensionView
 
 -- The extension is the wanted one.
-pub record IsWantedExtension (w : Wanted) (e : Extension) : Type 0 where
+pub record IsWantedExtension (w : WantedExtension) (e : Extension) : Type 0 where
   pub named : identifier_contents (extension_id e) ≡ w.oid
   pub flagged : is_critical e ≡ w.critical
   pub valued : extension_value e ≡ w.value
 
 -- each is the wanted one at its place, and there are as many
-abbrev pub AreWanted : List Wanted → List Extension → Type 0
+abbrev pub AreWanted : List WantedExtension → List Extension → Type 0
 AreWanted [] [] = ⊤
 AreWanted [] (e ∷ extensions) = ⊥
 AreWanted (w ∷ wanted) [] = ⊥
 AreWanted (w ∷ wanted) (e ∷ extensions) = IsWantedExtension w e × AreWanted wanted extensions
 
 -- one of this identifier, where its value is given
-abbrev pub where_given : {X : Type 0} → List ℕ → Bool → (X → ExtensionView) → Option X → List Wanted
+abbrev pub where_given : {X : Type 0} → List ℕ → Bool → (X → ExtensionView) → Option X → List WantedExtension
 where_given oid critical view None = []
 where_given oid critical view (Some x) = record { oid = oid; critical = critical; value = view x } ∷ []
 
@@ -50,26 +50,26 @@ abbrev pub constraints_of : CertificateBuilder → ExtensionView
 constraints_of b = views.BasicConstraints (constraints_with (Some b.ca) b.pathlen)
 
 -- constraints, critical or not, then what the key is for
-abbrev pub wanted_uses : CertificateBuilder → Bool → List Wanted
+abbrev pub wanted_uses : CertificateBuilder → Bool → List WantedExtension
 wanted_uses b critical =
     record { oid = CE_BASIC_CONSTRAINTS.now; critical = critical; value = constraints_of b }
     ∷ (where_given CE_KEY_USAGE.now true views.KeyUsage b.key_usage
     ++ where_given CE_EXT_KEY_USAGE.now false views.ExtendedKeyUsage b.extended_key_usage)
 
 -- further names of the subject, then of the issuer
-abbrev pub wanted_names : CertificateBuilder → List Wanted
+abbrev pub wanted_names : CertificateBuilder → List WantedExtension
 wanted_names b =
     where_given CE_SUBJECT_ALT_NAME.now false views.SubjectAltName b.subject_alt_name
     ++ where_given CE_ISSUER_ALT_NAME.now false views.IssuerAltName b.issuer_alt_name
 
 -- the identifier of the key, then of the issuer's
-abbrev pub wanted_keys : (own authority : List ℕ) → List Wanted
+abbrev pub wanted_keys : (own authority : List ℕ) → List WantedExtension
 wanted_keys own authority =
     record { oid = CE_SUBJECT_KEY_IDENTIFIER.now; critical = false; value = views.SubjectKeyIdentifier own }
     ∷ record { oid = CE_AUTHORITY_KEY_IDENTIFIER.now; critical = false; value = views.AuthorityKeyIdentifier (key_of_identifier authority) } ∷ []
 
 -- the extensions that the builder makes itself, in their order
-abbrev pub wanted : CertificateBuilder → Bool → (own authority : List ℕ) → List Wanted
+abbrev pub wanted : CertificateBuilder → Bool → (own authority : List ℕ) → List WantedExtension
 wanted b critical own authority = wanted_uses b critical ++ (wanted_names b ++ wanted_keys own authority)
 
 -- The extension has the builder's constraints, and is critical exactly where the key is said to be for signatures.

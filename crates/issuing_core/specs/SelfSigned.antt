@@ -3,7 +3,7 @@ use Rattle.std.specs.Prelude.{◌⊎◌}
 use Rattle.der_core.specs.Encoding.{encoding}
 use Rattle.asn1_types.specs.Values.{payload_of}
 use Rattle.key_core.specs.SignatureAlgorithm.{NamesSignature, IsUnnamed}
-use Rattle.key_core.specs.SignatureRules.{RefusesBy}
+use Rattle.key_core.specs.SignatureRules.{RefusesSignatureBy}
 use Rattle.key_core.specs.Verifying.{Judge, Accepts, verify_rules}
 use Rattle.key_core.specs.declared.signature_algorithm.SignatureAlgorithm.{SignatureAlgorithm}
 use Rattle.key_core.specs.declared.signature_error.SignatureError.{SignatureError}
@@ -19,7 +19,7 @@ pub record IsSelfSigned (judge : Judge) (csr : KeptRequest) : Type 0 where
 pub record IsMissigned (judge : Judge) (csr : KeptRequest) (e : SignatureError) : Type 0 where
   pub algorithm : SignatureAlgorithm
   pub named : NamesSignature csr.request.signature_algorithm algorithm
-  pub refused : RefusesBy (verify_rules judge algorithm csr.request.certification_request_info.subject_public_key_info (encoding csr.info) (payload_of csr.request.signature)) e
+  pub refused : RefusesSignatureBy (verify_rules judge algorithm csr.request.certification_request_info.subject_public_key_info (encoding csr.info) (payload_of csr.request.signature)) e
 
 -- why it isn't one by the key: the request names no algorithm, or the signature breaks a rule
 abbrev pub RefusesSelfSigned : Judge → KeptRequest → SignatureError → Type 0

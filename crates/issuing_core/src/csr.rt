@@ -3,7 +3,8 @@
 ghost use Rattle.std.specs.Prelude.{◌≡◌, ◌↔◌, ℕ, Some, IsTrue, IfOk, Err, MatchResult};
 ghost use Rattle.der_core.specs.DerElement.{DerElement};
 ghost use Rattle.der_core.specs.Encoding.{encoding, IsDer};
-ghost use Rattle.der_core.specs.Equality.{same_octets, same_octets_per};
+ghost use Rattle.der_core.specs.Equality.{same_octets};
+ghost use Rattle.der_core.specs.Facts.Equality.{same_octets_per};
 ghost use Rattle.der_core.specs.Reading.{IsExactFault};
 ghost use Rattle.der_core.specs.Refusals.{RefusesInner, RefusesOctets, RefusesShape};
 ghost use Rattle.der_core.specs.Structure.{IsWithin};

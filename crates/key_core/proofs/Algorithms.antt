@@ -13,7 +13,7 @@ use Rattle.asn1_types.specs.declared.bit_string.BitString.{BitString}
 use Rattle.asn1_types.specs.declared.oid.ObjectIdentifier.{ObjectIdentifier}
 use Rattle.key_types.specs.AlgorithmIdentifier.{algorithm_identifier}
 use Rattle.key_types.specs.KeyKind.{names_kind, MayHave}
-use Rattle.key_types.specs.SubjectKey.{kind_of}
+use Rattle.key_types.specs.SubjectKey.{kind_of_key}
 use Rattle.key_types.specs.declared.key_kind.KeyKind.TheVariants as kinds
 use Rattle.key_types.specs.declared.subject_key.SubjectKey.{SubjectKey}
 use Rattle.key_types.specs.declared.subject_key.SubjectKey.TheVariants as keys
@@ -66,5 +66,5 @@ ec_may_have read (Some parameters) has = has
 pub may_have : (value : PrivateKeyValue) (read : ECPrivateKey) (parameters : Option DerElement) → value ≡ values.Ec read → HasCurve value parameters → MayHave kinds.Ec parameters
 may_have value read parameters is has = ec_may_have read parameters (subst (λ (v : PrivateKeyValue). HasCurve v parameters) is has)
 
-pub public_may_have : (key : SubjectKey) (bits : BitString) (parameters : Option DerElement) → key ≡ keys.Ec bits → MayHave (kind_of key) parameters → MayHave kinds.Ec parameters
-public_may_have key bits parameters is may = subst (λ (k : SubjectKey). MayHave (kind_of k) parameters) is may
+pub public_may_have : (key : SubjectKey) (bits : BitString) (parameters : Option DerElement) → key ≡ keys.Ec bits → MayHave (kind_of_key key) parameters → MayHave kinds.Ec parameters
+public_may_have key bits parameters is may = subst (λ (k : SubjectKey). MayHave (kind_of_key k) parameters) is may

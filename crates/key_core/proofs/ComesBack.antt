@@ -18,7 +18,7 @@ use Rattle.sig_core.specs.declared.algorithm.SchemeKind.{SchemeKind}
 use Rattle.key_core.specs.CurveKeys.{IsCurveKey, RefusesCurveKey}
 use Rattle.key_core.specs.DerivedKeys.{Derivation, IsDerived, RefusesDerived, IsPointOf, RefusesPoint, IsEdKeyOf, RefusesEdKey, IsEcRefusal, IsEdRefusal, curve_kind, ed_kind}
 use Rattle.key_core.specs.EcCurve.{field_size}
-use Rattle.key_core.specs.KeyRefusals.{IsUnread}
+use Rattle.key_core.specs.KeyRefusals.{IsUnreadKey}
 use Rattle.key_core.specs.Pkcs8.{IsKeptEc, IsKeptEd, IsKeptKey, KeepsItself, RefusesEcInfo, RefusesEdInfo, RefusesKept, RefusesPkcs8}
 use Rattle.key_core.specs.PrivateKeyInfo.{private_key_info, inner_private_key, IsPrivateKeyInfo}
 use Rattle.key_core.specs.Facts.PrivateKeyInfos.{infos_once, infos_formed}
@@ -38,7 +38,7 @@ use Rattle.key_core.proofs.KeptKeys.{one_curve, one_algorithm}
 
 -- octets of a value are read, or there is no memory
 pub unread_for_memory : {X : Type 0} (spells : DerElement → X → Type 0) (octets : List ℕ) (element : DerElement) (value : X) → IsDer element → octets ≡ encoding element → spells element value
-    → (structure : Element) (e : KeyError) → IsUnread structure (RefusesOctets spells octets) e → e ≡ errors.Memory
+    → (structure : Element) (e : KeyError) → IsUnreadKey structure (RefusesOctets spells octets) e → e ≡ errors.Memory
 unread_for_memory spells octets element value bounds is spelled structure e (der.Malformed m, told, refused) = absurd (no_fault_where_whole octets element m.at m.fault bounds is refused)
 unread_for_memory spells octets element value bounds is spelled structure e (der.Shape, told, refused) =
     let same = formed_encoding_once element refused.element bounds.formed refused.der.formed (sym is ∙ refused.encoded) in

@@ -13,7 +13,7 @@ use Rattle.key_types.specs.AlgorithmIdentifier.{algorithm_identifier}
 use Rattle.key_types.specs.declared.algorithm.AlgorithmIdentifier.{AlgorithmIdentifier}
 use Rattle.key_types.specs.declared.key_kind.KeyKind.{KeyKind}
 use Rattle.key_core.specs.KeyAlgorithm.{Names}
-use Rattle.key_core.specs.PrivateKeyVersion.{version}
+use Rattle.key_core.specs.PrivateKeyVersion.{key_version}
 use Rattle.key_core.specs.PrivateKeyValue.{private_key, IsPrivateKeyOf}
 use Rattle.key_core.specs.PrivateKeyFields.{HaveTag, private_key_info_of}
 use Rattle.key_core.specs.PrivateKeyInfo.{IsPrivateKeyInfo}
@@ -28,7 +28,7 @@ bits_of o content is bits = (Some (record { unused = bits.0; payload = bits.1; f
 
 -- an element of fields that have values is one of a key
 pub of_fields : (t : DerElement) (v : PrivateKeyVersion) (a : DerElement) (octets : List ℕ) (attributes : Option Elem) (public_key : Option (List ℕ)) (kind : KeyKind)
-    → t ≡ private_key_info_of (version v) a octets (at_option attributes) public_key → HaveTag (at_option attributes)
+    → t ≡ private_key_info_of (key_version v) a octets (at_option attributes) public_key → HaveTag (at_option attributes)
     → (algorithm : AlgorithmIdentifier) → a ≡ algorithm_identifier algorithm → Names algorithm kind
     → (key : PrivateKeyValue) → IsPrivateKeyOf kind octets key
     → (bits : Option BitString) → public_key ≡ option_map bit_string_contents bits
@@ -45,10 +45,10 @@ of_fields t v a octets attributes public_key kind is tagged algorithm same named
       },
       (
         is
-            ∙ ap (λ (e : DerElement). private_key_info_of (version v) e octets (at_option attributes) public_key) same
-            ∙ ap (λ (o : List ℕ). private_key_info_of (version v) (algorithm_identifier algorithm) o (at_option attributes) public_key) of.encoded
-            ∙ ap (λ (p : Option DerElement). private_key_info_of (version v) (algorithm_identifier algorithm) (encoding (private_key key)) p public_key) kept.1
-            ∙ ap (private_key_info_of (version v) (algorithm_identifier algorithm) (encoding (private_key key)) (kept_option kept.0)) point,
+            ∙ ap (λ (e : DerElement). private_key_info_of (key_version v) e octets (at_option attributes) public_key) same
+            ∙ ap (λ (o : List ℕ). private_key_info_of (key_version v) (algorithm_identifier algorithm) o (at_option attributes) public_key) of.encoded
+            ∙ ap (λ (p : Option DerElement). private_key_info_of (key_version v) (algorithm_identifier algorithm) (encoding (private_key key)) p public_key) kept.1
+            ∙ ap (private_key_info_of (key_version v) (algorithm_identifier algorithm) (encoding (private_key key)) (kept_option kept.0)) point,
         (of.der, tt),
       ),
     )
@@ -57,4 +57,4 @@ of_fields t v a octets attributes public_key kind is tagged algorithm same named
 pub point_of : (t v a : DerElement) (octets : List ℕ) (attributes : Option DerElement) (public_key : Option (List ℕ)) → t ≡ private_key_info_of v a octets attributes public_key → HaveTag attributes
     → (info : PrivateKeyInfo) → IsPrivateKeyInfo t info → public_key ≡ option_map bit_string_contents info.public_key
 point_of t v a octets attributes public_key is tagged info spells =
-    (fields_once v (version info.version) a (algorithm_identifier info.private_key_algorithm) octets (encoding (private_key info.private_key)) attributes (kept_option info.attributes) public_key (option_map bit_string_contents info.public_key) tagged info.agree.tagged (sym is ∙ spells.0)).4
+    (fields_once v (key_version info.version) a (algorithm_identifier info.private_key_algorithm) octets (encoding (private_key info.private_key)) attributes (kept_option info.attributes) public_key (option_map bit_string_contents info.public_key) tagged info.agree.tagged (sym is ∙ spells.0)).4

@@ -12,7 +12,7 @@ use Rattle.key_types.specs.declared.key_kind.KeyKind.TheVariants as kinds
 use Rattle.private_key_types.specs.RsaPrivateKey.{rsa_private_key}
 use Rattle.private_key_types.specs.declared.rsa_private_key.RsaPrivateKey.{RsaPrivateKey}
 use Rattle.private_key_types.specs.declared.ec_private_key.ECPrivateKey.{ECPrivateKey}
-use Rattle.sig_core.specs.Algorithm.{kind_of}
+use Rattle.sig_core.specs.Algorithm.{kind_of_algorithm}
 use Rattle.sig_core.specs.declared.algorithm.SchemeKind.TheVariants as schemes
 use Rattle.sig_core.specs.declared.algorithm.SigAlg.{SigAlg}
 use Rattle.sig_core.specs.declared.algorithm.SigAlg.TheVariants as algs
@@ -27,7 +27,7 @@ use Rattle.key_core.specs.PrivateKeyValue.{private_kind}
 use Rattle.key_core.specs.PrivatePkcs1.{IsPkcs1OfPrivate, RefusesPrivatePkcs1}
 use Rattle.key_core.specs.SchemeNames.{rsa_alg, ecdsa_alg}
 use Rattle.key_core.specs.Rules.{IsMet, IsFirstBroken}
-use Rattle.key_core.specs.SignatureRules.{RefusesBy, key_refusal}
+use Rattle.key_core.specs.SignatureRules.{RefusesSignatureBy, key_refusal}
 use Rattle.key_core.specs.Signing.{HasCurveOf, HasEdOf, IsEd25519Secret, FitsSecret, Signs, Pair, IsAsked, IsKeyPair, NotRsaSecret, UnwritableSecret, UnpairedSecret, WrongSecretSize, ForAgreementOnly, NotEd25519Secret, WrongEdSize, Unsigned, scheme_refused, secret_rules, sign_rules}
 use Rattle.key_core.specs.Verifying.{Judge, FitsKey, Accepts, IsPointOn}
 use Rattle.key_core.specs.declared.ec_curve.EcCurve.{EcCurve}
@@ -215,7 +215,7 @@ unsigned_is_broken signs algorithm key msg asked =
 pub made_of : {X : Type 0} (signs : Signs) (algorithm : SignatureAlgorithm) (key : PrivateKey) (msg : List ℕ) (alg : SigAlg) (secret : List ℕ) → FitsSecret algorithm key alg secret
     → (r : Result X SignatureError)
     → MatchResult r (λ _. signs alg secret msg ≡ true) (λ e. ((signs alg secret msg ≡ false) × (e ≡ scheme_refused algorithm)) ⊎ (e ≡ errors.Memory))
-    → MatchResult r (λ _. IsAsked signs algorithm key msg true) (RefusesBy (sign_rules signs algorithm key msg))
+    → MatchResult r (λ _. IsAsked signs algorithm key msg true) (RefusesSignatureBy (sign_rules signs algorithm key msg))
 made_of signs algorithm key msg alg secret fits (Ok x) signed = record { alg = alg; secret = secret; fits = fits; signed = signed }
 made_of signs algorithm key msg alg secret fits (Err e) (inr memory) = inr memory
 made_of signs algorithm key msg alg secret fits (Err e) (inl unsigned) =
@@ -226,14 +226,14 @@ made_of signs algorithm key msg alg secret fits (Err e) (inl unsigned) =
 pub made_by : {X : Type 0} (signs : Signs) (self algorithm : SignatureAlgorithm) → self ≡ algorithm → (key : PrivateKey) (msg : List ℕ) (alg : SigAlg) (secret : List ℕ) → FitsSecret algorithm key alg secret
     → (r : Result X SignatureError)
     → MatchResult r (λ _. signs alg secret msg ≡ true) (λ e. ((signs alg secret msg ≡ false) × (e ≡ scheme_refused algorithm)) ⊎ (e ≡ errors.Memory))
-    → MatchResult r (λ _. IsAsked signs self key msg true) (RefusesBy (sign_rules signs self key msg))
+    → MatchResult r (λ _. IsAsked signs self key msg true) (RefusesSignatureBy (sign_rules signs self key msg))
 made_by signs self algorithm is key msg alg secret fits r signed =
-    subst (λ (a : SignatureAlgorithm). MatchResult r (λ _. IsAsked signs a key msg true) (RefusesBy (sign_rules signs a key msg))) (sym is)
+    subst (λ (a : SignatureAlgorithm). MatchResult r (λ _. IsAsked signs a key msg true) (RefusesSignatureBy (sign_rules signs a key msg))) (sym is)
     (made_of signs algorithm key msg alg secret fits r signed)
 
 -- ---- pairs of keys
 
-rsa_scheme : (hash : HashAlgorithm) → kind_of (rsa_alg hash) ≡ schemes.Rsa
+rsa_scheme : (hash : HashAlgorithm) → kind_of_algorithm (rsa_alg hash) ≡ schemes.Rsa
 rsa_scheme hashes.MD5 = refl
 rsa_scheme hashes.SHA1 = refl
 rsa_scheme hashes.SHA2_224 = refl
@@ -241,7 +241,7 @@ rsa_scheme hashes.SHA2_256 = refl
 rsa_scheme hashes.SHA2_384 = refl
 rsa_scheme hashes.SHA2_512 = refl
 
-ecdsa_scheme : (curve : EcCurve) → kind_of (ecdsa_alg curve) ≡ curve_kind curve
+ecdsa_scheme : (curve : EcCurve) → kind_of_algorithm (ecdsa_alg curve) ≡ curve_kind curve
 ecdsa_scheme curves.NistP256 = refl
 ecdsa_scheme curves.NistP384 = refl
 ecdsa_scheme curves.NistP521 = refl
@@ -249,11 +249,11 @@ ecdsa_scheme curves.NistP521 = refl
 -- the public key of a pair is one for the algorithm, by the same name, and the scheme pairs its key bytes with the secret
 pub pair_fits : (pair : Pair) (algorithm : SignatureAlgorithm) (key : PrivateKey) (info : SubjectPublicKeyInfo) (alg : SigAlg) (secret : List ℕ)
     → FitsSecret algorithm key alg secret → IsKeyPair pair key info
-    → (bytes : List ℕ) × FitsKey algorithm info alg bytes × pair (kind_of alg) bytes secret
+    → (bytes : List ℕ) × FitsKey algorithm info alg bytes × pair (kind_of_algorithm alg) bytes secret
 pair_fits pair (RsaPkcs1v15 hash) key info alg secret fits (inl p) = (
   p.bytes,
   (fits.0, p.public),
-  subst (λ a. pair (kind_of a) p.bytes secret) (sym fits.0)
+  subst (λ a. pair (kind_of_algorithm a) p.bytes secret) (sym fits.0)
       (subst (λ k. pair k p.bytes secret) (sym (rsa_scheme hash))
       (subst (λ s. pair schemes.Rsa p.bytes s) (rsa_once key.info.private_key p.secret secret p.private fits.1) p.paired)),
 )
@@ -264,7 +264,7 @@ pair_fits pair (Ecdsa hash) key info alg secret fits (inr (inl p)) =
     let same = one_curve_of key p.0 fits.0 p.1.on fits.3.on in (
       p.1.bytes,
       (fits.0, fits.1, fits.2, subst (λ c. IsPointOn c info p.1.bytes) same p.1.public),
-      subst (λ a. pair (kind_of a) p.1.bytes secret) (sym fits.2)
+      subst (λ a. pair (kind_of_algorithm a) p.1.bytes secret) (sym fits.2)
           (subst (λ k. pair k p.1.bytes secret) (sym (ecdsa_scheme fits.0))
           (subst (λ c. pair (curve_kind c) p.1.bytes secret) same
           (subst (λ s. pair (curve_kind p.0) p.1.bytes s) (ap (λ (k : ECPrivateKey). k.private_key) (same_ec p.1.ec fits.3.ec (sym p.1.private ∙ fits.3.is)) ∙ sym fits.3.octets) p.1.paired))),
@@ -276,13 +276,13 @@ pair_fits pair Ed25519 key info alg secret fits (inr (inr p)) =
     let same = one_ed_of key p.0 ed.Ed25519 p.1.of fits.1.of in (
       p.1.bits.payload,
       (fits.0, record { bits = p.1.bits; is = p.1.public; of = p.1.also ∙ ap ed_identifier same; payload = refl; size = p.1.size same }),
-      subst (λ a. pair (kind_of a) p.1.bits.payload secret) (sym fits.0)
+      subst (λ a. pair (kind_of_algorithm a) p.1.bits.payload secret) (sym fits.0)
           (subst (λ k. pair (ed_kind k) p.1.bits.payload secret) same
           (subst (λ s. pair (ed_kind p.0) p.1.bits.payload s) (same_ed p.1.secret secret (sym p.1.private ∙ fits.1.is)) p.1.paired)),
     )
 
 pub pair_accepts : (judge : Judge) (pair : Pair) (algorithm : SignatureAlgorithm) (key : PrivateKey) (info : SubjectPublicKeyInfo) (alg : SigAlg) (secret msg sig : List ℕ)
-    → FitsSecret algorithm key alg secret → ((bytes : List ℕ) → pair (kind_of alg) bytes secret → judge alg bytes msg sig ≡ verdicts.Accept)
+    → FitsSecret algorithm key alg secret → ((bytes : List ℕ) → pair (kind_of_algorithm alg) bytes secret → judge alg bytes msg sig ≡ verdicts.Accept)
     → IsKeyPair pair key info → Accepts judge algorithm info msg sig
 pair_accepts judge pair algorithm key info alg secret msg sig fits made together =
     let p = pair_fits pair algorithm key info alg secret fits together in
@@ -291,7 +291,7 @@ pair_accepts judge pair algorithm key info alg secret msg sig fits made together
 -- what the scheme made is accepted under each public key of the pair
 pub made_accepts : {X : Type 0} (items : X → List ℕ) (judge : Judge) (pair : Pair) (self algorithm : SignatureAlgorithm) → self ≡ algorithm
     → (key : PrivateKey) (alg : SigAlg) (secret msg : List ℕ) → FitsSecret algorithm key alg secret → (r : Result X SignatureError)
-    → IfOk r (λ sig. (bytes : List ℕ) → pair (kind_of alg) bytes secret → judge alg bytes msg (items sig) ≡ verdicts.Accept)
+    → IfOk r (λ sig. (bytes : List ℕ) → pair (kind_of_algorithm alg) bytes secret → judge alg bytes msg (items sig) ≡ verdicts.Accept)
     → IfOk r (λ sig. (info : SubjectPublicKeyInfo) → IsKeyPair pair key info → Accepts judge self info msg (items sig))
 made_accepts items judge pair self algorithm is key alg secret msg fits (Err e) made = tt
 made_accepts items judge pair self algorithm is key alg secret msg fits (Ok sig) made =
@@ -301,7 +301,7 @@ made_accepts items judge pair self algorithm is key alg secret msg fits (Ok sig)
 -- ---- keys, rule by rule
 
 rsa_unwritten : (key : PrivateKey) (k : RsaPrivateKey) → key.info.private_key ≡ values.Rsa k → (x : DerError) (source : KeyError)
-    → source ≡ unwritten elements.RsaPrivateKey x → RefusesInner (rsa_private_key k ∷ []) x → RefusesBy (NotRsaSecret key ∷ UnwritableSecret key ∷ []) (key_refusal source)
+    → source ≡ unwritten elements.RsaPrivateKey x → RefusesInner (rsa_private_key k ∷ []) x → RefusesSignatureBy (NotRsaSecret key ∷ UnwritableSecret key ∷ []) (key_refusal source)
 rsa_unwritten key k is (der.Malformed m) source e refused = absurd refused
 rsa_unwritten key k is der.Shape source e refused = absurd refused
 rsa_unwritten key k is der.TooDeep source e refused =
@@ -317,12 +317,12 @@ ed_is_not_of_rsa : kinds.Ed ≡ kinds.Rsa → ⊥
 ed_is_not_of_rsa e = cc
 
 rsa_refused_of : (key : PrivateKey) (value : PrivateKeyValue) (source : KeyError) → key.info.private_key ≡ value
-    → RefusesPrivatePkcs1 value source → RefusesBy (NotRsaSecret key ∷ UnwritableSecret key ∷ []) (key_refusal source)
+    → RefusesPrivatePkcs1 value source → RefusesSignatureBy (NotRsaSecret key ∷ UnwritableSecret key ∷ []) (key_refusal source)
 rsa_refused_of key (values.Rsa k) source is refused = rsa_unwritten key k is refused.0 source refused.1 refused.2
 rsa_refused_of key (values.Ec k) source is refused = inl (inl (λ kind. ec_is_not_of_rsa (sym (ap private_kind is) ∙ kind), ap key_refusal refused))
 rsa_refused_of key (values.Ed k) source is refused = inl (inl (λ kind. ed_is_not_of_rsa (sym (ap private_kind is) ∙ kind), ap key_refusal refused))
 
-pub rsa_refused : (key : PrivateKey) (source : KeyError) → RefusesPrivatePkcs1 key.info.private_key source → RefusesBy (NotRsaSecret key ∷ UnwritableSecret key ∷ []) (key_refusal source)
+pub rsa_refused : (key : PrivateKey) (source : KeyError) → RefusesPrivatePkcs1 key.info.private_key source → RefusesSignatureBy (NotRsaSecret key ∷ UnwritableSecret key ∷ []) (key_refusal source)
 rsa_refused key source refused = rsa_refused_of key key.info.private_key source refl refused
 
 -- a key of Ed25519 whose octets are 32 or another count

@@ -8,7 +8,7 @@ use Rattle.der_core.specs.declared.error.DerError.{DerError}
 use Rattle.der_core.specs.declared.error.DerError.TheVariants as der
 use Rattle.asn1_types.specs.declared.bit_string.BitString.{BitString}
 use Rattle.key_types.specs.RsaPublicKey.{rsa_public_key}
-use Rattle.key_types.specs.SubjectKey.{kind_of}
+use Rattle.key_types.specs.SubjectKey.{kind_of_key}
 use Rattle.key_types.specs.declared.key_info.SubjectPublicKeyInfo.{SubjectPublicKeyInfo}
 use Rattle.key_types.specs.declared.key_kind.KeyKind.TheVariants as kinds
 use Rattle.key_types.specs.declared.public_key.RsaPublicKey.{RsaPublicKey}
@@ -23,7 +23,7 @@ use Rattle.key_core.specs.KeyRefusals.{CantBeWritten, unwritten}
 use Rattle.key_core.specs.Pkcs1.{IsPkcs1Of, RefusesPkcs1}
 use Rattle.key_core.specs.SchemeNames.{ecdsa_alg}
 use Rattle.key_core.specs.Rules.{IsMet, IsFirstBroken}
-use Rattle.key_core.specs.SignatureRules.{RefusesBy, key_refusal}
+use Rattle.key_core.specs.SignatureRules.{RefusesSignatureBy, key_refusal}
 use Rattle.key_core.specs.Verifying.{Judge, IsOnCurve, IsOfEd, IsEd25519Key, FitsKey, IsJudged, Accepts, NotRsa, Unwritable, UnknownHash, Unpaired, ForAgreement, NotEd25519, WrongSize, Malformed, Rejected, malformed, key_rules, verify_rules}
 use Rattle.key_core.specs.declared.ec_curve.EcCurve.{EcCurve}
 use Rattle.key_core.specs.declared.ed_algorithm.EdAlgorithm.{EdAlgorithm}
@@ -70,7 +70,7 @@ not_x25519 e = cc
 
 -- ---- a key that is one for an algorithm meets the rules on keys
 
-rsa_kind : (key : SubjectKey) (bytes : List ℕ) → IsPkcs1Of key bytes → kind_of key ≡ kinds.Rsa
+rsa_kind : (key : SubjectKey) (bytes : List ℕ) → IsPkcs1Of key bytes → kind_of_key key ≡ kinds.Rsa
 rsa_kind (keys.Rsa key) bytes of = refl
 rsa_kind (keys.Ec bits) bytes of = absurd of
 rsa_kind (keys.Ed bits) bytes of = absurd of
@@ -95,7 +95,7 @@ key_met (Ecdsa hash) info alg bytes fits =
     let point = fits.3 in
     let paired : AreMet (Unpaired info hash ∷ []) = (λ e broken. broken.2 (fits.1 ∙ ap Some (one_curve info curve broken.0 point.on broken.1)), tt) in
     let known : AreMet (UnknownHash hash ∷ Unpaired info hash ∷ []) = (λ e broken. not_none curve (sym broken.0 ∙ fits.1), paired) in
-    (λ e broken. broken.0 (ap kind_of point.is), (λ e broken. broken.0 curve point.on, known))
+    (λ e broken. broken.0 (ap kind_of_key point.is), (λ e broken. broken.0 curve point.on, known))
   where
     not_none : (x : EcCurve) → ◌≡◌ {A = Option EcCurve} None (Some x) → ⊥
     not_none x e = cc
@@ -105,7 +105,7 @@ key_met Ed25519 info alg bytes fits =
     (λ e broken. broken.2 (ap (λ (b : BitString). length b.payload) (same_ed broken.0 key.bits (sym broken.1 ∙ key.is)) ∙ ap length (sym key.payload) ∙ key.size), tt) in
     let known : AreMet (ForAgreement info ∷ NotEd25519 info ∷ WrongSize info ∷ []) =
     (λ e broken. not_x25519 (one_ed info ed.Ed25519 ed.X25519 key.of broken.0), (λ e broken. broken.0 key.of, sized)) in
-    (λ e broken. broken.0 (ap kind_of key.is), known)
+    (λ e broken. broken.0 (ap kind_of_key key.is), known)
 
 pub writable : (algorithm : SignatureAlgorithm) (info : SubjectPublicKeyInfo) (alg : SigAlg) (bytes : List ℕ) → FitsKey algorithm info alg bytes → IsMet (Unwritable info)
 writable (RsaPkcs1v15 hash) info alg bytes fits = λ e broken. written (rsa_public_key broken.key) broken.source (rsa_der info.subject_public_key bytes fits.1 broken.key broken.is) broken.cause
@@ -199,7 +199,7 @@ rejected_is_broken judge algorithm info msg sig judged =
     ))
 
 pub early : (judge : Judge) (algorithm : SignatureAlgorithm) (info : SubjectPublicKeyInfo) (msg sig : List ℕ) (e : SignatureError)
-    → RefusesBy (key_rules algorithm info ++ Unwritable info ∷ []) e → RefusesBy (verify_rules judge algorithm info msg sig) e
+    → RefusesSignatureBy (key_rules algorithm info ++ Unwritable info ∷ []) e → RefusesSignatureBy (verify_rules judge algorithm info msg sig) e
 early judge algorithm info msg sig e (inl broken) =
     inl (early_in (key_rules algorithm info) (Unwritable info) (Malformed judge algorithm info msg sig ∷ Rejected judge algorithm info msg sig ∷ []) e broken)
 early judge algorithm info msg sig e (inr memory) = inr memory
@@ -214,24 +214,24 @@ long_is_not_memory e = cc
 
 -- why a key of RSA isn't written, as an error of a signature
 rsa_unwritten : (info : SubjectPublicKeyInfo) (k : RsaPublicKey) → info.subject_public_key ≡ keys.Rsa k → (x : DerError) (source : KeyError)
-    → source ≡ unwritten elements.RsaPublicKey x → RefusesInner (rsa_public_key k ∷ []) x → RefusesBy (NotRsa info ∷ Unwritable info ∷ []) (key_refusal source)
+    → source ≡ unwritten elements.RsaPublicKey x → RefusesInner (rsa_public_key k ∷ []) x → RefusesSignatureBy (NotRsa info ∷ Unwritable info ∷ []) (key_refusal source)
 rsa_unwritten info k is (der.Malformed m) source e refused = absurd refused
 rsa_unwritten info k is der.Shape source e refused = absurd refused
 rsa_unwritten info k is der.TooDeep source e refused =
-    inl (inr (λ other broken. broken.0 (ap kind_of is), inl (record { key = k; is = is; source = der.TooDeep; cause = alone (rsa_public_key k) der.TooDeep deep_is_not_memory refused; error = ap key_refusal e })))
+    inl (inr (λ other broken. broken.0 (ap kind_of_key is), inl (record { key = k; is = is; source = der.TooDeep; cause = alone (rsa_public_key k) der.TooDeep deep_is_not_memory refused; error = ap key_refusal e })))
 rsa_unwritten info k is der.TooLong source e refused =
-    inl (inr (λ other broken. broken.0 (ap kind_of is), inl (record { key = k; is = is; source = der.TooLong; cause = alone (rsa_public_key k) der.TooLong long_is_not_memory refused; error = ap key_refusal e })))
+    inl (inr (λ other broken. broken.0 (ap kind_of_key is), inl (record { key = k; is = is; source = der.TooLong; cause = alone (rsa_public_key k) der.TooLong long_is_not_memory refused; error = ap key_refusal e })))
 rsa_unwritten info k is der.Memory source e refused = inr (ap key_refusal e)
 
-rsa_refused_of : (info : SubjectPublicKeyInfo) (key : SubjectKey) (source : KeyError) → info.subject_public_key ≡ key → kind_of key ≡ kinds.Rsa
-    → RefusesPkcs1 key source → RefusesBy (NotRsa info ∷ Unwritable info ∷ []) (key_refusal source)
+rsa_refused_of : (info : SubjectPublicKeyInfo) (key : SubjectKey) (source : KeyError) → info.subject_public_key ≡ key → kind_of_key key ≡ kinds.Rsa
+    → RefusesPkcs1 key source → RefusesSignatureBy (NotRsa info ∷ Unwritable info ∷ []) (key_refusal source)
 rsa_refused_of info (keys.Rsa k) source is kind refused = rsa_unwritten info k is refused.0 source refused.1 refused.2
 rsa_refused_of info (keys.Ec bits) source is kind refused = absurd cc
 rsa_refused_of info (keys.Ed bits) source is kind refused = absurd cc
 rsa_refused_of info (keys.Mldsa bits) source is kind refused = absurd cc
 
-pub rsa_refused : (info : SubjectPublicKeyInfo) (source : KeyError) → kind_of info.subject_public_key ≡ kinds.Rsa
-    → RefusesPkcs1 info.subject_public_key source → RefusesBy (NotRsa info ∷ Unwritable info ∷ []) (key_refusal source)
+pub rsa_refused : (info : SubjectPublicKeyInfo) (source : KeyError) → kind_of_key info.subject_public_key ≡ kinds.Rsa
+    → RefusesPkcs1 info.subject_public_key source → RefusesSignatureBy (NotRsa info ∷ Unwritable info ∷ []) (key_refusal source)
 rsa_refused info source kind refused = rsa_refused_of info info.subject_public_key source refl kind refused
 
 -- a key of Ed25519 that has 32 octets or another count
@@ -240,14 +240,14 @@ pub ed_sized : {X : Type 0} (now : X → List ℕ) (info : SubjectPublicKeyInfo)
     → MatchResult r (λ bytes. IsEd25519Key info (now bytes)) (IsFirstBroken (key_rules Ed25519 info))
 ed_sized now info bits is of (Ok bytes) sized = record { bits = bits; is = is; of = of; payload = sized.0; size = sized.1 }
 ed_sized now info bits is of (Err e) sized =
-    inr (λ other broken. broken.0 (ap kind_of is), inr (λ other broken. not_x25519 (one_ed info ed.Ed25519 ed.X25519 of broken.0), inr (λ other broken. broken.0 of, inl (bits, is, sized.0, sized.1))))
+    inr (λ other broken. broken.0 (ap kind_of_key is), inr (λ other broken. not_x25519 (one_ed info ed.Ed25519 ed.X25519 of broken.0), inr (λ other broken. broken.0 of, inl (bits, is, sized.0, sized.1))))
 
 pub ed_unknown : (info : SubjectPublicKeyInfo) (bits : BitString) → info.subject_public_key ≡ keys.Ed bits → ((algorithm : EdAlgorithm) → IsOfEd info algorithm → ⊥)
     → IsFirstBroken (key_rules Ed25519 info) (errors.Key (key_errors.ED key_contexts.UnsupportedEd))
-ed_unknown info bits is none = inr (λ other broken. broken.0 (ap kind_of is), inr (λ other broken. none ed.X25519 broken.0, inl (none ed.Ed25519, refl)))
+ed_unknown info bits is none = inr (λ other broken. broken.0 (ap kind_of_key is), inr (λ other broken. none ed.X25519 broken.0, inl (none ed.Ed25519, refl)))
 
 -- of a key of RSA the octets that are lent are its own
-pub lent_rsa : (key : SubjectKey) (octets : List ℕ) → ((k : RsaPublicKey) → key ≡ keys.Rsa k → IsPkcs1Of (keys.Rsa k) octets) → kind_of key ≡ kinds.Rsa → IsPkcs1Of key octets
+pub lent_rsa : (key : SubjectKey) (octets : List ℕ) → ((k : RsaPublicKey) → key ≡ keys.Rsa k → IsPkcs1Of (keys.Rsa k) octets) → kind_of_key key ≡ kinds.Rsa → IsPkcs1Of key octets
 lent_rsa (keys.Rsa k) octets lent kind = lent k refl
 lent_rsa (keys.Ec bits) octets lent kind = absurd cc
 lent_rsa (keys.Ed bits) octets lent kind = absurd cc

@@ -15,7 +15,7 @@ use Rattle.private_key_types.specs.declared.ec_private_key.ECPrivateKey.{ECPriva
 use Rattle.key_types.specs.AlgorithmIdentifier.{oid_of, parameters_of}
 use Rattle.key_core.specs.DerivedKeys.{Derivation, IsCurveOf, IsPointOf, RefusesPoint, whole_bits}
 use Rattle.key_core.specs.EcCurve.{curve_identifier}
-use Rattle.key_core.specs.KeyRefusals.{IsUnread}
+use Rattle.key_core.specs.KeyRefusals.{IsUnreadKey}
 use Rattle.key_core.specs.MadeKeys.{AreCoordinates}
 use Rattle.key_core.specs.declared.ec_curve.EcCurve.{EcCurve}
 use Rattle.key_core.specs.declared.element.Element.TheVariants as elements
@@ -101,7 +101,7 @@ pub record IsSec1KeyOnKnown (derives : Derivation) (curve : EcCurve) (octets : L
 -- The octets aren't those of an ECPrivateKey, or the one that they are is refused with a context.
 abbrev pub RefusesSec1 : (ECPrivateKey → KeyContext → Type 0) → List ℕ → KeyError → Type 0
 RefusesSec1 Refuses octets (errors.Asn1Serialization element source) = ⊥
-RefusesSec1 Refuses octets (errors.Asn1Deserialization element source) = IsUnread elements.EcPrivateKey (RefusesOctets IsECPrivateKey octets) (errors.Asn1Deserialization element source)
+RefusesSec1 Refuses octets (errors.Asn1Deserialization element source) = IsUnreadKey elements.EcPrivateKey (RefusesOctets IsECPrivateKey octets) (errors.Asn1Deserialization element source)
 RefusesSec1 Refuses octets (errors.Rsa context) = ⊥
 RefusesSec1 Refuses octets (errors.EC context) = (read : ECPrivateKey) × IsWithin IsECPrivateKey octets read × Refuses read context
 RefusesSec1 Refuses octets (errors.ED context) = ⊥

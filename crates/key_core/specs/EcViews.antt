@@ -6,7 +6,7 @@ use Rattle.der_core.specs.Lent.{kept_option}
 use Rattle.asn1_types.specs.Values.{lent_contents, payload_of}
 use Rattle.asn1_types.specs.declared.bit_string.BitString.{BitString}
 use Rattle.key_types.specs.AlgorithmIdentifier.{parameters_of}
-use Rattle.key_types.specs.SubjectKey.{kind_of}
+use Rattle.key_types.specs.SubjectKey.{kind_of_key}
 use Rattle.key_types.specs.declared.key_info.SubjectPublicKeyInfo.{SubjectPublicKeyInfo}
 use Rattle.key_types.specs.declared.key_kind.KeyKind.TheVariants as kinds
 use Rattle.key_types.specs.declared.subject_key.SubjectKey.TheVariants as keys
@@ -41,7 +41,7 @@ pub record IsEcPublicOf (info : SubjectPublicKeyInfo) (view : EcdsaPublicKey) : 
 
 -- the view of a public key, or that the key is of another kind
 abbrev pub GivesEcPublic : SubjectPublicKeyInfo → Result EcdsaPublicKey KeyError → Type 0
-GivesEcPublic info result = MatchResult result (IsEcPublicOf info) (λ e. (e ≡ errors.EC contexts.NotEc) × (kind_of info.subject_public_key ≢ kinds.Ec))
+GivesEcPublic info result = MatchResult result (IsEcPublicOf info) (λ e. (e ≡ errors.EC contexts.NotEc) × (kind_of_key info.subject_public_key ≢ kinds.Ec))
 
 -- The view lends the public key of a keypair.
 pub record IsEcPublicOfKeypair (keypair : EcdsaKeypair) (view : EcdsaPublicKey) : Type 0 where

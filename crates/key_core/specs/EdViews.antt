@@ -4,7 +4,7 @@ use Rattle.std.specs.Option.{option_copied}
 use Rattle.asn1_types.specs.Values.{payload_of}
 use Rattle.asn1_types.specs.declared.bit_string.BitString.{BitString}
 use Rattle.key_types.specs.AlgorithmIdentifier.{oid_of}
-use Rattle.key_types.specs.SubjectKey.{kind_of}
+use Rattle.key_types.specs.SubjectKey.{kind_of_key}
 use Rattle.key_types.specs.declared.key_info.SubjectPublicKeyInfo.{SubjectPublicKeyInfo}
 use Rattle.key_types.specs.declared.key_kind.KeyKind.TheVariants as kinds
 use Rattle.key_types.specs.declared.subject_key.SubjectKey.TheVariants as keys
@@ -36,7 +36,7 @@ pub record IsEdPublicOf (info : SubjectPublicKeyInfo) (view : EdPublicKey) : Typ
 
 -- the view of a public key, or that the key is of another kind
 abbrev pub GivesEdPublic : SubjectPublicKeyInfo → Result EdPublicKey KeyError → Type 0
-GivesEdPublic info result = MatchResult result (IsEdPublicOf info) (λ e. (e ≡ errors.ED contexts.NotEd) × (kind_of info.subject_public_key ≢ kinds.Ed))
+GivesEdPublic info result = MatchResult result (IsEdPublicOf info) (λ e. (e ≡ errors.ED contexts.NotEd) × (kind_of_key info.subject_public_key ≢ kinds.Ed))
 
 -- The view lends the public key of a keypair.
 pub record IsEdPublicOfKeypair (keypair : EdKeypair) (view : EdPublicKey) : Type 0 where

@@ -8,7 +8,7 @@ use Rattle.der_core.specs.declared.error.DerError.TheVariants as der
 use Rattle.asn1_types.specs.Values.{payload_of}
 use Rattle.key_types.specs.PublicKeyInfo.{public_key_info, inner_key}
 use Rattle.key_types.specs.RsaPublicKey.{rsa_public_key}
-use Rattle.key_types.specs.SubjectKey.{kind_of}
+use Rattle.key_types.specs.SubjectKey.{kind_of_key}
 use Rattle.key_types.specs.declared.key_info.SubjectPublicKeyInfo.{SubjectPublicKeyInfo}
 use Rattle.key_types.specs.declared.public_key.RsaPublicKey.{RsaPublicKey}
 use Rattle.key_types.specs.declared.subject_key.SubjectKey.{SubjectKey}
@@ -16,7 +16,7 @@ use Rattle.key_types.specs.declared.subject_key.SubjectKey.TheVariants as keys
 use Rattle.sig_core.specs.Digest.{digest_of}
 use Rattle.sig_core.specs.declared.hash.HashAlgorithm.TheVariants.{MD5}
 use Rattle.key_core.specs.Pkcs1.{IsPkcs1Of}
-use Rattle.key_core.specs.KeyRefusals.{IsUnwritten, CantBeWritten}
+use Rattle.key_core.specs.KeyRefusals.{IsUnwrittenKey, CantBeWritten}
 use Rattle.key_core.specs.declared.element.Element.TheVariants as elements
 use Rattle.key_core.specs.declared.error.KeyError.{KeyError}
 use Rattle.key_core.specs.declared.error.KeyError.TheVariants as key_errors
@@ -46,7 +46,7 @@ IsKeyIdentifier (SPKValueHashedLeftmost160 hash) info id =
 -- why there is no digest of the whole: it can't be written
 abbrev pub RefusesWhole : SubjectPublicKeyInfo → KeyIdGenError → Type 0
 RefusesWhole info (errors.InvalidKey source) =
-    IsUnwritten elements.SubjectPublicKeyInfo (RefusesInner (inner_key info.subject_public_key ++ public_key_info info ∷ [])) source
+    IsUnwrittenKey elements.SubjectPublicKeyInfo (RefusesInner (inner_key info.subject_public_key ++ public_key_info info ∷ [])) source
     × (source ≢ key_errors.Memory)
 RefusesWhole info (errors.Asn1Serialization element source) = ⊥
 RefusesWhole info errors.Memory = ⊤
@@ -67,7 +67,7 @@ payload_refusal source = errors.Asn1Serialization elements.RsaPublicKey source
 abbrev pub RefusesKeyIdentifier : KeyIdGenMethod → SubjectPublicKeyInfo → KeyIdGenError → Type 0
 RefusesKeyIdentifier (SPKFullDER hash) info e = RefusesWhole info e
 RefusesKeyIdentifier (SPKValueHashedLeftmost160 hash) info e =
-    ((hash ≡ MD5) × (e ≡ errors.InvalidKey (key_errors.UnsupportedAlgorithm (kind_of info.subject_public_key))))
+    ((hash ≡ MD5) × (e ≡ errors.InvalidKey (key_errors.UnsupportedAlgorithm (kind_of_key info.subject_public_key))))
     ⊎ ((hash ≢ MD5) × RefusesPayload info.subject_public_key e)
 
 -- an error of a key as one of its identifier: want of memory is told as such

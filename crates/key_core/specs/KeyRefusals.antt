@@ -1,9 +1,10 @@
 -- Why a key isn't read or written, by why its element isn't.
-use Rattle.std.specs.Prelude.{◌≡◌, ◌≢◌}
+use Rattle.std.specs.Prelude.{◌≢◌}
 use Rattle.der_core.specs.DerElement.{DerElement}
 use Rattle.der_core.specs.Writing.{RefusesToWrite}
 use Rattle.der_core.specs.declared.error.DerError.{DerError}
 use Rattle.der_core.specs.declared.error.DerError.TheVariants as der
+use Rattle.der_core.specs.Refusals.{Tells}
 use Rattle.key_core.specs.declared.element.Element.{Element}
 use Rattle.key_core.specs.declared.error.KeyError.{KeyError}
 use Rattle.key_core.specs.declared.error.KeyError.TheVariants as errors
@@ -25,12 +26,12 @@ unwritten element der.TooDeep = errors.Asn1Serialization element der.TooDeep
 unwritten element der.TooLong = errors.Asn1Serialization element der.TooLong
 
 -- The error tells of this structure, for a cause that refuses it.
-abbrev pub IsUnread : Element → (DerError → Type 0) → KeyError → Type 0
-IsUnread element Refuses e = (source : DerError) × (e ≡ unread element source) × Refuses source
+abbrev pub IsUnreadKey : Element → (DerError → Type 0) → KeyError → Type 0
+IsUnreadKey element = Tells (unread element)
 
 -- The error tells of this structure, for a cause that refuses to write it.
-abbrev pub IsUnwritten : Element → (DerError → Type 0) → KeyError → Type 0
-IsUnwritten element Refuses e = (source : DerError) × (e ≡ unwritten element source) × Refuses source
+abbrev pub IsUnwrittenKey : Element → (DerError → Type 0) → KeyError → Type 0
+IsUnwrittenKey element = Tells (unwritten element)
 
 -- The element can't be written, for a cause other than want of memory.
 pub record CantBeWritten (element : DerElement) (source : DerError) : Type 0 where

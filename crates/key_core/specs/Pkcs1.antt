@@ -9,7 +9,7 @@ use Rattle.key_types.specs.declared.key_info.SubjectPublicKeyInfo.{SubjectPublic
 use Rattle.key_types.specs.declared.public_key.RsaPublicKey.{RsaPublicKey}
 use Rattle.key_types.specs.declared.subject_key.SubjectKey.{SubjectKey}
 use Rattle.key_types.specs.declared.subject_key.SubjectKey.TheVariants as keys
-use Rattle.key_core.specs.KeyRefusals.{IsUnwritten}
+use Rattle.key_core.specs.KeyRefusals.{IsUnwrittenKey}
 use Rattle.key_core.specs.MadeKeys.{IsRsaInfo}
 use Rattle.key_core.specs.declared.element.Element.TheVariants as elements
 use Rattle.key_core.specs.declared.error.KeyContext.TheVariants as contexts
@@ -35,7 +35,7 @@ IsPkcs1Of (keys.Mldsa bits) octets = ⊥
 
 -- why a key has no such octets: it can't be written, or is of another kind
 abbrev pub RefusesPkcs1 : SubjectKey → KeyError → Type 0
-RefusesPkcs1 (keys.Rsa key) e = IsUnwritten elements.RsaPublicKey (RefusesInner (rsa_public_key key ∷ [])) e
+RefusesPkcs1 (keys.Rsa key) e = IsUnwrittenKey elements.RsaPublicKey (RefusesInner (rsa_public_key key ∷ [])) e
 RefusesPkcs1 (keys.Ec bits) e = e ≡ errors.Rsa contexts.NotRsa
 RefusesPkcs1 (keys.Ed bits) e = e ≡ errors.Rsa contexts.NotRsa
 RefusesPkcs1 (keys.Mldsa bits) e = e ≡ errors.Rsa contexts.NotRsa

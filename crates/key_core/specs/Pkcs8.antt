@@ -11,7 +11,7 @@ use Rattle.private_key_types.specs.declared.ec_private_key.ECPrivateKey.{ECPriva
 use Rattle.key_types.specs.AlgorithmIdentifier.{oid_of, parameters_of}
 use Rattle.key_core.specs.CurveKeys.{IsCurveKey, RefusesCurveKey}
 use Rattle.key_core.specs.DerivedKeys.{Derivation, IsEdOf, IsEdKeyOf, RefusesEdKey, IsEcRefusal, IsEdRefusal}
-use Rattle.key_core.specs.KeyRefusals.{IsUnread}
+use Rattle.key_core.specs.KeyRefusals.{IsUnreadKey}
 use Rattle.key_core.specs.PrivateKeyInfo.{IsPrivateKeyInfo}
 use Rattle.key_core.specs.declared.ed_algorithm.EdAlgorithm.{EdAlgorithm}
 use Rattle.key_core.specs.declared.element.Element.TheVariants as elements
@@ -72,5 +72,5 @@ pub record IsPkcs8Key (derives : Derivation) (octets : List ℕ) (key : PrivateK
 -- The octets aren't those of a PrivateKeyInfo, or the one that they are isn't kept.
 abbrev pub RefusesPkcs8 : Derivation → List ℕ → KeyError → Type 0
 RefusesPkcs8 derives octets e =
-    IsUnread elements.PrivateKeyInfo (RefusesOctets IsPrivateKeyInfo octets) e
+    IsUnreadKey elements.PrivateKeyInfo (RefusesOctets IsPrivateKeyInfo octets) e
     ⊎ ((info : PrivateKeyInfo) × IsWithin IsPrivateKeyInfo octets info × RefusesKept derives info.private_key info e)

@@ -7,7 +7,7 @@ use Rattle.der_core.specs.Lent.{kept_option}
 use Rattle.der_core.specs.Placed.{AreDer}
 use Rattle.asn1_types.specs.Values.{bit_string_contents}
 use Rattle.key_types.specs.AlgorithmIdentifier.{algorithm_identifier}
-use Rattle.key_core.specs.PrivateKeyVersion.{version}
+use Rattle.key_core.specs.PrivateKeyVersion.{key_version}
 use Rattle.key_core.specs.PrivateKeyValue.{private_key}
 use Rattle.key_core.specs.PrivateKeyFields.{private_key_info_of}
 use Rattle.key_core.specs.declared.private_key_info.PrivateKeyInfo.{PrivateKeyInfo}
@@ -16,7 +16,7 @@ use Rattle.key_core.specs.declared.private_key_info.PrivateKeyInfo.{PrivateKeyIn
 abbrev pub private_key_info : PrivateKeyInfo → DerElement
 private_key_info info =
     private_key_info_of
-    (version info.version)
+    (key_version info.version)
     (algorithm_identifier info.private_key_algorithm)
     (encoding (private_key info.private_key))
     (kept_option info.attributes)

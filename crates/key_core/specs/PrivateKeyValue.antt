@@ -3,7 +3,7 @@ use Rattle.std.specs.Prelude.{◌≡◌, ℕ, List, ◌∷◌}
 use Rattle.der_core.specs.DerElement.{DerElement}
 use Rattle.der_core.specs.Elements.{octet_string}
 use Rattle.der_core.specs.Encoding.{encoding, IsDer}
-use Rattle.key_types.specs.PublicKeyInfo.{kind_number}
+use Rattle.key_types.specs.PublicKeyInfo.{key_kind_number}
 use Rattle.key_types.specs.declared.key_kind.KeyKind.{KeyKind}
 use Rattle.key_types.specs.declared.key_kind.KeyKind.TheVariants as kinds
 use Rattle.private_key_types.specs.RsaPrivateKey.{rsa_private_key}
@@ -31,4 +31,4 @@ pub record IsPrivateKeyOf (kind : KeyKind) (octets : List ℕ) (key : PrivateKey
 
 -- the kind of a key, and the octets of its element
 abbrev pub private_key_octets : PrivateKeyValue → List ℕ
-private_key_octets key = kind_number (private_kind key) ∷ encoding (private_key key)
+private_key_octets key = key_kind_number (private_kind key) ∷ encoding (private_key key)

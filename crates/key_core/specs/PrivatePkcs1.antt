@@ -11,7 +11,7 @@ use Rattle.asn1_types.specs.declared.oids.TheConstants.{RSA_ENCRYPTION}
 use Rattle.private_key_types.specs.RsaPrivateKey.{rsa_private_key}
 use Rattle.private_key_types.specs.declared.rsa_private_key.RsaPrivateKey.{RsaPrivateKey}
 use Rattle.key_types.specs.AlgorithmIdentifier.{oid_of, parameters_of}
-use Rattle.key_core.specs.KeyRefusals.{IsUnwritten}
+use Rattle.key_core.specs.KeyRefusals.{IsUnwrittenKey}
 use Rattle.key_core.specs.declared.element.Element.TheVariants as elements
 use Rattle.key_core.specs.declared.error.KeyContext.TheVariants as contexts
 use Rattle.key_core.specs.declared.error.KeyError.{KeyError}
@@ -50,6 +50,6 @@ IsPkcs1OfPrivate (values.Ed secret) octets = ⊥
 
 -- why a private key has no such octets: it can't be written, or is of another kind
 abbrev pub RefusesPrivatePkcs1 : PrivateKeyValue → KeyError → Type 0
-RefusesPrivatePkcs1 (values.Rsa key) e = IsUnwritten elements.RsaPrivateKey (RefusesInner (rsa_private_key key ∷ [])) e
+RefusesPrivatePkcs1 (values.Rsa key) e = IsUnwrittenKey elements.RsaPrivateKey (RefusesInner (rsa_private_key key ∷ [])) e
 RefusesPrivatePkcs1 (values.Ec key) e = e ≡ errors.Rsa contexts.NotRsa
 RefusesPrivatePkcs1 (values.Ed secret) e = e ≡ errors.Rsa contexts.NotRsa

@@ -1,5 +1,5 @@
 -- Rules that are asked for in order, and the error of the first that is broken.
-use Rattle.std.specs.Prelude.{◌≡◌, ◌⊎◌, List, [], ◌∷◌}
+use Rattle.std.specs.Prelude.{◌≡◌, ◌⊎◌, List, [], ◌∷◌, Result, Err}
 
 -- A rule by its errors: it is broken where one of them tells so.
 abbrev pub Rule : Type 0 → Type 1
@@ -17,6 +17,10 @@ IsFirstBroken (rule ∷ rules) e = rule e ⊎ (IsMet rule × IsFirstBroken rules
 -- The error tells so, unless it is that of memory that ran out.
 abbrev pub OrMemory : {E : Type 0} → (memory : E) → (E → Type 0) → E → Type 0
 OrMemory memory Tells e = Tells e ⊎ (e ≡ memory)
+
+-- Two answers are one, but where one of them is want of memory.
+abbrev pub AreOneUnlessMemory : {A E : Type 0} → (memory : E) → Result A E → Result A E → Type 0
+AreOneUnlessMemory memory a b = (a ≡ b) ⊎ ((a ≡ Err memory) ⊎ (b ≡ Err memory))
 
 -- The error tells of the first broken rule, unless it is that of memory that ran out.
 abbrev pub RefusesByRules : {E : Type 0} → (memory : E) → List (Rule E) → E → Type 0

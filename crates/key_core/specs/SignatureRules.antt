@@ -7,8 +7,8 @@ use Rattle.key_core.specs.declared.signature_error.SignatureError.{SignatureErro
 use Rattle.key_core.specs.declared.signature_error.SignatureError.TheVariants as errors
 
 -- the error tells of the first broken rule, unless memory ran out
-abbrev pub RefusesBy : List (Rule SignatureError) → SignatureError → Type 0
-RefusesBy = RefusesByRules errors.Memory
+abbrev pub RefusesSignatureBy : List (Rule SignatureError) → SignatureError → Type 0
+RefusesSignatureBy = RefusesByRules errors.Memory
 
 -- an error of a key as one of a signature: want of memory is told as such
 abbrev pub key_refusal : KeyError → SignatureError

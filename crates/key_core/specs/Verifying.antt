@@ -7,7 +7,7 @@ use Rattle.asn1_types.specs.Values.{identifier_contents, payload_of}
 use Rattle.asn1_types.specs.declared.bit_string.BitString.{BitString}
 use Rattle.key_types.specs.AlgorithmIdentifier.{oid_of, parameters_of}
 use Rattle.key_types.specs.RsaPublicKey.{rsa_public_key}
-use Rattle.key_types.specs.SubjectKey.{kind_of}
+use Rattle.key_types.specs.SubjectKey.{kind_of_key}
 use Rattle.key_types.specs.declared.algorithm.AlgorithmIdentifier.{AlgorithmIdentifier}
 use Rattle.key_types.specs.declared.key_info.SubjectPublicKeyInfo.{SubjectPublicKeyInfo}
 use Rattle.key_types.specs.declared.key_kind.KeyKind.TheVariants as kinds
@@ -90,7 +90,7 @@ Accepts judge algorithm info msg sig = IsJudged judge algorithm info msg sig ver
 -- the key is not one of RSA
 abbrev pub NotRsa : SubjectPublicKeyInfo → Rule SignatureError
 NotRsa info e =
-    (kind_of info.subject_public_key ≢ kinds.Rsa) × (e ≡ errors.Key (key_errors.UnsupportedAlgorithm (kind_of info.subject_public_key)))
+    (kind_of_key info.subject_public_key ≢ kinds.Rsa) × (e ≡ errors.Key (key_errors.UnsupportedAlgorithm (kind_of_key info.subject_public_key)))
 
 -- the RSAPublicKey of the key has no encoding
 pub record Unwritable (info : SubjectPublicKeyInfo) (e : SignatureError) : Type 0 where
@@ -102,7 +102,7 @@ pub record Unwritable (info : SubjectPublicKeyInfo) (e : SignatureError) : Type 
 
 -- the key is not one of an elliptic curve
 abbrev pub NotEc : SubjectPublicKeyInfo → Rule SignatureError
-NotEc info e = (kind_of info.subject_public_key ≢ kinds.Ec) × (e ≡ errors.Key (key_errors.EC key_contexts.NotEc))
+NotEc info e = (kind_of_key info.subject_public_key ≢ kinds.Ec) × (e ≡ errors.Key (key_errors.EC key_contexts.NotEc))
 
 -- no curve is known by the parameters of the key
 abbrev pub UnknownCurve : SubjectPublicKeyInfo → Rule SignatureError
@@ -119,7 +119,7 @@ Unpaired info hash e =
 
 -- the key is not one of a curve 25519 or 448
 abbrev pub NotEd : SubjectPublicKeyInfo → Rule SignatureError
-NotEd info e = (kind_of info.subject_public_key ≢ kinds.Ed) × (e ≡ errors.Key (key_errors.ED key_contexts.NotEd))
+NotEd info e = (kind_of_key info.subject_public_key ≢ kinds.Ed) × (e ≡ errors.Key (key_errors.ED key_contexts.NotEd))
 
 -- the key is one of X25519, which verifies nothing
 abbrev pub ForAgreement : SubjectPublicKeyInfo → Rule SignatureError

@@ -4,7 +4,7 @@ ghost use Rattle.std.specs.Prelude.{◌≡◌, ◌≢◌, ℕ, List, Err, IfOk, 
 ghost use Rattle.sig_core.specs.Digest.{digest_of, digest_size};
 ghost use Rattle.sig_core.specs.declared.hash.HashAlgorithm.{HashAlgorithm};
 ghost use Rattle.sig_core.specs.declared.hash.HashAlgorithm.TheVariants.{MD5};
-ghost use Rattle.key_types.specs.SubjectKey.{kind_of};
+ghost use Rattle.key_types.specs.SubjectKey.{kind_of_key};
 ghost use Rattle.key_types.specs.declared.subject_key.SubjectKey.TheVariants.{Rsa};
 ghost use Rattle.key_core.specs.KeyIdentifier.{IsKeyIdentifier, IsPayloadOf, RefusesPayload, RefusesKeyIdentifier, key_id_refusal, payload_refusal};
 ghost use Rattle.key_core.specs.SignatureErrorText.{key_id_error_text};
@@ -63,7 +63,7 @@ impl KeyIdGenMethod {
         ensures sized { IfOk result (λ id. (hash : HashAlgorithm) → self ≡ methods.SPKValueHashedLeftmost160 hash → vec_len id ≡ 20) }
         // MD5 is refused for the bits, whatever memory there is.
         ensures refused { self ≡ methods.SPKValueHashedLeftmost160 MD5
-            → result ≡ Err (errors.InvalidKey (key_errors.UnsupportedAlgorithm (kind_of public_key.now.info.subject_public_key))) }
+            → result ≡ Err (errors.InvalidKey (key_errors.UnsupportedAlgorithm (kind_of_key public_key.now.info.subject_public_key))) }
     {
         match self {
             KeyIdGenMethod::SPKFullDER(hash) => {
@@ -86,7 +86,7 @@ fn leftmost160(
         (RefusesKeyIdentifier (methods.SPKValueHashedLeftmost160 hash) public_key.now.info) }
     ensures sized { IfOk result (λ id. vec_len id ≡ 20) }
     ensures refused { hash ≡ MD5
-        → result ≡ Err (errors.InvalidKey (key_errors.UnsupportedAlgorithm (kind_of public_key.now.info.subject_public_key))) }
+        → result ≡ Err (errors.InvalidKey (key_errors.UnsupportedAlgorithm (kind_of_key public_key.now.info.subject_public_key))) }
 {
     if hash == HashAlgorithm::MD5 {
         return Err(KeyIdGenError::InvalidKey {

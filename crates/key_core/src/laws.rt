@@ -11,7 +11,7 @@ ghost use Rattle.der_core.specs.Structure.{IsWithin};
 ghost use Rattle.key_core.specs.CurveKeys.{IsSec1Key, IsSec1KeyOn, IsSec1KeyOnKnown};
 ghost use Rattle.key_core.specs.DerivedKeys.{Derivation};
 ghost use Rattle.key_core.specs.KeyIdentifier.{IsWholeOf};
-ghost use Rattle.key_core.specs.KeyRefusals.{IsUnread};
+ghost use Rattle.key_core.specs.KeyRefusals.{IsUnreadKey};
 ghost use Rattle.key_core.specs.Pkcs1.{IsPkcs1Key, IsPkcs1Of};
 ghost use Rattle.key_core.specs.Pkcs8.{KeepsItself, IsPkcs8Key, RefusesPkcs8};
 ghost use Rattle.key_core.specs.PrivateKeyInfo.{private_key_info, inner_private_key};
@@ -46,7 +46,7 @@ pub fn pkcs1_comes_back()
 pub fn public_keys_come_back()
     ensures again { (octets : List ℕ) (info again : SubjectPublicKeyInfo) → IsWholeOf info octets → IsWithin IsPublicKeyInfo octets again → again ≡ info }
     ensures memory { (octets : List ℕ) (info : SubjectPublicKeyInfo) (e : KeyError)
-        → IsWholeOf info octets → IsUnread elements.SubjectPublicKeyInfo (RefusesOctets IsPublicKeyInfo octets) e → e ≡ errors.Memory }
+        → IsWholeOf info octets → IsUnreadKey elements.SubjectPublicKeyInfo (RefusesOctets IsPublicKeyInfo octets) e → e ≡ errors.Memory }
 {}
 
 /// What `PrivateKey::to_pkcs8` writes of a key that was read is read by `from_pkcs8` as that key

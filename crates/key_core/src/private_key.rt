@@ -8,7 +8,7 @@ ghost use Rattle.der_core.specs.Refusals.{RefusesInner};
 ghost use Rattle.key_types.specs.AlgorithmIdentifier.{parameters_of};
 ghost use Rattle.key_core.specs.CurveParameters.{HasCurve};
 ghost use Rattle.key_core.specs.Facts.CurveParameters.{HasCurve-prop};
-ghost use Rattle.key_core.specs.KeyRefusals.{IsUnwritten};
+ghost use Rattle.key_core.specs.KeyRefusals.{IsUnwrittenKey};
 ghost use Rattle.key_core.specs.PrivateKeyInfo.{private_key_info, inner_private_key};
 ghost use Rattle.key_core.specs.PrivateKeyValue.{private_kind};
 ghost use Rattle.key_core.specs.declared.element.Element.TheVariants as elements;
@@ -64,7 +64,7 @@ impl PrivateKey {
     pub fn to_pkcs8(&self, alloc: Global) -> Result<Vec<u8>, KeyError>
         ensures { MatchResult result
             (λ octets. (octets.items ≡ encoding (private_key_info self.now.info)) × IsDer (private_key_info self.now.info) × AreDer (inner_private_key self.now.info))
-            (IsUnwritten elements.PrivateKeyInfo (RefusesInner (inner_private_key self.now.info ++ private_key_info self.now.info ∷ []))) }
+            (IsUnwrittenKey elements.PrivateKeyInfo (RefusesInner (inner_private_key self.now.info ++ private_key_info self.now.info ∷ []))) }
     {
         match self.info.to_der(alloc) {
             Ok(octets) => Ok(octets),
@@ -93,7 +93,8 @@ impl fmt::Debug for PrivateKey {
 /// Keys are equal exactly where all that is kept of them is: their containers, and the public keys
 /// beside them. How long this takes tells of the keys.
 impl PartialEq for PrivateKey {
-    ghost use Rattle.der_core.specs.Equality.{same_octets, same_octets_per};
+    ghost use Rattle.der_core.specs.Equality.{same_octets};
+    ghost use Rattle.der_core.specs.Facts.Equality.{same_octets_per};
     ghost use Rattle.key_core.specs.PrivateKey.{kept_key};
 
     ghost eq = { same_octets kept_key };
@@ -109,7 +110,7 @@ impl PartialEq for PrivateKey {
 }
 
 impl Eq for PrivateKey {
-    ghost use Rattle.der_core.specs.Equality.{same_octets_equiv};
+    ghost use Rattle.der_core.specs.Facts.Equality.{same_octets_equiv};
     ghost use Rattle.key_core.specs.PrivateKey.{kept_key};
 
     ghost laws = { same_octets_equiv kept_key };

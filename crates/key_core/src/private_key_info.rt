@@ -240,7 +240,8 @@ impl Structure for PrivateKeyInfo {
 /// Keys with their algorithms are equal exactly where their octets are. How long this takes tells of
 /// the keys.
 impl PartialEq for PrivateKeyInfo {
-    ghost use Rattle.der_core.specs.Equality.{same_octets, same_octets_per};
+    ghost use Rattle.der_core.specs.Equality.{same_octets};
+    ghost use Rattle.der_core.specs.Facts.Equality.{same_octets_per};
     ghost use Rattle.key_core.specs.PrivateKeyInfo.{private_key_info};
 
     ghost eq = { same_octets private_key_info };
@@ -260,7 +261,7 @@ impl PartialEq for PrivateKeyInfo {
 }
 
 impl Eq for PrivateKeyInfo {
-    ghost use Rattle.der_core.specs.Equality.{same_octets_equiv};
+    ghost use Rattle.der_core.specs.Facts.Equality.{same_octets_equiv};
     ghost use Rattle.key_core.specs.PrivateKeyInfo.{private_key_info};
 
     ghost laws = { same_octets_equiv private_key_info };

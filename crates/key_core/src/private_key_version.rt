@@ -2,7 +2,7 @@
 
 ghost use Rattle.std.specs.Prelude.{◌≡◌, ◌≢◌, IfOk, MatchOption};
 ghost use Rattle.der_core.specs.Encoding.{IsWellFormed};
-ghost use Rattle.key_core.specs.PrivateKeyVersion.{version};
+ghost use Rattle.key_core.specs.PrivateKeyVersion.{key_version};
 ghost use Rattle.key_core.specs.declared.private_key_version.PrivateKeyVersion.{PrivateKeyVersion};
 
 use der_core::tag::INTEGER;
@@ -22,8 +22,8 @@ impl PrivateKeyVersion {
     /// The version that an element is.
     pub(crate) fn at(elem: Elem<'_>) -> Option<PrivateKeyVersion>
         ensures { MatchOption result
-            ((v : PrivateKeyVersion) → elem.entry.is.0 ≢ version v)
-            (λ v. elem.entry.is.0 ≡ version v) }
+            ((v : PrivateKeyVersion) → elem.entry.is.0 ≢ key_version v)
+            (λ v. elem.entry.is.0 ≡ key_version v) }
     {
         match leaf_at(elem, INTEGER)? {
             [0] => Some(PrivateKeyVersion::V1),
@@ -34,7 +34,7 @@ impl PrivateKeyVersion {
 
     /// The element of the version.
     pub(crate) fn write(self, alloc: Global) -> Result<Tree, AllocError>
-        ensures { IfOk result (λ tree. (tree ≡ version self) × IsWellFormed tree) }
+        ensures { IfOk result (λ tree. (tree ≡ key_version self) × IsWellFormed tree) }
     {
         match self {
             PrivateKeyVersion::V1 => leaf(alloc, INTEGER, &[0]),

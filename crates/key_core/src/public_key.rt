@@ -14,9 +14,9 @@ ghost use Rattle.asn1_types.specs.Elements.{object_identifier};
 ghost use Rattle.der_core.specs.declared.error.DerError.TheVariants as der_errors;
 ghost use Rattle.der_core.specs.declared.fault.DerFault.{DerFault};
 ghost use Rattle.key_types.specs.PublicKeyInfo.{public_key_info, inner_key, IsPublicKeyInfo};
-ghost use Rattle.key_types.specs.SubjectKey.{kind_of};
+ghost use Rattle.key_types.specs.SubjectKey.{kind_of_key};
 ghost use Rattle.key_types.specs.declared.key_info.SubjectPublicKeyInfo.{SubjectPublicKeyInfo};
-ghost use Rattle.key_core.specs.KeyRefusals.{IsUnread, IsUnwritten};
+ghost use Rattle.key_core.specs.KeyRefusals.{IsUnreadKey, IsUnwrittenKey};
 ghost use Rattle.key_core.specs.MadeKeys.{IsRsaInfo, IsRsaKey, IsEcKey, IsEdKey, NamesEd, RefusesEd};
 ghost use Rattle.key_core.specs.declared.element.Element.TheVariants as elements;
 ghost use Rattle.key_core.specs.declared.error.KeyContext.TheVariants as contexts;
@@ -55,7 +55,7 @@ impl PublicKey {
     pub fn from_der(alloc: Global, der: &[u8]) -> Result<PublicKey, KeyError>
         ensures answer { MatchResult result
             (λ key. IsWithin IsPublicKeyInfo der.now key.info)
-            (IsUnread elements.SubjectPublicKeyInfo (RefusesOctets IsPublicKeyInfo der.now)) }
+            (IsUnreadKey elements.SubjectPublicKeyInfo (RefusesOctets IsPublicKeyInfo der.now)) }
         // Octets with a fault are refused with it, whatever memory there is.
         ensures faulty { (at : ℕ) (fault : DerFault) → IsExactFault der.now at fault
             → result ≡ Err (errors.Asn1Deserialization elements.SubjectPublicKeyInfo (der_errors.Malformed (record { at = at; fault = fault }))) }
@@ -74,7 +74,7 @@ impl PublicKey {
     pub fn to_der(&self, alloc: Global) -> Result<Vec<u8>, KeyError>
         ensures { MatchResult result
             (λ octets. (octets.items ≡ encoding (public_key_info self.now.info)) × IsDer (public_key_info self.now.info) × AreDer (inner_key self.now.info.subject_public_key))
-            (IsUnwritten elements.SubjectPublicKeyInfo (RefusesInner (inner_key self.now.info.subject_public_key ++ public_key_info self.now.info ∷ []))) }
+            (IsUnwrittenKey elements.SubjectPublicKeyInfo (RefusesInner (inner_key self.now.info.subject_public_key ++ public_key_info self.now.info ∷ []))) }
     {
         match self.info.to_der(alloc) {
             Ok(octets) => Ok(octets),
@@ -108,7 +108,7 @@ impl PublicKey {
     ) -> Result<PublicKey, KeyError>
         ensures { MatchResult result
             (λ key. IsEcKey curve point.now key.info)
-            (IsUnwritten elements.SubjectPublicKeyInfo (RefusesToWrite (object_identifier curve))) }
+            (IsUnwrittenKey elements.SubjectPublicKeyInfo (RefusesToWrite (object_identifier curve))) }
     {
         match ec_key(alloc, &curve, point) {
             Ok(info) => Ok(PublicKey { info }),
@@ -143,7 +143,7 @@ impl PublicKey {
 
     /// The kind of the key.
     pub fn kind(&self) -> KeyKind
-        ensures { result ≡ kind_of self.now.info.subject_public_key }
+        ensures { result ≡ kind_of_key self.now.info.subject_public_key }
     {
         self.info.subject_public_key.kind()
     }
@@ -229,7 +229,8 @@ impl From<PublicKey> for SubjectPublicKeyInfo {
 
 /// Keys are equal exactly where their octets are.
 impl PartialEq for PublicKey {
-    ghost use Rattle.der_core.specs.Equality.{same_octets, same_octets_per};
+    ghost use Rattle.der_core.specs.Equality.{same_octets};
+    ghost use Rattle.der_core.specs.Facts.Equality.{same_octets_per};
 
     ghost eq = { same_octets (λ key. public_key_info key.info) };
 
@@ -244,7 +245,7 @@ impl PartialEq for PublicKey {
 }
 
 impl Eq for PublicKey {
-    ghost use Rattle.der_core.specs.Equality.{same_octets_equiv};
+    ghost use Rattle.der_core.specs.Facts.Equality.{same_octets_equiv};
 
     ghost laws = { same_octets_equiv (λ key. public_key_info key.info) };
 }

@@ -7,7 +7,7 @@ use Rattle.der_core.specs.Elements.{sequence, bit_octets}
 use Rattle.asn1_types.specs.Elements.{bit_string}
 use Rattle.key_types.specs.AlgorithmIdentifier.{algorithm_identifier}
 use Rattle.key_types.specs.RsaPublicKey.{rsa_public_key}
-use Rattle.key_types.specs.SubjectKey.{kind_of}
+use Rattle.key_types.specs.SubjectKey.{kind_of_key}
 use Rattle.key_types.specs.declared.key_kind.KeyKind.{KeyKind}
 use Rattle.key_types.specs.declared.key_kind.KeyKind.TheVariants as kinds
 use Rattle.key_types.specs.declared.key_info.SubjectPublicKeyInfo.{SubjectPublicKeyInfo}
@@ -42,15 +42,15 @@ IsPublicKeyInfo element info = (element ≡ public_key_info info) × AreDer (inn
 
 -- the element is the one of this key, which is of the kind
 abbrev pub IsKeyOf : KeyKind → DerElement → SubjectKey → Type 0
-IsKeyOf kind element key = (kind_of key ≡ kind) × IsSubjectKey element key
+IsKeyOf kind element key = (kind_of_key key ≡ kind) × IsSubjectKey element key
 
 -- a number for each kind of keys
-abbrev pub kind_number : KeyKind → ℕ
-kind_number kinds.Rsa = 0
-kind_number kinds.Ec = 1
-kind_number kinds.Ed = 2
-kind_number kinds.Mldsa = 3
+abbrev pub key_kind_number : KeyKind → ℕ
+key_kind_number kinds.Rsa = 0
+key_kind_number kinds.Ec = 1
+key_kind_number kinds.Ed = 2
+key_kind_number kinds.Mldsa = 3
 
 -- the kind of a key, and the octets of its element
 abbrev pub key_octets : SubjectKey → List ℕ
-key_octets key = kind_number (kind_of key) ∷ encoding (subject_public_key key)
+key_octets key = key_kind_number (kind_of_key key) ∷ encoding (subject_public_key key)

@@ -109,7 +109,8 @@ impl Structure for AlgorithmIdentifier {
 
 /// Identifiers of algorithms are equal exactly where their octets are.
 impl PartialEq for AlgorithmIdentifier {
-    ghost use Rattle.der_core.specs.Equality.{same_octets, same_octets_per};
+    ghost use Rattle.der_core.specs.Equality.{same_octets};
+    ghost use Rattle.der_core.specs.Facts.Equality.{same_octets_per};
     ghost use Rattle.key_types.specs.AlgorithmIdentifier.{algorithm_identifier};
 
     ghost eq = { same_octets algorithm_identifier };
@@ -125,7 +126,7 @@ impl PartialEq for AlgorithmIdentifier {
 }
 
 impl Eq for AlgorithmIdentifier {
-    ghost use Rattle.der_core.specs.Equality.{same_octets_equiv};
+    ghost use Rattle.der_core.specs.Facts.Equality.{same_octets_equiv};
     ghost use Rattle.key_types.specs.AlgorithmIdentifier.{algorithm_identifier};
 
     ghost laws = { same_octets_equiv algorithm_identifier };

@@ -1,7 +1,7 @@
 //! Public keys of subjects with their algorithms.
 
 ghost use Rattle.std.specs.Prelude.{◌≡◌, ◌↔◌, IsTrue, MatchOption};
-ghost use Rattle.key_types.specs.SubjectKey.{kind_of};
+ghost use Rattle.key_types.specs.SubjectKey.{kind_of_key};
 ghost use Rattle.key_types.specs.KeyKind.{IsAlgorithmOf};
 ghost use Rattle.key_types.specs.Facts.Kinds.{IsAlgorithmOf-prop};
 
@@ -18,14 +18,14 @@ use std::alloc::{AllocError, Global};
 pub struct SubjectPublicKeyInfo {
     pub algorithm: AlgorithmIdentifier,
     pub subject_public_key: SubjectKey,
-    pub ghost fits: { IsAlgorithmOf (kind_of subject_public_key) algorithm } by { IsAlgorithmOf-prop (kind_of subject_public_key) algorithm },
+    pub ghost fits: { IsAlgorithmOf (kind_of_key subject_public_key) algorithm } by { IsAlgorithmOf-prop (kind_of_key subject_public_key) algorithm },
 }
 
 impl SubjectPublicKeyInfo {
     /// The key with its algorithm, None exactly where the algorithm isn't one for keys of its kind.
     pub fn new(algorithm: AlgorithmIdentifier, key: SubjectKey) -> Option<SubjectPublicKeyInfo>
         ensures { MatchOption result
-            (IsAlgorithmOf (kind_of key) algorithm → ⊥)
+            (IsAlgorithmOf (kind_of_key key) algorithm → ⊥)
             (λ info. (info.algorithm ≡ algorithm) × (info.subject_public_key ≡ key)) }
     {
         match KeyKind::of(&algorithm) {
@@ -92,7 +92,8 @@ impl Structure for SubjectPublicKeyInfo {
 
 /// Keys with their algorithms are equal exactly where their octets are.
 impl PartialEq for SubjectPublicKeyInfo {
-    ghost use Rattle.der_core.specs.Equality.{same_octets, same_octets_per};
+    ghost use Rattle.der_core.specs.Equality.{same_octets};
+    ghost use Rattle.der_core.specs.Facts.Equality.{same_octets_per};
     ghost use Rattle.key_types.specs.PublicKeyInfo.{public_key_info};
 
     ghost eq = { same_octets public_key_info };
@@ -108,7 +109,7 @@ impl PartialEq for SubjectPublicKeyInfo {
 }
 
 impl Eq for SubjectPublicKeyInfo {
-    ghost use Rattle.der_core.specs.Equality.{same_octets_equiv};
+    ghost use Rattle.der_core.specs.Facts.Equality.{same_octets_equiv};
     ghost use Rattle.key_types.specs.PublicKeyInfo.{public_key_info};
 
     ghost laws = { same_octets_equiv public_key_info };

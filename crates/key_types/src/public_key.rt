@@ -62,7 +62,8 @@ impl Structure for RsaPublicKey {
 
 /// Keys are equal exactly where their octets are.
 impl PartialEq for RsaPublicKey {
-    ghost use Rattle.der_core.specs.Equality.{same_octets, same_octets_per};
+    ghost use Rattle.der_core.specs.Equality.{same_octets};
+    ghost use Rattle.der_core.specs.Facts.Equality.{same_octets_per};
     ghost use Rattle.key_types.specs.RsaPublicKey.{rsa_public_key};
 
     ghost eq = { same_octets rsa_public_key };
@@ -78,7 +79,7 @@ impl PartialEq for RsaPublicKey {
 }
 
 impl Eq for RsaPublicKey {
-    ghost use Rattle.der_core.specs.Equality.{same_octets_equiv};
+    ghost use Rattle.der_core.specs.Facts.Equality.{same_octets_equiv};
     ghost use Rattle.key_types.specs.RsaPublicKey.{rsa_public_key};
 
     ghost laws = { same_octets_equiv rsa_public_key };

@@ -3,7 +3,7 @@
 ghost use Rattle.std.specs.Prelude.{◌≡◌, ◌↔◌, false, IfOk, IsTrue, MatchResult};
 ghost use Rattle.der_core.specs.Encoding.{IsWellFormed};
 ghost use Rattle.der_core.specs.Refusals.{RefusesShape, RefusesInner};
-ghost use Rattle.key_types.specs.SubjectKey.{kind_of};
+ghost use Rattle.key_types.specs.SubjectKey.{kind_of_key};
 ghost use Rattle.key_types.specs.PublicKeyInfo.{IsKeyOf, IsSubjectKey, inner_key};
 ghost use Rattle.key_types.specs.declared.subject_key.SubjectKey.{SubjectKey};
 ghost use Rattle.key_types.specs.declared.subject_key.SubjectKey.TheVariants.{Rsa};
@@ -34,7 +34,7 @@ pub enum SubjectKey {
 impl SubjectKey {
     /// The kind of the key.
     pub fn kind(&self) -> KeyKind
-        ensures { result ≡ kind_of self.now }
+        ensures { result ≡ kind_of_key self.now }
     {
         match self {
             SubjectKey::Rsa(_) => KeyKind::Rsa,

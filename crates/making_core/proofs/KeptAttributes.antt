@@ -8,14 +8,12 @@ use Rattle.der_core.specs.Placed.{AreDer}
 use Rattle.der_core.specs.Refusals.{RefusesInner, RefusesShape}
 use Rattle.der_core.specs.declared.error.DerError.{DerError}
 use Rattle.der_core.specs.declared.error.DerError.TheVariants as errors
-use Rattle.cms_types.specs.Facts.Signed.{attribute_lists}
-use Rattle.cms_types.specs.SignedAttributes.{AreSignedAttributes}
 use Rattle.cms_types.specs.SignedAttributesElement.{signed_attributes}
 use Rattle.cms_types.specs.declared.signed_attributes.SignedAttributes.{SignedAttributes}
-use Rattle.x509_types.specs.Attribute.{attribute}
+use Rattle.x509_types.specs.Facts.Attributes.{attribute_lists}
+use Rattle.x509_types.specs.Attribute.{attribute, inner_attributes, AreAttributes}
 use Rattle.x509_types.specs.declared.attribute.Attribute.{Attribute}
 use Rattle.der_core.proofs.Inner.{refuses_last}
-use Rattle.making_core.specs.MadeAttributes.{inner_attributes}
 use Rattle.making_core.specs.MadeContent.{program_attributes}
 use Rattle.making_core.specs.MadeSignature.{attributes_element}
 
@@ -24,7 +22,7 @@ abbrev some_value : (list : List Attribute) (kept : KeptElement) → AreDer (inn
 some_value list kept der is = record {
   element = kept;
   list = list;
-  are = ∣ subst (λ (e : DerElement). AreSignedAttributes e list) (sym is) (attribute_lists.spelled list der) ∣₁;
+  are = ∣ subst (λ (e : DerElement). AreAttributes e list) (sym is) (attribute_lists.spelled list der) ∣₁;
 }
 
 never_shape : (list : List Attribute) (kept : KeptElement) (e : DerError) → AreDer (inner_attributes list) → kept.element ≡ attributes_element (map attribute list)

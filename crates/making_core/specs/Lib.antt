@@ -1,5 +1,4 @@
 pub mod Carried
 pub mod MadeSignature
 pub mod MadeContent
-pub mod MadeAttributes
 pub mod SignedProgram

@@ -1,5 +1,6 @@
 -- The signature that is made, field by field (RFC 2315 9.1, 9.2; Windows Authenticode Portable Executable Signature Format).
 use Rattle.std.specs.Prelude.{ℕ, List, [], ◌∷◌, Option, Some}
+use Rattle.asn1_types.specs.Elements.{integer_of}
 use Rattle.asn1_types.specs.declared.oids.TheConstants.{RSA_ENCRYPTION}
 use Rattle.cms_types.specs.SignedDataElements.{SignedDataElements}
 use Rattle.cms_types.specs.SignerElements.{SignerElements, signer_of}
@@ -20,7 +21,7 @@ pub record SignatureParts : Type 0 where
 
 -- version 1
 abbrev pub version_one : DerElement
-version_one = Primitive 0x02 (1 ∷ [])
+version_one = integer_of (1 ∷ [])
 
 -- rsaEncryption, with NULL (RFC 8017 C)
 abbrev pub rsa_encryption : DerElement

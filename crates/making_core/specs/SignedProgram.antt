@@ -1,9 +1,10 @@
 -- A program that is signed, and when signed data is its signature.
 use Rattle.std.specs.Prelude.{◌≡◌, ⊤, ℕ, List, [], ◌∷◌, map, true, Option, Some, None}
+use Rattle.asn1_types.specs.Elements.{integer_of}
 use Rattle.cms_types.specs.DigestAlgorithm.{digest_algorithm}
 use Rattle.cms_types.specs.SignedDataElements.{SignedDataElements}
 use Rattle.cms_types.specs.Units.{IsBasicPlane}
-use Rattle.der_core.specs.DerElement.{DerElement, Primitive}
+use Rattle.der_core.specs.DerElement.{DerElement}
 use Rattle.der_core.specs.Elements.{sequence}
 use Rattle.key_core.specs.Signing.{KeyArithmetic, IsAsked, IsKeyPair}
 use Rattle.key_core.specs.Verifying.{Accepts}
@@ -47,7 +48,7 @@ message_for p = attributes_message (attributes_for p)
 
 -- the issuer and the serial number of a certificate (RFC 5652 10.2.4)
 abbrev pub issuer_and_serial_of : CertificateElements → DerElement
-issuer_and_serial_of c = sequence (c.tbs.issuer ∷ Primitive 0x02 c.tbs.serial_number ∷ [])
+issuer_and_serial_of c = sequence (c.tbs.issuer ∷ integer_of c.tbs.serial_number ∷ [])
 
 -- The signature of a program by the first of these certificates.
 abbrev pub parts_for : Program → (first : CertificateElements) → (carried : List CertificateElements) → (signature : List ℕ) → SignatureParts

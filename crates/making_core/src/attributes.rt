@@ -1,6 +1,6 @@
 //! The signed attributes of a program's signature.
 
-ghost use Rattle.std.specs.Prelude.{◌≡◌, ◌∷◌, ◌++◌, [], List, IfOk, MatchResult, map};
+ghost use Rattle.std.specs.Prelude.{◌≡◌, ◌∷◌, ◌++◌, [], List, Err, None, IfOk, IsOk, MatchResult, map};
 ghost use Rattle.std.specs.Option.{option_copied};
 ghost use Rattle.asn1_types.specs.Ia5String.{RefusesCharSet};
 ghost use Rattle.asn1_types.specs.declared.oids.TheConstants.{CONTENT_TYPE, MESSAGE_DIGEST, SPC_INDIRECT_DATA, SPC_SP_OPUS_INFO};
@@ -11,9 +11,8 @@ ghost use Rattle.der_core.specs.Elements.{octet_string};
 ghost use Rattle.der_core.specs.Encoding.{IsDer};
 ghost use Rattle.der_core.specs.Placed.{AreDer};
 ghost use Rattle.der_core.specs.Refusals.{RefusesInner};
-ghost use Rattle.x509_types.specs.Attribute.{attribute};
+ghost use Rattle.x509_types.specs.Attribute.{attribute, inner_attributes};
 ghost use Rattle.x509_types.specs.AttributeValues.{inner_values};
-ghost use Rattle.making_core.specs.MadeAttributes.{inner_attributes};
 ghost use Rattle.making_core.specs.MadeContent.{attribute_by, attributes_message, opus_element, program_attributes};
 ghost use Rattle.making_core.specs.MadeSignature.{attributes_element};
 ghost use Rattle.making_core.specs.SignedProgram.{IsBasicName};
@@ -30,12 +29,12 @@ const SIGNED_ATTRIBUTES: u8 = 0xA0;
 
 /// What is said of the program: its name, where it has one, and an empty link to more.
 pub fn opus_of(alloc: Global, name: Option<&str>) -> Result<SpcSpOpusInfo, CharSetError>
-    ensures { MatchResult result
+    ensures answer { MatchResult result
         (λ info. (opus_info info ≡ opus_element (option_copied name.entry)) × IsBasicName (option_copied name.entry))
+        (RefusesCharSet (IsBasicName (option_copied name.entry))) }
     // A name is refused before memory is asked for, and none asks for none.
     ensures refused { (IsBasicName (option_copied name.entry) → ⊥) → result ≡ Err CharSetError.CharSet }
     ensures nameless { option_copied name.entry ≡ None → IsOk result }
-        (RefusesCharSet (IsBasicName (option_copied name.entry))) }
 {
     let program_name = match name {
         Some(text) => Some(SpcString::from_text(alloc, text)?),

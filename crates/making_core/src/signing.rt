@@ -1,7 +1,7 @@
 //! The signature over a message.
 
 ghost use Rattle.std.specs.Prelude.{MatchResult};
-ghost use Rattle.key_core.specs.SignatureRules.{RefusesBy};
+ghost use Rattle.key_core.specs.SignatureRules.{RefusesSignatureBy};
 ghost use Rattle.key_core.specs.Signing.{arithmetic, sign_rules};
 ghost use Rattle.key_core.specs.declared.signature_algorithm.SignatureAlgorithm.TheVariants.{RsaPkcs1v15};
 ghost use Rattle.making_core.specs.SignedProgram.{IsSignature};
@@ -21,7 +21,7 @@ pub fn signature_of<S: Scheme>(
 ) -> Result<Octets, SignatureError>
     ensures { MatchResult result
         (IsSignature (arithmetic (S.judge scheme.now) (S.signs scheme.now) (S.pair scheme.now)) (RsaPkcs1v15 hash) private_key.now message.now)
-        (RefusesBy (sign_rules (S.signs scheme.now) (RsaPkcs1v15 hash) private_key.now message.now)) }
+        (RefusesSignatureBy (sign_rules (S.signs scheme.now) (RsaPkcs1v15 hash) private_key.now message.now)) }
 {
     let algorithm = SignatureAlgorithm::RsaPkcs1v15(hash);
     match algorithm.sign(alloc, message, private_key, scheme) {

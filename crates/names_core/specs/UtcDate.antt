@@ -7,9 +7,9 @@ use Rattle.x509_values.specs.declared.time.Time.{Time}
 use Rattle.x509_values.specs.declared.time.Time.TheVariants as times
 
 -- the fields of a time in either form
-abbrev pub fields_of : Time → List ℕ
-fields_of (times.Utc time) = utc_fields time
-fields_of (times.Generalized time) = generalized_fields time
+abbrev pub time_fields : Time → List ℕ
+time_fields (times.Utc time) = utc_fields time
+time_fields (times.Generalized time) = generalized_fields time
 
 -- the time is a UTCTime
 abbrev pub IsUtc : Time → Type 0
@@ -18,5 +18,5 @@ IsUtc (times.Generalized time) = ⊥
 
 -- The time is that of the date, and a UTCTime exactly where the year is one of 1950 to 2049.
 pub record IsTimeOf (date : GeneralizedTime) (time : Time) : Type 0 where
-  pub moment : fields_of time ≡ generalized_fields date
+  pub moment : time_fields time ≡ generalized_fields date
   pub form : IsUtc time ↔ IsUtcYear (year_of date)

@@ -4,7 +4,7 @@ ghost use Rattle.std.specs.Prelude.{◌≡◌, ◌↔◌, [], ◌∷◌, IsSome,
 ghost use Rattle.asn1_types.specs.declared.generalized_time.GeneralizedTime.{GeneralizedTime};
 ghost use Rattle.asn1_types.specs.Calendar.{IsCalendarDate, IsMoment, IsUtcYear};
 ghost use Rattle.asn1_types.specs.Time.{generalized_fields, time_text, utc_fields, year_of};
-ghost use Rattle.names_core.specs.UtcDate.{fields_of, IsTimeOf};
+ghost use Rattle.names_core.specs.UtcDate.{time_fields, IsTimeOf};
 
 use asn1_types::{GeneralizedTime, UTCTime};
 use std::fmt;
@@ -102,7 +102,7 @@ impl From<UTCTime> for UtcDate {
 
 /// The moment of a time in either form.
 impl From<Time> for UtcDate {
-    ghost from_gives = { λ time date. generalized_fields date ≡ fields_of time };
+    ghost from_gives = { λ time date. generalized_fields date ≡ time_fields time };
 
     fn from(time: Time) -> UtcDate {
         match time {

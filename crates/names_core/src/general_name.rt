@@ -220,7 +220,8 @@ fn is_same_assigner(one: &Option<DirectoryString>, other: &Option<DirectoryStrin
 
 /// Names are equal exactly where their octets are.
 impl PartialEq for GeneralName {
-    ghost use Rattle.der_core.specs.Equality.{same_octets, same_octets_per};
+    ghost use Rattle.der_core.specs.Equality.{same_octets};
+    ghost use Rattle.der_core.specs.Facts.Equality.{same_octets_per};
     ghost use Rattle.names_core.specs.GeneralName.{named_element};
 
     ghost eq = { same_octets named_element };
@@ -236,7 +237,7 @@ impl PartialEq for GeneralName {
 }
 
 impl Eq for GeneralName {
-    ghost use Rattle.der_core.specs.Equality.{same_octets_equiv};
+    ghost use Rattle.der_core.specs.Facts.Equality.{same_octets_equiv};
     ghost use Rattle.names_core.specs.GeneralName.{named_element};
 
     ghost laws = { same_octets_equiv named_element };

@@ -189,7 +189,8 @@ impl From<GeneralNames> for RawGeneralNames {
 
 /// Lists of names are equal exactly where their octets are.
 impl PartialEq for GeneralNames {
-    ghost use Rattle.der_core.specs.Equality.{same_octets, same_octets_per};
+    ghost use Rattle.der_core.specs.Equality.{same_octets};
+    ghost use Rattle.der_core.specs.Facts.Equality.{same_octets_per};
     ghost use Rattle.x501_types.specs.GeneralName.{general_names};
 
     ghost eq = { same_octets general_names };
@@ -205,7 +206,7 @@ impl PartialEq for GeneralNames {
 }
 
 impl Eq for GeneralNames {
-    ghost use Rattle.der_core.specs.Equality.{same_octets_equiv};
+    ghost use Rattle.der_core.specs.Facts.Equality.{same_octets_equiv};
     ghost use Rattle.x501_types.specs.GeneralName.{general_names};
 
     ghost laws = { same_octets_equiv general_names };

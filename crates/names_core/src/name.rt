@@ -156,7 +156,8 @@ impl Structure for DirectoryName {
 
 /// Names are equal exactly where their octets are.
 impl PartialEq for DirectoryName {
-    ghost use Rattle.der_core.specs.Equality.{same_octets, same_octets_per};
+    ghost use Rattle.der_core.specs.Equality.{same_octets};
+    ghost use Rattle.der_core.specs.Facts.Equality.{same_octets_per};
     ghost use Rattle.x501_types.specs.Name.{name};
 
     ghost eq = { same_octets (λ made. name made.name) };
@@ -172,7 +173,7 @@ impl PartialEq for DirectoryName {
 }
 
 impl Eq for DirectoryName {
-    ghost use Rattle.der_core.specs.Equality.{same_octets_equiv};
+    ghost use Rattle.der_core.specs.Facts.Equality.{same_octets_equiv};
     ghost use Rattle.x501_types.specs.Name.{name};
 
     ghost laws = { same_octets_equiv (λ made. name made.name) };

@@ -1,5 +1,6 @@
 pub mod Appending
 pub mod Reading
+pub mod Failing
 pub mod SeveralFiles
 pub mod Adding
 pub mod Hashes

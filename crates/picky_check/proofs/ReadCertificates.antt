@@ -6,16 +6,16 @@ use Rattle.der_core.specs.declared.error.DerError.TheVariants as der
 use Rattle.key_core.specs.Verifying.{Judge}
 use Rattle.key_core.specs.declared.element.Element.TheVariants as elements
 use Rattle.x509_types.specs.Certificate.{IsCertificate}
-use Rattle.x509_core.specs.CertRefusals.{IsUnread}
+use Rattle.x509_core.specs.CertRefusals.{IsUnreadCert}
 use Rattle.x509_core.specs.Chain.{IsAccepted, chain_rules}
 use Rattle.x509_core.specs.KeptCertificate.{KeptCertificate, kept_octets}
-use Rattle.x509_core.specs.Rules.{RefusesBy}
+use Rattle.x509_core.specs.Rules.{RefusesCertBy}
 use Rattle.x509_core.specs.declared.error.CertError.{CertError}
 use Rattle.x509_core.specs.declared.error.CertError.TheVariants as cert
 use Rattle.picky_check.specs.ChainAnswer.{AreKeptCertificates, IsFirstUnread, IsAnswerOver, IsChainAnswer, all_checks}
 
 -- where the first isn't read
-pub first_unread : (octets : List ℕ) (others all : List (List ℕ)) (e : CertError) → all ≡ octets ∷ others → IsUnread elements.Certificate (RefusesOctets IsCertificate octets) e → IsFirstUnread all e
+pub first_unread : (octets : List ℕ) (others all : List (List ℕ)) (e : CertError) → all ≡ octets ∷ others → IsUnreadCert elements.Certificate (RefusesOctets IsCertificate octets) e → IsFirstUnread all e
 first_unread octets others all e are unread = subst (λ (xs : List (List ℕ)). IsFirstUnread xs e) (sym are) (inl unread)
 
 -- where there was no memory to keep it
@@ -53,10 +53,10 @@ module _ (judge : Judge) (date : GeneralizedTime) (octets : List (List ℕ)) (ch
   are_all : AreKeptCertificates octets all
   are_all = ap (map kept_octets) (read.1 ∙ ap (λ (xs : List KeptCertificate). xs ++ read.0) none) ∙ read.2
 
-  pub refused_over : (lent : List KeptCertificate) (e : CertError) → lent ≡ all → RefusesBy (chain_rules judge (all_checks date) checked (Some lent)) e
+  pub refused_over : (lent : List KeptCertificate) (e : CertError) → lent ≡ all → RefusesCertBy (chain_rules judge (all_checks date) checked (Some lent)) e
       → IsAnswerOver judge date checked octets (Err e)
   refused_over lent e are refused =
-      inr (all, are_all, subst (λ (ps : List KeptCertificate). RefusesBy (chain_rules judge (all_checks date) checked (Some ps)) e) are refused)
+      inr (all, are_all, subst (λ (ps : List KeptCertificate). RefusesCertBy (chain_rules judge (all_checks date) checked (Some ps)) e) are refused)
 
   pub accepted_over : (lent : List KeptCertificate) (count : ℕ) → lent ≡ all → count ≡ length lent → IsAccepted judge (all_checks date) checked (Some lent)
       → IsAnswerOver judge date checked octets (Ok count)

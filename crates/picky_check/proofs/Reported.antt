@@ -1,10 +1,10 @@
 -- A report of an answer is a report of each answer with the same cause.
-use Rattle.std.proofs.Common.{◌≡◌, ◌⊎◌, ℕ, List, Result, Ok, Err, inl, inr, refl, subst}
+use Rattle.std.proofs.Common.{◌≡◌, ◌⊎◌, ℕ, List, Result, Ok, Err, inl, inr, refl, sym, subst}
 use Rattle.authenticode_core.specs.declared.accepted.Accepted.{Accepted}
 use Rattle.authenticode_core.specs.declared.error.CheckError.{CheckError}
 use Rattle.authenticode_core.specs.declared.error.CheckError.TheVariants as check
+use Rattle.key_core.specs.Rules.{AreOneUnlessMemory}
 use Rattle.key_core.specs.Verifying.{Judge}
-use Rattle.authenticode_core.specs.Basic.{IsSameUnlessMemory}
 use Rattle.authenticode_core.specs.Trusted.{IsAnswer}
 use Rattle.authenticode_core.specs.declared.policy.Policy.{Policy}
 use Rattle.picky_check.specs.declared.report.Report.{Report}
@@ -39,12 +39,12 @@ Reports-memory Is = record { reported = tt; stopped = refl; only = λ answer is.
 
 -- ---- of a signature file
 
-same_or_memory : (a b : Result Accepted CheckError) → IsSameUnlessMemory a b → WantsMemory (OfSignature a) ⊎ (WantsMemory (OfSignature b) ⊎ (a ≡ b))
-same_or_memory (Err check.Memory) b same = inl tt
-same_or_memory a (Err check.Memory) same = inr (inl tt)
-same_or_memory a b same = inr (inr same)
+same_or_memory : (a b : Result Accepted CheckError) → AreOneUnlessMemory check.Memory a b → WantsMemory (OfSignature a) ⊎ (WantsMemory (OfSignature b) ⊎ (a ≡ b))
+same_or_memory a b (inl same) = inr (inr same)
+same_or_memory a b (inr (inl none)) = inl (subst (λ (x : Result Accepted CheckError). WantsMemory (OfSignature x)) (sym none) tt)
+same_or_memory a b (inr (inr none)) = inr (inl (subst (λ (x : Result Accepted CheckError). WantsMemory (OfSignature x)) (sym none) tt))
 
-given_signature : (a b : Result Accepted CheckError) (result : Result Report Stop) → IsReported (OfSignature a) result → IsSameUnlessMemory a b → GivesReport (OfSignature b) result
+given_signature : (a b : Result Accepted CheckError) (result : Result Report Stop) → IsReported (OfSignature a) result → AreOneUnlessMemory check.Memory a b → GivesReport (OfSignature b) result
 given_signature a b result h same other = elim (same_or_memory a b same) [
   | inl wants ↦ out_of_memory (OfSignature a) (OfSignature b) result wants h
   | inr rest ↦ elim rest [
@@ -54,14 +54,14 @@ given_signature a b result h same other = elim (same_or_memory a b same) [
 ]
 
 given_each : (judge : Judge) (policy : Policy) (octets : List ℕ) (a : Result Accepted CheckError) (result : Result Report Stop) → IsReported (OfSignature a) result
-    → ((b : Result Accepted CheckError) → IsAnswer judge policy octets b → IsSameUnlessMemory a b)
+    → ((b : Result Accepted CheckError) → IsAnswer judge policy octets b → AreOneUnlessMemory check.Memory a b)
     → (b : Answer) → IsSignatureAnswer judge policy octets b → GivesReport b result
 given_each judge policy octets a result h only (OfSignature b) is = given_signature a b result h (only b is.is)
 given_each judge policy octets a result h only (OfChain b) is = absurd is
 
 pub signature_reported : (judge : Judge) (policy : Policy) (octets : List ℕ) (a : Result Accepted CheckError) (result : Result Report Stop)
     → IsAnswer judge policy octets a
-    → ((b : Result Accepted CheckError) → IsAnswer judge policy octets b → IsSameUnlessMemory a b)
+    → ((b : Result Accepted CheckError) → IsAnswer judge policy octets b → AreOneUnlessMemory check.Memory a b)
     → IsReported (OfSignature a) result
     → Reports (IsSignatureAnswer judge policy octets) result
 signature_reported judge policy octets a result is only h =

@@ -6,11 +6,11 @@ use Rattle.der_core.specs.Refusals.{RefusesOctets}
 use Rattle.key_core.specs.Verifying.{Judge}
 use Rattle.key_core.specs.declared.element.Element.TheVariants as elements
 use Rattle.x509_types.specs.Certificate.{IsCertificate}
-use Rattle.x509_core.specs.CertRefusals.{IsUnread}
+use Rattle.x509_core.specs.CertRefusals.{IsUnreadCert}
 use Rattle.x509_core.specs.Chain.{IsAccepted, chain_rules}
 use Rattle.x509_core.specs.Checks.{checks_at, first_checks}
 use Rattle.x509_core.specs.KeptCertificate.{KeptCertificate, kept_octets}
-use Rattle.x509_core.specs.Rules.{RefusesBy}
+use Rattle.x509_core.specs.Rules.{RefusesCertBy}
 use Rattle.x509_core.specs.declared.error.CertError.{CertError}
 use Rattle.x509_core.specs.declared.validator.ChainChecks.{ChainChecks}
 use Rattle.x509_core.specs.declared.window.DateCheck.TheVariants as dates
@@ -27,14 +27,14 @@ AreKeptCertificates octets certificates = map kept_octets certificates ≡ octet
 abbrev pub IsFirstUnread : List (List ℕ) → CertError → Type 0
 IsFirstUnread [] e = ⊥
 IsFirstUnread (octets ∷ others) e =
-    IsUnread elements.Certificate (RefusesOctets IsCertificate octets) e
+    IsUnreadCert elements.Certificate (RefusesOctets IsCertificate octets) e
     ⊎ (((certificate : KeptCertificate) × (kept_octets certificate ≡ octets)) × IsFirstUnread others e)
 
 -- The first certificate is accepted over the others, and these are counted; or the error tells of the first rule that is broken.
 abbrev pub IsChainJudged : Judge → GeneralizedTime → List KeptCertificate → Result ℕ CertError → Type 0
 IsChainJudged judge date [] answer = ⊥
 IsChainJudged judge date (checked ∷ parents) (Ok count) = (count ≡ length parents) × IsAccepted judge (all_checks date) checked (Some parents)
-IsChainJudged judge date (checked ∷ parents) (Err e) = RefusesBy (chain_rules judge (all_checks date) checked (Some parents)) e
+IsChainJudged judge date (checked ∷ parents) (Err e) = RefusesCertBy (chain_rules judge (all_checks date) checked (Some parents)) e
 
 -- Octets that aren't all certificates are refused for the first that is none; else the answer is one about the certificates.
 abbrev pub IsChainAnswer : Judge → GeneralizedTime → List (List ℕ) → Result ℕ CertError → Type 0

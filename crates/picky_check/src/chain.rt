@@ -3,7 +3,7 @@
 ghost use Rattle.std.specs.Prelude.{◌≡◌, ◌++◌, ◌∷◌, List, Some, map, IfErr, MatchResult, OnOk};
 ghost use Rattle.x509_core.specs.Chain.{IsAccepted, chain_rules};
 ghost use Rattle.x509_core.specs.KeptCertificate.{KeptCertificate};
-ghost use Rattle.x509_core.specs.Rules.{RefusesBy};
+ghost use Rattle.x509_core.specs.Rules.{RefusesCertBy};
 ghost use Rattle.picky_check.specs.ChainAnswer.{AreKeptCertificates, IsAnswerOver, IsChainAnswer, IsFirstUnread, all_checks};
 
 use names_core::UtcDate;
@@ -40,13 +40,17 @@ fn check_over<S: Scheme>(
         (map (λ octets. octets.items) parents.now) result }
 {
     let mut read = Vec::new(alloc);
-    read_on(alloc, parents, &mut read)?;
+    read_certificates(alloc, parents, &mut read)?;
     accept(alloc, checked, &read, date, scheme)?;
     Ok(read.len())
 }
 
 /// Reads certificates behind those that were read.
-fn read_on(alloc: Global, octets: &[Vec<u8>], certificates: &mut Vec<Cert>) -> Result<(), CertError>
+fn read_certificates(
+    alloc: Global,
+    octets: &[Vec<u8>],
+    certificates: &mut Vec<Cert>,
+) -> Result<(), CertError>
     ensures read { OnOk result ((read : List KeptCertificate)
         × (certificates.new.items ≡ certificates.old.items ++ read)
         × AreKeptCertificates (map (λ octets. octets.items) octets.now) read) }
@@ -56,7 +60,7 @@ fn read_on(alloc: Global, octets: &[Vec<u8>], certificates: &mut Vec<Cert>) -> R
         return Ok(());
     };
     certificates.push(Cert::from_der(alloc, first)?)?;
-    read_on(alloc, others, certificates)
+    read_certificates(alloc, others, certificates)
 }
 
 /// Whether a certificate is accepted over its parents, the nearest first.
@@ -69,7 +73,7 @@ fn accept<S: Scheme>(
 ) -> Result<(), CertError>
     ensures { MatchResult result
         (λ _. IsAccepted (S.judge scheme.now) (all_checks date.now) checked.now (Some parents.now))
-        (RefusesBy (chain_rules (S.judge scheme.now) (all_checks date.now) checked.now (Some parents.now))) }
+        (RefusesCertBy (chain_rules (S.judge scheme.now) (all_checks date.now) checked.now (Some parents.now))) }
 {
     checked
         .verifier()

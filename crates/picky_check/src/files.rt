@@ -1,6 +1,6 @@
 //! Whole files from a shelf, and whole reports to a sink.
 
-ghost use Rattle.std.specs.Prelude.{◌≡◌, ◌+◌, ◌≤◌, ◌++◌, ℕ, List, Err, length, map, string_bytes, IfOk, IfErr, OnOk, OnErr, IsOk, IsSome, IsErrOf, MatchResult};
+ghost use Rattle.std.specs.Prelude.{◌≡◌, ◌+◌, ◌≤◌, ◌++◌, ℕ, List, Err, length, map, string_bytes, IfOk, IfErr, OnOk, OnErr, IsOk, IsErr, IsSome, IsErrOf, MatchResult};
 ghost use Rattle.authenticode_core.specs.Counts.{GoesOn, HasRisen};
 ghost use Rattle.picky_check.specs.Counts.{FailsOnce, RisesBy};
 ghost use Rattle.picky_check.specs.Jobs.{contents_held, names_held};
@@ -102,7 +102,7 @@ pub(crate) fn read_files<F: Shelf>(
     shelf: &mut F,
     names: &Names<'_>,
 ) -> Result<Contents, FileError>
-    ensures { MatchResult result
+    ensures read { MatchResult result
         (λ read. AreWholeFiles (F.state shelf.old).files (names_held names.now) (contents_held read))
         (AreUnread (F.state shelf.old) (F.state shelf.new) (names_held names.now)) }
     ensures once { FailsOnce (result ≡ Err FileError.Fault)
@@ -111,7 +111,7 @@ pub(crate) fn read_files<F: Shelf>(
     let first = read_file(alloc, shelf, names.first)?;
     let second = read_file(alloc, shelf, names.second)?;
     let mut others = Vec::new(alloc);
-    read_on(alloc, shelf, names.others, &mut others)?;
+    read_others(alloc, shelf, names.others, &mut others)?;
     Ok(Contents {
         first,
         second,
@@ -120,7 +120,7 @@ pub(crate) fn read_files<F: Shelf>(
 }
 
 /// Reads whole files behind those that were read.
-fn read_on<F: Shelf>(
+fn read_others<F: Shelf>(
     alloc: Global,
     shelf: &mut F,
     names: &[String],
@@ -138,5 +138,5 @@ fn read_on<F: Shelf>(
         return Ok(());
     };
     contents.push(read_file(alloc, shelf, name.as_str())?)?;
-    read_on(alloc, shelf, others, contents)
+    read_others(alloc, shelf, others, contents)
 }

@@ -44,7 +44,7 @@ pub fn run<F: Shelf, O: Sink>(alloc: Global, words: &[String], shelf: &mut F, ou
 
 /// Writes the line of a report. The status is the report's where the sink took all of it.
 fn deliver<O: Sink>(out: &mut O, report: &Report) -> u8
-    ensures { ((result ≡ report.now.status)
+    ensures delivered { ((result ≡ report.now.status)
         × Appends (O.state out.old).held (string_bytes report.now.line) (O.state out.new).held)
         ⊎ ((result ≡ 5) × HasRisen (O.state out.old).faults (O.state out.new).faults
         × IsCutShort (string_bytes report.now.line) (O.state out.old) (O.state out.new)) }

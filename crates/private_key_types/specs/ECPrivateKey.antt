@@ -2,14 +2,14 @@
 -- publicKey [1] BIT STRING OPTIONAL } (RFC 5915 3), whose tags are explicit and whose parameters name a curve (RFC 5480 2.1.1)
 use Rattle.std.specs.Prelude.{[], ◌∷◌, ◌++◌, Option}
 use Rattle.std.specs.Option.{option_map}
-use Rattle.der_core.specs.DerElement.{DerElement, Primitive}
+use Rattle.der_core.specs.DerElement.{DerElement}
 use Rattle.der_core.specs.Elements.{sequence, octet_string, optional_explicit}
-use Rattle.asn1_types.specs.Elements.{object_identifier, bit_string}
+use Rattle.asn1_types.specs.Elements.{object_identifier, bit_string, integer_of}
 use Rattle.private_key_types.specs.declared.ec_private_key.ECPrivateKey.{ECPrivateKey}
 
 -- the one version that there is
 abbrev pub ec_version : DerElement
-ec_version = Primitive 0x02 (1 ∷ [])
+ec_version = integer_of (1 ∷ [])
 
 -- by the elements of its fields
 abbrev pub ec_private_key_of : (private_key : DerElement) (parameters public_key : Option DerElement) → DerElement

@@ -128,7 +128,8 @@ impl Structure for ECPrivateKey {
 
 /// Keys are equal exactly where their octets are. How long this takes tells of the keys.
 impl PartialEq for ECPrivateKey {
-    ghost use Rattle.der_core.specs.Equality.{same_octets, same_octets_per};
+    ghost use Rattle.der_core.specs.Equality.{same_octets};
+    ghost use Rattle.der_core.specs.Facts.Equality.{same_octets_per};
 
     ghost eq = { same_octets ec_private_key };
 
@@ -145,7 +146,7 @@ impl PartialEq for ECPrivateKey {
 }
 
 impl Eq for ECPrivateKey {
-    ghost use Rattle.der_core.specs.Equality.{same_octets_equiv};
+    ghost use Rattle.der_core.specs.Facts.Equality.{same_octets_equiv};
 
     ghost laws = { same_octets_equiv ec_private_key };
 }

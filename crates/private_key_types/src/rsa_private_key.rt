@@ -259,7 +259,8 @@ impl Structure for RsaPrivateKey {
 
 /// Keys are equal exactly where their octets are. How long this takes tells of the keys.
 impl PartialEq for RsaPrivateKey {
-    ghost use Rattle.der_core.specs.Equality.{same_octets, same_octets_per};
+    ghost use Rattle.der_core.specs.Equality.{same_octets};
+    ghost use Rattle.der_core.specs.Facts.Equality.{same_octets_per};
 
     ghost eq = { same_octets rsa_private_key };
 
@@ -281,7 +282,7 @@ impl PartialEq for RsaPrivateKey {
 }
 
 impl Eq for RsaPrivateKey {
-    ghost use Rattle.der_core.specs.Equality.{same_octets_equiv};
+    ghost use Rattle.der_core.specs.Facts.Equality.{same_octets_equiv};
 
     ghost laws = { same_octets_equiv rsa_private_key };
 }

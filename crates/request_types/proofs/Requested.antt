@@ -14,10 +14,10 @@ use Rattle.x501_types.specs.Name.{name, IsName}
 use Rattle.key_types.specs.AlgorithmIdentifier.{algorithm_identifier}
 use Rattle.key_types.specs.PublicKeyInfo.{IsPublicKeyInfo}
 use Rattle.key_types.specs.declared.algorithm.AlgorithmIdentifier.{AlgorithmIdentifier}
-use Rattle.x509_types.specs.Attribute.{attribute_octets}
+use Rattle.x509_types.specs.Attribute.{attribute_octets, AreAttributes}
 use Rattle.der_core.specs.Optional.{SpellsOption}
 use Rattle.request_types.specs.RequestElements.{request_info_of}
-use Rattle.request_types.specs.RequestInfo.{AreAttributes, IsRequestInfo}
+use Rattle.request_types.specs.RequestInfo.{IsRequestInfo}
 use Rattle.request_types.specs.CertificationRequest.{IsRequest}
 use Rattle.x509_types.specs.Facts.Attributes.{attributes_by_octets}
 use Rattle.x509_types.specs.Facts.Certificates.{same_three}

@@ -3,27 +3,14 @@ use Rattle.std.specs.Prelude.{◌≡◌, ℕ, List, [], ◌++◌, flat_map, Opti
 use Rattle.std.specs.Option.{option_map}
 use Rattle.der_core.specs.DerElement.{DerElement}
 use Rattle.der_core.specs.Encoding.{encoding}
-use Rattle.der_core.specs.Each.{IsListOf, list_element}
 use Rattle.x501_types.specs.Name.{name}
 use Rattle.key_types.specs.PublicKeyInfo.{public_key_info, inner_key, IsPublicKeyInfo}
-use Rattle.x509_types.specs.Attribute.{attribute, IsAttribute}
-use Rattle.x509_types.specs.AttributeValues.{asked_kinds, inner_values}
+use Rattle.x509_types.specs.Attribute.{AreAttributes, attribute_list, inner_attributes}
+use Rattle.x509_types.specs.AttributeValues.{asked_kinds}
 use Rattle.der_core.specs.Optional.{SpellsOption, inner_option}
 use Rattle.request_types.specs.RequestElements.{request_info_of}
 use Rattle.x509_types.specs.declared.attribute.Attribute.{Attribute}
 use Rattle.request_types.specs.declared.request_info.CertificationRequestInfo.{CertificationRequestInfo}
-
--- the element of attributes spells them, and is written for them
-abbrev pub AreAttributes : DerElement → List Attribute → Type 0
-AreAttributes = IsListOf 0xA0 IsAttribute
-
--- the element of attributes
-abbrev pub attribute_list : List Attribute → DerElement
-attribute_list = list_element 0xA0 attribute
-
--- the elements that are written into strings of them
-abbrev pub inner_attributes : List Attribute → List DerElement
-inner_attributes = flat_map (λ a. inner_values a.value)
 
 -- the kinds of the values of extensions in them, where there are any attributes
 abbrev pub asked_of : Option (List Attribute) → List ℕ

@@ -9,7 +9,7 @@ ghost use Rattle.der_core.specs.Refusals.{RefusesShape, RefusesInner};
 ghost use Rattle.der_core.specs.Structure.{Fits};
 ghost use Rattle.der_core.specs.Optional.{SpellsOption, inner_option};
 ghost use Rattle.request_types.specs.RequestElements.{request_info_of};
-ghost use Rattle.request_types.specs.RequestInfo.{AreAttributes, attribute_list, inner_attributes};
+ghost use Rattle.x509_types.specs.Attribute.{AreAttributes, attribute_list, inner_attributes};
 ghost use Rattle.x509_types.specs.declared.attribute.Attribute.{Attribute};
 
 use der_core::tag::{INTEGER, SEQUENCE};

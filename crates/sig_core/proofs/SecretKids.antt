@@ -1,9 +1,10 @@
 -- The elements in an RSA private key, one after another.
 use Rattle.std.proofs.Common.{◌≡◌, List, [], ◌∷◌, sym, ap, ◌∙◌}
+use Rattle.asn1_types.specs.Elements.{integer_of}
 use Rattle.der_core.specs.DerElement.{DerElement, Constructed, listed}
 use Rattle.der_core.specs.Facts.Rows.{listed-row}
 use Rattle.der_core.specs.Elements.{sequence}
-use Rattle.sig_core.specs.RsaSecret.{RsaNumbers, integer_of}
+use Rattle.sig_core.specs.RsaSecret.{RsaNumbers}
 
 abbrev pub without_first : List DerElement → List DerElement
 without_first [] = []

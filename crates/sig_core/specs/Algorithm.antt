@@ -19,14 +19,14 @@ name_of P521Sha512 = codes "p521-sha512"
 name_of Ed25519 = codes "ed25519"
 
 -- the kind of key that an algorithm takes, the first part of its name
-abbrev pub kind_of : SigAlg → SchemeKind
-kind_of RsaMd5 = kind.TheVariants.Rsa
-kind_of RsaSha1 = kind.TheVariants.Rsa
-kind_of RsaSha224 = kind.TheVariants.Rsa
-kind_of RsaSha256 = kind.TheVariants.Rsa
-kind_of RsaSha384 = kind.TheVariants.Rsa
-kind_of RsaSha512 = kind.TheVariants.Rsa
-kind_of P256Sha256 = kind.TheVariants.P256
-kind_of P384Sha384 = kind.TheVariants.P384
-kind_of P521Sha512 = kind.TheVariants.P521
-kind_of Ed25519 = kind.TheVariants.Ed25519
+abbrev pub kind_of_algorithm : SigAlg → SchemeKind
+kind_of_algorithm RsaMd5 = kind.TheVariants.Rsa
+kind_of_algorithm RsaSha1 = kind.TheVariants.Rsa
+kind_of_algorithm RsaSha224 = kind.TheVariants.Rsa
+kind_of_algorithm RsaSha256 = kind.TheVariants.Rsa
+kind_of_algorithm RsaSha384 = kind.TheVariants.Rsa
+kind_of_algorithm RsaSha512 = kind.TheVariants.Rsa
+kind_of_algorithm P256Sha256 = kind.TheVariants.P256
+kind_of_algorithm P384Sha384 = kind.TheVariants.P384
+kind_of_algorithm P521Sha512 = kind.TheVariants.P521
+kind_of_algorithm Ed25519 = kind.TheVariants.Ed25519

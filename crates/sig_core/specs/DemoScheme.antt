@@ -8,13 +8,13 @@ use Rattle.sig_core.specs.declared.algorithm.SchemeKind.{SchemeKind}
 use Rattle.sig_core.specs.declared.algorithm.SchemeKind.TheVariants.{Rsa, P256, P384, P521, Ed25519, X25519}
 use Rattle.sig_core.specs.declared.scheme.Verdict.{Verdict}
 use Rattle.sig_core.specs.declared.scheme.Verdict.TheVariants.{Accept, Reject, Malformed}
-use Rattle.sig_core.specs.Algorithm.{name_of, kind_of}
-use Rattle.sig_core.specs.RsaSecret.{rsa_public_key, IsRsaSecret}
+use Rattle.sig_core.specs.Algorithm.{name_of, kind_of_algorithm}
+use Rattle.sig_core.specs.RsaSecret.{rsa_public_element, IsRsaSecret}
 use Rattle.sig_core.specs.Facts.RsaSecrets.{rsa_secret_or_none}
 
 -- the key of a secret of RSA: the encoding of the RSAPublicKey with its modulus and public exponent
 abbrev pub rsa_key : {secret : List ℕ} → IsRsaSecret secret ⊎ (IsRsaSecret secret → ⊥) → Option (List ℕ)
-rsa_key (inl rsa) = Some (encoding (rsa_public_key rsa.numbers.modulus rsa.numbers.public_exponent))
+rsa_key (inl rsa) = Some (encoding (rsa_public_element rsa.numbers.modulus rsa.numbers.public_exponent))
 rsa_key (inr none) = None
 
 -- the key where the secret has so many octets
@@ -33,7 +33,7 @@ demo_key X25519 secret = key_of_length 32 secret (sha256 secret)
 
 -- whether the secret has a key for the algorithm
 abbrev pub demo_signs : SigAlg → List ℕ → Bool
-demo_signs alg secret = is_some (demo_key (kind_of alg) secret)
+demo_signs alg secret = is_some (demo_key (kind_of_algorithm alg) secret)
 
 -- the one signature of a message that is accepted under a key
 abbrev pub demo_signature : SigAlg → List ℕ → List ℕ → List ℕ

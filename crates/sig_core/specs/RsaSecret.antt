@@ -1,13 +1,10 @@
 -- Secrets of RSA, by the numbers that they hold.
 use Rattle.std.specs.Prelude.{◌≡◌, ℕ, List, [], ◌∷◌}
-use Rattle.der_core.specs.DerElement.{DerElement, Primitive}
+use Rattle.der_core.specs.DerElement.{DerElement}
 use Rattle.der_core.specs.Elements.{sequence}
 use Rattle.der_core.specs.Encoding.{encoding, IsDer}
+use Rattle.asn1_types.specs.Elements.{integer_of}
 use Rattle.asn1_types.specs.Integer.{IsInteger}
-
--- INTEGER of these contents octets (X.690 8.3)
-abbrev pub integer_of : List ℕ → DerElement
-integer_of contents = Primitive 0x02 contents
 
 -- the numbers of a private key of two primes, each by its contents octets
 pub record RsaNumbers : Type 0 where
@@ -33,17 +30,17 @@ pub record AreIntegers (numbers : RsaNumbers) : Type 0 where
 
 -- RSAPrivateKey ::= SEQUENCE { version Version, modulus, publicExponent, privateExponent, prime1, prime2, exponent1, exponent2,
 -- coefficient, each an INTEGER, otherPrimeInfos OtherPrimeInfos OPTIONAL } (RFC 8017 A.1.2): of two primes alone, whose version is 0
-abbrev pub rsa_private_key : RsaNumbers → DerElement
-rsa_private_key numbers =
+abbrev pub rsa_private_element : RsaNumbers → DerElement
+rsa_private_element numbers =
     sequence (integer_of (0 ∷ []) ∷ integer_of numbers.modulus ∷ integer_of numbers.public_exponent ∷ integer_of numbers.private_exponent ∷ integer_of numbers.prime1 ∷ integer_of numbers.prime2 ∷ integer_of numbers.exponent1 ∷ integer_of numbers.exponent2 ∷ integer_of numbers.coefficient ∷ [])
 
 -- RSAPublicKey ::= SEQUENCE { modulus INTEGER, publicExponent INTEGER } (RFC 8017 A.1.1)
-abbrev pub rsa_public_key : List ℕ → List ℕ → DerElement
-rsa_public_key modulus public_exponent = sequence (integer_of modulus ∷ integer_of public_exponent ∷ [])
+abbrev pub rsa_public_element : List ℕ → List ℕ → DerElement
+rsa_public_element modulus public_exponent = sequence (integer_of modulus ∷ integer_of public_exponent ∷ [])
 
 -- the secret is the encoding of an RSAPrivateKey
 pub record IsRsaSecret (secret : List ℕ) : Type 0 where
   pub numbers : RsaNumbers
   pub integers : AreIntegers numbers
-  pub der : IsDer (rsa_private_key numbers)
-  pub encoded : secret ≡ encoding (rsa_private_key numbers)
+  pub der : IsDer (rsa_private_element numbers)
+  pub encoded : secret ≡ encoding (rsa_private_element numbers)

@@ -2,7 +2,7 @@
 
 ghost use Rattle.std.specs.Prelude.{◌≡◌, IfSome};
 ghost use Rattle.sig_core.specs.declared.algorithm.SigAlg.{SigAlg};
-ghost use Rattle.sig_core.specs.Algorithm.{name_of, kind_of};
+ghost use Rattle.sig_core.specs.Algorithm.{name_of, kind_of_algorithm};
 
 /// The kinds of keys: RSA, the named curves, and the Edwards and Montgomery forms of curve 25519.
 #[derive(Clone, Copy, PartialEq, Eq, Debug)]
@@ -78,7 +78,7 @@ impl SigAlg {
 
     /// The kind of key that the algorithm takes.
     pub fn kind(self) -> SchemeKind
-        ensures { result ≡ kind_of self }
+        ensures { result ≡ kind_of_algorithm self }
     {
         match self {
             SigAlg::RsaMd5

@@ -2,7 +2,7 @@
 
 ghost use Rattle.std.specs.Prelude.{◌≡◌, ◌∷◌, ◌++◌, ℕ, List, false, IfOk, IsErrOf, IsOk, IsTrue, OnOk, Some, None, Err};
 ghost use Rattle.sha2.specs.Sha256.{sha256};
-ghost use Rattle.sig_core.specs.Algorithm.{kind_of};
+ghost use Rattle.sig_core.specs.Algorithm.{kind_of_algorithm};
 ghost use Rattle.sig_core.specs.DemoScheme.{demo_key, demo_signature, demo_signs, demo_verdict, key_of_length};
 ghost use Rattle.sig_core.specs.declared.algorithm.SchemeKind.TheVariants.{Rsa};
 
@@ -74,7 +74,7 @@ impl Scheme for DemoScheme {
     ) -> Result<Vec<u8>, SchemeError>
         ensures signed { OnOk result (IsTrue (demo_signs alg secret.now)) }
         // Accepted under the key of the secret.
-        ensures accepted { IfOk result (λ sig. (key : List ℕ) → demo_key (kind_of alg) secret.now ≡ Some key
+        ensures accepted { IfOk result (λ sig. (key : List ℕ) → demo_key (kind_of_algorithm alg) secret.now ≡ Some key
             → demo_verdict alg key msg.now sig.items ≡ Verdict.Accept) }
         ensures refused { IsErrOf result SchemeError.Refused → demo_signs alg secret.now ≡ false }
         // A secret without a key is refused, whatever memory there is.

@@ -3,7 +3,7 @@
 ghost use Rattle.std.specs.Prelude.{◌≡◌, ℕ, List, length, Contains, Some, None};
 ghost use Rattle.der_core.specs.Encoding.{encoding};
 ghost use Rattle.sig_core.specs.DemoScheme.{demo_key};
-ghost use Rattle.sig_core.specs.RsaSecret.{IsRsaSecret, rsa_public_key};
+ghost use Rattle.sig_core.specs.RsaSecret.{IsRsaSecret, rsa_public_element};
 ghost use Rattle.sig_core.specs.declared.algorithm.SchemeKind.TheVariants.{Rsa};
 ghost use Rattle.sig_core.specs.VerdictTable.{IsTable, IsFirstBadLine};
 ghost use Rattle.sig_core.specs.declared.algorithm.SigAlg.{SigAlg};
@@ -31,7 +31,7 @@ pub fn one_table()
 pub fn demo_keys_of_rsa()
     ensures derived { (secret : List ℕ) (rsa : IsRsaSecret secret)
         → demo_key Rsa secret
-        ≡ Some (encoding (rsa_public_key rsa.numbers.modulus rsa.numbers.public_exponent)) }
+        ≡ Some (encoding (rsa_public_element rsa.numbers.modulus rsa.numbers.public_exponent)) }
     ensures none { (secret : List ℕ) → (IsRsaSecret secret → ⊥) → demo_key Rsa secret ≡ None }
 {}
 

@@ -1,10 +1,11 @@
 //! What an RSA private key says of its public key, where its octets lie.
 
 ghost use Rattle.std.specs.Prelude.{◌≡◌, ◌≢◌, [], ◌∷◌, ℕ, List, IfOk, IfErr, MatchOption};
+ghost use Rattle.asn1_types.specs.Elements.{integer_of};
 ghost use Rattle.asn1_types.specs.Integer.{IsInteger};
 ghost use Rattle.der_core.specs.DerElement.{DerElement};
 ghost use Rattle.der_core.specs.Encoding.{encoding};
-ghost use Rattle.sig_core.specs.RsaSecret.{RsaNumbers, AreIntegers, integer_of, rsa_private_key, rsa_public_key, IsRsaSecret};
+ghost use Rattle.sig_core.specs.RsaSecret.{RsaNumbers, AreIntegers, rsa_private_element, rsa_public_element, IsRsaSecret};
 ghost use Rattle.sig_core.specs.declared.scheme.SchemeError.TheVariants.{Memory};
 
 use crate::scheme::SchemeError;
@@ -38,8 +39,8 @@ impl<'a> RsaSecret<'a> {
     /// What the element of such a key says.
     fn within(elem: Elem<'a>) -> Option<RsaSecret<'a>>
         ensures { MatchOption result
-            ((numbers : RsaNumbers) → AreIntegers numbers → elem.entry.is.0 ≢ rsa_private_key numbers)
-            (λ rsa. (numbers : RsaNumbers) × AreIntegers numbers × (elem.entry.is.0 ≡ rsa_private_key numbers)
+            ((numbers : RsaNumbers) → AreIntegers numbers → elem.entry.is.0 ≢ rsa_private_element numbers)
+            (λ rsa. (numbers : RsaNumbers) × AreIntegers numbers × (elem.entry.is.0 ≡ rsa_private_element numbers)
             × (numbers.modulus ≡ rsa.modulus.now) × (numbers.public_exponent ≡ rsa.public_exponent.now)) }
     {
         let mut kids = Kids::of(elem, SEQUENCE)?;
@@ -63,7 +64,7 @@ impl<'a> RsaSecret<'a> {
     /// The encoding of the RSAPublicKey (RFC 8017 A.1.1).
     pub(crate) fn public_key(self, alloc: Global) -> Result<Vec<u8>, SchemeError>
         ensures written { IfOk result (λ key.
-            key.items ≡ encoding (rsa_public_key self.entry.modulus.now self.entry.public_exponent.now)) }
+            key.items ≡ encoding (rsa_public_element self.entry.modulus.now self.entry.public_exponent.now)) }
         ensures only { IfErr result (λ e. e ≡ Memory) }
     {
         let mut kids = NewKids::new(alloc);

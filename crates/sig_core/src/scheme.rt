@@ -1,7 +1,7 @@
 //! What a signature scheme is: a verdict on a signature, and what its calls owe.
 
 ghost use Rattle.std.specs.Prelude.{◌≡◌, false, Some, IsTrue, IfOk, OnOk, IsErrOf};
-ghost use Rattle.sig_core.specs.Algorithm.{kind_of};
+ghost use Rattle.sig_core.specs.Algorithm.{kind_of_algorithm};
 ghost use Rattle.sig_core.specs.ErrorText.{scheme_error_text};
 ghost use Rattle.sig_core.specs.declared.scheme.SchemeError.TheVariants.{Memory};
 
@@ -100,7 +100,7 @@ pub trait Scheme {
     ) -> Result<Vec<u8>, SchemeError>
         ensures signed { OnOk result (IsTrue (signs self.now alg secret.now msg.now)) }
         // Accepted under every key that pairs with the secret.
-        ensures accepted { IfOk result (λ sig. (key : List ℕ) → pair self.now (kind_of alg) key secret.now
+        ensures accepted { IfOk result (λ sig. (key : List ℕ) → pair self.now (kind_of_algorithm alg) key secret.now
             → judge self.now alg key msg.now sig.items ≡ Verdict.Accept) }
         ensures refused { IsErrOf result SchemeError.Refused
             → signs self.now alg secret.now msg.now ≡ false };

@@ -59,7 +59,8 @@ impl Structure for AttributeTypeAndValue {
 
 /// Attributes are equal exactly where their octets are.
 impl PartialEq for AttributeTypeAndValue {
-    ghost use Rattle.der_core.specs.Equality.{same_octets, same_octets_per};
+    ghost use Rattle.der_core.specs.Equality.{same_octets};
+    ghost use Rattle.der_core.specs.Facts.Equality.{same_octets_per};
     ghost use Rattle.x501_types.specs.Name.{attribute_type_and_value};
 
     ghost eq = { same_octets attribute_type_and_value };
@@ -75,7 +76,7 @@ impl PartialEq for AttributeTypeAndValue {
 }
 
 impl Eq for AttributeTypeAndValue {
-    ghost use Rattle.der_core.specs.Equality.{same_octets_equiv};
+    ghost use Rattle.der_core.specs.Facts.Equality.{same_octets_equiv};
     ghost use Rattle.x501_types.specs.Name.{attribute_type_and_value};
 
     ghost laws = { same_octets_equiv attribute_type_and_value };

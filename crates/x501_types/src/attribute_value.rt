@@ -70,7 +70,8 @@ impl Structure for AttributeValue {
 
 /// Values are equal exactly where their octets are.
 impl PartialEq for AttributeValue {
-    ghost use Rattle.der_core.specs.Equality.{same_octets, same_octets_per};
+    ghost use Rattle.der_core.specs.Equality.{same_octets};
+    ghost use Rattle.der_core.specs.Facts.Equality.{same_octets_per};
     ghost use Rattle.x501_types.specs.AttributeValue.{attribute_value};
 
     ghost eq = { same_octets attribute_value };
@@ -91,7 +92,7 @@ impl PartialEq for AttributeValue {
 }
 
 impl Eq for AttributeValue {
-    ghost use Rattle.der_core.specs.Equality.{same_octets_equiv};
+    ghost use Rattle.der_core.specs.Facts.Equality.{same_octets_equiv};
     ghost use Rattle.x501_types.specs.AttributeValue.{attribute_value};
 
     ghost laws = { same_octets_equiv attribute_value };

@@ -116,7 +116,8 @@ fn is_string_tag(tag: u8) -> bool
 
 /// Strings are equal exactly where their octets are.
 impl PartialEq for DirectoryString {
-    ghost use Rattle.der_core.specs.Equality.{same_octets, same_octets_per};
+    ghost use Rattle.der_core.specs.Equality.{same_octets};
+    ghost use Rattle.der_core.specs.Facts.Equality.{same_octets_per};
     ghost use Rattle.x501_types.specs.DirectoryString.{directory_string};
 
     ghost eq = { same_octets directory_string };
@@ -132,7 +133,7 @@ impl PartialEq for DirectoryString {
 }
 
 impl Eq for DirectoryString {
-    ghost use Rattle.der_core.specs.Equality.{same_octets_equiv};
+    ghost use Rattle.der_core.specs.Facts.Equality.{same_octets_equiv};
     ghost use Rattle.x501_types.specs.DirectoryString.{directory_string};
 
     ghost laws = { same_octets_equiv directory_string };

@@ -94,7 +94,8 @@ impl Structure for EdiPartyName {
 
 /// Names are equal exactly where their octets are.
 impl PartialEq for EdiPartyName {
-    ghost use Rattle.der_core.specs.Equality.{same_octets, same_octets_per};
+    ghost use Rattle.der_core.specs.Equality.{same_octets};
+    ghost use Rattle.der_core.specs.Facts.Equality.{same_octets_per};
     ghost use Rattle.x501_types.specs.GeneralName.{edi_party_name};
 
     ghost eq = { same_octets edi_party_name };
@@ -110,7 +111,7 @@ impl PartialEq for EdiPartyName {
 }
 
 impl Eq for EdiPartyName {
-    ghost use Rattle.der_core.specs.Equality.{same_octets_equiv};
+    ghost use Rattle.der_core.specs.Facts.Equality.{same_octets_equiv};
     ghost use Rattle.x501_types.specs.GeneralName.{edi_party_name};
 
     ghost laws = { same_octets_equiv edi_party_name };

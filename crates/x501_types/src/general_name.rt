@@ -171,7 +171,8 @@ fn is_same(one: &RawGeneralName, other: &RawGeneralName) -> bool
 
 /// Names are equal exactly where their octets are.
 impl PartialEq for RawGeneralName {
-    ghost use Rattle.der_core.specs.Equality.{same_octets, same_octets_per};
+    ghost use Rattle.der_core.specs.Equality.{same_octets};
+    ghost use Rattle.der_core.specs.Facts.Equality.{same_octets_per};
     ghost use Rattle.x501_types.specs.GeneralName.{general_name};
 
     ghost eq = { same_octets general_name };
@@ -187,7 +188,7 @@ impl PartialEq for RawGeneralName {
 }
 
 impl Eq for RawGeneralName {
-    ghost use Rattle.der_core.specs.Equality.{same_octets_equiv};
+    ghost use Rattle.der_core.specs.Facts.Equality.{same_octets_equiv};
     ghost use Rattle.x501_types.specs.GeneralName.{general_name};
 
     ghost laws = { same_octets_equiv general_name };

@@ -118,7 +118,8 @@ impl Structure for RawGeneralNames {
 
 /// Lists of names are equal exactly where their octets are.
 impl PartialEq for RawGeneralNames {
-    ghost use Rattle.der_core.specs.Equality.{same_octets, same_octets_per};
+    ghost use Rattle.der_core.specs.Equality.{same_octets};
+    ghost use Rattle.der_core.specs.Facts.Equality.{same_octets_per};
     ghost use Rattle.x501_types.specs.GeneralName.{general_names};
 
     ghost eq = { same_octets general_names };
@@ -134,7 +135,7 @@ impl PartialEq for RawGeneralNames {
 }
 
 impl Eq for RawGeneralNames {
-    ghost use Rattle.der_core.specs.Equality.{same_octets_equiv};
+    ghost use Rattle.der_core.specs.Facts.Equality.{same_octets_equiv};
     ghost use Rattle.x501_types.specs.GeneralName.{general_names};
 
     ghost laws = { same_octets_equiv general_names };

@@ -119,7 +119,8 @@ impl Structure for Name {
 
 /// Names are equal exactly where their octets are.
 impl PartialEq for Name {
-    ghost use Rattle.der_core.specs.Equality.{same_octets, same_octets_per};
+    ghost use Rattle.der_core.specs.Equality.{same_octets};
+    ghost use Rattle.der_core.specs.Facts.Equality.{same_octets_per};
     ghost use Rattle.x501_types.specs.Name.{name};
 
     ghost eq = { same_octets name };
@@ -135,7 +136,7 @@ impl PartialEq for Name {
 }
 
 impl Eq for Name {
-    ghost use Rattle.der_core.specs.Equality.{same_octets_equiv};
+    ghost use Rattle.der_core.specs.Facts.Equality.{same_octets_equiv};
     ghost use Rattle.x501_types.specs.Name.{name};
 
     ghost laws = { same_octets_equiv name };

@@ -74,7 +74,8 @@ impl Structure for OtherName {
 
 /// Names are equal exactly where their octets are.
 impl PartialEq for OtherName {
-    ghost use Rattle.der_core.specs.Equality.{same_octets, same_octets_per};
+    ghost use Rattle.der_core.specs.Equality.{same_octets};
+    ghost use Rattle.der_core.specs.Facts.Equality.{same_octets_per};
     ghost use Rattle.x501_types.specs.GeneralName.{other_name};
 
     ghost eq = { same_octets other_name };
@@ -90,7 +91,7 @@ impl PartialEq for OtherName {
 }
 
 impl Eq for OtherName {
-    ghost use Rattle.der_core.specs.Equality.{same_octets_equiv};
+    ghost use Rattle.der_core.specs.Facts.Equality.{same_octets_equiv};
     ghost use Rattle.x501_types.specs.GeneralName.{other_name};
 
     ghost laws = { same_octets_equiv other_name };

@@ -60,7 +60,8 @@ impl OtherValue {
 
 /// Values are equal exactly where their octets are.
 impl PartialEq for OtherValue {
-    ghost use Rattle.der_core.specs.Equality.{same_octets, same_octets_per};
+    ghost use Rattle.der_core.specs.Equality.{same_octets};
+    ghost use Rattle.der_core.specs.Facts.Equality.{same_octets_per};
 
     ghost eq = { same_octets (λ value. value.element.element) };
 
@@ -75,7 +76,7 @@ impl PartialEq for OtherValue {
 }
 
 impl Eq for OtherValue {
-    ghost use Rattle.der_core.specs.Equality.{same_octets_equiv};
+    ghost use Rattle.der_core.specs.Facts.Equality.{same_octets_equiv};
 
     ghost laws = { same_octets_equiv (λ value. value.element.element) };
 }

@@ -120,7 +120,8 @@ impl Structure for RelativeDistinguishedName {
 
 /// Sets are equal exactly where their octets are.
 impl PartialEq for RelativeDistinguishedName {
-    ghost use Rattle.der_core.specs.Equality.{same_octets, same_octets_per};
+    ghost use Rattle.der_core.specs.Equality.{same_octets};
+    ghost use Rattle.der_core.specs.Facts.Equality.{same_octets_per};
     ghost use Rattle.x501_types.specs.Name.{relative_distinguished_name};
 
     ghost eq = { same_octets relative_distinguished_name };
@@ -136,7 +137,7 @@ impl PartialEq for RelativeDistinguishedName {
 }
 
 impl Eq for RelativeDistinguishedName {
-    ghost use Rattle.der_core.specs.Equality.{same_octets_equiv};
+    ghost use Rattle.der_core.specs.Facts.Equality.{same_octets_equiv};
     ghost use Rattle.x501_types.specs.Name.{relative_distinguished_name};
 
     ghost laws = { same_octets_equiv relative_distinguished_name };

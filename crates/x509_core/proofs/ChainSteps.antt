@@ -7,7 +7,7 @@ use Rattle.x509_core.specs.Chain.{IsLinkedChain, IsFirstUnlinked, last_of, lent}
 use Rattle.x509_core.specs.KeptCertificate.{KeptCertificate}
 use Rattle.x509_core.specs.Link.{IsLink, IsStandingFor, link_rules}
 use Rattle.key_core.specs.Rules.{IsFirstBroken}
-use Rattle.x509_core.specs.Rules.{RefusesBy}
+use Rattle.x509_core.specs.Rules.{RefusesCertBy}
 use Rattle.x509_core.specs.declared.error.CertError.{CertError}
 use Rattle.x509_core.specs.declared.error.CertError.TheVariants as errors
 use Rattle.x509_core.specs.declared.window.Window.{Window}
@@ -37,7 +37,7 @@ grown_count xs x n m so_far more =
 
 pub unlinked : (judge : Judge) (w : Window) (checked : KeptCertificate) (xs : List (Bor KeptCertificate)) (x : Bor KeptCertificate) (child : KeptCertificate) (e : CertError)
     → IsLinkedChain judge w checked (map lent xs) → child ≡ last_of checked (map lent xs)
-    → RefusesBy (link_rules judge w (length (map lent xs)) x.now child) e → (e ≡ errors.Memory) ⊎ IsFirstUnlinked judge w checked (map lent (xs ++ x ∷ [])) e
+    → RefusesCertBy (link_rules judge w (length (map lent xs)) x.now child) e → (e ≡ errors.Memory) ⊎ IsFirstUnlinked judge w checked (map lent (xs ++ x ∷ [])) e
 unlinked judge w checked xs x child e linked at (inl broken) = inr (record {
   before = map lent xs;
   parent = x.now;

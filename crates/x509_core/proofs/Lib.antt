@@ -21,4 +21,4 @@ pub mod Walks
 pub mod OneLink
 pub mod OneChain
 pub mod SameChains
-pub mod OneAnswer
+pub mod NoRefusal

@@ -7,7 +7,7 @@ use Rattle.x509_core.specs.KeptCertificate.{KeptCertificate}
 use Rattle.x509_core.specs.Link.{IsDeepEnough, IsStandingFor, IsLink, IsSignedBy, IsNoAuthority, IsTooDeep, IsOutside, link_rules, link_signature_rules}
 use Rattle.x509_core.specs.Parent.{AgreeByKeyAndName, RefusesParent}
 use Rattle.key_core.specs.Rules.{IsMet}
-use Rattle.x509_core.specs.Rules.{Breaks, RefusesBy}
+use Rattle.x509_core.specs.Rules.{Breaks, RefusesCertBy}
 use Rattle.x509_core.specs.Window.{IsWithinWindow}
 use Rattle.x509_core.specs.declared.error.CertError.{CertError}
 use Rattle.x509_core.specs.declared.error.CertError.TheVariants as errors
@@ -40,29 +40,29 @@ window_is_met w kept valid = λ e broken. valid_is_met w kept.elements broken.ca
 -- ---- which rule is broken first
 
 module _ (judge : Judge) (w : Window) (count : ℕ) (parent child : KeptCertificate) where
-  pub no_authority : (e : CertError) → Breaks (IsNoAuthority parent) e → RefusesBy (link_rules judge w count parent child) e
+  pub no_authority : (e : CertError) → Breaks (IsNoAuthority parent) e → RefusesCertBy (link_rules judge w count parent child) e
   no_authority e (inl broken) = inl (inl broken)
   no_authority e (inr memory) = inr memory
 
-  pub too_deep : (e : CertError) → HasCa parent.elements true → Breaks (IsTooDeep count parent) e → RefusesBy (link_rules judge w count parent child) e
+  pub too_deep : (e : CertError) → HasCa parent.elements true → Breaks (IsTooDeep count parent) e → RefusesCertBy (link_rules judge w count parent child) e
   too_deep e ca (inl broken) = inl (inr (authority_is_met parent ca, inl broken))
   too_deep e ca (inr memory) = inr memory
 
-  pub outside : (e : CertError) → HasCa parent.elements true → IsDeepEnough count parent.elements → Breaks (IsOutside w parent) e → RefusesBy (link_rules judge w count parent child) e
+  pub outside : (e : CertError) → HasCa parent.elements true → IsDeepEnough count parent.elements → Breaks (IsOutside w parent) e → RefusesCertBy (link_rules judge w count parent child) e
   outside e ca deep (inl broken) = inl (inr (authority_is_met parent ca, inr (depth_is_met count parent deep, inl broken)))
   outside e ca deep (inr memory) = inr memory
 
-  no_parent : (e : CertError) → HasCa parent.elements true → IsDeepEnough count parent.elements → IsWithinWindow w parent.elements → RefusesParent parent child e → e ≢ errors.Memory → RefusesBy (link_rules judge w count parent child) e
+  no_parent : (e : CertError) → HasCa parent.elements true → IsDeepEnough count parent.elements → IsWithinWindow w parent.elements → RefusesParent parent child e → e ≢ errors.Memory → RefusesCertBy (link_rules judge w count parent child) e
   no_parent e ca deep valid refused told = inl (inr (authority_is_met parent ca, inr (depth_is_met count parent deep, inr (window_is_met w parent valid, inl (refused, told)))))
 
-  pub parent_refused : (e : CertError) → HasCa parent.elements true → IsDeepEnough count parent.elements → IsWithinWindow w parent.elements → RefusesParent parent child e → RefusesBy (link_rules judge w count parent child) e
+  pub parent_refused : (e : CertError) → HasCa parent.elements true → IsDeepEnough count parent.elements → IsWithinWindow w parent.elements → RefusesParent parent child e → RefusesCertBy (link_rules judge w count parent child) e
   parent_refused (errors.InvalidCertificate id source) ca deep valid refused = no_parent (errors.InvalidCertificate id source) ca deep valid refused (λ e. absurd cc)
   parent_refused errors.Memory ca deep valid refused = inr refl
   parent_refused e ca deep valid refused = absurd refused
 
   pub signed_or_not : {X : Type 0} (r : Result X CertError) → HasCa parent.elements true → IsDeepEnough count parent.elements → IsWithinWindow w parent.elements → AgreeByKeyAndName parent.elements child.elements
-      → MatchResult r (λ _. IsSignedBy judge parent.elements child.elements) (RefusesBy (link_signature_rules judge parent child))
-      → MatchResult r (λ _. IsLink judge w count parent.elements child.elements) (RefusesBy (link_rules judge w count parent child))
+      → MatchResult r (λ _. IsSignedBy judge parent.elements child.elements) (RefusesCertBy (link_signature_rules judge parent child))
+      → MatchResult r (λ _. IsLink judge w count parent.elements child.elements) (RefusesCertBy (link_rules judge w count parent child))
   signed_or_not (Ok v) ca deep valid agreed signed = record { authority = ca; depth = deep; valid = valid; agreed = agreed; signed = signed }
   signed_or_not (Err e) ca deep valid agreed (inl broken) =
       inl (inr (authority_is_met parent ca, inr (depth_is_met count parent deep, inr (window_is_met w parent valid, inr (parent_is_met parent child agreed, broken)))))

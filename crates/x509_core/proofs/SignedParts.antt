@@ -16,7 +16,7 @@ use Rattle.key_types.specs.declared.subject_key.SubjectKey.TheVariants as keys
 use Rattle.key_core.specs.Pkcs1.{IsPkcs1Of}
 use Rattle.key_core.specs.SignatureAlgorithm.{NamesSignature, IsUnnamed}
 use Rattle.key_core.specs.Rules.{Rule, IsMet, IsFirstBroken}
-use Rattle.key_core.specs.SignatureRules.{RefusesBy as RefusesSignatureBy}
+use Rattle.key_core.specs.SignatureRules.{RefusesSignatureBy}
 use Rattle.key_core.specs.Verifying.{Judge, Accepts, verify_rules}
 use Rattle.key_core.specs.declared.signature_algorithm.SignatureAlgorithm.{SignatureAlgorithm}
 use Rattle.key_core.specs.declared.signature_error.SignatureError.{SignatureError}
@@ -27,7 +27,7 @@ use Rattle.x509_core.specs.Facts.LentKeys.{lent_key}
 use Rattle.x509_core.specs.KeptCertificate.{KeptCertificate}
 use Rattle.x509_core.specs.Link.{HasAlgorithm, HasKey, IsSignedWith, IsSignedBy, IsBadlySignedLink, IsUnsupported, IsToldOf, signed_octets, signature_refusal, link_signature_rules}
 use Rattle.x509_core.specs.Parent.{IsInvalid}
-use Rattle.x509_core.specs.Rules.{Breaks, RefusesBy}
+use Rattle.x509_core.specs.Rules.{Breaks, RefusesCertBy}
 use Rattle.x509_core.specs.declared.error.CertCause.{CertCause}
 use Rattle.x509_core.specs.declared.error.CertCause.TheVariants as causes
 use Rattle.x509_core.specs.declared.error.CertError.{CertError}
@@ -72,7 +72,7 @@ supported child algorithm named = λ e broken.
     broken.unnamed algorithm (subst (λ (id : AlgorithmIdentifier). NamesSignature id algorithm) (one_algorithm child.elements child.certificate.signature_algorithm broken.id (algorithm_of child) broken.beside) named)
 
 pub unsupported : (judge : Judge) (parent child : KeptCertificate) (source : SignatureError) (e : CertError) → IsUnnamed child.certificate.signature_algorithm source → e ≡ signature_refusal source
-    → RefusesBy (link_signature_rules judge parent child) e
+    → RefusesCertBy (link_signature_rules judge parent child) e
 unsupported judge parent child source e (none, inl told) is =
     inl (inl (record { id = child.certificate.signature_algorithm; beside = algorithm_of child; unnamed = none; told = is ∙ ap signature_refusal told }))
 unsupported judge parent child source e (none, inr memory) is = inr (is ∙ ap signature_refusal memory)
@@ -116,7 +116,7 @@ badly_signed judge parent child algorithm info msg sig source e parts message si
 
 pub accepted_or_not : {X : Type 0} (judge : Judge) (parent child : KeptCertificate) (algorithm : SignatureAlgorithm) (r : Result X CertError) → NamesSignature child.certificate.signature_algorithm algorithm
     → MatchResult r (λ _. IsSignedBy judge parent.elements child.elements) (Breaks (IsToldOf child (IsBadlySignedLink judge parent.elements child.elements)))
-    → MatchResult r (λ _. IsSignedBy judge parent.elements child.elements) (RefusesBy (link_signature_rules judge parent child))
+    → MatchResult r (λ _. IsSignedBy judge parent.elements child.elements) (RefusesCertBy (link_signature_rules judge parent child))
 accepted_or_not judge parent child algorithm (Ok v) named signed = signed
 accepted_or_not judge parent child algorithm (Err e) named (inl broken) = inl (inr (supported child algorithm named, inl broken))
 accepted_or_not judge parent child algorithm (Err e) named (inr memory) = inr memory

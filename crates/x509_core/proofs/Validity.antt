@@ -5,7 +5,7 @@ use Rattle.std.specs.Ordering.{nat_cmp}
 use Rattle.asn1_types.specs.Time.{generalized_fields}
 use Rattle.asn1_types.specs.declared.generalized_time.GeneralizedTime.{GeneralizedTime}
 use Rattle.der_core.specs.DerElement.{DerElement}
-use Rattle.names_core.specs.UtcDate.{fields_of}
+use Rattle.names_core.specs.UtcDate.{time_fields}
 use Rattle.x509_types.specs.CertificateElements.{CertificateElements}
 use Rattle.x509_types.specs.CertificateFields.{not_before_of, not_after_of}
 use Rattle.x509_values.specs.Validity.{time as time_element}
@@ -21,13 +21,13 @@ pub same_some : {A : Type 0} (x y : A) → Some x ≡ Some y → x ≡ y
 same_some x y e = cc
 
 pub one_moment : (element : Option DerElement) (a b : GeneralizedTime) → IsTimeAt element a → IsTimeAt element b → generalized_fields a ≡ generalized_fields b
-one_moment element a b p q = p.at ∙ ap fields_of (times_once p.time q.time (same_some (time_element p.time) (time_element q.time) (sym p.is ∙ q.is))) ∙ sym q.at
+one_moment element a b p q = p.at ∙ ap time_fields (times_once p.time q.time (same_some (time_element p.time) (time_element q.time) (sym p.is ∙ q.is))) ∙ sym q.at
 
 earlier_there : (a b c d : GeneralizedTime) → generalized_fields a ≡ generalized_fields c → generalized_fields b ≡ generalized_fields d → IsEarlier a b → IsEarlier c d
 earlier_there a b c d p q e = ap (λ (xs : List ℕ). slice_cmp nat_cmp xs (generalized_fields d)) (sym p) ∙ ap (slice_cmp nat_cmp (generalized_fields a)) (sym q) ∙ e
 
 -- a time of a certificate, with the date that it is
-pub time_at : (element : Option DerElement) (time : Time) (date : GeneralizedTime) → element ≡ Some (time_element time) → generalized_fields date ≡ fields_of time → IsTimeAt element date
+pub time_at : (element : Option DerElement) (time : Time) (date : GeneralizedTime) → element ≡ Some (time_element time) → generalized_fields date ≡ time_fields time → IsTimeAt element date
 time_at element time date is at = record { time = time; is = is; at = at }
 
 pub begun_by : (w : Window) (f : CertificateElements) (not_before now : GeneralizedTime) → IsNotBefore f not_before → latest w.date ≡ Some now → (IsEarlier now not_before → ⊥) → HasBegun w f

@@ -9,7 +9,7 @@ use Rattle.x509_core.specs.Chain.{YieldsParents, IsDated, IsLinkedChain, IsFirst
 use Rattle.x509_core.specs.KeptCertificate.{KeptCertificate}
 use Rattle.x509_core.specs.Link.{IsOutside}
 use Rattle.key_core.specs.Rules.{IsMet, IsFirstBroken}
-use Rattle.x509_core.specs.Rules.{Breaks, RefusesBy}
+use Rattle.x509_core.specs.Rules.{Breaks, RefusesCertBy}
 use Rattle.x509_core.specs.Window.{IsWithinWindow}
 use Rattle.x509_core.specs.declared.cert_type.CertType.{CertType}
 use Rattle.x509_core.specs.declared.cert_type.CertType.TheVariants as types
@@ -41,7 +41,7 @@ unlisted steps (Some parents) gives = absurd gives
 
 module _ (judge : Judge) (checks : ChainChecks) (checked : KeptCertificate) (given : Option (List KeptCertificate)) where
   abbrev Refuses : CertError → Type 0
-  Refuses = RefusesBy (chain_rules judge checks checked given)
+  Refuses = RefusesCertBy (chain_rules judge checks checked given)
 
   pub date_is_met : IsDated checks → IsMet (LacksDate checks)
   date_is_met dated = λ e broken. dated broken.0 broken.1

@@ -1,7 +1,7 @@
 -- Why a certificate isn't read or written, by why its element isn't.
-use Rattle.std.specs.Prelude.{◌≡◌}
 use Rattle.der_core.specs.declared.error.DerError.{DerError}
 use Rattle.der_core.specs.declared.error.DerError.TheVariants as der
+use Rattle.der_core.specs.Refusals.{Tells}
 use Rattle.key_core.specs.declared.element.Element.{Element}
 use Rattle.x509_core.specs.declared.error.CertError.{CertError}
 use Rattle.x509_core.specs.declared.error.CertError.TheVariants as errors
@@ -23,9 +23,9 @@ unwritten element der.TooDeep = errors.Asn1Serialization element der.TooDeep
 unwritten element der.TooLong = errors.Asn1Serialization element der.TooLong
 
 -- The error tells of this structure, for a cause that refuses it.
-abbrev pub IsUnread : Element → (DerError → Type 0) → CertError → Type 0
-IsUnread element Refuses e = (source : DerError) × (e ≡ unread element source) × Refuses source
+abbrev pub IsUnreadCert : Element → (DerError → Type 0) → CertError → Type 0
+IsUnreadCert element = Tells (unread element)
 
 -- The error tells of this structure, for a cause that refuses to write it.
-abbrev pub IsUnwritten : Element → (DerError → Type 0) → CertError → Type 0
-IsUnwritten element Refuses e = (source : DerError) × (e ≡ unwritten element source) × Refuses source
+abbrev pub IsUnwrittenCert : Element → (DerError → Type 0) → CertError → Type 0
+IsUnwrittenCert element = Tells (unwritten element)

@@ -9,5 +9,5 @@ abbrev pub Breaks : Rule CertError → CertError → Type 0
 Breaks = OrMemory errors.Memory
 
 -- the error tells of the first broken rule, unless memory ran out
-abbrev pub RefusesBy : List (Rule CertError) → CertError → Type 0
-RefusesBy = RefusesByRules errors.Memory
+abbrev pub RefusesCertBy : List (Rule CertError) → CertError → Type 0
+RefusesCertBy = RefusesByRules errors.Memory

@@ -6,7 +6,7 @@ use Rattle.std.specs.declared.cmp.Ordering.TheVariants.{Less}
 use Rattle.asn1_types.specs.Time.{generalized_fields}
 use Rattle.asn1_types.specs.declared.generalized_time.GeneralizedTime.{GeneralizedTime}
 use Rattle.der_core.specs.DerElement.{DerElement}
-use Rattle.names_core.specs.UtcDate.{fields_of}
+use Rattle.names_core.specs.UtcDate.{time_fields}
 use Rattle.x509_types.specs.CertificateElements.{CertificateElements}
 use Rattle.x509_types.specs.CertificateFields.{not_before_of, not_after_of}
 use Rattle.x509_values.specs.Validity.{time as time_element}
@@ -26,7 +26,7 @@ IsEarlier a b = slice_cmp nat_cmp (generalized_fields a) (generalized_fields b) 
 pub record IsTimeAt (element : Option DerElement) (moment : GeneralizedTime) : Type 0 where
   pub time : Time
   pub is : element ≡ Some (time_element time)
-  pub at : generalized_fields moment ≡ fields_of time
+  pub at : generalized_fields moment ≡ time_fields time
 
 -- the validity of a certificate begins with this moment
 abbrev pub IsNotBefore : CertificateElements → GeneralizedTime → Type 0

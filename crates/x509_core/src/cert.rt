@@ -3,7 +3,8 @@
 ghost use Rattle.std.specs.Prelude.{◌≡◌, ◌↔◌, ℕ, false, IsTrue, IfOk, Err, MatchResult};
 ghost use Rattle.der_core.specs.DerElement.{DerElement};
 ghost use Rattle.der_core.specs.Encoding.{encoding, IsDer};
-ghost use Rattle.der_core.specs.Equality.{same_octets, same_octets_per};
+ghost use Rattle.der_core.specs.Equality.{same_octets};
+ghost use Rattle.der_core.specs.Facts.Equality.{same_octets_per};
 ghost use Rattle.der_core.specs.Reading.{IsExactFault};
 ghost use Rattle.der_core.specs.Refusals.{RefusesInner, RefusesOctets, RefusesShape};
 ghost use Rattle.der_core.specs.Structure.{Fits, IsWithin};
@@ -12,7 +13,7 @@ ghost use Rattle.der_core.specs.declared.fault.DerFault.{DerFault};
 ghost use Rattle.asn1_types.specs.Time.{generalized_fields};
 ghost use Rattle.key_core.specs.Keys.{info_of};
 ghost use Rattle.key_core.specs.declared.element.Element.TheVariants as elements;
-ghost use Rattle.names_core.specs.UtcDate.{fields_of};
+ghost use Rattle.names_core.specs.UtcDate.{time_fields};
 ghost use Rattle.names_core.specs.Names.{sets_of};
 ghost use Rattle.x509_types.specs.Certificate.{IsCertificate};
 ghost use Rattle.x509_types.specs.CertificateElements.{certificate_of};
@@ -21,7 +22,7 @@ ghost use Rattle.x509_types.specs.FirstOfValue.{extensions_in};
 ghost use Rattle.x509_types.specs.declared.certificate.Certificate.{Certificate};
 ghost use Rattle.x509_core.specs.KeptCertificate.{HasFields, kept_octets, written_elements, written_octets};
 ghost use Rattle.x509_core.specs.Keyless.{joined};
-ghost use Rattle.x509_core.specs.CertRefusals.{IsUnread, IsUnwritten};
+ghost use Rattle.x509_core.specs.CertRefusals.{IsUnreadCert, IsUnwrittenCert};
 ghost use Rattle.x509_core.specs.declared.error.CertError.TheVariants as errors;
 ghost use Rattle.x509_core.specs.Facts.Certs.{HasFields-prop};
 
@@ -76,7 +77,7 @@ impl Cert {
         ensures kept { IfOk result (λ cert. kept_octets cert ≡ der.now) }
         ensures answer { MatchResult result
             (λ cert. IsWithin IsCertificate der.now cert.certificate)
-            (IsUnread elements.Certificate (RefusesOctets IsCertificate der.now)) }
+            (IsUnreadCert elements.Certificate (RefusesOctets IsCertificate der.now)) }
         // Octets with a fault are refused with it, whatever memory there is.
         ensures faulty { (at : ℕ) (fault : DerFault) → IsExactFault der.now at fault
             → result ≡ Err (errors.Asn1Deserialization elements.Certificate (der_errors.Malformed (record { at = at; fault = fault }))) }
@@ -158,7 +159,7 @@ impl Cert {
     pub fn from_certificate(alloc: Global, certificate: Certificate) -> Result<Cert, CertError>
         ensures { MatchResult result
             (λ cert. (kept_octets cert ≡ written_octets certificate) × (cert.certificate ≡ certificate))
-            (IsUnwritten elements.Certificate (RefusesInner (written_elements certificate))) }
+            (IsUnwrittenCert elements.Certificate (RefusesInner (written_elements certificate))) }
     {
         match written(alloc, &certificate) {
             Ok(kept) => Ok(Cert::keep(kept, certificate)),
@@ -209,14 +210,14 @@ impl Cert {
 
     /// The moment from which on the certificate is valid (RFC 5280 4.1.2.5).
     pub fn valid_not_before(&self) -> UtcDate
-        ensures { generalized_fields result ≡ fields_of self.now.certificate.tbs_certificate.validity.not_before }
+        ensures { generalized_fields result ≡ time_fields self.now.certificate.tbs_certificate.validity.not_before }
     {
         date_of(&self.rest.validity.not_before)
     }
 
     /// The moment up to which the certificate is valid (RFC 5280 4.1.2.5).
     pub fn valid_not_after(&self) -> UtcDate
-        ensures { generalized_fields result ≡ fields_of self.now.certificate.tbs_certificate.validity.not_after }
+        ensures { generalized_fields result ≡ time_fields self.now.certificate.tbs_certificate.validity.not_after }
     {
         date_of(&self.rest.validity.not_after)
     }
@@ -295,7 +296,7 @@ fn written(alloc: Global, certificate: &Certificate) -> Result<Raw, DerError>
 
 /// The moment of a time in either form.
 fn date_of(time: &Time) -> UtcDate
-    ensures { generalized_fields result ≡ fields_of time.now }
+    ensures { generalized_fields result ≡ time_fields time.now }
 {
     match time {
         Time::Utc(time) => UtcDate::from(*time),

@@ -6,7 +6,7 @@ ghost use Rattle.key_core.specs.declared.signature_error.SignatureError.TheVaria
 ghost use Rattle.x509_types.specs.ExtensionParts.{HasCa, HasPathLength};
 ghost use Rattle.x509_core.specs.Link.{IsBadlySignedLink, IsDeepEnough, IsLink, IsNoAuthority, IsOutside, IsSignedBy, IsStandingFor, IsTooDeep, IsToldOf, link_rules, link_signature_rules, signature_refusal};
 ghost use Rattle.x509_core.specs.Parent.{IsInvalid};
-ghost use Rattle.x509_core.specs.Rules.{Breaks, RefusesBy};
+ghost use Rattle.x509_core.specs.Rules.{Breaks, RefusesCertBy};
 ghost use Rattle.x509_core.specs.Window.{IsWithinWindow};
 ghost use Rattle.x509_core.specs.declared.error.CertCause.TheVariants as causes;
 ghost use Rattle.x509_core.specs.declared.error.CertError.TheVariants as errors;
@@ -37,7 +37,7 @@ impl Cert {
     ) -> Result<(), CertError>
         ensures { (count : ℕ) → IsStandingFor number count → MatchResult result
             (λ _. IsLink (S.judge scheme.now) window.now count self.now.elements other.now.elements)
-            (RefusesBy (link_rules (S.judge scheme.now) window.now count self.now other.now)) }
+            (RefusesCertBy (link_rules (S.judge scheme.now) window.now count self.now other.now)) }
     {
         let (parent, child) = (self.viewed(), other.viewed());
         parent.expect_link(alloc, &child, number, window, scheme)
@@ -106,7 +106,7 @@ impl ViewedCert<'_> {
     ) -> Result<(), CertError>
         ensures { (count : ℕ) → IsStandingFor number count → MatchResult result
             (λ _. IsLink (S.judge scheme.now) window.now count self.now.cert.now.elements child.now.cert.now.elements)
-            (RefusesBy (link_rules (S.judge scheme.now) window.now count self.now.cert.now child.now.cert.now)) }
+            (RefusesCertBy (link_rules (S.judge scheme.now) window.now count self.now.cert.now child.now.cert.now)) }
     {
         self.expect_authority(alloc)?;
         self.expect_deep_enough(alloc, number)?;
@@ -173,7 +173,7 @@ impl ViewedCert<'_> {
     ) -> Result<(), CertError>
         ensures { MatchResult result
             (λ _. IsSignedBy (S.judge scheme.now) parent.now.cert.now.elements self.now.cert.now.elements)
-            (RefusesBy (link_signature_rules (S.judge scheme.now) parent.now.cert.now self.now.cert.now)) }
+            (RefusesCertBy (link_signature_rules (S.judge scheme.now) parent.now.cert.now self.now.cert.now)) }
     {
         match SignatureAlgorithm::from_algorithm_identifier(alloc, self.cert.outer_algorithm()) {
             Ok(algorithm) => self.expect_accepted(alloc, algorithm, parent, scheme),

@@ -9,7 +9,7 @@ ghost use Rattle.x509_core.specs.Chain.{YieldsParents, IsAccepted, WasAccepted, 
 ghost use Rattle.x509_core.specs.Checks.{checks_at, first_checks, with_not_before, with_not_after, with_chain, with_root};
 ghost use Rattle.x509_core.specs.KeptCertificate.{KeptCertificate};
 ghost use Rattle.x509_core.specs.Link.{IsLink, IsStandingFor, link_rules};
-ghost use Rattle.x509_core.specs.Rules.{RefusesBy};
+ghost use Rattle.x509_core.specs.Rules.{RefusesCertBy};
 ghost use Rattle.x509_core.specs.declared.cert_type.CertType.TheVariants as types;
 ghost use Rattle.x509_core.specs.declared.error.Arg.TheVariants as arguments;
 ghost use Rattle.x509_core.specs.declared.error.CaChainError.TheVariants as chain;
@@ -200,7 +200,7 @@ impl<'a, 'b, Chain: Iterator<Item = &'b Cert> + Drop> CertValidator<'a, 'b, Chai
         ensures answer { (given : Option (List KeptCertificate)) → (IsTrue self.entry.checks.chain → YieldsParents Chain.next_gives self.entry.chain given)
             → MatchResult result
             (λ _. IsAccepted (S.judge scheme.now) self.entry.checks self.entry.cert.now given)
-            (RefusesBy (chain_rules (S.judge scheme.now) self.entry.checks self.entry.cert.now given)) }
+            (RefusesCertBy (chain_rules (S.judge scheme.now) self.entry.checks self.entry.cert.now given)) }
         // Of any iterator: what it gave in this call.
         ensures walked { MatchResult result
             (λ _. WasAccepted (S.judge scheme.now) Chain.next_gives self.entry.checks self.entry.cert.now self.entry.chain)
@@ -329,7 +329,7 @@ fn expect_next<S: Scheme>(
 ) -> Result<(), CertError>
     ensures { (count : ℕ) → IsStandingFor number count → MatchResult result
         (λ _. IsLink (S.judge scheme.now) window.now count above.now.cert.now.elements (nearest checked.now.cert.now last.now).elements)
-        (RefusesBy (link_rules (S.judge scheme.now) window.now count above.now.cert.now (nearest checked.now.cert.now last.now))) }
+        (RefusesCertBy (link_rules (S.judge scheme.now) window.now count above.now.cert.now (nearest checked.now.cert.now last.now))) }
 {
     match last {
         Some(child) => above.expect_link(alloc, child, number, window, scheme),

@@ -7,8 +7,8 @@ use Rattle.asn1_types.specs.Values.{identifier_contents}
 use Rattle.asn1_types.specs.Elements.{object_identifier}
 use Rattle.asn1_types.specs.declared.oid.ObjectIdentifier.{ObjectIdentifier}
 use Rattle.der_core.specs.Default.{default_false}
-use Rattle.x509_types.specs.ExtensionKind.{kind_number, named_kind}
-use Rattle.x509_types.specs.ExtensionView.{kind_of, value_octets, IsValueIn, IsValueOf}
+use Rattle.x509_types.specs.ExtensionKind.{extension_kind_number, named_kind}
+use Rattle.x509_types.specs.ExtensionView.{kind_of_view, value_octets, IsValueIn, IsValueOf}
 use Rattle.x509_types.specs.ExtensionFields.{IsExtensionOf}
 use Rattle.x509_types.specs.declared.extension.Extension.{Extension}
 use Rattle.x509_types.specs.declared.extension_view.ExtensionView.{ExtensionView}
@@ -19,12 +19,12 @@ extension e = sequence (object_identifier e.extn_id ∷ (default_false e.critica
 
 -- the kind of the value, and the octets that are written
 abbrev pub extension_octets : Extension → List ℕ
-extension_octets e = kind_number (kind_of e.extn_value) ∷ encoding (extension e)
+extension_octets e = extension_kind_number (kind_of_view e.extn_value) ∷ encoding (extension e)
 
 -- the kinds of the values of extensions, where there are any
 abbrev pub value_kinds : Option (List Extension) → List ℕ
 value_kinds None = []
-value_kinds (Some extensions) = map (λ e. kind_number (kind_of e.extn_value)) extensions
+value_kinds (Some extensions) = map (λ e. extension_kind_number (kind_of_view e.extn_value)) extensions
 
 -- The element spells the extension.
 pub record IsExtension (element : DerElement) (e : Extension) : Type 0 where

@@ -17,12 +17,12 @@ named_kind oid =
     else kinds.Other))))))
 
 -- a number for each kind
-abbrev pub kind_number : ExtensionKind → ℕ
-kind_number kinds.SubjectKeyIdentifier = 0
-kind_number kinds.KeyUsage = 1
-kind_number kinds.SubjectAltName = 2
-kind_number kinds.IssuerAltName = 3
-kind_number kinds.BasicConstraints = 4
-kind_number kinds.AuthorityKeyIdentifier = 5
-kind_number kinds.ExtendedKeyUsage = 6
-kind_number kinds.Other = 7
+abbrev pub extension_kind_number : ExtensionKind → ℕ
+extension_kind_number kinds.SubjectKeyIdentifier = 0
+extension_kind_number kinds.KeyUsage = 1
+extension_kind_number kinds.SubjectAltName = 2
+extension_kind_number kinds.IssuerAltName = 3
+extension_kind_number kinds.BasicConstraints = 4
+extension_kind_number kinds.AuthorityKeyIdentifier = 5
+extension_kind_number kinds.ExtendedKeyUsage = 6
+extension_kind_number kinds.Other = 7

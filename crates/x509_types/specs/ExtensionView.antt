@@ -13,22 +13,22 @@ use Rattle.x509_values.specs.ExtendedKeyUsage.{extended_key_usage}
 use Rattle.x509_values.specs.declared.key_usage.KeyUsage.{KeyUsage}
 use Rattle.x509_values.specs.declared.authority_key_identifier.AuthorityKeyIdentifier.{AuthorityKeyIdentifier}
 use Rattle.x509_values.specs.declared.extended_key_usage.ExtendedKeyUsage.{ExtendedKeyUsage}
-use Rattle.x509_types.specs.ExtensionKind.{kind_number}
+use Rattle.x509_types.specs.ExtensionKind.{extension_kind_number}
 use Rattle.x509_types.specs.declared.extension_kind.ExtensionKind.{ExtensionKind}
 use Rattle.x509_types.specs.declared.extension_kind.ExtensionKind.TheVariants as kinds
 use Rattle.x509_types.specs.declared.extension_view.ExtensionView.{ExtensionView}
 use Rattle.x509_types.specs.declared.extension_view.ExtensionView.TheVariants as views
 
 -- the kind of a value
-abbrev pub kind_of : ExtensionView → ExtensionKind
-kind_of (views.SubjectKeyIdentifier key) = kinds.SubjectKeyIdentifier
-kind_of (views.KeyUsage usage) = kinds.KeyUsage
-kind_of (views.SubjectAltName names) = kinds.SubjectAltName
-kind_of (views.IssuerAltName names) = kinds.IssuerAltName
-kind_of (views.BasicConstraints constraints) = kinds.BasicConstraints
-kind_of (views.AuthorityKeyIdentifier key) = kinds.AuthorityKeyIdentifier
-kind_of (views.ExtendedKeyUsage usage) = kinds.ExtendedKeyUsage
-kind_of (views.Raw octets) = kinds.Other
+abbrev pub kind_of_view : ExtensionView → ExtensionKind
+kind_of_view (views.SubjectKeyIdentifier key) = kinds.SubjectKeyIdentifier
+kind_of_view (views.KeyUsage usage) = kinds.KeyUsage
+kind_of_view (views.SubjectAltName names) = kinds.SubjectAltName
+kind_of_view (views.IssuerAltName names) = kinds.IssuerAltName
+kind_of_view (views.BasicConstraints constraints) = kinds.BasicConstraints
+kind_of_view (views.AuthorityKeyIdentifier key) = kinds.AuthorityKeyIdentifier
+kind_of_view (views.ExtendedKeyUsage usage) = kinds.ExtendedKeyUsage
+kind_of_view (views.Raw octets) = kinds.Other
 
 -- SubjectKeyIdentifier ::= KeyIdentifier, KeyIdentifier ::= OCTET STRING (RFC 5280 4.2.1.1, 4.2.1.2)
 abbrev pub key_identifier : List ℕ → DerElement
@@ -101,4 +101,4 @@ IsValueOf kind octets view = IsOfKind kind view × IsValueIn octets view
 
 -- the kind of a value, and its octets
 abbrev pub view_octets : ExtensionView → List ℕ
-view_octets view = kind_number (kind_of view) ∷ value_octets view
+view_octets view = extension_kind_number (kind_of_view view) ∷ value_octets view

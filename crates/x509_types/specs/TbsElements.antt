@@ -1,6 +1,7 @@
 -- The fields of a TBSCertificate as the elements that stand for them (RFC 5280 4.1).
 use Rattle.std.specs.Prelude.{ℕ, List, ◌∷◌, ◌++◌, Option}
-use Rattle.der_core.specs.DerElement.{DerElement, Primitive}
+use Rattle.asn1_types.specs.Elements.{integer_of}
+use Rattle.der_core.specs.DerElement.{DerElement}
 use Rattle.der_core.specs.Elements.{sequence, optional_explicit, optional_leaf}
 
 -- Any element for each field, but of the serial number and of unique identifiers the contents octets.
@@ -26,4 +27,4 @@ tbs_tail f = optional_leaf 0x81 f.issuer_unique_id ++ (optional_leaf 0x82 f.subj
 abbrev pub tbs_of : TbsElements → DerElement
 tbs_of f =
     sequence (optional_explicit 0xA0 f.version
-    ++ (Primitive 0x02 f.serial_number ∷ f.signature ∷ f.issuer ∷ f.validity ∷ f.subject ∷ f.subject_public_key_info ∷ tbs_tail f))
+    ++ (integer_of f.serial_number ∷ f.signature ∷ f.issuer ∷ f.validity ∷ f.subject ∷ f.subject_public_key_info ∷ tbs_tail f))

@@ -1,6 +1,7 @@
 -- Version ::= INTEGER { v1(0), v2(1), v3(2) } (RFC 5280 4.1, 4.1.2.1)
 use Rattle.std.specs.Prelude.{ℕ, [], ◌∷◌}
-use Rattle.der_core.specs.DerElement.{DerElement, Primitive}
+use Rattle.asn1_types.specs.Elements.{integer_of}
+use Rattle.der_core.specs.DerElement.{DerElement}
 use Rattle.x509_types.specs.declared.version.Version.{Version}
 use Rattle.x509_types.specs.declared.version.Version.TheVariants as versions
 
@@ -12,4 +13,4 @@ version_number versions.V3 = 2
 
 -- the INTEGER of it, in its shortest contents (X.690 8.3.2)
 abbrev pub version : Version → DerElement
-version value = Primitive 0x02 (version_number value ∷ [])
+version value = integer_of (version_number value ∷ [])

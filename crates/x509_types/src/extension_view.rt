@@ -6,7 +6,7 @@ ghost use Rattle.der_core.specs.Refusals.{RefusesShape, RefusesInner};
 ghost use Rattle.der_core.specs.Structure.{IsWithin};
 ghost use Rattle.der_core.specs.declared.error.DerError.TheVariants as errors;
 ghost use Rattle.x501_types.specs.GeneralName.{AreGeneralNames};
-ghost use Rattle.x509_types.specs.ExtensionView.{kind_of, value_octets, inner_value, HoldsNoNames, IsValueOf};
+ghost use Rattle.x509_types.specs.ExtensionView.{kind_of_view, value_octets, inner_value, HoldsNoNames, IsValueOf};
 ghost use Rattle.x509_types.specs.declared.extension_view.ExtensionView.{ExtensionView};
 
 use crate::extension_kind::ExtensionKind;
@@ -39,7 +39,7 @@ pub enum ExtensionView {
 impl ExtensionView {
     /// The kind of extensions that have such a value; `Other` for octets that are kept.
     pub fn kind(&self) -> ExtensionKind
-        ensures { result ≡ kind_of self.now }
+        ensures { result ≡ kind_of_view self.now }
     {
         match self {
             ExtensionView::SubjectKeyIdentifier(_) => ExtensionKind::SubjectKeyIdentifier,

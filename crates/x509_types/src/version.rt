@@ -75,7 +75,8 @@ impl Structure for Version {
 
 /// Versions are equal exactly where their octets are.
 impl PartialEq for Version {
-    ghost use Rattle.der_core.specs.Equality.{same_octets, same_octets_per};
+    ghost use Rattle.der_core.specs.Equality.{same_octets};
+    ghost use Rattle.der_core.specs.Facts.Equality.{same_octets_per};
 
     ghost eq = { same_octets version };
 
@@ -90,7 +91,7 @@ impl PartialEq for Version {
 }
 
 impl Eq for Version {
-    ghost use Rattle.der_core.specs.Equality.{same_octets_equiv};
+    ghost use Rattle.der_core.specs.Facts.Equality.{same_octets_equiv};
 
     ghost laws = { same_octets_equiv version };
 }

@@ -1,6 +1,7 @@
 -- BasicConstraints ::= SEQUENCE { cA BOOLEAN DEFAULT FALSE, pathLenConstraint INTEGER (0..MAX) OPTIONAL } (RFC 5280 4.2.1.9).
 -- That the flag stands, also as FALSE, is kept. A path length is at most 255 here.
 use Rattle.std.specs.Prelude.{◌≡◌, ◌≢◌, ℕ, nat_lt, Bool, true, if◌then◌else◌, List, [], ◌∷◌, ◌++◌, Option, Some, None}
+use Rattle.asn1_types.specs.Elements.{integer_of}
 use Rattle.der_core.specs.DerElement.{DerElement, Primitive}
 use Rattle.der_core.specs.Elements.{sequence}
 use Rattle.x509_values.specs.Boolean.{optional_boolean, IsOptionalBoolean}
@@ -9,7 +10,7 @@ use Rattle.x509_values.specs.declared.basic_constraints.BasicConstraints.{BasicC
 -- INTEGER of a number below 256 in its shortest contents: the first bit is the sign, so a zero stands before an octet of 80 or more
 -- (X.690 8.3.2, 8.3.3)
 abbrev pub small_integer : ℕ → DerElement
-small_integer number = Primitive 0x02 (if nat_lt number 128 then number ∷ [] else 0 ∷ number ∷ [])
+small_integer number = integer_of (if nat_lt number 128 then number ∷ [] else 0 ∷ number ∷ [])
 
 -- such an INTEGER, or none
 abbrev pub optional_integer : Option ℕ → List DerElement

@@ -125,7 +125,8 @@ impl Structure for AuthorityKeyIdentifier {
 
 /// Identifiers are equal exactly where their octets are.
 impl PartialEq for AuthorityKeyIdentifier {
-    ghost use Rattle.der_core.specs.Equality.{same_octets, same_octets_per};
+    ghost use Rattle.der_core.specs.Equality.{same_octets};
+    ghost use Rattle.der_core.specs.Facts.Equality.{same_octets_per};
     ghost use Rattle.x509_values.specs.AuthorityKeyIdentifier.{authority_key_identifier};
 
     ghost eq = { same_octets authority_key_identifier };
@@ -143,7 +144,7 @@ impl PartialEq for AuthorityKeyIdentifier {
 }
 
 impl Eq for AuthorityKeyIdentifier {
-    ghost use Rattle.der_core.specs.Equality.{same_octets_equiv};
+    ghost use Rattle.der_core.specs.Facts.Equality.{same_octets_equiv};
     ghost use Rattle.x509_values.specs.AuthorityKeyIdentifier.{authority_key_identifier};
 
     ghost laws = { same_octets_equiv authority_key_identifier };

@@ -128,7 +128,8 @@ impl Structure for BasicConstraints {
 
 /// Constraints are equal exactly where their octets are.
 impl PartialEq for BasicConstraints {
-    ghost use Rattle.der_core.specs.Equality.{same_octets, same_octets_per};
+    ghost use Rattle.der_core.specs.Equality.{same_octets};
+    ghost use Rattle.der_core.specs.Facts.Equality.{same_octets_per};
     ghost use Rattle.x509_values.specs.BasicConstraints.{basic_constraints};
 
     ghost eq = { same_octets basic_constraints };
@@ -144,7 +145,7 @@ impl PartialEq for BasicConstraints {
 }
 
 impl Eq for BasicConstraints {
-    ghost use Rattle.der_core.specs.Equality.{same_octets_equiv};
+    ghost use Rattle.der_core.specs.Facts.Equality.{same_octets_equiv};
     ghost use Rattle.x509_values.specs.BasicConstraints.{basic_constraints};
 
     ghost laws = { same_octets_equiv basic_constraints };

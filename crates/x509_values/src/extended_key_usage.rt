@@ -78,7 +78,8 @@ impl Structure for ExtendedKeyUsage {
 
 /// Usages are equal exactly where their octets are.
 impl PartialEq for ExtendedKeyUsage {
-    ghost use Rattle.der_core.specs.Equality.{same_octets, same_octets_per};
+    ghost use Rattle.der_core.specs.Equality.{same_octets};
+    ghost use Rattle.der_core.specs.Facts.Equality.{same_octets_per};
     ghost use Rattle.x509_values.specs.ExtendedKeyUsage.{extended_key_usage};
 
     ghost eq = { same_octets extended_key_usage };
@@ -94,7 +95,7 @@ impl PartialEq for ExtendedKeyUsage {
 }
 
 impl Eq for ExtendedKeyUsage {
-    ghost use Rattle.der_core.specs.Equality.{same_octets_equiv};
+    ghost use Rattle.der_core.specs.Facts.Equality.{same_octets_equiv};
     ghost use Rattle.x509_values.specs.ExtendedKeyUsage.{extended_key_usage};
 
     ghost laws = { same_octets_equiv extended_key_usage };

@@ -155,7 +155,8 @@ impl Structure for KeyUsage {
 
 /// Usages are equal exactly where their octets are.
 impl PartialEq for KeyUsage {
-    ghost use Rattle.der_core.specs.Equality.{same_octets, same_octets_per};
+    ghost use Rattle.der_core.specs.Equality.{same_octets};
+    ghost use Rattle.der_core.specs.Facts.Equality.{same_octets_per};
     ghost use Rattle.x509_values.specs.KeyUsage.{key_usage};
 
     ghost eq = { same_octets key_usage };
@@ -171,7 +172,7 @@ impl PartialEq for KeyUsage {
 }
 
 impl Eq for KeyUsage {
-    ghost use Rattle.der_core.specs.Equality.{same_octets_equiv};
+    ghost use Rattle.der_core.specs.Facts.Equality.{same_octets_equiv};
     ghost use Rattle.x509_values.specs.KeyUsage.{key_usage};
 
     ghost laws = { same_octets_equiv key_usage };

@@ -54,7 +54,8 @@ impl Structure for Time {
 
 /// Times are equal exactly where their octets are.
 impl PartialEq for Time {
-    ghost use Rattle.der_core.specs.Equality.{same_octets, same_octets_per};
+    ghost use Rattle.der_core.specs.Equality.{same_octets};
+    ghost use Rattle.der_core.specs.Facts.Equality.{same_octets_per};
     ghost use Rattle.x509_values.specs.Validity.{time};
 
     ghost eq = { same_octets time };
@@ -74,7 +75,7 @@ impl PartialEq for Time {
 }
 
 impl Eq for Time {
-    ghost use Rattle.der_core.specs.Equality.{same_octets_equiv};
+    ghost use Rattle.der_core.specs.Facts.Equality.{same_octets_equiv};
     ghost use Rattle.x509_values.specs.Validity.{time};
 
     ghost laws = { same_octets_equiv time };

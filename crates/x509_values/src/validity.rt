@@ -62,7 +62,8 @@ impl Structure for Validity {
 
 /// Validities are equal exactly where their octets are.
 impl PartialEq for Validity {
-    ghost use Rattle.der_core.specs.Equality.{same_octets, same_octets_per};
+    ghost use Rattle.der_core.specs.Equality.{same_octets};
+    ghost use Rattle.der_core.specs.Facts.Equality.{same_octets_per};
     ghost use Rattle.x509_values.specs.Validity.{validity};
 
     ghost eq = { same_octets validity };
@@ -78,7 +79,7 @@ impl PartialEq for Validity {
 }
 
 impl Eq for Validity {
-    ghost use Rattle.der_core.specs.Equality.{same_octets_equiv};
+    ghost use Rattle.der_core.specs.Facts.Equality.{same_octets_equiv};
     ghost use Rattle.x509_values.specs.Validity.{validity};
 
     ghost laws = { same_octets_equiv validity };

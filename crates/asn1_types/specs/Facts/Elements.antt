@@ -28,12 +28,12 @@ same_oid a b e =
 IsInteger-prop : (contents : List ℕ) → IsProp (IsInteger contents)
 IsInteger-prop contents = hlevel props
 
-abbrev integer_of : (contents : List ℕ) → IsInteger contents → IntegerAsn1
-integer_of contents formed = record { contents = contents; formed = formed }
+abbrev integer_with : (contents : List ℕ) → IsInteger contents → IntegerAsn1
+integer_with contents formed = record { contents = contents; formed = formed }
 
 pub same_integer : (a b : IntegerAsn1) → a.contents ≡ b.contents → a ≡ b
 same_integer a b e =
-    subst (λ (xs : List ℕ). (h : IsInteger xs) → a ≡ integer_of xs h) e (λ h. ap (integer_of a.contents) (IsInteger-prop a.contents a.formed h)) b.formed
+    subst (λ (xs : List ℕ). (h : IsInteger xs) → a ≡ integer_with xs h) e (λ h. ap (integer_with a.contents) (IsInteger-prop a.contents a.formed h)) b.formed
 
 IsIa5-prop : (text : List ℕ) → IsProp (IsIa5 text)
 IsIa5-prop text = hlevel props

@@ -16,7 +16,7 @@ use Rattle.cms_types.specs.declared.signed_data.SignedData.{SignedData}
 use Rattle.cms_types.specs.declared.signer_info.SignerInfo.{SignerInfo}
 use Rattle.authenticode_core.specs.declared.timestamp_error.TimestampError.{TimestampError}
 use Rattle.authenticode_core.specs.declared.timestamp_error.TimestampError.TheVariants as errors
-use Rattle.authenticode_values.specs.Pkcs7.{signers_of}
+use Rattle.authenticode_values.specs.Pkcs7.{signer_infos_of}
 use Rattle.authenticode_values.specs.TokenStamp.{CountersignsBy, IsFirstUnwritten, IsStampedBy, RefusesTokenStamp, token_modifies}
 use Rattle.authenticode_values.specs.declared.pkcs7.Pkcs7.{Pkcs7}
 
@@ -98,15 +98,15 @@ one_refusal countersigners signers (errors.Asn1DerError e) errors.Memory a b = a
 one_refusal countersigners signers (errors.Pkcs7Error e) f a b = absurd a
 one_refusal countersigners signers errors.Memory f a b = absurd a
 
-refused_or_stamped : (token : Pkcs7) (before after : SignedData) (e : TimestampError) → RefusesTokenStamp (signers_of token) before.signers_infos e → IsStampedBy token before after → ⊥
+refused_or_stamped : (token : Pkcs7) (before after : SignedData) (e : TimestampError) → RefusesTokenStamp (signer_infos_of token) before.signers_infos e → IsStampedBy token before after → ⊥
 refused_or_stamped token before after errors.TimestampTokenEmpty refused is =
     let s = is.stamped in
-    none_stamped (signers_of token) before.signers_infos s.signer s.countersigns.signer s.others s.countersigns.others refused s.first s.countersigns.first
+    none_stamped (signer_infos_of token) before.signers_infos s.signer s.countersigns.signer s.others s.countersigns.others refused s.first s.countersigns.first
 refused_or_stamped token before after (errors.Asn1DerError e) refused is =
-    written_once (signers_of token) is.stamped.stamp refused.1.0 refused.1.1 refused.1.3 is.stamped.countersigns
+    written_once (signer_infos_of token) is.stamped.stamp refused.1.0 refused.1.1 refused.1.3 is.stamped.countersigns
 refused_or_stamped token before after (errors.Pkcs7Error e) refused is = refused
 refused_or_stamped token before after errors.Memory refused is = refused
 
 pub one_token_outcome : (token : Pkcs7) (before : SignedData) (e : TimestampError) (outcome : Result SignedData TimestampError) → token_modifies token before (Err e) → token_modifies token before outcome → outcome ≡ Err e
 one_token_outcome token before e (Ok after) refused is = absurd (refused_or_stamped token before after e refused is)
-one_token_outcome token before e (Err f) refused also = ap Err (one_refusal (signers_of token) before.signers_infos e f refused also)
+one_token_outcome token before e (Err f) refused also = ap Err (one_refusal (signer_infos_of token) before.signers_infos e f refused also)

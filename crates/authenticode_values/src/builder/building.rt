@@ -16,7 +16,7 @@ ghost use Rattle.x509_types.specs.Attribute.{attribute};
 ghost use Rattle.x509_types.specs.CertificateElements.{CertificateElements};
 ghost use Rattle.x509_core.specs.Steps.{AreTaken, IsFirstUntaken, RefusesBySteps};
 ghost use Rattle.authenticode_values.specs.BuilderParts.{given_of};
-ghost use Rattle.authenticode_values.specs.Building.{HasGiven, IsBuiltSignature, IsBuiltOf, IsNamedFirst, IsSigner, attributes_by, attributes_in, building_steps, content_by, element_step, given_step, given_steps, key_step, message_in, named_step, parts_by, purpose_step, steps_of, supported_step, unsigned_in};
+ghost use Rattle.authenticode_values.specs.Building.{HasGiven, IsBuiltSignature, IsBuiltOf, IsNamedFirst, IsSigner, attributes_by, attributes_in, building_steps, content_by, element_step, part_step, part_steps, key_step, message_in, named_step, parts_by, purpose_step, steps_of, supported_step, unsigned_in};
 ghost use Rattle.making_core.specs.Carried.{AreWithoutRoots};
 ghost use Rattle.making_core.specs.MadeSignature.{attributes_element, signature_made};
 ghost use Rattle.making_core.specs.SignedProgram.{IsSignature};
@@ -99,8 +99,8 @@ impl AuthenticodeSignatureBuilder<'_> {
     /// What has to be given.
     fn given(&self) -> Result<Parts<'_>, AuthenticodeSignatureBuilderError>
         ensures { MatchResult result
-            (λ parts. HasGiven self.now (given_of parts) × AreTaken (given_steps self.now) × (hash_of parts.hash ≡ parts.algorithm))
-            (IsFirstUntaken (given_steps self.now)) }
+            (λ parts. HasGiven self.now (given_of parts) × AreTaken (part_steps self.now) × (hash_of parts.hash ≡ parts.algorithm))
+            (IsFirstUntaken (part_steps self.now)) }
     {
         let (hash, algorithm) = self.supported()?;
         let Some(content) = &self.content_info else {
@@ -127,7 +127,7 @@ impl AuthenticodeSignatureBuilder<'_> {
 
     /// The digest algorithm, which isn't SHA-224, with its variant.
     fn supported(&self) -> Result<(ShaVariant, HashAlgorithm), AuthenticodeSignatureBuilderError>
-        ensures { let steps = given_step errors.MissingDigestAlgorithm self.now.digest_algorithm ∷ supported_step self.now.digest_algorithm ∷ [] in MatchResult result
+        ensures { let steps = part_step errors.MissingDigestAlgorithm self.now.digest_algorithm ∷ supported_step self.now.digest_algorithm ∷ [] in MatchResult result
             (λ known. (self.now.digest_algorithm ≡ Some known.1) × (hash_of known.0 ≡ known.1) × AreTaken steps)
             (IsFirstUntaken steps) }
     {

@@ -6,7 +6,7 @@ use Rattle.der_core.specs.Encoding.{IsWellFormed, AreWellFormed}
 use Rattle.der_core.specs.Structure.{Fits, BeginsOtherwise}
 use Rattle.der_core.specs.Facts.Fields.{IsField, split}
 use Rattle.der_core.specs.Facts.Grammars.{same_fields}
-use Rattle.cms_types.specs.SignedAttributes.{AreSignedAttributes}
+use Rattle.x509_types.specs.Attribute.{AreAttributes}
 use Rattle.cms_types.specs.SignerElements.{SignerElements, signer_of}
 use Rattle.cms_types.specs.SignedDataElements.{SignedDataElements, signed_data_of}
 use Rattle.cms_types.specs.Levels.{OfOption, IsConstructed, IsAlgorithm, AreSignerFields, AreSignedDataFields}
@@ -41,7 +41,7 @@ pub record IsTold (f : SignerElements) : Type 0 where
   pub signed_attrs : OfOption (λ e. tag_of e ≡ 0xA0) f.signed_attrs
   pub signature_algorithm : tag_of f.signature_algorithm ≢ 0xA0
 
-signed_tagged : (a : Option DerElement) → OfOption (Fits AreSignedAttributes) a → OfOption (λ e. tag_of e ≡ 0xA0) a
+signed_tagged : (a : Option DerElement) → OfOption (Fits AreAttributes) a → OfOption (λ e. tag_of e ≡ 0xA0) a
 signed_tagged None fits = tt
 signed_tagged (Some x) fits = ap tag_of fits.1.holds
 

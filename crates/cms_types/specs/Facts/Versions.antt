@@ -3,7 +3,7 @@ use Rattle.std.proofs.Common.{◌≡◌, ℕ, [], refl, sym, ap, ◌∙◌, arit
 use Rattle.std.specs.Prelude.{◌==◌, if◌then◌else◌}
 use Rattle.der_core.specs.Structure.{IsGrammar}
 use Rattle.der_core.specs.Facts.Grammars.{printed}
-use Rattle.cms_types.specs.CmsVersion.{cms_version, version_number}
+use Rattle.cms_types.specs.CmsVersion.{cms_version, cms_version_number}
 use Rattle.cms_types.specs.declared.version.CmsVersion.{CmsVersion}
 use Rattle.cms_types.specs.declared.version.CmsVersion.TheVariants as named
 
@@ -16,7 +16,7 @@ version_of number =
     else (if number == 4 then named.V4
     else named.V5))))
 
-of_number : (value : CmsVersion) → version_of (version_number value) ≡ value
+of_number : (value : CmsVersion) → version_of (cms_version_number value) ≡ value
 of_number named.V0 = refl
 of_number named.V1 = refl
 of_number named.V2 = refl
@@ -25,7 +25,7 @@ of_number named.V4 = refl
 of_number named.V5 = refl
 
 -- a version is told by its number
-pub same_version : (a b : CmsVersion) → version_number a ≡ version_number b → a ≡ b
+pub same_version : (a b : CmsVersion) → cms_version_number a ≡ cms_version_number b → a ≡ b
 same_version a b e = sym (of_number a) ∙ ap version_of e ∙ of_number b
 
 pub versions_once : (a b : CmsVersion) → cms_version a ≡ cms_version b → a ≡ b

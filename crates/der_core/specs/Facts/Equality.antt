@@ -2,7 +2,7 @@
 use Rattle.std.specs.Prelude.{◌≡◌, ◌↔◌, IsTrue, Bool, true, false, Option, Some, None, List, [], ◌∷◌, bytes_eq, refl}
 use Rattle.std.proofs.Common.{ap, sym, ◌∙◌}
 use Rattle.std.specs.Option.{option_eq}
-use Rattle.std.specs.Cmp.Lexicographic.{pointwise}
+use Rattle.std.specs.Cmp.Lexicographic.{pointwise, nat_list_eq_equiv}
 use Rattle.std.proofs.lemmas.Slice.Eq.{bytes_eq-Decides}
 use Rattle.std.proofs.lemmas.Bool.{and_parts, and_from}
 use Rattle.der_core.specs.DerElement.{DerElement}
@@ -10,6 +10,8 @@ use Rattle.der_core.specs.Encoding.{encoding, IsWellFormed}
 use Rattle.der_core.specs.Kept.{KeptElement}
 use Rattle.der_core.specs.Facts.Fronts.{formed_encoding_once}
 use Rattle.der_core.specs.Facts.Kept.{same_encoded, same_kept}
+use Rattle.std.specs.Cmp.{IsPartialEquivalence, IsEquivalence, on_per, on_equiv, partial_equiv_from_equiv}
+use Rattle.der_core.specs.Equality.{same_octets}
 
 -- tests that hold in the same cases are the same
 pub same_tests : {P : Type 0} (a b : Bool) → (IsTrue a ↔ P) → (IsTrue b ↔ P) → a ≡ b
@@ -71,3 +73,13 @@ pub kept_same : (a b : KeptElement) → IsTrue (bytes_eq (encoding a.element) (e
 kept_same a b =
     let decides = bytes_eq-Decides (encoding a.element) (encoding b.element) in
     (λ t. same_kept a b (same_encoded a.element b.element a.der b.der (decides.0 t)), λ e. decides.1 (ap (λ (k : KeptElement). encoding k.element) e))
+
+-- ---- the comparison by octets is one of equals
+
+-- it goes both ways, and on from one to the next
+abbrev pub same_octets_per : {X : Type 0} (written : X → DerElement) → IsPartialEquivalence (same_octets written)
+same_octets_per written = on_per (λ value. encoding (written value)) (partial_equiv_from_equiv nat_list_eq_equiv)
+
+-- and it holds of a value and itself
+abbrev pub same_octets_equiv : {X : Type 0} (written : X → DerElement) → IsEquivalence (same_octets written)
+same_octets_equiv written = on_equiv (λ value. encoding (written value)) nat_list_eq_equiv

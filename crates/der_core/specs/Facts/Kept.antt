@@ -5,14 +5,14 @@ use Rattle.std.proofs.Common.{sym, ap, subst, ◌∙◌}
 use mathlib.Core.HLevel.{Σ_prop_path}
 use base.Stored.{Coded}
 use Rattle.der_core.specs.DerElement.{DerElement}
-use Rattle.der_core.specs.Encoding.{encoding, IsDer}
+use Rattle.der_core.specs.Encoding.{encoding, IsDer, most_levels}
 use Rattle.der_core.specs.Kept.{KeptElement, IsKept, Kept}
 use Rattle.der_core.specs.Facts.Codes.{stored, stored_inj}
 use Rattle.der_core.specs.Facts.Fronts.{fronts}
 use Rattle.der_core.specs.Facts.InBounds.{octets-set, IsDerWithin-prop}
 
 IsKept-prop : (octets : List ℕ) (element : DerElement) → IsProp (IsKept octets element)
-IsKept-prop octets element = ×_prop (IsDerWithin-prop 64 element) (octets-set octets (encoding element))
+IsKept-prop octets element = ×_prop (IsDerWithin-prop most_levels element) (octets-set octets (encoding element))
 
 -- octets are the encoding of one element in bounds at most
 pub same_encoded : (a b : DerElement) → IsDer a → IsDer b → encoding a ≡ encoding b → a ≡ b
@@ -25,7 +25,7 @@ abbrev kept_of : (element : DerElement) → IsDer element → KeptElement
 kept_of element der = record { element = element; der = der }
 
 pub same_kept : (a b : KeptElement) → a.element ≡ b.element → a ≡ b
-same_kept a b e = subst (λ (x : DerElement). (h : IsDer x) → a ≡ kept_of x h) e (λ h. ap (kept_of a.element) (IsDerWithin-prop 64 a.element a.der h)) b.der
+same_kept a b e = subst (λ (x : DerElement). (h : IsDer x) → a ≡ kept_of x h) e (λ h. ap (kept_of a.element) (IsDerWithin-prop most_levels a.element a.der h)) b.der
 
 abbrev pub coded_kept : Coded KeptElement
 coded_kept = record { code = λ kept. stored kept.element; inj = λ a b e. same_kept a b (stored_inj a.element b.element e) }

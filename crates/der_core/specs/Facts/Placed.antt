@@ -5,17 +5,17 @@ use Rattle.std.proofs.Common.{sym, ap, ◌∙◌, arith, length-append}
 use mathlib.Core.HLevel.{Σ_prop_path}
 use Rattle.der_core.specs.DerElement.{DerElement, DerElements, Nil, Cons, Constructed, row, listed}
 use Rattle.der_core.specs.Facts.Rows.{listed-row}
-use Rattle.der_core.specs.Encoding.{encoding, encodings, IsDer, AreWellFormed, AreShort}
+use Rattle.der_core.specs.Encoding.{encoding, encodings, IsDer, AreWellFormed, AreShort, most_levels}
 use Rattle.der_core.specs.Placed.{AreDer, IsElem, HasElem, AreElems, HasElems}
 use Rattle.der_core.specs.Facts.Fronts.{fronts, same_kids}
 use Rattle.der_core.specs.Facts.InBounds.{numbers-set, octets-set, IsDerWithin-prop}
 
 pub AreDer-prop : (kids : List DerElement) → IsProp (AreDer kids)
 AreDer-prop [] = Unit-prop
-AreDer-prop (kid ∷ kids) = ×_prop (IsDerWithin-prop 64 kid) (AreDer-prop kids)
+AreDer-prop (kid ∷ kids) = ×_prop (IsDerWithin-prop most_levels kid) (AreDer-prop kids)
 
 IsElem-prop : (whole : List ℕ) (tag : ℕ) (content : List ℕ) (element : DerElement) → IsProp (IsElem whole tag content element)
-IsElem-prop whole tag content element = hlevel (IsDerWithin-prop 64 element, octets-set, numbers-set)
+IsElem-prop whole tag content element = hlevel (IsDerWithin-prop most_levels element, octets-set, numbers-set)
 
 pub HasElem-prop : (whole : List ℕ) (tag : ℕ) (content : List ℕ) → IsProp (HasElem whole tag content)
 HasElem-prop whole tag content a b =

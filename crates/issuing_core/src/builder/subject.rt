@@ -4,7 +4,8 @@ ghost use Rattle.std.specs.Prelude.{◌≡◌, [], ◌∷◌, ◌++◌, false, E
 ghost use Rattle.key_core.specs.Keys.{info_of};
 ghost use Rattle.key_core.specs.Rules.{OrMemory};
 ghost use Rattle.names_core.specs.Names.{sets_of};
-ghost use Rattle.issuing_core.specs.BuildRefusals.{Tells, no_request as request_refusal};
+ghost use Rattle.der_core.specs.Refusals.{Tells};
+ghost use Rattle.issuing_core.specs.BuildRefusals.{no_request as request_refusal};
 ghost use Rattle.issuing_core.specs.BuiltCertificate.{IsGivenSubject, IsHalfOf, IsBuiltFor, IsSubject};
 ghost use Rattle.issuing_core.specs.Building.{half_step, identifier_step, other_steps, subject_arguments, subject_steps};
 ghost use Rattle.issuing_core.specs.CsrRefusals.{IsUnsigned};

@@ -19,7 +19,7 @@ use Rattle.key_types.specs.Facts.Kinds.{one_kind}
 use Rattle.key_types.specs.declared.algorithm.AlgorithmIdentifier.{AlgorithmIdentifier}
 use Rattle.asn1_types.specs.Values.{identifier_contents}
 use Rattle.key_core.specs.KeyAlgorithm.{Names}
-use Rattle.key_core.specs.PrivateKeyVersion.{version}
+use Rattle.key_core.specs.PrivateKeyVersion.{key_version}
 use Rattle.key_core.specs.PrivateKeyValue.{private_kind, private_key}
 use Rattle.key_core.specs.PrivateKeyInfo.{private_key_info, inner_private_key, IsPrivateKeyInfo}
 use Rattle.key_core.specs.Agreement.{Agree}
@@ -31,13 +31,13 @@ use Rattle.key_core.specs.declared.private_key_version.PrivateKeyVersion.{Privat
 use Rattle.key_core.specs.declared.private_key_version.PrivateKeyVersion.TheVariants as versions
 use Rattle.key_core.specs.declared.private_key_info.PrivateKeyInfo.{PrivateKeyInfo}
 
-versions_once : (v w : PrivateKeyVersion) → version v ≡ version w → v ≡ w
+versions_once : (v w : PrivateKeyVersion) → key_version v ≡ key_version w → v ≡ w
 versions_once versions.V1 versions.V1 e = refl
 versions_once versions.V1 versions.V2 e = absurd cc
 versions_once versions.V2 versions.V1 e = absurd cc
 versions_once versions.V2 versions.V2 e = refl
 
-versions_formed : (v : PrivateKeyVersion) → IsWellFormed (version v)
+versions_formed : (v : PrivateKeyVersion) → IsWellFormed (key_version v)
 versions_formed versions.V1 = ((omega arith, omega arith, omega arith), refl)
 versions_formed versions.V2 = ((omega arith, omega arith, omega arith), refl)
 
@@ -75,7 +75,7 @@ same_info a b v algorithm key attributes public_key =
 
 pub infos_once : (a b : PrivateKeyInfo) → private_key_info a ≡ private_key_info b → a ≡ b
 infos_once a b e =
-    let parts = fields_once (version a.version) (version b.version) (algorithm_identifier a.private_key_algorithm) (algorithm_identifier b.private_key_algorithm) (encoding (private_key a.private_key)) (encoding (private_key b.private_key)) (kept_option a.attributes) (kept_option b.attributes) (option_map bit_string_contents a.public_key) (option_map bit_string_contents b.public_key) a.agree.tagged b.agree.tagged e in
+    let parts = fields_once (key_version a.version) (key_version b.version) (algorithm_identifier a.private_key_algorithm) (algorithm_identifier b.private_key_algorithm) (encoding (private_key a.private_key)) (encoding (private_key b.private_key)) (kept_option a.attributes) (kept_option b.attributes) (option_map bit_string_contents a.public_key) (option_map bit_string_contents b.public_key) a.agree.tagged b.agree.tagged e in
     let algorithm = algorithms.once (algorithm_identifier a.private_key_algorithm) a.private_key_algorithm b.private_key_algorithm refl parts.1 in
     let named : Names b.private_key_algorithm (private_kind a.private_key) = subst (λ (x : AlgorithmIdentifier). Names x (private_kind a.private_key)) algorithm a.agree.named in
     let kind = one_kind (private_kind a.private_key) (private_kind b.private_key) (identifier_contents b.private_key_algorithm.oid) named b.agree.named in

@@ -4,7 +4,7 @@ use Rattle.der_core.specs.Elements.{octet_string}
 use Rattle.der_core.specs.Encoding.{encoding, IsWellFormed}
 use Rattle.der_core.specs.Facts.Fronts.{formed_encoding_once}
 use Rattle.der_core.specs.Facts.OctetStrings.{octet_strings}
-use Rattle.key_types.specs.PublicKeyInfo.{kind_number}
+use Rattle.key_types.specs.PublicKeyInfo.{key_kind_number}
 use Rattle.private_key_types.specs.RsaPrivateKey.{rsa_private_key}
 use Rattle.private_key_types.specs.ECPrivateKey.{ec_private_key}
 use Rattle.private_key_types.specs.Facts.RsaPrivateKeys.{rsa_private_keys}
@@ -34,7 +34,7 @@ keys_once (values.Ed x) (values.Ec y) kind e = absurd cc
 pub keys_by_encoding : (x y : PrivateKeyValue) → private_kind x ≡ private_kind y → encoding (private_key x) ≡ encoding (private_key y) → x ≡ y
 keys_by_encoding x y kind e = keys_once x y kind (formed_encoding_once (private_key x) (private_key y) (keys_formed x) (keys_formed y) e)
 
-one_number : (x y : PrivateKeyValue) → kind_number (private_kind x) ≡ kind_number (private_kind y) → private_kind x ≡ private_kind y
+one_number : (x y : PrivateKeyValue) → key_kind_number (private_kind x) ≡ key_kind_number (private_kind y) → private_kind x ≡ private_kind y
 one_number (values.Rsa x) (values.Rsa y) e = refl
 one_number (values.Ec x) (values.Ec y) e = refl
 one_number (values.Ed x) (values.Ed y) e = refl
@@ -47,6 +47,6 @@ one_number (values.Ed x) (values.Ec y) e = absurd cc
 
 pub keys_by_octets : (a b : PrivateKeyValue) → private_key_octets a ≡ private_key_octets b → a ≡ b
 keys_by_octets a b e =
-    let number : kind_number (private_kind a) ≡ kind_number (private_kind b) = cc in
+    let number : key_kind_number (private_kind a) ≡ key_kind_number (private_kind b) = cc in
     let octets : encoding (private_key a) ≡ encoding (private_key b) = cc in
     keys_by_encoding a b (one_number a b number) octets

@@ -10,7 +10,7 @@ ghost use Rattle.der_core.specs.declared.fault.DerFault.{DerFault};
 ghost use Rattle.key_types.specs.declared.key_kind.KeyKind.TheVariants as kinds;
 ghost use Rattle.private_key_types.specs.RsaPrivateKey.{rsa_private_key};
 ghost use Rattle.private_key_types.specs.declared.rsa_private_key.RsaPrivateKey.{RsaPrivateKey};
-ghost use Rattle.key_core.specs.KeyRefusals.{IsUnread, IsUnwritten};
+ghost use Rattle.key_core.specs.KeyRefusals.{IsUnreadKey, IsUnwrittenKey};
 ghost use Rattle.key_core.specs.PrivateKeyValue.{private_kind};
 ghost use Rattle.key_core.specs.PrivatePkcs1.{IsRsaContainer, IsRsaPrivateKey, IsPrivatePkcs1, IsPkcs1OfPrivate, RefusesPrivatePkcs1};
 ghost use Rattle.key_core.specs.declared.element.Element.TheVariants as elements;
@@ -37,7 +37,7 @@ impl PrivateKey {
     pub fn from_pkcs1(alloc: Global, der: &[u8]) -> Result<PrivateKey, KeyError>
         ensures answer { MatchResult result
             (IsPrivatePkcs1 der.now)
-            (IsUnread elements.RsaPrivateKey (RefusesOctets IsRsaPrivateKey der.now)) }
+            (IsUnreadKey elements.RsaPrivateKey (RefusesOctets IsRsaPrivateKey der.now)) }
         // Octets with a fault are refused with it, whatever memory there is.
         ensures faulty { (at : ℕ) (fault : DerFault) → IsExactFault der.now at fault
             → result ≡ Err (errors.Asn1Deserialization elements.RsaPrivateKey (der_errors.Malformed (record { at = at; fault = fault }))) }
@@ -90,7 +90,7 @@ fn rsa_container(alloc: Global, key: RsaPrivateKey) -> Result<PrivateKeyInfo, Al
 fn written(alloc: Global, key: &RsaPrivateKey) -> Result<Vec<u8>, KeyError>
     ensures { MatchResult result
         (λ octets. (octets.items ≡ encoding (rsa_private_key key.now)) × IsDer (rsa_private_key key.now))
-        (IsUnwritten elements.RsaPrivateKey (RefusesInner (rsa_private_key key.now ∷ []))) }
+        (IsUnwrittenKey elements.RsaPrivateKey (RefusesInner (rsa_private_key key.now ∷ []))) }
 {
     match key.to_der(alloc) {
         Ok(octets) => Ok(octets),

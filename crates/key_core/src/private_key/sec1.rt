@@ -14,7 +14,7 @@ ghost use Rattle.der_core.specs.declared.fault.DerFault.{DerFault};
 ghost use Rattle.private_key_types.specs.declared.ec_private_key.ECPrivateKey.{ECPrivateKey};
 ghost use Rattle.key_core.specs.CurveKeys.{IsECPrivateKey, IsCurveKey, RefusesCurveKey, IsSec1Key, IsSec1KeyOn, IsSec1KeyOnKnown, RefusesSec1, RefusesOwnCurve, RefusesKnownCurve};
 ghost use Rattle.key_core.specs.DerivedKeys.{IsEcRefusal};
-ghost use Rattle.key_core.specs.KeyRefusals.{IsUnread};
+ghost use Rattle.key_core.specs.KeyRefusals.{IsUnreadKey};
 ghost use Rattle.key_core.specs.declared.element.Element.TheVariants as elements;
 ghost use Rattle.key_core.specs.declared.error.KeyContext.TheVariants as contexts;
 ghost use Rattle.key_core.specs.declared.error.KeyError.TheVariants as errors;
@@ -110,7 +110,7 @@ impl PrivateKey {
 fn read(alloc: Global, der: &[u8]) -> Result<ECPrivateKey, KeyError>
     ensures answer { MatchResult result
         (IsWithin IsECPrivateKey der.now)
-        (IsUnread elements.EcPrivateKey (RefusesOctets IsECPrivateKey der.now)) }
+        (IsUnreadKey elements.EcPrivateKey (RefusesOctets IsECPrivateKey der.now)) }
     ensures faulty { (at : ℕ) (fault : DerFault) → IsExactFault der.now at fault
         → result ≡ Err (errors.Asn1Deserialization elements.EcPrivateKey (der_errors.Malformed (record { at = at; fault = fault }))) }
     ensures shapeless { (element : DerElement) → IsDer element → der.now ≡ encoding element → ((key : ECPrivateKey) → IsECPrivateKey element key → ⊥)

@@ -8,10 +8,10 @@ ghost use Rattle.der_core.specs.Refusals.{RefusesOctets, RefusesInner};
 ghost use Rattle.der_core.specs.declared.error.DerError.TheVariants as der_errors;
 ghost use Rattle.der_core.specs.declared.fault.DerFault.{DerFault};
 ghost use Rattle.key_types.specs.RsaPublicKey.{rsa_public_key};
-ghost use Rattle.key_types.specs.SubjectKey.{kind_of};
+ghost use Rattle.key_types.specs.SubjectKey.{kind_of_key};
 ghost use Rattle.key_types.specs.declared.key_kind.KeyKind.TheVariants as kinds;
 ghost use Rattle.key_types.specs.declared.public_key.RsaPublicKey.{RsaPublicKey};
-ghost use Rattle.key_core.specs.KeyRefusals.{IsUnread, IsUnwritten};
+ghost use Rattle.key_core.specs.KeyRefusals.{IsUnreadKey, IsUnwrittenKey};
 ghost use Rattle.key_core.specs.Pkcs1.{IsRsaPublicKey, IsPkcs1Key, IsPkcs1Of, RefusesPkcs1};
 ghost use Rattle.key_core.specs.declared.element.Element.TheVariants as elements;
 ghost use Rattle.key_core.specs.declared.error.KeyContext.TheVariants as contexts;
@@ -31,7 +31,7 @@ impl PublicKey {
     pub fn from_pkcs1(alloc: Global, der: &[u8]) -> Result<PublicKey, KeyError>
         ensures answer { MatchResult result
             (λ key. IsPkcs1Key der.now key.info)
-            (IsUnread elements.RsaPublicKey (RefusesOctets IsRsaPublicKey der.now)) }
+            (IsUnreadKey elements.RsaPublicKey (RefusesOctets IsRsaPublicKey der.now)) }
         // Octets with a fault are refused with it, whatever memory there is.
         ensures faulty { (at : ℕ) (fault : DerFault) → IsExactFault der.now at fault
             → result ≡ Err (errors.Asn1Deserialization elements.RsaPublicKey (der_errors.Malformed (record { at = at; fault = fault }))) }
@@ -54,7 +54,7 @@ impl PublicKey {
             (λ octets. IsPkcs1Of self.now.info.subject_public_key octets.items)
             (RefusesPkcs1 self.now.info.subject_public_key) }
         // A key of another kind is refused, whatever memory there is.
-        ensures refused { kind_of self.now.info.subject_public_key ≢ kinds.Rsa → result ≡ Err (errors.Rsa contexts.NotRsa) }
+        ensures refused { kind_of_key self.now.info.subject_public_key ≢ kinds.Rsa → result ≡ Err (errors.Rsa contexts.NotRsa) }
     {
         match &self.info.subject_public_key {
             SubjectKey::Rsa(key) => written(alloc, key),
@@ -69,7 +69,7 @@ impl PublicKey {
 fn written(alloc: Global, key: &RsaPublicKey) -> Result<Vec<u8>, KeyError>
     ensures { MatchResult result
         (λ octets. (octets.items ≡ encoding (rsa_public_key key.now)) × IsDer (rsa_public_key key.now))
-        (IsUnwritten elements.RsaPublicKey (RefusesInner (rsa_public_key key.now ∷ []))) }
+        (IsUnwrittenKey elements.RsaPublicKey (RefusesInner (rsa_public_key key.now ∷ []))) }
 {
     match key.to_der(alloc) {
         Ok(octets) => Ok(octets),

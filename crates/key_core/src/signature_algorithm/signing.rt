@@ -3,12 +3,12 @@
 ghost use Rattle.std.specs.Prelude.{◌≡◌, ◌≢◌, [], ◌∷◌, ℕ, List, length, true, false, Some, Err, IfOk, MatchResult};
 ghost use Rattle.asn1_types.specs.Values.{payload_of};
 ghost use Rattle.key_types.specs.declared.key_info.SubjectPublicKeyInfo.{SubjectPublicKeyInfo};
-ghost use Rattle.sig_core.specs.Algorithm.{kind_of};
+ghost use Rattle.sig_core.specs.Algorithm.{kind_of_algorithm};
 ghost use Rattle.sig_core.specs.declared.scheme.Verdict.TheVariants as verdicts;
 ghost use Rattle.key_core.specs.PrivatePkcs1.{IsPkcs1OfPrivate};
 ghost use Rattle.key_core.specs.SchemeNames.{curve_for};
 ghost use Rattle.key_core.specs.Rules.{IsFirstBroken, OrMemory};
-ghost use Rattle.key_core.specs.SignatureRules.{RefusesBy};
+ghost use Rattle.key_core.specs.SignatureRules.{RefusesSignatureBy};
 ghost use Rattle.key_core.specs.Signing.{FitsSecret, IsAsked, IsKeyPair, IsEd25519Secret, HasCurveOf, NotRsaSecret, UnwritableSecret, UnknownCurveOf, UnpairedSecret, secret_rules, sign_rules, scheme_refused};
 ghost use Rattle.key_core.specs.Verifying.{Accepts};
 ghost use Rattle.key_core.specs.declared.ec_curve.EcCurve.{EcCurve};
@@ -44,7 +44,7 @@ impl SignatureAlgorithm {
     ) -> Result<Vec<u8>, SignatureError>
         ensures signed { MatchResult result
             (λ _. IsAsked (S.signs scheme.now) self private_key.now msg.now true)
-            (RefusesBy (sign_rules (S.signs scheme.now) self private_key.now msg.now)) }
+            (RefusesSignatureBy (sign_rules (S.signs scheme.now) self private_key.now msg.now)) }
         // What is made is accepted under each public key of the pair.
         ensures accepted { IfOk result (λ sig. (info : SubjectPublicKeyInfo) → IsKeyPair (S.pair scheme.now) private_key.now info
             → Accepts (S.judge scheme.now) self info msg.now sig.items) }
@@ -82,7 +82,7 @@ impl SignatureAlgorithm {
         ensures signed { MatchResult result
             (λ _. S.signs scheme.now alg secret.now msg.now ≡ true)
             (OrMemory errors.Memory (λ e. (S.signs scheme.now alg secret.now msg.now ≡ false) × (e ≡ scheme_refused self))) }
-        ensures accepted { IfOk result (λ sig. (key : List ℕ) → S.pair scheme.now (kind_of alg) key secret.now
+        ensures accepted { IfOk result (λ sig. (key : List ℕ) → S.pair scheme.now (kind_of_algorithm alg) key secret.now
             → S.judge scheme.now alg key msg.now sig.items ≡ verdicts.Accept) }
     {
         match scheme.sign(alloc, alg, secret, msg) {
@@ -109,7 +109,7 @@ impl SignatureAlgorithm {
 fn rsa_secret(alloc: Global, private_key: &PrivateKey) -> Result<Vec<u8>, SignatureError>
     ensures answer { MatchResult result
         (λ secret. IsPkcs1OfPrivate private_key.now.info.private_key secret.items)
-        (RefusesBy (NotRsaSecret private_key.now ∷ UnwritableSecret private_key.now ∷ [])) }
+        (RefusesSignatureBy (NotRsaSecret private_key.now ∷ UnwritableSecret private_key.now ∷ [])) }
     ensures refused { (e : SignatureError) → NotRsaSecret private_key.now e → result ≡ Err e }
 {
     Ok(private_key.to_pkcs1(alloc)?)

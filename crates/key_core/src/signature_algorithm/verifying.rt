@@ -2,7 +2,7 @@
 
 ghost use Rattle.std.specs.Prelude.{◌≡◌, ◌≢◌, ℕ, List, [], ◌∷◌, ◌++◌, length, Some, Err, MatchOption, MatchResult};
 ghost use Rattle.asn1_types.specs.Values.{payload_of};
-ghost use Rattle.key_types.specs.SubjectKey.{kind_of};
+ghost use Rattle.key_types.specs.SubjectKey.{kind_of_key};
 ghost use Rattle.key_types.specs.declared.key_info.SubjectPublicKeyInfo.{SubjectPublicKeyInfo};
 ghost use Rattle.key_types.specs.declared.key_kind.KeyKind.TheVariants as kinds;
 ghost use Rattle.key_types.specs.declared.public_key.RsaPublicKey.{RsaPublicKey};
@@ -10,7 +10,7 @@ ghost use Rattle.key_types.specs.declared.subject_key.SubjectKey.TheVariants as 
 ghost use Rattle.key_core.specs.Pkcs1.{IsPkcs1Of};
 ghost use Rattle.key_core.specs.SchemeNames.{curve_for, ecdsa_alg};
 ghost use Rattle.key_core.specs.Rules.{IsFirstBroken};
-ghost use Rattle.key_core.specs.SignatureRules.{RefusesBy};
+ghost use Rattle.key_core.specs.SignatureRules.{RefusesSignatureBy};
 ghost use Rattle.key_core.specs.Verifying.{Accepts, Judge, FitsKey, IsJudged, NamesCurve, IsOnCurve, IsEd25519Key, NotRsa, Unwritable, UnknownCurve, UnknownHash, Unpaired, key_rules, verify_rules, malformed};
 ghost use Rattle.key_core.specs.declared.ec_curve.EcCurve.{EcCurve};
 ghost use Rattle.key_core.specs.declared.signature_algorithm.SignatureAlgorithm.TheVariants as algorithms;
@@ -49,7 +49,7 @@ impl SignatureAlgorithm {
     ) -> Result<(), SignatureError>
         ensures answer { MatchResult result
             (λ _. Accepts (S.judge scheme.now) self public_key.now.info msg.now signature.now)
-            (RefusesBy (verify_rules (S.judge scheme.now) self public_key.now.info msg.now signature.now)) }
+            (RefusesSignatureBy (verify_rules (S.judge scheme.now) self public_key.now.info msg.now signature.now)) }
         // A key that isn't one for the algorithm is refused, whatever memory there is.
         ensures refused { (e : SignatureError) → IsFirstBroken (key_rules self public_key.now.info) e → result ≡ Err e }
     {
@@ -72,7 +72,7 @@ impl SignatureAlgorithm {
         requires { (key : RsaPublicKey) → public_key.now.info.subject_public_key ≡ keys.Rsa key → IsPkcs1Of (keys.Rsa key) octets.now }
         ensures answer { MatchResult result
             (λ _. Accepts (S.judge scheme.now) self public_key.now.info msg.now signature.now)
-            (RefusesBy (verify_rules (S.judge scheme.now) self public_key.now.info msg.now signature.now)) }
+            (RefusesSignatureBy (verify_rules (S.judge scheme.now) self public_key.now.info msg.now signature.now)) }
         ensures refused { (e : SignatureError) → IsFirstBroken (key_rules self public_key.now.info) e → result ≡ Err e }
     {
         let verdict = self.verdict_by(alloc, public_key, octets, msg, signature, scheme)?;
@@ -92,7 +92,7 @@ impl SignatureAlgorithm {
         requires { (key : RsaPublicKey) → public_key.now.info.subject_public_key ≡ keys.Rsa key → IsPkcs1Of (keys.Rsa key) octets.now }
         ensures answer { MatchResult result
             (IsJudged (S.judge scheme.now) self public_key.now.info msg.now signature.now)
-            (RefusesBy (key_rules self public_key.now.info ++ Unwritable public_key.now.info ∷ [])) }
+            (RefusesSignatureBy (key_rules self public_key.now.info ++ Unwritable public_key.now.info ∷ [])) }
         ensures refused { (e : SignatureError) → IsFirstBroken (key_rules self public_key.now.info) e → result ≡ Err e }
     {
         let SignatureAlgorithm::RsaPkcs1v15(hash) = self else {
@@ -113,7 +113,7 @@ impl SignatureAlgorithm {
     ) -> Result<Verdict, SignatureError>
         ensures answer { MatchResult result
             (IsJudged (S.judge scheme.now) self public_key.now.info msg.now signature.now)
-            (RefusesBy (key_rules self public_key.now.info ++ Unwritable public_key.now.info ∷ [])) }
+            (RefusesSignatureBy (key_rules self public_key.now.info ++ Unwritable public_key.now.info ∷ [])) }
         ensures refused { (e : SignatureError) → IsFirstBroken (key_rules self public_key.now.info) e → result ≡ Err e }
     {
         match self {
@@ -136,7 +136,7 @@ impl SignatureAlgorithm {
     fn told(self, verdict: Verdict) -> Result<(), SignatureError>
         ensures { (judge : Judge) (info : SubjectPublicKeyInfo) (msg sig : List ℕ) → IsJudged judge self info msg sig verdict → MatchResult result
             (λ _. Accepts judge self info msg sig)
-            (RefusesBy (verify_rules judge self info msg sig)) }
+            (RefusesSignatureBy (verify_rules judge self info msg sig)) }
     {
         match verdict {
             Verdict::Accept => Ok(()),
@@ -162,7 +162,7 @@ impl SignatureAlgorithm {
 fn rsa_bytes(alloc: Global, public_key: &PublicKey) -> Result<Vec<u8>, SignatureError>
     ensures answer { MatchResult result
         (λ bytes. IsPkcs1Of public_key.now.info.subject_public_key bytes.items)
-        (RefusesBy (NotRsa public_key.now.info ∷ Unwritable public_key.now.info ∷ [])) }
+        (RefusesSignatureBy (NotRsa public_key.now.info ∷ Unwritable public_key.now.info ∷ [])) }
     ensures refused { (e : SignatureError) → NotRsa public_key.now.info e → result ≡ Err e }
 {
     expect_rsa(public_key)?;
@@ -172,7 +172,7 @@ fn rsa_bytes(alloc: Global, public_key: &PublicKey) -> Result<Vec<u8>, Signature
 /// The key is one of RSA.
 fn expect_rsa(public_key: &PublicKey) -> Result<(), SignatureError>
     ensures { MatchResult result
-        (λ _. kind_of public_key.now.info.subject_public_key ≡ kinds.Rsa)
+        (λ _. kind_of_key public_key.now.info.subject_public_key ≡ kinds.Rsa)
         (NotRsa public_key.now.info) }
 {
     let kind = public_key.kind();

@@ -7,7 +7,7 @@ use Rattle.der_core.specs.Encoding.{encoding, IsWellFormed, AreWellFormed}
 use Rattle.der_core.specs.DerElement.{row}
 use Rattle.der_core.specs.Structure.{IsGrammar}
 use Rattle.der_core.specs.Facts.Fronts.{formed_encoding_once}
-use Rattle.der_core.specs.Facts.Grammars.{AreDer-append, AreDer-front, AreDer-back, lists, same_fields}
+use Rattle.der_core.specs.Facts.Grammars.{AreDer-append, AreDer-front, AreDer-back, same_fields}
 use Rattle.asn1_types.specs.Elements.{bit_string}
 use Rattle.asn1_types.specs.Facts.Elements.{bit_strings}
 use Rattle.asn1_types.specs.declared.bit_string.BitString.{BitString}
@@ -18,23 +18,18 @@ use Rattle.key_types.specs.PublicKeyInfo.{inner_key, public_key_info, IsPublicKe
 use Rattle.key_types.specs.Facts.Algorithms.{algorithms}
 use Rattle.key_types.specs.Facts.Keys.{public_key_infos, infos_once}
 use Rattle.key_types.specs.declared.algorithm.AlgorithmIdentifier.{AlgorithmIdentifier}
-use Rattle.x509_types.specs.Attribute.{attribute, IsAttribute}
-use Rattle.x509_types.specs.AttributeValues.{inner_values}
+use Rattle.x509_types.specs.Attribute.{AreAttributes, attribute_list, inner_attributes}
 use Rattle.der_core.specs.Optional.{SpellsOption, inner_option}
 use Rattle.request_types.specs.RequestElements.{request_version, request_info_of}
-use Rattle.request_types.specs.RequestInfo.{AreAttributes, attribute_list, inner_attributes, asked_of, IsRequestInfo, request_info, inner_request, request_info_octets}
+use Rattle.request_types.specs.RequestInfo.{asked_of, IsRequestInfo, request_info, inner_request, request_info_octets}
 use Rattle.request_types.specs.CertificationRequest.{IsRequest, request, inner_of_request, request_octets}
-use Rattle.x509_types.specs.Facts.Attributes.{attributes}
+use Rattle.x509_types.specs.Facts.Attributes.{attribute_lists}
 use Rattle.x509_types.specs.Facts.Certificates.{same_three}
 use Rattle.der_core.specs.Facts.Optional.{option_once, option_bounded, option_spelled, option_formed, kept_once, IsFormedOption}
 use Rattle.request_types.specs.Facts.ToldAttributes.{attribute_options_told, small_asked_of}
 use Rattle.x509_types.specs.Facts.ToldExtensions.{split_before}
-use Rattle.x509_types.specs.declared.attribute.Attribute.{Attribute}
 use Rattle.request_types.specs.declared.request_info.CertificationRequestInfo.{CertificationRequestInfo}
 use Rattle.request_types.specs.declared.request.CertificationRequest.{CertificationRequest}
-
-pub attribute_lists : IsGrammar AreAttributes attribute_list inner_attributes
-attribute_lists = lists 0xA0 IsAttribute attribute (λ (a : Attribute). inner_values a.value) (omega arith, omega arith, omega arith) refl attributes
 
 -- an element has its fields once
 pub request_fields : (s k t l : DerElement) (a b : Option DerElement) → request_info_of s k a ≡ request_info_of t l b → (s ≡ t) × (k ≡ l) × (a ≡ b)

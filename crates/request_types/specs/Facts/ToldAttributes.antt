@@ -7,8 +7,8 @@ use Rattle.der_core.specs.Facts.Rows.{listed-row}
 use Rattle.x509_types.specs.Extension.{extension}
 use Rattle.x509_types.specs.TbsCertificate.{extensions}
 use Rattle.x509_types.specs.AttributeValues.{kind_of_values, attribute_values, asked_kinds}
-use Rattle.x509_types.specs.Attribute.{attribute}
-use Rattle.request_types.specs.RequestInfo.{attribute_list, asked_of}
+use Rattle.x509_types.specs.Attribute.{attribute, attribute_list}
+use Rattle.request_types.specs.RequestInfo.{asked_of}
 use Rattle.x509_types.specs.Facts.ToldExtensions.{number_of, AreSmall}
 use Rattle.x509_types.specs.Facts.ToldRequests.{kinds_of, split_kinds, same_members, small_append}
 use Rattle.x509_types.specs.Facts.AttributeLists.{small_asked}

@@ -12,7 +12,7 @@ use Rattle.der_core.specs.Encoding.{length_octets, framed, encoding}
 use Rattle.der_core.specs.Placed.{contents_octets}
 use Rattle.der_core.specs.Facts.Fronts.{length_again}
 use Rattle.der_core.specs.Head.{length_at}
-use Rattle.sig_core.specs.RsaSecret.{RsaNumbers, rsa_private_key, IsRsaSecret}
+use Rattle.sig_core.specs.RsaSecret.{RsaNumbers, rsa_private_element, IsRsaSecret}
 
 -- octets begin with a tag, the length of contents, and these
 record Begins (tag : ℕ) (octets : List ℕ) : Type 0 where
@@ -117,7 +117,7 @@ numbers_of contents i = record {
   coefficient = i.2.2.2.2.2.2.2.2.0.contents;
 }
 
-contents_written : (contents : List ℕ) (i : Integers 9 contents) → i.0.contents ≡ 0 ∷ [] → contents ≡ contents_octets (rsa_private_key (numbers_of contents i))
+contents_written : (contents : List ℕ) (i : Integers 9 contents) → i.0.contents ≡ 0 ∷ [] → contents ≡ contents_octets (rsa_private_element (numbers_of contents i))
 contents_written contents i version =
     as_written 9 contents i ∙ ap (λ (v : List ℕ). framed 2 v ++ written 8 i.0.rest i.2) version
 
@@ -147,10 +147,10 @@ made secret b none i version =
 
 abbrev begun : (secret : List ℕ) → IsRsaSecret secret → Begins 0x30 secret
 begun secret s = record {
-  contents = contents_octets (rsa_private_key s.numbers);
+  contents = contents_octets (rsa_private_element s.numbers);
   rest = [];
   short = s.der.short.0;
-  parts = s.encoded ∙ sym (append-nil (encoding (rsa_private_key s.numbers)));
+  parts = s.encoded ∙ sym (append-nil (encoding (rsa_private_element s.numbers)));
 }
 
 abbrev begun_integer : (contents rest : List ℕ) → length contents < 2 ^ 32 → Begins 2 (framed 2 contents ++ rest)

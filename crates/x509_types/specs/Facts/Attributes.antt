@@ -5,13 +5,14 @@ use Rattle.der_core.specs.Elements.{sequence}
 use Rattle.der_core.specs.Encoding.{encoding, IsWellFormed}
 use Rattle.der_core.specs.Structure.{IsGrammar}
 use Rattle.der_core.specs.Facts.Fronts.{formed_encoding_once}
+use Rattle.der_core.specs.Facts.Grammars.{lists}
 use Rattle.asn1_types.specs.Values.{identifier_contents}
 use Rattle.asn1_types.specs.Elements.{object_identifier}
 use Rattle.asn1_types.specs.Facts.Elements.{identifiers}
 use Rattle.asn1_types.specs.declared.oid.ObjectIdentifier.{ObjectIdentifier}
 use Rattle.x509_types.specs.AttributeKind.{named_attribute}
 use Rattle.x509_types.specs.AttributeValues.{kind_of_values, attribute_values, AreAttributeValues, inner_values, asked_kinds}
-use Rattle.x509_types.specs.Attribute.{attribute, attribute_octets, IsAttribute}
+use Rattle.x509_types.specs.Attribute.{attribute, attribute_list, attribute_octets, inner_attributes, AreAttributes, IsAttribute}
 use Rattle.x509_types.specs.Facts.AttributeKinds.{same_attribute_kinds}
 use Rattle.x509_types.specs.Facts.AttributeLists.{values_once, values_bounded, values_spelled, values_formed, values_told, small_asked}
 use Rattle.x509_types.specs.Facts.ToldExtensions.{split_before}
@@ -61,6 +62,10 @@ attributes = record {
   spelled = λ a der. record { values = attribute_values a.value; is = refl; spelled = values_spelled a.value der };
   formed = attributes_formed;
 }
+
+-- attributes in a set are so, too
+pub attribute_lists : IsGrammar AreAttributes attribute_list inner_attributes
+attribute_lists = lists 0xA0 IsAttribute attribute (λ (a : Attribute). inner_values a.value) (omega arith, omega arith, omega arith) refl attributes
 
 pub attributes_by_octets : (a b : Attribute) → attribute_octets a ≡ attribute_octets b → a ≡ b
 attributes_by_octets a b e =

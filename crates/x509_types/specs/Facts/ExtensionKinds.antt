@@ -3,7 +3,7 @@ use Rattle.std.specs.Prelude.{◌≡◌, ℕ, ◌==◌, if◌then◌else◌, ref
 use Rattle.std.specs.Coded.{Coded-set}
 use Rattle.std.proofs.Common.{sym, ap, ◌∙◌}
 use base.Stored.{Coded, gnum, num}
-use Rattle.x509_types.specs.ExtensionKind.{kind_number}
+use Rattle.x509_types.specs.ExtensionKind.{extension_kind_number}
 use Rattle.x509_types.specs.declared.extension_kind.ExtensionKind.{ExtensionKind}
 use Rattle.x509_types.specs.declared.extension_kind.ExtensionKind.TheVariants as kinds
 
@@ -18,7 +18,7 @@ kind_at number =
     else (if number == 6 then kinds.ExtendedKeyUsage
     else kinds.Other))))))
 
-kind_of_number : (kind : ExtensionKind) → kind_at (kind_number kind) ≡ kind
+kind_of_number : (kind : ExtensionKind) → kind_at (extension_kind_number kind) ≡ kind
 kind_of_number kinds.SubjectKeyIdentifier = refl
 kind_of_number kinds.KeyUsage = refl
 kind_of_number kinds.SubjectAltName = refl
@@ -30,12 +30,12 @@ kind_of_number kinds.Other = refl
 
 abbrev coded_kind : Coded ExtensionKind
 coded_kind = record {
-  code = λ kind. gnum (kind_number kind);
+  code = λ kind. gnum (extension_kind_number kind);
   inj = λ a b e. sym (kind_of_number a) ∙ ap (λ v. kind_at (num v)) e ∙ kind_of_number b;
 }
 
 pub same_kinds : (a b : ExtensionKind) → IsProp (a ≡ b)
 same_kinds a b = Coded-set coded_kind a b
 
-pub kinds_by_number : (a b : ExtensionKind) → kind_number a ≡ kind_number b → a ≡ b
+pub kinds_by_number : (a b : ExtensionKind) → extension_kind_number a ≡ extension_kind_number b → a ≡ b
 kinds_by_number a b e = sym (kind_of_number a) ∙ ap kind_at e ∙ kind_of_number b

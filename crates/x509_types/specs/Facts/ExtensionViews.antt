@@ -20,8 +20,8 @@ use Rattle.x509_values.specs.Facts.AuthorityKeys.{authority_key_identifiers}
 use Rattle.x509_values.specs.declared.key_usage.KeyUsage.{KeyUsage}
 use Rattle.x509_values.specs.declared.authority_key_identifier.AuthorityKeyIdentifier.{AuthorityKeyIdentifier}
 use Rattle.x509_values.specs.declared.extended_key_usage.ExtendedKeyUsage.{ExtendedKeyUsage}
-use Rattle.x509_types.specs.ExtensionKind.{kind_number}
-use Rattle.x509_types.specs.ExtensionView.{kind_of, key_identifier, value_octets, inner_value, view_octets, IsValueIn, HoldsNoNames, MayBeKept, IsOfKind, IsValueOf}
+use Rattle.x509_types.specs.ExtensionKind.{extension_kind_number}
+use Rattle.x509_types.specs.ExtensionView.{kind_of_view, key_identifier, value_octets, inner_value, view_octets, IsValueIn, HoldsNoNames, MayBeKept, IsOfKind, IsValueOf}
 use Rattle.x509_types.specs.Facts.ExtensionKinds.{same_kinds, kinds_by_number}
 use Rattle.x509_types.specs.declared.extension_kind.ExtensionKind.{ExtensionKind}
 use Rattle.x509_types.specs.declared.extension_kind.ExtensionKind.TheVariants as kinds
@@ -131,7 +131,7 @@ IsWrittenAs kinds.AuthorityKeyIdentifier octets view = IsHeld views.AuthorityKey
 IsWrittenAs kinds.ExtendedKeyUsage octets view = IsHeld views.ExtendedKeyUsage (IsEncoded extended_key_usage) octets view
 IsWrittenAs kinds.Other octets view = view ≡ views.Raw octets
 
-written_as : (view : ExtensionView) → IsWrittenAs (kind_of view) (value_octets view) view
+written_as : (view : ExtensionView) → IsWrittenAs (kind_of_view view) (value_octets view) view
 written_as (views.SubjectKeyIdentifier x) = (x, refl, refl)
 written_as (views.KeyUsage x) = (x, refl, refl)
 written_as (views.SubjectAltName x) = (x, refl, refl)
@@ -151,16 +151,16 @@ written_once kinds.AuthorityKeyIdentifier octets a b p q = p.1 ∙ ap views.Auth
 written_once kinds.ExtendedKeyUsage octets a b p q = p.1 ∙ ap views.ExtendedKeyUsage (printed_once extended_key_usage extended_key_usages p.0 q.0 (sym p.2 ∙ q.2)) ∙ sym q.1
 written_once kinds.Other octets a b p q = p ∙ sym q
 
-pub values_by_octets : (a b : ExtensionView) → kind_of a ≡ kind_of b → value_octets a ≡ value_octets b → a ≡ b
+pub values_by_octets : (a b : ExtensionView) → kind_of_view a ≡ kind_of_view b → value_octets a ≡ value_octets b → a ≡ b
 values_by_octets a b kind octets =
-    written_once (kind_of b) (value_octets b) a b
-    (subst (λ (o : List ℕ). IsWrittenAs (kind_of b) o a) octets (subst (λ (k : ExtensionKind). IsWrittenAs k (value_octets a) a) kind (written_as a))) (written_as b)
+    written_once (kind_of_view b) (value_octets b) a b
+    (subst (λ (o : List ℕ). IsWrittenAs (kind_of_view b) o a) octets (subst (λ (k : ExtensionKind). IsWrittenAs k (value_octets a) a) kind (written_as a))) (written_as b)
 
 pub views_by_octets : (a b : ExtensionView) → view_octets a ≡ view_octets b → a ≡ b
 views_by_octets a b e =
-    let numbers : kind_number (kind_of a) ≡ kind_number (kind_of b) = cc in
+    let numbers : extension_kind_number (kind_of_view a) ≡ extension_kind_number (kind_of_view b) = cc in
     let octets : value_octets a ≡ value_octets b = cc in
-    values_by_octets a b (kinds_by_number (kind_of a) (kind_of b) numbers) octets
+    values_by_octets a b (kinds_by_number (kind_of_view a) (kind_of_view b) numbers) octets
 
 -- ---- what is written for a value holds it
 

@@ -15,8 +15,8 @@ use Rattle.asn1_types.specs.Facts.Elements.{identifiers}
 use Rattle.asn1_types.specs.declared.oid.ObjectIdentifier.{ObjectIdentifier}
 use Rattle.der_core.specs.Default.{default_false}
 use Rattle.x509_types.specs.ExtensionFields.{IsExtensionOf}
-use Rattle.x509_types.specs.ExtensionKind.{kind_number, named_kind}
-use Rattle.x509_types.specs.ExtensionView.{kind_of, value_octets, inner_value, IsOfKind, IsValueIn}
+use Rattle.x509_types.specs.ExtensionKind.{extension_kind_number, named_kind}
+use Rattle.x509_types.specs.ExtensionView.{kind_of_view, value_octets, inner_value, IsOfKind, IsValueIn}
 use Rattle.x509_types.specs.Extension.{extension, extension_octets, IsExtension}
 use Rattle.der_core.specs.Facts.Grammars.{same_fields}
 use Rattle.der_core.specs.Facts.Fields.{split}
@@ -66,7 +66,7 @@ pub written_fields : (e : Extension) → IsExtensionOf (extension e) (object_ide
 written_fields e = record { flag = default_false e.critical; flagged = default_is e.critical; is = refl }
 
 -- extensions with one element and values of one kind are the same
-pub extensions_told : (a b : Extension) → kind_of a.extn_value ≡ kind_of b.extn_value → extension a ≡ extension b → a ≡ b
+pub extensions_told : (a b : Extension) → kind_of_view a.extn_value ≡ kind_of_view b.extn_value → extension a ≡ extension b → a ≡ b
 extensions_told a b kind e =
     let fields = fields_once (extension b) (object_identifier a.extn_id) (object_identifier b.extn_id) a.critical b.critical (value_octets a.extn_value) (value_octets b.extn_value)
     (subst (λ (x : DerElement). IsExtensionOf x (object_identifier a.extn_id) a.critical (value_octets a.extn_value)) e (written_fields a)) (written_fields b) in
@@ -89,9 +89,9 @@ all_extensions = record {
 
 pub extensions_by_octets : (a b : Extension) → extension_octets a ≡ extension_octets b → a ≡ b
 extensions_by_octets a b e =
-    let numbers : kind_number (kind_of a.extn_value) ≡ kind_number (kind_of b.extn_value) = cc in
+    let numbers : extension_kind_number (kind_of_view a.extn_value) ≡ extension_kind_number (kind_of_view b.extn_value) = cc in
     let octets : encoding (extension a) ≡ encoding (extension b) = cc in
-    extensions_told a b (kinds_by_number (kind_of a.extn_value) (kind_of b.extn_value) numbers) (formed_encoding_once (extension a) (extension b) (extensions_formed a) (extensions_formed b) octets)
+    extensions_told a b (kinds_by_number (kind_of_view a.extn_value) (kind_of_view b.extn_value) numbers) (formed_encoding_once (extension a) (extension b) (extensions_formed a) (extensions_formed b) octets)
 
 -- A test that holds exactly where two values are the same is that of their octets, where these can be written.
 pub writable_decide : {X : Type 0} (spells : DerElement → X → Type 0) (written : X → DerElement) (inner : X → List DerElement) → IsGrammar spells written inner

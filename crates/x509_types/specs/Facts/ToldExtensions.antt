@@ -8,8 +8,8 @@ use Rattle.der_core.specs.Encoding.{encoding}
 use Rattle.der_core.specs.Each.{list_element}
 use Rattle.der_core.specs.Facts.Equality.{same_tests}
 use Rattle.der_core.specs.Facts.Grammars.{same_fields}
-use Rattle.x509_types.specs.ExtensionKind.{kind_number}
-use Rattle.x509_types.specs.ExtensionView.{kind_of}
+use Rattle.x509_types.specs.ExtensionKind.{extension_kind_number}
+use Rattle.x509_types.specs.ExtensionView.{kind_of_view}
 use Rattle.x509_types.specs.Extension.{extension, value_kinds}
 use Rattle.x509_types.specs.Facts.ExtensionKinds.{kinds_by_number}
 use Rattle.x509_types.specs.Facts.Extensions.{extensions_told}
@@ -20,7 +20,7 @@ use Rattle.x509_types.specs.declared.extension_kind.ExtensionKind.TheVariants as
 -- ---- extensions by their kinds and elements
 
 abbrev pub number_of : Extension → ℕ
-number_of e = kind_number (kind_of e.extn_value)
+number_of e = extension_kind_number (kind_of_view e.extn_value)
 
 pub lists_told : (a b : List Extension) → map number_of a ≡ map number_of b → map extension a ≡ map extension b → a ≡ b
 lists_told [] [] k e = refl
@@ -31,7 +31,7 @@ lists_told (x ∷ a) (y ∷ b) k e =
     let kinds : map number_of a ≡ map number_of b = cc in
     let first : extension x ≡ extension y = cc in
     let others : map extension a ≡ map extension b = cc in
-    ap (λ v. v ∷ a) (extensions_told x y (kinds_by_number (kind_of x.extn_value) (kind_of y.extn_value) kind) first) ∙ ap (λ vs. y ∷ vs) (lists_told a b kinds others)
+    ap (λ v. v ∷ a) (extensions_told x y (kinds_by_number (kind_of_view x.extn_value) (kind_of_view y.extn_value) kind) first) ∙ ap (λ vs. y ∷ vs) (lists_told a b kinds others)
 
 pub options_told : (a b : Option (List Extension)) → value_kinds a ≡ value_kinds b → option_map (list_element 0x30 extension) a ≡ option_map (list_element 0x30 extension) b → a ≡ b
 options_told None None k e = refl
@@ -47,7 +47,7 @@ abbrev pub AreSmall : List ℕ → Type 0
 AreSmall [] = ⊤
 AreSmall (k ∷ ks) = (k < 48) × AreSmall ks
 
-small_kind : (kind : ExtensionKind) → kind_number kind < 48
+small_kind : (kind : ExtensionKind) → extension_kind_number kind < 48
 small_kind kinds.SubjectKeyIdentifier = omega arith
 small_kind kinds.KeyUsage = omega arith
 small_kind kinds.SubjectAltName = omega arith
@@ -59,7 +59,7 @@ small_kind kinds.Other = omega arith
 
 pub small_list : (es : List Extension) → AreSmall (map number_of es)
 small_list [] = tt
-small_list (e ∷ es) = (small_kind (kind_of e.extn_value), small_list es)
+small_list (e ∷ es) = (small_kind (kind_of_view e.extn_value), small_list es)
 
 small_kinds : (es : Option (List Extension)) → AreSmall (value_kinds es)
 small_kinds None = tt

@@ -2,7 +2,7 @@ use Rattle.std.proofs.Common.{inl, inr, subst}
 use Rattle.std.proofs.lemmas.Bool.{iff_false}
 use Rattle.std.proofs.lemmas.Result.{err_from_is_err_and}
 use Rattle.cms_types.specs.SignedDataElements.{SignedDataElements}
-use Rattle.cms_types.specs.SignedView.{view_elements as data_elements}
+use Rattle.cms_types.specs.SignedView.{data_elements}
 use Rattle.x509_types.specs.CertificateView.{view_elements}
 use Rattle.authenticode_core.specs.Excuses.{IsForStamping}
 use Rattle.authenticode_core.proofs.StampSteps.{told_or_memory}

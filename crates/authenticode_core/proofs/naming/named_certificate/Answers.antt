@@ -1,5 +1,5 @@
 use Rattle.std.proofs.Common.{Option, sym, subst}
-use Rattle.cms_types.specs.SignedView.{view_elements as data_elements}
+use Rattle.cms_types.specs.SignedView.{data_elements}
 use Rattle.der_core.specs.DerElement.{DerElement}
 use Rattle.x509_types.specs.CertificateView.{view_elements}
 use Rattle.authenticode_core.specs.CertificateBag.{IsBag, members_of}

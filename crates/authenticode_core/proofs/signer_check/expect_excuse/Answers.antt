@@ -1,7 +1,7 @@
 use Rattle.std.proofs.Common.{◌⊎◌, ◌≡◌, refl, sym, subst}
 use Rattle.std.proofs.lemmas.Bool.{false≢true}
 use Rattle.std.proofs.lemmas.Result.{err_from_is_err_and}
-use Rattle.cms_types.specs.SignedView.{view_elements as data_elements}
+use Rattle.cms_types.specs.SignedView.{data_elements}
 use Rattle.x509_types.specs.CertificateElements.{CertificateElements}
 use Rattle.authenticode_core.specs.Excuses.{HasBadStamp, HasNoExcuse, IsExcused}
 use Rattle.authenticode_core.specs.declared.error.AuthenticodeError.TheVariants as errors

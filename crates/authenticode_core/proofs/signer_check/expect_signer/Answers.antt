@@ -1,6 +1,6 @@
 use Rattle.std.proofs.Common.{subst}
 use Rattle.std.proofs.lemmas.Result.{err_from_is_err_and}
-use Rattle.cms_types.specs.SignedView.{view_elements as data_elements}
+use Rattle.cms_types.specs.SignedView.{data_elements}
 use Rattle.cms_types.specs.SignerView.{signer_elements_at}
 use Rattle.x509_core.specs.Chain.{IsDated, LacksDate}
 use Rattle.x509_core.specs.declared.validator.ChainChecks.{ChainChecks}

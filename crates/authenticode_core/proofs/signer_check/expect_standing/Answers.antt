@@ -1,6 +1,6 @@
 use Rattle.std.proofs.Common.{refl, subst}
 use Rattle.std.proofs.lemmas.Result.{err_from_is_err_and}
-use Rattle.cms_types.specs.SignedView.{view_elements as data_elements}
+use Rattle.cms_types.specs.SignedView.{data_elements}
 use Rattle.x509_core.specs.Link.{IsOutside}
 use Rattle.x509_core.specs.Rules.{Breaks}
 use Rattle.x509_core.specs.Window.{IsWithinWindow}

@@ -1,8 +1,8 @@
 use Rattle.std.proofs.Common.{Err, ap, refl, ◌∙◌}
 use Rattle.std.proofs.lemmas.Result.{err_from_is_err_and}
-use Rattle.cms_types.specs.SignedView.{view_elements}
+use Rattle.cms_types.specs.SignedView.{data_elements}
 use Rattle.authenticode_core.proofs.FormFields.{fields_of_view}
-use Rattle.x509_core.proofs.OneAnswer.{no_refusal}
+use Rattle.x509_core.proofs.NoRefusal.{no_refusal}
 use Rattle.authenticode_core.proofs.PolicyOrder.{basic_refuses, signer_or_not, told_same, without_signer}
 use Rattle.authenticode_core.proofs.steps.check_signed_data.Goals as goal
 
@@ -15,7 +15,7 @@ expect_signer-requires g c = (c.requires.value.signed_data, fields_of_view c.arg
 pub returns-in_err-signer-clause-answer : goal.returns-in_err-signer-clause-answer
 returns-in_err-signer-clause-answer g c =
     let p = err_from_is_err_and c.from_residual.result c.from_residual.ensures.1 in
-    rw (p.1, p.2) (basic_refuses (g.S.Scheme.judge c.args.scheme.now) c.args.policy.now (view_elements c.args.signed_data.now) c.in_err-signer.field-0.0 c.in_err-signer.ensures.answer)
+    rw (p.1, p.2) (basic_refuses (g.S.Scheme.judge c.args.scheme.now) c.args.policy.now (data_elements c.args.signed_data.now) c.in_err-signer.field-0.0 c.in_err-signer.ensures.answer)
 
 pub returns-in_err-signer-clause-shape : goal.returns-in_err-signer-clause-shape
 returns-in_err-signer-clause-shape g c = λ e broken.
@@ -24,14 +24,14 @@ returns-in_err-signer-clause-shape g c = λ e broken.
 
 pub returns-then-policy-clause-answer : goal.returns-then-policy-clause-answer
 returns-then-policy-clause-answer g c =
-    signer_or_not (g.S.Scheme.judge c.args.scheme.now) c.args.policy.now (view_elements c.args.signed_data.now) c.in_ok-signer.signer c.in_ok-signer.ensures.answer c.if-policy.true c.expect_signer.result c.expect_signer.ensures
+    signer_or_not (g.S.Scheme.judge c.args.scheme.now) c.args.policy.now (data_elements c.args.signed_data.now) c.in_ok-signer.signer c.in_ok-signer.ensures.answer c.if-policy.true c.expect_signer.result c.expect_signer.ensures
 
 pub returns-then-policy-clause-shape : goal.returns-then-policy-clause-shape
 returns-then-policy-clause-shape g c = λ e broken. absurd (no_refusal c.in_ok-signer.signer e (c.in_ok-signer.ensures.shape e broken))
 
 pub returns-clause-answer : goal.returns-clause-answer
 returns-clause-answer g c =
-    without_signer (g.S.Scheme.judge c.args.scheme.now) c.args.policy.now (view_elements c.args.signed_data.now) c.in_ok-signer.signer c.new.result c.in_ok-signer.ensures.answer c.if-policy.false c.new.ensures
+    without_signer (g.S.Scheme.judge c.args.scheme.now) c.args.policy.now (data_elements c.args.signed_data.now) c.in_ok-signer.signer c.new.result c.in_ok-signer.ensures.answer c.if-policy.false c.new.ensures
 
 pub returns-clause-shape : goal.returns-clause-shape
 returns-clause-shape g c = λ e broken. absurd (no_refusal c.in_ok-signer.signer e (c.in_ok-signer.ensures.shape e broken))

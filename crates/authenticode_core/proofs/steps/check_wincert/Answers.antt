@@ -1,10 +1,10 @@
 use Rattle.std.proofs.Common.{Err, Ok, ap, ◌∙◌, refl}
 use Rattle.std.proofs.lemmas.Result.{err_from_is_err_and}
-use Rattle.cms_types.specs.SignedView.{view_elements}
+use Rattle.cms_types.specs.SignedView.{data_elements}
 use Rattle.authenticode_core.specs.ContentRefusal.{told_of_content}
 use Rattle.authenticode_core.proofs.OneAnswer.{answer_at, only_at, refusal_is_answer, refused_at, refused_behind, shape_is_answer, value_refuses}
 use Rattle.authenticode_core.proofs.OneData.{lies_there}
-use Rattle.x509_core.proofs.OneAnswer.{no_refusal}
+use Rattle.x509_core.proofs.NoRefusal.{no_refusal}
 use Rattle.authenticode_core.proofs.PolicyOrder.{told_same}
 use Rattle.authenticode_core.proofs.steps.check_wincert.Goals as goal
 
@@ -31,13 +31,13 @@ returns-in_err-accepted-clause-answer g c =
     let p = err_from_is_err_and c.from_residual-in_err-accepted.result c.from_residual-in_err-accepted.ensures.1 in
     let has = lies_there c.args.bytes.now c.in_ok-elem.elem.is.0 c.in_ok-elem.signed_data c.in_ok-elem.ensures in
     answer_at c.one_first_fault.ensures.at_most_one c.one_first_fault.ensures.instead_of_an_element (g.S.Scheme.judge c.args.scheme.now) c.args.policy.now c.args.bytes.now c.from_residual-in_err-accepted.result _ (p.1 ∙ ap Err p.2)
-    (refusal_is_answer (g.S.Scheme.judge c.args.scheme.now) c.args.policy.now c.args.bytes.now (view_elements c.in_ok-elem.signed_data) c.in_err-accepted.field-0.0 has c.in_err-accepted.ensures.answer)
+    (refusal_is_answer (g.S.Scheme.judge c.args.scheme.now) c.args.policy.now c.args.bytes.now (data_elements c.in_ok-elem.signed_data) c.in_err-accepted.field-0.0 has c.in_err-accepted.ensures.answer)
 
 pub returns-in_err-accepted-clause-refused : goal.returns-in_err-accepted-clause-refused
 returns-in_err-accepted-clause-refused g c =
     let p = err_from_is_err_and c.from_residual-in_err-accepted.result c.from_residual-in_err-accepted.ensures.1 in
     let has = lies_there c.args.bytes.now c.in_ok-elem.elem.is.0 c.in_ok-elem.signed_data c.in_ok-elem.ensures in
-    refused_behind c.one_first_fault.ensures.at_most_one c.one_first_fault.ensures.instead_of_an_element (g.S.Scheme.judge c.args.scheme.now) c.args.policy.now c.args.bytes.now c.from_residual-in_err-accepted.result (view_elements c.in_ok-elem.signed_data) (Err c.in_err-accepted.field-0.0) has
+    refused_behind c.one_first_fault.ensures.at_most_one c.one_first_fault.ensures.instead_of_an_element (g.S.Scheme.judge c.args.scheme.now) c.args.policy.now c.args.bytes.now c.from_residual-in_err-accepted.result (data_elements c.in_ok-elem.signed_data) (Err c.in_err-accepted.field-0.0) has
     c.in_err-accepted.ensures.shape (λ x same. p.1 ∙ ap Err (p.2 ∙ ap told_of_content (told_same (Err c.in_err-accepted.field-0.0) c.in_err-accepted.field-0.0 x refl same)))
 
 pub returns-in_err-accepted-clause-only : goal.returns-in_err-accepted-clause-only
@@ -45,17 +45,17 @@ returns-in_err-accepted-clause-only g c =
     let p = err_from_is_err_and c.from_residual-in_err-accepted.result c.from_residual-in_err-accepted.ensures.1 in
     let has = lies_there c.args.bytes.now c.in_ok-elem.elem.is.0 c.in_ok-elem.signed_data c.in_ok-elem.ensures in
     only_at c.one_first_fault.ensures.at_most_one c.one_first_fault.ensures.instead_of_an_element (g.S.Scheme.judge c.args.scheme.now) c.args.policy.now c.args.bytes.now c.from_residual-in_err-accepted.result _ (p.1 ∙ ap Err p.2)
-    (refusal_is_answer (g.S.Scheme.judge c.args.scheme.now) c.args.policy.now c.args.bytes.now (view_elements c.in_ok-elem.signed_data) c.in_err-accepted.field-0.0 has c.in_err-accepted.ensures.answer)
+    (refusal_is_answer (g.S.Scheme.judge c.args.scheme.now) c.args.policy.now c.args.bytes.now (data_elements c.in_ok-elem.signed_data) c.in_err-accepted.field-0.0 has c.in_err-accepted.ensures.answer)
 
 pub returns-clause-answer : goal.returns-clause-answer
 returns-clause-answer g c =
     let has = lies_there c.args.bytes.now c.in_ok-elem.elem.is.0 c.in_ok-elem.signed_data c.in_ok-elem.ensures in
-    (view_elements c.in_ok-elem.signed_data, has, c.in_ok-accepted.ensures.answer)
+    (data_elements c.in_ok-elem.signed_data, has, c.in_ok-accepted.ensures.answer)
 
 pub returns-clause-refused : goal.returns-clause-refused
 returns-clause-refused g c =
     let has = lies_there c.args.bytes.now c.in_ok-elem.elem.is.0 c.in_ok-elem.signed_data c.in_ok-elem.ensures in
-    refused_behind c.one_first_fault.ensures.at_most_one c.one_first_fault.ensures.instead_of_an_element (g.S.Scheme.judge c.args.scheme.now) c.args.policy.now c.args.bytes.now (Ok c.in_ok-accepted.accepted) (view_elements c.in_ok-elem.signed_data) (Ok c.in_ok-accepted.accepted) has
+    refused_behind c.one_first_fault.ensures.at_most_one c.one_first_fault.ensures.instead_of_an_element (g.S.Scheme.judge c.args.scheme.now) c.args.policy.now c.args.bytes.now (Ok c.in_ok-accepted.accepted) (data_elements c.in_ok-elem.signed_data) (Ok c.in_ok-accepted.accepted) has
     c.in_ok-accepted.ensures.shape (λ x same. absurd (no_refusal c.in_ok-accepted.accepted x same))
 
 pub returns-clause-only : goal.returns-clause-only

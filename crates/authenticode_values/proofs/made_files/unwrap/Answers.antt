@@ -1,6 +1,6 @@
 use Rattle.std.proofs.Common.{Err, ap}
 use Rattle.wincert_core.specs.Refusal.{contents_in}
-use Rattle.x509_core.proofs.OneAnswer.{no_refusal}
+use Rattle.x509_core.proofs.NoRefusal.{no_refusal}
 use Rattle.authenticode_values.proofs.ReadFiles.{told_as, told_so}
 use Rattle.authenticode_values.proofs.made_files.unwrap.Goals as goal
 

@@ -6,6 +6,6 @@ use Rattle.authenticode_values.specs.Making.{name_step}
 use Rattle.authenticode_values.proofs.MadeSteps.{bad_name}
 use Rattle.authenticode_values.proofs.making.opus_for.Goals as goal
 
-pub returns-in-Err : goal.returns-in-Err
-returns-in-Err c =
-    subst (RefusesBySteps errors.Memory (name_step (option_copied c.args.name) ∷ [])) (sym c.from.ensures) (bad_name (option_copied c.args.name) c.in-Err.source c.in-Err.ensures)
+pub returns-in-Err-clause-answer : goal.returns-in-Err-clause-answer
+returns-in-Err-clause-answer c =
+    subst (RefusesBySteps errors.Memory (name_step (option_copied c.args.name) ∷ [])) (sym c.from.ensures) (bad_name (option_copied c.args.name) c.in-Err.source c.in-Err.ensures.answer)

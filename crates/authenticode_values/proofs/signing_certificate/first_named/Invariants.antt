@@ -1,6 +1,6 @@
 use Rattle.making_core.specs.Carried.{elements_of}
 use Rattle.authenticode_core.specs.Places.{HoldsOfNone}
-use Rattle.authenticode_values.specs.SigningCertificate.{HasIssuerAndSerial}
+use Rattle.authenticode_core.specs.BagSigner.{HasIssuerAndSerial}
 use Rattle.authenticode_values.proofs.signing_certificate.first_named.Given as goal
 
 -- none of the certificates that were passed is named

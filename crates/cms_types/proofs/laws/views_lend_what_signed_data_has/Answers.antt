@@ -2,7 +2,7 @@ use Rattle.std.proofs.Common.{◌≡◌, sym, ◌∙◌}
 use Rattle.cms_types.specs.Pkcs7Elements.{pkcs7_of}
 use Rattle.cms_types.specs.SignedData.{signed_data_elements}
 use Rattle.cms_types.specs.SignedDataElements.{SignedDataElements, signed_data_of}
-use Rattle.cms_types.specs.SignedView.{view_elements}
+use Rattle.cms_types.specs.SignedView.{data_elements}
 use Rattle.cms_types.specs.SignerInfo.{signer_elements}
 use Rattle.cms_types.specs.SignerView.{signer_elements_at}
 use Rattle.cms_types.specs.Facts.SignedDatas.{told_value}
@@ -16,7 +16,7 @@ inside f g e = cc
 pub returns : goal.returns
 returns c = record {
   signed = λ element view value lent is.
-      let f = view_elements view in
+      let f = data_elements view in
       let g = signed_data_elements value.signed_data in
       same_data f g (told_data f lent.fields) (told_value value.signed_data) (inside f g (sym lent.is ∙ is));
   signers = λ element view value lent is.

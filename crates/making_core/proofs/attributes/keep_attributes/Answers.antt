@@ -3,8 +3,7 @@ use Rattle.std.proofs.lemmas.Result.{err_from_is_err_and}
 use Rattle.der_core.specs.DerElement.{DerElement}
 use Rattle.der_core.specs.Writing.{RefusesToWrite}
 use Rattle.der_core.proofs.Inner.{refuses_alone, refuses_before, refuses_last}
-use Rattle.x509_types.specs.Attribute.{attribute}
-use Rattle.making_core.specs.MadeAttributes.{inner_attributes}
+use Rattle.x509_types.specs.Attribute.{attribute, inner_attributes}
 use Rattle.making_core.specs.MadeSignature.{attributes_element}
 use Rattle.making_core.proofs.KeptAttributes.{kept_or_refused}
 use Rattle.making_core.proofs.attributes.keep_attributes.Goals as goal

@@ -5,7 +5,7 @@ use Rattle.key_core.specs.Verifying.{Judge}
 use Rattle.x509_core.specs.Chain.{YieldsParents, IsAccepted, chain_rules, lent}
 use Rattle.x509_core.specs.Checks.{checks_at}
 use Rattle.x509_core.specs.KeptCertificate.{KeptCertificate}
-use Rattle.x509_core.specs.Rules.{RefusesBy}
+use Rattle.x509_core.specs.Rules.{RefusesCertBy}
 use Rattle.x509_core.specs.declared.error.CertError.{CertError}
 use Rattle.x509_core.specs.declared.validator.ChainChecks.{ChainChecks}
 use Rattle.x509_core.specs.declared.window.DateCheck.TheVariants as dates
@@ -13,11 +13,11 @@ use Rattle.picky_check.proofs.chain.accept.Goals as goal
 
 -- the answer is that by the checks and about the certificate that were set
 answer_of : {T : Type 0} (judge : Judge) (given : Option (List KeptCertificate)) (a b : ChainChecks) (x y : KeptCertificate) (r : Result T CertError) → a ≡ b → x ≡ y
-    → MatchResult r (λ _. IsAccepted judge a x given) (RefusesBy (chain_rules judge a x given))
-    → MatchResult r (λ _. IsAccepted judge b y given) (RefusesBy (chain_rules judge b y given))
+    → MatchResult r (λ _. IsAccepted judge a x given) (RefusesCertBy (chain_rules judge a x given))
+    → MatchResult r (λ _. IsAccepted judge b y given) (RefusesCertBy (chain_rules judge b y given))
 answer_of judge given a b x y r checks certificate h =
-    subst (λ (c : ChainChecks). MatchResult r (λ _. IsAccepted judge c y given) (RefusesBy (chain_rules judge c y given))) checks
-    (subst (λ (k : KeptCertificate). MatchResult r (λ _. IsAccepted judge a k given) (RefusesBy (chain_rules judge a k given))) certificate h)
+    subst (λ (c : ChainChecks). MatchResult r (λ _. IsAccepted judge c y given) (RefusesCertBy (chain_rules judge c y given))) checks
+    (subst (λ (k : KeptCertificate). MatchResult r (λ _. IsAccepted judge a k given) (RefusesCertBy (chain_rules judge a k given))) certificate h)
 
 -- the iterator that was set, over these in their order, gives them
 given_by : (chain : Option (Iter KeptCertificate)) (iterator : Iter KeptCertificate) (parents : List KeptCertificate)

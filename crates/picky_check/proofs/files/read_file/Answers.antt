@@ -1,8 +1,9 @@
-use Rattle.std.proofs.Common.{◌≡◌, ◌<◌, length, drop, ◌+◌, ℕ, subst, ap, ◌∙◌, arith}
+use Rattle.std.proofs.Common.{◌≡◌, Err, ◌<◌, length, drop, ◌+◌, ℕ, subst, ap, ◌∙◌, arith}
+use Rattle.std.proofs.lemmas.Result.{err_from_is_err_and}
 use Rattle.std.proofs.lemmas.List.{take-append-le, length-take, length-take-le, length-append, length-drop, length-replicate}
 use Rattle.picky_check.specs.Counts.{RisesBy}
-use Rattle.picky_check.proofs.Reading.{reads_nothing, reads_more, reads_all, reads_too_much, rises_more, goes_further, has_risen_since}
 use Rattle.picky_check.proofs.Failing.{failed_as, failed_then, none_failed, stands}
+use Rattle.picky_check.proofs.Reading.{reads_nothing, reads_more, reads_all, reads_too_much, rises_more, goes_further, has_risen_since}
 use Rattle.picky_check.proofs.files.read_file.Goals as goal
 
 pub loop-piece-init : goal.loop-piece-init
@@ -14,8 +15,8 @@ loop-piece-init g c =
       read = λ told. rw none (reads_nothing _ _ _ (c.in_ok-pick.ensures.picked told));
       given = rw none c.pick.ensures.none_given;
       counted = c.pick.ensures.counted;
-      same = c.pick.ensures.same;
       still = stands c.in_ok-pick.ensures.once (λ none. absurd cc);
+      same = c.pick.ensures.same;
       quiet = λ quiet has. (c.pick.ensures.quiet quiet has).1;
     }
 
@@ -28,7 +29,6 @@ returns-in_err-count-clause-no_fault g c quiet has _ = cc (c.in_err-count.ensure
 pub returns-in_err-count-clause-quiet : goal.returns-in_err-count-clause-quiet
 returns-in_err-count-clause-quiet g c quiet has = (c.read.ensures.quiet (c.loop-piece.invariant.quiet quiet has)).1
 
-pub returns-then-count-eq0-clause-whole : goal.returns-then-count-eq0-clause-whole
 pub returns-in_err-pick-clause-once : goal.returns-in_err-pick-clause-once
 returns-in_err-pick-clause-once g c =
     let p = err_from_is_err_and c.from_residual.result c.from_residual.ensures.1 in
@@ -42,6 +42,7 @@ returns-in_err-count-clause-once g c =
 pub returns-then-count-eq0-clause-once : goal.returns-then-count-eq0-clause-once
 returns-then-count-eq0-clause-once g c = none_failed (stands c.in_ok-count.ensures.once (λ none. absurd cc) ∙ c.loop-piece.invariant.still)
 
+pub returns-then-count-eq0-clause-whole : goal.returns-then-count-eq0-clause-whole
 returns-then-count-eq0-clause-whole g c = record {
   as_told = λ told.
       let read = c.loop-piece.invariant.read told in
@@ -77,21 +78,21 @@ loop-piece-preserved g c =
           rw items (reads_more _ _ _ _ _ _ _ _ read moves front);
       given = rw size (rises_more _ _ _ _ _ c.loop-piece.invariant.given c.in_ok-count.ensures.given);
       counted = goes_further _ _ _ c.loop-piece.invariant.counted c.read.ensures.counted;
-      same = c.read.ensures.same ∙ c.loop-piece.invariant.same;
       still = stands c.in_ok-count.ensures.once (λ none. absurd cc) ∙ c.loop-piece.invariant.still;
+      same = c.read.ensures.same ∙ c.loop-piece.invariant.same;
       quiet = λ quiet has. (c.read.ensures.quiet (c.loop-piece.invariant.quiet quiet has)).1;
     }
 
 pub returns-in_err-extend_from_slice-clause-quiet : goal.returns-in_err-extend_from_slice-clause-quiet
 returns-in_err-extend_from_slice-clause-quiet g c quiet has = (c.read.ensures.quiet (c.loop-piece.invariant.quiet quiet has)).1
 
-pub returns-clause-too_long : goal.returns-clause-too_long
 pub returns-in_err-extend_from_slice-clause-once : goal.returns-in_err-extend_from_slice-clause-once
 returns-in_err-extend_from_slice-clause-once g c = none_failed (stands c.in_ok-count.ensures.once (λ none. absurd cc) ∙ c.loop-piece.invariant.still)
 
 pub returns-clause-once : goal.returns-clause-once
 returns-clause-once g c = none_failed c.loop-piece.invariant.still
 
+pub returns-clause-too_long : goal.returns-clause-too_long
 returns-clause-too_long g c _ told =
     reads_too_much _ _ _ _ (c.loop-piece.invariant.read told) (omega (arith, c.loop-piece-test.false, c.len.ensures))
 

@@ -1,12 +1,12 @@
-use Rattle.std.proofs.Common.{◌∷◌, Err, ap, map, string_bytes}
+use Rattle.std.proofs.Common.{◌∷◌, Err, ap, map, string_bytes, ◌∙◌}
 use Rattle.std.proofs.lemmas.Result.{err_from_is_err_and}
 use Rattle.x509_core.proofs.NoRefusal.{one_error}
 use Rattle.picky_check.proofs.Failing.{failed_as, failed_then, none_failed, stands}
 use Rattle.picky_check.proofs.SeveralFiles.{unread_first, unread_behind}
 use Rattle.picky_check.proofs.files.read_files.Goals as goal
 
-pub returns-in_err-first : goal.returns-in_err-first
-returns-in_err-first g c =
+pub returns-in_err-first-clause-read : goal.returns-in_err-first-clause-read
+returns-in_err-first-clause-read g c =
     let p = err_from_is_err_and c.from_residual.result c.from_residual.ensures.1 in
     rw (p.1, p.2) (unread_first (g.F.Shelf.state c.args.shelf.now) (g.F.Shelf.state c.args.shelf.now) (g.F.Shelf.state c.read_file.new.shelf)
     c.args.names.now.first.now (c.args.names.now.second.now ∷ map string_bytes c.args.names.now.others.now) c.in_err-first.field-0.0
@@ -16,8 +16,8 @@ returns-in_err-first g c =
     (λ long. c.in_err-first.ensures.too_long (ap Err long))
     (λ missing. let e = c.in_err-first.ensures.missing missing in cc))
 
-pub returns-in_err-second : goal.returns-in_err-second
-returns-in_err-second g c =
+pub returns-in_err-second-clause-read : goal.returns-in_err-second-clause-read
+returns-in_err-second-clause-read g c =
     let p = err_from_is_err_and c.from_residual-in_err-second.result c.from_residual-in_err-second.ensures.1 in
     rw (p.1, p.2) (unread_behind (g.F.Shelf.state c.args.shelf.now) (g.F.Shelf.state c.read_file.new.shelf) (g.F.Shelf.state c.read_file-2.new.shelf)
     c.args.names.now.first.now (c.args.names.now.second.now ∷ map string_bytes c.args.names.now.others.now) c.in_err-second.field-0.0 c.in_ok-first.first.items
@@ -30,14 +30,14 @@ returns-in_err-second g c =
     (λ long. c.in_err-second.ensures.too_long (ap Err long))
     (λ missing. let e = c.in_err-second.ensures.missing missing in cc)))
 
-pub returns-in_err-read_on : goal.returns-in_err-read_on
-returns-in_err-read_on g c =
-    let p = err_from_is_err_and c.from_residual-in_err-read_on.result c.from_residual-in_err-read_on.ensures.1 in
-    rw (p.1, p.2) (unread_behind (g.F.Shelf.state c.args.shelf.now) (g.F.Shelf.state c.read_file.new.shelf) (g.F.Shelf.state c.read_on.new.shelf)
-    c.args.names.now.first.now (c.args.names.now.second.now ∷ map string_bytes c.args.names.now.others.now) c.in_err-read_on.field-0.0 c.in_ok-first.first.items
+pub returns-in_err-read_others-clause-read : goal.returns-in_err-read_others-clause-read
+returns-in_err-read_others-clause-read g c =
+    let p = err_from_is_err_and c.from_residual-in_err-read_others.result c.from_residual-in_err-read_others.ensures.1 in
+    rw (p.1, p.2) (unread_behind (g.F.Shelf.state c.args.shelf.now) (g.F.Shelf.state c.read_file.new.shelf) (g.F.Shelf.state c.read_others.new.shelf)
+    c.args.names.now.first.now (c.args.names.now.second.now ∷ map string_bytes c.args.names.now.others.now) c.in_err-read_others.field-0.0 c.in_ok-first.first.items
     c.in_ok-first.ensures.whole c.in_ok-first.ensures.same c.in_ok-first.ensures.quiet c.in_ok-first.ensures.counted c.in_ok-first.ensures.counted_given
-    (unread_behind (g.F.Shelf.state c.read_file.new.shelf) (g.F.Shelf.state c.read_file-2.new.shelf) (g.F.Shelf.state c.read_on.new.shelf)
-    c.args.names.now.second.now (map string_bytes c.args.names.now.others.now) c.in_err-read_on.field-0.0 c.in_ok-second.second.items
+    (unread_behind (g.F.Shelf.state c.read_file.new.shelf) (g.F.Shelf.state c.read_file-2.new.shelf) (g.F.Shelf.state c.read_others.new.shelf)
+    c.args.names.now.second.now (map string_bytes c.args.names.now.others.now) c.in_err-read_others.field-0.0 c.in_ok-second.second.items
     c.in_ok-second.ensures.whole c.in_ok-second.ensures.same c.in_ok-second.ensures.quiet c.in_ok-second.ensures.counted c.in_ok-second.ensures.counted_given
     c.in_err-read_others.ensures.unread))
 

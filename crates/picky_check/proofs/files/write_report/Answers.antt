@@ -1,8 +1,9 @@
-use Rattle.std.proofs.Common.{◌≡◌, length, subst, sym, ap, arith}
+use Rattle.std.proofs.Common.{◌≡◌, ℕ, length, refl, subst, sym, ap, ◌∙◌, arith}
 use Rattle.std.proofs.lemmas.Result.{err_from_is_err_and}
+use Rattle.authenticode_core.specs.Counts.{HasRisen}
 use Rattle.picky_check.specs.Sink.{Lowers}
-use Rattle.picky_check.proofs.Appending.{appends_nothing, appends_rest, appends_kept, lowers_nothing, lowers_more, used_up}
 use Rattle.picky_check.proofs.Failing.{failed_as, failed_then, none_failed, stands}
+use Rattle.picky_check.proofs.Appending.{appends_nothing, appends_rest, appends_kept, lowers_nothing, lowers_more, used_up}
 use Rattle.picky_check.proofs.files.write_report.Goals as goal
 
 pub loop-done-init : goal.loop-done-init
@@ -21,7 +22,6 @@ loop-done-preserved g c = record {
   still = stands c.in_ok-done.ensures.once (λ none. absurd cc) ∙ c.loop-done.invariant.still;
 }
 
-pub returns-in_err-done-clause-cut : goal.returns-in_err-done-clause-cut
 pub returns-in_err-done-clause-counted : goal.returns-in_err-done-clause-counted
 returns-in_err-done-clause-counted g c = omega (arith, c.loop-done.invariant.still, c.in_err-done.ensures.counted.no_fall)
 
@@ -35,6 +35,7 @@ returns-in_err-done-clause-cause g c =
     let p = err_from_is_err_and c.from_residual.result c.from_residual.ensures.1 in
     rw p.1 (subst (λ (n : ℕ). HasRisen n (g.O.Sink.state c.write.new.self).faults) c.loop-done.invariant.still c.in_err-done.ensures.cause)
 
+pub returns-in_err-done-clause-cut : goal.returns-in_err-done-clause-cut
 returns-in_err-done-clause-cut g c =
     let p = err_from_is_err_and c.from_residual.result c.from_residual.ensures.1 in
     let text = c.as_bytes-octets.ensures.value in

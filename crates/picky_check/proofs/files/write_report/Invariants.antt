@@ -1,4 +1,4 @@
-use Rattle.std.proofs.Common.{length, take, ◌-◌, ◌≤◌}
+use Rattle.std.proofs.Common.{length, take, ◌-◌, ◌≤◌, ◌≡◌}
 use Rattle.picky_check.specs.Sink.{Appends, Lowers}
 use Rattle.picky_check.proofs.files.write_report.Given as goal
 

@@ -8,7 +8,7 @@ use Rattle.picky_check.proofs.program.run.Goals as goal
 
 pub returns-in-Ok-clause-ends : goal.returns-in-Ok-clause-ends
 returns-in-Ok-clause-ends g c =
-    IsRun-delivered _ _ _ c.in-Ok.ensures.settled c.in-Ok.report c.in-Ok.ensures.usage c.in-Ok.ensures.asked _ _ c.deliver.result c.deliver.ensures
+    IsRun-delivered _ _ _ c.in-Ok.ensures.settled c.in-Ok.report c.in-Ok.ensures.usage c.in-Ok.ensures.asked _ _ c.deliver.result c.deliver.ensures.delivered
 
 pub returns-in-Ok-clause-vouched_for : goal.returns-in-Ok-clause-vouched_for
 returns-in-Ok-clause-vouched_for g c zero =

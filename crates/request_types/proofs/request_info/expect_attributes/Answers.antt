@@ -1,4 +1,4 @@
-use Rattle.request_types.specs.RequestInfo.{AreAttributes}
+use Rattle.x509_types.specs.Attribute.{AreAttributes}
 use Rattle.request_types.proofs.Given.{given}
 use Rattle.request_types.proofs.request_info.expect_attributes.Goals as goal
 

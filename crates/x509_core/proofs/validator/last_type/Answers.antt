@@ -7,7 +7,7 @@ use Rattle.x509_core.specs.Chain.{GivesParent, lent, nearest}
 use Rattle.x509_core.specs.CertType.{IsOfType}
 use Rattle.x509_core.specs.KeptCertificate.{KeptCertificate}
 use Rattle.x509_core.specs.Link.{IsLink, link_rules}
-use Rattle.x509_core.specs.Rules.{RefusesBy}
+use Rattle.x509_core.specs.Rules.{RefusesCertBy}
 use Rattle.x509_core.proofs.ChainSteps.{linked_none_of, grown_chain, grown_place, grown_count, unlinked}
 use Rattle.x509_core.proofs.validator.last_type.Goals as goal
 
@@ -33,7 +33,7 @@ returns-in_err-expect_next g c =
     let more = Yields-more g.Chain.Iterator.next_gives _ xs c.loop-parent.parent-iterator c.in-Some.parent c.next.new.self c.loop-parent.yielded_by c.in-Some.ensures.steps in
     let so_far = c.loop-parent.invariant in
     let e = c.in_err-expect_next.field-0.0 in
-    let broken = subst (λ (parent : KeptCertificate). RefusesBy (link_rules judge w (length (map lent xs)) parent (nearest checked c.loop-parent.last)) e) c.viewed-above.ensures (c.in_err-expect_next.ensures (length (map lent xs)) so_far.counted) in
+    let broken = subst (λ (parent : KeptCertificate). RefusesCertBy (link_rules judge w (length (map lent xs)) parent (nearest checked c.loop-parent.last)) e) c.viewed-above.ensures (c.in_err-expect_next.ensures (length (map lent xs)) so_far.counted) in
     let ran = subst (λ (s : _). Yields g.Chain.Iterator.next_gives s (xs ++ c.in-Some.parent ∷ []) c.next.new.self) c.into_iter-parent-iterator.ensures.into_iter_gives more in
     record {
       answer = rw (p.1, p.2) (with_run _ _ ran (unlinked judge w checked xs c.in-Some.parent _ e so_far.linked so_far.at broken));

@@ -1,7 +1,7 @@
 use Rattle.std.proofs.Common.{Err, ap, sym, subst}
 use Rattle.std.proofs.lemmas.Result.{err_from_is_err_and}
 use Rattle.issuing_core.specs.BuiltCertificate.{IsValidityOf}
-use Rattle.x509_core.proofs.OneAnswer.{no_refusal, one_refusal}
+use Rattle.x509_core.proofs.NoRefusal.{no_refusal, one_error}
 use Rattle.issuing_core.proofs.Arguments.{some_of, subject_lacks, told_once}
 use Rattle.issuing_core.proofs.BuiltCertificates.{not_given, no_subject, no_algorithm, built_or_refused}
 use Rattle.issuing_core.proofs.builder.CertificateBuilder.built.Goals as goal
@@ -45,7 +45,7 @@ returns-in_err-subject-clause-refused g c = λ e first.
     let p = err_from_is_err_and c.from_residual-in_err-subject.result c.from_residual-in_err-subject.ensures.1 in
     let given = c.in_ok-valid_from.ensures in
     rw (p.1, p.2)
-    (ap Err (one_refusal c.in_err-subject.field-0.0 e (c.in_err-subject.ensures.refused e (subject_lacks c.args.self.now c.in_ok-valid_from.issuer.now e (some_of _ _ given.0) (some_of _ _ given.1) given.2 first))))
+    (ap Err (one_error c.in_err-subject.field-0.0 e (c.in_err-subject.ensures.refused e (subject_lacks c.args.self.now c.in_ok-valid_from.issuer.now e (some_of _ _ given.0) (some_of _ _ given.1) given.2 first))))
 
 pub returns-in_err-tbs-clause-refused : goal.returns-in_err-tbs-clause-refused
 returns-in_err-tbs-clause-refused g c = λ e first.

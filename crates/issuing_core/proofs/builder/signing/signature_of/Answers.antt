@@ -1,7 +1,8 @@
 use Rattle.std.proofs.Common.{◌∙◌, ℕ, List, inr, subst}
-use Rattle.key_core.specs.SignatureRules.{RefusesBy}
+use Rattle.key_core.specs.SignatureRules.{RefusesSignatureBy}
 use Rattle.key_core.specs.Signing.{sign_rules}
-use Rattle.issuing_core.specs.BuildRefusals.{Tells, no_signature}
+use Rattle.der_core.specs.Refusals.{Tells}
+use Rattle.issuing_core.specs.BuildRefusals.{no_signature}
 use Rattle.issuing_core.proofs.Generating.{accepted_of}
 use Rattle.issuing_core.proofs.builder.signing.signature_of.Goals as goal
 
@@ -13,6 +14,6 @@ pub returns-clause-answer : goal.returns-clause-answer
 returns-clause-answer g c = inr (inr (
   c.in-Ok.ensures.1,
   c.in-Ok.ensures.2,
-  subst (λ (m : List ℕ). Tells no_signature (RefusesBy (sign_rules (g.S.Scheme.signs c.args.scheme.now) c.args.algorithm c.args.private_key.now m)) c.no_signature.result)
+  subst (λ (m : List ℕ). Tells no_signature (RefusesSignatureBy (sign_rules (g.S.Scheme.signs c.args.scheme.now) c.args.algorithm c.args.private_key.now m)) c.no_signature.result)
       (c.deref.ensures.value ∙ c.in-Ok.ensures.0) (c.in-Err-sign.source, c.no_signature.ensures, c.in-Err-sign.ensures.signed),
 ))

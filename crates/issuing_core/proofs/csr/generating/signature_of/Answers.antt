@@ -1,5 +1,5 @@
 use Rattle.std.proofs.Common.{◌∙◌, ℕ, List, inr, subst}
-use Rattle.key_core.specs.SignatureRules.{RefusesBy}
+use Rattle.key_core.specs.SignatureRules.{RefusesSignatureBy}
 use Rattle.key_core.specs.Signing.{sign_rules}
 use Rattle.issuing_core.specs.CsrRefusals.{IsUnsigned}
 use Rattle.issuing_core.proofs.Generating.{accepted_of}
@@ -12,6 +12,6 @@ returns-in-Ok-sign-clause-verifies g c = λ key paired.
 pub returns-clause-answer : goal.returns-clause-answer
 returns-clause-answer g c = inr (
   (c.in-Ok.ensures.1, c.in-Ok.ensures.2),
-  subst (λ (m : List ℕ). IsUnsigned (RefusesBy (sign_rules (g.S.Scheme.signs c.args.scheme.now) c.args.algorithm c.args.private_key.now m)) c.unsigned.result)
+  subst (λ (m : List ℕ). IsUnsigned (RefusesSignatureBy (sign_rules (g.S.Scheme.signs c.args.scheme.now) c.args.algorithm c.args.private_key.now m)) c.unsigned.result)
       (c.deref.ensures.value ∙ c.in-Ok.ensures.0) (c.in-Err-sign.source, c.unsigned.ensures, c.in-Err-sign.ensures.signed),
 )

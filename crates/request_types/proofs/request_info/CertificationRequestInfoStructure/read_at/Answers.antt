@@ -4,7 +4,8 @@ use Rattle.der_core.specs.Lent.{at_option}
 use Rattle.x501_types.specs.Name.{IsName}
 use Rattle.key_types.specs.PublicKeyInfo.{IsPublicKeyInfo}
 use Rattle.der_core.specs.Optional.{SpellsOption}
-use Rattle.request_types.specs.RequestInfo.{AreAttributes, IsRequestInfo}
+use Rattle.x509_types.specs.Attribute.{AreAttributes}
+use Rattle.request_types.specs.RequestInfo.{IsRequestInfo}
 use Rattle.request_types.proofs.Requested.{by_request_fields}
 use Rattle.request_types.proofs.request_info.CertificationRequestInfoStructure.read_at.Goals as goal
 

@@ -2,7 +2,7 @@ use Rattle.std.proofs.lemmas.Result.{err_from_is_err_and}
 use Rattle.der_core.proofs.Inner.{refuses_before, refuses_last}
 use Rattle.key_types.specs.PublicKeyInfo.{inner_key}
 use Rattle.der_core.specs.Optional.{inner_option}
-use Rattle.request_types.specs.RequestInfo.{inner_attributes}
+use Rattle.x509_types.specs.Attribute.{inner_attributes}
 use Rattle.request_types.proofs.request_info.CertificationRequestInfoStructure.write.Goals as goal
 
 pub returns-in_err-write-2 : goal.returns-in_err-write-2
