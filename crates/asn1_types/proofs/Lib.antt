@@ -4,6 +4,7 @@ pub mod Identifiers
 pub mod Times
 pub mod Decimals
 pub mod Dotted
+pub mod FirstArcs
 pub mod KnownTable
 pub mod KnownRows
 pub mod Padding

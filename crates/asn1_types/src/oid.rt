@@ -12,7 +12,7 @@ mod subidentifier;
 mod traits;
 
 use crate::TextError;
-use arcs::{parse_arcs, root_of};
+use arcs::{is_dotted, parse_arcs, root_of};
 use der_core::{DerError, Octets};
 pub use lent::LentIdentifier;
 use std::alloc::{AllocError, Global};
@@ -30,10 +30,15 @@ impl ObjectIdentifier {
     /// The identifier of a text: its arcs in decimal digits without leading zeros, joined by dots.
     /// `BadText` exactly where the text is that of no identifier.
     pub fn from_text(alloc: Global, text: &str) -> Result<ObjectIdentifier, TextError>
-        ensures { MatchResult result
+        ensures read { MatchResult result
             (λ identifier. text.now ≡ dotted identifier.formed.arcs)
             (RefusesText (IsDottedText text.now)) }
+        // A refusal comes before memory is asked for.
+        ensures refused { (IsDottedText text.now → ⊥) → result ≡ Err TextError.BadText }
     {
+        if !is_dotted(text) {
+            return Err(TextError::BadText);
+        }
         let arcs = parse_arcs(alloc, text)?;
         ObjectIdentifier::from_arcs(alloc, &arcs)
     }

@@ -1,6 +1,6 @@
 //! The arcs of an identifier, in its text and in its first subidentifier.
 
-ghost use Rattle.std.specs.Prelude.{◌≡◌, ◌≢◌, List, ℕ, [], ◌∷◌, ◌+◌, ◌*◌, MatchOption, MatchResult};
+ghost use Rattle.std.specs.Prelude.{◌≡◌, ◌≢◌, ◌↔◌, List, ℕ, [], ◌∷◌, ◌+◌, ◌*◌, IsTrue, MatchOption, MatchResult};
 ghost use Rattle.std.specs.Fmt.{decimal};
 ghost use Rattle.std.specs.List.{AllByRecursion};
 ghost use Rattle.asn1_types.specs.Subidentifier.{IsSubidentifier};
@@ -8,6 +8,28 @@ ghost use Rattle.asn1_types.specs.ObjectIdentifier.{IsRoot, dotted, IsDottedText
 
 use crate::TextError;
 use std::alloc::Global;
+
+/// Whether the text is that of an identifier.
+pub fn is_dotted(text: &str) -> bool
+    ensures { IsTrue result ↔ IsDottedText text.now }
+{
+    let mut first = None;
+    let mut second = None;
+    for piece in text.split('.') {
+        let Some(arc) = arc_of(piece) else {
+            return false;
+        };
+        if first.is_none() {
+            first = Some(arc);
+        } else if second.is_none() {
+            second = Some(arc);
+        }
+    }
+    let (Some(first), Some(second)) = (first, second) else {
+        return false;
+    };
+    root_of(first, second).is_some()
+}
 
 /// The numbers whose dotted text this is, `BadText` only where it is that of no identifier.
 pub fn parse_arcs(alloc: Global, text: &str) -> Result<Vec<u128>, TextError>

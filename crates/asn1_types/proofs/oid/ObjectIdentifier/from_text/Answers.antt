@@ -15,8 +15,8 @@ of_text : (text arcs : List ℕ) (r : Result ObjectIdentifier TextError) → tex
 of_text text arcs (Ok identifier) e all made = e ∙ ap dotted (sym (arcs_are identifier.contents identifier.formed arcs made.0 made.1))
 of_text text arcs (Err x) e all refused = refused_as (IsArcs arcs) (IsDottedText text) (arcs_once arcs text e all) x refused
 
-pub returns : goal.returns
-returns c =
+pub returns-clause-read : goal.returns-clause-read
+returns-clause-read c =
     let same = sym c.deref.ensures.value in
     of_text c.args.text.now c.deref.result.now c.from_arcs.result (c.in_ok-arcs.ensures.1 ∙ ap dotted same)
     (subst (AllByRecursion IsSubidentifier) same c.in_ok-arcs.ensures.0) c.from_arcs.ensures
