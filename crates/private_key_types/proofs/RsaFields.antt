@@ -14,9 +14,9 @@ pub record AreNumbersOf (key : RsaPrivateKey) (n e d p q dp dq qinv : DerElement
 
 -- the fields of the element of a key are its numbers
 pub numbers_of : (t n e d p q dp dq qinv : DerElement)
-    → t ≡ rsa_private_key_of n e d p q dp dq qinv
+    → t ≡ rsa_private_key_of (record { n = n; e = e; d = d; p = p; q = q; dp = dp; dq = dq; qinv = qinv })
     → (key : RsaPrivateKey) → t ≡ rsa_private_key key
     → AreNumbersOf key n e d p q dp dq qinv
 numbers_of t n e d p q dp dq qinv is key spells =
-    let same : rsa_private_key_of n e d p q dp dq qinv ≡ rsa_private_key key = sym is ∙ spells in
+    let same : rsa_private_key_of (record { n = n; e = e; d = d; p = p; q = q; dp = dp; dq = dq; qinv = qinv }) ≡ rsa_private_key key = sym is ∙ spells in
     record { public = (cc, cc); first = (cc, cc); second = (cc, cc); third = (cc, cc) }

@@ -10,20 +10,31 @@ use Rattle.private_key_types.specs.declared.rsa_private_key.RsaPrivateKey.{RsaPr
 abbrev pub two_prime : DerElement
 two_prime = integer_of (0 ∷ [])
 
--- by the elements of its fields
-abbrev pub rsa_private_key_of : (n e d p q dp dq qinv : DerElement) → DerElement
-rsa_private_key_of n e d p q dp dq qinv =
-    sequence (two_prime ∷ n ∷ e ∷ d ∷ p ∷ q ∷ dp ∷ dq ∷ qinv ∷ [])
+-- the elements of its fields
+pub record RsaElements : Type 0 where
+  pub n : DerElement
+  pub e : DerElement
+  pub d : DerElement
+  pub p : DerElement
+  pub q : DerElement
+  pub dp : DerElement
+  pub dq : DerElement
+  pub qinv : DerElement
+
+-- by these
+abbrev pub rsa_private_key_of : RsaElements → DerElement
+rsa_private_key_of f = sequence (two_prime ∷ f.n ∷ f.e ∷ f.d ∷ f.p ∷ f.q ∷ f.dp ∷ f.dq ∷ f.qinv ∷ [])
 
 -- the element of a key
 abbrev pub rsa_private_key : RsaPrivateKey → DerElement
 rsa_private_key key =
-    rsa_private_key_of
-    (integer key.n)
-    (integer key.e)
-    (integer key.d)
-    (integer key.p)
-    (integer key.q)
-    (integer key.dp)
-    (integer key.dq)
-    (integer key.qinv)
+    rsa_private_key_of (record {
+      n = integer key.n;
+      e = integer key.e;
+      d = integer key.d;
+      p = integer key.p;
+      q = integer key.q;
+      dp = integer key.dp;
+      dq = integer key.dq;
+      qinv = integer key.qinv;
+    })

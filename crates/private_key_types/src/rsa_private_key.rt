@@ -74,8 +74,16 @@ impl<'a> Fields<'a> {
     fn of(elem: Elem<'a>) -> Option<Fields<'a>>
         ensures { MatchOption result
             ((key : RsaPrivateKey) → elem.entry.is.0 ≢ rsa_private_key key)
-            (λ f. (elem.entry.is.0 ≡ rsa_private_key_of f.n.is.0 f.e.is.0 f.d.is.0
-            f.p.is.0 f.q.is.0 f.dp.is.0 f.dq.is.0 f.qinv.is.0)
+            (λ f. (elem.entry.is.0 ≡ rsa_private_key_of (record {
+              n = f.n.is.0;
+              e = f.e.is.0;
+              d = f.d.is.0;
+              p = f.p.is.0;
+              q = f.q.is.0;
+              dp = f.dp.is.0;
+              dq = f.dq.is.0;
+              qinv = f.qinv.is.0;
+            }))
             × Fits (λ element key. element ≡ rsa_private_key key) elem.entry.is.0) }
     {
         let mut kids = Kids::of(elem, SEQUENCE)?;
