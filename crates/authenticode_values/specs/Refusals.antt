@@ -12,18 +12,12 @@ use Rattle.authenticode_core.specs.declared.pkcs7_error.Pkcs7Error.TheVariants a
 -- want of memory is told as such, any other cause by the structure and the cause
 abbrev pub unread : DerError → Pkcs7Error
 unread der.Memory = errors.Memory
-unread (der.Malformed m) = errors.Cert (certs.Asn1Deserialization structures.Pkcs7 (der.Malformed m))
-unread der.Shape = errors.Cert (certs.Asn1Deserialization structures.Pkcs7 der.Shape)
-unread der.TooDeep = errors.Cert (certs.Asn1Deserialization structures.Pkcs7 der.TooDeep)
-unread der.TooLong = errors.Cert (certs.Asn1Deserialization structures.Pkcs7 der.TooLong)
+unread source = errors.Cert (certs.Asn1Deserialization structures.Pkcs7 source)
 
 -- the same of signed data that can't be written
 abbrev pub unwritten : DerError → Pkcs7Error
 unwritten der.Memory = errors.Memory
-unwritten (der.Malformed m) = errors.Cert (certs.Asn1Serialization structures.Pkcs7 (der.Malformed m))
-unwritten der.Shape = errors.Cert (certs.Asn1Serialization structures.Pkcs7 der.Shape)
-unwritten der.TooDeep = errors.Cert (certs.Asn1Serialization structures.Pkcs7 der.TooDeep)
-unwritten der.TooLong = errors.Cert (certs.Asn1Serialization structures.Pkcs7 der.TooLong)
+unwritten source = errors.Cert (certs.Asn1Serialization structures.Pkcs7 source)
 
 -- an error of signed data as one of Authenticode signatures
 abbrev pub of_signed_data : Pkcs7Error → AuthenticodeError

@@ -13,18 +13,12 @@ use Rattle.x509_core.specs.declared.csr_error.CsrError.TheVariants as errors
 -- want of memory is told as such, any other cause by the structure and the cause
 abbrev pub unread_csr : Element → DerError → CsrError
 unread_csr element der.Memory = errors.Memory
-unread_csr element (der.Malformed m) = errors.Asn1Deserialization element (der.Malformed m)
-unread_csr element der.Shape = errors.Asn1Deserialization element der.Shape
-unread_csr element der.TooDeep = errors.Asn1Deserialization element der.TooDeep
-unread_csr element der.TooLong = errors.Asn1Deserialization element der.TooLong
+unread_csr element source = errors.Asn1Deserialization element source
 
 -- the same of an element that can't be written
 abbrev pub unwritten_csr : Element → DerError → CsrError
 unwritten_csr element der.Memory = errors.Memory
-unwritten_csr element (der.Malformed m) = errors.Asn1Serialization element (der.Malformed m)
-unwritten_csr element der.Shape = errors.Asn1Serialization element der.Shape
-unwritten_csr element der.TooDeep = errors.Asn1Serialization element der.TooDeep
-unwritten_csr element der.TooLong = errors.Asn1Serialization element der.TooLong
+unwritten_csr element source = errors.Asn1Serialization element source
 
 -- the error for one of a signature; want of memory is told as such
 abbrev pub unsigned : SignatureError → CsrError
