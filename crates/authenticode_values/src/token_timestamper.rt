@@ -1,6 +1,6 @@
 //! A timestamper that has one token for all.
 
-ghost use Rattle.std.specs.Prelude.{◌≡◌, ◌≢◌, ◌⊎◌, ◌∷◌, ◌++◌, [], ℕ, Err, IfOk, IfErr, MatchResult};
+ghost use Rattle.std.specs.Prelude.{◌≡◌, ◌≢◌, ◌⊎◌, ◌∷◌, ◌++◌, [], ℕ, Ok, Err, IfOk, IfErr, OnOk, OnErr, MatchResult};
 ghost use Rattle.der_core.specs.DerElement.{DerElement};
 ghost use Rattle.der_core.specs.Encoding.{encoding, IsDer};
 ghost use Rattle.der_core.specs.Reading.{IsExactFault};
@@ -14,7 +14,7 @@ ghost use Rattle.cms_types.specs.Pkcs7.{pkcs7};
 ghost use Rattle.cms_types.specs.declared.pkcs7.Pkcs7Certificate.{Pkcs7Certificate};
 ghost use Rattle.authenticode_core.specs.StampRefusal.{token_refusal};
 ghost use Rattle.authenticode_core.specs.declared.timestamp_error.TimestampError.TheVariants as errors;
-ghost use Rattle.authenticode_values.specs.Pkcs7.{IsPkcs7Of};
+ghost use Rattle.authenticode_values.specs.Pkcs7.{IsPkcs7Of, signer_infos_of};
 ghost use Rattle.authenticode_values.specs.Refusals.{IsUnreadPkcs7, unread};
 ghost use Rattle.authenticode_values.specs.RequestRefusals.{IsRefusedRequest, IsRefusedToken, IsTooLong};
 ghost use Rattle.authenticode_values.specs.TimestampRequest.{asking_for, requested};
@@ -120,7 +120,13 @@ impl Timestamper for TokenTimestamper {
         &self,
         token: Pkcs7,
         signed_data: &mut SignedData,
-    ) -> Result<(), TimestampError> {
+    ) -> Result<(), TimestampError>
+        ensures modified { OnOk result (token_modifies token signed_data.old (Ok signed_data.new)) }
+        ensures refused { IfErr result (λ e. (e ≡ errors.Memory) ⊎ token_modifies token signed_data.old (Err e)) }
+        ensures unchanged { OnErr result (signed_data.new ≡ signed_data.old) }
+        // Where there is no signer on either side, that is told whatever memory there is.
+        ensures empty { (signed_data.old.signers_infos ≡ []) ⊎ (signer_infos_of token ≡ []) → result ≡ Err errors.TimestampTokenEmpty }
+    {
         let alloc = signed_data.signers_infos.allocator();
         let own = signed_data.signers_infos.as_slice();
         let signers = stamped_signers(alloc, token.signer_infos(), own)?;
@@ -138,9 +144,10 @@ fn stamped_signers(
     countersigners: &[SignerInfo],
     signers: &[SignerInfo],
 ) -> Result<SignersInfos, TimestampError>
-    ensures { MatchResult result
+    ensures stamped { MatchResult result
         (AreStamped countersigners.now signers.now)
         (λ e. (e ≡ errors.Memory) ⊎ RefusesTokenStamp countersigners.now signers.now e) }
+    ensures empty { (signers.now ≡ []) ⊎ (countersigners.now ≡ []) → result ≡ Err errors.TimestampTokenEmpty }
 {
     let Some((first, others)) = signers.split_first() else {
         return Err(TimestampError::TimestampTokenEmpty);
@@ -156,9 +163,10 @@ fn countersignature(
     alloc: Global,
     signers: &[SignerInfo],
 ) -> Result<UnsignedAttribute, TimestampError>
-    ensures { MatchResult result
+    ensures made { MatchResult result
         (CountersignsBy signers.now)
         (λ e. (e ≡ errors.Memory) ⊎ RefusesCountersigner signers.now e) }
+    ensures empty { signers.now ≡ [] → result ≡ Err errors.TimestampTokenEmpty }
 {
     let Some((_first, _others)) = signers.split_first() else {
         return Err(TimestampError::TimestampTokenEmpty);
