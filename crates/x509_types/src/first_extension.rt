@@ -22,7 +22,7 @@ pub(crate) fn octets_named<'a>(extension: Elem<'a>, oid: &[u8]) -> Option<&'a [u
 }
 
 /// The octets that the first extension of this identifier holds.
-pub(crate) fn first_named<'a>(mut kids: Kids<'a>, oid: &[u8]) -> Option<&'a [u8]>
+pub(crate) fn first_extension<'a>(mut kids: Kids<'a>, oid: &[u8]) -> Option<&'a [u8]>
     ensures { MatchOption result
         ((octets : List ℕ) → IsFirstNamed oid.now kids.entry.are.0 octets → ⊥)
         (λ octets. IsFirstNamed oid.now kids.entry.are.0 octets.now) }

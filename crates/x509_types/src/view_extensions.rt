@@ -9,7 +9,7 @@ ghost use Rattle.x509_types.specs.Purposes.{NamesPurpose, HasPurposes};
 
 use crate::cert_view::CertView;
 use crate::extension_parts::{flag_at, key_identifier_at, length_at};
-use crate::first_extension::first_named;
+use crate::first_extension::first_extension;
 use crate::purposes::has_usage_for;
 use asn1_types::oids::{
     CE_AUTHORITY_KEY_IDENTIFIER, CE_BASIC_CONSTRAINTS, CE_EXT_KEY_USAGE, CE_SUBJECT_KEY_IDENTIFIER,
@@ -77,7 +77,7 @@ impl<'a> CertView<'a> {
         ensures { IsTrue result ↔ HasPurposes (view_elements self.now) }
     {
         match self.extension_kids() {
-            Some(kids) => first_named(kids, CE_EXT_KEY_USAGE).is_some(),
+            Some(kids) => first_extension(kids, CE_EXT_KEY_USAGE).is_some(),
             None => false,
         }
     }
@@ -89,7 +89,7 @@ impl<'a> CertView<'a> {
             (λ elem. IsFirstValue (view_elements self.now) oid.now elem.is.0) }
     {
         let kids = self.extension_kids()?;
-        let octets = first_named(kids, oid)?;
+        let octets = first_extension(kids, oid)?;
         whole_element(octets)
     }
 

@@ -186,7 +186,7 @@ fn ed25519_secret(private_key: &PrivateKey) -> Result<&[u8], SignatureError>
         });
     };
     match EdAlgorithm::named(private_key.info.private_key_algorithm.oid().as_bytes()) {
-        Some(EdAlgorithm::Ed25519) => sized(secret.as_slice(), bits),
+        Some(EdAlgorithm::Ed25519) => sized_secret(secret.as_slice(), bits),
         Some(EdAlgorithm::X25519) => Err(SignatureError::Ed {
             context: SigContext::NotForSigning,
         }),
@@ -199,7 +199,7 @@ fn ed25519_secret(private_key: &PrivateKey) -> Result<&[u8], SignatureError>
 }
 
 /// The secret, where it and the public key have as many octets as those of Ed25519.
-fn sized<'a>(secret: &'a [u8], bits: &BitString) -> Result<&'a [u8], SignatureError>
+fn sized_secret<'a>(secret: &'a [u8], bits: &BitString) -> Result<&'a [u8], SignatureError>
     ensures { MatchResult result
         (λ octets. (octets.now ≡ secret.now) × (length (payload_of bits.now) ≡ 32) × (length secret.now ≡ 32))
         (λ e. ((length (payload_of bits.now) ≡ 32) × (length secret.now ≡ 32) → ⊥) × (e ≡ errors.Ed contexts.KeySize)) }

@@ -257,7 +257,7 @@ fn ed25519_bytes(public_key: &PublicKey) -> Result<&[u8], SignatureError>
         });
     };
     match EdAlgorithm::named(info.algorithm.oid().as_bytes()) {
-        Some(EdAlgorithm::Ed25519) => sized(bits),
+        Some(EdAlgorithm::Ed25519) => sized_key(bits),
         Some(EdAlgorithm::X25519) => Err(SignatureError::Ed {
             context: SigContext::NotForSigning,
         }),
@@ -270,7 +270,7 @@ fn ed25519_bytes(public_key: &PublicKey) -> Result<&[u8], SignatureError>
 }
 
 /// The octets, which are as many as a key of Ed25519 has.
-fn sized(bits: &BitString) -> Result<&[u8], SignatureError>
+fn sized_key(bits: &BitString) -> Result<&[u8], SignatureError>
     ensures { MatchResult result
         (λ bytes. (bytes.now ≡ payload_of bits.now) × (length bytes.now ≡ 32))
         (λ e. (length (payload_of bits.now) ≢ 32) × (e ≡ errors.Ed contexts.KeySize)) }

@@ -12,8 +12,8 @@ pub returns-in-Some-Ed25519 : goal.returns-in-Some-Ed25519
 returns-in-Some-Ed25519 c =
     let oid = c.as_bytes.ensures ∙ ap identifier_contents c.oid.ensures in
     ed_sized (λ (octets : Bor (List ℕ)). octets.now) c.args.private_key.now c.in-Some.bits c.in-Ed.secret c.in-Ed.is c.in-Some.is
-    (sym oid ∙ sym c.in-Some-Ed25519.ensures.name ∙ ap ed_identifier c.in-Some-Ed25519.field-0-is) c.sized.result
-    (rw c.as_slice.ensures at c.sized.ensures)
+    (sym oid ∙ sym c.in-Some-Ed25519.ensures.name ∙ ap ed_identifier c.in-Some-Ed25519.field-0-is) c.sized_secret.result
+    (rw c.as_slice.ensures at c.sized_secret.ensures)
 
 pub returns-in-None : goal.returns-in-None
 returns-in-None c =

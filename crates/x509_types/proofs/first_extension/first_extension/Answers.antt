@@ -1,5 +1,5 @@
 use Rattle.x509_types.proofs.FirstExtensions.{first_here, first_later, first_passed, none_first}
-use Rattle.x509_types.proofs.first_extension.first_named.Goals as goal
+use Rattle.x509_types.proofs.first_extension.first_extension.Goals as goal
 
 pub returns-in-Some-octets_named : goal.returns-in-Some-octets_named
 returns-in-Some-octets_named c = c.loop-kid.invariant.enough _ (first_here _ _ _ _ _ c.in-Some.ensures c.in-Some-octets_named.ensures)

@@ -1,6 +1,6 @@
 use Rattle.std.proofs.Common.{ℕ, List, length}
 use Rattle.x509_types.specs.FirstExtension.{IsFirstNamed}
-use Rattle.x509_types.proofs.first_extension.first_named.Given as goal
+use Rattle.x509_types.proofs.first_extension.first_extension.Given as goal
 
 -- the first of all is the first of those that are left
 abbrev pub invariant-loop-kid : goal.invariant-loop-kid
