@@ -1,11 +1,14 @@
--- The Gregorian calendar of the years 0 to 9999 and the time of day in universal time, to the second (ISO 8601, X.680 46).
+-- The Gregorian calendar of the years 0 to 9999 and the time of day in universal time, to the
+-- second (ISO 8601, X.680 46).
 use Rattle.std.specs.Prelude.{ℕ, ◌%◌, ◌≤◌, Bool, ◌&&◌, ◌||◌, ◌==◌, not, if◌then◌else◌}
 
--- Each fourth year has a leap day, year 0 too, but of the years that end a century each fourth alone.
+-- Each fourth year has a leap day, year 0 too, but of the years that end a century each fourth
+-- alone.
 abbrev pub is_leap_year : ℕ → Bool
 is_leap_year year = (year % 4 == 0) && (not (year % 100 == 0) || (year % 400 == 0))
 
--- February has 28 days and in a leap year 29; April, June, September and November have 30, the others 31.
+-- February has 28 days and in a leap year 29; April, June, September and November have 30, the
+-- others 31.
 abbrev pub days_in_month : ℕ → ℕ → ℕ
 days_in_month year month =
     if month == 2 then (if is_leap_year year then 29 else 28)
@@ -26,7 +29,8 @@ pub record IsMoment (year month day hour minute second : ℕ) : Type 0 where
   pub last_minute : minute ≤ 59
   pub last_second : second ≤ 59
 
--- A year that its last two digits stand for: 50 to 99 mean 19YY, 00 to 49 mean 20YY (RFC 5280 4.1.2.5.1).
+-- A year that its last two digits stand for: 50 to 99 mean 19YY, 00 to 49 mean 20YY (RFC 5280
+-- 4.1.2.5.1).
 pub record IsUtcYear (year : ℕ) : Type 0 where
   pub first_year : 1950 ≤ year
   pub last_year : year ≤ 2049

@@ -8,7 +8,8 @@ use Rattle.asn1_types.specs.declared.error.CharSetError.TheVariants as errors
 abbrev pub IsIa5 : List ℕ → Type 0
 IsIa5 text = All (λ octet. octet ≤ 127) text
 
--- A text is refused as outside the character set exactly where it is; besides there is want of memory.
+-- A text is refused as outside the character set exactly where it is; besides there is want of
+-- memory.
 abbrev pub RefusesCharSet : Type 0 → CharSetError → Type 0
 RefusesCharSet inside errors.CharSet = inside → ⊥
 RefusesCharSet inside errors.Memory = ⊤

@@ -2,7 +2,8 @@
 use Rattle.std.specs.Prelude.{◌≡◌, ◌≢◌, ℕ, ◌<◌, ◌≤◌, ◌==◌, if◌then◌else◌, List, [], ◌∷◌, slice_index}
 use Rattle.der_core.specs.Head.{number_from}
 
--- An INTEGER has at least one contents octet (X.690 8.3.1). Longer contents than the number needs are kept as they are: X.690 8.3.2 is not asked.
+-- An INTEGER has at least one contents octet (X.690 8.3.1). Longer contents than the number needs
+-- are kept as they are: X.690 8.3.2 is not asked.
 abbrev pub IsInteger : List ℕ → Type 0
 IsInteger contents = contents ≢ []
 
@@ -17,7 +18,8 @@ IsShortest (octet ∷ []) = Unit {0}
 IsShortest (first ∷ second ∷ octets) =
     ¬ ((first ≡ 0) × (second < 128)) × ¬ ((first ≡ 255) × (128 ≤ second))
 
--- The shortest contents of a number that isn't negative: its first bit, the sign, is 0 (X.690 8.3.3).
+-- The shortest contents of a number that isn't negative: its first bit, the sign, is 0 (X.690
+-- 8.3.3).
 pub record IsUnsignedInteger (number : ℕ) (contents : List ℕ) : Type 0 where
   pub shortest : IsShortest contents
   pub not_negative : slice_index contents 0 < 128

@@ -6,14 +6,15 @@ use Rattle.asn1_types.specs.declared.error.TextError.{TextError}
 use Rattle.asn1_types.specs.declared.error.TextError.TheVariants.{BadText, Memory}
 use Rattle.asn1_types.specs.Subidentifier.{IsSubidentifier, subidentifier}
 
--- The numbers that the subidentifiers of arcs hold: the first two arcs are one number (X.690 8.19.4).
+-- The numbers that the subidentifiers of arcs hold: the first two arcs are one number (X.690
+-- 8.19.4).
 abbrev pub subidentifiers_of : List ℕ → List ℕ
 subidentifiers_of [] = []
 subidentifiers_of (first ∷ []) = []
 subidentifiers_of (first ∷ second ∷ more) = (40 * first + second) ∷ more
 
--- The first two arcs: the first is at most 2, the second at most 39 under a first of 0 or 1 (X.690 8.19.4), and the number
--- that they make is in bounds.
+-- The first two arcs: the first is at most 2, the second at most 39 under a first of 0 or 1 (X.690
+-- 8.19.4), and the number that they make is in bounds.
 pub record IsRoot (first second : ℕ) : Type 0 where
   pub first_low : first ≤ 2
   pub second_low : first < 2 → second ≤ 39

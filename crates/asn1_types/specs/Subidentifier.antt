@@ -6,12 +6,13 @@ use Rattle.std.specs.Int.Digits.{digits_of}
 abbrev pub IsSubidentifier : ℕ → Type 0
 IsSubidentifier number = number < 2 ^ 128
 
--- The octets before the last one: the digits of a number in base 128, the most significant first and no zero in front,
--- each with bit 8 set.
+-- The octets before the last one: the digits of a number in base 128, the most significant first
+-- and no zero in front, each with bit 8 set.
 abbrev pub leading_octets : ℕ → List ℕ
 leading_octets number = map (λ digit. 128 + digit) (digits_of 128 number)
 
--- The octets of a subidentifier: all digits of the number in base 128, bit 8 set in all but the last.
+-- The octets of a subidentifier: all digits of the number in base 128, bit 8 set in all but the
+-- last.
 unfoldable pub subidentifier : ℕ → List ℕ
 subidentifier number = leading_octets (number / 128) ++ (number % 128 ∷ [])
 

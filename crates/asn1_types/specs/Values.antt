@@ -34,7 +34,8 @@ unused_of bits = bits.unused
 abbrev pub payload_of : BitString → List ℕ
 payload_of bits = bits.payload
 
--- The contents octets of a bit string: the count of unused bits, and the octets that hold the bits (X.690 8.6).
+-- The contents octets of a bit string: the count of unused bits, and the octets that hold the bits
+-- (X.690 8.6).
 abbrev pub bit_string_contents : BitString → List ℕ
 bit_string_contents bits = bits.unused ∷ bits.payload
 

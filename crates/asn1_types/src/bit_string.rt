@@ -63,8 +63,8 @@ impl BitString {
         BitString::with_unused(alloc, bytes, 0)
     }
 
-    /// The string of the bits of the octets but for the last `unused` ones: at most 7, and none where
-    /// there are no octets (X.690 8.6.2.2, 8.6.2.3).
+    /// The string of the bits of the octets but for the last `unused` ones: at most 7, and none
+    /// where there are no octets (X.690 8.6.2.2, 8.6.2.3).
     pub fn with_unused(alloc: Global, bytes: &[u8], unused: u8) -> Result<BitString, AllocError>
         requires { IsBitString unused bytes.now }
         ensures { IfOk result (λ bits. (bits.unused ≡ unused) × (bits.payload ≡ bytes.now)) }
@@ -106,7 +106,8 @@ impl PartialEq for BitString {
     ghost laws = { Prim.search (comparing, rules) };
 
     fn eq(&self, other: &BitString) -> bool
-        ensures value { result ≡ (self.now.unused == other.now.unused && bytes_eq self.now.payload other.now.payload) }
+        ensures value { result ≡ (self.now.unused == other.now.unused
+            && bytes_eq self.now.payload other.now.payload) }
         ensures same { IsTrue result ↔ (self.now ≡ other.now) }
     {
         self.unused == other.unused && self.payload == other.payload

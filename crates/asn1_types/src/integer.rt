@@ -41,11 +41,12 @@ impl IntegerAsn1 {
         })
     }
 
-    /// The number that the octets write, the most significant first, in its shortest contents: zeros
-    /// before the number are dropped, no octets are the number 0, and a zero is put before a first
-    /// octet of 0x80 or more, as the first bit is the sign (X.690 8.3.2, 8.3.3).
+    /// The number that the octets write, the most significant first, in its shortest contents:
+    /// zeros before the number are dropped, no octets are the number 0, and a zero is put before a
+    /// first octet of 0x80 or more, as the first bit is the sign (X.690 8.3.2, 8.3.3).
     pub fn from_bytes_be_unsigned(alloc: Global, bytes: &[u8]) -> Result<IntegerAsn1, AllocError>
-        ensures { IfOk result (λ integer. IsUnsignedInteger (number_of bytes.now) integer.contents) }
+        ensures { IfOk result
+            (λ integer. IsUnsignedInteger (number_of bytes.now) integer.contents) }
     {
         let digits = without_zeros(bytes);
         let mut contents = Vec::with_capacity(alloc, digits.len().saturating_add(1))?;
@@ -126,10 +127,14 @@ fn without_zeros(octets: &[u8]) -> &[u8]
 /// A number that isn't negative has one shortest contents, and none of its contents are shorter: no
 /// zeros stand before it but the one that 0 is, or that a first octet of 0x80 or more needs.
 pub fn one_shortest_integer()
-    ensures one { (number : ℕ) (a b : List ℕ) → IsOctets a → IsOctets b → IsUnsignedInteger number a → IsUnsignedInteger number b → a ≡ b }
-    ensures none_shorter { (number : ℕ) (a b : List ℕ) → IsOctets b → IsUnsignedInteger number a → IsInteger b → slice_index b 0 < 128 → number_of b ≡ number → length a ≤ length b }
+    ensures one { (number : ℕ) (a b : List ℕ) → IsOctets a → IsOctets b → IsUnsignedInteger number a
+        → IsUnsignedInteger number b → a ≡ b }
+    ensures none_shorter { (number : ℕ) (a b : List ℕ) → IsOctets b → IsUnsignedInteger number a
+        → IsInteger b → slice_index b 0 < 128 → number_of b ≡ number → length a ≤ length b }
     ensures zeros_before { (octets : List ℕ) → number_of (0 ∷ octets) ≡ number_of octets }
     ensures zero { IsUnsignedInteger (number_of []) (0 ∷ []) }
-    ensures low { (first : ℕ) (octets : List ℕ) → 0 < first → first < 128 → IsUnsignedInteger (number_of (first ∷ octets)) (first ∷ octets) }
-    ensures high { (first : ℕ) (octets : List ℕ) → 128 ≤ first → IsUnsignedInteger (number_of (first ∷ octets)) (0 ∷ first ∷ octets) }
+    ensures low { (first : ℕ) (octets : List ℕ) → 0 < first → first < 128
+        → IsUnsignedInteger (number_of (first ∷ octets)) (first ∷ octets) }
+    ensures high { (first : ℕ) (octets : List ℕ) → 128 ≤ first
+        → IsUnsignedInteger (number_of (first ∷ octets)) (0 ∷ first ∷ octets) }
 {}

@@ -133,5 +133,6 @@ impl ObjectIdentifier {
 /// Two identifiers have the same text exactly where they have the same contents octets. So a text
 /// whose octets are read again prints as it was, and octets whose text is read again are the same.
 pub fn text_and_contents_agree(a: &ObjectIdentifier, b: &ObjectIdentifier)
-    ensures { (dotted a.now.formed.arcs ≡ dotted b.now.formed.arcs) ↔ (a.now.contents ≡ b.now.contents) }
+    ensures { (dotted a.now.formed.arcs ≡ dotted b.now.formed.arcs)
+        ↔ (a.now.contents ≡ b.now.contents) }
 {}

@@ -22,18 +22,18 @@ pub type TableRow = (&'static str, &'static str, &'static [u8]);
 
 /// What the table has for these contents octets.
 pub fn by_contents(contents: &[u8]) -> Option<KnownOid>
-    ensures { MatchOption result
-        (All (λ row. row.contents ≢ contents.now) known_rows)
-        (λ known. HasRow known_rows known.name.now known.text.now known.contents.now × (known.contents.now ≡ contents.now)) }
+    ensures { MatchOption result (All (λ row. row.contents ≢ contents.now) known_rows)
+        (λ known. HasRow known_rows known.name.now known.text.now known.contents.now
+        × (known.contents.now ≡ contents.now)) }
 {
     with_contents(rows(), contents)
 }
 
 /// What the table has for this name.
 pub fn by_name(name: &str) -> Option<KnownOid>
-    ensures { MatchOption result
-        (All (λ row. row.name ≢ name.now) known_rows)
-        (λ known. HasRow known_rows known.name.now known.text.now known.contents.now × (known.name.now ≡ name.now)) }
+    ensures { MatchOption result (All (λ row. row.name ≢ name.now) known_rows)
+        (λ known. HasRow known_rows known.name.now known.text.now known.contents.now
+        × (known.name.now ≡ name.now)) }
 {
     with_name(rows(), name)
 }
@@ -46,9 +46,10 @@ fn rows() -> &'static [TableRow]
 }
 
 fn with_contents(rows: &[TableRow], contents: &[u8]) -> Option<KnownOid>
-    ensures { let all = map (λ row. known_row row.0.now row.1.now row.2.now) rows.now in MatchOption result
-        (All (λ row. row.contents ≢ contents.now) all)
-        (λ known. HasRow all known.name.now known.text.now known.contents.now × (known.contents.now ≡ contents.now)) }
+    ensures { let all = map (λ row. known_row row.0.now row.1.now row.2.now) rows.now in
+        MatchOption result (All (λ row. row.contents ≢ contents.now) all)
+        (λ known. HasRow all known.name.now known.text.now known.contents.now
+        × (known.contents.now ≡ contents.now)) }
 {
     for (name, text, octets) in rows {
         if *octets == contents {
@@ -63,9 +64,10 @@ fn with_contents(rows: &[TableRow], contents: &[u8]) -> Option<KnownOid>
 }
 
 fn with_name(rows: &[TableRow], wanted: &str) -> Option<KnownOid>
-    ensures { let all = map (λ row. known_row row.0.now row.1.now row.2.now) rows.now in MatchOption result
-        (All (λ row. row.name ≢ wanted.now) all)
-        (λ known. HasRow all known.name.now known.text.now known.contents.now × (known.name.now ≡ wanted.now)) }
+    ensures { let all = map (λ row. known_row row.0.now row.1.now row.2.now) rows.now in
+        MatchOption result (All (λ row. row.name ≢ wanted.now) all)
+        (λ known. HasRow all known.name.now known.text.now known.contents.now
+        × (known.name.now ≡ wanted.now)) }
 {
     for (name, text, contents) in rows {
         if *name == wanted {

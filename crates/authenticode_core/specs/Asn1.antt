@@ -1,4 +1,5 @@
--- Elements of the plain form by their contents octets (X.690 8). The words of `asn1_types` are of values, and the form has contents that no value has.
+-- Elements of the plain form by their contents octets (X.690 8). The words of `asn1_types` are of
+-- values, and the form has contents that no value has.
 use Rattle.std.specs.Prelude.{ℕ, ◌+◌, List}
 use Rattle.der_core.specs.DerElement.{DerElement, Primitive, Constructed, row}
 

@@ -5,7 +5,8 @@ use Rattle.authenticode_core.specs.CertificateBag.{IsBag}
 use Rattle.authenticode_core.specs.LeftMembers.{left_members}
 use Rattle.authenticode_core.specs.declared.bag.Bag.{Bag}
 
--- The cursor stands in this bag: the certificates before it are as many as its place, and those behind it are the bag of the members that are left.
+-- The cursor stands in this bag: the certificates before it are as many as its place, and those
+-- behind it are the bag of the members that are left.
 pub record StandsIn (cursor : Bag) (bag : List CertificateElements) : Type 0 where
   pub before : List CertificateElements
   pub behind : List CertificateElements

@@ -13,7 +13,9 @@ use Rattle.authenticode_core.specs.Places.{IsLeastPlace, HasNoPlace}
 
 -- the certificate has this issuer and this serial number
 abbrev pub HasIssuerAndSerial : IssuerAndSerialNumber → CertificateElements → Type 0
-HasIssuerAndSerial value c = IsSameElement (name value.issuer) c.tbs.issuer × (integer_contents value.serial_number ≡ c.tbs.serial_number)
+HasIssuerAndSerial value c =
+    IsSameElement (name value.issuer) c.tbs.issuer
+    × (integer_contents value.serial_number ≡ c.tbs.serial_number)
 
 -- The first of the signers names the certificate by its issuer and its serial number.
 pub record IsNamedByFirst (signers : List DerElement) (c : CertificateElements) : Type 0 where
@@ -25,9 +27,11 @@ pub record IsNamedByFirst (signers : List DerElement) (c : CertificateElements) 
   pub has : HasIssuerAndSerial value c
 
 -- the place is the least one whose certificate the first of the signers names
-abbrev pub IsSignerPlace : List DerElement → List CertificateElements → ℕ → CertificateElements → Type 0
+abbrev pub IsSignerPlace : List DerElement → List CertificateElements → ℕ → CertificateElements
+    → Type 0
 IsSignerPlace signers bag place c = IsLeastPlace bag (IsNamedByFirst signers) 0 place c
 
--- There is no such place: there is no signer, it names the identifier of a key, or no certificate fits.
+-- There is no such place: there is no signer, it names the identifier of a key, or no certificate
+-- fits.
 abbrev pub HasNoSigner : List DerElement → List CertificateElements → Type 0
 HasNoSigner signers bag = HasNoPlace bag (IsNamedByFirst signers) 0

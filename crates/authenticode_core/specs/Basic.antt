@@ -1,4 +1,5 @@
--- The signed data of a signature file: when it is there, when it vouches for the digest of a file, and why not.
+-- The signed data of a signature file: when it is there, when it vouches for the digest of a file,
+-- and why not.
 use Rattle.std.specs.Prelude.{◌≡◌, ◌≤◌, ◌⊎◌, ℕ, drop, replicate, List, ◌∷◌, Ok, Err}
 use Rattle.cms_types.specs.Pkcs7.{pkcs7}
 use Rattle.cms_types.specs.SignedData.{signed_data_elements}
@@ -26,7 +27,8 @@ use Rattle.authenticode_core.specs.declared.error.AuthenticodeError.TheVariants.
 use Rattle.authenticode_core.specs.declared.error.CheckError.{CheckError}
 use Rattle.authenticode_core.specs.declared.error.CheckError.TheVariants.{Win, Authenticode, Memory}
 
--- The octets begin with a WIN_CERTIFICATE whose certificate is signed data of these fields, with at most seven zeros after it.
+-- The octets begin with a WIN_CERTIFICATE whose certificate is signed data of these fields, with at
+-- most seven zeros after it.
 pub record HasSignedData (octets : List ℕ) (f : SignedDataElements) : Type 0 where
   pub certificate : List ℕ
   pub named : contents_in octets ≡ Ok certificate
@@ -34,9 +36,10 @@ pub record HasSignedData (octets : List ℕ) (f : SignedDataElements) : Type 0 w
   pub spelled : IsPaddedEncoding certificate (pkcs7 value)
   pub fields : f ≡ signed_data_elements value.signed_data
 
--- Signed data vouches for the digest of a file: it has the form, the digest is the one that is asked for, and the signature of its one signer, whose certificate
--- stands at this place, is good.
-pub record VouchesFor (judge : Judge) (f : SignedDataElements) (file_hash : List ℕ) (place : ℕ) : Type 0 where
+-- Signed data vouches for the digest of a file: it has the form, the digest is the one that is
+-- asked for, and the signature of its one signer, whose certificate stands at this place, is good.
+pub record VouchesFor (judge : Judge) (f : SignedDataElements) (file_hash : List ℕ)
+    (place : ℕ) : Type 0 where
   pub algorithm : DerElement
   pub d : IndirectData
   pub g : SignerElements
@@ -56,10 +59,12 @@ pub record HasMoreThanPadding (octets : List ℕ) (place : ℕ) : Type 0 where
   pub first : IsFirst octets element place
   pub unpadded : IsPadding (drop place octets) → ⊥
 
--- Why the octets of a certificate are no element with at most seven zeros after it: the first fault of an element, or other octets after it.
+-- Why the octets of a certificate are no element with at most seven zeros after it: the first fault
+-- of an element, or other octets after it.
 abbrev pub IsMalformedPadded : List ℕ → Malformed → Type 0
 IsMalformedPadded certificate m =
-    IsFirstFault certificate m.at m.fault ⊎ ((m.fault ≡ Trailing) × HasMoreThanPadding certificate m.at)
+    IsFirstFault certificate m.at m.fault
+    ⊎ ((m.fault ≡ Trailing) × HasMoreThanPadding certificate m.at)
 
 -- The octets are an element, with at most seven zeros after it, that isn't signed data.
 pub record IsShapeless (certificate : List ℕ) : Type 0 where
@@ -67,7 +72,8 @@ pub record IsShapeless (certificate : List ℕ) : Type 0 where
   pub spelled : IsPaddedEncoding certificate element
   pub none : (value : Pkcs7Certificate) → element ≡ pkcs7 value → ⊥
 
--- why the octets of a certificate aren't signed data: they are no element, or that of another structure
+-- why the octets of a certificate aren't signed data: they are no element, or that of another
+-- structure
 abbrev pub IsNoSignedData : List ℕ → DerError → Type 0
 IsNoSignedData certificate (der.Malformed m) = IsMalformedPadded certificate m
 IsNoSignedData certificate der.Shape = IsShapeless certificate
@@ -85,7 +91,8 @@ pub record IsUnreadSignature (octets : List ℕ) (e : AuthenticodeError) : Type 
 
 -- ---- rules
 
--- the rules of the parts that signed data of this form has: the digest of the file, and the signature
+-- the rules of the parts that signed data of this form has: the digest of the file, and the
+-- signature
 abbrev pub IsRefusedPart : Judge → SignedDataElements → List ℕ → Rule AuthenticodeError
 IsRefusedPart judge f file_hash e =
     (d : IndirectData) × (g : SignerElements) × HasIndirectData f d × IsFirstSigner f g

@@ -20,4 +20,5 @@ abbrev pub IsBag : List DerElement → List CertificateElements → Type 0
 IsBag [] bag = bag ≡ []
 IsBag (member ∷ members) bag =
     (((c : CertificateElements) → IsMember member c → ⊥) × IsBag members bag)
-    ⊎ ((c : CertificateElements) × (others : List CertificateElements) × (bag ≡ c ∷ others) × IsMember member c × IsBag members others)
+    ⊎ ((c : CertificateElements) × (others : List CertificateElements) × (bag ≡ c ∷ others)
+    × IsMember member c × IsBag members others)

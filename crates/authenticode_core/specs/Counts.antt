@@ -1,4 +1,5 @@
--- Counts of what happened: a count never falls, and stops at its last value. They are those of timestampers, shelves and sinks, in the crates above.
+-- Counts of what happened: a count never falls, and stops at its last value. They are those of
+-- timestampers, shelves and sinks, in the crates above.
 use Rattle.std.specs.Prelude.{◌≡◌, ◌⊎◌, ◌<◌, ◌≤◌, ℕ}
 
 -- the last value of a count of 64 bits

@@ -37,7 +37,8 @@ unnamed_text issuer serial_number =
     codes "the signed data has no certificate of the issuer '" ++ name_text (sets_of issuer)
     ++ codes "' with the serial number " ++ encode_lower serial_number
 
--- what is told of signed data that isn't read or written. Of an element that isn't no contract says what is told
+-- what is told of signed data that isn't read or written. Of an element that isn't no contract says
+-- what is told
 abbrev pub pkcs7_error_text : Pkcs7Error → Option (List ℕ)
 pkcs7_error_text (pkcs7.Cert e) = cert_error_text e
 pkcs7_error_text pkcs7.Memory = Some (codes "out of memory")
@@ -46,36 +47,47 @@ pkcs7_error_text pkcs7.Memory = Some (codes "out of memory")
 abbrev pub timestamp_error_text : TimestampError → Option (List ℕ)
 timestamp_error_text (stamps.Pkcs7Error e) = pkcs7_error_text e
 timestamp_error_text (stamps.Asn1DerError e) = cert_error_text e
-timestamp_error_text stamps.TimestampTokenEmpty = Some (codes "the token or the signed data has no signer")
+timestamp_error_text stamps.TimestampTokenEmpty =
+    Some (codes "the token or the signed data has no signer")
 timestamp_error_text stamps.Memory = Some (codes "out of memory")
 
--- what is told of signed data that is refused. Of an element that isn't read or written, and of a key
--- that can't be written, no contract says what is told
+-- what is told of signed data that is refused. Of an element that isn't read or written, and of a
+-- key that can't be written, no contract says what is told
 abbrev pub content_error_text : AuthenticodeError → Option (List ℕ)
 content_error_text (contents.CertError e) = cert_error_text e
 content_error_text (contents.IncorrectVersion expected got) =
-    Some (codes "the version of the signed data is " ++ decimal got ++ codes ", and not " ++ decimal expected)
+    Some (codes "the version of the signed data is " ++ decimal got ++ codes ", and not "
+    ++ decimal expected)
 content_error_text (contents.MultipleSignerInfo count) =
     Some (codes "the signed data has " ++ decimal count ++ codes " signers, and not one")
 content_error_text (contents.IncorrectDigestAlgorithmsCount count) =
     Some (codes "the signed data has " ++ decimal count ++ codes " digest algorithms, and not one")
-content_error_text contents.NoEncapsulatedContentInfo = Some (codes "the signed data has no content")
-content_error_text contents.NoSpcIndirectDataContent = Some (codes "what is signed does not stand for a file")
-content_error_text contents.DigestAlgorithmMismatch = Some (codes "the signed data names several digest algorithms")
-content_error_text (contents.FileHashMismatch actual expected) = Some (file_mismatch_text actual expected)
+content_error_text contents.NoEncapsulatedContentInfo =
+    Some (codes "the signed data has no content")
+content_error_text contents.NoSpcIndirectDataContent =
+    Some (codes "what is signed does not stand for a file")
+content_error_text contents.DigestAlgorithmMismatch =
+    Some (codes "the signed data names several digest algorithms")
+content_error_text (contents.FileHashMismatch actual expected) =
+    Some (file_mismatch_text actual expected)
 content_error_text contents.IncorrectSignerIdentifier =
     Some (codes "the signer is named by the identifier of a key, and not by issuer and serial number")
 content_error_text (contents.NoCertificatesAssociatedWithIssuerAndSerialNumber issuer serial_number) =
     Some (unnamed_text issuer (integer_contents serial_number))
 content_error_text (contents.UnsupportedAlgorithmError e) = Some unsupported_algorithm_text
-content_error_text (contents.SignatureError e) = option_map (λ text. codes "signature error: " ++ text) (signature_error_text e)
-content_error_text contents.NoMessageDigest = Some (codes "no message digest is among the signed attributes")
+content_error_text (contents.SignatureError e) =
+    option_map (λ text. codes "signature error: " ++ text) (signature_error_text e)
+content_error_text contents.NoMessageDigest =
+    Some (codes "no message digest is among the signed attributes")
 content_error_text (contents.UnsupportedHashAlgorithmError e) = Some (unsupported_hash_text e)
 content_error_text (contents.HashMismatch actual expected) = Some (mismatch_text actual expected)
-content_error_text contents.NoEKUCodeSigning = Some (codes "the certificate of the signer is not one for code signing")
+content_error_text contents.NoEKUCodeSigning =
+    Some (codes "the certificate of the signer is not one for code signing")
 content_error_text contents.MissingExpectedFileHash = Some (codes "no digest of the file is given")
-content_error_text (contents.InvalidTimestampCert e) = option_map (λ text. codes "certificate of the time stamp: " ++ text) (cert_error_text e)
-content_error_text contents.ProgramNameCharSet = Some (codes "the name of the program has a character past U+FFFF")
+content_error_text (contents.InvalidTimestampCert e) =
+    option_map (λ text. codes "certificate of the time stamp: " ++ text) (cert_error_text e)
+content_error_text contents.ProgramNameCharSet =
+    Some (codes "the name of the program has a character past U+FFFF")
 content_error_text contents.NoCertificates = Some (codes "the signed data has no certificates")
 content_error_text (contents.Asn1DerError e) = None
 content_error_text (contents.TimestampError e) = timestamp_error_text e

@@ -16,7 +16,8 @@ pub record LeadsStamping (t : SignedDataElements) (c : CertificateElements) : Ty
   pub stands : StandsAt bag 0 c
 
 -- The first certificate of the bag isn't linked to the others, which the error tells.
-pub record TellsUnlinked (judge : Judge) (bag : List CertificateElements) (e : AuthenticodeError) : Type 0 where
+pub record TellsUnlinked (judge : Judge) (bag : List CertificateElements)
+    (e : AuthenticodeError) : Type 0 where
   pub cause : CertError
   pub unlinked : IsUnlinkedToken judge bag cause
   pub told : e ≡ errors.InvalidTimestampCert cause

@@ -1,5 +1,6 @@
--- Why the expiry of a signer's certificate is excused: for a time stamp, or for a certificate that could have made one (Windows Authenticode Portable Executable
--- Signature Format). The signature and the time of a stamp aren't asked.
+-- Why the expiry of a signer's certificate is excused: for a time stamp, or for a certificate that
+-- could have made one (Windows Authenticode Portable Executable Signature Format). The signature
+-- and the time of a stamp aren't asked.
 use Rattle.std.specs.Prelude.{◌≡◌, ◌⊎◌, ℕ, zero, suc, List, [], ◌∷◌, length, false}
 use Rattle.asn1_types.specs.declared.oids.TheConstants.{KP_LIFETIME_SIGNING, KP_TIME_STAMPING, RFC3161_COUNTER_SIGN}
 use Rattle.cms_types.specs.Pkcs7.{pkcs7}
@@ -28,7 +29,9 @@ use Rattle.authenticode_core.specs.declared.error.AuthenticodeError.TheVariants 
 
 -- some certificate of the bag names time stamping (RFC 5280 4.2.1.12)
 abbrev pub NamesTimeStamping : List CertificateElements → Type 0
-NamesTimeStamping bag = (place : ℕ) × (c : CertificateElements) × StandsAt bag place c × NamesPurpose c KP_TIME_STAMPING.now
+NamesTimeStamping bag =
+    (place : ℕ) × (c : CertificateElements) × StandsAt bag place c
+    × NamesPurpose c KP_TIME_STAMPING.now
 
 -- the certificate names lifetime signing: its signatures end with it
 abbrev pub NamesLifetime : CertificateElements → Type 0
@@ -36,7 +39,8 @@ NamesLifetime c = NamesPurpose c KP_LIFETIME_SIGNING.now
 
 -- ---- tokens
 
--- The first unsigned attribute of the first signer holds time-stamp tokens, and the first of them has these fields.
+-- The first unsigned attribute of the first signer holds time-stamp tokens, and the first of them
+-- has these fields.
 pub record HasToken (f t : SignedDataElements) : Type 0 where
   pub g : SignerElements
   pub signer : IsFirstSigner f g
@@ -68,7 +72,8 @@ AreOthersThan bag first places = AreOthers bag first.tbs.subject (places_from 0 
 abbrev pub any_time : Window
 any_time = record { date = dates.Absent; not_before = false; not_after = false }
 
--- The first certificate of the bag is linked to the others with another subject, in order, at whatever time.
+-- The first certificate of the bag is linked to the others with another subject, in order, at
+-- whatever time.
 pub record IsLinkedToken (judge : Judge) (bag : List CertificateElements) : Type 0 where
   pub first : KeptCertificate
   pub stands : StandsAt bag 0 first.elements
@@ -77,7 +82,8 @@ pub record IsLinkedToken (judge : Judge) (bag : List CertificateElements) : Type
   pub linked : AreLinkedAt judge any_time bag first places
 
 -- The first certificate of the bag isn't linked so.
-pub record IsUnlinkedToken (judge : Judge) (bag : List CertificateElements) (e : CertError) : Type 0 where
+pub record IsUnlinkedToken (judge : Judge) (bag : List CertificateElements)
+    (e : CertError) : Type 0 where
   pub first : KeptCertificate
   pub stands : StandsAt bag 0 first.elements
   pub places : List ℕ
@@ -95,21 +101,29 @@ pub record IsStamped (judge : Judge) (f : SignedDataElements) : Type 0 where
   pub linked : IsLinkedToken judge bag
 
 -- The expiry is excused, for this reason.
-abbrev pub IsExcused : Judge → SignedDataElements → List CertificateElements → CertificateElements → Excuse → Type 0
+abbrev pub IsExcused : Judge → SignedDataElements → List CertificateElements → CertificateElements
+    → Excuse → Type 0
 IsExcused judge f bag c excuses.None = ⊥
 IsExcused judge f bag c excuses.Bag = (NamesLifetime c → ⊥) × NamesTimeStamping bag
-IsExcused judge f bag c excuses.Token = (NamesLifetime c → ⊥) × (NamesTimeStamping bag → ⊥) × IsStamped judge f
+IsExcused judge f bag c excuses.Token =
+    (NamesLifetime c → ⊥) × (NamesTimeStamping bag → ⊥) × IsStamped judge f
 
 -- no token stands there whose certificates could have made it
 abbrev pub IsUnstamped : SignedDataElements → Type 0
-IsUnstamped f = (t : SignedDataElements) (bag : List CertificateElements) → HasToken f t → IsForStamping t bag → ⊥
+IsUnstamped f =
+    (t : SignedDataElements) (bag : List CertificateElements) → HasToken f t → IsForStamping t bag
+    → ⊥
 
--- The expiry isn't excused, and nothing else is told: the certificate names lifetime signing, or none names time stamping.
-abbrev pub HasNoExcuse : SignedDataElements → List CertificateElements → CertificateElements → Type 0
+-- The expiry isn't excused, and nothing else is told: the certificate names lifetime signing, or
+-- none names time stamping.
+abbrev pub HasNoExcuse : SignedDataElements → List CertificateElements → CertificateElements
+    → Type 0
 HasNoExcuse f bag c = NamesLifetime c ⊎ ((NamesTimeStamping bag → ⊥) × IsUnstamped f)
 
--- A token stands there, and a certificate that could have made it isn't linked, which the error tells.
-pub record HasBadStamp (judge : Judge) (f : SignedDataElements) (bag : List CertificateElements) (c : CertificateElements) (e : AuthenticodeError) : Type 0 where
+-- A token stands there, and a certificate that could have made it isn't linked, which the error
+-- tells.
+pub record HasBadStamp (judge : Judge) (f : SignedDataElements) (bag : List CertificateElements)
+    (c : CertificateElements) (e : AuthenticodeError) : Type 0 where
   pub mortal : NamesLifetime c → ⊥
   pub unnamed : NamesTimeStamping bag → ⊥
   pub t : SignedDataElements

@@ -19,7 +19,8 @@ use Rattle.authenticode_core.specs.declared.form.Form.{Form}
 abbrev pub AreSpelled : SignedDataElements → Type 0
 AreSpelled f = (value : SignedData) × (f ≡ signed_data_elements value)
 
--- The octets begin with a WIN_CERTIFICATE whose certificate is this element, with at most seven zeros after it, and the view is one of it.
+-- The octets begin with a WIN_CERTIFICATE whose certificate is this element, with at most seven
+-- zeros after it, and the view is one of it.
 pub record LiesIn (octets : List ℕ) (element : DerElement) (view : SignedView) : Type 0 where
   pub certificate : List ℕ
   pub named : contents_in octets ≡ Ok certificate
@@ -27,7 +28,8 @@ pub record LiesIn (octets : List ℕ) (element : DerElement) (view : SignedView)
   pub is : IsSignedView element view
 
 -- The content is indirect data, whose algorithm and digest lie there.
-pub record IsIndirectContent (f : SignedDataElements) (d : IndirectData) (content : Content) : Type 0 where
+pub record IsIndirectContent (f : SignedDataElements) (d : IndirectData)
+    (content : Content) : Type 0 where
   pub has : HasIndirectData f d
   pub is : content.elem.is.0 ≡ sequence (indirect_kids d)
   pub algorithm : content.algorithm.is.0 ≡ d.algorithm

@@ -10,8 +10,11 @@ abbrev pub left_members : Option Kids → List DerElement
 left_members None = []
 left_members (Some kids) = kids.are.0
 
--- The bag of the members begins with the certificate, and goes on with the bag of those that are left.
-pub record BeginsBag (members : List DerElement) (c : CertificateElements) (left : List DerElement) : Type 0 where
+-- The bag of the members begins with the certificate, and goes on with the bag of those that are
+-- left.
+pub record BeginsBag (members : List DerElement) (c : CertificateElements)
+    (left : List DerElement) : Type 0 where
   pub fewer : length left < length members
   pub begun : (others : List CertificateElements) → IsBag left others → IsBag members (c ∷ others)
-  pub only : (bag : List CertificateElements) → IsBag members bag → (others : List CertificateElements) × (bag ≡ c ∷ others) × IsBag left others
+  pub only : (bag : List CertificateElements) → IsBag members bag
+      → (others : List CertificateElements) × (bag ≡ c ∷ others) × IsBag left others

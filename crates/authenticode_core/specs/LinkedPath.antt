@@ -15,16 +15,20 @@ abbrev pub StandAt : List CertificateElements → List ℕ → List KeptCertific
 StandAt bag [] [] = ⊤
 StandAt bag [] (kept ∷ others) = ⊥
 StandAt bag (place ∷ places) [] = ⊥
-StandAt bag (place ∷ places) (kept ∷ others) = StandsAt bag place kept.elements × StandAt bag places others
+StandAt bag (place ∷ places) (kept ∷ others) =
+    StandsAt bag place kept.elements × StandAt bag places others
 
--- The certificates at the places are a chain above the checked one: each may have issued the one before it, and is valid.
-pub record AreLinkedAt (judge : Judge) (w : Window) (bag : List CertificateElements) (checked : KeptCertificate) (places : List ℕ) : Type 0 where
+-- The certificates at the places are a chain above the checked one: each may have issued the one
+-- before it, and is valid.
+pub record AreLinkedAt (judge : Judge) (w : Window) (bag : List CertificateElements)
+    (checked : KeptCertificate) (places : List ℕ) : Type 0 where
   pub parents : List KeptCertificate
   pub stand : StandAt bag places parents
   pub linked : IsLinkedChain judge w checked parents
 
 -- The certificate at one of the places isn't linked to the one before it, and all before it are.
-pub record IsUnlinkedAt (judge : Judge) (w : Window) (bag : List CertificateElements) (checked : KeptCertificate) (places : List ℕ) (e : CertError) : Type 0 where
+pub record IsUnlinkedAt (judge : Judge) (w : Window) (bag : List CertificateElements)
+    (checked : KeptCertificate) (places : List ℕ) (e : CertError) : Type 0 where
   pub before : List ℕ
   pub place : ℕ
   pub after : List ℕ

@@ -11,8 +11,10 @@ use Rattle.x509_types.specs.CertificateElements.{CertificateElements}
 use Rattle.authenticode_core.specs.LinkedPath.{StandAt}
 use Rattle.authenticode_core.specs.declared.linking.Linking.{Linking}
 
--- The certificates at the places so far are a chain above the checked one, the last of them is kept, and they are counted.
-pub record IsLinkedSoFar (judge : Judge) (w : Window) (bag : List CertificateElements) (checked : KeptCertificate) (so_far : Linking) : Type 0 where
+-- The certificates at the places so far are a chain above the checked one, the last of them is
+-- kept, and they are counted.
+pub record IsLinkedSoFar (judge : Judge) (w : Window) (bag : List CertificateElements)
+    (checked : KeptCertificate) (so_far : Linking) : Type 0 where
   pub below : List KeptCertificate
   pub stand : StandAt bag so_far.places below
   pub linked : IsLinkedChain judge w checked below
@@ -20,19 +22,24 @@ pub record IsLinkedSoFar (judge : Judge) (w : Window) (bag : List CertificateEle
   pub counted : IsStandingFor so_far.number (length below)
 
 -- The certificate with these fields isn't linked to the last of them.
-pub record IsBrokenNext (judge : Judge) (w : Window) (bag : List CertificateElements) (checked : KeptCertificate) (so_far : Linking) (c : CertificateElements) (e : CertError) : Type 0 where
+pub record IsBrokenNext (judge : Judge) (w : Window) (bag : List CertificateElements)
+    (checked : KeptCertificate) (so_far : Linking) (c : CertificateElements)
+    (e : CertError) : Type 0 where
   pub chain : IsLinkedSoFar judge w bag checked so_far
   pub parent : KeptCertificate
   pub is : parent.elements ≡ c
-  pub broken : IsFirstBroken (link_rules judge w (length chain.below) parent (last_of checked chain.below)) e
+  pub broken : IsFirstBroken
+      (link_rules judge w (length chain.below) parent (last_of checked chain.below)) e
 
 -- The certificate with these fields is kept, and may have issued the child.
-pub record IsNextLink (judge : Judge) (w : Window) (count : ℕ) (child : KeptCertificate) (c : CertificateElements) (parent : KeptCertificate) : Type 0 where
+pub record IsNextLink (judge : Judge) (w : Window) (count : ℕ) (child : KeptCertificate)
+    (c : CertificateElements) (parent : KeptCertificate) : Type 0 where
   pub is : parent.elements ≡ c
   pub link : IsLink judge w count parent.elements child.elements
 
 -- It may not, which the error tells.
-pub record IsNoLink (judge : Judge) (w : Window) (count : ℕ) (child : KeptCertificate) (c : CertificateElements) (e : CertError) : Type 0 where
+pub record IsNoLink (judge : Judge) (w : Window) (count : ℕ) (child : KeptCertificate)
+    (c : CertificateElements) (e : CertError) : Type 0 where
   pub parent : KeptCertificate
   pub is : parent.elements ≡ c
   pub broken : IsFirstBroken (link_rules judge w count parent child) e

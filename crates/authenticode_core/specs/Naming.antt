@@ -12,20 +12,27 @@ use Rattle.authenticode_core.specs.declared.wanted.Wanted.{Wanted}
 
 -- the certificate is the first one of the bag that is named so
 abbrev pub IsFirstOfName : List CertificateElements → List ℕ → List ℕ → CertificateElements → Type 0
-IsFirstOfName bag issuer serial_number c = (place : ℕ) × IsLeastPlace bag (IsNamedBy issuer serial_number) 0 place c
+IsFirstOfName bag issuer serial_number c =
+    (place : ℕ) × IsLeastPlace bag (IsNamedBy issuer serial_number) 0 place c
 
--- The certificate stands at the least place of one that is named so, and what its issuer walk asks for is known.
-pub record IsNamedAt (bag : List CertificateElements) (issuer serial_number : List ℕ) (named : Named) : Type 0 where
-  pub least : IsLeastPlace bag (IsNamedBy issuer serial_number) 0 named.certificate.place (view_elements named.certificate.certificate)
-  pub asks : IsTrue named.asks_for_purposes ↔ AsksForPurposes bag (view_elements named.certificate.certificate)
+-- The certificate stands at the least place of one that is named so, and what its issuer walk asks
+-- for is known.
+pub record IsNamedAt (bag : List CertificateElements) (issuer serial_number : List ℕ)
+    (named : Named) : Type 0 where
+  pub least : IsLeastPlace bag (IsNamedBy issuer serial_number) 0 named.certificate.place
+      (view_elements named.certificate.certificate)
+  pub asks : IsTrue named.asks_for_purposes
+      ↔ AsksForPurposes bag (view_elements named.certificate.certificate)
 
 -- ---- a bag that is read certificate by certificate
 
 -- what was found before, or else the next certificate where it is wanted
-abbrev pub FindsNext : Wanted → Option BagCertificate → BagCertificate → Option BagCertificate → Type 0
+abbrev pub FindsNext : Wanted → Option BagCertificate → BagCertificate → Option BagCertificate
+    → Type 0
 FindsNext wanted (Some found) next result = result ≡ Some found
 FindsNext wanted None next None = IsWanted wanted (view_elements next.certificate) → ⊥
-FindsNext wanted None next (Some found) = (found ≡ next) × IsWanted wanted (view_elements next.certificate)
+FindsNext wanted None next (Some found) =
+    (found ≡ next) × IsWanted wanted (view_elements next.certificate)
 
 -- whether one asked before, or this one of the walk does
 abbrev pub AsksNext : Bool → Bool → CertificateElements → Bool → Type 0

@@ -16,7 +16,8 @@ use Rattle.authenticode_core.specs.declared.others.Source.{Source}
 use Rattle.authenticode_core.specs.declared.others.Source.TheVariants as sources
 
 -- The walk goes on over these places.
-pub record WalksOver (walk : IssuerWalk) (bag : List CertificateElements) (places : List ℕ) : Type 0 where
+pub record WalksOver (walk : IssuerWalk) (bag : List CertificateElements)
+    (places : List ℕ) : Type 0 where
   pub from : ℕ
   pub subject : DerElement
   pub looks : LooksFrom walk bag from subject
@@ -34,8 +35,10 @@ abbrev pub GivesPlaces : Source → List CertificateElements → List ℕ → Ty
 GivesPlaces (sources.Walk walk) bag places = WalksOver walk bag places
 GivesPlaces (sources.Bag cursor) bag places = GoesOver cursor bag places
 
--- The certificates that are left stand at these places: those of the source without those with the subject.
-pub record AreLeft (cursor : Others) (bag : List CertificateElements) (places : List ℕ) : Type 0 where
+-- The certificates that are left stand at these places: those of the source without those with the
+-- subject.
+pub record AreLeft (cursor : Others) (bag : List CertificateElements)
+    (places : List ℕ) : Type 0 where
   pub subject : DerElement
   pub octets : cursor.subject.now ≡ encoding subject
   pub given : List ℕ
@@ -43,7 +46,8 @@ pub record AreLeft (cursor : Others) (bag : List CertificateElements) (places : 
   pub others : AreOthers bag subject given places
 
 -- The certificate stands at the first of the places, and these are behind it.
-pub record IsFirstOf (bag : List CertificateElements) (places : List ℕ) (place : ℕ) (c : CertificateElements) (behind : List ℕ) : Type 0 where
+pub record IsFirstOf (bag : List CertificateElements) (places : List ℕ) (place : ℕ)
+    (c : CertificateElements) (behind : List ℕ) : Type 0 where
   pub are : places ≡ place ∷ behind
   pub stands : StandsAt bag place c
 

@@ -9,14 +9,18 @@ StandsAt bag place c = slice_get bag place ≡ Some c
 -- a rule holds of no certificate at a place from one on and below another
 abbrev pub HoldsOfNone : List CertificateElements → (CertificateElements → Type 0) → ℕ → ℕ → Type 0
 HoldsOfNone bag holds from to =
-    (place : ℕ) (c : CertificateElements) → from ≤ place → place < to → StandsAt bag place c → holds c → ⊥
+    (place : ℕ) (c : CertificateElements) → from ≤ place → place < to → StandsAt bag place c
+    → holds c → ⊥
 
 -- a rule holds of no certificate at a place from one on
 abbrev pub HasNoPlace : List CertificateElements → (CertificateElements → Type 0) → ℕ → Type 0
-HasNoPlace bag holds from = (place : ℕ) (c : CertificateElements) → from ≤ place → StandsAt bag place c → holds c → ⊥
+HasNoPlace bag holds from =
+    (place : ℕ) (c : CertificateElements) → from ≤ place → StandsAt bag place c → holds c → ⊥
 
--- The place is the least one, from another on, with a certificate of which the rule holds, and this is the certificate.
-pub record IsLeastPlace (bag : List CertificateElements) (holds : CertificateElements → Type 0) (from place : ℕ) (c : CertificateElements) : Type 0 where
+-- The place is the least one, from another on, with a certificate of which the rule holds, and this
+-- is the certificate.
+pub record IsLeastPlace (bag : List CertificateElements) (holds : CertificateElements → Type 0)
+    (from place : ℕ) (c : CertificateElements) : Type 0 where
   pub later : from ≤ place
   pub stands : StandsAt bag place c
   pub fits : holds c

@@ -41,16 +41,21 @@ plain_elements p = record {
 
 -- the content: a portable executable, and the digest of it
 abbrev pub plain_data : List ℕ → IndirectData
-plain_data file_hash = record { image = image_data; algorithm = algorithm identifiers.SHA256.now; digest = file_hash }
+plain_data file_hash =
+    record { image = image_data; algorithm = algorithm identifiers.SHA256.now; digest = file_hash }
 
--- Signed data of these parts has the form that is asked for, with their digest of the file, and its attributes hold the digest of the content.
+-- Signed data of these parts has the form that is asked for, with their digest of the file, and its
+-- attributes hold the digest of the content.
 pub record HasPlainFields (p : PlainParts) : Type 0 where
-  pub form : HasForm (plain_elements p) (algorithm identifiers.SHA256.now) (plain_data p.file_hash) (plain_signer p.signer)
+  pub form : HasForm (plain_elements p) (algorithm identifiers.SHA256.now) (plain_data p.file_hash)
+      (plain_signer p.signer)
   pub named : NamesDigest (plain_signer p.signer).digest_algorithm SHA2_256
-  pub bound : HasMessageDigest (plain_signer p.signer) (digest_of SHA2_256 (digested_octets (plain_data p.file_hash)))
+  pub bound : HasMessageDigest (plain_signer p.signer)
+      (digest_of SHA2_256 (digested_octets (plain_data p.file_hash)))
 
--- When signed data of the plain form is accepted: the digest of the file is the one that is asked for, and the scheme accepts the signature over the attributes as a SET
--- under the octets of the key.
+-- When signed data of the plain form is accepted: the digest of the file is the one that is asked
+-- for, and the scheme accepts the signature over the attributes as a SET under the octets of the
+-- key.
 pub record IsPlainlyAccepted (judge : Judge) (p : PlainParts) (file_hash : List ℕ) : Type 0 where
   pub digest : p.file_hash ≡ file_hash
   pub accepted : judge RsaSha256 p.certificate.tbs.key (plain_message p) p.signer.signature ≡ Accept

@@ -18,7 +18,9 @@ algorithm oid = sequence (object_identifier_of oid ∷ null ∷ [])
 -- a Name of one common name (RFC 5280 4.1.2.4)
 abbrev pub plain_name : List ℕ → DerElement
 plain_name text =
-    sequence (set (sequence (object_identifier_of identifiers.AT_COMMON_NAME.now ∷ utf8_string_of text ∷ []) ∷ []) ∷ [])
+    sequence (set
+    (sequence (object_identifier_of identifiers.AT_COMMON_NAME.now ∷ utf8_string_of text ∷ []) ∷
+    []) ∷ [])
 
 -- a Validity between two times of two-digit years (RFC 5280 4.1.2.5)
 abbrev pub plain_validity : List ℕ → List ℕ → DerElement
@@ -26,7 +28,8 @@ plain_validity not_before not_after = sequence (utc_time_of not_before ∷ utc_t
 
 -- the SubjectPublicKeyInfo of an RSA key (RFC 5280 4.1.2.7)
 abbrev pub plain_public_key_info : List ℕ → DerElement
-plain_public_key_info key = sequence (algorithm identifiers.RSA_ENCRYPTION.now ∷ bit_octets key ∷ [])
+plain_public_key_info key =
+    sequence (algorithm identifiers.RSA_ENCRYPTION.now ∷ bit_octets key ∷ [])
 
 -- what varies in the part of a certificate that is signed
 pub record TbsParts : Type 0 where
@@ -65,7 +68,9 @@ pub record CertificateParts : Type 0 where
 
 -- a Certificate (RFC 5280 4.1.1)
 abbrev pub plain_certificate : CertificateParts → DerElement
-plain_certificate c = sequence (plain_tbs_certificate c.tbs ∷ algorithm identifiers.SHA256_WITH_RSA_ENCRYPTION.now ∷ bit_octets c.signature ∷ [])
+plain_certificate c =
+    sequence (plain_tbs_certificate c.tbs ∷ algorithm identifiers.SHA256_WITH_RSA_ENCRYPTION.now ∷
+    bit_octets c.signature ∷ [])
 
 -- an SpcLink to a file without a name (Authenticode)
 abbrev pub empty_link : DerElement
@@ -74,11 +79,13 @@ empty_link = context 0 (context 2 (Primitive 0x80 [] ∷ []) ∷ [])
 -- an SpcAttributeTypeAndOptionalValue: a portable executable, without page hashes (Authenticode)
 abbrev pub image_data : DerElement
 image_data =
-    sequence (object_identifier_of identifiers.SPC_PE_IMAGE_DATA.now ∷ sequence (bit_octets [] ∷ empty_link ∷ []) ∷ [])
+    sequence (object_identifier_of identifiers.SPC_PE_IMAGE_DATA.now ∷
+    sequence (bit_octets [] ∷ empty_link ∷ []) ∷ [])
 
 -- a DigestInfo of SHA-256 (Authenticode, RFC 2315 9.4)
 abbrev pub plain_digest_info : List ℕ → DerElement
-plain_digest_info file_hash = sequence (algorithm identifiers.SHA256.now ∷ octet_string file_hash ∷ [])
+plain_digest_info file_hash =
+    sequence (algorithm identifiers.SHA256.now ∷ octet_string file_hash ∷ [])
 
 -- an SpcIndirectDataContent: what the file is, and its digest (Authenticode)
 abbrev pub indirect_data : List ℕ → DerElement
@@ -87,7 +94,8 @@ indirect_data file_hash = sequence (image_data ∷ plain_digest_info file_hash �
 -- a ContentInfo of indirect data (RFC 2315 7)
 abbrev pub plain_content_info : List ℕ → DerElement
 plain_content_info file_hash =
-    sequence (object_identifier_of identifiers.SPC_INDIRECT_DATA.now ∷ context 0 (indirect_data file_hash ∷ []) ∷ [])
+    sequence (object_identifier_of identifiers.SPC_INDIRECT_DATA.now ∷
+    context 0 (indirect_data file_hash ∷ []) ∷ [])
 
 -- an Attribute of one value (RFC 5652 5.3)
 abbrev pub plain_attribute : List ℕ → DerElement → DerElement
@@ -101,10 +109,10 @@ no_program_name = sequence (context 1 (Primitive 0x80 [] ∷ []) ∷ [])
 -- the content (RFC 2985 5.3, Authenticode)
 abbrev pub plain_attributes : List ℕ → List DerElement
 plain_attributes message_digest =
-    plain_attribute identifiers.CONTENT_TYPE.now (object_identifier_of identifiers.SPC_INDIRECT_DATA.now)
-    ∷ plain_attribute identifiers.SPC_SP_OPUS_INFO.now no_program_name
-    ∷ plain_attribute identifiers.MESSAGE_DIGEST.now (octet_string message_digest)
-    ∷ []
+    plain_attribute identifiers.CONTENT_TYPE.now
+    (object_identifier_of identifiers.SPC_INDIRECT_DATA.now) ∷
+    plain_attribute identifiers.SPC_SP_OPUS_INFO.now no_program_name ∷
+    plain_attribute identifiers.MESSAGE_DIGEST.now (octet_string message_digest) ∷ []
 
 -- what varies in the signer
 pub record SignerParts : Type 0 where
@@ -157,7 +165,8 @@ plain_signed_data p = sequence (signed_data_fields p)
 -- a ContentInfo of it (RFC 2315 7)
 abbrev pub signed_content : PlainParts → DerElement
 signed_content p =
-    sequence (object_identifier_of identifiers.SIGNED_DATA.now ∷ context 0 (plain_signed_data p ∷ []) ∷ [])
+    sequence
+    (object_identifier_of identifiers.SIGNED_DATA.now ∷ context 0 (plain_signed_data p ∷ []) ∷ [])
 
 -- `0` to `9`
 abbrev pub IsDigit : ℕ → Type 0

@@ -7,11 +7,20 @@ use Rattle.authenticode_core.specs.declared.policy.Policy.{Policy}
 
 -- all is asked, and no digest and no date are given
 abbrev pub first_policy : Policy
-first_policy = record { basic = true; file_hash = None; signing = true; not_before = true; not_after = true; chain = true; date = dates.Absent }
+first_policy = record {
+  basic = true;
+  file_hash = None;
+  signing = true;
+  not_before = true;
+  not_after = true;
+  chain = true;
+  date = dates.Absent;
+}
 
 -- what is asked of the validity of a certificate
 abbrev pub window_of : Policy → Window
-window_of policy = record { date = policy.date; not_before = policy.not_before; not_after = policy.not_after }
+window_of policy =
+    record { date = policy.date; not_before = policy.not_before; not_after = policy.not_after }
 
 -- what is asked of the certificate of a signer over those of its issuers: no root is
 abbrev pub policy_checks : Policy → ChainChecks

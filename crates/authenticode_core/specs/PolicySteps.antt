@@ -19,27 +19,39 @@ use Rattle.authenticode_core.specs.SignerRules.{IsBadlyStamped, IsUnbegun, IsUne
 use Rattle.authenticode_core.specs.declared.error.AuthenticodeError.{AuthenticodeError}
 use Rattle.authenticode_core.specs.declared.policy.Policy.{Policy}
 
--- a digest of the file is given, and the signed data vouches for it with the signer's certificate at this place
+-- a digest of the file is given, and the signed data vouches for it with the signer's certificate
+-- at this place
 abbrev pub IsVouchedAt : Judge → Option (List ℕ) → SignedDataElements → ℕ → Type 0
-IsVouchedAt judge file_hash f place = (hash : List ℕ) × (file_hash ≡ Some hash) × VouchesFor judge f hash place
+IsVouchedAt judge file_hash f place =
+    (hash : List ℕ) × (file_hash ≡ Some hash) × VouchesFor judge f hash place
 
 -- where basic validation is asked for, its place is told; else none is
 abbrev pub IsPlaceAsked : Bool → Judge → Option (List ℕ) → SignedDataElements → Option ℕ → Type 0
-IsPlaceAsked true judge file_hash f told = (place : ℕ) × IsVouchedAt judge file_hash f place × (told ≡ Some place)
+IsPlaceAsked true judge file_hash f told =
+    (place : ℕ) × IsVouchedAt judge file_hash f place × (told ≡ Some place)
 IsPlaceAsked false judge file_hash f told = told ≡ None
 
 -- the cause is that a certificate has expired
 abbrev pub IsExpiry : CertCause → Type 0
-IsExpiry cause = (not_after : GeneralizedTime) × (now : GeneralizedTime) × (cause ≡ causes.CertificateExpired not_after now)
+IsExpiry cause =
+    (not_after : GeneralizedTime) × (now : GeneralizedTime)
+    × (cause ≡ causes.CertificateExpired not_after now)
 
 -- the error tells of a certificate that has expired
 abbrev pub TellsExpiry : CertError → Type 0
-TellsExpiry e = (id : DirectoryName) × (cause : CertCause) × IsExpiry cause × (e ≡ cert_errors.InvalidCertificate id cause)
+TellsExpiry e =
+    (id : DirectoryName) × (cause : CertCause) × IsExpiry cause
+    × (e ≡ cert_errors.InvalidCertificate id cause)
 
 -- a certificate of the issuer path isn't linked
-abbrev pub IsUnlinkedPath : Judge → Window → List CertificateElements → KeptCertificate → Rule CertError
-IsUnlinkedPath judge w bag signer e = (path : List ℕ) × IsIssuerPath bag signer.elements path × IsUnlinkedAt judge w bag signer path e
+abbrev pub IsUnlinkedPath : Judge → Window → List CertificateElements → KeptCertificate
+    → Rule CertError
+IsUnlinkedPath judge w bag signer e =
+    (path : List ℕ) × IsIssuerPath bag signer.elements path × IsUnlinkedAt judge w bag signer path e
 
--- the rules of the certificate of the signer where it is known and the dates are given, in their order
+-- the rules of the certificate of the signer where it is known and the dates are given, in their
+-- order
 abbrev pub standing_rules : Judge → Policy → SignedDataElements → List (Rule AuthenticodeError)
-standing_rules judge policy f = IsUnbegun policy f ∷ IsUnexcused policy f ∷ IsBadlyStamped judge policy f ∷ IsUnvouched judge policy f ∷ []
+standing_rules judge policy f =
+    IsUnbegun policy f ∷ IsUnexcused policy f ∷ IsBadlyStamped judge policy f ∷
+    IsUnvouched judge policy f ∷ []

@@ -23,7 +23,8 @@ abbrev pub variant_name : AuthenticodeError → List ℕ
 variant_name (contents.CertError e) = codes "CertError"
 variant_name (contents.IncorrectVersion expected got) = codes "IncorrectVersion"
 variant_name (contents.MultipleSignerInfo count) = codes "MultipleSignerInfo"
-variant_name (contents.IncorrectDigestAlgorithmsCount count) = codes "IncorrectDigestAlgorithmsCount"
+variant_name (contents.IncorrectDigestAlgorithmsCount count) =
+    codes "IncorrectDigestAlgorithmsCount"
 variant_name contents.NoEncapsulatedContentInfo = codes "NoEncapsulatedContentInfo"
 variant_name contents.NoSpcIndirectDataContent = codes "NoSpcIndirectDataContent"
 variant_name contents.DigestAlgorithmMismatch = codes "DigestAlgorithmMismatch"
@@ -45,7 +46,8 @@ variant_name (contents.Asn1DerError e) = codes "Asn1DerError"
 variant_name (contents.TimestampError e) = codes "TimestampError"
 variant_name contents.Memory = codes "Memory"
 
--- the name of a refusal of the signed data: that of the variant, or of the error of certificates that it holds
+-- the name of a refusal of the signed data: that of the variant, or of the error of certificates
+-- that it holds
 abbrev pub content_refusal_name : AuthenticodeError → List ℕ
 content_refusal_name (contents.CertError e) = cert_error_name e
 content_refusal_name e = variant_name e

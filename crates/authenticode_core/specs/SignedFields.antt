@@ -1,4 +1,5 @@
--- The fields of signed data that a check asks for, by the elements that stand for them (RFC 2315 9.1, 9.2; Windows Authenticode Portable Executable Signature Format).
+-- The fields of signed data that a check asks for, by the elements that stand for them (RFC 2315
+-- 9.1, 9.2; Windows Authenticode Portable Executable Signature Format).
 use Rattle.std.specs.Prelude.{◌≡◌, ⊤, ℕ, List, [], ◌∷◌, ◌++◌, Option, Some}
 use Rattle.asn1_types.specs.Elements.{integer_of}
 use Rattle.asn1_types.specs.declared.oids.TheConstants.{MESSAGE_DIGEST, SPC_INDIRECT_DATA}
@@ -26,13 +27,16 @@ signers_of f = members_of (Some f.signers_infos)
 
 -- the first of the digest algorithms
 abbrev pub IsFirstAlgorithm : SignedDataElements → DerElement → Type 0
-IsFirstAlgorithm f algorithm = (others : List DerElement) × (digest_algorithms_of f ≡ algorithm ∷ others)
+IsFirstAlgorithm f algorithm =
+    (others : List DerElement) × (digest_algorithms_of f ≡ algorithm ∷ others)
 
 -- the content, where it isn't left out, with the contents octets of the identifier of its type
 abbrev pub HasSignedContent : SignedDataElements → List ℕ → Option DerElement → Type 0
-HasSignedContent f content_type content = f.content_info ≡ content_info_of (Primitive 0x06 content_type) content
+HasSignedContent f content_type content =
+    f.content_info ≡ content_info_of (Primitive 0x06 content_type) content
 
--- What varies in an SpcIndirectDataContent: what kind of file it is, the algorithm of the digest, and the digest of the file.
+-- What varies in an SpcIndirectDataContent: what kind of file it is, the algorithm of the digest,
+-- and the digest of the file.
 pub record IndirectData : Type 0 where
   pub image : DerElement
   pub algorithm : DerElement
@@ -68,7 +72,8 @@ IsAttributeOf oid element values = element ≡ sequence (Primitive 0x06 oid ∷ 
 -- none of the elements is an attribute of this identifier
 abbrev pub NoneIsOf : List ℕ → List DerElement → Type 0
 NoneIsOf oid [] = ⊤
-NoneIsOf oid (element ∷ elements) = ((values : List DerElement) → IsAttributeOf oid element values → ⊥) × NoneIsOf oid elements
+NoneIsOf oid (element ∷ elements) =
+    ((values : List DerElement) → IsAttributeOf oid element values → ⊥) × NoneIsOf oid elements
 
 -- The first attribute of this identifier has these values.
 pub record IsFirstAttribute (oid : List ℕ) (elements values : List DerElement) : Type 0 where
@@ -82,4 +87,5 @@ pub record IsFirstAttribute (oid : List ℕ) (elements values : List DerElement)
 -- The first message digest attribute has this first value (RFC 2985 5.3.2).
 pub record HasMessageDigest (g : SignerElements) (digest : List ℕ) : Type 0 where
   pub others : List DerElement
-  pub first : IsFirstAttribute MESSAGE_DIGEST.now (signed_attributes_of g) (octet_string digest ∷ others)
+  pub first : IsFirstAttribute MESSAGE_DIGEST.now (signed_attributes_of g)
+      (octet_string digest ∷ others)

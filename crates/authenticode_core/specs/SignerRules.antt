@@ -1,5 +1,5 @@
--- What the certificate of a signer has to be, where it is asked for, rule by rule, in their order (RFC 5280 6.1; Windows Authenticode Portable Executable Signature
--- Format).
+-- What the certificate of a signer has to be, where it is asked for, rule by rule, in their order
+-- (RFC 5280 6.1; Windows Authenticode Portable Executable Signature Format).
 use Rattle.std.specs.Prelude.{◌≡◌, Bool, ℕ, List, [], ◌∷◌, Some, IsTrue, true, false}
 use Rattle.cms_types.specs.SignedDataElements.{SignedDataElements}
 use Rattle.cms_types.specs.SignerElements.{SignerElements}
@@ -26,28 +26,38 @@ use Rattle.authenticode_core.specs.declared.error.AuthenticodeError.TheVariants 
 use Rattle.authenticode_core.specs.declared.policy.Policy.{Policy}
 
 -- The certificate of the first signer, as it is kept, stands at this place of the bag.
-pub record IsKeptSigner (f : SignedDataElements) (bag : List CertificateElements) (place : ℕ) (signer : KeptCertificate) : Type 0 where
+pub record IsKeptSigner (f : SignedDataElements) (bag : List CertificateElements) (place : ℕ)
+    (signer : KeptCertificate) : Type 0 where
   pub is_bag : IsBagOf f bag
   pub is_signer : IsSignerCertificate f bag place signer.elements
 
 -- The certificates of the issuer path are a chain above that of the signer.
-pub record IsVouchedPath (judge : Judge) (w : Window) (bag : List CertificateElements) (signer : KeptCertificate) (path : List ℕ) : Type 0 where
+pub record IsVouchedPath (judge : Judge) (w : Window) (bag : List CertificateElements)
+    (signer : KeptCertificate) (path : List ℕ) : Type 0 where
   pub is_path : IsIssuerPath bag signer.elements path
   pub linked : AreLinkedAt judge w bag signer path
 
 -- where a chain is asked for, this is that of the issuer path; else no place is told
-abbrev pub IsPathAsked : Bool → Judge → Window → List CertificateElements → KeptCertificate → List ℕ → Type 0
+abbrev pub IsPathAsked : Bool → Judge → Window → List CertificateElements → KeptCertificate → List ℕ
+    → Type 0
 IsPathAsked true judge w bag signer path = IsVouchedPath judge w bag signer path
 IsPathAsked false judge w bag signer path = path ≡ []
 
--- The certificate of the signer is valid, and a chain above it is linked; or it has expired, which is excused.
-abbrev pub IsStanding : Judge → Policy → SignedDataElements → List CertificateElements → KeptCertificate → List ℕ → Excuse → Type 0
+-- The certificate of the signer is valid, and a chain above it is linked; or it has expired, which
+-- is excused.
+abbrev pub IsStanding : Judge → Policy → SignedDataElements → List CertificateElements
+    → KeptCertificate → List ℕ → Excuse → Type 0
 IsStanding judge policy f bag signer path excuses.None =
-    IsWithinWindow (window_of policy) signer.elements × IsPathAsked policy.chain judge (window_of policy) bag signer path
-IsStanding judge policy f bag signer path excuse = IsExpired (window_of policy) signer.elements × IsExcused judge f bag signer.elements excuse × (path ≡ [])
+    IsWithinWindow (window_of policy) signer.elements
+    × IsPathAsked policy.chain judge (window_of policy) bag signer path
+IsStanding judge policy f bag signer path excuse =
+    IsExpired (window_of policy) signer.elements × IsExcused judge f bag signer.elements excuse
+    × (path ≡ [])
 
--- The certificate of the signer is vouched for: it stands at the place that is told, a date is given where one is asked for, and it is valid or excused.
-pub record IsSignerVouched (judge : Judge) (policy : Policy) (f : SignedDataElements) (a : Accepted) : Type 0 where
+-- The certificate of the signer is vouched for: it stands at the place that is told, a date is
+-- given where one is asked for, and it is valid or excused.
+pub record IsSignerVouched (judge : Judge) (policy : Policy) (f : SignedDataElements)
+    (a : Accepted) : Type 0 where
   pub bag : List CertificateElements
   pub place : ℕ
   pub signer : KeptCertificate
@@ -72,10 +82,12 @@ HasUnknownName f e = (g : SignerElements) × IsFirstSigner f g × HasNoCertifica
 
 -- dates are asked for, and none is given
 abbrev pub IsUndated : Policy → Rule AuthenticodeError
-IsUndated policy e = (cause : CertError) × LacksDate (policy_checks policy) cause × (e ≡ errors.CertError cause)
+IsUndated policy e =
+    (cause : CertError) × LacksDate (policy_checks policy) cause × (e ≡ errors.CertError cause)
 
 -- The certificate of the signer isn't valid, and hasn't expired.
-pub record IsUnbegun (policy : Policy) (f : SignedDataElements) (e : AuthenticodeError) : Type 0 where
+pub record IsUnbegun (policy : Policy) (f : SignedDataElements)
+    (e : AuthenticodeError) : Type 0 where
   pub bag : List CertificateElements
   pub place : ℕ
   pub signer : KeptCertificate
@@ -86,7 +98,8 @@ pub record IsUnbegun (policy : Policy) (f : SignedDataElements) (e : Authenticod
   pub told : e ≡ errors.CertError cause
 
 -- The certificate of the signer has expired, and nothing excuses it.
-pub record IsUnexcused (policy : Policy) (f : SignedDataElements) (e : AuthenticodeError) : Type 0 where
+pub record IsUnexcused (policy : Policy) (f : SignedDataElements)
+    (e : AuthenticodeError) : Type 0 where
   pub bag : List CertificateElements
   pub place : ℕ
   pub signer : KeptCertificate
@@ -97,8 +110,10 @@ pub record IsUnexcused (policy : Policy) (f : SignedDataElements) (e : Authentic
   pub outside : IsOutside (window_of policy) signer cause
   pub told : e ≡ errors.CertError cause
 
--- The certificate of the signer has expired, and that of the time stamp, which would excuse it, isn't linked.
-pub record IsBadlyStamped (judge : Judge) (policy : Policy) (f : SignedDataElements) (e : AuthenticodeError) : Type 0 where
+-- The certificate of the signer has expired, and that of the time stamp, which would excuse it,
+-- isn't linked.
+pub record IsBadlyStamped (judge : Judge) (policy : Policy) (f : SignedDataElements)
+    (e : AuthenticodeError) : Type 0 where
   pub bag : List CertificateElements
   pub place : ℕ
   pub signer : KeptCertificate
@@ -106,8 +121,10 @@ pub record IsBadlyStamped (judge : Judge) (policy : Policy) (f : SignedDataEleme
   pub expired : IsExpired (window_of policy) signer.elements
   pub stamp : HasBadStamp judge f bag signer.elements e
 
--- The certificate of the signer is valid, a chain is asked for, and one of the issuer path isn't linked.
-pub record IsUnvouched (judge : Judge) (policy : Policy) (f : SignedDataElements) (e : AuthenticodeError) : Type 0 where
+-- The certificate of the signer is valid, a chain is asked for, and one of the issuer path isn't
+-- linked.
+pub record IsUnvouched (judge : Judge) (policy : Policy) (f : SignedDataElements)
+    (e : AuthenticodeError) : Type 0 where
   pub bag : List CertificateElements
   pub place : ℕ
   pub signer : KeptCertificate
@@ -123,5 +140,5 @@ pub record IsUnvouched (judge : Judge) (policy : Policy) (f : SignedDataElements
 -- The rules of the certificate of a signer, in their order.
 abbrev pub signer_rules : Judge → Policy → SignedDataElements → List (Rule AuthenticodeError)
 signer_rules judge policy f =
-    LacksSigner f ∷ HasKeyName f ∷ HasUnknownName f ∷ IsUndated policy ∷ IsUnbegun policy f ∷ IsUnexcused policy f ∷ IsBadlyStamped judge policy f
-    ∷ IsUnvouched judge policy f ∷ []
+    LacksSigner f ∷ HasKeyName f ∷ HasUnknownName f ∷ IsUndated policy ∷ IsUnbegun policy f ∷
+    IsUnexcused policy f ∷ IsBadlyStamped judge policy f ∷ IsUnvouched judge policy f ∷ []

@@ -1,4 +1,5 @@
--- What the signature of the first signer has to be, rule by rule, in their order (RFC 2315 9.3, 9.4; Windows Authenticode Portable Executable Signature Format).
+-- What the signature of the first signer has to be, rule by rule, in their order (RFC 2315 9.3,
+-- 9.4; Windows Authenticode Portable Executable Signature Format).
 use Rattle.std.specs.Prelude.{◌≡◌, ◌≢◌, ℕ, List, [], ◌∷◌, Contains}
 use Rattle.asn1_types.specs.Elements.{integer}
 use Rattle.asn1_types.specs.declared.integer.IntegerAsn1.{IntegerAsn1}
@@ -39,7 +40,8 @@ abbrev pub IsBagOf : SignedDataElements → List CertificateElements → Type 0
 IsBagOf f bag = IsBag (members_of f.certificates) bag
 
 -- the certificate of the first signer, and its place
-abbrev pub IsSignerCertificate : SignedDataElements → List CertificateElements → ℕ → CertificateElements → Type 0
+abbrev pub IsSignerCertificate : SignedDataElements → List CertificateElements → ℕ
+    → CertificateElements → Type 0
 IsSignerCertificate f bag place c = IsSignerPlace (signers_of f) bag place c
 
 -- The algorithm is one of digests, by its identifier alone (RFC 8017 appendix B.1).
@@ -53,8 +55,10 @@ pub record NamesDigest (algorithm : DerElement) (hash : HashAlgorithm) : Type 0 
 abbrev pub digested_octets : IndirectData → List ℕ
 digested_octets d = encodings (row (indirect_kids d))
 
--- The signature of the first signer over its attributes is one by the key of the certificate, an RSA key, with this digest.
-pub record HasSignatureBy (judge : Judge) (g : SignerElements) (hash : HashAlgorithm) (c : CertificateElements) : Type 0 where
+-- The signature of the first signer over its attributes is one by the key of the certificate, an
+-- RSA key, with this digest.
+pub record HasSignatureBy (judge : Judge) (g : SignerElements) (hash : HashAlgorithm)
+    (c : CertificateElements) : Type 0 where
   pub info : SubjectPublicKeyInfo
   pub key : HasKey c info
   pub signature : List ℕ
@@ -62,7 +66,8 @@ pub record HasSignatureBy (judge : Judge) (g : SignerElements) (hash : HashAlgor
   pub accepted : Accepts judge (RsaPkcs1v15 hash) info (signed_message g) signature
 
 -- some certificate of the issuer walk of the signer's has an extended key usage
-pub record AsksForPurposes (bag : List CertificateElements) (signer : CertificateElements) : Type 0 where
+pub record AsksForPurposes (bag : List CertificateElements)
+    (signer : CertificateElements) : Type 0 where
   pub places : List ℕ
   pub walk : IsIssuerWalk bag signer places
   pub place : ℕ
@@ -71,13 +76,15 @@ pub record AsksForPurposes (bag : List CertificateElements) (signer : Certificat
   pub stands : StandsAt bag place c
   pub purposes : HasPurposes c
 
--- where some certificate of its issuer walk has an extended key usage, the signer's names code signing (RFC 5280 4.2.1.12)
+-- where some certificate of its issuer walk has an extended key usage, the signer's names code
+-- signing (RFC 5280 4.2.1.12)
 abbrev pub IsForCodeSigning : List CertificateElements → CertificateElements → Type 0
 IsForCodeSigning bag signer = AsksForPurposes bag signer → NamesPurpose signer KP_CODE_SIGNING.now
 
--- The signature of the first signer is good: its certificate stands at this place, its key accepts the signature over attributes that hold the digest of the
--- indirect data, and it may sign code.
-pub record IsSigned (judge : Judge) (f : SignedDataElements) (d : IndirectData) (g : SignerElements) (place : ℕ) : Type 0 where
+-- The signature of the first signer is good: its certificate stands at this place, its key accepts
+-- the signature over attributes that hold the digest of the indirect data, and it may sign code.
+pub record IsSigned (judge : Judge) (f : SignedDataElements) (d : IndirectData) (g : SignerElements)
+    (place : ℕ) : Type 0 where
   pub bag : List CertificateElements
   pub is_bag : IsBagOf f bag
   pub certificate : CertificateElements
@@ -93,10 +100,12 @@ pub record IsSigned (judge : Judge) (f : SignedDataElements) (d : IndirectData) 
 
 -- the first signer is named by the identifier of a key
 abbrev pub IsNamedByKey : SignerElements → Rule AuthenticodeError
-IsNamedByKey g e = (octets : List ℕ) × (g.sid ≡ Primitive 0x80 octets) × (e ≡ errors.IncorrectSignerIdentifier)
+IsNamedByKey g e =
+    (octets : List ℕ) × (g.sid ≡ Primitive 0x80 octets) × (e ≡ errors.IncorrectSignerIdentifier)
 
 -- no certificate has the issuer and the serial number by which the first signer is named
-pub record HasNoCertificate (f : SignedDataElements) (g : SignerElements) (e : AuthenticodeError) : Type 0 where
+pub record HasNoCertificate (f : SignedDataElements) (g : SignerElements)
+    (e : AuthenticodeError) : Type 0 where
   pub issuer : DirectoryName
   pub serial_number : IntegerAsn1
   pub named : g.sid ≡ sequence (name (sets_of issuer) ∷ integer serial_number ∷ [])
@@ -107,20 +116,26 @@ pub record HasNoCertificate (f : SignedDataElements) (g : SignerElements) (e : A
 
 -- the digest algorithm isn't known
 abbrev pub HasUnknownDigest : SignerElements → Rule AuthenticodeError
-HasUnknownDigest g e = ((hash : HashAlgorithm) → NamesDigest g.digest_algorithm hash → ⊥) × (u : UnsupportedAlgorithmError) × (e ≡ errors.UnsupportedAlgorithmError u)
+HasUnknownDigest g e =
+    ((hash : HashAlgorithm) → NamesDigest g.digest_algorithm hash → ⊥)
+    × (u : UnsupportedAlgorithmError) × (e ≡ errors.UnsupportedAlgorithmError u)
 
--- The signature over the attributes by RSA with this digest is refused under the key of the certificate.
-pub record IsRefusedUnder (judge : Judge) (g : SignerElements) (hash : HashAlgorithm) (c : CertificateElements) (e : AuthenticodeError) : Type 0 where
+-- The signature over the attributes by RSA with this digest is refused under the key of the
+-- certificate.
+pub record IsRefusedUnder (judge : Judge) (g : SignerElements) (hash : HashAlgorithm)
+    (c : CertificateElements) (e : AuthenticodeError) : Type 0 where
   pub info : SubjectPublicKeyInfo
   pub key : HasKey c info
   pub signature : List ℕ
   pub octets : g.signature ≡ Primitive 0x04 signature
   pub source : SignatureError
-  pub refused : IsFirstBroken (verify_rules judge (RsaPkcs1v15 hash) info (signed_message g) signature) source
+  pub refused : IsFirstBroken
+      (verify_rules judge (RsaPkcs1v15 hash) info (signed_message g) signature) source
   pub told : e ≡ errors.SignatureError source
 
 -- the signature isn't accepted
-pub record IsBadlySigned (judge : Judge) (f : SignedDataElements) (g : SignerElements) (e : AuthenticodeError) : Type 0 where
+pub record IsBadlySigned (judge : Judge) (f : SignedDataElements) (g : SignerElements)
+    (e : AuthenticodeError) : Type 0 where
   pub bag : List CertificateElements
   pub is_bag : IsBagOf f bag
   pub place : ℕ
@@ -132,14 +147,18 @@ pub record IsBadlySigned (judge : Judge) (f : SignedDataElements) (g : SignerEle
 
 -- no message digest attribute, or the first one has no value
 abbrev pub HasNoMessageDigest : SignerElements → Rule AuthenticodeError
-HasNoMessageDigest g e = ((digest : List ℕ) → HasMessageDigest g digest → ⊥) × (e ≡ errors.NoMessageDigest)
+HasNoMessageDigest g e =
+    ((digest : List ℕ) → HasMessageDigest g digest → ⊥) × (e ≡ errors.NoMessageDigest)
 
 -- the digest is SHA-224
 abbrev pub IsUnsupportedDigest : SignerElements → Rule AuthenticodeError
-IsUnsupportedDigest g e = NamesDigest g.digest_algorithm SHA2_224 × (e ≡ errors.UnsupportedHashAlgorithmError (record { algorithm = SHA2_224 }))
+IsUnsupportedDigest g e =
+    NamesDigest g.digest_algorithm SHA2_224
+    × (e ≡ errors.UnsupportedHashAlgorithmError (record { algorithm = SHA2_224 }))
 
 -- the first message digest is another one than that of the indirect data
-pub record DigestDiffers (d : IndirectData) (g : SignerElements) (e : AuthenticodeError) : Type 0 where
+pub record DigestDiffers (d : IndirectData) (g : SignerElements)
+    (e : AuthenticodeError) : Type 0 where
   pub hash : HashAlgorithm
   pub named : NamesDigest g.digest_algorithm hash
   pub actual : List ℕ
@@ -159,10 +178,11 @@ pub record IsNotForCodeSigning (f : SignedDataElements) (e : AuthenticodeError) 
   pub told : e ≡ errors.NoEKUCodeSigning
 
 -- The rules of the signature, in their order.
-abbrev pub signing_rules : Judge → SignedDataElements → IndirectData → SignerElements → List (Rule AuthenticodeError)
+abbrev pub signing_rules : Judge → SignedDataElements → IndirectData → SignerElements
+    → List (Rule AuthenticodeError)
 signing_rules judge f d g =
-    IsNamedByKey g ∷ HasNoCertificate f g ∷ HasUnknownDigest g ∷ IsBadlySigned judge f g ∷ HasNoMessageDigest g ∷ IsUnsupportedDigest g ∷ DigestDiffers d g
-    ∷ IsNotForCodeSigning f ∷ []
+    IsNamedByKey g ∷ HasNoCertificate f g ∷ HasUnknownDigest g ∷ IsBadlySigned judge f g ∷
+    HasNoMessageDigest g ∷ IsUnsupportedDigest g ∷ DigestDiffers d g ∷ IsNotForCodeSigning f ∷ []
 
 -- the error tells of the first broken rule, unless memory ran out
 abbrev pub RefusesAuthenticodeBy : List (Rule AuthenticodeError) → AuthenticodeError → Type 0

@@ -28,12 +28,14 @@ use Rattle.authenticode_core.specs.declared.naming.Named.{Named}
 
 -- the certificate of the first signer stands at this place of the bag
 abbrev pub HasSigner : SignedDataElements → ℕ → CertificateElements → Type 0
-HasSigner f place c = (bag : List CertificateElements) × IsBagOf f bag × IsSignerCertificate f bag place c
+HasSigner f place c =
+    (bag : List CertificateElements) × IsBagOf f bag × IsSignerCertificate f bag place c
 
 -- The certificate of the first signer stands there, and what its issuer walk asks for is known.
 pub record NamesSigner (f : SignedDataElements) (named : Named) : Type 0 where
   pub has : HasSigner f named.certificate.place (view_elements named.certificate.certificate)
-  pub asks : IsTrue named.asks_for_purposes ↔ AsksForPurposes has.0 (view_elements named.certificate.certificate)
+  pub asks : IsTrue named.asks_for_purposes
+      ↔ AsksForPurposes has.0 (view_elements named.certificate.certificate)
 
 -- The error tells of these octets of an issuer and these contents octets of a serial number.
 pub record TellsName (issuer serial_number : List ℕ) (e : AuthenticodeError) : Type 0 where
@@ -50,7 +52,8 @@ signer_refusal source = errors.SignatureError source
 
 -- an AlgorithmIdentifier has an identifier of these contents octets
 abbrev pub IsOfIdentifier : DerElement → List ℕ → Type 0
-IsOfIdentifier element oid = (parameters : List DerElement) × (element ≡ sequence (Primitive 0x06 oid ∷ parameters))
+IsOfIdentifier element oid =
+    (parameters : List DerElement) × (element ≡ sequence (Primitive 0x06 oid ∷ parameters))
 
 -- the attributes hold the digest of the indirect data, by an algorithm that isn't SHA-224
 abbrev pub IsBoundBy : IndirectData → SignerElements → HashAlgorithm → Type 0
@@ -62,4 +65,5 @@ digest_rules d g = HasNoMessageDigest g ∷ IsUnsupportedDigest g ∷ DigestDiff
 
 -- the certificate may not sign code, which the error tells
 abbrev pub MayNotSignCode : List CertificateElements → CertificateElements → Rule AuthenticodeError
-MayNotSignCode bag c e = AsksForPurposes bag c × (NamesPurpose c KP_CODE_SIGNING.now → ⊥) × (e ≡ errors.NoEKUCodeSigning)
+MayNotSignCode bag c e =
+    AsksForPurposes bag c × (NamesPurpose c KP_CODE_SIGNING.now → ⊥) × (e ≡ errors.NoEKUCodeSigning)

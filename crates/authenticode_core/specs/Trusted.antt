@@ -15,8 +15,10 @@ use Rattle.authenticode_core.specs.declared.error.CheckError.{CheckError}
 use Rattle.authenticode_core.specs.declared.error.CheckError.TheVariants.{Win, Authenticode, Memory}
 use Rattle.authenticode_core.specs.declared.policy.Policy.{Policy}
 
--- Basic validation: a digest of the file is given, the signed data vouches for it, and the place of the signer's certificate is told.
-pub record IsBasicallyVouched (judge : Judge) (file_hash : Option (List ℕ)) (f : SignedDataElements) (a : Accepted) : Type 0 where
+-- Basic validation: a digest of the file is given, the signed data vouches for it, and the place of
+-- the signer's certificate is told.
+pub record IsBasicallyVouched (judge : Judge) (file_hash : Option (List ℕ)) (f : SignedDataElements)
+    (a : Accepted) : Type 0 where
   pub hash : List ℕ
   pub given : file_hash ≡ Some hash
   pub place : ℕ
@@ -24,10 +26,12 @@ pub record IsBasicallyVouched (judge : Judge) (file_hash : Option (List ℕ)) (f
   pub told : a.signer ≡ Some place
 
 -- The signed data is trusted under the policy, and this is told of it.
-pub record IsTrusted (judge : Judge) (policy : Policy) (f : SignedDataElements) (a : Accepted) : Type 0 where
+pub record IsTrusted (judge : Judge) (policy : Policy) (f : SignedDataElements)
+    (a : Accepted) : Type 0 where
   pub basic : IsTrue policy.basic → IsBasicallyVouched judge policy.file_hash f a
   pub signing : IsTrue policy.signing → IsSignerVouched judge policy f a
-  -- where the signer's certificate isn't asked for, no path and no excuse are told, and its place only by basic validation
+  -- where the signer's certificate isn't asked for, no path and no excuse are told, and its place
+  -- only by basic validation
   pub pathless : policy.signing ≡ false → (a.path ≡ []) × (a.excuse ≡ excuses.None)
   pub placeless : policy.basic ≡ false → policy.signing ≡ false → a.signer ≡ None
 
@@ -39,14 +43,16 @@ LacksHash file_hash e = (file_hash ≡ None) × (e ≡ errors.MissingExpectedFil
 
 -- the digest of the file, or the signature, breaks its first rule
 abbrev pub IsRefusedFor : Judge → SignedDataElements → Option (List ℕ) → Rule AuthenticodeError
-IsRefusedFor judge f file_hash e = (hash : List ℕ) × (file_hash ≡ Some hash) × IsRefusedPart judge f hash e
+IsRefusedFor judge f file_hash e =
+    (hash : List ℕ) × (file_hash ≡ Some hash) × IsRefusedPart judge f hash e
 
 -- the form, and that a digest is given
 abbrev pub shape_rules : SignedDataElements → Option (List ℕ) → List (Rule AuthenticodeError)
 shape_rules f file_hash = form_rules f ++ LacksHash file_hash ∷ []
 
 -- The rules of basic validation, in their order.
-abbrev pub basic_rules : Judge → SignedDataElements → Option (List ℕ) → List (Rule AuthenticodeError)
+abbrev pub basic_rules : Judge → SignedDataElements → Option (List ℕ)
+    → List (Rule AuthenticodeError)
 basic_rules judge f file_hash = shape_rules f file_hash ++ IsRefusedFor judge f file_hash ∷ []
 
 -- these rules where they are asked for
@@ -56,23 +62,30 @@ asked false rules = []
 
 -- The rules of a policy: those of basic validation, then those of the certificate of the signer.
 abbrev pub policy_rules : Judge → Policy → SignedDataElements → List (Rule AuthenticodeError)
-policy_rules judge policy f = asked policy.basic (basic_rules judge f policy.file_hash) ++ asked policy.signing (signer_rules judge policy f)
+policy_rules judge policy f =
+    asked policy.basic (basic_rules judge f policy.file_hash)
+    ++ asked policy.signing (signer_rules judge policy f)
 
 -- ---- answers
 
--- Why the octets are refused for their header, for what their certificate is, or, where basic validation is asked for, for the form of its signed data or since no
--- digest of the file is given.
+-- Why the octets are refused for their header, for what their certificate is, or, where basic
+-- validation is asked for, for the form of its signed data or since no digest of the file is given.
 abbrev pub RefusesForm : Policy → List ℕ → CheckError → Type 0
 RefusesForm policy octets (Win e) = contents_in octets ≡ Err e
 RefusesForm policy octets (Authenticode e) =
     IsUnreadSignature octets e
-    ⊎ ((f : SignedDataElements) × HasSignedData octets f × IsFirstBroken (asked policy.basic (shape_rules f policy.file_hash)) e)
+    ⊎ ((f : SignedDataElements) × HasSignedData octets f
+    × IsFirstBroken (asked policy.basic (shape_rules f policy.file_hash)) e)
 RefusesForm policy octets Memory = ⊥
 
--- The answer: that the signed data is trusted; a refusal by its cause, the first in order; want of memory.
+-- The answer: that the signed data is trusted; a refusal by its cause, the first in order; want of
+-- memory.
 abbrev pub IsAnswer : Judge → Policy → List ℕ → Result Accepted CheckError → Type 0
-IsAnswer judge policy octets (Ok accepted) = (f : SignedDataElements) × HasSignedData octets f × IsTrusted judge policy f accepted
+IsAnswer judge policy octets (Ok accepted) =
+    (f : SignedDataElements) × HasSignedData octets f × IsTrusted judge policy f accepted
 IsAnswer judge policy octets (Err (Win e)) = contents_in octets ≡ Err e
 IsAnswer judge policy octets (Err (Authenticode e)) =
-    IsUnreadSignature octets e ⊎ ((f : SignedDataElements) × HasSignedData octets f × IsFirstBroken (policy_rules judge policy f) e)
+    IsUnreadSignature octets e
+    ⊎ ((f : SignedDataElements) × HasSignedData octets f
+    × IsFirstBroken (policy_rules judge policy f) e)
 IsAnswer judge policy octets (Err Memory) = ⊤

@@ -9,18 +9,24 @@ use Rattle.authenticode_core.specs.Places.{StandsAt}
 use Rattle.authenticode_core.specs.declared.issuer_walk.IssuerWalk.{IssuerWalk}
 
 -- The walk looks for a subject from a place of the bag on.
-pub record LooksFrom (walk : IssuerWalk) (bag : List CertificateElements) (from : ℕ) (subject : DerElement) : Type 0 where
+pub record LooksFrom (walk : IssuerWalk) (bag : List CertificateElements) (from : ℕ)
+    (subject : DerElement) : Type 0 where
   pub stands : StandsIn walk.bag bag
   pub place : walk.bag.place ≡ from
   pub octets : walk.subject.now ≡ encoding subject
 
--- The certificate at the place is one of the walk, which looks for its issuer behind it, or it isn't, and the walk looks on for the subject.
-abbrev pub GoesPast : IssuerWalk → List CertificateElements → ℕ → DerElement → CertificateElements → Bool → Type 0
-GoesPast walk bag from subject c true = HasSubject subject c × LooksFrom walk bag (suc from) c.tbs.issuer
-GoesPast walk bag from subject c false = (HasSubject subject c → ⊥) × LooksFrom walk bag (suc from) subject
+-- The certificate at the place is one of the walk, which looks for its issuer behind it, or it
+-- isn't, and the walk looks on for the subject.
+abbrev pub GoesPast : IssuerWalk → List CertificateElements → ℕ → DerElement → CertificateElements
+    → Bool → Type 0
+GoesPast walk bag from subject c true =
+    HasSubject subject c × LooksFrom walk bag (suc from) c.tbs.issuer
+GoesPast walk bag from subject c false =
+    (HasSubject subject c → ⊥) × LooksFrom walk bag (suc from) subject
 
 -- The next certificate of the bag stands where the walk looks from.
-pub record StepsTo (walk : IssuerWalk) (bag : List CertificateElements) (from : ℕ) (subject : DerElement) (place : ℕ) (c : CertificateElements) (on_walk : Bool) : Type 0 where
+pub record StepsTo (walk : IssuerWalk) (bag : List CertificateElements) (from : ℕ)
+    (subject : DerElement) (place : ℕ) (c : CertificateElements) (on_walk : Bool) : Type 0 where
   pub placed : place ≡ from
   pub stands : StandsAt bag from c
   pub goes : GoesPast walk bag from subject c on_walk

@@ -8,7 +8,8 @@ use Rattle.authenticode_core.specs.declared.wanted.Wanted.TheVariants.{Subject, 
 
 -- the certificate has the octets of the issuer, and the contents octets of the serial number
 abbrev pub IsNamedBy : List ℕ → List ℕ → CertificateElements → Type 0
-IsNamedBy issuer serial_number c = (encoding c.tbs.issuer ≡ issuer) × (c.tbs.serial_number ≡ serial_number)
+IsNamedBy issuer serial_number c =
+    (encoding c.tbs.issuer ≡ issuer) × (c.tbs.serial_number ≡ serial_number)
 
 -- the certificate has the octets of the subject, is named so, or names the purpose
 abbrev pub IsWanted : Wanted → CertificateElements → Type 0

@@ -14,13 +14,14 @@ use der_core::tag::{OBJECT_IDENTIFIER, OCTET_STRING, SEQUENCE, SET};
 use der_core::{Elem, Kids, expect_leaf, leaf_at, two_kids};
 use std::alloc::{AllocError, Global};
 
-/// The octets that a signer signs: its attributes with the tag of a SET, an empty one where they are
-/// left out (RFC 2315 9.3). No other octet of them is changed.
+/// The octets that a signer signs: its attributes with the tag of a SET, an empty one where they
+/// are left out (RFC 2315 9.3). No other octet of them is changed.
 pub(crate) fn signed_message_of(
     alloc: Global,
     signer: &SignerView<'_>,
 ) -> Result<Vec<u8>, AllocError>
-    ensures { IfOk result (λ octets. octets.items ≡ signed_message (signer_elements_at signer.now)) }
+    ensures { IfOk result
+        (λ octets. octets.items ≡ signed_message (signer_elements_at signer.now)) }
 {
     match signer.signed_attributes() {
         Some(attributes) => as_set(alloc, attributes),
@@ -31,7 +32,8 @@ pub(crate) fn signed_message_of(
 /// The octets of the elements in a constructed element as those of a SET.
 fn as_set(alloc: Global, attributes: Elem<'_>) -> Result<Vec<u8>, AllocError>
     requires { form_bit (tag_of attributes.is.0) ≡ 1 }
-    ensures { IfOk result (λ octets. octets.items ≡ encoding (set (members_of (Some attributes.entry.is.0)))) }
+    ensures { IfOk result
+        (λ octets. octets.items ≡ encoding (set (members_of (Some attributes.entry.is.0)))) }
 {
     let mut octets = Vec::from_slice(alloc, attributes.whole)?;
     octets[0] = SET;

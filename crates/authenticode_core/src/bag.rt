@@ -24,8 +24,8 @@ pub struct BagCertificate<'a> {
     ghost is: { elem.is.0 ≡ certificate_of (view_elements certificate) } by { Coded-set coded_element elem.is.0 (certificate_of (view_elements certificate)) },
 }
 
-/// The certificates among the members of a field, one after another where their octets lie (RFC 5652
-/// 5.1, 10.2.3). Members that aren't certificates are passed over. It takes no memory.
+/// The certificates among the members of a field, one after another where their octets lie (RFC
+/// 5652 5.1, 10.2.3). Members that aren't certificates are passed over. It takes no memory.
 #[derive(Clone, Copy)]
 pub struct Bag<'a> {
     members: Option<Kids<'a>>,
@@ -50,12 +50,15 @@ impl<'a> Bag<'a> {
 
     /// The next certificate, with its place in the bag.
     pub fn next(&mut self) -> Option<BagCertificate<'a>>
-        ensures fewer { IfSome result (λ _. length (left_members self.new.members) < length (left_members self.old.members)) }
-        ensures place { IfSome result (λ next. (next.place ≡ self.old.place) × (self.new.place ≡ suc next.place)) }
-        ensures begins { MatchOption result
-            (IsBag (left_members self.old.members) [])
-            (λ next. BeginsBag (left_members self.old.members) (view_elements next.certificate) (left_members self.new.members)) }
-        ensures stands { (bag : List CertificateElements) → StandsIn self.old bag → StandsIn self.new bag }
+        ensures fewer { IfSome result
+            (λ _. length (left_members self.new.members) < length (left_members self.old.members)) }
+        ensures place { IfSome result
+            (λ next. (next.place ≡ self.old.place) × (self.new.place ≡ suc next.place)) }
+        ensures begins { MatchOption result (IsBag (left_members self.old.members) [])
+            (λ next. BeginsBag (left_members self.old.members) (view_elements next.certificate)
+            (left_members self.new.members)) }
+        ensures stands { (bag : List CertificateElements) → StandsIn self.old bag
+            → StandsIn self.new bag }
         ensures next { (bag : List CertificateElements) → StandsIn self.old bag → MatchOption result
             (length bag ≡ self.old.place)
             (λ next. StandsAt bag next.place (view_elements next.certificate)) }
@@ -76,11 +79,15 @@ impl<'a> Bag<'a> {
 
     /// The next certificate that is wanted, with its place in the bag.
     pub(crate) fn next_wanted(&mut self, wanted: Wanted<'_>) -> Option<BagCertificate<'a>>
-        ensures fewer { IfSome result (λ _. length (left_members self.new.members) < length (left_members self.old.members)) }
-        ensures stands { (bag : List CertificateElements) → StandsIn self.old bag → StandsIn self.new bag }
-        ensures least { (bag : List CertificateElements) → StandsIn self.old bag → MatchOption result
-            (HasNoPlace bag (IsWanted wanted.entry) self.old.place)
-            (λ next. IsLeastPlace bag (IsWanted wanted.entry) self.old.place next.place (view_elements next.certificate) × (self.new.place ≡ suc next.place)) }
+        ensures fewer { IfSome result
+            (λ _. length (left_members self.new.members) < length (left_members self.old.members)) }
+        ensures stands { (bag : List CertificateElements) → StandsIn self.old bag
+            → StandsIn self.new bag }
+        ensures least { (bag : List CertificateElements) → StandsIn self.old bag
+            → MatchOption result (HasNoPlace bag (IsWanted wanted.entry) self.old.place)
+            (λ next. IsLeastPlace bag (IsWanted wanted.entry) self.old.place next.place
+            (view_elements next.certificate)
+            × (self.new.place ≡ suc next.place)) }
     {
         while let Some(next) = self.next() {
             if wanted.is(&next.certificate) {
@@ -92,7 +99,8 @@ impl<'a> Bag<'a> {
 
     /// How many certificates are left.
     pub fn count(self) -> usize
-        ensures { (bag : List CertificateElements) × IsBag (left_members self.entry.members) bag × (result ≡ length bag) }
+        ensures { (bag : List CertificateElements) × IsBag (left_members self.entry.members) bag
+            × (result ≡ length bag) }
     {
         let Some(mut members) = self.members else {
             return 0;
@@ -107,9 +115,8 @@ impl<'a> Bag<'a> {
 
 /// The next of the members that is a certificate.
 fn next_certificate<'a>(members: &mut Kids<'a>) -> Option<(Elem<'a>, CertView<'a>)>
-    ensures { MatchOption result
-        (IsBag members.old.are.0 [])
-        (λ next. IsCertView next.0.is.0 next.1 × BeginsBag members.old.are.0 (view_elements next.1) members.new.are.0) }
+    ensures { MatchOption result (IsBag members.old.are.0 []) (λ next. IsCertView next.0.is.0 next.1
+        × BeginsBag members.old.are.0 (view_elements next.1) members.new.are.0) }
 {
     while let Some(elem) = members.next() {
         if let Some(certificate) = CertView::read(elem) {

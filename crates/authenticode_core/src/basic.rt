@@ -21,8 +21,8 @@ use sig_core::Scheme;
 use std::alloc::Global;
 
 /// Signed data vouches for the digest of the file that the policy has: the place of its signer's
-/// certificate. The first of these is answered that doesn't hold: its form; a digest is given; it is
-/// that of the content; the signature of its one signer is good by the scheme (`expect_signed`).
+/// certificate. The first of these is answered that doesn't hold: its form; a digest is given; it
+/// is that of the content; the signature of its one signer is good by the scheme (`expect_signed`).
 pub(crate) fn expect_basic<'a, S: Scheme>(
     alloc: Global,
     elem: Elem<'a>,
@@ -34,9 +34,12 @@ pub(crate) fn expect_basic<'a, S: Scheme>(
     requires spelled { AreSpelled (data_elements signed_data.now) }
     ensures answer { MatchResult result
         (IsVouchedAt (S.judge scheme.now) policy.now.file_hash (data_elements signed_data.now))
-        (RefusesAuthenticodeBy (basic_rules (S.judge scheme.now) (data_elements signed_data.now) policy.now.file_hash)) }
+        (RefusesAuthenticodeBy (basic_rules (S.judge scheme.now) (data_elements signed_data.now)
+        policy.now.file_hash)) }
     // A refusal of the form comes whatever memory there is, and that no digest is given, too.
-    ensures shape { (e : AuthenticodeError) → IsFirstBroken (shape_rules (data_elements signed_data.now) policy.now.file_hash) e → result ≡ Err e }
+    ensures shape { (e : AuthenticodeError)
+        → IsFirstBroken (shape_rules (data_elements signed_data.now) policy.now.file_hash) e
+        → result ≡ Err e }
 {
     let form = expect_form(elem, signed_data)?;
     let Some(file_hash) = &policy.file_hash else {
@@ -45,7 +48,8 @@ pub(crate) fn expect_basic<'a, S: Scheme>(
     expect_vouched(alloc, signed_data, &form, file_hash.as_slice(), scheme)
 }
 
-/// Signed data of the form vouches for the digest of the file: the place of its signer's certificate.
+/// Signed data of the form vouches for the digest of the file: the place of its signer's
+/// certificate.
 fn expect_vouched<'a, S: Scheme>(
     alloc: Global,
     signed_data: &SignedView<'a>,
@@ -56,7 +60,8 @@ fn expect_vouched<'a, S: Scheme>(
     requires { IsFormOf (data_elements signed_data.now) form.now }
     ensures { MatchResult result
         (VouchesFor (S.judge scheme.now) (data_elements signed_data.now) file_hash.now)
-        (λ e. IsRefusedPart (S.judge scheme.now) (data_elements signed_data.now) file_hash.now e ⊎ (e ≡ AuthenticodeError.Memory)) }
+        (λ e. IsRefusedPart (S.judge scheme.now) (data_elements signed_data.now) file_hash.now e
+        ⊎ (e ≡ AuthenticodeError.Memory)) }
 {
     if !is_same(form.content.digest, file_hash) {
         return Err(file_mismatch(alloc, form.content.digest, file_hash));
@@ -66,7 +71,8 @@ fn expect_vouched<'a, S: Scheme>(
 
 /// The digest of the file is another one than is asked for.
 fn file_mismatch(alloc: Global, actual: &[u8], expected: &[u8]) -> AuthenticodeError
-    ensures { (result ≡ AuthenticodeError.FileHashMismatch actual.now expected.now) ⊎ (result ≡ AuthenticodeError.Memory) }
+    ensures { (result ≡ AuthenticodeError.FileHashMismatch actual.now expected.now)
+        ⊎ (result ≡ AuthenticodeError.Memory) }
 {
     let Ok(actual) = Octets::from_slice(alloc, actual) else {
         return AuthenticodeError::Memory;

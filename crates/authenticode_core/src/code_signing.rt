@@ -24,7 +24,10 @@ use x509_types::CertView;
 /// The certificate of a signer names code signing, where one of its issuer walk has an extended key
 /// usage.
 pub(crate) fn expect_code_signing(named: &Named<'_>) -> Result<(), AuthenticodeError>
-    ensures { (bag : List CertificateElements) → IsTrue named.now.asks_for_purposes ↔ AsksForPurposes bag (view_elements named.now.certificate.certificate) → MatchResult result
+    ensures { (bag : List CertificateElements)
+        → IsTrue named.now.asks_for_purposes
+        ↔ AsksForPurposes bag (view_elements named.now.certificate.certificate)
+        → MatchResult result
         (λ _. IsForCodeSigning bag (view_elements named.now.certificate.certificate))
         (MayNotSignCode bag (view_elements named.now.certificate.certificate)) }
 {
@@ -37,17 +40,20 @@ pub(crate) fn expect_code_signing(named: &Named<'_>) -> Result<(), AuthenticodeE
     Ok(())
 }
 
-/// The first certificate of a bag that is wanted, and whether some certificate of the issuer walk has
-/// an extended key usage. The bag is read once, to its end, and no memory is taken.
+/// The first certificate of a bag that is wanted, and whether some certificate of the issuer walk
+/// has an extended key usage. The bag is read once, to its end, and no memory is taken.
 pub(crate) fn find_on_walk<'a>(
     mut walk: IssuerWalk<'a>,
     wanted: Wanted<'_>,
 ) -> (Option<BagCertificate<'a>>, bool)
-    ensures ended { (bag : List CertificateElements) × IsBag (left_members walk.entry.bag.members) bag }
-    ensures found { (bag : List CertificateElements) (subject : DerElement) → LooksFrom walk.entry bag 0 subject → MatchOption result.0
-        (HasNoPlace bag (IsWanted wanted.entry) 0)
-        (λ found. IsLeastPlace bag (IsWanted wanted.entry) 0 found.place (view_elements found.certificate)) }
-    ensures asks { (bag : List CertificateElements) (signer : CertificateElements) → LooksFrom walk.entry bag 0 signer.tbs.subject
+    ensures ended { (bag : List CertificateElements)
+        × IsBag (left_members walk.entry.bag.members) bag }
+    ensures found { (bag : List CertificateElements) (subject : DerElement)
+        → LooksFrom walk.entry bag 0 subject
+        → MatchOption result.0 (HasNoPlace bag (IsWanted wanted.entry) 0) (λ found. IsLeastPlace bag
+        (IsWanted wanted.entry) 0 found.place (view_elements found.certificate)) }
+    ensures asks { (bag : List CertificateElements) (signer : CertificateElements)
+        → LooksFrom walk.entry bag 0 signer.tbs.subject
         → IsTrue result.1 ↔ AsksForPurposes bag signer }
 {
     let mut found = None;

@@ -25,8 +25,8 @@ use x509_core::CertError;
 /// Executable Signature Format).
 #[derive(Debug, Error)]
 pub enum AuthenticodeError {
-    /// The octets are no element, or no signed data; or the certificate of the signer isn't valid or
-    /// not vouched for. Never with want of memory.
+    /// The octets are no element, or no signed data; or the certificate of the signer isn't valid
+    /// or not vouched for. Never with want of memory.
     CertError(CertError),
     /// The version of the signed data is another one.
     IncorrectVersion {

@@ -33,11 +33,14 @@ pub(crate) fn excuse_of<S: Scheme>(
     signer: &CertView<'_>,
     scheme: &S,
 ) -> Result<Option<Excuse>, AuthenticodeError>
-    ensures { (bag : List CertificateElements) → IsBagOf (data_elements signed_data.now) bag → MatchResult result
+    ensures { (bag : List CertificateElements) → IsBagOf (data_elements signed_data.now) bag
+        → MatchResult result
         (λ found. MatchOption found
         (HasNoExcuse (data_elements signed_data.now) bag (view_elements signer.now))
-        (IsExcused (S.judge scheme.now) (data_elements signed_data.now) bag (view_elements signer.now)))
-        (OrMemory errors.Memory (HasBadStamp (S.judge scheme.now) (data_elements signed_data.now) bag (view_elements signer.now))) }
+        (IsExcused (S.judge scheme.now) (data_elements signed_data.now) bag
+        (view_elements signer.now)))
+        (OrMemory errors.Memory (HasBadStamp (S.judge scheme.now) (data_elements signed_data.now)
+        bag (view_elements signer.now))) }
 {
     if signer.names_purpose(KP_LIFETIME_SIGNING) {
         return Ok(None);
@@ -57,7 +60,8 @@ pub(crate) fn excuse_of<S: Scheme>(
 
 /// Whether some certificate of signed data names time stamping (RFC 5280 4.2.1.12).
 fn names_time_stamping(signed_data: &SignedView<'_>) -> bool
-    ensures { (bag : List CertificateElements) → IsBagOf (data_elements signed_data.now) bag → IsTrue result ↔ NamesTimeStamping bag }
+    ensures { (bag : List CertificateElements) → IsBagOf (data_elements signed_data.now) bag
+        → IsTrue result ↔ NamesTimeStamping bag }
 {
     let mut bag = certificate_bag(signed_data);
     bag.next_wanted(Wanted::Purpose(KP_TIME_STAMPING)).is_some()
@@ -84,8 +88,9 @@ fn expect_linked<S: Scheme>(
     first: &BagCertificate<'_>,
     scheme: &S,
 ) -> Result<(), AuthenticodeError>
-    ensures { (bag : List CertificateElements) → IsBagOf (data_elements token.now) bag → StandsAt bag 0 (view_elements first.now.certificate) → MatchResult result
-        (λ _. IsLinkedToken (S.judge scheme.now) bag)
+    ensures { (bag : List CertificateElements) → IsBagOf (data_elements token.now) bag
+        → StandsAt bag 0 (view_elements first.now.certificate)
+        → MatchResult result (λ _. IsLinkedToken (S.judge scheme.now) bag)
         (OrMemory errors.Memory (TellsUnlinked (S.judge scheme.now) bag)) }
 {
     let first = kept(alloc, first)?;

@@ -27,7 +27,8 @@ const CONTENT: u8 = 0xA0;
 /// The version of signed data (RFC 2315 9.1).
 const VERSION: u8 = 1;
 
-/// What is signed in the place of a file: its element, and in it the digest algorithm and the digest.
+/// What is signed in the place of a file: its element, and in it the digest algorithm and the
+/// digest.
 #[derive(Clone, Copy)]
 pub(crate) struct Content<'a> {
     pub(crate) elem: Elem<'a>,
@@ -86,7 +87,8 @@ fn expect_version(signed_data: &SignedView<'_>) -> Result<(), AuthenticodeError>
 fn one_signer<'a>(signed_data: &SignedView<'a>) -> Result<SignerView<'a>, AuthenticodeError>
     requires { AreSpelled (data_elements signed_data.now) }
     ensures { MatchResult result
-        (λ signer. (length (signers_of (data_elements signed_data.now)) ≡ 1) × IsFirstSigner (data_elements signed_data.now) (signer_elements_at signer))
+        (λ signer. (length (signers_of (data_elements signed_data.now)) ≡ 1)
+        × IsFirstSigner (data_elements signed_data.now) (signer_elements_at signer))
         (HasOtherSigners (data_elements signed_data.now)) }
 {
     let only = match only_within(signed_data.signers_infos()) {
@@ -122,7 +124,8 @@ fn one_algorithm<'a>(
 
 /// The element of the digest algorithms in signed data with its type.
 fn digest_algorithms_in<'a>(elem: Elem<'a>) -> Option<Elem<'a>>
-    ensures { (f : SignedDataElements) → elem.entry.is.0 ≡ pkcs7_of (signed_data_of f) → at_option result ≡ Some f.digest_algorithms }
+    ensures { (f : SignedDataElements) → elem.entry.is.0 ≡ pkcs7_of (signed_data_of f)
+        → at_option result ≡ Some f.digest_algorithms }
 {
     let (_, tagged) = two_kids(elem, SEQUENCE)?;
     let signed_data = explicit_at(tagged, CONTENT)?;
@@ -135,8 +138,10 @@ fn digest_algorithms_in<'a>(elem: Elem<'a>) -> Option<Elem<'a>>
 fn expect_content<'a>(signed_data: &SignedView<'a>) -> Result<Content<'a>, AuthenticodeError>
     requires { AreSpelled (data_elements signed_data.now) }
     ensures { MatchResult result
-        (λ content. (d : IndirectData) × IsIndirectContent (data_elements signed_data.now) d content)
-        (IsFirstBroken (LacksContent (data_elements signed_data.now) ∷ HasOtherContent (data_elements signed_data.now) ∷ [])) }
+        (λ content. (d : IndirectData)
+        × IsIndirectContent (data_elements signed_data.now) d content)
+        (IsFirstBroken (LacksContent (data_elements signed_data.now) ∷
+        HasOtherContent (data_elements signed_data.now) ∷ [])) }
 {
     let Some(elem) = signed_data.content() else {
         return Err(AuthenticodeError::NoEncapsulatedContentInfo);
@@ -152,9 +157,11 @@ fn expect_content<'a>(signed_data: &SignedView<'a>) -> Result<Content<'a>, Authe
 
 /// The digest algorithm and the digest in what is signed in the place of a file.
 fn indirect_data_in<'a>(elem: Elem<'a>) -> Option<Content<'a>>
-    ensures { MatchOption result
-        ((d : IndirectData) → elem.entry.is.0 ≢ sequence (indirect_kids d))
-        (λ content. (image : DerElement) × (elem.entry.is.0 ≡ sequence (image ∷ sequence (content.algorithm.is.0 ∷ octet_string content.digest.now ∷ []) ∷ [])) × (content.elem.is.0 ≡ elem.entry.is.0)) }
+    ensures { MatchOption result ((d : IndirectData) → elem.entry.is.0 ≢ sequence (indirect_kids d))
+        (λ content. (image : DerElement)
+        × (elem.entry.is.0 ≡ sequence (image ∷
+        sequence (content.algorithm.is.0 ∷ octet_string content.digest.now ∷ []) ∷ []))
+        × (content.elem.is.0 ≡ elem.entry.is.0)) }
 {
     let (_image, digest_info) = two_kids(elem, SEQUENCE)?;
     let (algorithm, digest) = two_kids(digest_info, SEQUENCE)?;
@@ -168,9 +175,9 @@ fn indirect_data_in<'a>(elem: Elem<'a>) -> Option<Content<'a>>
 
 /// The one element in an element, or how many there are.
 fn only_within<'a>(elem: Elem<'a>) -> Result<Elem<'a>, usize>
-    ensures { MatchResult result
-        (λ only. members_of (Some elem.entry.is.0) ≡ only.is.0 ∷ [])
-        (λ count. (length (members_of (Some elem.entry.is.0)) ≢ 1) × (count ≡ length (members_of (Some elem.entry.is.0)))) }
+    ensures { MatchResult result (λ only. members_of (Some elem.entry.is.0) ≡ only.is.0 ∷ [])
+        (λ count. (length (members_of (Some elem.entry.is.0)) ≢ 1)
+        × (count ≡ length (members_of (Some elem.entry.is.0)))) }
 {
     let count = count_within(elem);
     match first_within(elem) {
@@ -181,9 +188,9 @@ fn only_within<'a>(elem: Elem<'a>) -> Result<Elem<'a>, usize>
 
 /// The first element in an element.
 pub(crate) fn first_within<'a>(elem: Elem<'a>) -> Option<Elem<'a>>
-    ensures { MatchOption result
-        (members_of (Some elem.entry.is.0) ≡ [])
-        (λ first. (others : List DerElement) × (members_of (Some elem.entry.is.0) ≡ first.is.0 ∷ others)) }
+    ensures { MatchOption result (members_of (Some elem.entry.is.0) ≡ [])
+        (λ first. (others : List DerElement)
+        × (members_of (Some elem.entry.is.0) ≡ first.is.0 ∷ others)) }
 {
     let mut kids = Kids::within(elem)?;
     kids.next()

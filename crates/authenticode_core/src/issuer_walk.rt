@@ -29,7 +29,8 @@ pub struct IssuerWalk<'a> {
 impl<'a> IssuerWalk<'a> {
     /// The walk of the certificate over what is left of the bag.
     pub fn new(bag: Bag<'a>, signer: &CertView<'a>) -> IssuerWalk<'a>
-        ensures looks { (certificates : List CertificateElements) → StandsIn bag.entry certificates → LooksFrom result certificates bag.entry.place (view_elements signer.now).tbs.subject }
+        ensures looks { (certificates : List CertificateElements) → StandsIn bag.entry certificates
+            → LooksFrom result certificates bag.entry.place (view_elements signer.now).tbs.subject }
         ensures members { left_members result.bag.members ≡ left_members bag.entry.members }
     {
         IssuerWalk {
@@ -38,14 +39,16 @@ impl<'a> IssuerWalk<'a> {
         }
     }
 
-    /// The next certificate of the bag, with its place in it, and whether it is the next of the walk.
+    /// The next certificate of the bag, with its place in it, and whether it is the next of the
+    /// walk.
     pub(crate) fn step(&mut self) -> Option<(BagCertificate<'a>, bool)>
-        ensures begins { MatchOption result
-            (IsBag (left_members self.old.bag.members) [])
-            (λ next. BeginsBag (left_members self.old.bag.members) (view_elements next.0.certificate) (left_members self.new.bag.members)) }
-        ensures next { (bag : List CertificateElements) (from : ℕ) (subject : DerElement) → LooksFrom self.old bag from subject → MatchOption result
-            (length bag ≡ from)
-            (λ next. StepsTo self.new bag from subject next.0.place (view_elements next.0.certificate) next.1) }
+        ensures begins { MatchOption result (IsBag (left_members self.old.bag.members) [])
+            (λ next. BeginsBag (left_members self.old.bag.members)
+            (view_elements next.0.certificate) (left_members self.new.bag.members)) }
+        ensures next { (bag : List CertificateElements) (from : ℕ) (subject : DerElement)
+            → LooksFrom self.old bag from subject
+            → MatchOption result (length bag ≡ from) (λ next. StepsTo self.new bag from subject
+            next.0.place (view_elements next.0.certificate) next.1) }
     {
         let next = self.bag.next()?;
         if is_same(next.certificate.subject(), self.subject) {
@@ -57,11 +60,14 @@ impl<'a> IssuerWalk<'a> {
 
     /// The next certificate of the walk, with its place in the bag.
     pub fn next(&mut self) -> Option<BagCertificate<'a>>
-        ensures fewer { IfSome result (λ _. length (left_members self.new.bag.members) < length (left_members self.old.bag.members)) }
-        ensures next { (bag : List CertificateElements) (from : ℕ) (subject : DerElement) → LooksFrom self.old bag from subject → MatchOption result
-            (IsWalkFrom bag from subject [])
-            (λ next. IsLeastPlace bag (HasSubject subject) from next.place (view_elements next.certificate)
-            × LooksFrom self.new bag (suc next.place) (view_elements next.certificate).tbs.issuer) }
+        ensures fewer { IfSome result (λ _. length (left_members self.new.bag.members)
+            < length (left_members self.old.bag.members)) }
+        ensures next { (bag : List CertificateElements) (from : ℕ) (subject : DerElement)
+            → LooksFrom self.old bag from subject
+            → MatchOption result (IsWalkFrom bag from subject []) (λ next. IsLeastPlace bag
+            (HasSubject subject) from next.place (view_elements next.certificate)
+            × LooksFrom self.new bag (suc next.place)
+            (view_elements next.certificate).tbs.issuer) }
     {
         let next = self.bag.next_wanted(Wanted::Subject(self.subject))?;
         self.subject = next.certificate.issuer();
@@ -69,9 +75,11 @@ impl<'a> IssuerWalk<'a> {
     }
 }
 
-/// Whether a certificate of the issuer walk is one of the issuer path: its subject isn't the signer's.
+/// Whether a certificate of the issuer walk is one of the issuer path: its subject isn't the
+/// signer's.
 pub fn is_on_path(signer: &CertView<'_>, certificate: &CertView<'_>) -> bool
-    ensures { IsTrue result ↔ (HasSubject (view_elements signer.now).tbs.subject (view_elements certificate.now) → ⊥) }
+    ensures { IsTrue result
+        ↔ (HasSubject (view_elements signer.now).tbs.subject (view_elements certificate.now) → ⊥) }
 {
     !is_same(certificate.subject(), signer.subject())
 }

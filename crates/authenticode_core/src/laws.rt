@@ -28,22 +28,29 @@ pub fn one_acceptance()
 
 /// Members have one bag.
 pub fn one_bag()
-    ensures { (members : List DerElement) (a b : List CertificateElements) → IsBag members a → IsBag members b → a ≡ b }
+    ensures { (members : List DerElement) (a b : List CertificateElements) → IsBag members a
+        → IsBag members b → a ≡ b }
 {}
 
 /// A certificate has one issuer walk in a bag, and one issuer path.
 pub fn one_issuer_walk()
-    ensures walk { (bag : List CertificateElements) (signer : CertificateElements) (a b : List ℕ) → IsIssuerWalk bag signer a → IsIssuerWalk bag signer b → a ≡ b }
-    ensures path { (bag : List CertificateElements) (signer : CertificateElements) (a b : List ℕ) → IsIssuerPath bag signer a → IsIssuerPath bag signer b → a ≡ b }
+    ensures walk { (bag : List CertificateElements) (signer : CertificateElements) (a b : List ℕ)
+        → IsIssuerWalk bag signer a → IsIssuerWalk bag signer b → a ≡ b }
+    ensures path { (bag : List CertificateElements) (signer : CertificateElements) (a b : List ℕ)
+        → IsIssuerPath bag signer a → IsIssuerPath bag signer b → a ≡ b }
 {}
 
-/// Signed data of the plain form has the shape, with the fields of the form; its form is the one that is
-/// asked for, and its attributes hold the digest of its content. It is vouched for exactly where the
-/// digest of the file is the one that is asked for and the scheme accepts the signature, with the only
-/// certificate as the signer's.
+/// Signed data of the plain form has the shape, with the fields of the form; its form is the one
+/// that is asked for, and its attributes hold the digest of its content. It is vouched for exactly
+/// where the digest of the file is the one that is asked for and the scheme accepts the signature,
+/// with the only certificate as the signer's.
 pub fn plain_form_is_judged()
-    ensures shape { (octets : List ℕ) (p : PlainParts) → IsPlainForm octets p → HasSignedData octets (plain_elements p) }
+    ensures shape { (octets : List ℕ) (p : PlainParts) → IsPlainForm octets p
+        → HasSignedData octets (plain_elements p) }
     ensures form { (octets : List ℕ) (p : PlainParts) → IsPlainForm octets p → HasPlainFields p }
-    ensures vouched { (judge : Judge) (octets : List ℕ) (p : PlainParts) (file_hash : List ℕ) (place : ℕ) → IsPlainForm octets p
-        → VouchesFor judge (plain_elements p) file_hash place ↔ ((place ≡ 0) × IsPlainlyAccepted judge p file_hash) }
+    ensures vouched { (judge : Judge) (octets : List ℕ) (p : PlainParts) (file_hash : List ℕ)
+        (place : ℕ)
+        → IsPlainForm octets p
+        → VouchesFor judge (plain_elements p) file_hash place
+        ↔ ((place ≡ 0) × IsPlainlyAccepted judge p file_hash) }
 {}

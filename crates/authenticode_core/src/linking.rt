@@ -25,8 +25,8 @@ use sig_core::Scheme;
 use std::alloc::{AllocError, Global};
 use x509_core::{Cert, CertError, DateCheck, Window};
 
-/// The certificate, kept with its octets. It is known to be one, so it is refused for want of memory
-/// alone.
+/// The certificate, kept with its octets. It is known to be one, so it is refused for want of
+/// memory alone.
 pub(crate) fn kept(alloc: Global, named: &BagCertificate<'_>) -> Result<Cert, AllocError>
     ensures { IfOk result (λ cert. cert.elements ≡ view_elements named.now.certificate) }
 {
@@ -36,7 +36,8 @@ pub(crate) fn kept(alloc: Global, named: &BagCertificate<'_>) -> Result<Cert, Al
     }
 }
 
-/// The places of the issuer path of a certificate, where those that stand there are a chain above it.
+/// The places of the issuer path of a certificate, where those that stand there are a chain above
+/// it.
 pub(crate) fn linked_path<S: Scheme>(
     alloc: Global,
     signed_data: &SignedView<'_>,
@@ -44,24 +45,26 @@ pub(crate) fn linked_path<S: Scheme>(
     window: &Window,
     scheme: &S,
 ) -> Result<Places, CertError>
-    ensures { (bag : List CertificateElements) → IsBagOf (data_elements signed_data.now) bag → MatchResult result
-        (IsVouchedPath (S.judge scheme.now) window.now bag signer)
-        (OrMemory errors.Memory (λ e. (path : List ℕ) × IsIssuerPath bag signer.elements path × IsUnlinkedAt (S.judge scheme.now) window.now bag signer path e)) }
+    ensures { (bag : List CertificateElements) → IsBagOf (data_elements signed_data.now) bag
+        → MatchResult result (IsVouchedPath (S.judge scheme.now) window.now bag signer)
+        (OrMemory errors.Memory (λ e. (path : List ℕ) × IsIssuerPath bag signer.elements path
+        × IsUnlinkedAt (S.judge scheme.now) window.now bag signer path e)) }
 {
     let issuers = Others::on_path(certificate_bag(signed_data), &signer.view());
     linked_places(alloc, &signer, issuers, window, scheme)
 }
 
-/// The first certificate of a token's bag is linked to the others with another subject, in order, at
-/// whatever time.
+/// The first certificate of a token's bag is linked to the others with another subject, in order,
+/// at whatever time.
 pub(crate) fn expect_linked_token<S: Scheme>(
     alloc: Global,
     token: &SignedView<'_>,
     first: &Cert,
     scheme: &S,
 ) -> Result<(), CertError>
-    ensures { (bag : List CertificateElements) → IsBagOf (data_elements token.now) bag → StandsAt bag 0 first.now.elements → MatchResult result
-        (λ _. IsLinkedToken (S.judge scheme.now) bag)
+    ensures { (bag : List CertificateElements) → IsBagOf (data_elements token.now) bag
+        → StandsAt bag 0 first.now.elements
+        → MatchResult result (λ _. IsLinkedToken (S.judge scheme.now) bag)
         (OrMemory errors.Memory (IsUnlinkedToken (S.judge scheme.now) bag)) }
 {
     let others = Others::in_bag(certificate_bag(token), &first.view());
@@ -69,8 +72,8 @@ pub(crate) fn expect_linked_token<S: Scheme>(
     Ok(())
 }
 
-/// The places of the certificates, where these are a chain above the checked one. Three certificates
-/// are kept at a time, however many there are.
+/// The places of the certificates, where these are a chain above the checked one. Three
+/// certificates are kept at a time, however many there are.
 fn linked_places<S: Scheme>(
     alloc: Global,
     checked: &Cert,
@@ -78,9 +81,12 @@ fn linked_places<S: Scheme>(
     window: &Window,
     scheme: &S,
 ) -> Result<Places, CertError>
-    ensures { (bag : List CertificateElements) (places : List ℕ) → AreLeft parents.entry bag places → MatchResult result
-        (λ found. (found ≡ places) × AreLinkedAt (S.judge scheme.now) window.now bag checked.now places)
-        (OrMemory errors.Memory (IsUnlinkedAt (S.judge scheme.now) window.now bag checked.now places)) }
+    ensures { (bag : List CertificateElements) (places : List ℕ) → AreLeft parents.entry bag places
+        → MatchResult result
+        (λ found. (found ≡ places)
+        × AreLinkedAt (S.judge scheme.now) window.now bag checked.now places)
+        (OrMemory errors.Memory
+        (IsUnlinkedAt (S.judge scheme.now) window.now bag checked.now places)) }
 {
     let mut linking = Linking::new(alloc);
     while let Some(next) = parents.next() {
@@ -126,10 +132,14 @@ impl Linking {
         window: &Window,
         scheme: &S,
     ) -> Result<(), CertError>
-        ensures { (bag : List CertificateElements) → IsLinkedSoFar (S.judge scheme.now) window.now bag checked.now self.old
-            → StandsAt bag next.now.place (view_elements next.now.certificate) → MatchResult result
-            (λ _. IsLinkedSoFar (S.judge scheme.now) window.now bag checked.now self.new × (self.new.places ≡ self.old.places ++ next.now.place ∷ []))
-            (OrMemory errors.Memory (IsBrokenNext (S.judge scheme.now) window.now bag checked.now self.old (view_elements next.now.certificate))) }
+        ensures { (bag : List CertificateElements)
+            → IsLinkedSoFar (S.judge scheme.now) window.now bag checked.now self.old
+            → StandsAt bag next.now.place (view_elements next.now.certificate)
+            → MatchResult result
+            (λ _. IsLinkedSoFar (S.judge scheme.now) window.now bag checked.now self.new
+            × (self.new.places ≡ self.old.places ++ next.now.place ∷ []))
+            (OrMemory errors.Memory (IsBrokenNext (S.judge scheme.now) window.now bag checked.now
+            self.old (view_elements next.now.certificate))) }
     {
         let parent = linked_parent(
             alloc,
@@ -155,9 +165,12 @@ fn linked_parent<S: Scheme>(
     window: &Window,
     scheme: &S,
 ) -> Result<Cert, CertError>
-    ensures { (count : ℕ) → IsStandingFor number count → MatchResult result
-        (IsNextLink (S.judge scheme.now) window.now count child.now (view_elements next.now.certificate))
-        (OrMemory errors.Memory (IsNoLink (S.judge scheme.now) window.now count child.now (view_elements next.now.certificate))) }
+    ensures { (count : ℕ) → IsStandingFor number count
+        → MatchResult result
+        (IsNextLink (S.judge scheme.now) window.now count child.now
+        (view_elements next.now.certificate))
+        (OrMemory errors.Memory (IsNoLink (S.judge scheme.now) window.now count child.now
+        (view_elements next.now.certificate))) }
 {
     let parent = kept(alloc, next)?;
     parent.expect_link(alloc, child, number, window, scheme)?;

@@ -1,4 +1,5 @@
-//! The certificate of a signer, by its issuer and its serial number, and what its issuer walk asks for.
+//! The certificate of a signer, by its issuer and its serial number, and what its issuer walk asks
+//! for.
 
 ghost use Rattle.std.specs.Prelude.{◌≡◌, List, IsTrue, IfSome, MatchOption};
 ghost use Rattle.cms_types.specs.SignedView.{data_elements};
@@ -32,16 +33,16 @@ pub(crate) struct Named<'a> {
 }
 
 /// The first certificate of signed data with this issuer, by its octets, and this serial number, by
-/// its contents octets. Up to that one the two fields are compared before any other is looked at. Then
-/// the bag is read once to its end: for the place, for the issuer walk, and so that it is known whose
-/// place is answered. It takes no memory.
+/// its contents octets. Up to that one the two fields are compared before any other is looked at.
+/// Then the bag is read once to its end: for the place, for the issuer walk, and so that it is
+/// known whose place is answered. It takes no memory.
 pub(crate) fn named_certificate<'a>(
     signed_data: &SignedView<'a>,
     issuer: &[u8],
     serial_number: &[u8],
 ) -> Option<Named<'a>>
-    ensures { (bag : List CertificateElements) × IsBagOf (data_elements signed_data.now) bag × MatchOption result
-        (HasNoPlace bag (IsNamedBy issuer.now serial_number.now) 0)
+    ensures { (bag : List CertificateElements) × IsBagOf (data_elements signed_data.now) bag
+        × MatchOption result (HasNoPlace bag (IsNamedBy issuer.now serial_number.now) 0)
         (IsNamedAt bag issuer.now serial_number.now) }
 {
     let Some(first) = first_named(signed_data.certificates(), issuer, serial_number) else {
@@ -68,8 +69,9 @@ fn first_named<'a>(
     issuer: &[u8],
     serial_number: &[u8],
 ) -> Option<CertView<'a>>
-    ensures { (bag : List CertificateElements) → IsBag (members_of (at_option certificates.entry)) bag → MatchOption result
-        (HasNoPlace bag (IsNamedBy issuer.now serial_number.now) 0)
+    ensures { (bag : List CertificateElements)
+        → IsBag (members_of (at_option certificates.entry)) bag
+        → MatchOption result (HasNoPlace bag (IsNamedBy issuer.now serial_number.now) 0)
         (λ first. IsFirstOfName bag issuer.now serial_number.now (view_elements first)) }
 {
     let members = Kids::within(certificates?)?;
@@ -97,8 +99,10 @@ fn first_among<'a>(
 /// The certificate that a member is, where it is named so.
 fn named_at<'a>(member: Elem<'a>, issuer: &[u8], serial_number: &[u8]) -> Option<CertView<'a>>
     ensures { MatchOption result
-        ((c : CertificateElements) → IsMember member.entry.is.0 c → IsNamedBy issuer.now serial_number.now c → ⊥)
-        (λ certificate. IsMember member.entry.is.0 (view_elements certificate) × IsNamedBy issuer.now serial_number.now (view_elements certificate)) }
+        ((c : CertificateElements) → IsMember member.entry.is.0 c
+        → IsNamedBy issuer.now serial_number.now c → ⊥)
+        (λ certificate. IsMember member.entry.is.0 (view_elements certificate)
+        × IsNamedBy issuer.now serial_number.now (view_elements certificate)) }
 {
     if !may_be_named(member, issuer, serial_number) {
         return None;
@@ -110,10 +114,11 @@ fn named_at<'a>(member: Elem<'a>, issuer: &[u8], serial_number: &[u8]) -> Option
     Some(certificate)
 }
 
-/// Whether a member could be a certificate that is named so. One whose fields aren't found is looked
-/// at again.
+/// Whether a member could be a certificate that is named so. One whose fields aren't found is
+/// looked at again.
 fn may_be_named(member: Elem<'_>, issuer: &[u8], serial_number: &[u8]) -> bool
-    ensures { (c : CertificateElements) → member.entry.is.0 ≡ certificate_of c → IsNamedBy issuer.now serial_number.now c → IsTrue result }
+    ensures { (c : CertificateElements) → member.entry.is.0 ≡ certificate_of c
+        → IsNamedBy issuer.now serial_number.now c → IsTrue result }
 {
     match issuer_and_serial_in(member) {
         Some((name, number)) => is_same(name, issuer) && is_same(number, serial_number),
@@ -121,11 +126,12 @@ fn may_be_named(member: Elem<'_>, issuer: &[u8], serial_number: &[u8]) -> bool
     }
 }
 
-/// The octets of the issuer, and the contents octets of the serial number, in an element that may be a
-/// certificate (RFC 5280 4.1).
+/// The octets of the issuer, and the contents octets of the serial number, in an element that may
+/// be a certificate (RFC 5280 4.1).
 fn issuer_and_serial_in<'a>(member: Elem<'a>) -> Option<(&'a [u8], &'a [u8])>
     ensures { (c : CertificateElements) → member.entry.is.0 ≡ certificate_of c
-        → IfSome result (λ named. (named.0.now ≡ encoding c.tbs.issuer) × (named.1.now ≡ c.tbs.serial_number)) }
+        → IfSome result
+        (λ named. (named.0.now ≡ encoding c.tbs.issuer) × (named.1.now ≡ c.tbs.serial_number)) }
 {
     let mut fields = Kids::of(member, SEQUENCE)?;
     let mut kids = Kids::of(fields.next()?, SEQUENCE)?;

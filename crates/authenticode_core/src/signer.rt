@@ -21,19 +21,25 @@ use x509_types::CertView;
 
 /// The certificates that signed data carries, before the first of them. It takes no memory.
 pub fn certificate_bag<'a>(signed_data: &SignedView<'a>) -> Bag<'a>
-    ensures members { left_members result.members ≡ members_of (data_elements signed_data.now).certificates }
+    ensures members { left_members result.members
+        ≡ members_of (data_elements signed_data.now).certificates }
     ensures place { result.place ≡ 0 }
-    ensures stands { (bag : List CertificateElements) → IsBag (members_of (data_elements signed_data.now).certificates) bag → StandsIn result bag }
+    ensures stands { (bag : List CertificateElements)
+        → IsBag (members_of (data_elements signed_data.now).certificates) bag
+        → StandsIn result bag }
 {
     Bag::of(signed_data.certificates())
 }
 
-/// The certificate that the first of the signers names by its issuer and its serial number (RFC 5652
-/// 5.3), the first one of the bag where several fit. It takes no memory.
+/// The certificate that the first of the signers names by its issuer and its serial number (RFC
+/// 5652 5.3), the first one of the bag where several fit. It takes no memory.
 pub fn signer_of<'a>(signed_data: &SignedView<'a>) -> Option<BagCertificate<'a>>
-    ensures { (bag : List CertificateElements) → IsBag (members_of (data_elements signed_data.now).certificates) bag → MatchOption result
+    ensures { (bag : List CertificateElements)
+        → IsBag (members_of (data_elements signed_data.now).certificates) bag
+        → MatchOption result
         (HasNoSigner (members_of (Some (data_elements signed_data.now).signers_infos)) bag)
-        (λ signer. IsSignerPlace (members_of (Some (data_elements signed_data.now).signers_infos)) bag signer.place (view_elements signer.certificate)) }
+        (λ signer. IsSignerPlace (members_of (Some (data_elements signed_data.now).signers_infos))
+        bag signer.place (view_elements signer.certificate)) }
 {
     let (issuer, serial_number) = named_by_first(signed_data.signers_infos())?;
     certificate_bag(signed_data).next_wanted(Wanted::IssuerAndSerial(issuer, serial_number))
@@ -41,9 +47,11 @@ pub fn signer_of<'a>(signed_data: &SignedView<'a>) -> Option<BagCertificate<'a>>
 
 /// The issuer walk of a certificate over the bag of signed data. It takes no memory.
 pub fn issuer_walk_of<'a>(signed_data: &SignedView<'a>, signer: &CertView<'a>) -> IssuerWalk<'a>
-    ensures looks { (bag : List CertificateElements) → IsBag (members_of (data_elements signed_data.now).certificates) bag
+    ensures looks { (bag : List CertificateElements)
+        → IsBag (members_of (data_elements signed_data.now).certificates) bag
         → LooksFrom result bag 0 (view_elements signer.now).tbs.subject }
-    ensures members { left_members result.bag.members ≡ members_of (data_elements signed_data.now).certificates }
+    ensures members { left_members result.bag.members
+        ≡ members_of (data_elements signed_data.now).certificates }
 {
     IssuerWalk::new(certificate_bag(signed_data), signer)
 }
@@ -53,7 +61,9 @@ pub fn issuer_walk_of<'a>(signed_data: &SignedView<'a>, signer: &CertView<'a>) -
 fn named_by_first<'a>(signers: Elem<'a>) -> Option<(&'a [u8], &'a [u8])>
     ensures { MatchOption result
         ((c : CertificateElements) → IsNamedByFirst (members_of (Some signers.entry.is.0)) c → ⊥)
-        (λ named. (c : CertificateElements) → IsNamedBy named.0.now named.1.now c ↔ IsNamedByFirst (members_of (Some signers.entry.is.0)) c) }
+        (λ named. (c : CertificateElements)
+        → IsNamedBy named.0.now named.1.now c
+        ↔ IsNamedByFirst (members_of (Some signers.entry.is.0)) c) }
 {
     let mut kids = Kids::within(signers)?;
     let first = kids.next()?;

@@ -1,5 +1,5 @@
-//! Whether the certificate of the first signer is vouched for, or its expiry excused, step by step (RFC
-//! 5280 6.1; Windows Authenticode Portable Executable Signature Format).
+//! Whether the certificate of the first signer is vouched for, or its expiry excused, step by step
+//! (RFC 5280 6.1; Windows Authenticode Portable Executable Signature Format).
 
 ghost use Rattle.std.specs.Prelude.{◌≡◌, ◌⊎◌, ◌↔◌, ℕ, List, Some, IsTrue, MatchResult};
 ghost use Rattle.cms_types.specs.SignedView.{data_elements};
@@ -33,10 +33,10 @@ use std::alloc::Global;
 use x509_core::{Cert, CertCause, CertError};
 use x509_types::CertView;
 
-/// The certificate of the first signer is vouched for under a policy. The first of these is answered
-/// that doesn't hold: there is a signer; some certificate is named; a date is given where one is asked
-/// for; the certificate is valid, or its expiry is excused; where a chain is asked for, and nothing is
-/// excused, the certificates of the issuer path are linked.
+/// The certificate of the first signer is vouched for under a policy. The first of these is
+/// answered that doesn't hold: there is a signer; some certificate is named; a date is given where
+/// one is asked for; the certificate is valid, or its expiry is excused; where a chain is asked
+/// for, and nothing is excused, the certificates of the issuer path are linked.
 pub(crate) fn expect_signer<S: Scheme>(
     alloc: Global,
     signed_data: &SignedView<'_>,
@@ -46,7 +46,8 @@ pub(crate) fn expect_signer<S: Scheme>(
     requires { AreSpelled (data_elements signed_data.now) }
     ensures { MatchResult result
         (IsSignerVouched (S.judge scheme.now) policy.now (data_elements signed_data.now))
-        (RefusesAuthenticodeBy (signer_rules (S.judge scheme.now) policy.now (data_elements signed_data.now))) }
+        (RefusesAuthenticodeBy
+        (signer_rules (S.judge scheme.now) policy.now (data_elements signed_data.now))) }
 {
     let first = expect_first(signed_data)?;
     let named = expect_certificate(alloc, signed_data, &first)?;
@@ -76,8 +77,8 @@ fn expect_first<'a>(signed_data: &SignedView<'a>) -> Result<SignerView<'a>, Auth
     }
 }
 
-/// The certificate of the signer is valid, and those of the issuer path are linked where that is asked
-/// for; or it has expired, which is excused. What is kept of it is handed in.
+/// The certificate of the signer is valid, and those of the issuer path are linked where that is
+/// asked for; or it has expired, which is excused. What is kept of it is handed in.
 fn expect_standing<S: Scheme>(
     alloc: Global,
     signed_data: &SignedView<'_>,
@@ -87,9 +88,14 @@ fn expect_standing<S: Scheme>(
     scheme: &S,
 ) -> Result<Accepted, AuthenticodeError>
     requires { signer.elements ≡ view_elements named.now.certificate }
-    ensures { (bag : List CertificateElements) → IsKeptSigner (data_elements signed_data.now) bag named.now.place signer → MatchResult result
-        (λ a. (a.signer ≡ Some named.now.place) × IsStanding (S.judge scheme.now) policy.now (data_elements signed_data.now) bag signer a.path a.excuse)
-        (RefusesAuthenticodeBy (standing_rules (S.judge scheme.now) policy.now (data_elements signed_data.now))) }
+    ensures { (bag : List CertificateElements)
+        → IsKeptSigner (data_elements signed_data.now) bag named.now.place signer
+        → MatchResult result
+        (λ a. (a.signer ≡ Some named.now.place)
+        × IsStanding (S.judge scheme.now) policy.now (data_elements signed_data.now) bag
+        signer a.path a.excuse)
+        (RefusesAuthenticodeBy
+        (standing_rules (S.judge scheme.now) policy.now (data_elements signed_data.now))) }
 {
     let checks = policy.checks();
     match signer.expect_valid(alloc, &checks.window) {
@@ -120,9 +126,12 @@ fn asked_path<S: Scheme>(
     policy: &Policy,
     scheme: &S,
 ) -> Result<Places, CertError>
-    ensures { (bag : List CertificateElements) → IsBagOf (data_elements signed_data.now) bag → MatchResult result
+    ensures { (bag : List CertificateElements) → IsBagOf (data_elements signed_data.now) bag
+        → MatchResult result
         (IsPathAsked policy.now.chain (S.judge scheme.now) (window_of policy.now) bag signer)
-        (λ e. (IsTrue policy.now.chain × IsUnlinkedPath (S.judge scheme.now) (window_of policy.now) bag signer e) ⊎ (e ≡ cert_errors.Memory)) }
+        (λ e. (IsTrue policy.now.chain
+        × IsUnlinkedPath (S.judge scheme.now) (window_of policy.now) bag signer e)
+        ⊎ (e ≡ cert_errors.Memory)) }
 {
     if !policy.chain {
         return Ok(Places::new(alloc));
@@ -131,7 +140,8 @@ fn asked_path<S: Scheme>(
     linked_path(alloc, signed_data, signer, &checks.window, scheme)
 }
 
-/// Why the expiry of the signer's certificate is excused, where this error tells that it isn't valid.
+/// Why the expiry of the signer's certificate is excused, where this error tells that it isn't
+/// valid.
 fn expect_excuse<S: Scheme>(
     alloc: Global,
     signed_data: &SignedView<'_>,
@@ -139,11 +149,17 @@ fn expect_excuse<S: Scheme>(
     error: CertError,
     scheme: &S,
 ) -> Result<Excuse, AuthenticodeError>
-    ensures { (policy : Policy) (bag : List CertificateElements) (place : ℕ) (signer' : KeptCertificate)
-        → IsKeptSigner (data_elements signed_data.now) bag place signer' → signer'.elements ≡ view_elements signer.now
-        → Breaks (IsOutside (window_of policy) signer') error → MatchResult result
-        (λ excuse. IsExpired (window_of policy) signer'.elements × IsExcused (S.judge scheme.now) (data_elements signed_data.now) bag signer'.elements excuse)
-        (RefusesAuthenticodeBy (standing_rules (S.judge scheme.now) policy (data_elements signed_data.now))) }
+    ensures { (policy : Policy) (bag : List CertificateElements) (place : ℕ)
+        (signer' : KeptCertificate)
+        → IsKeptSigner (data_elements signed_data.now) bag place signer'
+        → signer'.elements ≡ view_elements signer.now
+        → Breaks (IsOutside (window_of policy) signer') error
+        → MatchResult result
+        (λ excuse. IsExpired (window_of policy) signer'.elements
+        × IsExcused (S.judge scheme.now) (data_elements signed_data.now) bag signer'.elements
+        excuse)
+        (RefusesAuthenticodeBy
+        (standing_rules (S.judge scheme.now) policy (data_elements signed_data.now))) }
 {
     if !tells_expiry(&error) {
         return Err(AuthenticodeError::from(error));

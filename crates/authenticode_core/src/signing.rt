@@ -30,12 +30,12 @@ use sig_core::{HashAlgorithm, Scheme, UnsupportedAlgorithmError, UnsupportedHash
 use std::alloc::{AllocError, Global};
 use x509_types::CertView;
 
-/// The place of the certificate of the first signer, where the signature over its attributes is good,
-/// and they hold the digest of the indirect data, whose element is handed in. The first of these is
-/// answered that doesn't hold: some certificate is named; the digest algorithm is known; RSA with it
-/// is accepted over the attributes under the key of the certificate; a message digest stands among
-/// them; the digest algorithm isn't SHA-224; the message digest is the one of the indirect data's
-/// contents octets; the certificate may sign code.
+/// The place of the certificate of the first signer, where the signature over its attributes is
+/// good, and they hold the digest of the indirect data, whose element is handed in. The first of
+/// these is answered that doesn't hold: some certificate is named; the digest algorithm is known;
+/// RSA with it is accepted over the attributes under the key of the certificate; a message digest
+/// stands among them; the digest algorithm isn't SHA-224; the message digest is the one of the
+/// indirect data's contents octets; the certificate may sign code.
 pub(crate) fn expect_signed<'a, S: Scheme>(
     alloc: Global,
     signed_data: &SignedView<'a>,
@@ -44,9 +44,12 @@ pub(crate) fn expect_signed<'a, S: Scheme>(
     scheme: &S,
 ) -> Result<usize, AuthenticodeError>
     requires { IsFirstSigner (data_elements signed_data.now) (signer_elements_at signer.now) }
-    ensures { (d : IndirectData) → content.entry.is.0 ≡ sequence (indirect_kids d) → MatchResult result
-        (λ place. IsSigned (S.judge scheme.now) (data_elements signed_data.now) d (signer_elements_at signer.now) place)
-        (RefusesAuthenticodeBy (signing_rules (S.judge scheme.now) (data_elements signed_data.now) d (signer_elements_at signer.now))) }
+    ensures { (d : IndirectData) → content.entry.is.0 ≡ sequence (indirect_kids d)
+        → MatchResult result
+        (λ place. IsSigned (S.judge scheme.now) (data_elements signed_data.now) d
+        (signer_elements_at signer.now) place)
+        (RefusesAuthenticodeBy (signing_rules (S.judge scheme.now) (data_elements signed_data.now)
+        d (signer_elements_at signer.now))) }
 {
     let named = expect_certificate(alloc, signed_data, signer)?;
     let hash = expect_known_digest(signer)?;
@@ -63,9 +66,10 @@ pub(crate) fn expect_certificate<'a>(
     signer: &SignerView<'a>,
 ) -> Result<Named<'a>, AuthenticodeError>
     requires { IsFirstSigner (data_elements signed_data.now) (signer_elements_at signer.now) }
-    ensures { MatchResult result
-        (NamesSigner (data_elements signed_data.now))
-        (RefusesAuthenticodeBy (IsNamedByKey (signer_elements_at signer.now) ∷ HasNoCertificate (data_elements signed_data.now) (signer_elements_at signer.now) ∷ [])) }
+    ensures { MatchResult result (NamesSigner (data_elements signed_data.now))
+        (RefusesAuthenticodeBy (IsNamedByKey (signer_elements_at signer.now) ∷
+        HasNoCertificate (data_elements signed_data.now) (signer_elements_at signer.now) ∷
+        [])) }
 {
     let Some((issuer, serial_number)) = signer.issuer_and_serial() else {
         return Err(AuthenticodeError::IncorrectSignerIdentifier);
@@ -116,8 +120,10 @@ fn expect_signature<S: Scheme>(
     scheme: &S,
 ) -> Result<(), AuthenticodeError>
     ensures { MatchResult result
-        (λ _. HasSignatureBy (S.judge scheme.now) (signer_elements_at signer.now) hash (view_elements certificate.now))
-        (RefusesAuthenticodeBy (IsRefusedUnder (S.judge scheme.now) (signer_elements_at signer.now) hash (view_elements certificate.now) ∷ [])) }
+        (λ _. HasSignatureBy (S.judge scheme.now) (signer_elements_at signer.now) hash
+        (view_elements certificate.now))
+        (RefusesAuthenticodeBy (IsRefusedUnder (S.judge scheme.now) (signer_elements_at signer.now)
+        hash (view_elements certificate.now) ∷ [])) }
 {
     let key = key_of(alloc, certificate)?;
     let message = signed_message_of(alloc, signer)?;
@@ -137,7 +143,8 @@ fn expect_signature<S: Scheme>(
 
 /// The key of a certificate (RFC 5280 4.1.2.7).
 fn key_of(alloc: Global, certificate: &CertView<'_>) -> Result<PublicKey, AllocError>
-    ensures { IfOk result (λ key. HasKey (view_elements certificate.now) (info_of key) × AreDer (inner_key (info_of key).subject_public_key)) }
+    ensures { IfOk result (λ key. HasKey (view_elements certificate.now) (info_of key)
+        × AreDer (inner_key (info_of key).subject_public_key)) }
 {
     match SubjectPublicKeyInfo::read_at(alloc, certificate.subject_public_key_info()) {
         Ok(info) => Ok(PublicKey::from(info)),
@@ -155,8 +162,8 @@ fn signer_refusal(source: SignatureError) -> AuthenticodeError
     }
 }
 
-/// The first message digest of the signer is the digest of these octets, which isn't SHA-224 (RFC 2315
-/// 9.3).
+/// The first message digest of the signer is the digest of these octets, which isn't SHA-224 (RFC
+/// 2315 9.3).
 fn expect_message_digest(
     alloc: Global,
     signer: &SignerView<'_>,

@@ -1,5 +1,5 @@
-//! Whether a signature file is trusted under a policy: what its certificate is, then basic validation,
-//! then the certificate of the signer, each where it is asked for.
+//! Whether a signature file is trusted under a policy: what its certificate is, then basic
+//! validation, then the certificate of the signer, each where it is asked for.
 
 ghost use Rattle.std.specs.Prelude.{◌≡◌, Err, Result, MatchResult};
 ghost use Rattle.cms_types.specs.Pkcs7Elements.{pkcs7_of};
@@ -24,9 +24,9 @@ use der_core::{Elem, one_first_fault};
 use sig_core::Scheme;
 use std::alloc::Global;
 
-/// Checks the signature in a WIN_CERTIFICATE under a policy (Windows Authenticode Portable Executable
-/// Signature Format): what its certificate is, then the steps of `check_signed_data`. The first rule
-/// that is broken is told.
+/// Checks the signature in a WIN_CERTIFICATE under a policy (Windows Authenticode Portable
+/// Executable Signature Format): what its certificate is, then the steps of `check_signed_data`.
+/// The first rule that is broken is told.
 pub fn check_wincert<S: Scheme>(
     alloc: Global,
     bytes: &[u8],
@@ -34,7 +34,8 @@ pub fn check_wincert<S: Scheme>(
     scheme: &S,
 ) -> Result<Accepted, CheckError>
     ensures answer { IsAnswer (S.judge scheme.now) policy.now bytes.now result }
-    // A refusal of the header, of what the certificate is or of the form comes whatever memory there is.
+    // A refusal of the header, of what the certificate is or of the form comes whatever memory
+    // there is.
     ensures refused { (e : CheckError) → RefusesForm policy.now bytes.now e → result ≡ Err e }
     // No other answer has its cause, want of memory aside.
     ensures only { (other : Result Accepted CheckError)
@@ -47,10 +48,10 @@ pub fn check_wincert<S: Scheme>(
     Ok(accepted)
 }
 
-/// Checks signed data under a policy, which lies in this element: where basic validation is asked for,
-/// its form, the digest of the file and the signature of its signer; then, where that is asked for, the
-/// certificate of its first signer. The first rule that is broken is told. The signed data is what
-/// `SignedView::read` gives of the element.
+/// Checks signed data under a policy, which lies in this element: where basic validation is asked
+/// for, its form, the digest of the file and the signature of its signer; then, where that is asked
+/// for, the certificate of its first signer. The first rule that is broken is told. The signed data
+/// is what `SignedView::read` gives of the element.
 pub fn check_signed_data<'a, S: Scheme>(
     alloc: Global,
     elem: Elem<'a>,
@@ -61,9 +62,14 @@ pub fn check_signed_data<'a, S: Scheme>(
     requires { IsSignedView elem.is.0 signed_data.now }
     ensures answer { MatchResult result
         (IsTrusted (S.judge scheme.now) policy.now (data_elements signed_data.now))
-        (RefusesAuthenticodeBy (policy_rules (S.judge scheme.now) policy.now (data_elements signed_data.now))) }
+        (RefusesAuthenticodeBy
+        (policy_rules (S.judge scheme.now) policy.now (data_elements signed_data.now))) }
     // A refusal of the form comes whatever memory there is, and that no digest is given, too.
-    ensures shape { (e : AuthenticodeError) → IsFirstBroken (asked policy.now.basic (shape_rules (data_elements signed_data.now) policy.now.file_hash)) e → result ≡ Err e }
+    ensures shape { (e : AuthenticodeError)
+        → IsFirstBroken
+        (asked policy.now.basic
+        (shape_rules (data_elements signed_data.now) policy.now.file_hash)) e
+        → result ≡ Err e }
 {
     let signer = basic_place(alloc, elem, signed_data, policy, scheme)?;
     if policy.signing {
@@ -87,9 +93,15 @@ fn basic_place<'a, S: Scheme>(
     requires is { elem.is.0 ≡ pkcs7_of (signed_data_of (data_elements signed_data.now)) }
     requires spelled { AreSpelled (data_elements signed_data.now) }
     ensures answer { MatchResult result
-        (IsPlaceAsked policy.now.basic (S.judge scheme.now) policy.now.file_hash (data_elements signed_data.now))
-        (RefusesAuthenticodeBy (asked policy.now.basic (basic_rules (S.judge scheme.now) (data_elements signed_data.now) policy.now.file_hash))) }
-    ensures shape { (e : AuthenticodeError) → IsFirstBroken (asked policy.now.basic (shape_rules (data_elements signed_data.now) policy.now.file_hash)) e → result ≡ Err e }
+        (IsPlaceAsked policy.now.basic (S.judge scheme.now) policy.now.file_hash
+        (data_elements signed_data.now))
+        (RefusesAuthenticodeBy (asked policy.now.basic (basic_rules (S.judge scheme.now)
+        (data_elements signed_data.now) policy.now.file_hash))) }
+    ensures shape { (e : AuthenticodeError)
+        → IsFirstBroken
+        (asked policy.now.basic
+        (shape_rules (data_elements signed_data.now) policy.now.file_hash)) e
+        → result ≡ Err e }
 {
     if !policy.basic {
         return Ok(None);

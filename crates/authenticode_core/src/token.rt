@@ -17,8 +17,8 @@ use asn1_types::oids::RFC3161_COUNTER_SIGN;
 use cms_types::{SignedView, SignerView};
 use der_core::Elem;
 
-/// The first of the time-stamp tokens in the first unsigned attribute of the first signer, where this
-/// attribute holds such. It takes no memory.
+/// The first of the time-stamp tokens in the first unsigned attribute of the first signer, where
+/// this attribute holds such. It takes no memory.
 pub(crate) fn token_of<'a>(signed_data: &SignedView<'a>) -> Option<SignedView<'a>>
     ensures { MatchOption result
         ((t : SignedDataElements) → HasToken (data_elements signed_data.now) t → ⊥)
@@ -43,9 +43,9 @@ pub(crate) fn first_signer_of<'a>(signed_data: &SignedView<'a>) -> Option<Signer
 
 /// The first of the unsigned attributes of a signer.
 fn first_unsigned_of<'a>(signer: &SignerView<'a>) -> Option<Elem<'a>>
-    ensures { MatchOption result
-        (members_of (signer_elements_at signer.now).unsigned_attrs ≡ [])
-        (λ first. (others : List DerElement) × (members_of (signer_elements_at signer.now).unsigned_attrs ≡ first.is.0 ∷ others)) }
+    ensures { MatchOption result (members_of (signer_elements_at signer.now).unsigned_attrs ≡ [])
+        (λ first. (others : List DerElement)
+        × (members_of (signer_elements_at signer.now).unsigned_attrs ≡ first.is.0 ∷ others)) }
 {
     let attributes = signer.unsigned_attributes()?;
     first_within(attributes)

@@ -39,7 +39,8 @@ pub(crate) fn signed_data_of<'a>(bytes: &'a [u8]) -> Result<(Elem<'a>, SignedVie
 
 /// Why a certificate isn't signed data.
 fn unread(source: DerError) -> CheckError
-    ensures { result ≡ CheckError.Authenticode (AuthenticodeError.CertError (CertError.Asn1Deserialization Element.Pkcs7 source)) }
+    ensures { result ≡ CheckError.Authenticode
+        (AuthenticodeError.CertError (CertError.Asn1Deserialization Element.Pkcs7 source)) }
 {
     CheckError::Authenticode(AuthenticodeError::CertError(CertError::Asn1Deserialization {
         element: Element::Pkcs7,

@@ -7,8 +7,8 @@ ghost use Rattle.authenticode_core.specs.Wanted.{IsWanted};
 use der_core::is_same;
 use x509_types::CertView;
 
-/// A certificate by the octets of its subject, by the octets of its issuer and the contents octets of
-/// its serial number, or by a purpose that it names, by the contents octets of this.
+/// A certificate by the octets of its subject, by the octets of its issuer and the contents octets
+/// of its serial number, or by a purpose that it names, by the contents octets of this.
 #[derive(Clone, Copy)]
 pub(crate) enum Wanted<'a> {
     Subject(&'a [u8]),

@@ -1,5 +1,6 @@
-//! Tests of the public calls of `authenticode_core` over a signature file of the plain form, made by
-//! `tools/first_path.py` with Python's standard library. What becomes of it where one part of it is
+//! Tests of the public calls of `authenticode_core` over a signature file of the plain form, made
+//! by `tools/first_path.py` with Python's standard library. What becomes of it where one part of it
+//! is
 //! another, `basic_answers` has as data.
 #![tactic(auto)]
 

@@ -1,5 +1,5 @@
-//! What is told of a refusal. The texts and the names of all have a clause, and `basic_answers` prints
-//! each that signature files can have.
+//! What is told of a refusal. The texts and the names of all have a clause, and `basic_answers`
+//! prints each that signature files can have.
 
 use crate::made::{FILE, FILE_HASH, basic_policy, table};
 use authenticode_core::{Accepted, AuthenticodeError, CheckError, check_wincert};

@@ -23,7 +23,8 @@ abbrev pub builder_error_text : AuthenticodeSignatureBuilderError → Option (Li
 builder_error_text errors.MissingDigestAlgorithm = Some (codes "no digest algorithm is given")
 builder_error_text errors.MissingContentInfo = Some (codes "no content is given")
 builder_error_text errors.MissingSigningKey = Some (codes "no private key is given")
-builder_error_text errors.MissingIssuerAndSerialNumber = Some (codes "no issuer and no serial number are given")
+builder_error_text errors.MissingIssuerAndSerialNumber =
+    Some (codes "no issuer and no serial number are given")
 builder_error_text errors.MissingCertificatesRequired = Some (codes "no certificates are given")
 builder_error_text (errors.AuthenticodeError e) = content_error_text e
 builder_error_text (errors.Asn1DerError e) = None

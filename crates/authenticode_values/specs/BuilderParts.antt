@@ -5,4 +5,10 @@ use Rattle.authenticode_values.specs.declared.builder.building.Parts.{Parts}
 
 -- what was given, by its parts
 abbrev pub given_of : Parts → Given
-given_of parts = record { hash = parts.hash; content = parts.content.now; key = parts.key.now; named = parts.named.now; bag = elements_of parts.certificates.now }
+given_of parts = record {
+  hash = parts.hash;
+  content = parts.content.now;
+  key = parts.key.now;
+  named = parts.named.now;
+  bag = elements_of parts.certificates.now;
+}

@@ -58,7 +58,8 @@ no_parts = record {
 
 -- ---- what is given
 
--- What has to be given: the digest algorithm, the content, the key, what names the certificate of the signer, and certificates.
+-- What has to be given: the digest algorithm, the content, the key, what names the certificate of
+-- the signer, and certificates.
 pub record Given : Type 0 where
   pub hash : ShaVariant
   pub content : EncapsulatedContentInfo
@@ -68,7 +69,8 @@ pub record Given : Type 0 where
 
 -- the certificates that are given, by the elements that are kept of them
 abbrev pub bag_in : Option (Vec KeptCertificate Global) → Option (List CertificateElements)
-bag_in certificates = option_map (λ (v : Vec KeptCertificate Global). elements_of v.items) certificates
+bag_in certificates =
+    option_map (λ (v : Vec KeptCertificate Global). elements_of v.items) certificates
 
 -- The builder has what has to be given.
 pub record HasGiven (b : AuthenticodeSignatureBuilder) (g : Given) : Type 0 where
@@ -84,13 +86,16 @@ attributes_in None = []
 attributes_in (Some attributes) = attributes
 
 -- what is signed: the attributes where they are given, else the octets of the content
-abbrev pub message_in : Option (List Attribute) → (content : List ℕ) → (attributes : List DerElement) → List ℕ
+abbrev pub message_in : Option (List Attribute) → (content : List ℕ)
+    → (attributes : List DerElement) → List ℕ
 message_in None content attributes = content
 message_in (Some given) content attributes = attributes_message attributes
 
 -- the octets that are signed
 abbrev pub message_by : AuthenticodeSignatureBuilder → Given → List ℕ
-message_by b g = message_in b.authenticated_attributes (encoding (content_info g.content)) (map attribute (attributes_in b.authenticated_attributes))
+message_by b g =
+    message_in b.authenticated_attributes (encoding (content_info g.content))
+    (map attribute (attributes_in b.authenticated_attributes))
 
 -- unsigned attributes are left out where there are none
 abbrev pub unsigned_in : Option (List UnsignedAttribute) → Option DerElement
@@ -101,7 +106,8 @@ unsigned_in (Some (a ∷ attributes)) = Some (list_element 0xA1 unsigned_attribu
 -- ---- what is built
 
 -- The parts of the signature.
-abbrev pub parts_by : AuthenticodeSignatureBuilder → Given → (carried : List CertificateElements) → (signature : List ℕ) → SignatureParts
+abbrev pub parts_by : AuthenticodeSignatureBuilder → Given → (carried : List CertificateElements)
+    → (signature : List ℕ) → SignatureParts
 parts_by b g carried signature = record {
   algorithm = digest_algorithm g.hash;
   content_info = content_info g.content;
@@ -124,7 +130,8 @@ pub record IsSigner (g : Given) (c : CertificateElements) : Type 0 where
 -- ---- steps
 
 -- what is needed is given
-abbrev pub part_step : {X : Type 0} → AuthenticodeSignatureBuilderError → Option X → Step AuthenticodeSignatureBuilderError
+abbrev pub part_step : {X : Type 0} → AuthenticodeSignatureBuilderError → Option X
+    → Step AuthenticodeSignatureBuilderError
 part_step {X} missing option = record {
   taken = (x : X) × (option ≡ Some x);
   refused = λ e. (option ≡ None) × (e ≡ missing);
@@ -134,22 +141,26 @@ part_step {X} missing option = record {
 abbrev pub supported_step : Option HashAlgorithm → Step AuthenticodeSignatureBuilderError
 supported_step hash = record {
   taken = hash ≢ Some SHA2_224;
-  refused = λ e. (algorithm : HashAlgorithm) × (hash ≡ Some algorithm) × Tells (λ source. errors.AuthenticodeError (signatures.UnsupportedHashAlgorithmError source)) (RefusesHash algorithm) e;
+  refused = λ e. (algorithm : HashAlgorithm) × (hash ≡ Some algorithm)
+      × Tells (λ source. errors.AuthenticodeError (signatures.UnsupportedHashAlgorithmError source))
+      (RefusesHash algorithm) e;
 }
 
 -- one of the certificates is named
 abbrev pub named_step : Given → Step AuthenticodeSignatureBuilderError
 named_step g = record {
   taken = (c : CertificateElements) × IsNamedFirst g c;
-  refused = λ e.
-      HasNoPlace g.bag (HasIssuerAndSerial g.named) 0 × (e ≡ errors.AuthenticodeError (signatures.NoCertificatesAssociatedWithIssuerAndSerialNumber (record { name = g.named.issuer }) g.named.serial_number));
+  refused = λ e. HasNoPlace g.bag (HasIssuerAndSerial g.named) 0
+      × (e ≡ errors.AuthenticodeError (signatures.NoCertificatesAssociatedWithIssuerAndSerialNumber
+      (record { name = g.named.issuer }) g.named.serial_number));
 }
 
 -- the first of them may sign code
 abbrev pub purpose_step : Given → Step AuthenticodeSignatureBuilderError
 purpose_step g = record {
   taken = (c : CertificateElements) × IsSigner g c;
-  refused = λ e. (c : CertificateElements) × IsNamedFirst g c × (IsForCodeSigning g.bag c → ⊥) × (e ≡ errors.AuthenticodeError signatures.NoEKUCodeSigning);
+  refused = λ e. (c : CertificateElements) × IsNamedFirst g c × (IsForCodeSigning g.bag c → ⊥)
+      × (e ≡ errors.AuthenticodeError signatures.NoEKUCodeSigning);
 }
 
 -- elements are written, the first of them first
@@ -165,52 +176,67 @@ content_by g = content_info g.content ∷ []
 
 -- what is written for the signed attributes, with what is written into strings of them
 abbrev pub attributes_by : List Attribute → List DerElement
-attributes_by attributes = inner_attributes attributes ++ attributes_element (map attribute attributes) ∷ []
+attributes_by attributes =
+    inner_attributes attributes ++ attributes_element (map attribute attributes) ∷ []
 
 -- the algorithm of the signature
 abbrev pub algorithm_by : Given → SignatureAlgorithm
 algorithm_by g = RsaPkcs1v15 (hash_of g.hash)
 
 -- the key signs the message
-abbrev pub key_step : Signs → SignatureAlgorithm → PrivateKey → (message : List ℕ) → Step AuthenticodeSignatureBuilderError
+abbrev pub key_step : Signs → SignatureAlgorithm → PrivateKey → (message : List ℕ)
+    → Step AuthenticodeSignatureBuilderError
 key_step signs algorithm key message = record {
   taken = IsAsked signs algorithm key message true;
-  refused = Tells (λ source. builder_refusal (of_signatures source)) (RefusesSignatureBy (sign_rules signs algorithm key message));
+  refused = Tells (λ source. builder_refusal (of_signatures source))
+      (RefusesSignatureBy (sign_rules signs algorithm key message));
 }
 
 -- what has to be given, in its order
 abbrev pub part_steps : AuthenticodeSignatureBuilder → List (Step AuthenticodeSignatureBuilderError)
 part_steps b =
-    part_step errors.MissingDigestAlgorithm b.digest_algorithm ∷ supported_step b.digest_algorithm ∷ part_step errors.MissingContentInfo b.content_info
-    ∷ part_step errors.MissingSigningKey b.signing_key ∷ part_step errors.MissingIssuerAndSerialNumber b.named
-    ∷ part_step errors.MissingCertificatesRequired b.certs ∷ []
+    part_step errors.MissingDigestAlgorithm b.digest_algorithm ∷ supported_step b.digest_algorithm ∷
+    part_step errors.MissingContentInfo b.content_info ∷
+    part_step errors.MissingSigningKey b.signing_key ∷
+    part_step errors.MissingIssuerAndSerialNumber b.named ∷
+    part_step errors.MissingCertificatesRequired b.certs ∷ []
 
 -- the steps of what is given
-abbrev pub steps_of : Signs → AuthenticodeSignatureBuilder → Given → List (Step AuthenticodeSignatureBuilderError)
+abbrev pub steps_of : Signs → AuthenticodeSignatureBuilder → Given
+    → List (Step AuthenticodeSignatureBuilderError)
 steps_of signs b g =
-    named_step g ∷ purpose_step g ∷ element_step (content_by g) ∷ element_step (attributes_by (attributes_in b.authenticated_attributes)) ∷ key_step signs (algorithm_by g) g.key (message_by b g) ∷ []
+    named_step g ∷ purpose_step g ∷ element_step (content_by g) ∷
+    element_step (attributes_by (attributes_in b.authenticated_attributes)) ∷
+    key_step signs (algorithm_by g) g.key (message_by b g) ∷ []
 
 -- a step of what is given
-abbrev pub of_given : AuthenticodeSignatureBuilder → (Given → Step AuthenticodeSignatureBuilderError) → Step AuthenticodeSignatureBuilderError
+abbrev pub of_given : AuthenticodeSignatureBuilder
+    → (Given → Step AuthenticodeSignatureBuilderError) → Step AuthenticodeSignatureBuilderError
 of_given b step = record {
   taken = (g : Given) × HasGiven b g × (step g).taken;
   refused = λ e. (g : Given) × HasGiven b g × (step g).refused e;
 }
 
 -- the steps that follow
-abbrev pub later_steps : Signs → AuthenticodeSignatureBuilder → List (Step AuthenticodeSignatureBuilderError)
+abbrev pub later_steps : Signs → AuthenticodeSignatureBuilder
+    → List (Step AuthenticodeSignatureBuilderError)
 later_steps signs b =
-    of_given b named_step ∷ of_given b purpose_step ∷ of_given b (λ g. element_step (content_by g)) ∷ element_step (attributes_by (attributes_in b.authenticated_attributes))
-    ∷ of_given b (λ g. key_step signs (algorithm_by g) g.key (message_by b g)) ∷ []
+    of_given b named_step ∷ of_given b purpose_step ∷
+    of_given b (λ g. element_step (content_by g)) ∷
+    element_step (attributes_by (attributes_in b.authenticated_attributes)) ∷
+    of_given b (λ g. key_step signs (algorithm_by g) g.key (message_by b g)) ∷ []
 
 -- All steps, in their order.
-abbrev pub building_steps : Signs → AuthenticodeSignatureBuilder → List (Step AuthenticodeSignatureBuilderError)
+abbrev pub building_steps : Signs → AuthenticodeSignatureBuilder
+    → List (Step AuthenticodeSignatureBuilderError)
 building_steps signs b = part_steps b ++ later_steps signs b
 
 -- ---- what holds of the signature that is built
 
--- The signed data is the signature that the builder asks for, by this key and by the certificate that is named.
-pub record IsBuiltOf (scheme : KeyArithmetic) (b : AuthenticodeSignatureBuilder) (g : Given) (built : SignedDataElements) : Type 0 where
+-- The signed data is the signature that the builder asks for, by this key and by the certificate
+-- that is named.
+pub record IsBuiltOf (scheme : KeyArithmetic) (b : AuthenticodeSignatureBuilder) (g : Given)
+    (built : SignedDataElements) : Type 0 where
   pub signer : CertificateElements
   pub is_signer : IsSigner g signer
   pub carried : List CertificateElements
@@ -220,7 +246,8 @@ pub record IsBuiltOf (scheme : KeyArithmetic) (b : AuthenticodeSignatureBuilder)
   pub fields : built ≡ signature_made (parts_by b g carried signature)
 
 -- The signed data is what the builder asks for, and no step was refused.
-pub record IsBuiltSignature (scheme : KeyArithmetic) (b : AuthenticodeSignatureBuilder) (built : SignedDataElements) : Type 0 where
+pub record IsBuiltSignature (scheme : KeyArithmetic) (b : AuthenticodeSignatureBuilder)
+    (built : SignedDataElements) : Type 0 where
   pub given : Given
   pub are_given : HasGiven b given
   pub is_built : IsBuiltOf scheme b given built

@@ -7,7 +7,8 @@ use Rattle.content_types.specs.ContentInfoElements.{content_info_of}
 use Rattle.der_core.specs.DerElement.{DerElement, Primitive, Constructed, row}
 use Rattle.der_core.specs.Elements.{set}
 
--- version 1, no digest algorithm, a content that is left out, of the type of data, the certificates, revocation lists that are given, but none of them, no signer
+-- version 1, no digest algorithm, a content that is left out, of the type of data, the
+-- certificates, revocation lists that are given, but none of them, no signer
 abbrev pub certificates_alone : List DerElement → SignedDataElements
 certificates_alone certificates = record {
   version = integer_of (1 ∷ []);

@@ -20,20 +20,31 @@ use Rattle.authenticode_values.specs.declared.signature.AuthenticodeSignature.{A
 
 -- it tells why what is asked for isn't there, unless memory ran out
 abbrev pub RefusesHeader : {A : Type 0} → Result A WinCertificateError → CheckError → Type 0
-RefusesHeader asked = OrMemory Memory (λ e. (source : WinCertificateError) × (e ≡ told_of_header source) × (asked ≡ Err source))
+RefusesHeader asked =
+    OrMemory Memory
+    (λ e. (source : WinCertificateError) × (e ≡ told_of_header source) × (asked ≡ Err source))
 
--- the element can't be written, or it is too long for a WIN_CERTIFICATE, or for one with its padding
+-- the element can't be written, or it is too long for a WIN_CERTIFICATE, or for one with its
+-- padding
 abbrev pub RefusesFile : DerElement → CertificateType → CheckError → Type 0
 RefusesFile element kind e =
-    ((source : AuthenticodeError) × (e ≡ told_of_content source) × TellsOfSignedData (IsUnwrittenPkcs7 (RefusesInner (element ∷ []))) source)
-    ⊎ (IsDer element × (RefusesHeader (current (encoding element) kind) e ⊎ RefusesHeader (encoded (wrapped kind (encoding element))) e))
+    ((source : AuthenticodeError) × (e ≡ told_of_content source)
+    × TellsOfSignedData (IsUnwrittenPkcs7 (RefusesInner (element ∷ []))) source)
+    ⊎ (IsDer element
+    × (RefusesHeader (current (encoding element) kind) e
+    ⊎ RefusesHeader (encoded (wrapped kind (encoding element))) e))
 
 -- What is answered for the element of a signature: the file that has it.
 abbrev pub GivesFile : DerElement → CertificateType → Result (Vec ℕ Global) CheckError → Type 0
-GivesFile element kind result = MatchResult result (λ octets. IsSpelledWhole octets.items (wrapped kind (encoding element)) × IsDer element) (RefusesFile element kind)
+GivesFile element kind result =
+    MatchResult result
+    (λ octets. IsSpelledWhole octets.items (wrapped kind (encoding element)) × IsDer element)
+    (RefusesFile element kind)
 
 -- What is answered for octets: the signature that the file has, or why it has none.
 abbrev pub GivesSignature : List ℕ → Result AuthenticodeSignature CheckError → Type 0
-GivesSignature octets result = MatchResult result
-    (λ s. (certificate : List ℕ) × (contents_in octets ≡ Ok certificate) × IsPaddedEncoding certificate (written s.0))
+GivesSignature octets result =
+    MatchResult result
+    (λ s. (certificate : List ℕ) × (contents_in octets ≡ Ok certificate)
+    × IsPaddedEncoding certificate (written s.0))
     (OrMemory Memory (RefusesValue octets))

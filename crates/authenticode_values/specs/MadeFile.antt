@@ -41,14 +41,16 @@ AreCertificates (c ∷ others) = Fits AreCertificateFields c × AreCertificates 
 
 -- a certificate wrapped in the current revision
 abbrev pub wrapped : CertificateType → List ℕ → WinCert
-wrapped kind octets = record { revision = WinCertificateRevision20; certificate_type = kind; certificate = octets }
+wrapped kind octets =
+    record { revision = WinCertificateRevision20; certificate_type = kind; certificate = octets }
 
 -- The octets spell it, with zeros up to a multiple of eight, which the length counts.
 pub record IsSpelledWhole (octets : List ℕ) (w : WinCert) : Type 0 where
   pub fits : FitsHeader (with_padding w).certificate
   pub spelled : octets ≡ spelling (with_padding w)
 
--- The signed data is a signature of the program by the first of these certificates, which it carries: it may sign code, and its key accepts the signature.
+-- The signed data is a signature of the program by the first of these certificates, which it
+-- carries: it may sign code, and its key accepts the signature.
 pub record IsMadeFor (judge : Judge) (p : Program) (value : Pkcs7Certificate) : Type 0 where
   pub supported : hash_of p.hash ≢ SHA2_224
   pub first : CertificateElements
@@ -57,13 +59,14 @@ pub record IsMadeFor (judge : Judge) (p : Program) (value : Pkcs7Certificate) : 
   pub rootless : IsAloneOrNoRoot (first ∷ others)
   pub code_signing : IsForCodeSigning (first ∷ others) first
   pub signature : List ℕ
-  pub fields : signed_data_elements value.signed_data ≡ signature_made (parts_for p first (first ∷ others) signature)
+  pub fields : signed_data_elements value.signed_data
+      ≡ signature_made (parts_for p first (first ∷ others) signature)
   pub info : SubjectPublicKeyInfo
   pub key : HasKey first info
   pub accepted : Accepts judge (algorithm_for p) info (message_for p) signature
 
--- The octets are a signature file as it is made for the digest of a file: of revision 2.0 and of any type, with signed data of the form in which a program of some
--- name, or of none, is signed.
+-- The octets are a signature file as it is made for the digest of a file: of revision 2.0 and of
+-- any type, with signed data of the form in which a program of some name, or of none, is signed.
 pub record IsMadeSignature (judge : Judge) (octets : List ℕ) (file_hash : List ℕ) : Type 0 where
   pub kind : CertificateType
   pub value : Pkcs7Certificate

@@ -5,4 +5,8 @@ use Rattle.authenticode_values.specs.declared.making.Program.{Program}
 
 -- the program that a signature is made for
 abbrev pub program_for : Program → SignedProgram
-program_for program = record { hash = program.hash; file_hash = program.file_hash.now; opus = opus_info program.opus.now }
+program_for program = record {
+  hash = program.hash;
+  file_hash = program.file_hash.now;
+  opus = opus_info program.opus.now;
+}

@@ -24,4 +24,5 @@ IsRefusedRequest = Tells stamp_refusal
 abbrev pub IsTooLong : DerElement → TimestampError → Type 0
 IsTooLong request e =
     (e ≡ errors.Memory)
-    ⊎ ((e ≡ errors.Asn1DerError (certs.Asn1Serialization structures.TimestampRequest der.TooLong)) × (IsShort request → ⊥))
+    ⊎ ((e ≡ errors.Asn1DerError (certs.Asn1Serialization structures.TimestampRequest der.TooLong))
+    × (IsShort request → ⊥))

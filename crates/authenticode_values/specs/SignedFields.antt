@@ -1,4 +1,5 @@
--- What is asked of signed data that is kept (RFC 2315 9.1, 9.2; Windows Authenticode Portable Executable Signature Format).
+-- What is asked of signed data that is kept (RFC 2315 9.1, 9.2; Windows Authenticode Portable
+-- Executable Signature Format).
 use Rattle.std.specs.Prelude.{ℕ, List, [], ◌∷◌, Option, Some, None}
 use Rattle.std.specs.Option.{option_map}
 use Rattle.cms_types.specs.SignedAttributesElement.{attributes_of}

@@ -12,11 +12,14 @@ use Rattle.authenticode_core.specs.BagSigner.{IsSignerPlace, HasNoSigner}
 use Rattle.authenticode_core.specs.declared.error.AuthenticodeError.{AuthenticodeError}
 use Rattle.authenticode_core.specs.declared.error.AuthenticodeError.TheVariants as errors
 
--- The certificate is one of these, and stands at the least place of those that the first of the signers names.
-pub record IsSigningCertificate (signers : List SignerInfo) (certificates : List KeptCertificate) (c : KeptCertificate) : Type 0 where
+-- The certificate is one of these, and stands at the least place of those that the first of the
+-- signers names.
+pub record IsSigningCertificate (signers : List SignerInfo) (certificates : List KeptCertificate)
+    (c : KeptCertificate) : Type 0 where
   pub place : ℕ
   pub stands : slice_get certificates place ≡ Some c
-  pub is_signer : IsSignerPlace (map signer_info signers) (elements_of certificates) place c.elements
+  pub is_signer : IsSignerPlace (map signer_info signers) (elements_of certificates) place
+      c.elements
 
 -- The first of the signers names its certificate by this.
 pub record FirstNames (signers : List SignerInfo) (sid : SignerIdentifier) : Type 0 where
@@ -28,13 +31,17 @@ pub record FirstNames (signers : List SignerInfo) (sid : SignerIdentifier) : Typ
 -- why the first of the signers isn't named by an issuer and a serial number
 abbrev pub IsNamedOtherwise : List SignerInfo → AuthenticodeError → Type 0
 IsNamedOtherwise signers (errors.MultipleSignerInfo count) = (signers ≡ []) × (count ≡ 0)
-IsNamedOtherwise signers errors.IncorrectSignerIdentifier = (octets : List ℕ) × FirstNames signers (named.SubjectKeyIdentifier octets)
+IsNamedOtherwise signers errors.IncorrectSignerIdentifier =
+    (octets : List ℕ) × FirstNames signers (named.SubjectKeyIdentifier octets)
 IsNamedOtherwise signers _ = ⊥
 
--- Why none of the certificates is the signer's: the first signer isn't named by an issuer and a serial number, or none of them has these.
-abbrev pub HasNoSigningCertificate : List SignerInfo → List KeptCertificate → AuthenticodeError → Type 0
+-- Why none of the certificates is the signer's: the first signer isn't named by an issuer and a
+-- serial number, or none of them has these.
+abbrev pub HasNoSigningCertificate : List SignerInfo → List KeptCertificate → AuthenticodeError
+    → Type 0
 HasNoSigningCertificate signers certificates (errors.NoCertificatesAssociatedWithIssuerAndSerialNumber issuer serial_number) =
-    FirstNames signers (named.IssuerAndSerialNumber (record { issuer = sets_of issuer; serial_number = serial_number }))
+    FirstNames signers (named.IssuerAndSerialNumber
+    (record { issuer = sets_of issuer; serial_number = serial_number }))
     × HasNoSigner (map signer_info signers) (elements_of certificates)
 HasNoSigningCertificate signers certificates errors.Memory = ⊤
 HasNoSigningCertificate signers certificates e = IsNamedOtherwise signers e

@@ -31,7 +31,8 @@ policy_with_not_after asked policy = record policy { not_after = asked }
 abbrev pub policy_with_chain : Bool → Policy → Policy
 policy_with_chain asked policy = record policy { chain = asked }
 
--- the policy with this answer to whether the signer's certificate has to be valid, or its expiry excused
+-- the policy with this answer to whether the signer's certificate has to be valid, or its expiry
+-- excused
 abbrev pub with_signing : Bool → Policy → Policy
 with_signing asked policy = record policy { signing = asked }
 
@@ -47,10 +48,13 @@ without_basic policy = record policy { basic = false; file_hash = None }
 
 -- the value has no encoding, for the cause that the error tells
 abbrev pub HasNoEncoding : DerElement → Rule AuthenticodeError
-HasNoEncoding element e = (source : DerError) × CantBeWritten element source × (e ≡ errors.Asn1DerError source)
+HasNoEncoding element e =
+    (source : DerError) × CantBeWritten element source × (e ≡ errors.Asn1DerError source)
 
--- The rules of a value with this element and these fields, in their order: that it has an encoding, then those of the policy.
-abbrev pub kept_rules : Judge → Policy → DerElement → SignedDataElements → List (Rule AuthenticodeError)
+-- The rules of a value with this element and these fields, in their order: that it has an encoding,
+-- then those of the policy.
+abbrev pub kept_rules : Judge → Policy → DerElement → SignedDataElements
+    → List (Rule AuthenticodeError)
 kept_rules judge policy element f = HasNoEncoding element ∷ policy_rules judge policy f
 
 -- The value has an encoding, and is trusted under the policy.
@@ -58,5 +62,8 @@ abbrev pub IsKeptTrusted : Judge → Policy → DerElement → SignedDataElement
 IsKeptTrusted judge policy element f accepted = IsDer element × IsTrusted judge policy f accepted
 
 -- The answer: that it is trusted; the first rule that is broken; want of memory.
-abbrev pub IsVerdict : Judge → Policy → DerElement → SignedDataElements → Result Accepted AuthenticodeError → Type 0
-IsVerdict judge policy element f r = MatchResult r (IsKeptTrusted judge policy element f) (RefusesAuthenticodeBy (kept_rules judge policy element f))
+abbrev pub IsVerdict : Judge → Policy → DerElement → SignedDataElements
+    → Result Accepted AuthenticodeError → Type 0
+IsVerdict judge policy element f r =
+    MatchResult r (IsKeptTrusted judge policy element f)
+    (RefusesAuthenticodeBy (kept_rules judge policy element f))

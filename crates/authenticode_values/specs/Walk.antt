@@ -11,20 +11,25 @@ use Rattle.authenticode_values.specs.declared.certificates.SignatureCertificates
 abbrev pub AreAtPlaces : List KeptCertificate → List ℕ → List KeptCertificate → Type 0
 AreAtPlaces certificates [] items = items ≡ []
 AreAtPlaces certificates (place ∷ places) items =
-    (c : KeptCertificate) × (others : List KeptCertificate) × (items ≡ c ∷ others) × (slice_get certificates place ≡ Some c) × AreAtPlaces certificates places others
+    (c : KeptCertificate) × (others : List KeptCertificate) × (items ≡ c ∷ others)
+    × (slice_get certificates place ≡ Some c) × AreAtPlaces certificates places others
 
 -- The items are the certificates at the places of the issuer walk of the signer's certificate.
-pub record IsWalkOf (signer : KeptCertificate) (certificates items : List KeptCertificate) : Type 0 where
+pub record IsWalkOf (signer : KeptCertificate)
+    (certificates items : List KeptCertificate) : Type 0 where
   pub places : List ℕ
   pub walk : IsIssuerWalk (elements_of certificates) signer.elements places
   pub stand : AreAtPlaces certificates places items
 
--- What a walk under way still gives: of the certificates that are left the first one with the subject that it looks for, by its octets, then what a walk gives
--- that looks for its issuer behind it. What the walk is as a whole is said above.
+-- What a walk under way still gives: of the certificates that are left the first one with the
+-- subject that it looks for, by its octets, then what a walk gives that looks for its issuer behind
+-- it. What the walk is as a whole is said above.
 abbrev pub walked : List ℕ → List KeptCertificate → List KeptCertificate
 walked subject [] = []
 walked subject (c ∷ certificates) =
-    if bytes_eq (encoding c.elements.tbs.subject) subject then c ∷ walked (encoding c.elements.tbs.issuer) certificates else walked subject certificates
+    if bytes_eq (encoding c.elements.tbs.subject) subject
+    then c ∷ walked (encoding c.elements.tbs.issuer) certificates
+    else walked subject certificates
 
 -- the items that are left
 abbrev pub items_left : SignatureCertificatesIterator → List KeptCertificate

@@ -23,7 +23,8 @@ pub(crate) fn without_signers(
     alloc: Global,
     certificates: &[Cert],
 ) -> Result<Pkcs7Certificate, AllocError>
-    ensures { IfOk result (λ value. signed_data_elements value.signed_data ≡ certificates_alone (map certificate_of (elements_of certificates.now))) }
+    ensures { IfOk result (λ value. signed_data_elements value.signed_data
+        ≡ certificates_alone (map certificate_of (elements_of certificates.now))) }
 {
     let content_info = no_content(alloc)?;
     let members = kept_certificates(alloc, certificates)?;
@@ -41,7 +42,8 @@ pub(crate) fn without_signers(
 
 /// A content of the type of data that is left out (RFC 2315 8).
 fn no_content(alloc: Global) -> Result<EncapsulatedContentInfo, AllocError>
-    ensures { IfOk result (λ info. content_info info ≡ content_info_of (Primitive 0x06 DATA.now) None) }
+    ensures { IfOk result
+        (λ info. content_info info ≡ content_info_of (Primitive 0x06 DATA.now) None) }
 {
     let content_type = ObjectIdentifier::from_known(alloc, DATA)?;
     Ok(EncapsulatedContentInfo {

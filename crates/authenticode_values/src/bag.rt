@@ -17,7 +17,8 @@ pub(crate) fn certificates_of(
     alloc: Global,
     members: &[CertificateChoices],
 ) -> Result<Vec<Cert>, AllocError>
-    ensures { IfOk result (λ certificates. IsBag (map certificate_choice members.now) (elements_of certificates.items)) }
+    ensures { IfOk result (λ certificates. IsBag (map certificate_choice members.now)
+        (elements_of certificates.items)) }
 {
     let mut certificates = Vec::new(alloc);
     let mut rest = members;

@@ -113,7 +113,8 @@ impl<'a> AuthenticodeSignatureBuilder<'a> {
         issuer: DirectoryName,
         serial_number: IntegerAsn1,
     ) -> Self
-        ensures { result ≡ record self.entry { named = Some (record { issuer = sets_of issuer; serial_number = serial_number }) } }
+        ensures { result ≡ record self.entry
+            { named = Some (record { issuer = sets_of issuer; serial_number = serial_number }) } }
     {
         self.named = Some(IssuerAndSerialNumber {
             issuer: Name::from(issuer),

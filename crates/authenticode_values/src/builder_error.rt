@@ -24,8 +24,8 @@ pub enum AuthenticodeSignatureBuilderError {
     MissingIssuerAndSerialNumber,
     /// No certificates are given.
     MissingCertificatesRequired,
-    /// The digest algorithm, the signer's certificate or the key isn't one that signs. Never with want
-    /// of memory.
+    /// The digest algorithm, the signer's certificate or the key isn't one that signs. Never with
+    /// want of memory.
     AuthenticodeError(AuthenticodeError),
     /// The content or the attributes can't be written. Never with want of memory.
     Asn1DerError(DerError),

@@ -8,9 +8,9 @@ ghost use Rattle.authenticode_values.specs.Walk.{IsWalkOf, items_left, walked};
 use der_core::is_same;
 use x509_core::Cert;
 
-/// The certificates of the issuer walk of a signer's certificate: the first whose subject is that of
-/// the signer's, then each next later one whose subject is the issuer of the one before (RFC 5280
-/// 6.1). The certificates are gone through once, and no memory is taken.
+/// The certificates of the issuer walk of a signer's certificate: the first whose subject is that
+/// of the signer's, then each next later one whose subject is the issuer of the one before (RFC
+/// 5280 6.1). The certificates are gone through once, and no memory is taken.
 #[derive(Drop)]
 pub struct SignatureCertificatesIterator<'i> {
     subject: &'i [u8],
@@ -46,9 +46,9 @@ impl<'i> Iterator for SignatureCertificatesIterator<'i> {
 
 /// The first of the certificates with the subject, by its octets, and those behind it.
 fn first_of<'i>(certificates: &'i [Cert], subject: &[u8]) -> Option<(&'i Cert, &'i [Cert])>
-    ensures { MatchOption result
-        (walked subject.now certificates.now ≡ [])
-        (λ found. walked subject.now certificates.now ≡ found.0.now ∷ walked (encoding found.0.now.elements.tbs.issuer) found.1.now) }
+    ensures { MatchOption result (walked subject.now certificates.now ≡ [])
+        (λ found. walked subject.now certificates.now
+        ≡ found.0.now ∷ walked (encoding found.0.now.elements.tbs.issuer) found.1.now) }
 {
     let mut rest = certificates;
     while let Some((certificate, behind)) = rest.split_first() {

@@ -1,5 +1,6 @@
 //! Signed data and Authenticode signatures that a caller keeps: read from octets and written as
-//! octets, asked for their certificates, the signer's among them, and for what is signed, and stamped.
+//! octets, asked for their certificates, the signer's among them, and for what is signed, and
+//! stamped.
 #![tactic(auto)]
 
 mod alone;

@@ -20,8 +20,9 @@ use sig_core::Scheme;
 use std::alloc::Global;
 use wincert_core::{CertificateType, WinCertificate};
 
-/// The octets of the signature file that has the signature: it is written, and wrapped in the current
-/// revision of WIN_CERTIFICATE. It is refused as `to_der`, `from_certificate` and `encode` refuse.
+/// The octets of the signature file that has the signature: it is written, and wrapped in the
+/// current revision of WIN_CERTIFICATE. It is refused as `to_der`, `from_certificate` and `encode`
+/// refuse.
 pub fn encode_signature(
     alloc: Global,
     signature: &AuthenticodeSignature,
@@ -38,16 +39,18 @@ pub fn encode_signature(
 pub fn decode_signature(alloc: Global, octets: &[u8]) -> Result<AuthenticodeSignature, CheckError>
     ensures answer { GivesSignature octets.now result }
     // A refusal of the header comes whatever memory there is.
-    ensures refused { (source : WinCertificateError) → contents_in octets.now ≡ Err source → result ≡ Err (told_of_header source) }
+    ensures refused { (source : WinCertificateError) → contents_in octets.now ≡ Err source
+        → result ≡ Err (told_of_header source) }
     // What was made is read as it was made.
-    ensures made { (p : Pkcs7) (certificate_type : CertificateType) → IsDer (written p) → IsSpelledWhole octets.now (wrapped certificate_type (encoding (written p)))
+    ensures made { (p : Pkcs7) (certificate_type : CertificateType) → IsDer (written p)
+        → IsSpelledWhole octets.now (wrapped certificate_type (encoding (written p)))
         → MatchResult result (λ s. s.0 ≡ p) (λ e. e ≡ Memory) }
 {
     read_file(alloc, octets)
 }
 
-/// The check of a signature file. One that is made is accepted under basic validation alone with its
-/// own digest, unless memory runs out.
+/// The check of a signature file. One that is made is accepted under basic validation alone with
+/// its own digest, unless memory runs out.
 pub fn check_made<S: Scheme>(
     alloc: Global,
     octets: &[u8],
@@ -55,10 +58,12 @@ pub fn check_made<S: Scheme>(
     scheme: &S,
 ) -> Result<Accepted, CheckError>
     ensures answer { IsAnswer (S.judge scheme.now) policy.now octets.now result }
-    // A refusal of the header, of what the certificate is or of the form comes whatever memory there is.
+    // A refusal of the header, of what the certificate is or of the form comes whatever memory
+    // there is.
     ensures refused { (e : CheckError) → RefusesForm policy.now octets.now e → result ≡ Err e }
     // What is made is accepted.
-    ensures made { (file_hash : List ℕ) → IsBasicAlone policy.now file_hash → IsMadeSignature (S.judge scheme.now) octets.now file_hash
+    ensures made { (file_hash : List ℕ) → IsBasicAlone policy.now file_hash
+        → IsMadeSignature (S.judge scheme.now) octets.now file_hash
         → MatchResult result (λ a. a ≡ by_the_first) (λ e. e ≡ Memory) }
 {
     check_wincert(alloc, octets, policy, scheme)
@@ -67,7 +72,8 @@ pub fn check_made<S: Scheme>(
 /// The signature in a file.
 fn read_file(alloc: Global, octets: &[u8]) -> Result<AuthenticodeSignature, CheckError>
     ensures answer { GivesSignature octets.now result }
-    ensures refused { (source : WinCertificateError) → contents_in octets.now ≡ Err source → result ≡ Err (told_of_header source) }
+    ensures refused { (source : WinCertificateError) → contents_in octets.now ≡ Err source
+        → result ≡ Err (told_of_header source) }
 {
     let wrapped = unwrap(alloc, octets)?;
     let signature = AuthenticodeSignature::from_wincert(alloc, &wrapped)?;
@@ -80,7 +86,8 @@ fn wrap(
     der: &[u8],
     certificate_type: CertificateType,
 ) -> Result<WinCertificate, CheckError>
-    ensures { MatchResult result (λ w. current der.now certificate_type ≡ Ok w) (RefusesHeader (current der.now certificate_type)) }
+    ensures { MatchResult result (λ w. current der.now certificate_type ≡ Ok w)
+        (RefusesHeader (current der.now certificate_type)) }
 {
     match WinCertificate::from_certificate(alloc, der, certificate_type) {
         Ok(wrapped) => Ok(wrapped),
@@ -90,7 +97,8 @@ fn wrap(
 
 /// The octets of a WIN_CERTIFICATE.
 fn spell(alloc: Global, wrapped: WinCertificate) -> Result<Vec<u8>, CheckError>
-    ensures { MatchResult result (λ octets. encoded wrapped ≡ Ok octets.items) (RefusesHeader (encoded wrapped)) }
+    ensures { MatchResult result (λ octets. encoded wrapped ≡ Ok octets.items)
+        (RefusesHeader (encoded wrapped)) }
 {
     match wrapped.encode(alloc) {
         Ok(octets) => Ok(octets),
@@ -100,8 +108,10 @@ fn spell(alloc: Global, wrapped: WinCertificate) -> Result<Vec<u8>, CheckError>
 
 /// The WIN_CERTIFICATE that octets begin with.
 fn unwrap(alloc: Global, octets: &[u8]) -> Result<WinCertificate, CheckError>
-    ensures answer { MatchResult result (λ w. contents_in octets.now ≡ Ok w.certificate) (RefusesHeader (contents_in octets.now)) }
-    ensures refused { (source : WinCertificateError) → contents_in octets.now ≡ Err source → result ≡ Err (told_of_header source) }
+    ensures answer { MatchResult result (λ w. contents_in octets.now ≡ Ok w.certificate)
+        (RefusesHeader (contents_in octets.now)) }
+    ensures refused { (source : WinCertificateError) → contents_in octets.now ≡ Err source
+        → result ≡ Err (told_of_header source) }
 {
     match WinCertificate::decode(alloc, octets) {
         Ok(wrapped) => Ok(wrapped),

@@ -54,13 +54,13 @@ struct Program<'a> {
 }
 
 impl AuthenticodeSignature {
-    /// The signature of a program by the first certificate of signed data, and by its private key. It
-    /// carries the certificates as they are, but for those of roots among several. It is refused by the
-    /// first of these: `ProgramNameCharSet` where a character of the name is past U+FFFF;
+    /// The signature of a program by the first certificate of signed data, and by its private key.
+    /// It carries the certificates as they are, but for those of roots among several. It is refused
+    /// by the first of these: `ProgramNameCharSet` where a character of the name is past U+FFFF;
     /// `UnsupportedHashAlgorithmError` for SHA-224; `NoCertificates` where there are none;
-    /// `NoEKUCodeSigning` where one of the issuer walk of the first has an extended key usage, and the
-    /// first doesn't name code signing; `Asn1DerError` where the content or the attributes can't be
-    /// written; `SignatureError` where the key doesn't sign.
+    /// `NoEKUCodeSigning` where one of the issuer walk of the first has an extended key usage, and
+    /// the first doesn't name code signing; `Asn1DerError` where the content or the attributes
+    /// can't be written; `SignatureError` where the key doesn't sign.
     pub fn new<S: Scheme>(
         alloc: Global,
         pkcs7: &Pkcs7,
@@ -71,17 +71,33 @@ impl AuthenticodeSignature {
         scheme: &S,
     ) -> Result<AuthenticodeSignature, AuthenticodeError>
         ensures answer { MatchResult result
-            (λ s. IsMadeOf (arithmetic (S.judge scheme.now) (S.signs scheme.now) (S.pair scheme.now)) (fields_of pkcs7.now) hash_algo file_hash.now (option_copied program_name.entry) private_key.now (fields_of s.0))
-            (RefusesBySteps errors.Memory (making_steps (S.signs scheme.now) (fields_of pkcs7.now) (option_copied program_name.entry) (program_of hash_algo file_hash.now (option_copied program_name.entry)) private_key.now)) }
-        // Made by a key of the first certificate, which is no root's unless it stands alone, its file is
-        // a signature file as it is made.
-        ensures file { IfOk result (λ s. (m : IsMadeOf (arithmetic (S.judge scheme.now) (S.signs scheme.now) (S.pair scheme.now)) (fields_of pkcs7.now) hash_algo file_hash.now (option_copied program_name.entry) private_key.now (fields_of s.0))
-            → (info : SubjectPublicKeyInfo) → HasKey m.first info → IsKeyPair (S.pair scheme.now) private_key.now info → (IsRootCertificate m.first → m.others ≡ [])
-            → (certificate_type : CertificateType) (octets : List ℕ) → IsDer (written s.0) → IsSpelledWhole octets (wrapped certificate_type (encoding (written s.0)))
+            (λ s. IsMadeOf
+            (arithmetic (S.judge scheme.now) (S.signs scheme.now) (S.pair scheme.now))
+            (fields_of pkcs7.now) hash_algo file_hash.now (option_copied program_name.entry)
+            private_key.now (fields_of s.0))
+            (RefusesBySteps errors.Memory (making_steps (S.signs scheme.now) (fields_of pkcs7.now)
+            (option_copied program_name.entry)
+            (program_of hash_algo file_hash.now (option_copied program_name.entry))
+            private_key.now)) }
+        // Made by a key of the first certificate, which is no root's unless it stands alone, its
+        // file is a signature file as it is made.
+        ensures file { IfOk result (λ s. (m : IsMadeOf
+            (arithmetic (S.judge scheme.now) (S.signs scheme.now) (S.pair scheme.now))
+            (fields_of pkcs7.now) hash_algo file_hash.now (option_copied program_name.entry)
+            private_key.now (fields_of s.0))
+            → (info : SubjectPublicKeyInfo) → HasKey m.first info
+            → IsKeyPair (S.pair scheme.now) private_key.now info
+            → (IsRootCertificate m.first → m.others ≡ [])
+            → (certificate_type : CertificateType) (octets : List ℕ) → IsDer (written s.0)
+            → IsSpelledWhole octets (wrapped certificate_type (encoding (written s.0)))
             → IsMadeSignature (S.judge scheme.now) octets file_hash.now) }
-        // A name past U+FFFF, and SHA-224 where there is no name, are told whatever memory there is.
-        ensures refused { (IsBasicName (option_copied program_name.entry) → ⊥) → result ≡ Err errors.ProgramNameCharSet }
-        ensures unsupported { option_copied program_name.entry ≡ None → hash_of hash_algo ≡ SHA2_224 → result ≡ Err (errors.UnsupportedHashAlgorithmError (record { algorithm = SHA2_224 })) }
+        // A name past U+FFFF, and SHA-224 where there is no name, are told whatever memory there
+        // is.
+        ensures refused { (IsBasicName (option_copied program_name.entry) → ⊥)
+            → result ≡ Err errors.ProgramNameCharSet }
+        ensures unsupported { option_copied program_name.entry ≡ None → hash_of hash_algo ≡ SHA2_224
+            → result ≡ Err
+            (errors.UnsupportedHashAlgorithmError (record { algorithm = SHA2_224 })) }
     {
         made(
             alloc,
@@ -106,10 +122,17 @@ fn made<S: Scheme>(
     scheme: &S,
 ) -> Result<AuthenticodeSignature, AuthenticodeError>
     ensures answer { MatchResult result
-        (λ s. IsMadeOf (arithmetic (S.judge scheme.now) (S.signs scheme.now) (S.pair scheme.now)) (fields_of pkcs7.now) hash_algo file_hash.now (option_copied program_name.entry) private_key.now (fields_of s.0))
-        (RefusesBySteps errors.Memory (making_steps (S.signs scheme.now) (fields_of pkcs7.now) (option_copied program_name.entry) (program_of hash_algo file_hash.now (option_copied program_name.entry)) private_key.now)) }
-    ensures refused { (IsBasicName (option_copied program_name.entry) → ⊥) → result ≡ Err errors.ProgramNameCharSet }
-    ensures unsupported { option_copied program_name.entry ≡ None → hash_of hash_algo ≡ SHA2_224 → result ≡ Err (errors.UnsupportedHashAlgorithmError (record { algorithm = SHA2_224 })) }
+        (λ s. IsMadeOf (arithmetic (S.judge scheme.now) (S.signs scheme.now) (S.pair scheme.now))
+        (fields_of pkcs7.now) hash_algo file_hash.now (option_copied program_name.entry)
+        private_key.now (fields_of s.0))
+        (RefusesBySteps errors.Memory (making_steps (S.signs scheme.now) (fields_of pkcs7.now)
+        (option_copied program_name.entry)
+        (program_of hash_algo file_hash.now (option_copied program_name.entry))
+        private_key.now)) }
+    ensures refused { (IsBasicName (option_copied program_name.entry) → ⊥)
+        → result ≡ Err errors.ProgramNameCharSet }
+    ensures unsupported { option_copied program_name.entry ≡ None → hash_of hash_algo ≡ SHA2_224
+        → result ≡ Err (errors.UnsupportedHashAlgorithmError (record { algorithm = SHA2_224 })) }
 {
     let opus = opus_for(alloc, program_name)?;
     let algorithm = algorithm_of(hash_algo)?;
@@ -128,9 +151,11 @@ fn made<S: Scheme>(
 /// What is said of the program.
 fn opus_for(alloc: Global, name: Option<&str>) -> Result<SpcSpOpusInfo, AuthenticodeError>
     ensures answer { MatchResult result
-        (λ info. (opus_info info ≡ opus_element (option_copied name.entry)) × IsBasicName (option_copied name.entry))
+        (λ info. (opus_info info ≡ opus_element (option_copied name.entry))
+        × IsBasicName (option_copied name.entry))
         (RefusesBySteps errors.Memory (name_step (option_copied name.entry) ∷ [])) }
-    ensures refused { (IsBasicName (option_copied name.entry) → ⊥) → result ≡ Err errors.ProgramNameCharSet }
+    ensures refused { (IsBasicName (option_copied name.entry) → ⊥)
+        → result ≡ Err errors.ProgramNameCharSet }
     ensures nameless { option_copied name.entry ≡ None → IsOk result }
 {
     match opus_of(alloc, name) {
@@ -144,7 +169,8 @@ fn algorithm_of(hash: ShaVariant) -> Result<HashAlgorithm, AuthenticodeError>
     ensures answer { MatchResult result
         (λ algorithm. (algorithm ≡ hash_of hash) × (hash_of hash ≢ SHA2_224))
         (RefusesBySteps errors.Memory (hash_step (hash_of hash) ∷ [])) }
-    ensures told { IfErr result (λ e. e ≡ errors.UnsupportedHashAlgorithmError (record { algorithm = SHA2_224 })) }
+    ensures told { IfErr result
+        (λ e. e ≡ errors.UnsupportedHashAlgorithmError (record { algorithm = SHA2_224 })) }
 {
     match HashAlgorithm::try_from(hash) {
         Ok(algorithm) => Ok(algorithm),
@@ -159,10 +185,12 @@ fn content_for(
 ) -> Result<(SpcIndirectDataContent, Vec<u8>), AuthenticodeError>
     requires { program.now.algorithm ≡ hash_of program.now.hash }
     ensures { MatchResult result
-        (λ made. (indirect_data_content made.0 ≡ data_element program.now.hash program.now.file_hash.now)
+        (λ made. (indirect_data_content made.0
+        ≡ data_element program.now.hash program.now.file_hash.now)
         × (made.1.items ≡ content_digest program.now.hash program.now.file_hash.now)
         × IsDer (data_element program.now.hash program.now.file_hash.now))
-        (RefusesBySteps errors.Memory (writing_step (data_element program.now.hash program.now.file_hash.now ∷ []) ∷ [])) }
+        (RefusesBySteps errors.Memory
+        (writing_step (data_element program.now.hash program.now.file_hash.now ∷ []) ∷ [])) }
 {
     let indirect = indirect_of(alloc, program.hash, program.file_hash)?;
     match digest_of_content(alloc, &indirect, program.algorithm) {
@@ -177,9 +205,12 @@ fn signed_attributes_for(
     opus: &SpcSpOpusInfo,
     digest: &[u8],
 ) -> Result<SignedAttributes, AuthenticodeError>
-    ensures { let attributes = program_attributes (opus_info opus.now) digest.now in MatchResult result
-        (λ kept. (signed_attributes kept ≡ attributes_element attributes) × AreDer (opus_info opus.now ∷ attributes_element attributes ∷ []))
-        (RefusesBySteps errors.Memory (writing_step (opus_info opus.now ∷ attributes_element attributes ∷ []) ∷ [])) }
+    ensures { let attributes = program_attributes (opus_info opus.now) digest.now in
+        MatchResult result
+        (λ kept. (signed_attributes kept ≡ attributes_element attributes)
+        × AreDer (opus_info opus.now ∷ attributes_element attributes ∷ []))
+        (RefusesBySteps errors.Memory
+        (writing_step (opus_info opus.now ∷ attributes_element attributes ∷ []) ∷ [])) }
 {
     match attributes_of(alloc, opus, digest) {
         Ok(attributes) => Ok(attributes),
@@ -195,9 +226,13 @@ fn sealed<S: Scheme>(
     private_key: &PrivateKey,
     scheme: &S,
 ) -> Result<Octets, AuthenticodeError>
-    ensures { (members : List DerElement) → signed_attributes attributes.now ≡ attributes_element members → MatchResult result
-        (IsSignature (arithmetic (S.judge scheme.now) (S.signs scheme.now) (S.pair scheme.now)) (RsaPkcs1v15 algorithm) private_key.now (attributes_message members))
-        (RefusesBySteps errors.Memory (sealing_step (S.signs scheme.now) (RsaPkcs1v15 algorithm) private_key.now (attributes_message members) ∷ [])) }
+    ensures { (members : List DerElement)
+        → signed_attributes attributes.now ≡ attributes_element members
+        → MatchResult result
+        (IsSignature (arithmetic (S.judge scheme.now) (S.signs scheme.now) (S.pair scheme.now))
+        (RsaPkcs1v15 algorithm) private_key.now (attributes_message members))
+        (RefusesBySteps errors.Memory (sealing_step (S.signs scheme.now) (RsaPkcs1v15 algorithm)
+        private_key.now (attributes_message members) ∷ [])) }
 {
     let message = message_of(alloc, attributes)?;
     match signature_of(alloc, algorithm, &message, private_key, scheme) {
@@ -216,8 +251,11 @@ fn signed<S: Scheme>(
     scheme: &S,
 ) -> Result<Pkcs7, AuthenticodeError>
     requires { program.now.algorithm ≡ hash_of program.now.hash }
-    ensures { let p = program_for program.now in MatchResult result
-        (λ made. IsSignedProgram (arithmetic (S.judge scheme.now) (S.signs scheme.now) (S.pair scheme.now)) (elements_of bag.now) first.now.elements p private_key.now (fields_of made)
+    ensures { let p = program_for program.now in
+        MatchResult result
+        (λ made. IsSignedProgram
+        (arithmetic (S.judge scheme.now) (S.signs scheme.now) (S.pair scheme.now))
+        (elements_of bag.now) first.now.elements p private_key.now (fields_of made)
         × AreTaken (program_steps (S.signs scheme.now) p private_key.now))
         (RefusesBySteps errors.Memory (program_steps (S.signs scheme.now) p private_key.now)) }
 {

@@ -12,8 +12,8 @@ use cms_types::{Pkcs7Certificate, SignedView};
 use der_core::{DerError, Structure};
 use std::alloc::Global;
 
-/// The signed data that octets are, with at most seven zeros after it, tested before memory is asked
-/// for.
+/// The signed data that octets are, with at most seven zeros after it, tested before memory is
+/// asked for.
 pub(crate) fn read_padded(alloc: Global, octets: &[u8]) -> Result<Pkcs7Certificate, DerError>
     ensures answer { MatchResult result
         (λ value. IsPaddedEncoding octets.now (pkcs7 value))

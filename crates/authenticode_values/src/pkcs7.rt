@@ -53,7 +53,8 @@ impl Pkcs7 {
         ensures faulty { (at : ℕ) (fault : DerFault) → IsExactFault der.now at fault
             → result ≡ Err (unread (der_errors.Malformed (record { at = at; fault = fault }))) }
         // An element that is that of no signed data is refused as such, whatever memory there is.
-        ensures shapeless { (element : DerElement) → IsDer element → der.now ≡ encoding element → ((value : Pkcs7Certificate) → element ≢ pkcs7 value)
+        ensures shapeless { (element : DerElement) → IsDer element → der.now ≡ encoding element
+            → ((value : Pkcs7Certificate) → element ≢ pkcs7 value)
             → result ≡ Err (unread der_errors.Shape) }
     {
         match read(alloc, der) {
@@ -62,11 +63,12 @@ impl Pkcs7 {
         }
     }
 
-    /// Signed data that signs nothing, and carries the certificates as they are, in order. It is refused
-    /// for want of memory alone.
+    /// Signed data that signs nothing, and carries the certificates as they are, in order. It is
+    /// refused for want of memory alone.
     pub fn of_certificates(alloc: Global, certificates: &[Cert]) -> Result<Pkcs7, Pkcs7Error>
         ensures { MatchResult result
-            (λ p. fields_of p ≡ certificates_alone (map certificate_of (elements_of certificates.now)))
+            (λ p. fields_of p ≡ certificates_alone
+            (map certificate_of (elements_of certificates.now)))
             (λ e. e ≡ errors.Memory) }
     {
         Ok(Pkcs7 {
@@ -111,7 +113,8 @@ impl Pkcs7 {
     /// The certificates that the signed data carries, in order: its members that are certificates.
     /// Want of memory is answered as such, and drops none of them.
     pub fn decode_certificates(&self, alloc: Global) -> Result<Vec<Cert>, AllocError>
-        ensures { IfOk result (λ certificates. IsBag (members_of (fields_of self.now).certificates) (elements_of certificates.items)) }
+        ensures { IfOk result (λ certificates. IsBag (members_of (fields_of self.now).certificates)
+            (elements_of certificates.items)) }
     {
         match &self.signed.signed_data.certificates {
             Some(members) => certificates_of(alloc, members.as_slice()),
@@ -139,9 +142,12 @@ impl Pkcs7 {
 
 /// The signed data that octets are, tested before memory is asked for.
 fn read(alloc: Global, der: &[u8]) -> Result<Pkcs7Certificate, DerError>
-    ensures answer { MatchResult result (IsWithin IsPkcs7Of der.now) (RefusesOctets IsPkcs7Of der.now) }
-    ensures faulty { (at : ℕ) (fault : DerFault) → IsExactFault der.now at fault → result ≡ Err (der_errors.Malformed (record { at = at; fault = fault })) }
-    ensures shapeless { (element : DerElement) → IsDer element → der.now ≡ encoding element → ((value : Pkcs7Certificate) → element ≢ pkcs7 value) → result ≡ Err der_errors.Shape }
+    ensures answer { MatchResult result (IsWithin IsPkcs7Of der.now)
+        (RefusesOctets IsPkcs7Of der.now) }
+    ensures faulty { (at : ℕ) (fault : DerFault) → IsExactFault der.now at fault
+        → result ≡ Err (der_errors.Malformed (record { at = at; fault = fault })) }
+    ensures shapeless { (element : DerElement) → IsDer element → der.now ≡ encoding element
+        → ((value : Pkcs7Certificate) → element ≢ pkcs7 value) → result ≡ Err der_errors.Shape }
 {
     let elem = exact_elem(der)?;
     let Some(_view) = SignedView::read(elem) else {

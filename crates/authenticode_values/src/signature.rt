@@ -31,9 +31,9 @@ use wincert_core::WinCertificate;
 use x509_core::Cert;
 use x509_types::Attribute;
 
-/// The signature of a signed program, as a caller keeps it (Windows Authenticode Portable Executable
-/// Signature Format): signed data whose content is indirect data. Whether it has that form, and
-/// whether it is good, isn't asked of one.
+/// The signature of a signed program, as a caller keeps it (Windows Authenticode Portable
+/// Executable Signature Format): signed data whose content is indirect data. Whether it has that
+/// form, and whether it is good, isn't asked of one.
 #[derive(Debug, Drop)]
 pub struct AuthenticodeSignature(pub Pkcs7);
 
@@ -46,9 +46,11 @@ impl AuthenticodeSignature {
             (TellsOfSignedData (IsUnreadPkcs7 (RefusesOctets IsPkcs7Of der.now))) }
         // Octets with a fault are refused with it, whatever memory there is.
         ensures faulty { (at : ℕ) (fault : DerFault) → IsExactFault der.now at fault
-            → result ≡ Err (of_signed_data (unread (der_errors.Malformed (record { at = at; fault = fault })))) }
+            → result ≡ Err
+            (of_signed_data (unread (der_errors.Malformed (record { at = at; fault = fault })))) }
         // An element that is that of no signed data is refused as such, whatever memory there is.
-        ensures shapeless { (element : DerElement) → IsDer element → der.now ≡ encoding element → ((value : Pkcs7Certificate) → element ≢ pkcs7 value)
+        ensures shapeless { (element : DerElement) → IsDer element → der.now ≡ encoding element
+            → ((value : Pkcs7Certificate) → element ≢ pkcs7 value)
             → result ≡ Err (of_signed_data (unread der_errors.Shape)) }
     {
         match Pkcs7::from_der(alloc, der) {
@@ -70,8 +72,8 @@ impl AuthenticodeSignature {
         }
     }
 
-    /// The signature in a WIN_CERTIFICATE: its certificate is signed data and at most seven zeros after
-    /// it. Other octets are refused as `Asn1Deserialization` without memory.
+    /// The signature in a WIN_CERTIFICATE: its certificate is signed data and at most seven zeros
+    /// after it. Other octets are refused as `Asn1Deserialization` without memory.
     pub fn from_wincert(
         alloc: Global,
         cert: &WinCertificate,
@@ -80,7 +82,8 @@ impl AuthenticodeSignature {
             (λ s. IsPaddedEncoding cert.now.certificate (written s.0))
             (TellsOfSignedData (IsUnreadPkcs7 (RefusesPadded cert.now.certificate))) }
         // What is no signed data is refused as such, whatever memory there is.
-        ensures refused { (source : DerError) → IsNoSignedData cert.now.certificate source → result ≡ Err (of_signed_data (unread source)) }
+        ensures refused { (source : DerError) → IsNoSignedData cert.now.certificate source
+            → result ≡ Err (of_signed_data (unread source)) }
     {
         match read_padded(alloc, cert.get_certificate()) {
             Ok(signed) => Ok(AuthenticodeSignature(Pkcs7::from(signed))),
@@ -88,8 +91,8 @@ impl AuthenticodeSignature {
         }
     }
 
-    /// The signer's certificate: the first of the certificates with the issuer and the serial number
-    /// that the first of the signers names.
+    /// The signer's certificate: the first of the certificates with the issuer and the serial
+    /// number that the first of the signers names.
     pub fn signing_certificate<'a>(
         &self,
         alloc: Global,
@@ -100,14 +103,16 @@ impl AuthenticodeSignature {
             (HasNoSigningCertificate (signer_infos_of self.now.0) certificates.now) }
         // Where there is no signer, or the first is named by the identifier of a key, that is told
         // whatever memory there is.
-        ensures refused { (e : AuthenticodeError) → IsNamedOtherwise (signer_infos_of self.now.0) e → result ≡ Err e }
+        ensures refused { (e : AuthenticodeError) → IsNamedOtherwise (signer_infos_of self.now.0) e
+            → result ≡ Err e }
     {
         signing_certificate_of(alloc, self.0.signer_infos(), certificates)
     }
 
     /// The digest of the file, where the content is indirect data.
     pub fn file_hash(&self, alloc: Global) -> Result<Option<Vec<u8>>, AllocError>
-        ensures { IfOk result (λ hash. option_map (λ octets. octets.items) hash ≡ file_hash_in self.now.0.signed.signed_data.content_info.content) }
+        ensures { IfOk result (λ hash. option_map (λ octets. octets.items) hash
+            ≡ file_hash_in self.now.0.signed.signed_data.content_info.content) }
     {
         match &self.0.encapsulated_content_info().content {
             Some(ContentValue::SpcIndirectDataContent(content)) => {
@@ -131,7 +136,8 @@ impl AuthenticodeSignature {
         }
     }
 
-    /// The unsigned attributes of the first signer, None exactly where there is none or it has none.
+    /// The unsigned attributes of the first signer, None exactly where there is none or it has
+    /// none.
     pub fn unauthenticated_attributes(&self) -> Option<&[UnsignedAttribute]>
         ensures { option_copied result ≡ unsigned_attributes_in (signer_infos_of self.now.0) }
     {

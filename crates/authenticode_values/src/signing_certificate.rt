@@ -63,7 +63,8 @@ pub(crate) fn first_named<'a>(
     ensures { IfOk result (λ found. MatchOption found
         (HasNoPlace (elements_of certificates.now) (HasIssuerAndSerial named.now) 0)
         (λ c. (place : ℕ) × (slice_get certificates.now place ≡ Some c.now)
-        × IsLeastPlace (elements_of certificates.now) (HasIssuerAndSerial named.now) 0 place c.now.elements)) }
+        × IsLeastPlace (elements_of certificates.now) (HasIssuerAndSerial named.now) 0 place
+        c.now.elements)) }
 {
     for certificate in certificates {
         if is_named(alloc, certificate, named)? {
@@ -80,7 +81,8 @@ fn is_named(
     certificate: &Cert,
     named: &IssuerAndSerialNumber,
 ) -> Result<bool, AllocError>
-    ensures { IfOk result (λ is. IsTrue is ↔ HasIssuerAndSerial named.now certificate.now.elements) }
+    ensures { IfOk result
+        (λ is. IsTrue is ↔ HasIssuerAndSerial named.now certificate.now.elements) }
 {
     if *certificate.serial_number() == named.serial_number {
         let issuer = Name::from(certificate.issuer_name(alloc)?);
@@ -95,7 +97,8 @@ pub(crate) fn none_named(
     alloc: Global,
     named: &IssuerAndSerialNumber,
 ) -> Result<AuthenticodeError, AllocError>
-    ensures { IfOk result (λ e. e ≡ errors.NoCertificatesAssociatedWithIssuerAndSerialNumber (record { name = named.now.issuer }) named.now.serial_number) }
+    ensures { IfOk result (λ e. e ≡ errors.NoCertificatesAssociatedWithIssuerAndSerialNumber
+        (record { name = named.now.issuer }) named.now.serial_number) }
 {
     let issuer = DirectoryName::from(named.issuer.try_clone(alloc)?);
     let serial_number = named.serial_number.try_clone(alloc)?;

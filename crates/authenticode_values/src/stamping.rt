@@ -24,17 +24,23 @@ impl AuthenticodeSignature {
         timestamper: &mut T,
         hash_algo: HashAlgorithm,
     ) -> Result<(), AuthenticodeError>
-        ensures stamped { OnOk result (IsLeftByStamp (T.gives timestamper.old) (T.modifies timestamper.old) hash_algo
+        ensures stamped { OnOk result
+            (IsLeftByStamp (T.gives timestamper.old) (T.modifies timestamper.old) hash_algo
             self.old.0.signed.signed_data self.new.0.signed.signed_data) }
-        ensures refused { IfErr result (RefusesStamp (T.gives timestamper.old) (T.modifies timestamper.old)
-            (HasRisen (T.faults timestamper.old) (T.faults timestamper.new)) hash_algo self.old.0.signed.signed_data) }
-        // Where there is no signer this is told, whatever memory there is, and no token is asked for.
-        ensures no_signer { signer_infos_of self.old.0 ≡ [] → result ≡ Err (errors.MultipleSignerInfo 0) }
+        ensures refused { IfErr result
+            (RefusesStamp (T.gives timestamper.old) (T.modifies timestamper.old)
+            (HasRisen (T.faults timestamper.old) (T.faults timestamper.new)) hash_algo
+            self.old.0.signed.signed_data) }
+        // Where there is no signer this is told, whatever memory there is, and no token is asked
+        // for.
+        ensures no_signer { signer_infos_of self.old.0 ≡ []
+            → result ≡ Err (errors.MultipleSignerInfo 0) }
         ensures not_asked { signer_infos_of self.old.0 ≡ [] → timestamper.new ≡ timestamper.old }
         ensures unchanged { OnErr result (self.new ≡ self.old) }
         ensures counted { T.faults timestamper.old ≤ T.faults timestamper.new }
         ensures same_tokens { GiveAlike (T.gives timestamper.old) (T.gives timestamper.new) }
-        ensures same_modification { ModifyAlike (T.modifies timestamper.old) (T.modifies timestamper.new) }
+        ensures same_modification { ModifyAlike (T.modifies timestamper.old)
+            (T.modifies timestamper.new) }
     {
         let Some(signature) = first_signature(self.0.signer_infos()) else {
             return Err(AuthenticodeError::MultipleSignerInfo { count: 0 });
@@ -52,7 +58,8 @@ impl AuthenticodeSignature {
 
 /// The signature octets of the first of the signers.
 fn first_signature(signers: &[SignerInfo]) -> Option<&[u8]>
-    ensures { MatchOption result (signers.now ≡ []) (λ octets. HasFirstSignature signers.now octets.now) }
+    ensures { MatchOption result (signers.now ≡ [])
+        (λ octets. HasFirstSignature signers.now octets.now) }
 {
     match signers.first() {
         Some(signer) => Some(signer.signature.as_slice()),

@@ -62,8 +62,8 @@ impl TimestampRequest {
         content
     }
 
-    /// The octets that a timestamp is asked for, None exactly where the content isn't octets of type
-    /// data.
+    /// The octets that a timestamp is asked for, None exactly where the content isn't octets of
+    /// type data.
     pub fn digest(&self) -> Option<&[u8]>
         ensures { option_copied result ≡ data_in self.now.request.content.content }
     {
@@ -73,17 +73,19 @@ impl TimestampRequest {
         }
     }
 
-    /// The request that octets are, all of them, and nothing else. Octets that are no element, or one
-    /// of another structure, are refused as `Asn1Deserialization` without memory.
+    /// The request that octets are, all of them, and nothing else. Octets that are no element, or
+    /// one of another structure, are refused as `Asn1Deserialization` without memory.
     pub fn from_der(alloc: Global, der: &[u8]) -> Result<TimestampRequest, CertError>
         ensures answer { MatchResult result
             (λ r. IsWithin IsRequestOf der.now r.request)
             (IsUnreadCert elements.TimestampRequest (RefusesOctets IsRequestOf der.now)) }
         // Octets with a fault are refused with it, whatever memory there is.
         ensures faulty { (at : ℕ) (fault : DerFault) → IsExactFault der.now at fault
-            → result ≡ Err (errors.Asn1Deserialization elements.TimestampRequest (der_errors.Malformed (record { at = at; fault = fault }))) }
+            → result ≡ Err (errors.Asn1Deserialization elements.TimestampRequest
+            (der_errors.Malformed (record { at = at; fault = fault }))) }
         // An element that is that of no request is refused as such, whatever memory there is.
-        ensures shapeless { (element : DerElement) → IsDer element → der.now ≡ encoding element → ((value : RequestValue) → element ≢ timestamp_request value)
+        ensures shapeless { (element : DerElement) → IsDer element → der.now ≡ encoding element
+            → ((value : RequestValue) → element ≢ timestamp_request value)
             → result ≡ Err (errors.Asn1Deserialization elements.TimestampRequest der_errors.Shape) }
     {
         match RequestValue::from_der(alloc, der) {
@@ -117,7 +119,8 @@ impl TimestampRequest {
 
 /// The content of type data that has these octets (RFC 5652 4).
 fn data_content(alloc: Global, octets: &[u8]) -> Result<EncapsulatedContentInfo, AllocError>
-    ensures { IfOk result (λ info. content_info info ≡ content_info_of (Primitive 0x06 DATA.now) (Some (octet_string octets.now))) }
+    ensures { IfOk result (λ info. content_info info ≡ content_info_of (Primitive 0x06 DATA.now)
+        (Some (octet_string octets.now))) }
 {
     Ok(EncapsulatedContentInfo {
         content_type: ObjectIdentifier::from_known(alloc, DATA)?,

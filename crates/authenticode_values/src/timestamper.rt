@@ -26,9 +26,9 @@ pub trait Timestamper {
     // How often it has failed.
     ghost faults: { Self → ℕ };
 
-    /// A token for these octets, which aren't hashed: `AuthenticodeSignature::timestamp` hands in those
-    /// of its first signer's signature. It is refused for want of memory, and else only where the count
-    /// of faults rose in this call or stands at its last value.
+    /// A token for these octets, which aren't hashed: `AuthenticodeSignature::timestamp` hands in
+    /// those of its first signer's signature. It is refused for want of memory, and else only where
+    /// the count of faults rose in this call or stands at its last value.
     fn timestamp(
         &mut self,
         alloc: Global,
@@ -36,7 +36,8 @@ pub trait Timestamper {
         hash_algo: HashAlgorithm,
     ) -> Result<Pkcs7, TimestampError>
         ensures given { IfOk result (λ token. gives self.old digest.now hash_algo token) }
-        ensures cause { IfErr result (λ e. (e ≡ errors.Memory) ⊎ HasRisen (faults self.old) (faults self.new)) }
+        ensures cause { IfErr result
+            (λ e. (e ≡ errors.Memory) ⊎ HasRisen (faults self.old) (faults self.new)) }
         ensures counted { GoesOn (faults self.old) (faults self.new) }
         ensures same_tokens { GiveAlike (gives self.old) (gives self.new) }
         ensures same_modification { ModifyAlike (modifies self.old) (modifies self.new) };
@@ -48,11 +49,15 @@ pub trait Timestamper {
         token: Pkcs7,
         signed_data: &mut SignedData,
     ) -> Result<(), TimestampError>
-        ensures modified { OnOk result (modifies self.now token signed_data.old (Ok signed_data.new)) }
-        ensures refused { IfErr result (λ e. (e ≡ errors.Memory) ⊎ modifies self.now token signed_data.old (Err e)) }
+        ensures modified { OnOk result
+            (modifies self.now token signed_data.old (Ok signed_data.new)) }
+        ensures refused { IfErr result
+            (λ e. (e ≡ errors.Memory) ⊎ modifies self.now token signed_data.old (Err e)) }
         ensures unchanged { OnErr result (signed_data.new ≡ signed_data.old) };
 
     // Where a modification comes to an error it comes to nothing else.
-    ghost one_outcome: { (timestamper : Self) (token : Pkcs7) (before : SignedData) (e : TimestampError) (outcome : Result SignedData TimestampError)
-        → modifies timestamper token before (Err e) → modifies timestamper token before outcome → outcome ≡ Err e };
+    ghost one_outcome: { (timestamper : Self) (token : Pkcs7) (before : SignedData)
+        (e : TimestampError) (outcome : Result SignedData TimestampError)
+        → modifies timestamper token before (Err e) → modifies timestamper token before outcome
+        → outcome ≡ Err e };
 }

@@ -32,25 +32,27 @@ use sig_core::HashAlgorithm;
 use std::alloc::{AllocError, Global};
 use x509_core::{CertError, Element};
 
-/// A timestamper that has a token at hand, and gives it for whatever is to be stamped. Whether it is
-/// a token for this isn't asked.
+/// A timestamper that has a token at hand, and gives it for whatever is to be stamped. Whether it
+/// is a token for this isn't asked.
 #[derive(Debug, Drop)]
 pub struct TokenTimestamper {
     token: Pkcs7,
 }
 
 impl TokenTimestamper {
-    /// The timestamper with the token that octets are, all of them, and nothing else. Octets that are
-    /// no element, or one of another structure, are refused as `Pkcs7::from_der` refuses them.
+    /// The timestamper with the token that octets are, all of them, and nothing else. Octets that
+    /// are no element, or one of another structure, are refused as `Pkcs7::from_der` refuses them.
     pub fn from_der(alloc: Global, der: &[u8]) -> Result<TokenTimestamper, TimestampError>
         ensures answer { MatchResult result
             (λ t. IsWithin IsPkcs7Of der.now t.token.signed)
             (IsRefusedToken (IsUnreadPkcs7 (RefusesOctets IsPkcs7Of der.now))) }
         // Octets with a fault are refused with it, whatever memory there is.
         ensures faulty { (at : ℕ) (fault : DerFault) → IsExactFault der.now at fault
-            → result ≡ Err (token_refusal (unread (der_errors.Malformed (record { at = at; fault = fault })))) }
+            → result ≡ Err
+            (token_refusal (unread (der_errors.Malformed (record { at = at; fault = fault })))) }
         // An element that is that of no signed data is refused as such, whatever memory there is.
-        ensures shapeless { (element : DerElement) → IsDer element → der.now ≡ encoding element → ((value : Pkcs7Certificate) → element ≢ pkcs7 value)
+        ensures shapeless { (element : DerElement) → IsDer element → der.now ≡ encoding element
+            → ((value : Pkcs7Certificate) → element ≢ pkcs7 value)
             → result ≡ Err (token_refusal (unread der_errors.Shape)) }
     {
         match Pkcs7::from_der(alloc, der) {
@@ -63,7 +65,8 @@ impl TokenTimestamper {
     /// token. It is refused exactly where some contents would pass 4,294,967,295 octets.
     pub fn request(&self, alloc: Global, digest: &[u8]) -> Result<Vec<u8>, TimestampError>
         ensures { MatchResult result
-            (λ octets. (octets.items ≡ encoding (asking_for digest.now)) × IsDer (asking_for digest.now))
+            (λ octets. (octets.items ≡ encoding (asking_for digest.now))
+            × IsDer (asking_for digest.now))
             (IsTooLong (asking_for digest.now)) }
     {
         let request = TimestampRequest::new(alloc, digest)?;
@@ -83,8 +86,10 @@ impl TokenTimestamper {
 /// The octets of the request.
 fn written(alloc: Global, request: &TimestampRequest) -> Result<Vec<u8>, TimestampError>
     ensures { MatchResult result
-        (λ octets. (octets.items ≡ encoding (requested request.now)) × IsDer (requested request.now))
-        (IsRefusedRequest (IsUnwrittenCert elements.TimestampRequest (RefusesInner (requested request.now ∷ [])))) }
+        (λ octets. (octets.items ≡ encoding (requested request.now))
+        × IsDer (requested request.now))
+        (IsRefusedRequest (IsUnwrittenCert elements.TimestampRequest
+        (RefusesInner (requested request.now ∷ [])))) }
 {
     match request.to_der(alloc) {
         Ok(octets) => Ok(octets),
@@ -122,10 +127,12 @@ impl Timestamper for TokenTimestamper {
         signed_data: &mut SignedData,
     ) -> Result<(), TimestampError>
         ensures modified { OnOk result (token_modifies token signed_data.old (Ok signed_data.new)) }
-        ensures refused { IfErr result (λ e. (e ≡ errors.Memory) ⊎ token_modifies token signed_data.old (Err e)) }
+        ensures refused { IfErr result
+            (λ e. (e ≡ errors.Memory) ⊎ token_modifies token signed_data.old (Err e)) }
         ensures unchanged { OnErr result (signed_data.new ≡ signed_data.old) }
         // Where there is no signer on either side, that is told whatever memory there is.
-        ensures empty { (signed_data.old.signers_infos ≡ []) ⊎ (signer_infos_of token ≡ []) → result ≡ Err errors.TimestampTokenEmpty }
+        ensures empty { (signed_data.old.signers_infos ≡ []) ⊎ (signer_infos_of token ≡ [])
+            → result ≡ Err errors.TimestampTokenEmpty }
     {
         let alloc = signed_data.signers_infos.allocator();
         let own = signed_data.signers_infos.as_slice();
@@ -147,7 +154,8 @@ fn stamped_signers(
     ensures stamped { MatchResult result
         (AreStamped countersigners.now signers.now)
         (λ e. (e ≡ errors.Memory) ⊎ RefusesTokenStamp countersigners.now signers.now e) }
-    ensures empty { (signers.now ≡ []) ⊎ (countersigners.now ≡ []) → result ≡ Err errors.TimestampTokenEmpty }
+    ensures empty { (signers.now ≡ []) ⊎ (countersigners.now ≡ [])
+        → result ≡ Err errors.TimestampTokenEmpty }
 {
     let Some((first, others)) = signers.split_first() else {
         return Err(TimestampError::TimestampTokenEmpty);

@@ -21,7 +21,8 @@ use names_core::UtcDate;
 use sig_core::Scheme;
 use std::alloc::Global;
 
-/// Asks whether a signature that is kept is trusted. Of the setters of one kind the last call counts.
+/// Asks whether a signature that is kept is trusted. Of the setters of one kind the last call
+/// counts.
 #[derive(Drop)]
 pub struct AuthenticodeValidator<'a> {
     signature: &'a AuthenticodeSignature,
@@ -29,8 +30,8 @@ pub struct AuthenticodeValidator<'a> {
 }
 
 impl AuthenticodeSignature {
-    /// A validator that asks for all, to which no digest of the file and no date are given. It takes
-    /// no memory.
+    /// A validator that asks for all, to which no digest of the file and no date are given. It
+    /// takes no memory.
     pub fn authenticode_verifier(&self, alloc: Global) -> AuthenticodeValidator<'_>
         ensures policy { result.policy ≡ first_policy }
         ensures signature { result.signature.now ≡ self.now }
@@ -173,18 +174,20 @@ impl<'a> AuthenticodeValidator<'a> {
         AuthenticodeValidator { signature, policy }
     }
 
-    /// Whether the signature is trusted, as it is written: `check_wincert` answers so to its octets in
-    /// a WIN_CERTIFICATE. A value without an encoding is refused before any step, as `Asn1DerError`
-    /// with the cause for which `der_core::write` refuses its element.
+    /// Whether the signature is trusted, as it is written: `check_wincert` answers so to its octets
+    /// in a WIN_CERTIFICATE. A value without an encoding is refused before any step, as
+    /// `Asn1DerError` with the cause for which `der_core::write` refuses its element.
     pub fn verify<S: Scheme>(
         &self,
         alloc: Global,
         scheme: &S,
     ) -> Result<Accepted, AuthenticodeError>
-        ensures answer { IsVerdict (S.judge scheme.now) self.now.policy (written self.now.signature.now.0) (fields_of self.now.signature.now.0) result }
+        ensures answer { IsVerdict (S.judge scheme.now) self.now.policy
+            (written self.now.signature.now.0) (fields_of self.now.signature.now.0) result }
         // No other answer has its cause, want of memory aside.
         ensures only { (other : Result Accepted AuthenticodeError)
-            → IsVerdict (S.judge scheme.now) self.now.policy (written self.now.signature.now.0) (fields_of self.now.signature.now.0) other
+            → IsVerdict (S.judge scheme.now) self.now.policy (written self.now.signature.now.0)
+            (fields_of self.now.signature.now.0) other
             → AreOneUnlessMemory AuthenticodeError.Memory result other }
     {
         let octets = self.signature.0.signed.to_der(alloc)?;
@@ -206,7 +209,8 @@ fn check_octets<S: Scheme>(
         (RefusesAuthenticodeBy (policy_rules (S.judge scheme.now) policy.now (fields_of signed))) }
     // A refusal of the form comes whatever memory there is, and that no digest is given, too.
     ensures shape { (signed : Pkcs7) → IsKept octets.now (written signed) → (e : AuthenticodeError)
-        → IsFirstBroken (asked policy.now.basic (shape_rules (fields_of signed) policy.now.file_hash)) e
+        → IsFirstBroken
+        (asked policy.now.basic (shape_rules (fields_of signed) policy.now.file_hash)) e
         → result ≡ Err e }
 {
     let Some(elem) = whole_element(octets) else {

@@ -52,8 +52,8 @@ fn print_fields(alloc: Global, certificate: &Certificate, line: &mut Line) {
     print_digest(fields, line);
 }
 
-/// The digest of the fields of the certificate where it lies, and of what its extensions say; or the
-/// refusal.
+/// The digest of the fields of the certificate where it lies, and of what its extensions say; or
+/// the refusal.
 fn print_lent(alloc: Global, octets: &[u8], line: &mut Line) {
     match exact_elem(octets) {
         Ok(elem) => match CertView::read(elem) {
@@ -70,7 +70,8 @@ fn print_view(alloc: Global, view: &CertView<'_>, line: &mut Line) {
     print_digest(fields, line);
 }
 
-/// The digests of what a caller asks for, and of the fields where the kept octets lie; or the refusal.
+/// The digests of what a caller asks for, and of the fields where the kept octets lie; or the
+/// refusal.
 fn print_kept(alloc: Global, octets: &[u8], line: &mut Line) {
     match Cert::from_der(alloc, octets) {
         Ok(cert) => {

@@ -8,8 +8,8 @@ use std::alloc::{AllocError, Global};
 use x509_core::{Cert, CertError, CertType};
 use x509_types::{AlgorithmIdentifier, AuthorityKeyIdentifier, BasicConstraints, Certificate};
 
-/// Whether the octets come back, as they were kept and written anew, and what a caller asks for; or why
-/// there is no certificate.
+/// Whether the octets come back, as they were kept and written anew, and what a caller asks for; or
+/// why there is no certificate.
 pub fn print(alloc: Global, octets: &[u8], line: &mut Line) {
     match Cert::from_der(alloc, octets) {
         Ok(cert) => print_certificate(alloc, &cert, octets, line),

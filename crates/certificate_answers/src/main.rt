@@ -7,9 +7,9 @@
 //!
 //! A row is a call and its arguments, a space between: `structure certificate OCTETS`, `view
 //! certificate OCTETS`, `kept certificate OCTETS`, `written certificate OCTETS ALGORITHM`, `parent
-//! certificate OCTETS OCTETS`, `unlike certificate OCTETS OCTETS`, `both certificate OCTETS`, or `both
-//! certificate BEGIN PART TIMES END`. Octets stand in hexadecimal digits. A line is printed for each
-//! row. `tools/value_answers.py` makes rows and lines.
+//! certificate OCTETS OCTETS`, `unlike certificate OCTETS OCTETS`, `both certificate OCTETS`, or
+//! `both certificate BEGIN PART TIMES END`. Octets stand in hexadecimal digits. A line is printed
+//! for each row. `tools/value_answers.py` makes rows and lines.
 //!
 //! With TIMES the file has certificates one after another; each is read so many times, for
 //! `bench/certificates.py`.

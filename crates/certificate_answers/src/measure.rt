@@ -11,8 +11,8 @@ use x509_core::Cert;
 use x509_types::{CertView, Time};
 
 /// Reads each certificate of a file so many times, in each way. For each way a line is printed: its
-/// name, for each certificate 1 where it is read and 0 where it isn't, the nanoseconds that all took
-/// together, and a sum over what was read.
+/// name, for each certificate 1 where it is read and 0 where it isn't, the nanoseconds that all
+/// took together, and a sum over what was read.
 pub fn print_times(
     alloc: Global,
     clock: &impl CpuClock,

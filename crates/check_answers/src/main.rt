@@ -1,19 +1,20 @@
-//! What `check_wincert` answers to many signature files under many policies, and whether the validator
-//! of the signature in each, as it is kept, answers the same.
+//! What `check_wincert` answers to many signature files under many policies, and whether the
+//! validator of the signature in each, as it is kept, answers the same.
 //!
 //! ```text
 //! check_answers FILE
 //! ```
 //!
-//! Each line of FILE is a case: a signature file in hexadecimal digits; a verdict table with `:` for
-//! each space and `;` for each newline; and what is asked, any number of times. A line is printed for
-//! each of these, with `differs` before it where the validator answers otherwise.
+//! Each line of FILE is a case: a signature file in hexadecimal digits; a verdict table with `:`
+//! for each space and `;` for each newline; and what is asked, any number of times. A line is
+//! printed for each of these, with `differs` before it where the validator answers otherwise.
 //!
-//! What is asked are five words with commas between: a letter for each flag that is on, `b` for basic,
-//! `s` for signing, `f` and `l` for the first and the last end of validities, `c` for the chain; the
-//! digest of the file; the date, or the lower end of the dates, as `20250101000000Z`; the upper end; and
-//! a place in the file in two octets with the octet that stands there instead. `-` stands for none.
-//! `tools/check_answers.py` makes such a file, and the answers to it.
+//! What is asked are five words with commas between: a letter for each flag that is on, `b` for
+//! basic, `s` for signing, `f` and `l` for the first and the last end of validities, `c` for the
+//! chain;
+//! the digest of the file; the date, or the lower end of the dates, as `20250101000000Z`; the upper
+//! end; and a place in the file in two octets with the octet that stands there instead. `-` stands
+//! for none. `tools/check_answers.py` makes such a file, and the answers to it.
 #![tactic(auto)]
 
 mod asked;

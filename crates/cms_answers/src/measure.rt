@@ -7,9 +7,9 @@ use std::alloc::Global;
 use std::io::Write;
 use std::time::CpuClock;
 
-/// Reads a file of signed data so many times, in each way. For each way a line is printed: its name,
-/// 1 where it is read and 0 where it isn't, the nanoseconds that all took together, and a sum over
-/// what was read.
+/// Reads a file of signed data so many times, in each way. For each way a line is printed: its
+/// name, 1 where it is read and 0 where it isn't, the nanoseconds that all took together, and a sum
+/// over what was read.
 pub fn print_times(
     alloc: Global,
     clock: &impl CpuClock,

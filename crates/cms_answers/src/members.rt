@@ -1,4 +1,5 @@
-//! Signers and tokens that are put together as members of counter-signatures, and read of them again.
+//! Signers and tokens that are put together as members of counter-signatures, and read of them
+//! again.
 
 use crate::structures::is_written;
 use cms_types::{

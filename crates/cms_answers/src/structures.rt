@@ -78,8 +78,8 @@ fn print_value<T: Structure + PartialEq + Details>(
     value.print(line);
 }
 
-/// Whether the value and its copy are written as the octets that were read, and its details; or that
-/// there is none.
+/// Whether the value and its copy are written as the octets that were read, and its details; or
+/// that there is none.
 fn back_of<T: Structure + Details>(alloc: Global, octets: &[u8], line: &mut Line) {
     match T::from_der(alloc, octets) {
         Ok(value) => print_written(alloc, octets, &value, line),

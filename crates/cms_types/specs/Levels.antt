@@ -60,7 +60,8 @@ pub record AreSignerFields (f : SignerElements) : Type 0 where
   pub signature : Fits IsOctetString f.signature
   pub unsigned_attrs : OfOption (IsConstructed 0xA1) f.unsigned_attrs
 
--- Each field of SignedData has its shape, but what the signers are isn't asked. CertificateSet and RevocationInfoChoices hold any elements.
+-- Each field of SignedData has its shape, but what the signers are isn't asked. CertificateSet and
+-- RevocationInfoChoices hold any elements.
 pub record AreSignedDataFields (f : SignedDataElements) : Type 0 where
   pub version : Fits IsCmsVersion f.version
   pub digest_algorithms : Fits (IsListOf 0x31 IsAlgorithm) f.digest_algorithms
@@ -79,8 +80,10 @@ pub record IsSignedDataOf (element : DerElement) (f : SignedDataElements) : Type
   pub is : element ≡ signed_data_of f
   pub fields : AreSignedDataFields f
 
--- The element is an attribute of this kind and these values: Attribute ::= SEQUENCE { attrType OBJECT IDENTIFIER, attrValues SET OF AttributeValue }
-pub record IsUnsignedOf (element : DerElement) (kind : UnsignedKind) (values : List DerElement) : Type 0 where
+-- The element is an attribute of this kind and these values: Attribute ::= SEQUENCE { attrType
+-- OBJECT IDENTIFIER, attrValues SET OF AttributeValue }
+pub record IsUnsignedOf (element : DerElement) (kind : UnsignedKind)
+    (values : List DerElement) : Type 0 where
   pub ty : ObjectIdentifier
   pub is : element ≡ sequence (object_identifier ty ∷ set values ∷ [])
   pub named : kind ≡ named_unsigned (identifier_contents ty)

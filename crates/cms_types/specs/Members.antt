@@ -12,5 +12,6 @@ abbrev pub elements_of_kept : List KeptElement → List DerElement
 elements_of_kept kept = map element_of_kept kept
 
 -- the elements that are written for values, each behind those that are written into strings of it
-abbrev pub all_inner : {X : Type 0} → (X → List DerElement) → (X → DerElement) → List X → List DerElement
+abbrev pub all_inner : {X : Type 0} → (X → List DerElement) → (X → DerElement) → List X
+    → List DerElement
 all_inner inner written values = flat_map (λ value. inner value ++ written value ∷ []) values

@@ -4,6 +4,7 @@ use Rattle.der_core.specs.DerElement.{DerElement, Primitive}
 use Rattle.der_core.specs.Elements.{sequence, explicit}
 use Rattle.asn1_types.specs.declared.oids.TheConstants.{SIGNED_DATA}
 
--- ContentInfo ::= SEQUENCE { contentType ContentType, content [0] EXPLICIT ANY DEFINED BY contentType }, here of the type of signed data
+-- ContentInfo ::= SEQUENCE { contentType ContentType, content [0] EXPLICIT ANY DEFINED BY
+-- contentType }, here of the type of signed data
 abbrev pub pkcs7_of : DerElement → DerElement
 pkcs7_of signed_data = sequence (Primitive 0x06 SIGNED_DATA.now ∷ explicit 0xA0 signed_data ∷ [])

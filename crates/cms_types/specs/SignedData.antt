@@ -37,6 +37,13 @@ pub record AreDataFields (f : SignedDataElements) (value : SignedData) : Type 0 
   pub version : IsCmsVersion f.version value.version
   pub digest_algorithms : IsListOf 0x31 IsAlgorithm f.digest_algorithms value.digest_algorithms
   pub content_info : IsContentInfo f.content_info value.content_info
-  pub certificates : SpellsOption (IsListOf 0xA0 (λ (element : DerElement) (choice : CertificateChoices). element ≡ certificate_choice choice)) f.certificates value.certificates
-  pub crls : SpellsOption (IsListOf 0xA1 (λ (element : DerElement) (kept : KeptElement). element ≡ kept.element)) f.crls value.crls
-  pub signers_infos : IsListOf 0x31 (λ (element : DerElement) (signer : SignerInfo). element ≡ signer_info signer) f.signers_infos value.signers_infos
+  pub certificates : SpellsOption
+      (IsListOf 0xA0 (λ (element : DerElement) (choice : CertificateChoices). element
+      ≡ certificate_choice choice))
+      f.certificates value.certificates
+  pub crls : SpellsOption
+      (IsListOf 0xA1 (λ (element : DerElement) (kept : KeptElement). element ≡ kept.element)) f.crls
+      value.crls
+  pub signers_infos : IsListOf 0x31
+      (λ (element : DerElement) (signer : SignerInfo). element ≡ signer_info signer) f.signers_infos
+      value.signers_infos

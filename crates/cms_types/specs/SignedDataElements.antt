@@ -12,8 +12,9 @@ pub record SignedDataElements : Type 0 where
   pub crls : Option DerElement
   pub signers_infos : DerElement
 
--- SignedData ::= SEQUENCE { version CMSVersion, digestAlgorithms DigestAlgorithmIdentifiers, encapContentInfo EncapsulatedContentInfo,
--- certificates [0] IMPLICIT CertificateSet OPTIONAL, crls [1] IMPLICIT RevocationInfoChoices OPTIONAL, signerInfos SignerInfos }
+-- SignedData ::= SEQUENCE { version CMSVersion, digestAlgorithms DigestAlgorithmIdentifiers,
+-- encapContentInfo EncapsulatedContentInfo, certificates [0] IMPLICIT CertificateSet OPTIONAL, crls
+-- [1] IMPLICIT RevocationInfoChoices OPTIONAL, signerInfos SignerInfos }
 abbrev pub signed_data_of : SignedDataElements → DerElement
 signed_data_of f =
     sequence (f.version ∷ f.digest_algorithms ∷ f.content_info

@@ -1,4 +1,5 @@
--- The fields of signed data in two parts, which are read and copied one after another (RFC 5652 5.1).
+-- The fields of signed data in two parts, which are read and copied one after another (RFC 5652
+-- 5.1).
 use Rattle.std.specs.Prelude.{◌≡◌}
 use Rattle.der_core.specs.DerElement.{DerElement}
 use Rattle.der_core.specs.Each.{IsListOf}
@@ -19,16 +20,27 @@ use Rattle.cms_types.specs.declared.version.CmsVersion.{CmsVersion}
 pub record AreSigned (f : SignedDataElements) (part : SignedPart) : Type 0 where
   pub digest_algorithms : IsListOf 0x31 IsAlgorithm f.digest_algorithms part.digest_algorithms
   pub content_info : IsContentInfo f.content_info part.content_info
-  pub signers_infos : IsListOf 0x31 (λ (element : DerElement) (signer : SignerInfo). element ≡ signer_info signer) f.signers_infos part.signers_infos
+  pub signers_infos : IsListOf 0x31
+      (λ (element : DerElement) (signer : SignerInfo). element ≡ signer_info signer) f.signers_infos
+      part.signers_infos
 
 -- Each element spells the field of the second part.
 pub record AreCarriedFields (f : SignedDataElements) (part : CarriedPart) : Type 0 where
-  pub certificates : SpellsOption (IsListOf 0xA0 (λ (element : DerElement) (choice : CertificateChoices). element ≡ certificate_choice choice)) f.certificates part.certificates
-  pub crls : SpellsOption (IsListOf 0xA1 (λ (element : DerElement) (kept : KeptElement). element ≡ kept.element)) f.crls part.crls
+  pub certificates : SpellsOption
+      (IsListOf 0xA0 (λ (element : DerElement) (choice : CertificateChoices). element
+      ≡ certificate_choice choice))
+      f.certificates part.certificates
+  pub crls : SpellsOption
+      (IsListOf 0xA1 (λ (element : DerElement) (kept : KeptElement). element ≡ kept.element)) f.crls
+      part.crls
 
 -- the first part of signed data
 abbrev pub signed_of : SignedData → SignedPart
-signed_of value = record { digest_algorithms = value.digest_algorithms; content_info = value.content_info; signers_infos = value.signers_infos }
+signed_of value = record {
+  digest_algorithms = value.digest_algorithms;
+  content_info = value.content_info;
+  signers_infos = value.signers_infos;
+}
 
 -- the second part of signed data
 abbrev pub carried_of : SignedData → CarriedPart

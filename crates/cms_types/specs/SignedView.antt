@@ -13,7 +13,8 @@ use Rattle.cms_types.specs.declared.signed_view.SignedView.{SignedView}
 abbrev pub data_elements : SignedView → SignedDataElements
 data_elements view = signed_data_at view.fields
 
--- The view is one of this element: its elements are those of the fields, each of its shape, and it is that of a value.
+-- The view is one of this element: its elements are those of the fields, each of its shape, and it
+-- is that of a value.
 pub record IsSignedView (element : DerElement) (view : SignedView) : Type 0 where
   pub is : element ≡ pkcs7_of (signed_data_of (data_elements view))
   pub fields : AreSignedDataFields (data_elements view)

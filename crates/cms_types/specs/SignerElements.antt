@@ -13,10 +13,11 @@ pub record SignerElements : Type 0 where
   pub signature : DerElement
   pub unsigned_attrs : Option DerElement
 
--- SignerInfo ::= SEQUENCE { version CMSVersion, sid SignerIdentifier, digestAlgorithm DigestAlgorithmIdentifier,
--- signedAttrs [0] IMPLICIT SignedAttributes OPTIONAL, signatureAlgorithm SignatureAlgorithmIdentifier, signature SignatureValue,
--- unsignedAttrs [1] IMPLICIT UnsignedAttributes OPTIONAL }
+-- SignerInfo ::= SEQUENCE { version CMSVersion, sid SignerIdentifier, digestAlgorithm
+-- DigestAlgorithmIdentifier, signedAttrs [0] IMPLICIT SignedAttributes OPTIONAL, signatureAlgorithm
+-- SignatureAlgorithmIdentifier, signature SignatureValue, unsignedAttrs [1] IMPLICIT
+-- UnsignedAttributes OPTIONAL }
 abbrev pub signer_of : SignerElements → DerElement
 signer_of f =
-    sequence (f.version ∷ f.sid ∷ f.digest_algorithm
-    ∷ (option_to_list f.signed_attrs ++ (f.signature_algorithm ∷ f.signature ∷ option_to_list f.unsigned_attrs)))
+    sequence (f.version ∷ f.sid ∷ f.digest_algorithm ∷ (option_to_list f.signed_attrs
+    ++ (f.signature_algorithm ∷ f.signature ∷ option_to_list f.unsigned_attrs)))

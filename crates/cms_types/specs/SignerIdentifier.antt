@@ -8,11 +8,13 @@ use Rattle.cms_types.specs.declared.issuer_and_serial.IssuerAndSerialNumber.{Iss
 use Rattle.cms_types.specs.declared.signer_identifier.SignerIdentifier.{SignerIdentifier}
 use Rattle.cms_types.specs.declared.signer_identifier.SignerIdentifier.TheVariants as named
 
--- IssuerAndSerialNumber ::= SEQUENCE { issuer Name, serialNumber CertificateSerialNumber }, CertificateSerialNumber ::= INTEGER
+-- IssuerAndSerialNumber ::= SEQUENCE { issuer Name, serialNumber CertificateSerialNumber },
+-- CertificateSerialNumber ::= INTEGER
 abbrev pub issuer_and_serial_number : IssuerAndSerialNumber → DerElement
 issuer_and_serial_number value = sequence (name value.issuer ∷ integer value.serial_number ∷ [])
 
--- SignerIdentifier ::= CHOICE { issuerAndSerialNumber IssuerAndSerialNumber, subjectKeyIdentifier [0] IMPLICIT SubjectKeyIdentifier },
+-- SignerIdentifier ::= CHOICE { issuerAndSerialNumber IssuerAndSerialNumber, subjectKeyIdentifier
+-- [0] IMPLICIT SubjectKeyIdentifier },
 -- SubjectKeyIdentifier ::= OCTET STRING
 abbrev pub signer_identifier : SignerIdentifier → DerElement
 signer_identifier (named.IssuerAndSerialNumber value) = issuer_and_serial_number value

@@ -37,7 +37,12 @@ pub record AreFieldsOf (f : SignerElements) (signer : SignerInfo) : Type 0 where
   pub version : IsCmsVersion f.version signer.version
   pub sid : IsSignerIdentifier f.sid signer.sid
   pub digest_algorithm : IsAlgorithm f.digest_algorithm signer.digest_algorithm
-  pub signed_attrs : SpellsOption (λ (element : DerElement) (value : SignedAttributes). element ≡ signed_attributes value) f.signed_attrs signer.signed_attrs
+  pub signed_attrs : SpellsOption
+      (λ (element : DerElement) (value : SignedAttributes). element ≡ signed_attributes value)
+      f.signed_attrs signer.signed_attrs
   pub signature_algorithm : IsAlgorithm f.signature_algorithm signer.signature_algorithm
   pub signature : IsOctetString f.signature signer.signature
-  pub unsigned_attrs : SpellsOption (IsListOf 0xA1 (λ (element : DerElement) (value : UnsignedAttribute). element ≡ unsigned_attribute value)) f.unsigned_attrs signer.unsigned_attrs
+  pub unsigned_attrs : SpellsOption
+      (IsListOf 0xA1 (λ (element : DerElement) (value : UnsignedAttribute). element
+      ≡ unsigned_attribute value))
+      f.unsigned_attrs signer.unsigned_attrs

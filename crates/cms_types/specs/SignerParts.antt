@@ -22,17 +22,30 @@ pub record AreSignedByFields (f : SignerElements) (part : SignedBy) : Type 0 whe
 
 -- Each element spells the field of the second part.
 pub record AreSignatureFields (f : SignerElements) (part : SignatureFields) : Type 0 where
-  pub signed_attrs : SpellsOption (λ (element : DerElement) (value : SignedAttributes). element ≡ signed_attributes value) f.signed_attrs part.signed_attrs
+  pub signed_attrs : SpellsOption
+      (λ (element : DerElement) (value : SignedAttributes). element ≡ signed_attributes value)
+      f.signed_attrs part.signed_attrs
   pub signature : IsOctetString f.signature part.signature
-  pub unsigned_attrs : SpellsOption (IsListOf 0xA1 (λ (element : DerElement) (value : UnsignedAttribute). element ≡ unsigned_attribute value)) f.unsigned_attrs part.unsigned_attrs
+  pub unsigned_attrs : SpellsOption
+      (IsListOf 0xA1 (λ (element : DerElement) (value : UnsignedAttribute). element
+      ≡ unsigned_attribute value))
+      f.unsigned_attrs part.unsigned_attrs
 
 -- the first part of a signer
 abbrev pub signed_by : SignerInfo → SignedBy
-signed_by signer = record { sid = signer.sid; digest_algorithm = signer.digest_algorithm; signature_algorithm = signer.signature_algorithm }
+signed_by signer = record {
+  sid = signer.sid;
+  digest_algorithm = signer.digest_algorithm;
+  signature_algorithm = signer.signature_algorithm;
+}
 
 -- the second part of a signer
 abbrev pub signature_fields : SignerInfo → SignatureFields
-signature_fields signer = record { signed_attrs = signer.signed_attrs; signature = signer.signature; unsigned_attrs = signer.unsigned_attrs }
+signature_fields signer = record {
+  signed_attrs = signer.signed_attrs;
+  signature = signer.signature;
+  unsigned_attrs = signer.unsigned_attrs;
+}
 
 -- the signer of its version and its parts
 abbrev pub signer_of_parts : CmsVersion → SignedBy → SignatureFields → SignerInfo

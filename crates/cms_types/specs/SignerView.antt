@@ -15,14 +15,16 @@ use Rattle.cms_types.specs.declared.signer_view.SignerView.{SignerView}
 abbrev pub signer_elements_at : SignerView → SignerElements
 signer_elements_at view = signer_at view.fields
 
--- The view is one of this element: its elements are those of the fields, each of its shape, and it is that of a signer.
+-- The view is one of this element: its elements are those of the fields, each of its shape, and it
+-- is that of a signer.
 pub record IsSignerView (element : DerElement) (view : SignerView) : Type 0 where
   pub is : element ≡ signer_of (signer_elements_at view)
   pub fields : AreSignerFields (signer_elements_at view)
   pub value : SignerInfo
   pub spelled : element ≡ signer_info value
 
--- The octets are those of the issuer, and the contents octets of the serial number, in the element (RFC 5652 10.2.4).
+-- The octets are those of the issuer, and the contents octets of the serial number, in the element
+-- (RFC 5652 10.2.4).
 pub record LendsNamed (sid : DerElement) (issuer serial_number : List ℕ) : Type 0 where
   pub name : DerElement
   pub is : sid ≡ sequence (name ∷ integer_of serial_number ∷ [])

@@ -11,9 +11,12 @@ use Rattle.cms_types.specs.declared.unsigned_attribute.UnsignedAttribute.TheVari
 
 -- the values of an attribute are written as they are kept
 abbrev pub unsigned_attribute : UnsignedAttribute → DerElement
-unsigned_attribute (attributes.CounterSign values) = unsigned_of COUNTERSIGNATURE.now (elements_of_kept values.items)
-unsigned_attribute (attributes.MsCounterSign values) = unsigned_of RFC3161_COUNTER_SIGN.now (elements_of_kept values.items)
-unsigned_attribute (attributes.Raw attribute) = unsigned_of (identifier_contents attribute.ty) (elements_of_kept attribute.values)
+unsigned_attribute (attributes.CounterSign values) =
+    unsigned_of COUNTERSIGNATURE.now (elements_of_kept values.items)
+unsigned_attribute (attributes.MsCounterSign values) =
+    unsigned_of RFC3161_COUNTER_SIGN.now (elements_of_kept values.items)
+unsigned_attribute (attributes.Raw attribute) =
+    unsigned_of (identifier_contents attribute.ty) (elements_of_kept attribute.values)
 
 -- the elements of signers that are kept as values
 abbrev pub signer_values : SignerValues → List DerElement

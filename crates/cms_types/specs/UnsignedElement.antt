@@ -1,4 +1,5 @@
--- The element of an unsigned attribute, by the contents octets of its identifier and by its values (RFC 5652 5.3).
+-- The element of an unsigned attribute, by the contents octets of its identifier and by its values
+-- (RFC 5652 5.3).
 use Rattle.std.specs.Prelude.{ℕ, List, [], ◌∷◌}
 use Rattle.der_core.specs.DerElement.{DerElement, Primitive}
 use Rattle.der_core.specs.Elements.{sequence, set}

@@ -4,7 +4,8 @@ use Rattle.asn1_types.specs.declared.oids.TheConstants.{COUNTERSIGNATURE, RFC316
 use Rattle.cms_types.specs.declared.unsigned_kind.UnsignedKind.{UnsignedKind}
 use Rattle.cms_types.specs.declared.unsigned_kind.UnsignedKind.TheVariants as kinds
 
--- the kind that an identifier names, by its contents octets (RFC 5652 11.4; the second is Microsoft's)
+-- the kind that an identifier names, by its contents octets (RFC 5652 11.4; the second is
+-- Microsoft's)
 abbrev pub named_unsigned : List ℕ → UnsignedKind
 named_unsigned oid =
     if bytes_eq oid COUNTERSIGNATURE.now then kinds.CounterSign

@@ -20,18 +20,27 @@ ghost use Rattle.cms_types.specs.declared.unsigned_attribute.UnsignedAttribute.{
 /// What signers, unsigned attributes and signed data are is said on elements alone, since they hold
 /// one another. An element in bounds is such a one exactly where it is that of a value.
 pub fn shapes_are_those_of_values()
-    ensures signers { (element : DerElement) → IsDer element → IsSignerInfo element → (value : SignerInfo) × (element ≡ signer_info value) }
+    ensures signers { (element : DerElement) → IsDer element → IsSignerInfo element
+        → (value : SignerInfo) × (element ≡ signer_info value) }
     ensures of_signers { (value : SignerInfo) → ∥ IsSignerInfo (signer_info value) ∥₁ }
-    ensures attributes { (element : DerElement) → IsDer element → IsUnsignedAttribute element → (value : UnsignedAttribute) × (element ≡ unsigned_attribute value) }
-    ensures of_attributes { (value : UnsignedAttribute) → ∥ IsUnsignedAttribute (unsigned_attribute value) ∥₁ }
-    ensures signed { (element : DerElement) → IsDer element → IsSignedData element → (value : SignedData) × (element ≡ signed_data value) }
+    ensures attributes { (element : DerElement) → IsDer element → IsUnsignedAttribute element
+        → (value : UnsignedAttribute) × (element ≡ unsigned_attribute value) }
+    ensures of_attributes { (value : UnsignedAttribute)
+        → ∥ IsUnsignedAttribute (unsigned_attribute value) ∥₁ }
+    ensures signed { (element : DerElement) → IsDer element → IsSignedData element
+        → (value : SignedData) × (element ≡ signed_data value) }
     ensures of_signed { (value : SignedData) → ∥ IsSignedData (signed_data value) ∥₁ }
-    ensures tokens { (element : DerElement) → IsDer element → IsPkcs7 element → (value : Pkcs7Certificate) × (element ≡ pkcs7 value) }
+    ensures tokens { (element : DerElement) → IsDer element → IsPkcs7 element
+        → (value : Pkcs7Certificate) × (element ≡ pkcs7 value) }
     ensures of_tokens { (value : Pkcs7Certificate) → ∥ IsPkcs7 (pkcs7 value) ∥₁ }
 {}
 
 /// What lies in signed data, and in a signer, are the fields of the value that is read of it.
 pub fn views_lend_what_signed_data_has()
-    ensures signed { (element : DerElement) (view : SignedView) (value : Pkcs7Certificate) → IsSignedView element view → element ≡ pkcs7 value → data_elements view ≡ signed_data_elements value.signed_data }
-    ensures signers { (element : DerElement) (view : SignerView) (value : SignerInfo) → IsSignerView element view → element ≡ signer_info value → signer_elements_at view ≡ signer_elements value }
+    ensures signed { (element : DerElement) (view : SignedView) (value : Pkcs7Certificate)
+        → IsSignedView element view → element ≡ pkcs7 value
+        → data_elements view ≡ signed_data_elements value.signed_data }
+    ensures signers { (element : DerElement) (view : SignerView) (value : SignerInfo)
+        → IsSignerView element view → element ≡ signer_info value
+        → signer_elements_at view ≡ signer_elements value }
 {}

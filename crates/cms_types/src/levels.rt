@@ -15,8 +15,8 @@ use der_core::{Elem, Kids, expect_leaf, explicit_at, leaf_at, two_kids};
 
 pub(crate) const SIGNED: u8 = 0xA0;
 
-/// The fields of an unsigned attribute: its identifier, the kind that this names, and its values, any
-/// elements.
+/// The fields of an unsigned attribute: its identifier, the kind that this names, and its values,
+/// any elements.
 #[derive(Clone, Copy)]
 pub(crate) struct UnsignedFields<'a> {
     pub ty: Elem<'a>,
@@ -28,7 +28,8 @@ impl<'a> UnsignedFields<'a> {
     /// The fields of the element.
     pub fn of(elem: Elem<'a>) -> Option<UnsignedFields<'a>>
         ensures { MatchOption result
-            ((kind : UnsignedKind) (values : List DerElement) → IsUnsignedOf elem.entry.is.0 kind values → ⊥)
+            ((kind : UnsignedKind) (values : List DerElement)
+            → IsUnsignedOf elem.entry.is.0 kind values → ⊥)
             (λ fields. IsUnsignedOf elem.entry.is.0 fields.kind fields.values.are.0
             × (elem.entry.is.0 ≡ sequence (fields.ty.is.0 ∷ set fields.values.are.0 ∷ []))) }
     {

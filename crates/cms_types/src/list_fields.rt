@@ -38,7 +38,8 @@ pub(crate) fn push_values<T: Structure>(
 ) -> Result<(), DerError>
     requires { IsTag tag × (form_bit tag ≡ 1) }
     ensures { MatchResult result
-        (λ _. (kids.new.kids ≡ kids.old.kids ++ list_element tag T.written values.now ∷ []) × AreDer (flat_map T.inner values.now))
+        (λ _. (kids.new.kids ≡ kids.old.kids ++ list_element tag T.written values.now ∷ [])
+        × AreDer (flat_map T.inner values.now))
         (RefusesInner (flat_map T.inner values.now)) }
 {
     Ok(kids.push(write_list(alloc, values, tag)?)?)
@@ -53,7 +54,9 @@ pub(crate) fn push_list<T: Structure>(
 ) -> Result<(), DerError>
     requires { IsTag tag × (form_bit tag ≡ 1) }
     ensures { MatchResult result
-        (λ _. (kids.new.kids ≡ kids.old.kids ++ option_to_list (option_map (list_element tag T.written) values.now)) × AreDer (inner_list T.inner values.now))
+        (λ _. (kids.new.kids ≡ kids.old.kids
+        ++ option_to_list (option_map (list_element tag T.written) values.now))
+        × AreDer (inner_list T.inner values.now))
         (RefusesInner (inner_list T.inner values.now)) }
 {
     match values {

@@ -33,7 +33,8 @@ impl SignerValues {
 
     /// The signer that the member at this place spells, `None` exactly from the length on.
     pub fn get(&self, alloc: Global, place: usize) -> Result<Option<SignerInfo>, AllocError>
-        ensures found { IfOk result (λ signer. option_map signer_info signer ≡ option_map element_of_kept (slice_get self.now.items place)) }
+        ensures found { IfOk result (λ signer. option_map signer_info signer
+            ≡ option_map element_of_kept (slice_get self.now.items place)) }
         // From the length on no memory is asked for.
         ensures past { length self.now.items ≤ place → result ≡ Ok None }
     {
@@ -66,7 +67,8 @@ impl TokenValues {
 
     /// The token that the member at this place spells, `None` exactly from the length on.
     pub fn get(&self, alloc: Global, place: usize) -> Result<Option<Pkcs7Certificate>, AllocError>
-        ensures found { IfOk result (λ token. option_map pkcs7 token ≡ option_map element_of_kept (slice_get self.now.items place)) }
+        ensures found { IfOk result (λ token. option_map pkcs7 token ≡ option_map element_of_kept
+            (slice_get self.now.items place)) }
         // From the length on no memory is asked for.
         ensures past { length self.now.items ≤ place → result ≡ Ok None }
     {
@@ -98,7 +100,8 @@ fn keep_each<T: Structure>(alloc: Global, values: &[T]) -> Result<RawList, DerEr
 /// The element of the value, kept.
 fn kept_of<T: Structure>(alloc: Global, value: &T) -> Result<Raw, DerError>
     ensures { MatchResult result
-        (λ kept. (kept.element ≡ T.written value.now) × AreDer (T.inner value.now ++ T.written value.now ∷ []))
+        (λ kept. (kept.element ≡ T.written value.now)
+        × AreDer (T.inner value.now ++ T.written value.now ∷ []))
         (RefusesInner (T.inner value.now ++ T.written value.now ∷ [])) }
 {
     let tree = value.write(alloc)?;

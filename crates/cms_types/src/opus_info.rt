@@ -37,8 +37,10 @@ impl<'a> Fields<'a> {
     /// The fields of the element.
     fn of(elem: Elem<'a>) -> Option<Fields<'a>>
         ensures { MatchOption result
-            ((program_name more_info : Option DerElement) → elem.entry.is.0 ≢ opus_info_of program_name more_info)
-            (λ f. elem.entry.is.0 ≡ opus_info_of (at_option f.program_name) (at_option f.more_info)) }
+            ((program_name more_info : Option DerElement)
+            → elem.entry.is.0 ≢ opus_info_of program_name more_info)
+            (λ f. elem.entry.is.0 ≡ opus_info_of (at_option f.program_name)
+            (at_option f.more_info)) }
     {
         let mut kids = Kids::of(elem, SEQUENCE)?;
         let program_name = kids.next_explicit(PROGRAM_NAME)?;

@@ -29,8 +29,8 @@ pub struct RawUnsignedAttribute {
 }
 
 impl RawUnsignedAttribute {
-    /// The attribute of this identifier and these values, None exactly where the identifier is one of
-    /// counter-signatures.
+    /// The attribute of this identifier and these values, None exactly where the identifier is one
+    /// of counter-signatures.
     pub fn new(ty: ObjectIdentifier, values: RawList) -> Option<RawUnsignedAttribute>
         ensures { MatchOption result
             (named_unsigned (identifier_contents ty) ≢ kinds.Other)

@@ -119,7 +119,8 @@ pub(crate) fn are_pkcs7s(mut kids: Kids<'_>) -> bool
 /// Whether the element is a set of signers.
 pub(crate) fn has_signers(elem: Elem<'_>) -> bool
     ensures fits { IsTrue result → Fits IsSetOfSigners elem.entry.is.0 }
-    ensures unfit { (signers : List DerElement) → result ≡ false → IsSetOfSigners elem.entry.is.0 signers → ⊥ }
+    ensures unfit { (signers : List DerElement) → result ≡ false
+        → IsSetOfSigners elem.entry.is.0 signers → ⊥ }
 {
     match Kids::of(elem, SET) {
         Some(kids) => are_signer_infos(kids),

@@ -9,8 +9,8 @@ use x509_types::{Attribute, AttributeList};
 
 pub(crate) const SIGNED_ATTRIBUTES: u8 = 0xA0;
 
-/// The attributes that a signer signs, with the element that they were read from (RFC 5652 5.3): what
-/// is signed of them are its octets. A set of none is read, too.
+/// The attributes that a signer signs, with the element that they were read from (RFC 5652 5.3):
+/// what is signed of them are its octets. A set of none is read, too.
 #[derive(Debug, Drop)]
 pub struct SignedAttributes {
     element: Raw,

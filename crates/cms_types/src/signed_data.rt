@@ -25,8 +25,8 @@ pub type CertificateSet = ListOf<CertificateChoices>;
 /// Signers in order.
 pub type SignersInfos = ListOf<SignerInfo>;
 
-/// Signed data: a content, who signs it, and certificates that help to check the signatures (RFC 5652
-/// 5.1, RFC 2315 9.1). The certificates and the revocation lists are kept as they are.
+/// Signed data: a content, who signs it, and certificates that help to check the signatures (RFC
+/// 5652 5.1, RFC 2315 9.1). The certificates and the revocation lists are kept as they are.
 #[derive(Debug, Drop)]
 pub struct SignedData {
     pub version: CmsVersion,
@@ -59,7 +59,9 @@ impl SignedDataFields<'_> {
 impl SignedData {
     /// Whether the digest algorithms and the signers are the same.
     fn has_same_lists(&self, other: &SignedData) -> bool
-        ensures { IsTrue result ↔ (self.now.digest_algorithms ≡ other.now.digest_algorithms) × (self.now.signers_infos ≡ other.now.signers_infos) }
+        ensures { IsTrue result
+            ↔ (self.now.digest_algorithms ≡ other.now.digest_algorithms)
+            × (self.now.signers_infos ≡ other.now.signers_infos) }
     {
         are_same_algorithms(&self.digest_algorithms, &other.digest_algorithms)
             && are_same_signers(&self.signers_infos, &other.signers_infos)
@@ -67,7 +69,8 @@ impl SignedData {
 
     /// Whether the certificates and the revocation lists are the same, where they aren't left out.
     fn has_same_options(&self, other: &SignedData) -> bool
-        ensures { IsTrue result ↔ (self.now.certificates ≡ other.now.certificates) × (self.now.crls ≡ other.now.crls) }
+        ensures { IsTrue result
+            ↔ (self.now.certificates ≡ other.now.certificates) × (self.now.crls ≡ other.now.crls) }
     {
         are_same_certificates(&self.certificates, &other.certificates)
             && are_same_lists(&self.crls, &other.crls)

@@ -20,7 +20,8 @@ use der_core::{Cursor, Elem};
 #[derive(Clone, Copy)]
 pub struct SignedView<'a> {
     fields: SignedDataFields<'a>,
-    ghost fits: { ∥ AreSignedDataFields (signed_data_at fields) × IsSignedData (signed_data_of (signed_data_at fields)) ∥₁ },
+    ghost fits: { ∥ AreSignedDataFields (signed_data_at fields)
+        × IsSignedData (signed_data_of (signed_data_at fields)) ∥₁ },
 }
 
 impl<'a> SignedView<'a> {
@@ -66,14 +67,18 @@ impl<'a> SignedView<'a> {
 
     /// The contents octets of the identifier of the content's type.
     pub fn content_type(&self) -> &'a [u8]
-        ensures { (content : Option DerElement) × ((data_elements self.now).content_info ≡ content_info_of (Primitive 0x06 result.now) content) }
+        ensures { (content : Option DerElement)
+            × ((data_elements self.now).content_info
+            ≡ content_info_of (Primitive 0x06 result.now) content) }
     {
         ContentView::of_known(self.fields.content_info).content_type()
     }
 
     /// The content, where it isn't left out.
     pub fn content(&self) -> Option<Elem<'a>>
-        ensures { (content_type : DerElement) × ((data_elements self.now).content_info ≡ content_info_of content_type (at_option result)) }
+        ensures { (content_type : DerElement)
+            × ((data_elements self.now).content_info
+            ≡ content_info_of content_type (at_option result)) }
     {
         ContentView::of_known(self.fields.content_info).content()
     }

@@ -49,7 +49,9 @@ impl SignerFields<'_> {
 impl SignerInfo {
     /// Whether the attributes are the same, signed and unsigned.
     fn has_same_attributes(&self, other: &SignerInfo) -> bool
-        ensures { IsTrue result ↔ (self.now.signed_attrs ≡ other.now.signed_attrs) × (self.now.unsigned_attrs ≡ other.now.unsigned_attrs) }
+        ensures { IsTrue result
+            ↔ (self.now.signed_attrs ≡ other.now.signed_attrs)
+            × (self.now.unsigned_attrs ≡ other.now.unsigned_attrs) }
     {
         are_same_signed(&self.signed_attrs, &other.signed_attrs)
             && are_same_unsigned(&self.unsigned_attrs, &other.unsigned_attrs)
@@ -57,7 +59,10 @@ impl SignerInfo {
 
     /// Whether the signatures are the same, with both algorithms.
     fn has_same_signature(&self, other: &SignerInfo) -> bool
-        ensures { IsTrue result ↔ (self.now.digest_algorithm ≡ other.now.digest_algorithm) × ((self.now.signature_algorithm ≡ other.now.signature_algorithm) × (self.now.signature ≡ other.now.signature)) }
+        ensures { IsTrue result
+            ↔ (self.now.digest_algorithm ≡ other.now.digest_algorithm)
+            × ((self.now.signature_algorithm ≡ other.now.signature_algorithm)
+            × (self.now.signature ≡ other.now.signature)) }
     {
         self.digest_algorithm == other.digest_algorithm
             && self.signature_algorithm == other.signature_algorithm

@@ -15,7 +15,8 @@ use der_core::{Elem, leaf_at, two_kids};
 #[derive(Clone, Copy)]
 pub struct SignerView<'a> {
     fields: SignerFields<'a>,
-    ghost fits: { ∥ AreSignerFields (signer_at fields) × IsSignerInfo (signer_of (signer_at fields)) ∥₁ },
+    ghost fits: { ∥ AreSignerFields (signer_at fields)
+        × IsSignerInfo (signer_of (signer_at fields)) ∥₁ },
 }
 
 impl<'a> SignerView<'a> {
@@ -57,7 +58,8 @@ impl<'a> SignerView<'a> {
     /// signer's certificate; None exactly where the identifier of a key does.
     pub fn issuer_and_serial(&self) -> Option<(&'a [u8], &'a [u8])>
         ensures { MatchOption result
-            ((value : IssuerAndSerialNumber) → (signer_elements_at self.now).sid ≢ issuer_and_serial_number value)
+            ((value : IssuerAndSerialNumber)
+            → (signer_elements_at self.now).sid ≢ issuer_and_serial_number value)
             (λ named. LendsNamed (signer_elements_at self.now).sid named.0.now named.1.now) }
     {
         let (issuer, serial_number) = two_kids(self.fields.sid, SEQUENCE)?;

@@ -13,8 +13,9 @@ use std::alloc::{AllocError, Global};
 const UNICODE: u8 = 0x80;
 
 /// A text in units of 16 bits, each in two octets, the higher first: an SpcString of the form
-/// `unicode`, which is a BMPString (Windows Authenticode Portable Executable Signature Format, X.690
-/// 8.23.8). Any units are read, those that are no character too. The form `ascii` is not read.
+/// `unicode`, which is a BMPString (Windows Authenticode Portable Executable Signature Format,
+/// X.690 8.23.8). Any units are read, those that are no character too. The form `ascii` is not
+/// read.
 #[derive(Debug, Drop)]
 pub struct SpcString {
     octets: Octets,

@@ -8,8 +8,8 @@ use crate::raw_unsigned::{RawList, are_same_elements};
 use der_core::Raw;
 use std::alloc::{AllocError, Global};
 
-/// Tokens, as the values of a counter-signature of Microsoft's: each is kept as it is, and is signed
-/// data with its type.
+/// Tokens, as the values of a counter-signature of Microsoft's: each is kept as it is, and is
+/// signed data with its type.
 #[derive(Debug, Drop)]
 pub struct TokenValues {
     pub(crate) items: RawList,

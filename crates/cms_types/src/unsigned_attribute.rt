@@ -15,8 +15,8 @@ use std::alloc::{AllocError, Global};
 pub type UnsignedAttributeList = ListOf<UnsignedAttribute>;
 
 /// An attribute of a signer that isn't signed (RFC 5652 5.3): its values are of the kind that its
-/// identifier names, and kept as they are. An attribute of a known kind whose values aren't all of the
-/// kind is none: it is `Shape`.
+/// identifier names, and kept as they are. An attribute of a known kind whose values aren't all of
+/// the kind is none: it is `Shape`.
 #[derive(Debug, Drop)]
 pub enum UnsignedAttribute {
     /// Signatures of the signature (RFC 5652 11.4).
@@ -129,7 +129,8 @@ impl PartialEq for UnsignedAttribute {
     fn eq(&self, other: &UnsignedAttribute) -> bool
         ensures octets { result ≡ same_octets unsigned_attribute self.now other.now }
         ensures same { IsTrue result ↔ (self.now ≡ other.now) }
-        ensures written { IsTrue result ↔ (unsigned_attribute self.now ≡ unsigned_attribute other.now) }
+        ensures written { IsTrue result
+            ↔ (unsigned_attribute self.now ≡ unsigned_attribute other.now) }
     {
         self.is_same(other)
     }

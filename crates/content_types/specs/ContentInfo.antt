@@ -8,4 +8,5 @@ use Rattle.content_types.specs.declared.content_info.EncapsulatedContentInfo.{En
 
 -- the element of a content with its type
 abbrev pub content_info : EncapsulatedContentInfo → DerElement
-content_info info = content_info_of (object_identifier info.content_type) (option_map content_value info.content)
+content_info info =
+    content_info_of (object_identifier info.content_type) (option_map content_value info.content)

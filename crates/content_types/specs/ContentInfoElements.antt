@@ -1,5 +1,5 @@
--- EncapsulatedContentInfo ::= SEQUENCE { eContentType ContentType, eContent [0] EXPLICIT ANY OPTIONAL } (RFC 5652 5.2, RFC 2315 7, which
--- has any content there): by the elements of its fields
+-- EncapsulatedContentInfo ::= SEQUENCE { eContentType ContentType, eContent [0] EXPLICIT ANY
+-- OPTIONAL } (RFC 5652 5.2, RFC 2315 7, which has any content there): by the elements of its fields
 use Rattle.std.specs.Prelude.{◌∷◌, Option}
 use Rattle.der_core.specs.DerElement.{DerElement}
 use Rattle.der_core.specs.Elements.{sequence, optional_explicit}

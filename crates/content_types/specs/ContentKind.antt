@@ -4,8 +4,8 @@ use Rattle.asn1_types.specs.declared.oids.TheConstants.{SPC_INDIRECT_DATA, CTL, 
 use Rattle.content_types.specs.declared.content_kind.ContentKind.{ContentKind}
 use Rattle.content_types.specs.declared.content_kind.ContentKind.TheVariants as kinds
 
--- the kind that a type names, by the contents octets of its identifier (RFC 5652 4; Windows Authenticode Portable Executable
--- Signature Format; Microsoft, wincrypt.h)
+-- the kind that a type names, by the contents octets of its identifier (RFC 5652 4; Windows
+-- Authenticode Portable Executable Signature Format; Microsoft, wincrypt.h)
 abbrev pub named_content : List ℕ → ContentKind
 named_content oid =
     if bytes_eq oid SPC_INDIRECT_DATA.now then kinds.IndirectData

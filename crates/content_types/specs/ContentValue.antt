@@ -28,16 +28,19 @@ content_value (contents.Other kept) = kept.element
 
 -- The element is that of the content, which is of the kind.
 abbrev pub IsContentOf : ContentKind → DerElement → ContentValue → Type 0
-IsContentOf kind element content = (kind_of_content content ≡ kind) × (element ≡ content_value content)
+IsContentOf kind element content =
+    (kind_of_content content ≡ kind) × (element ≡ content_value content)
 
 -- A content, where there is one, is of the kind.
 abbrev pub HasKind : ContentKind → Option ContentValue → Type 0
 HasKind kind None = ⊤
 HasKind kind (Some content) = kind_of_content content ≡ kind
 
--- The element is that of the content, which is of the kind, and there is one where there is a content.
+-- The element is that of the content, which is of the kind, and there is one where there is a
+-- content.
 abbrev pub SpellsContent : ContentKind → Option DerElement → Option ContentValue → Type 0
-SpellsContent kind element content = HasKind kind content × (element ≡ option_map content_value content)
+SpellsContent kind element content =
+    HasKind kind content × (element ≡ option_map content_value content)
 
 -- the kind of a content, and the octets of its element
 abbrev pub content_octets : ContentValue → List ℕ

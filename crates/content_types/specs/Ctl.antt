@@ -13,7 +13,8 @@ use Rattle.content_types.specs.HeldPurposes.{ArePurposes}
 use Rattle.content_types.specs.declared.ctl_entry.CTLEntry.{CTLEntry}
 
 -- The first of the elements is such, and the others are so.
-pub record Begins (holds : DerElement → Type 0) (behind : List DerElement → Type 0) (all : List DerElement) : Type 0 where
+pub record Begins (holds : DerElement → Type 0) (behind : List DerElement → Type 0)
+    (all : List DerElement) : Type 0 where
   pub first : DerElement
   pub others : List DerElement
   pub are : all ≡ first ∷ others
@@ -21,7 +22,8 @@ pub record Begins (holds : DerElement → Type 0) (behind : List DerElement → 
   pub rest : behind others
 
 -- An element that is such may be left out in front of others that are so.
-pub data MayBegin (holds : DerElement → Type 0) (behind : List DerElement → Type 0) (all : List DerElement) : Type 0 where
+pub data MayBegin (holds : DerElement → Type 0) (behind : List DerElement → Type 0)
+    (all : List DerElement) : Type 0 where
   LeftOut : behind all → MayBegin holds behind all
   Given : Begins holds behind all → MayBegin holds behind all
 
@@ -54,7 +56,9 @@ IsTime element = (0x17 ≤ tag_of element) × (tag_of element ≤ 0x18)
 
 -- an AlgorithmIdentifier
 abbrev pub IsAlgorithmElement : DerElement → Type 0
-IsAlgorithmElement = Fits (λ (element : DerElement) (value : AlgorithmIdentifier). element ≡ algorithm_identifier value)
+IsAlgorithmElement =
+    Fits
+    (λ (element : DerElement) (value : AlgorithmIdentifier). element ≡ algorithm_identifier value)
 
 -- The element holds the entries, in order.
 abbrev pub AreEntries : DerElement → List CTLEntry → Type 0
@@ -68,7 +72,8 @@ AreExtensions element = tag_of element ≡ 0xA0
 
 -- the fields from the entries on
 abbrev pub FromEntries : List CTLEntry → List DerElement → Type 0
-FromEntries entries = Begins (λ element. AreEntries element entries) (MayBegin AreExtensions IsNothing)
+FromEntries entries =
+    Begins (λ element. AreEntries element entries) (MayBegin AreExtensions IsNothing)
 
 -- the fields from the algorithm on
 abbrev pub FromAlgorithm : List CTLEntry → List DerElement → Type 0
@@ -80,11 +85,14 @@ FromThisUpdate entries = Begins IsTime (MayBegin IsTime (FromAlgorithm entries))
 
 -- the fields from the usage on
 abbrev pub FromUsage : List CTLEntry → List DerElement → Type 0
-FromUsage entries = Begins IsPurposeList (MayBegin IsString (MayBegin IsIntegerElement (FromThisUpdate entries)))
+FromUsage entries =
+    Begins IsPurposeList (MayBegin IsString (MayBegin IsIntegerElement (FromThisUpdate entries)))
 
--- CertificateTrustList ::= SEQUENCE { version INTEGER OPTIONAL, subjectUsage SEQUENCE OF OBJECT IDENTIFIER, listIdentifier OCTET STRING OPTIONAL,
--- sequenceNumber INTEGER OPTIONAL, ctlThisUpdate ChoiceOfTime, ctlNextUpdate ChoiceOfTime OPTIONAL, subjectAlgorithm AlgorithmIdentifier,
--- trustedSubjects SEQUENCE OF TrustedSubject, ctlExtensions [0] ANY OPTIONAL } (Microsoft, wincrypt.h: CTL_INFO)
+-- CertificateTrustList ::= SEQUENCE { version INTEGER OPTIONAL, subjectUsage SEQUENCE OF OBJECT
+-- IDENTIFIER, listIdentifier OCTET STRING OPTIONAL, sequenceNumber INTEGER OPTIONAL, ctlThisUpdate
+-- ChoiceOfTime, ctlNextUpdate ChoiceOfTime OPTIONAL, subjectAlgorithm AlgorithmIdentifier,
+-- trustedSubjects SEQUENCE OF TrustedSubject, ctlExtensions [0] ANY OPTIONAL } (Microsoft,
+-- wincrypt.h: CTL_INFO)
 pub record IsCtl (element : DerElement) (entries : List CTLEntry) : Type 0 where
   pub kids : List DerElement
   pub is : element ≡ sequence kids

@@ -1,4 +1,5 @@
--- Attribute ::= SEQUENCE { type OBJECT IDENTIFIER, values SET OF ANY } (Microsoft, wincrypt.h: CRYPT_ATTRIBUTE)
+-- Attribute ::= SEQUENCE { type OBJECT IDENTIFIER, values SET OF ANY } (Microsoft, wincrypt.h:
+-- CRYPT_ATTRIBUTE)
 use Rattle.std.specs.Prelude.{[], ◌∷◌}
 use Rattle.der_core.specs.DerElement.{DerElement}
 use Rattle.der_core.specs.Elements.{sequence}

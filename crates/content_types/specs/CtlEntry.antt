@@ -1,4 +1,5 @@
--- TrustedSubject ::= SEQUENCE { subjectIdentifier OCTET STRING, subjectAttributes SET OF Attribute } (Microsoft, wincrypt.h: CTL_ENTRY)
+-- TrustedSubject ::= SEQUENCE { subjectIdentifier OCTET STRING, subjectAttributes SET OF Attribute
+-- } (Microsoft, wincrypt.h: CTL_ENTRY)
 use Rattle.std.specs.Prelude.{[], ◌∷◌}
 use Rattle.der_core.specs.DerElement.{DerElement}
 use Rattle.der_core.specs.Each.{list_element}
@@ -8,4 +9,6 @@ use Rattle.content_types.specs.declared.ctl_entry.CTLEntry.{CTLEntry}
 
 -- the element of an entry
 abbrev pub ctl_entry : CTLEntry → DerElement
-ctl_entry entry = sequence (octet_string entry.subject_identifier ∷ list_element 0x31 ctl_attribute entry.attributes ∷ [])
+ctl_entry entry =
+    sequence
+    (octet_string entry.subject_identifier ∷ list_element 0x31 ctl_attribute entry.attributes ∷ [])

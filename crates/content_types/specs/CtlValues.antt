@@ -1,5 +1,6 @@
--- The values of attributes of entries of a trust list, a SET OF: SET { ANY } (Microsoft, wincrypt.h), of the four kinds that
--- are known each an OCTET STRING, that of purposes around a SEQUENCE OF OBJECT IDENTIFIER
+-- The values of attributes of entries of a trust list, a SET OF: SET { ANY } (Microsoft,
+-- wincrypt.h), of the four kinds that are known each an OCTET STRING, that of purposes around a
+-- SEQUENCE OF OBJECT IDENTIFIER
 use Rattle.std.specs.Prelude.{◌≡◌}
 use Rattle.der_core.specs.DerElement.{DerElement}
 use Rattle.der_core.specs.Each.{list_element}

@@ -1,4 +1,5 @@
--- DigestInfo ::= SEQUENCE { digestAlgorithm DigestAlgorithmIdentifier, digest Digest }, Digest ::= OCTET STRING (RFC 2315 9.4)
+-- DigestInfo ::= SEQUENCE { digestAlgorithm DigestAlgorithmIdentifier, digest Digest }, Digest ::=
+-- OCTET STRING (RFC 2315 9.4)
 use Rattle.std.specs.Prelude.{[], ◌∷◌}
 use Rattle.der_core.specs.DerElement.{DerElement}
 use Rattle.der_core.specs.Elements.{sequence, octet_string}

@@ -1,5 +1,5 @@
--- SpcIndirectDataContent ::= SEQUENCE { data SpcAttributeTypeAndOptionalValue, messageDigest DigestInfo }
--- (Windows Authenticode Portable Executable Signature Format)
+-- SpcIndirectDataContent ::= SEQUENCE { data SpcAttributeTypeAndOptionalValue, messageDigest
+-- DigestInfo } (Windows Authenticode Portable Executable Signature Format)
 use Rattle.std.specs.Prelude.{[], ◌∷◌}
 use Rattle.der_core.specs.DerElement.{DerElement}
 use Rattle.der_core.specs.Elements.{sequence}
@@ -9,4 +9,5 @@ use Rattle.content_types.specs.declared.indirect_data.SpcIndirectDataContent.{Sp
 
 -- the element of what is signed in the place of a file
 abbrev pub indirect_data_content : SpcIndirectDataContent → DerElement
-indirect_data_content content = sequence (spc_attribute content.image ∷ digest_info content.message_digest ∷ [])
+indirect_data_content content =
+    sequence (spc_attribute content.image ∷ digest_info content.message_digest ∷ [])

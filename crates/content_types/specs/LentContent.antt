@@ -11,4 +11,5 @@ lent_content content_type content = content_info_of (Primitive 0x06 content_type
 
 -- they are those of a content with its type
 abbrev pub HasContent : List ℕ → Option DerElement → Type 0
-HasContent content_type content = (info : EncapsulatedContentInfo) × (lent_content content_type content ≡ content_info info)
+HasContent content_type content =
+    (info : EncapsulatedContentInfo) × (lent_content content_type content ≡ content_info info)

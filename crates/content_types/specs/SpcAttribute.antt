@@ -1,5 +1,6 @@
--- SpcAttributeTypeAndOptionalValue ::= SEQUENCE { type OBJECT IDENTIFIER, value ANY DEFINED BY type OPTIONAL }
--- (Windows Authenticode Portable Executable Signature Format, whose programs write the value without the tag that its text has)
+-- SpcAttributeTypeAndOptionalValue ::= SEQUENCE { type OBJECT IDENTIFIER, value ANY DEFINED BY type
+-- OPTIONAL } (Windows Authenticode Portable Executable Signature Format, whose programs write the
+-- value without the tag that its text has)
 use Rattle.std.specs.Prelude.{◌∷◌, Option, option_to_list}
 use Rattle.der_core.specs.DerElement.{DerElement}
 use Rattle.der_core.specs.Elements.{sequence}
@@ -13,4 +14,5 @@ spc_attribute_of ty value = sequence (ty ∷ option_to_list value)
 
 -- the element of a type with its value
 abbrev pub spc_attribute : SpcAttributeTypeAndOptionalValue → DerElement
-spc_attribute attribute = spc_attribute_of (object_identifier attribute.ty) (kept_option attribute.value)
+spc_attribute attribute =
+    spc_attribute_of (object_identifier attribute.ty) (kept_option attribute.value)

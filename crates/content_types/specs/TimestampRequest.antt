@@ -1,5 +1,6 @@
--- TimeStampRequest ::= SEQUENCE { countersignatureType OBJECT IDENTIFIER, attributes Attributes OPTIONAL, content ContentInfo }
--- (Windows Authenticode Portable Executable Signature Format), without attributes, of which none are defined
+-- TimeStampRequest ::= SEQUENCE { countersignatureType OBJECT IDENTIFIER, attributes Attributes
+-- OPTIONAL, content ContentInfo } (Windows Authenticode Portable Executable Signature Format),
+-- without attributes, of which none are defined
 use Rattle.std.specs.Prelude.{[], ◌∷◌}
 use Rattle.der_core.specs.DerElement.{DerElement}
 use Rattle.der_core.specs.Elements.{sequence}
@@ -9,4 +10,5 @@ use Rattle.content_types.specs.declared.timestamp_request.TimestampRequest.{Time
 
 -- the element of a request
 abbrev pub timestamp_request : TimestampRequest → DerElement
-timestamp_request request = sequence (object_identifier request.countersignature_type ∷ content_info request.content ∷ [])
+timestamp_request request =
+    sequence (object_identifier request.countersignature_type ∷ content_info request.content ∷ [])

@@ -39,7 +39,8 @@ impl<'a> Fields<'a> {
     /// The fields of the element.
     pub fn of(elem: Elem<'a>) -> Option<Fields<'a>>
         ensures { MatchOption result
-            ((content_type : DerElement) (content : Option DerElement) → elem.entry.is.0 ≢ content_info_of content_type content)
+            ((content_type : DerElement) (content : Option DerElement)
+            → elem.entry.is.0 ≢ content_info_of content_type content)
             (λ f. elem.entry.is.0 ≡ content_info_of f.content_type.is.0 (at_option f.content)) }
     {
         let mut kids = Kids::of(elem, SEQUENCE)?;

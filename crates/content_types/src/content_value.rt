@@ -44,7 +44,8 @@ impl ContentValue {
     /// Whether an element is a content of the kind.
     fn has_shape_of(kind: ContentKind, elem: Elem<'_>) -> bool
         ensures fits { IsTrue result → Fits (IsContentOf kind) elem.entry.is.0 }
-        ensures unfit { result ≡ false → (value : ContentValue) → IsContentOf kind elem.entry.is.0 value → ⊥ }
+        ensures unfit { result ≡ false → (value : ContentValue)
+            → IsContentOf kind elem.entry.is.0 value → ⊥ }
     {
         match kind {
             ContentKind::IndirectData => SpcIndirectDataContent::has_shape(elem),
@@ -56,7 +57,8 @@ impl ContentValue {
 
     /// The content of the kind that an element is.
     fn read_of(alloc: Global, kind: ContentKind, elem: Elem<'_>) -> Result<ContentValue, DerError>
-        ensures { MatchResult result (IsContentOf kind elem.entry.is.0) (RefusesShape (IsContentOf kind elem.entry.is.0)) }
+        ensures { MatchResult result (IsContentOf kind elem.entry.is.0)
+            (RefusesShape (IsContentOf kind elem.entry.is.0)) }
     {
         match kind {
             ContentKind::IndirectData => {
@@ -75,7 +77,8 @@ impl ContentValue {
     /// Whether an element, where there is one, is a content of the kind.
     pub(crate) fn has_option_of(kind: ContentKind, elem: Option<Elem<'_>>) -> bool
         ensures fits { IsTrue result → Fits (SpellsContent kind) (at_option elem.entry) }
-        ensures unfit { result ≡ false → (value : Option ContentValue) → SpellsContent kind (at_option elem.entry) value → ⊥ }
+        ensures unfit { result ≡ false → (value : Option ContentValue)
+            → SpellsContent kind (at_option elem.entry) value → ⊥ }
     {
         match elem {
             Some(elem) => ContentValue::has_shape_of(kind, elem),
@@ -140,7 +143,8 @@ impl PartialEq for ContentValue {
 
     ghost eq = { on (λ content. content_octets content) bytes_eq };
 
-    ghost laws = { on_per (λ content. content_octets content) (partial_equiv_from_equiv nat_list_eq_equiv) };
+    ghost laws = { on_per (λ content. content_octets content)
+        (partial_equiv_from_equiv nat_list_eq_equiv) };
 
     fn eq(&self, other: &ContentValue) -> bool
         ensures told { result ≡ bytes_eq (content_octets self.now) (content_octets other.now) }

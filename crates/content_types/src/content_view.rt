@@ -39,11 +39,12 @@ impl<'a> ContentView<'a> {
         })
     }
 
-    /// The content that an element spells, where it is known to spell one. Heads alone are read, and no
-    /// shape is tested again.
+    /// The content that an element spells, where it is known to spell one. Heads alone are read,
+    /// and no shape is tested again.
     pub fn of_known(elem: Elem<'a>) -> ContentView<'a>
         requires { ∥ ((info : EncapsulatedContentInfo) × (elem.is.0 ≡ content_info info)) ∥₁ }
-        ensures { elem.entry.is.0 ≡ lent_content result.content_type.now (at_option result.content) }
+        ensures { elem.entry.is.0 ≡ lent_content result.content_type.now
+            (at_option result.content) }
     {
         let Some(fields) = Fields::of(elem) else {
             unreachable!();

@@ -40,9 +40,10 @@ impl Ctl {
 
 /// The element of the entries of a trust list.
 fn entries_at<'a>(elem: Elem<'a>) -> Option<Elem<'a>>
-    ensures { MatchOption result
-        ((entries : List CTLEntry) → IsCtl elem.entry.is.0 entries → ⊥)
-        (λ found. Fits AreEntries found.is.0 × ((entries : List CTLEntry) → AreEntries found.is.0 entries → IsCtl elem.entry.is.0 entries)) }
+    ensures { MatchOption result ((entries : List CTLEntry) → IsCtl elem.entry.is.0 entries → ⊥)
+        (λ found. Fits AreEntries found.is.0
+        × ((entries : List CTLEntry) → AreEntries found.is.0 entries
+        → IsCtl elem.entry.is.0 entries)) }
 {
     let mut kids = Kids::of(elem, SEQUENCE)?;
     let _version = kids.next_as::<IntegerAsn1>();

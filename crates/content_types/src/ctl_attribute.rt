@@ -14,8 +14,8 @@ use der_core::{DerError, Elem, NewKids, Structure, Tree, two_kids};
 use std::alloc::{AllocError, Global};
 
 /// An attribute of an entry of a trust list: its identifier, and its values, which are of the kind
-/// that the identifier names (Microsoft, wincrypt.h). One of a known kind whose values don't all read
-/// is none: it is `Shape`.
+/// that the identifier names (Microsoft, wincrypt.h). One of a known kind whose values don't all
+/// read is none: it is `Shape`.
 #[derive(Debug, Drop)]
 pub struct CTLEntryAttribute {
     pub oid: ObjectIdentifier,

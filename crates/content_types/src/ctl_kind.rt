@@ -53,7 +53,8 @@ impl CtlKind {
     pub(crate) fn at(oid: Elem<'_>) -> Option<CtlKind>
         ensures { MatchOption result
             ((id : ObjectIdentifier) → oid.entry.is.0 ≢ object_identifier id)
-            (λ kind. (id : ObjectIdentifier) × (oid.entry.is.0 ≡ object_identifier id) × (kind ≡ named_ctl (identifier_contents id))) }
+            (λ kind. (id : ObjectIdentifier) × (oid.entry.is.0 ≡ object_identifier id)
+            × (kind ≡ named_ctl (identifier_contents id))) }
     {
         let contents = leaf_at(oid, OBJECT_IDENTIFIER)?;
         if ObjectIdentifier::is_content(contents) {

@@ -56,7 +56,8 @@ impl CTLEntryAttributeValues {
     /// Whether an element holds values of the kind.
     pub(crate) fn has_shape_of(kind: CtlKind, elem: Elem<'_>) -> bool
         ensures fits { IsTrue result → Fits (AreCtlValuesOf kind) elem.entry.is.0 }
-        ensures unfit { result ≡ false → (values : CTLEntryAttributeValues) → AreCtlValuesOf kind elem.entry.is.0 values → ⊥ }
+        ensures unfit { result ≡ false → (values : CTLEntryAttributeValues)
+            → AreCtlValuesOf kind elem.entry.is.0 values → ⊥ }
     {
         match kind {
             CtlKind::CertSubjectNameMd5HashPropId => has_list::<Octets>(elem, SET),
@@ -73,7 +74,8 @@ impl CTLEntryAttributeValues {
         kind: CtlKind,
         elem: Elem<'_>,
     ) -> Result<CTLEntryAttributeValues, DerError>
-        ensures { MatchResult result (AreCtlValuesOf kind elem.entry.is.0) (RefusesShape (AreCtlValuesOf kind elem.entry.is.0)) }
+        ensures { MatchResult result (AreCtlValuesOf kind elem.entry.is.0)
+            (RefusesShape (AreCtlValuesOf kind elem.entry.is.0)) }
     {
         match kind {
             CtlKind::CertSubjectNameMd5HashPropId => {

@@ -9,8 +9,8 @@ use der_core::{
 };
 use std::alloc::{AllocError, Global};
 
-/// An OCTET STRING that holds the encoding of a SEQUENCE OF OBJECT IDENTIFIER, an identifier a purpose
-/// (RFC 5280 4.2.1.12), with its octets as they are.
+/// An OCTET STRING that holds the encoding of a SEQUENCE OF OBJECT IDENTIFIER, an identifier a
+/// purpose (RFC 5280 4.2.1.12), with its octets as they are.
 #[derive(Debug, Drop)]
 pub struct HeldPurposes {
     octets: Octets,

@@ -29,7 +29,8 @@ impl<'a> Fields<'a> {
     /// The fields of the element.
     fn of(elem: Elem<'a>) -> Option<Fields<'a>>
         ensures { MatchOption result
-            ((ty : DerElement) (value : Option DerElement) → elem.entry.is.0 ≢ spc_attribute_of ty value)
+            ((ty : DerElement) (value : Option DerElement)
+            → elem.entry.is.0 ≢ spc_attribute_of ty value)
             (λ f. elem.entry.is.0 ≡ spc_attribute_of f.ty.is.0 (at_option f.value)) }
     {
         let mut kids = Kids::of(elem, SEQUENCE)?;

@@ -6,8 +6,8 @@
 //! der_answers count FILE
 //! ```
 //!
-//! `tools/compare_readers.py` says what the first two ask for and what is printed. The third prints how many elements
-//! the file has, for `bench/cursor.py`.
+//! `tools/compare_readers.py` says what the first two ask for and what is printed. The third prints
+//! how many elements the file has, for `bench/cursor.py`.
 #![tactic(auto)]
 
 mod answer;

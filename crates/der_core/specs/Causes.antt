@@ -1,4 +1,5 @@
--- What a refusal says: for each error what holds where it is answered. Want of memory may come at any time and says nothing.
+-- What a refusal says: for each error what holds where it is answered. Want of memory may come at
+-- any time and says nothing.
 use Rattle.std.specs.Prelude.{ℕ, ⊤}
 use Rattle.der_core.specs.declared.error.DerError.{DerError}
 use Rattle.der_core.specs.declared.error.DerError.TheVariants as errors
@@ -9,7 +10,8 @@ abbrev pub NoFault : ℕ → DerFault → Type 0
 NoFault at fault = ⊥
 
 -- Octets are refused for a fault at a place; a value for its shape, its depth or its length.
-abbrev pub Refuses : (Fault : ℕ → DerFault → Type 0) → (Shapeless TooDeep TooLong : Type 0) → DerError → Type 0
+abbrev pub Refuses : (Fault : ℕ → DerFault → Type 0) → (Shapeless TooDeep TooLong : Type 0)
+    → DerError → Type 0
 Refuses Fault Shapeless TooDeep TooLong (errors.Malformed m) = Fault m.at m.fault
 Refuses Fault Shapeless TooDeep TooLong errors.Shape = Shapeless
 Refuses Fault Shapeless TooDeep TooLong errors.TooDeep = TooDeep

@@ -3,7 +3,8 @@ use Rattle.std.specs.Prelude.{◌≡◌, ℕ, ◌==◌, Bool, false, not, if◌t
 use Rattle.der_core.specs.DerElement.{DerElement, Primitive, tag_of}
 use Rattle.der_core.specs.Structure.{BeginsOtherwise}
 
--- BOOLEAN: one octet, not zero for TRUE (X.690 8.2.2). That TRUE is FF (X.690 11.1) is not asked of what is read.
+-- BOOLEAN: one octet, not zero for TRUE (X.690 8.2.2). That TRUE is FF (X.690 11.1) is not asked of
+-- what is read.
 abbrev pub IsBoolean : DerElement → Bool → Type 0
 IsBoolean element b = (octet : ℕ) × (element ≡ Primitive 0x01 (octet ∷ [])) × (b ≡ not (octet == 0))
 
@@ -15,7 +16,8 @@ boolean b = Primitive 0x01 ((if b then 0xFF else 0x00) ∷ [])
 abbrev pub default_false : Bool → List DerElement
 default_false b = if b then boolean b ∷ [] else []
 
--- no element for FALSE, or one for either: that FALSE is left out (X.690 11.5) is not asked of what is read
+-- no element for FALSE, or one for either: that FALSE is left out (X.690 11.5) is not asked of what
+-- is read
 abbrev pub IsDefaultFalse : List DerElement → Bool → Type 0
 IsDefaultFalse [] b = b ≡ false
 IsDefaultFalse (kid ∷ []) b = IsBoolean kid b

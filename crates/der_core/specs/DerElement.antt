@@ -1,4 +1,5 @@
--- Data values of X.690 as data: an element is primitive, with contents octets, or constructed, with elements in order (X.690 8.1.1).
+-- Data values of X.690 as data: an element is primitive, with contents octets, or constructed, with
+-- elements in order (X.690 8.1.1).
 use Rattle.std.specs.Prelude.{ℕ, ◌+◌, List, [], ◌∷◌, Option, Some, None}
 
 -- An element's tag is its identifier octet.

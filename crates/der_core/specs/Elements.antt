@@ -1,4 +1,5 @@
--- Elements of the universal types that hold other elements or none (X.690 8), and those under an explicit tag (X.690 8.14).
+-- Elements of the universal types that hold other elements or none (X.690 8), and those under an
+-- explicit tag (X.690 8.14).
 use Rattle.std.specs.Prelude.{ℕ, List, [], ◌∷◌, Option, Some, None}
 use Rattle.der_core.specs.DerElement.{DerElement, Primitive, Constructed, row}
 

@@ -15,7 +15,8 @@ length_octets n =
 abbrev pub framed : ℕ → List ℕ → List ℕ
 framed tag contents = tag ∷ (length_octets (length contents) ++ contents)
 
--- The contents of a primitive element are its octets, those of a constructed one the encodings of its kids in order.
+-- The contents of a primitive element are its octets, those of a constructed one the encodings of
+-- its kids in order.
 abbrev mutual
   pub encoding : DerElement → List ℕ
   encoding (Primitive tag content) = framed tag content
@@ -43,7 +44,8 @@ abbrev mutual
   AreWellFormed Nil = Unit {0}
   AreWellFormed (Cons kid kids) = IsWellFormed kid × AreWellFormed kids
 
--- A primitive element and an empty constructed one have nesting 1, another one more than its deepest kid.
+-- A primitive element and an empty constructed one have nesting 1, another one more than its
+-- deepest kid.
 abbrev mutual
   pub nesting : DerElement → ℕ
   nesting (Primitive tag content) = 1
@@ -63,7 +65,8 @@ abbrev mutual
   AreShort Nil = Unit {0}
   AreShort (Cons kid kids) = IsShort kid × AreShort kids
 
--- An element that is read and written here: well formed, of at most so many levels, and with contents whose length has at most four octets.
+-- An element that is read and written here: well formed, of at most so many levels, and with
+-- contents whose length has at most four octets.
 pub record IsDerWithin (levels : ℕ) (element : DerElement) : Type 0 where
   pub formed : IsWellFormed element
   pub nested : nesting element ≤ levels
@@ -77,7 +80,8 @@ most_levels = 64
 abbrev pub IsDer : DerElement → Type 0
 IsDer element = IsDerWithin most_levels element
 
--- The octets are the encoding of the element, and at most seven zeros after it, as the alignment of a WIN_CERTIFICATE leaves them.
+-- The octets are the encoding of the element, and at most seven zeros after it, as the alignment of
+-- a WIN_CERTIFICATE leaves them.
 abbrev pub IsPaddedEncoding : List ℕ → DerElement → Type 0
 IsPaddedEncoding octets element =
     IsDer element × (zeros : ℕ) × (zeros ≤ 7) × (octets ≡ encoding element ++ replicate zeros 0)

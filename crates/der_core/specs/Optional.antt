@@ -1,11 +1,13 @@
--- Fields that may be left out: values of them, and elements at the front of others, told by their tags.
+-- Fields that may be left out: values of them, and elements at the front of others, told by their
+-- tags.
 use Rattle.std.specs.Prelude.{◌≡◌, ◌≢◌, ⊤, ℕ, List, [], ◌∷◌, ◌++◌, Option, Some, None}
 use Rattle.der_core.specs.DerElement.{DerElement, tag_of}
 use Rattle.der_core.specs.Elements.{explicit, optional_explicit}
 use Rattle.der_core.specs.Structure.{BeginsOtherwise}
 
 -- Where there is an element it spells the value, and there is no value where there is none.
-abbrev pub SpellsOption : {X : Type 0} → (DerElement → X → Type 0) → Option DerElement → Option X → Type 0
+abbrev pub SpellsOption : {X : Type 0} → (DerElement → X → Type 0) → Option DerElement → Option X
+    → Type 0
 SpellsOption spells None None = ⊤
 SpellsOption spells None (Some value) = ⊥
 SpellsOption spells (Some element) None = ⊥
@@ -17,7 +19,8 @@ inner_option inner None = []
 inner_option inner (Some value) = inner value
 
 -- What stands under the explicit tag, or nothing, was taken off the front of the elements.
-pub record TakesExplicit (tag : ℕ) (all : List DerElement) (inner : Option DerElement) (rest : List DerElement) : Type 0 where
+pub record TakesExplicit (tag : ℕ) (all : List DerElement) (inner : Option DerElement)
+    (rest : List DerElement) : Type 0 where
   pub are : all ≡ optional_explicit tag inner ++ rest
   pub once : inner ≡ None → BeginsOtherwise tag rest
 

@@ -16,7 +16,8 @@ AreDer (kid ∷ kids) = IsDer kid × AreDer kids
 -- The octets are the encoding of an element in bounds, of this tag and these contents.
 abbrev pub IsElem : List ℕ → ℕ → List ℕ → DerElement → Type 0
 IsElem whole tag content element =
-    IsDer element × (whole ≡ encoding element) × (tag ≡ tag_of element) × (content ≡ contents_octets element)
+    IsDer element × (whole ≡ encoding element) × (tag ≡ tag_of element)
+    × (content ≡ contents_octets element)
 
 -- The octets are some element of this tag and these contents.
 abbrev pub HasElem : List ℕ → ℕ → List ℕ → Type 0

@@ -17,7 +17,8 @@ pub record AreDerWithin (levels : ℕ) (elements : DerElements) : Type 0 where
 
 -- Octets are elements of at most so many levels.
 abbrev pub HasElements : ℕ → List ℕ → Type 0
-HasElements levels octets = (elements : DerElements) × AreDerWithin levels elements × (octets ≡ encodings elements)
+HasElements levels octets =
+    (elements : DerElements) × AreDerWithin levels elements × (octets ≡ encodings elements)
 
 -- The first n octets are the encoding of an element that is read.
 pub record IsFirst (octets : List ℕ) (element : DerElement) (n : ℕ) : Type 0 where
@@ -35,13 +36,18 @@ pub record HasTrailing (octets : List ℕ) (place : ℕ) : Type 0 where
   pub first : IsFirst octets element place
   pub more : place < length octets
 
--- What is wrong with octets that are not one element: their first fault, or octets after the element.
+-- What is wrong with octets that are not one element: their first fault, or octets after the
+-- element.
 abbrev pub IsExactFault : List ℕ → ℕ → DerFault → Type 0
-IsExactFault octets place fault = IsFirstFault octets place fault ⊎ ((fault ≡ Trailing) × HasTrailing octets place)
+IsExactFault octets place fault =
+    IsFirstFault octets place fault ⊎ ((fault ≡ Trailing) × HasTrailing octets place)
 
--- No encoding is a proper front of another: where two encodings begin the same octets they are of one element.
+-- No encoding is a proper front of another: where two encodings begin the same octets they are of
+-- one element.
 abbrev pub IsPrefixFree : Type 0
-IsPrefixFree = (a b : DerElement) (x y : List ℕ) → IsDer a → IsDer b → encoding a ++ x ≡ encoding b ++ y → (a ≡ b) × (x ≡ y)
+IsPrefixFree =
+    (a b : DerElement) (x y : List ℕ) → IsDer a → IsDer b → encoding a ++ x ≡ encoding b ++ y
+    → (a ≡ b) × (x ≡ y)
 
 -- The fault is at a place, counted from where its octets begin.
 abbrev pub IsFaultFrom : ℕ → (ℕ → DerFault → Type 0) → Malformed → Type 0

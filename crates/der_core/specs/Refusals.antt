@@ -17,11 +17,13 @@ Tells {S} told Refuses e = (source : S) × (e ≡ told source) × Refuses source
 abbrev pub RefusesShape : {X : Type 0} → (X → Type 0) → DerError → Type 0
 RefusesShape {X} Is = Refuses NoFault ((value : X) → Is value → ⊥) ⊥ ⊥
 
--- Octets that are no element are refused with their fault, an element that spells no value for its shape.
+-- Octets that are no element are refused with their fault, an element that spells no value for its
+-- shape.
 abbrev pub RefusesOctets : {X : Type 0} → (DerElement → X → Type 0) → List ℕ → DerError → Type 0
 RefusesOctets {X} spells octets = Refuses (IsExactFault octets) (SpellsNone spells octets) ⊥ ⊥
 
--- Some values are written into a string as elements of their own. The first of them that can't be written is why the whole can't be.
+-- Some values are written into a string as elements of their own. The first of them that can't be
+-- written is why the whole can't be.
 abbrev pub IsFirstUnwritable : List DerElement → DerError → Type 0
 IsFirstUnwritable inner e =
     (before : List DerElement) × (element : DerElement) × (after : List DerElement)
@@ -29,4 +31,6 @@ IsFirstUnwritable inner e =
 
 -- why a value with these inner elements isn't written
 abbrev pub RefusesInner : List DerElement → DerError → Type 0
-RefusesInner inner = Refuses NoFault ⊥ (IsFirstUnwritable inner errors.TooDeep) (IsFirstUnwritable inner errors.TooLong)
+RefusesInner inner =
+    Refuses NoFault ⊥ (IsFirstUnwritable inner errors.TooDeep)
+    (IsFirstUnwritable inner errors.TooLong)

@@ -9,7 +9,8 @@ abbrev pub Fits : {E X : Type 0} → (E → X → Type 0) → E → Type 0
 Fits {E} {X} spells element = (value : X) × spells element value
 
 -- A string holds the encoding of an element, all of it, that spells the value.
-pub record IsWithin {X : Type 0} (spells : DerElement → X → Type 0) (octets : List ℕ) (value : X) : Type 0 where
+pub record IsWithin {X : Type 0} (spells : DerElement → X → Type 0) (octets : List ℕ)
+    (value : X) : Type 0 where
   pub element : DerElement
   pub der : IsDer element
   pub encoded : octets ≡ encoding element
@@ -20,19 +21,22 @@ abbrev pub FitsWithin : {X : Type 0} → (DerElement → X → Type 0) → List 
 FitsWithin {X} spells octets = (value : X) × IsWithin spells octets value
 
 -- The octets are the encoding of an element, all of them, and it spells no value.
-pub record SpellsNone {X : Type 0} (spells : DerElement → X → Type 0) (octets : List ℕ) : Type 0 where
+pub record SpellsNone {X : Type 0} (spells : DerElement → X → Type 0)
+    (octets : List ℕ) : Type 0 where
   pub element : DerElement
   pub der : IsDer element
   pub encoded : octets ≡ encoding element
   pub none : (value : X) → spells element value → ⊥
 
 -- What every structure owes of its meanings.
-pub record IsGrammar {X : Type 0} (spells : DerElement → X → Type 0) (written : X → DerElement) (inner : X → List DerElement) : Type 0 where
+pub record IsGrammar {X : Type 0} (spells : DerElement → X → Type 0) (written : X → DerElement)
+    (inner : X → List DerElement) : Type 0 where
   -- an element spells at most one value
   pub once : (element : DerElement) (a b : X) → spells element a → spells element b → a ≡ b
   -- the elements inside strings of a value that is spelled are in bounds
   pub bounded : (element : DerElement) (value : X) → spells element value → AreDer (inner value)
-  -- the element that is written for a value spells it, where those inside strings of it are in bounds
+  -- the element that is written for a value spells it, where those inside strings of it are in
+  -- bounds
   pub spelled : (value : X) → AreDer (inner value) → spells (written value) value
   -- and is well formed
   pub formed : (value : X) → IsWellFormed (written value)

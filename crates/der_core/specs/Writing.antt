@@ -7,7 +7,9 @@ use Rattle.der_core.specs.declared.error.DerError.{DerError}
 
 -- Too deep comes before too long.
 abbrev pub RefusesToWrite : DerElement → DerError → Type 0
-RefusesToWrite element = Refuses NoFault ⊥ (most_levels < nesting element) ((nesting element ≤ most_levels) × (IsShort element → ⊥))
+RefusesToWrite element =
+    Refuses NoFault ⊥ (most_levels < nesting element)
+    ((nesting element ≤ most_levels) × (IsShort element → ⊥))
 
 -- Only long contents and want of memory keep a part from being written.
 abbrev pub RefusesLong : Type 0 → DerError → Type 0

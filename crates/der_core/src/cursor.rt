@@ -56,8 +56,8 @@ impl<'a> Cursor<'a> {
         self.place
     }
 
-    /// The level of the elements: 1 where octets were handed in, 2 within an element that was tested,
-    /// however deep.
+    /// The level of the elements: 1 where octets were handed in, 2 within an element that was
+    /// tested, however deep.
     pub fn level(&self) -> u8
         ensures { result ≡ self.now.level }
     {
@@ -70,20 +70,28 @@ impl<'a> Cursor<'a> {
     pub fn next(&mut self) -> Result<Option<Elem<'a>>, Malformed>
         ensures end { (result ≡ Ok None) ↔ (self.old.rest.now ≡ []) }
         // What is given is the element that the octets begin with.
-        ensures given { IfOk result (λ next. IfSome next (λ elem. BeginsAt self.old.level self.old.rest.now elem.is.0 (length elem.whole.now))) }
-        ensures moved { IfOk result (λ next. IfSome next (λ elem. MovesPast elem.whole.now self.old.rest.now self.new.rest.now self.old.place self.new.place)) }
+        ensures given { IfOk result (λ next. IfSome next (λ elem. BeginsAt self.old.level
+            self.old.rest.now elem.is.0 (length elem.whole.now))) }
+        ensures moved { IfOk result (λ next. IfSome next (λ elem. MovesPast elem.whole.now
+            self.old.rest.now self.new.rest.now self.old.place self.new.place)) }
         // The element that the octets begin with is given.
-        ensures only { (element : DerElement) (n : ℕ) → BeginsAt self.old.level self.old.rest.now element n
-            → IsOk result × IfOk result (λ next. (next ≢ None) × IfSome next (λ elem. elem.is.0 ≡ element)) }
+        ensures only { (element : DerElement) (n : ℕ)
+            → BeginsAt self.old.level self.old.rest.now element n
+            → IsOk result
+            × IfOk result (λ next. (next ≢ None) × IfSome next (λ elem. elem.is.0 ≡ element)) }
         // It refuses with the first fault, its place counted on from the cursor's.
-        ensures refused { IfErr result (IsFaultFrom self.old.place (IsFirstFault self.old.rest.now)) }
-        ensures faulty { (k : ℕ) (fault : DerFault) → self.old.rest.now ≢ [] → IsFirstFault self.old.rest.now k fault
+        ensures refused { IfErr result
+            (IsFaultFrom self.old.place (IsFirstFault self.old.rest.now)) }
+        ensures faulty { (k : ℕ) (fault : DerFault) → self.old.rest.now ≢ []
+            → IsFirstFault self.old.rest.now k fault
             → result ≡ Err (record { at = self.old.place + k; fault = fault }) }
         ensures never { 1 < self.old.level → IsOk result }
         ensures level { self.new.level ≡ self.old.level }
         // Where no element is given, nothing changes.
-        ensures none { result ≡ Ok None → (self.new.rest.now ≡ self.old.rest.now) × (self.new.place ≡ self.old.place) }
-        ensures stays { IfErr result (λ _. (self.new.rest.now ≡ self.old.rest.now) × (self.new.place ≡ self.old.place)) }
+        ensures none { result ≡ Ok None
+            → (self.new.rest.now ≡ self.old.rest.now) × (self.new.place ≡ self.old.place) }
+        ensures stays { IfErr result
+            (λ _. (self.new.rest.now ≡ self.old.rest.now) × (self.new.place ≡ self.old.place)) }
     {
         if self.rest.is_empty() {
             return Ok(None);
@@ -103,7 +111,8 @@ impl<'a> Cursor<'a> {
         requires { self.now.rest.now ≢ [] }
         ensures { MatchResult result
             (λ elem. BeginsAt self.now.level self.now.rest.now elem.is.0 (length elem.whole.now))
-            (λ m. (self.now.level ≤ 1) × IsFaultFrom self.now.place (IsFirstFault self.now.rest.now) m) }
+            (λ m. (self.now.level ≤ 1)
+            × IsFaultFrom self.now.place (IsFirstFault self.now.rest.now) m) }
     {
         if self.level <= 1 {
             return first_from(self.rest, self.place);
@@ -120,9 +129,9 @@ impl<'a> Elem<'a> {
     /// The contents octets as elements, `None` exactly for a primitive element. Their places count
     /// from the first of the contents octets.
     pub fn kids(&self) -> Option<Cursor<'a>>
-        ensures { MatchOption result
-            (form_bit self.now.tag ≢ 1)
-            (λ cursor. (form_bit self.now.tag ≡ 1) × (cursor.rest.now ≡ self.now.content.now) × (cursor.place ≡ 0) × (cursor.level ≡ 2)) }
+        ensures { MatchOption result (form_bit self.now.tag ≢ 1)
+            (λ cursor. (form_bit self.now.tag ≡ 1) × (cursor.rest.now ≡ self.now.content.now)
+            × (cursor.place ≡ 0) × (cursor.level ≡ 2)) }
     {
         if is_constructed(self.tag) {
             Some(Cursor {

@@ -34,8 +34,8 @@ pub enum DerFault {
     Trailing,
 }
 
-/// The first fault from left to right, and the place of the element that has it; of octets after the
-/// element theirs.
+/// The first fault from left to right, and the place of the element that has it; of octets after
+/// the element theirs.
 #[derive(Clone, Copy, Debug, PartialEq, Eq, Error)]
 #[error("{fault} at octet {at}")]
 pub struct Malformed {

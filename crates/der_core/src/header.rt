@@ -46,12 +46,14 @@ pub fn head_of(octets: &[u8], at: usize, levels: u8) -> Result<Head<'_>, Malform
     }
 }
 
-/// The head that octets begin with, with all levels left, where no test of it fails, and whether the
-/// element is constructed. Which test fails is what `head_of` says: here the tag is tested last. The
-/// octets end where the element has to end at the latest.
+/// The head that octets begin with, with all levels left, where no test of it fails, and whether
+/// the element is constructed. Which test fails is what `head_of` says: here the tag is tested
+/// last. The octets end where the element has to end at the latest.
 #[inline(always)]
 pub fn sound_head(octets: &[u8]) -> Option<(Head<'_>, bool)>
-    ensures { IfSome result (λ h. HasHead most_levels octets.now h.0.tag h.0.contents.now h.0.rest.now × (IsTrue h.1 ↔ (form_bit h.0.tag ≡ 1))) }
+    ensures { IfSome result
+        (λ h. HasHead most_levels octets.now h.0.tag h.0.contents.now h.0.rest.now
+        × (IsTrue h.1 ↔ (form_bit h.0.tag ≡ 1))) }
 {
     let (tag, after) = octets.split_first()?;
     let (contents, rest) = sound_contents(after)?;
@@ -89,7 +91,8 @@ fn sound_form(tag: u8) -> Option<bool>
 #[inline(always)]
 pub fn known_head(octets: &[u8]) -> Head<'_>
     requires { BeginsWithHead octets.now }
-    ensures { (head_at most_levels octets.now ≡ Ok (result.tag, result.contents.now, result.rest.now))
+    ensures { (head_at most_levels octets.now
+        ≡ Ok (result.tag, result.contents.now, result.rest.now))
         × HasHead most_levels octets.now result.tag result.contents.now result.rest.now }
 {
     let Some((tag, after)) = octets.split_first() else {
@@ -213,8 +216,8 @@ fn sound_contents(octets: &[u8]) -> Option<(&[u8], &[u8])>
     Some(octets.split_at(length))
 }
 
-/// The length that octets begin with, and the octets after it, where no test of it fails. Most lengths
-/// have one octet, three or two, which are looked for in this order.
+/// The length that octets begin with, and the octets after it, where no test of it fails. Most
+/// lengths have one octet, three or two, which are looked for in this order.
 #[tactic(auto, unfolding(crate::specs::Head::length_at))]
 #[inline(always)]
 fn sound_length(octets: &[u8]) -> Option<(usize, &[u8])>

@@ -119,8 +119,8 @@ impl<'a> Kids<'a> {
         Some(elem)
     }
 
-    /// The flag of a BOOLEAN DEFAULT FALSE, given or left out (X.690 8.2, 11.5). FALSE is read where
-    /// it is given, too, and TRUE in any octet but 00. A BOOLEAN of another length is left.
+    /// The flag of a BOOLEAN DEFAULT FALSE, given or left out (X.690 8.2, 11.5). FALSE is read
+    /// where it is given, too, and TRUE in any octet but 00. A BOOLEAN of another length is left.
     pub fn next_default_false(&mut self) -> Option<bool>
         ensures { MatchOption result
             ((self.new.are.0 ≡ self.old.are.0) × HasBadFlag self.old.are.0)
@@ -175,7 +175,8 @@ impl<'a> Kids<'a> {
 #[inline(always)]
 pub fn two_kids<'a>(elem: Elem<'a>, tag: u8) -> Option<(Elem<'a>, Elem<'a>)>
     ensures { MatchOption result
-        ((first second : DerElement) → elem.entry.is.0 ≢ Constructed tag (row (first ∷ second ∷ [])))
+        ((first second : DerElement)
+        → elem.entry.is.0 ≢ Constructed tag (row (first ∷ second ∷ [])))
         (λ kids. elem.entry.is.0 ≡ Constructed tag (row (kids.0.is.0 ∷ kids.1.is.0 ∷ []))) }
 {
     let mut kids = Kids::of(elem, tag)?;
@@ -189,8 +190,10 @@ pub fn two_kids<'a>(elem: Elem<'a>, tag: u8) -> Option<(Elem<'a>, Elem<'a>)>
 #[inline(always)]
 pub fn three_kids<'a>(elem: Elem<'a>, tag: u8) -> Option<(Elem<'a>, Elem<'a>, Elem<'a>)>
     ensures { MatchOption result
-        ((first second third : DerElement) → elem.entry.is.0 ≢ Constructed tag (row (first ∷ second ∷ third ∷ [])))
-        (λ kids. elem.entry.is.0 ≡ Constructed tag (row (kids.0.is.0 ∷ kids.1.is.0 ∷ kids.2.is.0 ∷ []))) }
+        ((first second third : DerElement)
+        → elem.entry.is.0 ≢ Constructed tag (row (first ∷ second ∷ third ∷ [])))
+        (λ kids. elem.entry.is.0 ≡ Constructed tag
+        (row (kids.0.is.0 ∷ kids.1.is.0 ∷ kids.2.is.0 ∷ []))) }
 {
     let mut kids = Kids::of(elem, tag)?;
     let first = kids.next()?;

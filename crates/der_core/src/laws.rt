@@ -25,22 +25,30 @@ pub fn no_encoding_begins_another()
 
 /// Octets have at most one first fault, and they have one exactly where they begin with no element.
 pub fn one_first_fault()
-    ensures at_most_one { (octets : List ℕ) (p q : ℕ) (e f : DerFault) → IsFirstFault octets p e → IsFirstFault octets q f → (p ≡ q) × (e ≡ f) }
-    ensures instead_of_an_element { (octets : List ℕ) (p : ℕ) (e : DerFault) → IsFirstFault octets p e → HasNoFirst octets }
-    ensures where_no_element { (octets : List ℕ) → IsOctets octets → HasNoFirst octets → (p : ℕ) × (e : DerFault) × IsFirstFault octets p e }
+    ensures at_most_one { (octets : List ℕ) (p q : ℕ) (e f : DerFault) → IsFirstFault octets p e
+        → IsFirstFault octets q f → (p ≡ q) × (e ≡ f) }
+    ensures instead_of_an_element { (octets : List ℕ) (p : ℕ) (e : DerFault)
+        → IsFirstFault octets p e → HasNoFirst octets }
+    ensures where_no_element { (octets : List ℕ) → IsOctets octets → HasNoFirst octets
+        → (p : ℕ) × (e : DerFault) × IsFirstFault octets p e }
 {}
 
 /// The tests of an element's head hold of exactly those octets that begin with a tag, the shortest
 /// length of some contents, and these.
 pub fn tests_of_a_head()
-    ensures only_of_a_head { (levels tag : ℕ) (octets contents rest : List ℕ) → IsOctets octets → head_at levels octets ≡ Ok (tag, contents, rest) → HasHead levels octets tag contents rest }
-    ensures of_each_head { (levels tag : ℕ) (octets contents rest : List ℕ) → HasHead levels octets tag contents rest → head_at levels octets ≡ Ok (tag, contents, rest) }
+    ensures only_of_a_head { (levels tag : ℕ) (octets contents rest : List ℕ) → IsOctets octets
+        → head_at levels octets ≡ Ok (tag, contents, rest)
+        → HasHead levels octets tag contents rest }
+    ensures of_each_head { (levels tag : ℕ) (octets contents rest : List ℕ)
+        → HasHead levels octets tag contents rest
+        → head_at levels octets ≡ Ok (tag, contents, rest) }
 {}
 
 /// What is written is read as the same tree.
 pub fn read_back(alloc: Global, tree: &Tree) -> Result<Tree, DerError>
     requires { IsWellFormed tree.now }
-    ensures back { MatchResult result (λ again. IsDer tree.now × (again ≡ tree.now)) (RefusesToWrite tree.now) }
+    ensures back { MatchResult result (λ again. IsDer tree.now × (again ≡ tree.now))
+        (RefusesToWrite tree.now) }
     ensures deep { most_levels < nesting tree.now → result ≡ Err errors.TooDeep }
 {
     let octets = write(alloc, tree)?;
@@ -50,6 +58,8 @@ pub fn read_back(alloc: Global, tree: &Tree) -> Result<Tree, DerError>
 /// Values of a structure are equal exactly where their octets are, and the octets that are written
 /// for a value spell it.
 pub fn values_are_their_octets<T: Structure>()
-    ensures equal { (a b : T) → AreDer (T.inner a) → AreDer (T.inner b) → (encoding (T.written a) ≡ encoding (T.written b)) ↔ (a ≡ b) }
-    ensures spelled { (value : T) → AreDer (T.inner value) → IsDer (T.written value) → IsWithin T.spells (encoding (T.written value)) value }
+    ensures equal { (a b : T) → AreDer (T.inner a) → AreDer (T.inner b)
+        → (encoding (T.written a) ≡ encoding (T.written b)) ↔ (a ≡ b) }
+    ensures spelled { (value : T) → AreDer (T.inner value) → IsDer (T.written value)
+        → IsWithin T.spells (encoding (T.written value)) value }
 {}

@@ -129,7 +129,8 @@ impl<T: Eq> Eq for ListOf<T> {
 /// Whether each of the elements spells a value.
 pub fn has_each<T: Structure>(mut kids: Kids<'_>) -> bool
     ensures fits { IsTrue result → Fits (AreEach T.spells) kids.entry.are.0 }
-    ensures unfit { result ≡ false → (values : List T) → AreEach T.spells kids.entry.are.0 values → ⊥ }
+    ensures unfit { result ≡ false → (values : List T) → AreEach T.spells kids.entry.are.0 values
+        → ⊥ }
 {
     while let Some(kid) = kids.next() {
         if !T::has_shape(kid) {
@@ -141,7 +142,8 @@ pub fn has_each<T: Structure>(mut kids: Kids<'_>) -> bool
 
 /// The values of the elements, one for each.
 pub fn read_each<T: Structure>(alloc: Global, mut kids: Kids<'_>) -> Result<ListOf<T>, DerError>
-    ensures { MatchResult result (AreEach T.spells kids.entry.are.0) (RefusesShape (AreEach T.spells kids.entry.are.0)) }
+    ensures { MatchResult result (AreEach T.spells kids.entry.are.0)
+        (RefusesShape (AreEach T.spells kids.entry.are.0)) }
 {
     let mut values = ListOf::with_capacity(alloc, kids.room())?;
     while let Some(kid) = kids.next() {
@@ -152,7 +154,8 @@ pub fn read_each<T: Structure>(alloc: Global, mut kids: Kids<'_>) -> Result<List
 
 /// The elements of the values, one for each.
 pub fn write_each<T: Structure>(alloc: Global, values: &ListOf<T>) -> Result<NewKids, DerError>
-    ensures { MatchResult result (λ new. AreWritten T.written T.inner values.now new.kids) (RefusesInner (flat_map T.inner values.now)) }
+    ensures { MatchResult result (λ new. AreWritten T.written T.inner values.now new.kids)
+        (RefusesInner (flat_map T.inner values.now)) }
 {
     let mut kids = NewKids::new(alloc);
     let mut rest = values.as_slice();
@@ -177,7 +180,8 @@ pub fn copy_each<T: Structure>(alloc: Global, values: &ListOf<T>) -> Result<List
 /// Whether the element is a SEQUENCE OF or a SET OF such values, by its tag.
 pub fn has_list<T: Structure>(elem: Elem<'_>, tag: u8) -> bool
     ensures fits { IsTrue result → Fits (IsListOf tag T.spells) elem.entry.is.0 }
-    ensures unfit { result ≡ false → (values : List T) → IsListOf tag T.spells elem.entry.is.0 values → ⊥ }
+    ensures unfit { result ≡ false → (values : List T)
+        → IsListOf tag T.spells elem.entry.is.0 values → ⊥ }
 {
     match Kids::of(elem, tag) {
         Some(kids) => has_each::<T>(kids),
@@ -191,7 +195,8 @@ pub fn read_list<T: Structure>(
     elem: Elem<'_>,
     tag: u8,
 ) -> Result<ListOf<T>, DerError>
-    ensures { MatchResult result (IsListOf tag T.spells elem.entry.is.0) (RefusesShape (IsListOf tag T.spells elem.entry.is.0)) }
+    ensures { MatchResult result (IsListOf tag T.spells elem.entry.is.0)
+        (RefusesShape (IsListOf tag T.spells elem.entry.is.0)) }
 {
     match Kids::of(elem, tag) {
         Some(kids) => read_each(alloc, kids),
@@ -206,7 +211,8 @@ pub fn write_list<T: Structure>(
     tag: u8,
 ) -> Result<Tree, DerError>
     requires { IsTag tag × (form_bit tag ≡ 1) }
-    ensures { MatchResult result (IsWrittenList tag T.written T.inner values.now) (RefusesInner (flat_map T.inner values.now)) }
+    ensures { MatchResult result (IsWrittenList tag T.written T.inner values.now)
+        (RefusesInner (flat_map T.inner values.now)) }
 {
     Ok(write_each(alloc, values)?.into_branch(tag))
 }

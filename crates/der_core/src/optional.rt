@@ -22,7 +22,8 @@ use std::alloc::{AllocError, Global};
 /// Whether the element, where there is one, spells a value.
 pub fn has_option<T: Structure>(elem: Option<Elem<'_>>) -> bool
     ensures fits { IsTrue result → Fits (SpellsOption T.spells) (at_option elem.entry) }
-    ensures unfit { result ≡ false → (value : Option T) → SpellsOption T.spells (at_option elem.entry) value → ⊥ }
+    ensures unfit { result ≡ false → (value : Option T)
+        → SpellsOption T.spells (at_option elem.entry) value → ⊥ }
 {
     match elem {
         Some(elem) => T::has_shape(elem),
@@ -94,7 +95,8 @@ pub fn push_value<T: Structure>(
     value: &T,
 ) -> Result<(), DerError>
     ensures answer { MatchResult result
-        (λ _. (kids.new.kids ≡ kids.old.kids ++ T.written value.now ∷ []) × AreDer (T.inner value.now))
+        (λ _. (kids.new.kids ≡ kids.old.kids ++ T.written value.now ∷ [])
+        × AreDer (T.inner value.now))
         (RefusesInner (T.inner value.now)) }
     ensures unchanged { OnErr result (kids.new.kids ≡ kids.old.kids) }
 {
@@ -110,7 +112,9 @@ pub fn push_explicit<T: Structure>(
 ) -> Result<(), DerError>
     requires { IsTag tag × (form_bit tag ≡ 1) }
     ensures answer { MatchResult result
-        (λ _. (kids.new.kids ≡ kids.old.kids ++ optional_explicit tag (option_map T.written value.now)) × AreDer (inner_option T.inner value.now))
+        (λ _. (kids.new.kids ≡ kids.old.kids
+        ++ optional_explicit tag (option_map T.written value.now))
+        × AreDer (inner_option T.inner value.now))
         (RefusesInner (inner_option T.inner value.now)) }
     ensures unchanged { OnErr result (kids.new.kids ≡ kids.old.kids) }
 {

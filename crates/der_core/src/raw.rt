@@ -42,7 +42,8 @@ impl Raw {
     /// The element of a tree, kept as its encoding. It is refused as `write` refuses it.
     pub fn from_tree(alloc: Global, tree: &Tree) -> Result<Raw, DerError>
         requires { IsWellFormed tree.now }
-        ensures kept { MatchResult result (λ raw. IsDer tree.now × (raw.element ≡ tree.now)) (RefusesToWrite tree.now) }
+        ensures kept { MatchResult result (λ raw. IsDer tree.now × (raw.element ≡ tree.now))
+            (RefusesToWrite tree.now) }
         // Depth is looked at before memory is asked for.
         ensures deep { most_levels < nesting tree.now → result ≡ Err errors.TooDeep }
     {

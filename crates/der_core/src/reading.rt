@@ -17,11 +17,13 @@ use std::alloc::{AllocError, Global};
 
 /// The first element of the octets as a tree, and how many octets it takes.
 pub fn read_first(alloc: Global, bytes: &[u8]) -> Result<(Tree, usize), DerError>
-    // What is read is the element that the octets begin with. It refuses for want of memory, or with
-    // the first fault from left to right.
-    ensures answer { MatchResult result (λ x. IsFirst bytes.now x.0 x.1) (RefusesMalformed (IsFirstFault bytes.now)) }
+    // What is read is the element that the octets begin with. It refuses for want of memory, or
+    // with the first fault from left to right.
+    ensures answer { MatchResult result (λ x. IsFirst bytes.now x.0 x.1)
+        (RefusesMalformed (IsFirstFault bytes.now)) }
     // Octets with a fault are refused with it, whatever memory there is.
-    ensures faulty { (at : ℕ) (fault : DerFault) → IsFirstFault bytes.now at fault → result ≡ Err (errors.Malformed (record { at = at; fault = fault })) }
+    ensures faulty { (at : ℕ) (fault : DerFault) → IsFirstFault bytes.now at fault
+        → result ≡ Err (errors.Malformed (record { at = at; fault = fault })) }
 {
     let elem = first_of(bytes)?;
     let tree = tree_of(alloc, elem)?;
@@ -30,11 +32,14 @@ pub fn read_first(alloc: Global, bytes: &[u8]) -> Result<(Tree, usize), DerError
 
 /// The element that the octets are, as a tree.
 pub fn read_exact(alloc: Global, bytes: &[u8]) -> Result<Tree, DerError>
-    // What is read is the element whose encoding the octets are. It refuses for want of memory, with
-    // the first fault, or at the first octet after the element.
-    ensures answer { MatchResult result (λ t. IsDer t × (bytes.now ≡ encoding t)) (RefusesMalformed (IsExactFault bytes.now)) }
-    // Octets with a fault, or with more of them than the element, are refused so, whatever memory there is.
-    ensures faulty { (at : ℕ) (fault : DerFault) → IsExactFault bytes.now at fault → result ≡ Err (errors.Malformed (record { at = at; fault = fault })) }
+    // What is read is the element whose encoding the octets are. It refuses for want of memory,
+    // with the first fault, or at the first octet after the element.
+    ensures answer { MatchResult result (λ t. IsDer t × (bytes.now ≡ encoding t))
+        (RefusesMalformed (IsExactFault bytes.now)) }
+    // Octets with a fault, or with more of them than the element, are refused so, whatever memory
+    // there is.
+    ensures faulty { (at : ℕ) (fault : DerFault) → IsExactFault bytes.now at fault
+        → result ≡ Err (errors.Malformed (record { at = at; fault = fault })) }
 {
     let elem = exact_elem(bytes)?;
     Ok(tree_of(alloc, elem)?)

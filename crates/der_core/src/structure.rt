@@ -35,7 +35,8 @@ pub trait Structure: Sized + Drop {
 
     /// The value that an element spells where its octets lie, `Shape` exactly where it spells none.
     fn read_at(alloc: Global, elem: Elem<'_>) -> Result<Self, DerError>
-        ensures { MatchResult result (spells elem.entry.is.0) (RefusesShape (spells elem.entry.is.0)) };
+        ensures { MatchResult result (spells elem.entry.is.0)
+            (RefusesShape (spells elem.entry.is.0)) };
 
     /// The element of the value, which spells it. It is refused as `TooDeep` or `TooLong` exactly
     /// where `der_core::write` so refuses the first element that can't be written into a string.
@@ -67,11 +68,14 @@ pub trait Structure: Sized + Drop {
     final fn from_der(alloc: Global, octets: &[u8]) -> Result<Self, DerError>
         // What is read is the value that the octets spell. It refuses for want of memory, with the
         // first fault, at the first octet after the element, or as `Shape` where it spells none.
-        ensures answer { MatchResult result (IsWithin spells octets.now) (RefusesOctets spells octets.now) }
+        ensures answer { MatchResult result (IsWithin spells octets.now)
+            (RefusesOctets spells octets.now) }
         // Octets with a fault are refused with it, whatever memory there is.
-        ensures faulty { (at : ℕ) (fault : DerFault) → IsExactFault octets.now at fault → result ≡ Err (errors.Malformed (record { at = at; fault = fault })) }
+        ensures faulty { (at : ℕ) (fault : DerFault) → IsExactFault octets.now at fault
+            → result ≡ Err (errors.Malformed (record { at = at; fault = fault })) }
         // An element that spells no value is refused as such, whatever memory there is.
-        ensures shapeless { (element : DerElement) → IsDer element → octets.now ≡ encoding element → ((value : Self) → spells element value → ⊥) → result ≡ Err errors.Shape }
+        ensures shapeless { (element : DerElement) → IsDer element → octets.now ≡ encoding element
+            → ((value : Self) → spells element value → ⊥) → result ≡ Err errors.Shape }
     {
         let elem = exact_elem(octets)?;
         if !Self::has_shape(elem) {
@@ -85,7 +89,8 @@ pub trait Structure: Sized + Drop {
     /// from left to right, else the value's own.
     final fn to_der(&self, alloc: Global) -> Result<Vec<u8>, DerError>
         ensures { MatchResult result
-            (λ octets. (octets.items ≡ encoding (written self.now)) × IsDer (written self.now) × AreDer (inner self.now))
+            (λ octets. (octets.items ≡ encoding (written self.now)) × IsDer (written self.now)
+            × AreDer (inner self.now))
             (RefusesInner (inner self.now ++ written self.now ∷ [])) }
     {
         let tree = self.write(alloc)?;

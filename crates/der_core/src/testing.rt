@@ -39,8 +39,8 @@ pub(crate) fn first_from(bytes: &[u8], at: usize) -> Result<Elem<'_>, Malformed>
     }
 }
 
-/// The element that octets are, all of them; else their first fault, or octets after the element. It
-/// takes no memory.
+/// The element that octets are, all of them; else their first fault, or octets after the element.
+/// It takes no memory.
 pub fn exact_elem(bytes: &[u8]) -> Result<Elem<'_>, Malformed>
     ensures { MatchResult result
         (λ elem. bytes.now ≡ encoding elem.is.0)
@@ -84,7 +84,8 @@ fn after_first(bytes: &[u8], at: usize) -> Result<&[u8], Malformed>
 /// The octets after the element that octets begin with, where they begin with one. No place is kept
 /// for a fault, which makes it quicker.
 fn after_sound(bytes: &[u8]) -> Option<&[u8]>
-    ensures { IfSome result (λ rest. (t : DerElement) × IsDer t × (bytes.now ≡ encoding t ++ rest.now)) }
+    ensures { IfSome result
+        (λ rest. (t : DerElement) × IsDer t × (bytes.now ≡ encoding t ++ rest.now)) }
 {
     let (head, is_constructed) = sound_head(bytes)?;
     if !is_constructed {
@@ -101,9 +102,9 @@ fn after_sound(bytes: &[u8]) -> Option<&[u8]>
 /// two there are `MAX_NESTING` levels.
 const MOST_OUTER: usize = 62;
 
-/// Whether octets are elements of at most 63 levels, as those in the outermost element have to be. Of
-/// a constructed element within so many others it says no even where it is empty: octets of which it
-/// says no are looked at again, for their first fault.
+/// Whether octets are elements of at most 63 levels, as those in the outermost element have to be.
+/// Of a constructed element within so many others it says no even where it is empty: octets of
+/// which it says no are looked at again, for their first fault.
 fn are_elements(octets: &[u8]) -> bool
     ensures { IsTrue result → HasElements (most_levels - 1) octets.now }
 {

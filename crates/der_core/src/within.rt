@@ -24,7 +24,8 @@ pub fn has_within<T: Structure>(octets: &[u8]) -> bool
 
 /// The value in a string, whose octets are the encoding of one element.
 pub fn read_within<T: Structure>(alloc: Global, octets: &[u8]) -> Result<T, DerError>
-    ensures { MatchResult result (IsWithin T.spells octets.now) (RefusesShape (IsWithin T.spells octets.now)) }
+    ensures { MatchResult result (IsWithin T.spells octets.now)
+        (RefusesShape (IsWithin T.spells octets.now)) }
 {
     match exact_elem(octets) {
         Ok(elem) => T::read_at(alloc, elem),
@@ -35,7 +36,8 @@ pub fn read_within<T: Structure>(alloc: Global, octets: &[u8]) -> Result<T, DerE
 /// The encoding of the element of a value, for a string to hold.
 pub fn write_within<T: Structure>(alloc: Global, value: &T) -> Result<Vec<u8>, DerError>
     ensures { MatchResult result
-        (λ octets. (octets.items ≡ encoding (T.written value.now)) × IsDer (T.written value.now) × AreDer (T.inner value.now))
+        (λ octets. (octets.items ≡ encoding (T.written value.now)) × IsDer (T.written value.now)
+        × AreDer (T.inner value.now))
         (RefusesInner (T.inner value.now ++ T.written value.now ∷ [])) }
 {
     value.to_der(alloc)

@@ -19,7 +19,8 @@ use std::alloc::{AllocError, Global};
 /// 4,294,967,295 octets as `TooLong`.
 pub fn write(alloc: Global, tree: &Tree) -> Result<Vec<u8>, DerError>
     requires { IsWellFormed tree.now }
-    ensures written { MatchResult result (λ octets. IsDer tree.now × (octets.items ≡ encoding tree.now)) (RefusesToWrite tree.now) }
+    ensures written { MatchResult result
+        (λ octets. IsDer tree.now × (octets.items ≡ encoding tree.now)) (RefusesToWrite tree.now) }
     // Depth is looked at before memory is asked for.
     ensures deep { most_levels < nesting tree.now → result ≡ Err errors.TooDeep }
 {
@@ -53,7 +54,9 @@ fn is_nested_within(tree: &Tree, levels: u8) -> bool
 /// Puts an element, last octet first.
 #[cycle(put)]
 fn put_element(out: &mut Vec<u8>, tree: &Tree) -> Result<(), DerError>
-    ensures { MatchResult result (λ _. IsShort tree.now × (out.new.items ≡ out.old.items ++ reverse (encoding tree.now))) (RefusesLong (IsShort tree.now)) }
+    ensures { MatchResult result
+        (λ _. IsShort tree.now × (out.new.items ≡ out.old.items ++ reverse (encoding tree.now)))
+        (RefusesLong (IsShort tree.now)) }
 {
     match &tree.form {
         Form::Primitive(tag, content) => {
@@ -71,7 +74,10 @@ fn put_element(out: &mut Vec<u8>, tree: &Tree) -> Result<(), DerError>
 /// Puts elements, the last of them first.
 #[cycle(put)]
 fn put_elements(out: &mut Vec<u8>, kids: &[Tree]) -> Result<(), DerError>
-    ensures { MatchResult result (λ _. AreShort (row kids.now) × (out.new.items ≡ out.old.items ++ reverse (encodings (row kids.now)))) (RefusesLong (AreShort (row kids.now))) }
+    ensures { MatchResult result
+        (λ _. AreShort (row kids.now)
+        × (out.new.items ≡ out.old.items ++ reverse (encodings (row kids.now))))
+        (RefusesLong (AreShort (row kids.now))) }
 {
     for i in (0..kids.len()).rev() {
         put_element(out, &kids[i])?;
@@ -90,7 +96,10 @@ fn put_backwards(out: &mut Vec<u8>, octets: &[u8]) -> Result<(), AllocError>
 
 /// Puts the length of contents and the identifier octet before it.
 fn put_header(out: &mut Vec<u8>, tag: u8, length: usize) -> Result<(), DerError>
-    ensures { MatchResult result (λ _. (length < 2 ^ 32) × (out.new.items ≡ out.old.items ++ reverse (tag ∷ length_octets length))) (RefusesLong (length < 2 ^ 32)) }
+    ensures { MatchResult result
+        (λ _. (length < 2 ^ 32)
+        × (out.new.items ≡ out.old.items ++ reverse (tag ∷ length_octets length)))
+        (RefusesLong (length < 2 ^ 32)) }
 {
     let Ok(length) = u32::try_from(length) else {
         return Err(DerError::TooLong);

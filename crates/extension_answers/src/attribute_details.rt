@@ -6,7 +6,8 @@ use row_answers::Line;
 use std::alloc::Global;
 use x509_types::{Attribute, AttributeValues, Extensions, OidList};
 
-/// The identifier, the kind of the values, how many there are, each, and the octets that are written.
+/// The identifier, the kind of the values, how many there are, each, and the octets that are
+/// written.
 impl Details for Attribute {
     fn print(&self, alloc: Global, line: &mut Line) {
         line.shown(&self.ty);

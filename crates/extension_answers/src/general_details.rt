@@ -1,5 +1,5 @@
-//! What is printed of a value beside whether it comes back as it was read: of validities and general
-//! names.
+//! What is printed of a value beside whether it comes back as it was read: of validities and
+//! general names.
 
 use crate::details::Details;
 use asn1_types::Ia5String;

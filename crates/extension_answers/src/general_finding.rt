@@ -7,8 +7,8 @@ use row_answers::{Line, equals, value_of};
 use std::alloc::{AllocError, Global};
 use x509_types::RawGeneralNames;
 
-/// How many names an element spells, the first of a host and the first of the directory among them, and
-/// whether the list of its names is equal to it.
+/// How many names an element spells, the first of a host and the first of the directory among them,
+/// and whether the list of its names is equal to it.
 pub fn print(alloc: Global, kind: &str, element: &[u8], line: &mut Line) {
     if kind != "general_names" {
         return line.no_call();

@@ -9,8 +9,8 @@ use std::alloc::{AllocError, Global};
 use std::fmt;
 use x509_types::{DirectoryString, RawGeneralName};
 
-/// The octets of a name, its details, and whether it comes back from its raw name, or what the error is
-/// called that is answered for it.
+/// The octets of a name, its details, and whether it comes back from its raw name, or what the
+/// error is called that is answered for it.
 pub fn print(alloc: Global, call: &str, octets: &[Option<Vec<u8>>], line: &mut Line) {
     match (call, octets) {
         ("rfc822_name" | "dns_name" | "uri" | "directory_name" | "edi_party_name", [Some(text)]) =>

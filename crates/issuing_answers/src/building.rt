@@ -12,8 +12,8 @@ use sig_core::Scheme;
 use std::alloc::{AllocError, Global};
 use x509_core::Cert;
 
-/// The octets of the certificate, whether they come back, its subject and its issuer; or the name and
-/// the text of the refusal.
+/// The octets of the certificate, whether they come back, its subject and its issuer; or the name
+/// and the text of the refusal.
 pub fn print<S: Scheme>(alloc: Global, words: &str, scheme: &S, line: &mut Line) -> Result<()> {
     let words: Vec<&str> = words.split(' ').collect(alloc)?;
     let [word, key, settings @ ..] = words.as_slice() else {
@@ -50,7 +50,8 @@ fn print_by<S: Scheme>(
     }
 }
 
-/// A builder with these settings, of which the first is the last of the list; the key is the issuer's.
+/// A builder with these settings, of which the first is the last of the list; the key is the
+/// issuer's.
 fn builder_of<'a>(
     alloc: Global,
     mut settings: Vec<Setting>,

@@ -1,13 +1,13 @@
-//! What is answered to rows of a file on certificates that are built, requests, and certificates over
-//! their parents.
+//! What is answered to rows of a file on certificates that are built, requests, and certificates
+//! over their parents.
 //!
 //! ```text
 //! issuing_answers FILE
 //! issuing_answers FILE TIMES
 //! ```
 //!
-//! A row has words, a space between. The first is the scheme: `demo`, or the text of a verdict table.
-//! Behind it stands one of these:
+//! A row has words, a space between. The first is the scheme: `demo`, or the text of a verdict
+//! table. Behind it stands one of these:
 //!
 //! ```text
 //! build WORD KEY SETTER=VALUE ..
@@ -21,8 +21,8 @@
 //! contents of a GeneralizedTime. A line is printed for each row. `tools/issuing_answers.py` makes
 //! rows and lines.
 //!
-//! With TIMES the file has certificates, a comma between, the first issued by the second and so on, a
-//! date, and the key of the second. The chain is judged and the first is built so many times, for
+//! With TIMES the file has certificates, a comma between, the first issued by the second and so on,
+//! a date, and the key of the second. The chain is judged and the first is built so many times, for
 //! `bench/issuing.py`.
 #![tactic(auto)]
 

@@ -13,8 +13,8 @@ use sig_core::Scheme;
 use std::alloc::{AllocError, Global};
 use x509_core::CsrError;
 
-/// Whether the octets come back, the key, the subject and what is told of the signature; or the text
-/// of the refusal.
+/// Whether the octets come back, the key, the subject and what is told of the signature; or the
+/// text of the refusal.
 pub fn print<S: Scheme>(alloc: Global, octets: &str, scheme: &S, line: &mut Line) -> Result<()> {
     let octets = octets_of(alloc, octets)?;
     print_request(alloc, &octets, scheme, line);
@@ -65,7 +65,8 @@ fn print_verdict<S: Scheme>(alloc: Global, csr: &Csr, scheme: &S, line: &mut Lin
 }
 
 /// The octets of the request that the key makes, whether they come back, and what is told of its
-/// signature; or the text of the refusal. Without a word of attributes it is made by the call without.
+/// signature; or the text of the refusal. Without a word of attributes it is made by the call
+/// without.
 pub fn generate<S: Scheme>(alloc: Global, words: &str, scheme: &S, line: &mut Line) -> Result<()> {
     let words: Vec<&str> = words.split(' ').collect(alloc)?;
     let [algorithm, key, subject, attributes @ ..] = words.as_slice() else {

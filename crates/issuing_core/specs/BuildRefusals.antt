@@ -14,7 +14,8 @@ use Rattle.x509_core.specs.declared.error.CertCause.TheVariants as causes
 use Rattle.x509_core.specs.declared.error.CertError.{CertError}
 use Rattle.x509_core.specs.declared.error.CertError.TheVariants as errors
 
--- Want of memory is told as such, any other cause by what is made: the public half of a private key,
+-- Want of memory is told as such, any other cause by what is made: the public half of a private
+-- key,
 abbrev pub no_half : KeyError → CertError
 no_half key.Memory = errors.Memory
 no_half source = errors.PrivateKeyToPublicKey source

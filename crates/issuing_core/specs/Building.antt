@@ -44,29 +44,36 @@ use Rattle.issuing_core.specs.declared.builder.SubjectInfos.TheVariants as subje
 abbrev pub message_of : TbsCertificate → List ℕ
 message_of tbs = encoding (tbs_certificate tbs)
 
--- The certificate is one of these, its algorithm stands beside what is signed as within it, and the signature has no unused bits and is
--- accepted under each public key that pairs with the private one.
-pub record IsSignedCertificate (judge : Judge) (pair : Pair) (algorithm : SignatureAlgorithm) (key : PrivateKey) (IsTbs : TbsCertificate → Type 0) (c : Certificate) : Type 0 where
+-- The certificate is one of these, its algorithm stands beside what is signed as within it, and the
+-- signature has no unused bits and is accepted under each public key that pairs with the private
+-- one.
+pub record IsSignedCertificate (judge : Judge) (pair : Pair) (algorithm : SignatureAlgorithm)
+    (key : PrivateKey) (IsTbs : TbsCertificate → Type 0) (c : Certificate) : Type 0 where
   pub tbs : IsTbs c.tbs_certificate
   pub beside : c.signature_algorithm ≡ c.tbs_certificate.signature
   pub unused : unused_of c.signature_value ≡ 0
-  pub accepted : (public : SubjectPublicKeyInfo) → IsKeyPair pair key public → Accepts judge algorithm public (message_of c.tbs_certificate) (payload_of c.signature_value)
+  pub accepted : (public : SubjectPublicKeyInfo) → IsKeyPair pair key public
+      → Accepts judge algorithm public (message_of c.tbs_certificate) (payload_of c.signature_value)
 
 -- The scheme signs what is signed of a certificate.
 abbrev pub IsTbsSigned : Signs → SignatureAlgorithm → PrivateKey → TbsCertificate → Type 0
 IsTbsSigned signs algorithm key tbs = IsAsked signs algorithm key (message_of tbs) true
 
--- The certificate is one of these, signed by the key, and kept with the element that is written for it.
-pub record IsMade (scheme : KeyArithmetic) (algorithm : SignatureAlgorithm) (key : PrivateKey) (IsTbs : TbsCertificate → Type 0) (cert : KeptCertificate) : Type 0 where
+-- The certificate is one of these, signed by the key, and kept with the element that is written for
+-- it.
+pub record IsMade (scheme : KeyArithmetic) (algorithm : SignatureAlgorithm) (key : PrivateKey)
+    (IsTbs : TbsCertificate → Type 0) (cert : KeptCertificate) : Type 0 where
   pub signed : IsTbsSigned scheme.signs algorithm key cert.certificate.tbs_certificate
   pub made : IsSignedCertificate scheme.judge scheme.pair algorithm key IsTbs cert.certificate
   pub written : certificate_of cert.elements ≡ certificate cert.certificate
 
 -- The certificate is the one that the builder asks for, and the issuer signs it.
-pub record IsBuilt (scheme : KeyArithmetic) (b : CertificateBuilder) (word : ℕ) (cert : KeptCertificate) : Type 0 where
+pub record IsBuilt (scheme : KeyArithmetic) (b : CertificateBuilder) (word : ℕ)
+    (cert : KeptCertificate) : Type 0 where
   pub issuer : IssuerInfos
   pub given : b.issuer_infos ≡ Some issuer
-  pub made : IsMade scheme b.signature_hash_type issuer.key.now (IsTbsFor scheme.judge b issuer word) cert
+  pub made : IsMade scheme b.signature_hash_type issuer.key.now
+      (IsTbsFor scheme.judge b issuer word) cert
 
 -- ---- steps
 
@@ -88,24 +95,31 @@ half_step key = record {
 abbrev pub request_step : Judge → Option SubjectInfos → Step CertError
 request_step judge subject = record {
   taken = (csr : KeptRequest) → subject ≡ Some (subjects.Request csr) → IsSelfSigned judge csr;
-  refused = λ e. (csr : KeptRequest) × (subject ≡ Some (subjects.Request csr)) × Tells no_request (IsUnsigned (RefusesSelfSigned judge csr)) e;
+  refused = λ e. (csr : KeptRequest) × (subject ≡ Some (subjects.Request csr))
+      × Tells no_request (IsUnsigned (RefusesSelfSigned judge csr)) e;
 }
 
--- where the subject isn't the issuer: the key of the issuer is identified, the subject is given, and its request is signed
+-- where the subject isn't the issuer: the key of the issuer is identified, the subject is given,
+-- and its request is signed
 abbrev pub other_steps : Judge → CertificateBuilder → List (Step CertError)
 other_steps judge b =
-    given_step arguments.AuthorityKeyIdentifier b.authority_key_identifier ∷ given_step arguments.SubjectInfos b.subject_infos ∷ request_step judge b.subject_infos ∷ []
+    given_step arguments.AuthorityKeyIdentifier b.authority_key_identifier ∷
+    given_step arguments.SubjectInfos b.subject_infos ∷ request_step judge b.subject_infos ∷ []
 
 -- who the subject is: the issuer itself, whose key has a public half, or another
-abbrev pub subject_steps : Judge → (self_signed : Bool) → CertificateBuilder → IssuerInfos → List (Step CertError)
+abbrev pub subject_steps : Judge → (self_signed : Bool) → CertificateBuilder → IssuerInfos
+    → List (Step CertError)
 subject_steps judge true b issuer = half_step issuer.key.now ∷ []
 subject_steps judge false b issuer = other_steps judge b
 
 -- The key of the subject is identified. Where the issuer is the subject, so is the issuer's.
 abbrev pub identifier_step : Judge → CertificateBuilder → IssuerInfos → Step CertError
 identifier_step judge b issuer = record {
-  taken = (name : NameSets) × (key : SubjectPublicKeyInfo) × (own : List ℕ) × IsBuiltFor judge b issuer own name key;
-  refused = λ e. (name : NameSets) × (key : SubjectPublicKeyInfo) × IsSubject judge b issuer name key × Tells no_key_id (RefusesKeyIdentifier b.key_id_gen_method key) e;
+  taken = (name : NameSets) × (key : SubjectPublicKeyInfo) × (own : List ℕ)
+      × IsBuiltFor judge b issuer own name key;
+  refused = λ e. (name : NameSets) × (key : SubjectPublicKeyInfo)
+      × IsSubject judge b issuer name key
+      × Tells no_key_id (RefusesKeyIdentifier b.key_id_gen_method key) e;
 }
 
 -- the algorithm has an identifier
@@ -123,22 +137,28 @@ module _ (scheme : KeyArithmetic) (algorithm : SignatureAlgorithm) (key : Privat
   -- what is signed can be written
   abbrev pub octets_step : Step CertError
   octets_step = record {
-    taken = (tbs : TbsCertificate) × IsTbs tbs × IsDer (tbs_certificate tbs) × AreDer (inner_tbs tbs);
-    refused = λ e. (tbs : TbsCertificate) × IsTbs tbs × Tells no_octets (RefusesInner (tbs_written tbs)) e;
+    taken = (tbs : TbsCertificate) × IsTbs tbs × IsDer (tbs_certificate tbs)
+        × AreDer (inner_tbs tbs);
+    refused = λ e. (tbs : TbsCertificate) × IsTbs tbs
+        × Tells no_octets (RefusesInner (tbs_written tbs)) e;
   }
 
   -- the key signs it
   abbrev pub signature_step : Step CertError
   signature_step = record {
     taken = (tbs : TbsCertificate) × IsTbs tbs × IsTbsSigned scheme.signs algorithm key tbs;
-    refused = λ e. (tbs : TbsCertificate) × IsTbs tbs × Tells no_signature (RefusesSignatureBy (sign_rules scheme.signs algorithm key (message_of tbs))) e;
+    refused = λ e. (tbs : TbsCertificate) × IsTbs tbs
+        × Tells no_signature
+        (RefusesSignatureBy (sign_rules scheme.signs algorithm key (message_of tbs))) e;
   }
 
   -- the whole can be written
   abbrev pub whole_step : Step CertError
   whole_step = record {
     taken = (cert : KeptCertificate) × IsMade scheme algorithm key IsTbs cert;
-    refused = λ e. (c : Certificate) × IsSignedCertificate scheme.judge scheme.pair algorithm key IsTbs c × IsUnwrittenCert elements.Certificate (RefusesInner (written_elements c)) e;
+    refused = λ e. (c : Certificate)
+        × IsSignedCertificate scheme.judge scheme.pair algorithm key IsTbs c
+        × IsUnwrittenCert elements.Certificate (RefusesInner (written_elements c)) e;
   }
 
   -- the steps that make a certificate of what is signed
@@ -146,22 +166,27 @@ module _ (scheme : KeyArithmetic) (algorithm : SignatureAlgorithm) (key : Privat
   signing_steps = octets_step ∷ signature_step ∷ whole_step ∷ []
 
 -- the steps behind the times and the issuer, which are given; none where there is no issuer
-abbrev pub steps_by : KeyArithmetic → CertificateBuilder → ℕ → Option IssuerInfos → List (Step CertError)
+abbrev pub steps_by : KeyArithmetic → CertificateBuilder → ℕ → Option IssuerInfos
+    → List (Step CertError)
 steps_by scheme b word None = []
 steps_by scheme b word (Some issuer) =
     subject_steps scheme.judge issuer.self_signed b issuer
-    ++ identifier_step scheme.judge b issuer ∷ algorithm_step b ∷ signing_steps scheme b.signature_hash_type issuer.key.now (IsTbsFor scheme.judge b issuer word)
+    ++ identifier_step scheme.judge b issuer ∷
+    algorithm_step b ∷
+    signing_steps scheme b.signature_hash_type issuer.key.now (IsTbsFor scheme.judge b issuer word)
 
 -- the times and the issuer are given
 abbrev pub given_steps : CertificateBuilder → List (Step CertError)
 given_steps b =
-    given_step arguments.ValidFrom b.valid_from ∷ given_step arguments.ValidTo b.valid_to ∷ given_step arguments.IssuerInfos b.issuer_infos ∷ []
+    given_step arguments.ValidFrom b.valid_from ∷ given_step arguments.ValidTo b.valid_to ∷
+    given_step arguments.IssuerInfos b.issuer_infos ∷ []
 
 -- what the subject needs: nothing where it is the issuer
 abbrev pub subject_arguments : (self_signed : Bool) → CertificateBuilder → List (Step CertError)
 subject_arguments true b = []
 subject_arguments false b =
-    given_step arguments.AuthorityKeyIdentifier b.authority_key_identifier ∷ given_step arguments.SubjectInfos b.subject_infos ∷ []
+    given_step arguments.AuthorityKeyIdentifier b.authority_key_identifier ∷
+    given_step arguments.SubjectInfos b.subject_infos ∷ []
 
 abbrev pub arguments_by : CertificateBuilder → Option IssuerInfos → List (Step CertError)
 arguments_by b None = []

@@ -26,37 +26,49 @@ use Rattle.issuing_core.specs.declared.builder.IssuerInfos.{IssuerInfos}
 use Rattle.issuing_core.specs.declared.builder.SubjectInfos.{SubjectInfos}
 use Rattle.issuing_core.specs.declared.builder.SubjectInfos.TheVariants as subjects
 
--- the number that the octets write, or where none are given the random word, 1 for 0 (RFC 5280 4.1.2.2)
+-- the number that the octets write, or where none are given the random word, 1 for 0 (RFC 5280
+-- 4.1.2.2)
 abbrev pub serial_of : Option (List ℕ) → ℕ → ℕ
 serial_of None word = if word == 0 then 1 else word
 serial_of (Some octets) word = number_of octets
 
 -- the public key belongs to this private one
 abbrev pub IsHalfOf : PrivateKey → SubjectPublicKeyInfo → Type 0
-IsHalfOf key = IsPublicHalf (container_of key).private_key (container_of key).private_key_algorithm (point_beside key)
+IsHalfOf key =
+    IsPublicHalf (container_of key).private_key (container_of key).private_key_algorithm
+    (point_beside key)
 
 -- a name, by its sets of attributes
 abbrev pub NameSets : Type 0
 NameSets = List (List AttributeTypeAndValue)
 
--- The name and the key are those of the subject that is given. A request has to be signed by its own key.
+-- The name and the key are those of the subject that is given. A request has to be signed by its
+-- own key.
 abbrev pub IsGivenSubject : Judge → Option SubjectInfos → NameSets → SubjectPublicKeyInfo → Type 0
 IsGivenSubject judge None name key = ⊥
-IsGivenSubject judge (Some (subjects.Named given own)) name key = (name ≡ sets_of given) × (key ≡ info_of own)
+IsGivenSubject judge (Some (subjects.Named given own)) name key =
+    (name ≡ sets_of given) × (key ≡ info_of own)
 IsGivenSubject judge (Some (subjects.Request csr)) name key =
-    IsSelfSigned judge csr × (name ≡ csr.request.certification_request_info.subject) × (key ≡ csr.request.certification_request_info.subject_public_key_info)
+    IsSelfSigned judge csr × (name ≡ csr.request.certification_request_info.subject)
+    × (key ≡ csr.request.certification_request_info.subject_public_key_info)
 
--- The name and the key are those of the subject: of the issuer where it signs its own key, else the given ones, and the key of the issuer is identified.
-abbrev pub IsSubjectBy : Judge → (self_signed : Bool) → IssuerInfos → Option (List ℕ) → Option SubjectInfos → NameSets → SubjectPublicKeyInfo → Type 0
-IsSubjectBy judge true issuer authority given name key = (name ≡ sets_of issuer.name) × IsHalfOf issuer.key.now key
+-- The name and the key are those of the subject: of the issuer where it signs its own key, else the
+-- given ones, and the key of the issuer is identified.
+abbrev pub IsSubjectBy : Judge → (self_signed : Bool) → IssuerInfos → Option (List ℕ)
+    → Option SubjectInfos → NameSets → SubjectPublicKeyInfo → Type 0
+IsSubjectBy judge true issuer authority given name key =
+    (name ≡ sets_of issuer.name) × IsHalfOf issuer.key.now key
 IsSubjectBy judge false issuer None given name key = ⊥
 IsSubjectBy judge false issuer (Some authority) given name key = IsGivenSubject judge given name key
 
 -- The name and the key are those of the subject that the builder asks for.
-abbrev pub IsSubject : Judge → CertificateBuilder → IssuerInfos → NameSets → SubjectPublicKeyInfo → Type 0
-IsSubject judge b issuer = IsSubjectBy judge issuer.self_signed issuer b.authority_key_identifier b.subject_infos
+abbrev pub IsSubject : Judge → CertificateBuilder → IssuerInfos → NameSets → SubjectPublicKeyInfo
+    → Type 0
+IsSubject judge b issuer =
+    IsSubjectBy judge issuer.self_signed issuer b.authority_key_identifier b.subject_infos
 
--- how the key of the issuer is identified: as it is given, but as the subject's where they are the same (RFC 5280 4.2.1.1)
+-- how the key of the issuer is identified: as it is given, but as the subject's where they are the
+-- same (RFC 5280 4.2.1.1)
 abbrev pub authority_of : (self_signed : Bool) → Option (List ℕ) → (own : List ℕ) → List ℕ
 authority_of true given own = own
 authority_of false None own = own
@@ -68,28 +80,33 @@ pub record IsValidityOf (from to : GeneralizedTime) (validity : Validity) : Type
   pub ends : IsTimeOf to validity.not_after
 
 -- By whom it is issued: the number, the algorithm, the name of the issuer.
-pub record IsBuiltBy (b : CertificateBuilder) (issuer : IssuerInfos) (word : ℕ) (serial_number : IntegerAsn1) (algorithm : AlgorithmIdentifier) (name : NameSets) : Type 0 where
+pub record IsBuiltBy (b : CertificateBuilder) (issuer : IssuerInfos) (word : ℕ)
+    (serial_number : IntegerAsn1) (algorithm : AlgorithmIdentifier) (name : NameSets) : Type 0 where
   pub numbered : IsUnsignedInteger (serial_of b.serial_number word) (integer_contents serial_number)
   pub signs : IsWrittenAlgorithm b.signature_hash_type algorithm
   pub named : name ≡ sets_of issuer.name
 
 -- To whom: the name, the key, and how it is identified.
-pub record IsBuiltFor (judge : Judge) (b : CertificateBuilder) (issuer : IssuerInfos) (own : List ℕ) (name : NameSets) (key : SubjectPublicKeyInfo) : Type 0 where
+pub record IsBuiltFor (judge : Judge) (b : CertificateBuilder) (issuer : IssuerInfos) (own : List ℕ)
+    (name : NameSets) (key : SubjectPublicKeyInfo) : Type 0 where
   pub subject : IsSubject judge b issuer name key
   pub identified : IsKeyIdentifier b.key_id_gen_method key own
 
 -- Its fields are the builder's, but for the times, the subject and its key, which is identified so.
-pub record IsTbsBy (b : CertificateBuilder) (issuer : IssuerInfos) (word : ℕ) (own : List ℕ) (tbs : TbsCertificate) : Type 0 where
+pub record IsTbsBy (b : CertificateBuilder) (issuer : IssuerInfos) (word : ℕ) (own : List ℕ)
+    (tbs : TbsCertificate) : Type 0 where
   pub version : tbs.version ≡ Some versions.V3
   pub issued_by : IsBuiltBy b issuer word tbs.serial_number tbs.signature tbs.issuer
   pub issuer_unique_id : tbs.issuer_unique_id ≡ None
   pub subject_unique_id : tbs.subject_unique_id ≡ None
   pub extensions : List Extension
   pub given : tbs.extensions ≡ Some extensions
-  pub built : AreBuilt b issuer own (authority_of issuer.self_signed b.authority_key_identifier own) extensions
+  pub built : AreBuilt b issuer own (authority_of issuer.self_signed b.authority_key_identifier own)
+      extensions
 
 -- What is signed of the certificate that is built.
-pub record IsTbsFor (judge : Judge) (b : CertificateBuilder) (issuer : IssuerInfos) (word : ℕ) (tbs : TbsCertificate) : Type 0 where
+pub record IsTbsFor (judge : Judge) (b : CertificateBuilder) (issuer : IssuerInfos) (word : ℕ)
+    (tbs : TbsCertificate) : Type 0 where
   pub from : GeneralizedTime
   pub to : GeneralizedTime
   pub valid_from : b.valid_from ≡ Some from

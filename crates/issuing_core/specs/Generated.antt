@@ -25,25 +25,34 @@ use Rattle.issuing_core.specs.CsrRefusals.{IsUnwrittenCsr, IsUnsigned, IsKeyless
 use Rattle.issuing_core.specs.KeptRequest.{KeptRequest, kept_request, info_elements, request_elements}
 use Rattle.x509_core.specs.declared.csr_error.CsrError.{CsrError}
 
--- What is asked for: this name, the public key of this private one, these attributes, which are given even where there are none.
-pub record IsInfoFor (subject : DirectoryName) (key : PrivateKey) (attributes : List Attribute) (info : CertificationRequestInfo) : Type 0 where
+-- What is asked for: this name, the public key of this private one, these attributes, which are
+-- given even where there are none.
+pub record IsInfoFor (subject : DirectoryName) (key : PrivateKey) (attributes : List Attribute)
+    (info : CertificationRequestInfo) : Type 0 where
   pub named : info.subject ≡ sets_of subject
-  pub half : IsPublicHalf (container_of key).private_key (container_of key).private_key_algorithm (point_beside key) info.subject_public_key_info
+  pub half : IsPublicHalf (container_of key).private_key (container_of key).private_key_algorithm
+      (point_beside key) info.subject_public_key_info
   pub given : info.attributes ≡ Some attributes
 
 -- The scheme signs what is asked for with the private key.
-abbrev pub IsInfoSigned : Signs → PrivateKey → SignatureAlgorithm → CertificationRequestInfo → Type 0
-IsInfoSigned signs key algorithm info = IsAsked signs algorithm key (encoding (request_info info)) true
+abbrev pub IsInfoSigned : Signs → PrivateKey → SignatureAlgorithm → CertificationRequestInfo
+    → Type 0
+IsInfoSigned signs key algorithm info =
+    IsAsked signs algorithm key (encoding (request_info info)) true
 
--- The request is what is written for this that is asked for, this algorithm, and a signature without unused bits.
-pub record IsRequestFor (algorithm : SignatureAlgorithm) (info : CertificationRequestInfo) (csr : KeptRequest) : Type 0 where
+-- The request is what is written for this that is asked for, this algorithm, and a signature
+-- without unused bits.
+pub record IsRequestFor (algorithm : SignatureAlgorithm) (info : CertificationRequestInfo)
+    (csr : KeptRequest) : Type 0 where
   pub info_is : csr.request.certification_request_info ≡ info
   pub algorithm_is : IsWrittenAlgorithm algorithm csr.request.signature_algorithm
   pub unused : unused_of csr.request.signature ≡ 0
   pub written : kept_request csr ≡ request csr.request
 
 -- The request is made of what is asked for, which the scheme signs.
-pub record IsGenerated (signs : Signs) (subject : DirectoryName) (key : PrivateKey) (algorithm : SignatureAlgorithm) (attributes : List Attribute) (csr : KeptRequest) : Type 0 where
+pub record IsGenerated (signs : Signs) (subject : DirectoryName) (key : PrivateKey)
+    (algorithm : SignatureAlgorithm) (attributes : List Attribute)
+    (csr : KeptRequest) : Type 0 where
   pub info : CertificationRequestInfo
   pub asked : IsInfoFor subject key attributes info
   pub signed : IsInfoSigned signs key algorithm info
@@ -55,18 +64,23 @@ pub record IsGenerated (signs : Signs) (subject : DirectoryName) (key : PrivateK
 abbrev pub HasNoHalf : PrivateKey → CsrError → Type 0
 HasNoHalf key = IsKeyless (RefusesPublicHalf (container_of key).private_key (point_beside key))
 
--- The whole is that of this that is asked for, this algorithm, and a signature without unused bits, which is accepted under each public key
--- of the pair.
-pub record IsSignedWhole (judge : Judge) (pair : Pair) (key : PrivateKey) (algorithm : SignatureAlgorithm) (info : CertificationRequestInfo) (r : CertificationRequest) : Type 0 where
+-- The whole is that of this that is asked for, this algorithm, and a signature without unused bits,
+-- which is accepted under each public key of the pair.
+pub record IsSignedWhole (judge : Judge) (pair : Pair) (key : PrivateKey)
+    (algorithm : SignatureAlgorithm) (info : CertificationRequestInfo)
+    (r : CertificationRequest) : Type 0 where
   pub info_is : r.certification_request_info ≡ info
   pub algorithm_is : IsWrittenAlgorithm algorithm r.signature_algorithm
   pub unused : unused_of r.signature ≡ 0
-  pub accepted : (public : SubjectPublicKeyInfo) → IsKeyPair pair key public → Accepts judge algorithm public (encoding (request_info info)) (payload_of r.signature)
+  pub accepted : (public : SubjectPublicKeyInfo) → IsKeyPair pair key public
+      → Accepts judge algorithm public (encoding (request_info info)) (payload_of r.signature)
 
 -- the whole has no encoding
-abbrev pub WholeUnwritten : Judge → Pair → PrivateKey → SignatureAlgorithm → CertificationRequestInfo → CsrError → Type 0
+abbrev pub WholeUnwritten : Judge → Pair → PrivateKey → SignatureAlgorithm
+    → CertificationRequestInfo → CsrError → Type 0
 WholeUnwritten judge pair key algorithm info e =
-    (r : CertificationRequest) × IsSignedWhole judge pair key algorithm info r × IsUnwrittenCsr elements.Request (RefusesInner (request_elements r)) e
+    (r : CertificationRequest) × IsSignedWhole judge pair key algorithm info r
+    × IsUnwrittenCsr elements.Request (RefusesInner (request_elements r)) e
 
 -- what is signed has no encoding
 abbrev pub InfoUnwritten : CertificationRequestInfo → CsrError → Type 0
@@ -77,20 +91,27 @@ abbrev pub IsInfoWritten : CertificationRequestInfo → Type 0
 IsInfoWritten info = IsDer (request_info info) × AreDer (inner_request info)
 
 -- the private key doesn't sign it
-abbrev pub InfoUnsigned : Signs → PrivateKey → SignatureAlgorithm → CertificationRequestInfo → CsrError → Type 0
-InfoUnsigned signs key algorithm info = IsUnsigned (RefusesSignatureBy (sign_rules signs algorithm key (encoding (request_info info))))
+abbrev pub InfoUnsigned : Signs → PrivateKey → SignatureAlgorithm → CertificationRequestInfo
+    → CsrError → Type 0
+InfoUnsigned signs key algorithm info =
+    IsUnsigned (RefusesSignatureBy (sign_rules signs algorithm key (encoding (request_info info))))
 
--- The first step refuses that isn't taken: to write what is signed, to sign it, to name the algorithm, to write the whole.
-abbrev pub RefusesToMake : KeyArithmetic → PrivateKey → SignatureAlgorithm → CertificationRequestInfo → CsrError → Type 0
+-- The first step refuses that isn't taken: to write what is signed, to sign it, to name the
+-- algorithm, to write the whole.
+abbrev pub RefusesToMake : KeyArithmetic → PrivateKey → SignatureAlgorithm
+    → CertificationRequestInfo → CsrError → Type 0
 RefusesToMake scheme key algorithm info e =
     InfoUnwritten info e
     ⊎ (IsInfoWritten info
     × (InfoUnsigned scheme.signs key algorithm info e
     ⊎ (IsInfoSigned scheme.signs key algorithm info
-    × (IsUnsigned (IsUnwritable algorithm) e ⊎ WholeUnwritten scheme.judge scheme.pair key algorithm info e))))
+    × (IsUnsigned (IsUnwritable algorithm) e
+    ⊎ WholeUnwritten scheme.judge scheme.pair key algorithm info e))))
 
 -- There is no public key, or what is asked for is refused.
-abbrev pub RefusesToGenerate : KeyArithmetic → DirectoryName → PrivateKey → SignatureAlgorithm → List Attribute → CsrError → Type 0
+abbrev pub RefusesToGenerate : KeyArithmetic → DirectoryName → PrivateKey → SignatureAlgorithm
+    → List Attribute → CsrError → Type 0
 RefusesToGenerate scheme subject key algorithm attributes e =
     HasNoHalf key e
-    ⊎ ((info : CertificationRequestInfo) × IsInfoFor subject key attributes info × RefusesToMake scheme key algorithm info e)
+    ⊎ ((info : CertificationRequestInfo) × IsInfoFor subject key attributes info
+    × RefusesToMake scheme key algorithm info e)

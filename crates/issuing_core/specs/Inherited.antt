@@ -9,7 +9,8 @@ use Rattle.x509_types.specs.declared.attribute_values.AttributeValues.{Attribute
 use Rattle.x509_types.specs.declared.attribute_values.AttributeValues.TheVariants as values
 use Rattle.x509_types.specs.declared.extension.Extension.{Extension}
 
--- the first of the values of an attribute that asks for extensions (RFC 2985 5.4.2), where it has one
+-- the first of the values of an attribute that asks for extensions (RFC 2985 5.4.2), where it has
+-- one
 abbrev pub asked_by : AttributeValues → Option (List Extension)
 asked_by (values.Extensions []) = None
 asked_by (values.Extensions (first ∷ others)) = Some first
@@ -22,7 +23,8 @@ abbrev pub or_else : Option (List Extension) → List Extension → List Extensi
 or_else None others = others
 or_else (Some extensions) others = extensions
 
--- the extensions that attributes ask for: those of the first that asks for some, as its first value has them
+-- the extensions that attributes ask for: those of the first that asks for some, as its first value
+-- has them
 abbrev pub asked_first : List Attribute → List Extension
 asked_first [] = []
 asked_first (attribute ∷ attributes) = or_else (asked_by attribute.value) (asked_first attributes)
@@ -34,11 +36,15 @@ asked_in (Some attributes) = asked_first attributes
 
 -- whether one of the extensions has this identifier, by its contents octets
 abbrev pub has_one : List Extension → List ℕ → Bool
-has_one extensions oid = list_any (λ (e : Extension). bytes_eq (identifier_contents (extension_id e)) oid) extensions
+has_one extensions oid =
+    list_any (λ (e : Extension). bytes_eq (identifier_contents (extension_id e)) oid) extensions
 
 -- the extensions and one more, where its identifier isn't there yet
 abbrev pub with_one : List Extension → Extension → List Extension
-with_one extensions e = if has_one extensions (identifier_contents (extension_id e)) then extensions else extensions ++ e ∷ []
+with_one extensions e =
+    if has_one extensions (identifier_contents (extension_id e))
+    then extensions
+    else extensions ++ e ∷ []
 
 -- the extensions and each of others, in their order, whose identifier isn't there yet
 abbrev pub with_others : List Extension → List Extension → List Extension
@@ -48,4 +54,5 @@ with_others extensions (e ∷ others) = with_others (with_one extensions e) othe
 -- no two of the extensions have the same identifier (RFC 5280 4.2)
 abbrev pub AreDistinct : List Extension → Type 0
 AreDistinct [] = ⊤
-AreDistinct (e ∷ extensions) = NoneHas (identifier_contents (extension_id e)) extensions × AreDistinct extensions
+AreDistinct (e ∷ extensions) =
+    NoneHas (identifier_contents (extension_id e)) extensions × AreDistinct extensions

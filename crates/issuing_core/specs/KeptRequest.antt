@@ -13,7 +13,8 @@ use Rattle.request_types.specs.CertificationRequest.{request_of, request, inner_
 use Rattle.request_types.specs.declared.request.CertificationRequest.{CertificationRequest}
 use Rattle.request_types.specs.declared.request_info.CertificationRequestInfo.{CertificationRequestInfo}
 
--- The element of what is signed, and the value: what is signed spells that of the value, and the element around it is in bounds.
+-- The element of what is signed, and the value: what is signed spells that of the value, and the
+-- element around it is in bounds.
 pub record KeptRequest : Type 0 where
   pub info : DerElement
   pub request : CertificationRequest
@@ -26,16 +27,20 @@ kept_request kept = request_of kept.info kept.request
 
 -- The element is the one around this, which is in bounds and spells what is signed of the request.
 abbrev pub IsAroundInfo : DerElement → CertificationRequest → DerElement → Type 0
-IsAroundInfo element r info = (element ≡ request_of info r) × IsDer (request_of info r) × ∥ IsRequestInfo info r.certification_request_info ∥₁
+IsAroundInfo element r info =
+    (element ≡ request_of info r) × IsDer (request_of info r)
+    × ∥ IsRequestInfo info r.certification_request_info ∥₁
 
 -- The element is the one around some such element.
 abbrev pub HasInfo : DerElement → CertificationRequest → Type 0
 HasInfo element r = (info : DerElement) × IsAroundInfo element r info
 
 -- the request of its parts, the key of its subject among them
-abbrev pub request_with : List (List AttributeTypeAndValue) → PublicKey → Option (List Attribute) → AlgorithmIdentifier → BitString → CertificationRequest
+abbrev pub request_with : List (List AttributeTypeAndValue) → PublicKey → Option (List Attribute)
+    → AlgorithmIdentifier → BitString → CertificationRequest
 request_with subject key attributes algorithm signature = record {
-  certification_request_info = record { subject = subject; subject_public_key_info = info_of key; attributes = attributes };
+  certification_request_info = record
+      { subject = subject; subject_public_key_info = info_of key; attributes = attributes };
   signature_algorithm = algorithm;
   signature = signature;
 }

@@ -36,9 +36,11 @@ AreWanted (w ∷ wanted) [] = ⊥
 AreWanted (w ∷ wanted) (e ∷ extensions) = IsWantedExtension w e × AreWanted wanted extensions
 
 -- one of this identifier, where its value is given
-abbrev pub where_given : {X : Type 0} → List ℕ → Bool → (X → ExtensionView) → Option X → List WantedExtension
+abbrev pub where_given : {X : Type 0} → List ℕ → Bool → (X → ExtensionView) → Option X
+    → List WantedExtension
 where_given oid critical view None = []
-where_given oid critical view (Some x) = record { oid = oid; critical = critical; value = view x } ∷ []
+where_given oid critical view (Some x) =
+    record { oid = oid; critical = critical; value = view x } ∷ []
 
 -- the key is for signatures other than those on certificates, and it is said so (RFC 5280 4.2.1.3)
 abbrev pub IsForSignatures : Option KeyUsage → Type 0
@@ -65,14 +67,24 @@ wanted_names b =
 -- the identifier of the key, then of the issuer's
 abbrev pub wanted_keys : (own authority : List ℕ) → List WantedExtension
 wanted_keys own authority =
-    record { oid = CE_SUBJECT_KEY_IDENTIFIER.now; critical = false; value = views.SubjectKeyIdentifier own }
-    ∷ record { oid = CE_AUTHORITY_KEY_IDENTIFIER.now; critical = false; value = views.AuthorityKeyIdentifier (key_of_identifier authority) } ∷ []
+    record {
+      oid = CE_SUBJECT_KEY_IDENTIFIER.now;
+      critical = false;
+      value = views.SubjectKeyIdentifier own;
+    } ∷
+    record {
+      oid = CE_AUTHORITY_KEY_IDENTIFIER.now;
+      critical = false;
+      value = views.AuthorityKeyIdentifier (key_of_identifier authority);
+    } ∷ []
 
 -- the extensions that the builder makes itself, in their order
 abbrev pub wanted : CertificateBuilder → Bool → (own authority : List ℕ) → List WantedExtension
-wanted b critical own authority = wanted_uses b critical ++ (wanted_names b ++ wanted_keys own authority)
+wanted b critical own authority =
+    wanted_uses b critical ++ (wanted_names b ++ wanted_keys own authority)
 
--- The extension has the builder's constraints, and is critical exactly where the key is said to be for signatures.
+-- The extension has the builder's constraints, and is critical exactly where the key is said to be
+-- for signatures.
 pub record IsConstraints (b : CertificateBuilder) (e : Extension) : Type 0 where
   pub flagged : IsTrue (is_critical e) ↔ IsForSignatures b.key_usage
   pub named : identifier_contents (extension_id e) ≡ CE_BASIC_CONSTRAINTS.now
@@ -84,14 +96,17 @@ pub record HasUses (b : CertificateBuilder) (extensions : List Extension) : Type
   pub flagged : IsTrue critical ↔ IsForSignatures b.key_usage
   pub are : AreWanted (wanted_uses b critical) extensions
 
--- the extensions that are inherited: those that the request of the subject asks for, where that is set and the issuer isn't the subject
+-- the extensions that are inherited: those that the request of the subject asks for, where that is
+-- set and the issuer isn't the subject
 abbrev pub inherited : (self_signed inherits : Bool) → Option SubjectInfos → List Extension
-inherited false true (Some (subjects.Request csr)) = asked_in csr.request.certification_request_info.attributes
+inherited false true (Some (subjects.Request csr)) =
+    asked_in csr.request.certification_request_info.attributes
 inherited self_signed inherits subject = []
 
--- The extensions are those that the builder makes, and the inherited ones whose identifier isn't there yet. Basic constraints are critical
--- exactly where the key is said to be for signatures.
-pub record AreBuilt (b : CertificateBuilder) (issuer : IssuerInfos) (own authority : List ℕ) (extensions : List Extension) : Type 0 where
+-- The extensions are those that the builder makes, and the inherited ones whose identifier isn't
+-- there yet. Basic constraints are critical exactly where the key is said to be for signatures.
+pub record AreBuilt (b : CertificateBuilder) (issuer : IssuerInfos) (own authority : List ℕ)
+    (extensions : List Extension) : Type 0 where
   pub critical : Bool
   pub flagged : IsTrue critical ↔ IsForSignatures b.key_usage
   pub made : List Extension

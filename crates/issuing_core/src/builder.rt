@@ -101,8 +101,8 @@ impl Drop for CertificateBuilder<'_> {
 }
 
 impl<'a> CertificateBuilder<'a> {
-    /// A builder to which nothing is given: RSA with SHA-256 signs, keys are identified by the SHA-256
-    /// of the SubjectPublicKeyInfo, and the certificate is no authority's.
+    /// A builder to which nothing is given: RSA with SHA-256 signs, keys are identified by the
+    /// SHA-256 of the SubjectPublicKeyInfo, and the certificate is no authority's.
     pub fn new(alloc: Global) -> CertificateBuilder<'a>
         ensures { result ≡ record {
           alloc = alloc;
@@ -145,7 +145,8 @@ impl<'a> CertificateBuilder<'a> {
 
     /// The first and the last moment at which the certificate is valid (RFC 5280 4.1.2.5).
     pub fn validity(mut self, valid_from: UtcDate, valid_to: UtcDate) -> Self
-        ensures { result ≡ record self.entry { valid_from = Some valid_from; valid_to = Some valid_to } }
+        ensures { result ≡ record self.entry
+            { valid_from = Some valid_from; valid_to = Some valid_to } }
     {
         self.valid_from = Some(valid_from);
         self.valid_to = Some(valid_to);
@@ -154,7 +155,8 @@ impl<'a> CertificateBuilder<'a> {
 
     /// The name and the key of the subject. They take the place of a request.
     pub fn subject(mut self, name: DirectoryName, public_key: PublicKey) -> Self
-        ensures { result ≡ record self.entry { subject_infos = Some (subjects.Named name public_key) } }
+        ensures { result ≡ record self.entry
+            { subject_infos = Some (subjects.Named name public_key) } }
     {
         self.subject_infos = Some(SubjectInfos::Named(name, public_key));
         self
@@ -170,7 +172,8 @@ impl<'a> CertificateBuilder<'a> {
 
     /// The name and the key of an issuer that isn't the subject.
     pub fn issuer(mut self, name: DirectoryName, key: &'a PrivateKey) -> Self
-        ensures { result ≡ record self.entry { issuer_infos = Some (record { name = name; key = key.entry; self_signed = false }) } }
+        ensures { result ≡ record self.entry
+            { issuer_infos = Some (record { name = name; key = key.entry; self_signed = false }) } }
     {
         self.issuer_infos = Some(IssuerInfos {
             name,
@@ -182,7 +185,8 @@ impl<'a> CertificateBuilder<'a> {
 
     /// The name and the key of an issuer that is also the subject.
     pub fn self_signed(mut self, name: DirectoryName, key: &'a PrivateKey) -> Self
-        ensures { result ≡ record self.entry { issuer_infos = Some (record { name = name; key = key.entry; self_signed = true }) } }
+        ensures { result ≡ record self.entry
+            { issuer_infos = Some (record { name = name; key = key.entry; self_signed = true }) } }
     {
         self.issuer_infos = Some(IssuerInfos {
             name,
@@ -192,14 +196,16 @@ impl<'a> CertificateBuilder<'a> {
         self
     }
 
-    /// An issuer that isn't the subject: its name is that of the subject of its certificate, and where
-    /// that identifies its key, the key of the authority is identified so. A refusal changes nothing.
+    /// An issuer that isn't the subject: its name is that of the subject of its certificate, and
+    /// where that identifies its key, the key of the authority is identified so. A refusal changes
+    /// nothing.
     pub fn issuer_cert(
         &mut self,
         issuer_cert: &Cert,
         issuer_key: &'a PrivateKey,
     ) -> Result<(), AllocError>
-        ensures ok { OnOk result (IsIssuedUnder issuer_cert.now issuer_key.entry self.old self.new) }
+        ensures ok { OnOk result
+            (IsIssuedUnder issuer_cert.now issuer_key.entry self.old self.new) }
         ensures err { OnErr result (self.new ≡ self.old) }
     {
         let name = issuer_cert.subject_name(self.alloc)?;
@@ -218,7 +224,8 @@ impl<'a> CertificateBuilder<'a> {
 
     /// An issuer that isn't the subject.
     fn set_issuer(&mut self, name: DirectoryName, key: &'a PrivateKey)
-        ensures { self.new ≡ record self.old { issuer_infos = Some (record { name = name; key = key.entry; self_signed = false }) } }
+        ensures { self.new ≡ record self.old
+            { issuer_infos = Some (record { name = name; key = key.entry; self_signed = false }) } }
     {
         self.issuer_infos = Some(IssuerInfos {
             name,
@@ -227,8 +234,8 @@ impl<'a> CertificateBuilder<'a> {
         });
     }
 
-    /// The identifier of the issuer's key (RFC 5280 4.2.1.1). Where the issuer is also the subject, the
-    /// identifier that is made for its key takes its place.
+    /// The identifier of the issuer's key (RFC 5280 4.2.1.1). Where the issuer is also the subject,
+    /// the identifier that is made for its key takes its place.
     pub fn authority_key_identifier(mut self, key: Octets) -> Self
         ensures { result ≡ record self.entry { authority_key_identifier = Some key } }
     {
@@ -309,8 +316,9 @@ impl<'a> CertificateBuilder<'a> {
     }
 
     /// Whether the certificate has the extensions that its request asks for, but for those of an
-    /// identifier that it has already. Each is compared with all that the certificate has, so the time
-    /// grows with the square of their number: who takes requests of strangers bounds their length.
+    /// identifier that it has already. Each is compared with all that the certificate has, so the
+    /// time grows with the square of their number: who takes requests of strangers bounds their
+    /// length.
     pub fn inherit_extensions_from_csr_attributes(mut self, inherits: bool) -> Self
         ensures { result ≡ record self.entry { inherits = inherits } }
     {
@@ -322,8 +330,11 @@ impl<'a> CertificateBuilder<'a> {
 /// The identifier of the key of a certificate, where it has one.
 fn key_identifier_of(cert: &Cert) -> Option<&[u8]>
     ensures { MatchOption result
-        (NoneHas CE_SUBJECT_KEY_IDENTIFIER.now (extensions_in cert.now.certificate.tbs_certificate.extensions))
-        (λ key. HasFirst CE_SUBJECT_KEY_IDENTIFIER.now (extensions_in cert.now.certificate.tbs_certificate.extensions) (views.SubjectKeyIdentifier key.now)) }
+        (NoneHas CE_SUBJECT_KEY_IDENTIFIER.now
+        (extensions_in cert.now.certificate.tbs_certificate.extensions))
+        (λ key. HasFirst CE_SUBJECT_KEY_IDENTIFIER.now
+        (extensions_in cert.now.certificate.tbs_certificate.extensions)
+        (views.SubjectKeyIdentifier key.now)) }
 {
     match cert.subject_key_identifier() {
         Ok(key) => Some(key),

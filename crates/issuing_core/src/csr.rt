@@ -35,8 +35,8 @@ use std::marker::Model;
 use x509_core::CsrError;
 use x509_types::{AlgorithmIdentifier, AttributeList, Name};
 
-/// A request for a certificate (RFC 2986 4.2), kept with its octets. Contracts see it as the element
-/// of what is signed, and the value. Whether its signature is one by its key is asked by
+/// A request for a certificate (RFC 2986 4.2), kept with its octets. Contracts see it as the
+/// element of what is signed, and the value. Whether its signature is one by its key is asked by
 /// [`Csr::verify`].
 #[derive(Debug)]
 pub struct Csr {
@@ -46,7 +46,9 @@ pub struct Csr {
     attributes: Option<AttributeList>,
     signature_algorithm: AlgorithmIdentifier,
     signature: BitString,
-    ghost around: { HasInfo kept.element (request_with subject public_key attributes signature_algorithm signature) } by { HasInfo-prop kept.element (request_with subject public_key attributes signature_algorithm signature) },
+    ghost around: { HasInfo kept.element
+        (request_with subject public_key attributes signature_algorithm signature) } by { HasInfo-prop kept.element
+            (request_with subject public_key attributes signature_algorithm signature) },
 }
 
 /// Written out, so that dropping one is a call: else each function that drops one is proved through
@@ -72,12 +74,18 @@ impl Model for Csr {
 
     ghost coded = { coded_requests };
 
-    ghost view = { λ csr. record { info = csr.around.0; request = request_with csr.subject csr.public_key csr.attributes csr.signature_algorithm csr.signature; der = csr.around.1.1; spelled = csr.around.1.2 } };
+    ghost view = { λ csr. record {
+      info = csr.around.0;
+      request = request_with csr.subject csr.public_key csr.attributes csr.signature_algorithm
+          csr.signature;
+      der = csr.around.1.1;
+      spelled = csr.around.1.2;
+    } };
 }
 
 impl Csr {
-    /// The request that octets are, all of them, and nothing else. Octets that are no element, or one
-    /// of another structure, are refused as `Asn1Deserialization` without memory.
+    /// The request that octets are, all of them, and nothing else. Octets that are no element, or
+    /// one of another structure, are refused as `Asn1Deserialization` without memory.
     pub fn from_der(alloc: Global, der: &[u8]) -> Result<Csr, CsrError>
         ensures kept { IfOk result (λ csr. encoding (kept_request csr) ≡ der.now) }
         ensures answer { MatchResult result
@@ -85,9 +93,11 @@ impl Csr {
             (IsUnreadCsr elements.Request (RefusesOctets IsRequest der.now)) }
         // Octets with a fault are refused with it, whatever memory there is.
         ensures faulty { (at : ℕ) (fault : DerFault) → IsExactFault der.now at fault
-            → result ≡ Err (errors.Asn1Deserialization elements.Request (der_errors.Malformed (record { at = at; fault = fault }))) }
+            → result ≡ Err (errors.Asn1Deserialization elements.Request
+            (der_errors.Malformed (record { at = at; fault = fault }))) }
         // An element that is that of no request is refused as such, whatever memory there is.
-        ensures shapeless { (element : DerElement) → IsDer element → der.now ≡ encoding element → ((r : CertificationRequest) → IsRequest element r → ⊥)
+        ensures shapeless { (element : DerElement) → IsDer element → der.now ≡ encoding element
+            → ((r : CertificationRequest) → IsRequest element r → ⊥)
             → result ≡ Err (errors.Asn1Deserialization elements.Request der_errors.Shape) }
     {
         match Csr::read(alloc, der) {
@@ -102,8 +112,11 @@ impl Csr {
         ensures answer { MatchResult result
             (λ csr. IsWithin IsRequest der.now csr.request)
             (RefusesOctets IsRequest der.now) }
-        ensures faulty { (at : ℕ) (fault : DerFault) → IsExactFault der.now at fault → result ≡ Err (der_errors.Malformed (record { at = at; fault = fault })) }
-        ensures shapeless { (element : DerElement) → IsDer element → der.now ≡ encoding element → ((r : CertificationRequest) → IsRequest element r → ⊥) → result ≡ Err der_errors.Shape }
+        ensures faulty { (at : ℕ) (fault : DerFault) → IsExactFault der.now at fault
+            → result ≡ Err (der_errors.Malformed (record { at = at; fault = fault })) }
+        ensures shapeless { (element : DerElement) → IsDer element → der.now ≡ encoding element
+            → ((r : CertificationRequest) → IsRequest element r → ⊥)
+            → result ≡ Err der_errors.Shape }
     {
         let elem = exact_elem(der)?;
         if !CertificationRequest::has_shape(elem) {
@@ -152,7 +165,8 @@ impl Csr {
 
     /// The octets that are kept: those that were read, or written at first.
     pub fn to_der(&self, alloc: Global) -> Result<Vec<u8>, CsrError>
-        ensures { MatchResult result (λ octets. octets.items ≡ encoding (kept_request self.now)) (λ e. e ≡ errors.Memory) }
+        ensures { MatchResult result (λ octets. octets.items ≡ encoding (kept_request self.now))
+            (λ e. e ≡ errors.Memory) }
     {
         Ok(Vec::from_slice(alloc, self.kept.as_bytes())?)
     }
@@ -175,14 +189,16 @@ impl Csr {
 
     /// The name of the subject (RFC 2986 4.1).
     pub fn subject_name(&self, alloc: Global) -> Result<DirectoryName, AllocError>
-        ensures { IfOk result (λ copy. sets_of copy ≡ self.now.request.certification_request_info.subject) }
+        ensures { IfOk result
+            (λ copy. sets_of copy ≡ self.now.request.certification_request_info.subject) }
     {
         Ok(DirectoryName::from(self.subject.try_clone(alloc)?))
     }
 
     /// The key of the subject with its algorithm (RFC 2986 4.1).
     pub fn public_key(&self) -> &PublicKey
-        ensures { info_of result.now ≡ self.now.request.certification_request_info.subject_public_key_info }
+        ensures { info_of result.now
+            ≡ self.now.request.certification_request_info.subject_public_key_info }
     {
         &self.public_key
     }
@@ -190,7 +206,8 @@ impl Csr {
     /// The name and the key of the subject. It takes no memory.
     pub fn into_subject_infos(self) -> (DirectoryName, PublicKey)
         ensures name { sets_of result.0 ≡ self.request.certification_request_info.subject }
-        ensures key { info_of result.1 ≡ self.request.certification_request_info.subject_public_key_info }
+        ensures key { info_of result.1
+            ≡ self.request.certification_request_info.subject_public_key_info }
     {
         let Csr {
             kept: _kept,

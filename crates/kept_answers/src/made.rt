@@ -9,7 +9,8 @@ use row_answers::{octets_of, text_of};
 use sig_core::{Scheme, ShaVariant};
 use std::alloc::Global;
 
-/// What is signed: the digest of a file by an algorithm, and the name of the program, where it has one.
+/// What is signed: the digest of a file by an algorithm, and the name of the program, where it has
+/// one.
 #[derive(Clone, Copy)]
 struct Program<'a> {
     digest: ShaVariant,

@@ -27,7 +27,8 @@ enum Outcome {
     Other,
 }
 
-/// The element that octets are, as a content with its type, which is two levels deeper (RFC 5652 5.2).
+/// The element that octets are, as a content with its type, which is two levels deeper (RFC 5652
+/// 5.2).
 fn content_of(alloc: Global, octets: &[u8]) -> Option<EncapsulatedContentInfo> {
     let elem = whole_element(octets)?;
     match (

@@ -3,8 +3,8 @@
 use authenticode_values::{AuthenticodeSignature, Pkcs7, TokenTimestamper};
 use std::alloc::Global;
 
-/// Version 1, no digest algorithms, the content left out, empty fields of certificates and revocation
-/// lists, no signers (RFC 2315 9.1).
+/// Version 1, no digest algorithms, the content left out, empty fields of certificates and
+/// revocation lists, no signers (RFC 2315 9.1).
 pub(crate) const EMPTY: &str = "302706092a864886f70d010702a01a3018020101310030\
 0b06092a864886f70d010701a000a1003100";
 

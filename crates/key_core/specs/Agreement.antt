@@ -9,7 +9,8 @@ use Rattle.key_core.specs.PrivateKeyFields.{HaveTag}
 use Rattle.key_core.specs.declared.private_key_value.PrivateKeyValue.{PrivateKeyValue}
 
 -- The algorithm is one for keys of the kind of the key, and the attributes stand under their tag.
-pub record Agree (algorithm : AlgorithmIdentifier) (key : PrivateKeyValue) (attributes : Option KeptElement) : Type 0 where
+pub record Agree (algorithm : AlgorithmIdentifier) (key : PrivateKeyValue)
+    (attributes : Option KeptElement) : Type 0 where
   -- the algorithm names keys of the kind that the key is
   pub named : Names algorithm (private_kind key)
   -- the attributes stand under their tag

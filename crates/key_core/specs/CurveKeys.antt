@@ -1,4 +1,5 @@
--- Private keys of elliptic curves: their containers, those that are made of parts, and those that are read from an ECPrivateKey.
+-- Private keys of elliptic curves: their containers, those that are made of parts, and those that
+-- are read from an ECPrivateKey.
 use Rattle.std.specs.Prelude.{◌≡◌, ⊤, ℕ, List, ◌∷◌, ◌++◌, Option, Some, None}
 use Rattle.std.specs.Option.{option_map}
 use Rattle.der_core.specs.DerElement.{DerElement}
@@ -28,11 +29,14 @@ use Rattle.key_core.specs.declared.private_key_info.PrivateKeyInfo.{PrivateKeyIn
 use Rattle.key_core.specs.declared.private_key_value.PrivateKeyValue.TheVariants as values
 use Rattle.key_core.specs.declared.private_key_version.PrivateKeyVersion.TheVariants as versions
 
--- The container of a key of an elliptic curve (RFC 5480 2.1.1): the parameters name the curve, and nothing stands beside the key.
-pub record IsEcContainer (curve : ObjectIdentifier) (key : ECPrivateKey) (info : PrivateKeyInfo) : Type 0 where
+-- The container of a key of an elliptic curve (RFC 5480 2.1.1): the parameters name the curve, and
+-- nothing stands beside the key.
+pub record IsEcContainer (curve : ObjectIdentifier) (key : ECPrivateKey)
+    (info : PrivateKeyInfo) : Type 0 where
   pub version : info.version ≡ versions.V1
   pub identifier : identifier_contents (oid_of info.private_key_algorithm) ≡ EC_PUBLIC_KEY.now
-  pub parameters : kept_option (parameters_of info.private_key_algorithm) ≡ Some (object_identifier curve)
+  pub parameters : kept_option (parameters_of info.private_key_algorithm)
+      ≡ Some (object_identifier curve)
   pub is : info.private_key ≡ values.Ec key
   pub attributes : info.attributes ≡ None
   pub public_key : info.public_key ≡ None
@@ -41,10 +45,13 @@ pub record IsEcContainer (curve : ObjectIdentifier) (key : ECPrivateKey) (info :
 
 -- the ECPrivateKey of a curve, a secret and a point, where there is one
 abbrev pub given : ObjectIdentifier → List ℕ → Option BitString → ECPrivateKey
-given curve secret point = record { private_key = secret; parameters = Some curve; public_key = point }
+given curve secret point =
+    record { private_key = secret; parameters = Some curve; public_key = point }
 
--- A key of these octets as its secret and its point, where one is given: its ECPrivateKey names the curve and has the point.
-pub record IsGivenCurveKey (curve : ObjectIdentifier) (secret : List ℕ) (point : Option (List ℕ)) (key : PrivateKey) : Type 0 where
+-- A key of these octets as its secret and its point, where one is given: its ECPrivateKey names the
+-- curve and has the point.
+pub record IsGivenCurveKey (curve : ObjectIdentifier) (secret : List ℕ) (point : Option (List ℕ))
+    (key : PrivateKey) : Type 0 where
   pub container : IsEcContainer curve (given curve secret key.public_key) key.info
   pub point_is : option_map bit_string_contents key.public_key ≡ option_map whole_bits point
 
@@ -61,13 +68,18 @@ pub record IsGivenPointKey (curve : EcCurve) (secret x y : List ℕ) (key : Priv
 abbrev pub IsECPrivateKey : DerElement → ECPrivateKey → Type 0
 IsECPrivateKey element key = element ≡ ec_private_key key
 
--- The ECPrivateKey that is written for one that was read: of the curve, which stands in it where one stood in what was read. A point that
--- was derived doesn't stand in it.
+-- The ECPrivateKey that is written for one that was read: of the curve, which stands in it where
+-- one stood in what was read. A point that was derived doesn't stand in it.
 abbrev pub anew : ObjectIdentifier → ECPrivateKey → ECPrivateKey
-anew curve read = record { private_key = read.private_key; parameters = option_map (λ _. curve) read.parameters; public_key = read.public_key }
+anew curve read = record {
+  private_key = read.private_key;
+  parameters = option_map (λ _. curve) read.parameters;
+  public_key = read.public_key;
+}
 
 -- The key on this curve of an ECPrivateKey that was read.
-pub record IsCurveKey (derives : Derivation) (curve : ObjectIdentifier) (read : ECPrivateKey) (key : PrivateKey) : Type 0 where
+pub record IsCurveKey (derives : Derivation) (curve : ObjectIdentifier) (read : ECPrivateKey)
+    (key : PrivateKey) : Type 0 where
   pub known : Option EcCurve
   pub named : IsCurveOf (identifier_contents curve) known
   pub container : IsEcContainer curve (anew curve read) key.info
@@ -76,10 +88,13 @@ pub record IsCurveKey (derives : Derivation) (curve : ObjectIdentifier) (read : 
 -- why there is none
 abbrev pub RefusesCurveKey : Derivation → ObjectIdentifier → ECPrivateKey → KeyContext → Type 0
 RefusesCurveKey derives curve read context =
-    (known : Option EcCurve) × IsCurveOf (identifier_contents curve) known × RefusesPoint derives known read.private_key read.public_key context
+    (known : Option EcCurve) × IsCurveOf (identifier_contents curve) known
+    × RefusesPoint derives known read.private_key read.public_key context
 
--- A key on this curve by the encoding of its ECPrivateKey (RFC 5915 3), whatever curve stands in it.
-pub record IsSec1KeyOn (derives : Derivation) (curve : ObjectIdentifier) (octets : List ℕ) (key : PrivateKey) : Type 0 where
+-- A key on this curve by the encoding of its ECPrivateKey (RFC 5915 3), whatever curve stands in
+-- it.
+pub record IsSec1KeyOn (derives : Derivation) (curve : ObjectIdentifier) (octets : List ℕ)
+    (key : PrivateKey) : Type 0 where
   pub read : ECPrivateKey
   pub within : IsWithin IsECPrivateKey octets read
   pub is : IsCurveKey derives curve read key
@@ -93,7 +108,8 @@ pub record IsSec1Key (derives : Derivation) (octets : List ℕ) (key : PrivateKe
   pub is : IsCurveKey derives curve read key
 
 -- A key on a known curve.
-pub record IsSec1KeyOnKnown (derives : Derivation) (curve : EcCurve) (octets : List ℕ) (key : PrivateKey) : Type 0 where
+pub record IsSec1KeyOnKnown (derives : Derivation) (curve : EcCurve) (octets : List ℕ)
+    (key : PrivateKey) : Type 0 where
   pub oid : ObjectIdentifier
   pub named : identifier_contents oid ≡ curve_identifier curve
   pub is : IsSec1KeyOn derives oid octets key
@@ -101,18 +117,23 @@ pub record IsSec1KeyOnKnown (derives : Derivation) (curve : EcCurve) (octets : L
 -- The octets aren't those of an ECPrivateKey, or the one that they are is refused with a context.
 abbrev pub RefusesSec1 : (ECPrivateKey → KeyContext → Type 0) → List ℕ → KeyError → Type 0
 RefusesSec1 Refuses octets (errors.Asn1Serialization element source) = ⊥
-RefusesSec1 Refuses octets (errors.Asn1Deserialization element source) = IsUnreadKey elements.EcPrivateKey (RefusesOctets IsECPrivateKey octets) (errors.Asn1Deserialization element source)
+RefusesSec1 Refuses octets (errors.Asn1Deserialization element source) =
+    IsUnreadKey elements.EcPrivateKey (RefusesOctets IsECPrivateKey octets)
+    (errors.Asn1Deserialization element source)
 RefusesSec1 Refuses octets (errors.Rsa context) = ⊥
-RefusesSec1 Refuses octets (errors.EC context) = (read : ECPrivateKey) × IsWithin IsECPrivateKey octets read × Refuses read context
+RefusesSec1 Refuses octets (errors.EC context) =
+    (read : ECPrivateKey) × IsWithin IsECPrivateKey octets read × Refuses read context
 RefusesSec1 Refuses octets (errors.ED context) = ⊥
 RefusesSec1 Refuses octets (errors.UnsupportedAlgorithm kind) = ⊥
 RefusesSec1 Refuses octets errors.Memory = ⊤
 
 -- no curve stands in it, or there is no key on the one that does
-abbrev pub RefusesOwnCurve : Derivation → Option ObjectIdentifier → ECPrivateKey → KeyContext → Type 0
+abbrev pub RefusesOwnCurve : Derivation → Option ObjectIdentifier → ECPrivateKey → KeyContext
+    → Type 0
 RefusesOwnCurve derives None read context = context ≡ contexts.CurveMissing
 RefusesOwnCurve derives (Some curve) read context = RefusesCurveKey derives curve read context
 
 -- by the known curve
 abbrev pub RefusesKnownCurve : Derivation → EcCurve → ECPrivateKey → KeyContext → Type 0
-RefusesKnownCurve derives curve read context = RefusesPoint derives (Some curve) read.private_key read.public_key context
+RefusesKnownCurve derives curve read context =
+    RefusesPoint derives (Some curve) read.private_key read.public_key context

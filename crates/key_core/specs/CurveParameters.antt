@@ -5,7 +5,8 @@ use Rattle.key_types.specs.KeyKind.{IsOid}
 use Rattle.key_core.specs.declared.private_key_value.PrivateKeyValue.{PrivateKeyValue}
 use Rattle.key_core.specs.declared.private_key_value.PrivateKeyValue.TheVariants as values
 
--- The parameters of a key of an elliptic curve are an identifier, that of its curve (RFC 5480 2.1.1). Those of others may be any.
+-- The parameters of a key of an elliptic curve are an identifier, that of its curve (RFC 5480
+-- 2.1.1). Those of others may be any.
 abbrev pub HasCurve : PrivateKeyValue → Option DerElement → Type 0
 HasCurve (values.Rsa key) parameters = ⊤
 HasCurve (values.Ec key) None = ⊥

@@ -46,7 +46,8 @@ abbrev pub whole_bits : List ℕ → List ℕ
 whole_bits octets = 0 ∷ octets
 
 -- The public key is the one that is derived from a secret, which has this many octets.
-pub record IsDerived (derives : Derivation) (kind : SchemeKind) (size : ℕ) (secret : List ℕ) (public_key : Option BitString) : Type 0 where
+pub record IsDerived (derives : Derivation) (kind : SchemeKind) (size : ℕ) (secret : List ℕ)
+    (public_key : Option BitString) : Type 0 where
   pub sized : length secret ≡ size
   pub key : List ℕ
   pub derived : derives kind secret ≡ Some key
@@ -64,32 +65,43 @@ RefusesDerived derives kind size secret contexts.SecretSize = length secret ≢ 
 RefusesDerived derives kind size secret contexts.UnsupportedCurve = ⊥
 RefusesDerived derives kind size secret contexts.UnsupportedEd = ⊥
 RefusesDerived derives kind size secret contexts.PublicKeyMissing = ⊥
-RefusesDerived derives kind size secret contexts.SchemeRefused = (length secret ≡ size) × (derives kind secret ≡ None)
+RefusesDerived derives kind size secret contexts.SchemeRefused =
+    (length secret ≡ size) × (derives kind secret ≡ None)
 
--- The public key of a secret of an elliptic curve, beside which a point may have been read: that point, else what is derived where the
--- curve is known, else none.
-abbrev pub IsPointOf : Derivation → Option EcCurve → List ℕ → Option BitString → Option BitString → Type 0
+-- The public key of a secret of an elliptic curve, beside which a point may have been read: that
+-- point, else what is derived where the curve is known, else none.
+abbrev pub IsPointOf : Derivation → Option EcCurve → List ℕ → Option BitString → Option BitString
+    → Type 0
 IsPointOf derives known secret (Some read) public_key = public_key ≡ Some read
-IsPointOf derives (Some curve) secret None public_key = IsDerived derives (curve_kind curve) (field_size curve) secret public_key
+IsPointOf derives (Some curve) secret None public_key =
+    IsDerived derives (curve_kind curve) (field_size curve) secret public_key
 IsPointOf derives None secret None public_key = public_key ≡ None
 
--- why no point is kept: none was read, the curve is known, and the secret has another length or the scheme gives no key for it
-abbrev pub RefusesPoint : Derivation → Option EcCurve → List ℕ → Option BitString → KeyContext → Type 0
+-- why no point is kept: none was read, the curve is known, and the secret has another length or the
+-- scheme gives no key for it
+abbrev pub RefusesPoint : Derivation → Option EcCurve → List ℕ → Option BitString → KeyContext
+    → Type 0
 RefusesPoint derives known secret (Some read) context = ⊥
-RefusesPoint derives (Some curve) secret None context = RefusesDerived derives (curve_kind curve) (field_size curve) secret context
+RefusesPoint derives (Some curve) secret None context =
+    RefusesDerived derives (curve_kind curve) (field_size curve) secret context
 RefusesPoint derives None secret None context = ⊥
 
--- The public key of a secret of 25519 or 448: what is derived for 25519, whose secrets have 32 octets (RFC 8032 5.1.5, RFC 7748 5), else none.
+-- The public key of a secret of 25519 or 448: what is derived for 25519, whose secrets have 32
+-- octets (RFC 8032 5.1.5, RFC 7748 5), else none.
 abbrev pub IsEdKeyOf : Derivation → Option EdAlgorithm → List ℕ → Option BitString → Type 0
-IsEdKeyOf derives (Some algorithm) secret public_key = IsDerived derives (ed_kind algorithm) 32 secret public_key
+IsEdKeyOf derives (Some algorithm) secret public_key =
+    IsDerived derives (ed_kind algorithm) 32 secret public_key
 IsEdKeyOf derives None secret public_key = public_key ≡ None
 
--- why no public key is kept: the algorithm is known, and the secret has another length or the scheme gives no key for it
+-- why no public key is kept: the algorithm is known, and the secret has another length or the
+-- scheme gives no key for it
 abbrev pub RefusesEdKey : Derivation → Option EdAlgorithm → List ℕ → KeyContext → Type 0
-RefusesEdKey derives (Some algorithm) secret context = RefusesDerived derives (ed_kind algorithm) 32 secret context
+RefusesEdKey derives (Some algorithm) secret context =
+    RefusesDerived derives (ed_kind algorithm) 32 secret context
 RefusesEdKey derives None secret context = ⊥
 
--- the error is one of an elliptic curve, and this context refuses it; want of memory may be told at any time
+-- the error is one of an elliptic curve, and this context refuses it; want of memory may be told at
+-- any time
 abbrev pub IsEcRefusal : (KeyContext → Type 0) → KeyError → Type 0
 IsEcRefusal Refuses (errors.Asn1Serialization element source) = ⊥
 IsEcRefusal Refuses (errors.Asn1Deserialization element source) = ⊥

@@ -20,28 +20,35 @@ use Rattle.key_core.specs.declared.error.KeyError.TheVariants as errors
 use Rattle.key_core.specs.declared.private_key.PrivateKey.{PrivateKey}
 use Rattle.key_core.specs.declared.private_key_value.PrivateKeyValue.TheVariants as values
 
--- The keypair lends the parts of a private key. The parameters of its algorithm are the identifier of the curve.
+-- The keypair lends the parts of a private key. The parameters of its algorithm are the identifier
+-- of the curve.
 pub record IsEcKeypairOf (key : PrivateKey) (keypair : EcdsaKeypair) : Type 0 where
   pub read : ECPrivateKey
   pub is : key.info.private_key ≡ values.Ec read
   pub secret_is : keypair.secret.now ≡ read.private_key
-  pub curve_is : kept_option (parameters_of key.info.private_key_algorithm) ≡ Some (Primitive 0x06 (lent_contents keypair.curve))
+  pub curve_is : kept_option (parameters_of key.info.private_key_algorithm)
+      ≡ Some (Primitive 0x06 (lent_contents keypair.curve))
   pub public_is : option_copied keypair.point ≡ key.public_key
 
 -- the view of a private key, or that the key is of another kind
 abbrev pub GivesEcKeypair : PrivateKey → Result EcdsaKeypair KeyError → Type 0
-GivesEcKeypair key result = MatchResult result (IsEcKeypairOf key) (λ e. (e ≡ errors.EC contexts.NotEc) × (private_kind key.info.private_key ≢ kinds.Ec))
+GivesEcKeypair key result =
+    MatchResult result (IsEcKeypairOf key)
+    (λ e. (e ≡ errors.EC contexts.NotEc) × (private_kind key.info.private_key ≢ kinds.Ec))
 
 -- The view lends the parts of a public key.
 pub record IsEcPublicOf (info : SubjectPublicKeyInfo) (view : EcdsaPublicKey) : Type 0 where
   pub bits : BitString
   pub is : info.subject_public_key ≡ keys.Ec bits
   pub point_is : view.point.now ≡ payload_of bits
-  pub curve_is : kept_option (parameters_of info.algorithm) ≡ Some (Primitive 0x06 (lent_contents view.curve))
+  pub curve_is : kept_option (parameters_of info.algorithm)
+      ≡ Some (Primitive 0x06 (lent_contents view.curve))
 
 -- the view of a public key, or that the key is of another kind
 abbrev pub GivesEcPublic : SubjectPublicKeyInfo → Result EcdsaPublicKey KeyError → Type 0
-GivesEcPublic info result = MatchResult result (IsEcPublicOf info) (λ e. (e ≡ errors.EC contexts.NotEc) × (kind_of_key info.subject_public_key ≢ kinds.Ec))
+GivesEcPublic info result =
+    MatchResult result (IsEcPublicOf info)
+    (λ e. (e ≡ errors.EC contexts.NotEc) × (kind_of_key info.subject_public_key ≢ kinds.Ec))
 
 -- The view lends the public key of a keypair.
 pub record IsEcPublicOfKeypair (keypair : EcdsaKeypair) (view : EcdsaPublicKey) : Type 0 where
@@ -53,4 +60,5 @@ pub record IsEcPublicOfKeypair (keypair : EcdsaKeypair) (view : EcdsaPublicKey) 
 -- the view of the public half of a pair, or that none is kept
 abbrev pub GivesEcPublicOfKeypair : EcdsaKeypair → Result EcdsaPublicKey KeyError → Type 0
 GivesEcPublicOfKeypair keypair result =
-    MatchResult result (IsEcPublicOfKeypair keypair) (λ e. (e ≡ errors.EC contexts.PublicKeyMissing) × (option_copied keypair.point ≡ None))
+    MatchResult result (IsEcPublicOfKeypair keypair)
+    (λ e. (e ≡ errors.EC contexts.PublicKeyMissing) × (option_copied keypair.point ≡ None))

@@ -15,9 +15,10 @@ abbrev pub version_beside : Option (List ℕ) → PrivateKeyVersion
 version_beside None = versions.V1
 version_beside (Some public_key) = versions.V2
 
--- A key of these octets as its secret and its public key, where one is given (RFC 8410 7): there are no parameters, and the public key
--- stands in the container.
-pub record IsGivenEdKey (algorithm : ObjectIdentifier) (secret : List ℕ) (public_key : Option (List ℕ)) (key : PrivateKey) : Type 0 where
+-- A key of these octets as its secret and its public key, where one is given (RFC 8410 7): there
+-- are no parameters, and the public key stands in the container.
+pub record IsGivenEdKey (algorithm : ObjectIdentifier) (secret : List ℕ)
+    (public_key : Option (List ℕ)) (key : PrivateKey) : Type 0 where
   pub version : key.info.version ≡ version_beside public_key
   pub identifier : oid_of key.info.private_key_algorithm ≡ algorithm
   pub parameters : parameters_of key.info.private_key_algorithm ≡ None

@@ -25,7 +25,9 @@ pub record IsEdKeypairOf (key : PrivateKey) (keypair : EdKeypair) : Type 0 where
 
 -- the view of a private key, or that the key is of another kind
 abbrev pub GivesEdKeypair : PrivateKey → Result EdKeypair KeyError → Type 0
-GivesEdKeypair key result = MatchResult result (IsEdKeypairOf key) (λ e. (e ≡ errors.ED contexts.NotEd) × (private_kind key.info.private_key ≢ kinds.Ed))
+GivesEdKeypair key result =
+    MatchResult result (IsEdKeypairOf key)
+    (λ e. (e ≡ errors.ED contexts.NotEd) × (private_kind key.info.private_key ≢ kinds.Ed))
 
 -- The view lends the parts of a public key.
 pub record IsEdPublicOf (info : SubjectPublicKeyInfo) (view : EdPublicKey) : Type 0 where
@@ -36,7 +38,9 @@ pub record IsEdPublicOf (info : SubjectPublicKeyInfo) (view : EdPublicKey) : Typ
 
 -- the view of a public key, or that the key is of another kind
 abbrev pub GivesEdPublic : SubjectPublicKeyInfo → Result EdPublicKey KeyError → Type 0
-GivesEdPublic info result = MatchResult result (IsEdPublicOf info) (λ e. (e ≡ errors.ED contexts.NotEd) × (kind_of_key info.subject_public_key ≢ kinds.Ed))
+GivesEdPublic info result =
+    MatchResult result (IsEdPublicOf info)
+    (λ e. (e ≡ errors.ED contexts.NotEd) × (kind_of_key info.subject_public_key ≢ kinds.Ed))
 
 -- The view lends the public key of a keypair.
 pub record IsEdPublicOfKeypair (keypair : EdKeypair) (view : EdPublicKey) : Type 0 where
@@ -48,4 +52,5 @@ pub record IsEdPublicOfKeypair (keypair : EdKeypair) (view : EdPublicKey) : Type
 -- the view of the public half of a pair, or that none is kept
 abbrev pub GivesEdPublicOfKeypair : EdKeypair → Result EdPublicKey KeyError → Type 0
 GivesEdPublicOfKeypair keypair result =
-    MatchResult result (IsEdPublicOfKeypair keypair) (λ e. (e ≡ errors.ED contexts.PublicKeyMissing) × (option_copied keypair.public_key ≡ None))
+    MatchResult result (IsEdPublicOfKeypair keypair)
+    (λ e. (e ≡ errors.ED contexts.PublicKeyMissing) × (option_copied keypair.public_key ≡ None))

@@ -30,8 +30,10 @@ context_text contexts.NotEc = codes "the key is of another kind than one of an e
 context_text contexts.NotEd = codes "the key is of another kind than one of a curve 25519 or 448"
 context_text contexts.CurveParameters = codes "the parameters name no curve"
 context_text contexts.CurveMissing = codes "no curve stands in the key"
-context_text contexts.CoordinateSize = codes "a coordinate hasn't as many octets as the field of the curve"
-context_text contexts.SecretSize = codes "the secret hasn't as many octets as its curve or algorithm asks for"
+context_text contexts.CoordinateSize =
+    codes "a coordinate hasn't as many octets as the field of the curve"
+context_text contexts.SecretSize =
+    codes "the secret hasn't as many octets as its curve or algorithm asks for"
 context_text contexts.UnsupportedCurve = codes "the curve isn't supported"
 context_text contexts.UnsupportedEd = codes "the algorithm on a curve 25519 or 448 isn't supported"
 context_text contexts.PublicKeyMissing = codes "the private key has no public key"
@@ -44,12 +46,14 @@ kind_text kinds.Ec = codes "EC"
 kind_text kinds.Ed = codes "ED"
 kind_text kinds.Mldsa = codes "ML-DSA"
 
--- What is told of a key that isn't read, made or written. Of an element that isn't read or written no contract says what is told.
+-- What is told of a key that isn't read, made or written. Of an element that isn't read or written
+-- no contract says what is told.
 abbrev pub key_error_text : KeyError → Option (List ℕ)
 key_error_text (errors.Asn1Serialization element source) = None
 key_error_text (errors.Asn1Deserialization element source) = None
 key_error_text (errors.Rsa context) = Some (codes "RSA error: " ++ context_text context)
 key_error_text (errors.EC context) = Some (codes "EC error: " ++ context_text context)
 key_error_text (errors.ED context) = Some (codes "ED error: " ++ context_text context)
-key_error_text (errors.UnsupportedAlgorithm algorithm) = Some (codes "unsupported algorithm: " ++ kind_text algorithm)
+key_error_text (errors.UnsupportedAlgorithm algorithm) =
+    Some (codes "unsupported algorithm: " ++ kind_text algorithm)
 key_error_text errors.Memory = Some (codes "out of memory")

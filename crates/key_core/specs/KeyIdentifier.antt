@@ -25,8 +25,8 @@ use Rattle.key_core.specs.declared.key_id.KeyIdGenError.TheVariants as errors
 use Rattle.key_core.specs.declared.key_id.KeyIdGenMethod.{KeyIdGenMethod}
 use Rattle.key_core.specs.declared.key_id.KeyIdGenMethod.TheVariants.{SPKFullDER, SPKValueHashedLeftmost160}
 
--- The octets in the bits of a key (RFC 5280 4.1.2.7), without their tag, length and count of unused bits: of RSA the encoding of its
--- RSAPublicKey.
+-- The octets in the bits of a key (RFC 5280 4.1.2.7), without their tag, length and count of unused
+-- bits: of RSA the encoding of its RSAPublicKey.
 abbrev pub IsPayloadOf : SubjectKey → List ℕ → Type 0
 IsPayloadOf (keys.Rsa key) octets = IsPkcs1Of (keys.Rsa key) octets
 IsPayloadOf (keys.Ec bits) octets = octets ≡ payload_of bits
@@ -35,18 +35,24 @@ IsPayloadOf (keys.Mldsa bits) octets = octets ≡ payload_of bits
 
 -- the octets are the encoding of the whole SubjectPublicKeyInfo of a key, which can be written
 abbrev pub IsWholeOf : SubjectPublicKeyInfo → List ℕ → Type 0
-IsWholeOf info octets = (octets ≡ encoding (public_key_info info)) × IsDer (public_key_info info) × AreDer (inner_key info.subject_public_key)
+IsWholeOf info octets =
+    (octets ≡ encoding (public_key_info info)) × IsDer (public_key_info info)
+    × AreDer (inner_key info.subject_public_key)
 
--- The digest of the whole SubjectPublicKeyInfo, or the first 160 bits of that of the bits (RFC 5280 4.2.1.2, RFC 7093 2).
+-- The digest of the whole SubjectPublicKeyInfo, or the first 160 bits of that of the bits (RFC 5280
+-- 4.2.1.2, RFC 7093 2).
 abbrev pub IsKeyIdentifier : KeyIdGenMethod → SubjectPublicKeyInfo → List ℕ → Type 0
-IsKeyIdentifier (SPKFullDER hash) info id = (octets : List ℕ) × IsWholeOf info octets × (id ≡ digest_of hash octets)
+IsKeyIdentifier (SPKFullDER hash) info id =
+    (octets : List ℕ) × IsWholeOf info octets × (id ≡ digest_of hash octets)
 IsKeyIdentifier (SPKValueHashedLeftmost160 hash) info id =
-    (octets : List ℕ) × IsPayloadOf info.subject_public_key octets × (hash ≢ MD5) × (id ≡ take 20 (digest_of hash octets))
+    (octets : List ℕ) × IsPayloadOf info.subject_public_key octets × (hash ≢ MD5)
+    × (id ≡ take 20 (digest_of hash octets))
 
 -- why there is no digest of the whole: it can't be written
 abbrev pub RefusesWhole : SubjectPublicKeyInfo → KeyIdGenError → Type 0
 RefusesWhole info (errors.InvalidKey source) =
-    IsUnwrittenKey elements.SubjectPublicKeyInfo (RefusesInner (inner_key info.subject_public_key ++ public_key_info info ∷ [])) source
+    IsUnwrittenKey elements.SubjectPublicKeyInfo
+    (RefusesInner (inner_key info.subject_public_key ++ public_key_info info ∷ [])) source
     × (source ≢ key_errors.Memory)
 RefusesWhole info (errors.Asn1Serialization element source) = ⊥
 RefusesWhole info errors.Memory = ⊤
@@ -55,7 +61,8 @@ RefusesWhole info errors.Memory = ⊤
 abbrev pub RefusesPayload : SubjectKey → KeyIdGenError → Type 0
 RefusesPayload key (errors.InvalidKey source) = ⊥
 RefusesPayload key (errors.Asn1Serialization element source) =
-    (rsa : RsaPublicKey) × (key ≡ keys.Rsa rsa) × (element ≡ elements.RsaPublicKey) × CantBeWritten (rsa_public_key rsa) source
+    (rsa : RsaPublicKey) × (key ≡ keys.Rsa rsa) × (element ≡ elements.RsaPublicKey)
+    × CantBeWritten (rsa_public_key rsa) source
 RefusesPayload key errors.Memory = ⊤
 
 -- want of memory is told as such, any other cause by the RSAPublicKey and the cause
@@ -67,7 +74,9 @@ payload_refusal source = errors.Asn1Serialization elements.RsaPublicKey source
 abbrev pub RefusesKeyIdentifier : KeyIdGenMethod → SubjectPublicKeyInfo → KeyIdGenError → Type 0
 RefusesKeyIdentifier (SPKFullDER hash) info e = RefusesWhole info e
 RefusesKeyIdentifier (SPKValueHashedLeftmost160 hash) info e =
-    ((hash ≡ MD5) × (e ≡ errors.InvalidKey (key_errors.UnsupportedAlgorithm (kind_of_key info.subject_public_key))))
+    ((hash ≡ MD5)
+    × (e ≡ errors.InvalidKey
+    (key_errors.UnsupportedAlgorithm (kind_of_key info.subject_public_key))))
     ⊎ ((hash ≢ MD5) × RefusesPayload info.subject_public_key e)
 
 -- an error of a key as one of its identifier: want of memory is told as such

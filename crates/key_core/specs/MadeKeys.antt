@@ -33,8 +33,10 @@ pub record IsRsaKey (modulus exponent : List ℕ) (info : SubjectPublicKeyInfo) 
   pub modulus_is : IsUnsignedInteger (number_of modulus) (integer_contents key.modulus)
   pub exponent_is : IsUnsignedInteger (number_of exponent) (integer_contents key.public_exponent)
 
--- A point of a named curve by its octets (RFC 5480 2.1.1, 2.2): the parameters are the identifier of the curve, and no bits are unused.
-pub record IsEcKey (curve : ObjectIdentifier) (octets : List ℕ) (info : SubjectPublicKeyInfo) : Type 0 where
+-- A point of a named curve by its octets (RFC 5480 2.1.1, 2.2): the parameters are the identifier
+-- of the curve, and no bits are unused.
+pub record IsEcKey (curve : ObjectIdentifier) (octets : List ℕ)
+    (info : SubjectPublicKeyInfo) : Type 0 where
   pub key : BitString
   pub is : info.subject_public_key ≡ keys.Ec key
   pub identifier : identifier_contents (oid_of info.algorithm) ≡ EC_PUBLIC_KEY.now
@@ -46,7 +48,8 @@ pub record IsEcKey (curve : ObjectIdentifier) (octets : List ℕ) (info : Subjec
 abbrev pub AreCoordinates : EcCurve → List ℕ → List ℕ → Type 0
 AreCoordinates curve x y = (length x ≡ field_size curve) × (length y ≡ field_size curve)
 
--- A point of a known curve by its coordinates, without compression (SEC 1 2.3.3): 04, then both of them.
+-- A point of a known curve by its coordinates, without compression (SEC 1 2.3.3): 04, then both of
+-- them.
 pub record IsPointKey (curve : EcCurve) (x y : List ℕ) (info : SubjectPublicKeyInfo) : Type 0 where
   pub oid : ObjectIdentifier
   pub named : identifier_contents oid ≡ curve_identifier curve
@@ -58,13 +61,16 @@ abbrev pub RefusesCoordinates : EcCurve → List ℕ → List ℕ → KeyError �
 RefusesCoordinates curve x y (errors.Asn1Serialization element source) = ⊥
 RefusesCoordinates curve x y (errors.Asn1Deserialization element source) = ⊥
 RefusesCoordinates curve x y (errors.Rsa context) = ⊥
-RefusesCoordinates curve x y (errors.EC context) = (context ≡ contexts.CoordinateSize) × (AreCoordinates curve x y → ⊥)
+RefusesCoordinates curve x y (errors.EC context) =
+    (context ≡ contexts.CoordinateSize) × (AreCoordinates curve x y → ⊥)
 RefusesCoordinates curve x y (errors.ED context) = ⊥
 RefusesCoordinates curve x y (errors.UnsupportedAlgorithm kind) = ⊥
 RefusesCoordinates curve x y errors.Memory = ⊤
 
--- A key on a curve 25519 or 448 by its octets (RFC 8410 3, 4): there are no parameters, and no bits are unused.
-pub record IsEdKey (algorithm : ObjectIdentifier) (octets : List ℕ) (info : SubjectPublicKeyInfo) : Type 0 where
+-- A key on a curve 25519 or 448 by its octets (RFC 8410 3, 4): there are no parameters, and no bits
+-- are unused.
+pub record IsEdKey (algorithm : ObjectIdentifier) (octets : List ℕ)
+    (info : SubjectPublicKeyInfo) : Type 0 where
   pub key : BitString
   pub is : info.subject_public_key ≡ keys.Ed key
   pub identifier : oid_of info.algorithm ≡ algorithm
@@ -82,6 +88,7 @@ RefusesEd algorithm (errors.Asn1Serialization element source) = ⊥
 RefusesEd algorithm (errors.Asn1Deserialization element source) = ⊥
 RefusesEd algorithm (errors.Rsa context) = ⊥
 RefusesEd algorithm (errors.EC context) = ⊥
-RefusesEd algorithm (errors.ED context) = (context ≡ contexts.UnsupportedEd) × (NamesEd algorithm → ⊥)
+RefusesEd algorithm (errors.ED context) =
+    (context ≡ contexts.UnsupportedEd) × (NamesEd algorithm → ⊥)
 RefusesEd algorithm (errors.UnsupportedAlgorithm kind) = ⊥
 RefusesEd algorithm errors.Memory = ⊤

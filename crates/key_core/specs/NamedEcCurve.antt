@@ -15,9 +15,11 @@ named_curve_identifier (named.Unsupported identifier) = lent_contents identifier
 -- the curve that contents octets name, where it is known, else these octets
 abbrev pub IsNamedCurve : List ℕ → NamedEcCurve → Type 0
 IsNamedCurve contents (named.Known curve) = curve_identifier curve ≡ contents
-IsNamedCurve contents (named.Unsupported identifier) = (lent_contents identifier ≡ contents) × ((curve : EcCurve) → curve_identifier curve ≢ contents)
+IsNamedCurve contents (named.Unsupported identifier) =
+    (lent_contents identifier ≡ contents) × ((curve : EcCurve) → curve_identifier curve ≢ contents)
 
 -- how a curve prints
 abbrev pub named_curve_text : NamedEcCurve → List ℕ
 named_curve_text (named.Known curve) = curve_text curve
-named_curve_text (named.Unsupported identifier) = codes "Unsupported(OID: " ++ dotted (lent_arcs identifier) ++ codes ")"
+named_curve_text (named.Unsupported identifier) =
+    codes "Unsupported(OID: " ++ dotted (lent_arcs identifier) ++ codes ")"

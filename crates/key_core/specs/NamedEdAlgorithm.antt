@@ -17,7 +17,9 @@ named_ed_identifier (named.Unsupported oid) = identifier_contents oid.now
 -- the algorithm that an identifier names, where it is known, else the identifier
 abbrev pub IsNamedEd : ObjectIdentifier → NamedEdAlgorithm → Type 0
 IsNamedEd oid (named.Known algorithm) = ed_identifier algorithm ≡ identifier_contents oid
-IsNamedEd oid (named.Unsupported lent) = (lent.now ≡ oid) × ((algorithm : EdAlgorithm) → ed_identifier algorithm ≢ identifier_contents oid)
+IsNamedEd oid (named.Unsupported lent) =
+    (lent.now ≡ oid)
+    × ((algorithm : EdAlgorithm) → ed_identifier algorithm ≢ identifier_contents oid)
 
 -- how an algorithm that isn't known prints: two by their names, any other by its identifier
 abbrev pub unknown_ed_text : ObjectIdentifier → List ℕ

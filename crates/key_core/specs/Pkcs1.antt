@@ -28,14 +28,16 @@ pub record IsPkcs1Key (octets : List ℕ) (info : SubjectPublicKeyInfo) : Type 0
 
 -- the octets are the encoding of the RSAPublicKey of the key, which is one of RSA
 abbrev pub IsPkcs1Of : SubjectKey → List ℕ → Type 0
-IsPkcs1Of (keys.Rsa key) octets = (octets ≡ encoding (rsa_public_key key)) × IsDer (rsa_public_key key)
+IsPkcs1Of (keys.Rsa key) octets =
+    (octets ≡ encoding (rsa_public_key key)) × IsDer (rsa_public_key key)
 IsPkcs1Of (keys.Ec bits) octets = ⊥
 IsPkcs1Of (keys.Ed bits) octets = ⊥
 IsPkcs1Of (keys.Mldsa bits) octets = ⊥
 
 -- why a key has no such octets: it can't be written, or is of another kind
 abbrev pub RefusesPkcs1 : SubjectKey → KeyError → Type 0
-RefusesPkcs1 (keys.Rsa key) e = IsUnwrittenKey elements.RsaPublicKey (RefusesInner (rsa_public_key key ∷ [])) e
+RefusesPkcs1 (keys.Rsa key) e =
+    IsUnwrittenKey elements.RsaPublicKey (RefusesInner (rsa_public_key key ∷ [])) e
 RefusesPkcs1 (keys.Ec bits) e = e ≡ errors.Rsa contexts.NotRsa
 RefusesPkcs1 (keys.Ed bits) e = e ≡ errors.Rsa contexts.NotRsa
 RefusesPkcs1 (keys.Mldsa bits) e = e ≡ errors.Rsa contexts.NotRsa

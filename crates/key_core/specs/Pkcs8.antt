@@ -24,17 +24,21 @@ use Rattle.key_core.specs.declared.private_key_info.PrivateKeyInfo.{PrivateKeyIn
 use Rattle.key_core.specs.declared.private_key_value.PrivateKeyValue.{PrivateKeyValue}
 use Rattle.key_core.specs.declared.private_key_value.PrivateKeyValue.TheVariants as values
 
--- A key of 25519 or 448 is kept as it was read; its public key is never the one that stands beside it.
-pub record IsKeptEd (derives : Derivation) (secret : List ℕ) (info : PrivateKeyInfo) (key : PrivateKey) : Type 0 where
+-- A key of 25519 or 448 is kept as it was read; its public key is never the one that stands beside
+-- it.
+pub record IsKeptEd (derives : Derivation) (secret : List ℕ) (info : PrivateKeyInfo)
+    (key : PrivateKey) : Type 0 where
   pub as_read : key.info ≡ info
   pub known : Option EdAlgorithm
   pub named : IsEdOf (identifier_contents (oid_of info.private_key_algorithm)) known
   pub derived : IsEdKeyOf derives known secret key.public_key
 
 -- A key of an elliptic curve is written anew, on the curve that the parameters name.
-pub record IsKeptEc (derives : Derivation) (read : ECPrivateKey) (info : PrivateKeyInfo) (key : PrivateKey) : Type 0 where
+pub record IsKeptEc (derives : Derivation) (read : ECPrivateKey) (info : PrivateKeyInfo)
+    (key : PrivateKey) : Type 0 where
   pub curve : ObjectIdentifier
-  pub parameters : kept_option (parameters_of info.private_key_algorithm) ≡ Some (object_identifier curve)
+  pub parameters : kept_option (parameters_of info.private_key_algorithm)
+      ≡ Some (object_identifier curve)
   pub is : IsCurveKey derives curve read key
 
 -- the key that is kept of a container with this private key; one of RSA is kept as it was read
@@ -47,21 +51,30 @@ IsKeptKey derives (values.Ed secret) info key = IsKeptEd derives secret info key
 abbrev pub KeepsItself : Derivation → PrivateKey → Type 0
 KeepsItself derives key = IsKeptKey derives key.info.private_key key.info key
 
--- why a container with a key of an elliptic curve isn't kept: the parameters name no curve, or there is no key on it
+-- why a container with a key of an elliptic curve isn't kept: the parameters name no curve, or
+-- there is no key on it
 abbrev pub RefusesEcInfo : Derivation → ECPrivateKey → Option DerElement → KeyContext → Type 0
 RefusesEcInfo derives read parameters context =
-    ((context ≡ contexts.CurveParameters) × ((curve : ObjectIdentifier) → parameters ≢ Some (object_identifier curve)))
-    ⊎ ((curve : ObjectIdentifier) × (parameters ≡ Some (object_identifier curve)) × RefusesCurveKey derives curve read context)
+    ((context ≡ contexts.CurveParameters)
+    × ((curve : ObjectIdentifier) → parameters ≢ Some (object_identifier curve)))
+    ⊎ ((curve : ObjectIdentifier) × (parameters ≡ Some (object_identifier curve))
+    × RefusesCurveKey derives curve read context)
 
--- why a container with a key of 25519 or 448 isn't kept: the algorithm is known, and there is no public key for the secret
+-- why a container with a key of 25519 or 448 isn't kept: the algorithm is known, and there is no
+-- public key for the secret
 abbrev pub RefusesEdInfo : Derivation → List ℕ → List ℕ → KeyContext → Type 0
-RefusesEdInfo derives secret oid context = (known : Option EdAlgorithm) × IsEdOf oid known × RefusesEdKey derives known secret context
+RefusesEdInfo derives secret oid context =
+    (known : Option EdAlgorithm) × IsEdOf oid known × RefusesEdKey derives known secret context
 
 -- why a container isn't kept
 abbrev pub RefusesKept : Derivation → PrivateKeyValue → PrivateKeyInfo → KeyError → Type 0
 RefusesKept derives (values.Rsa rsa) info e = e ≡ errors.Memory
-RefusesKept derives (values.Ec read) info e = IsEcRefusal (RefusesEcInfo derives read (kept_option (parameters_of info.private_key_algorithm))) e
-RefusesKept derives (values.Ed secret) info e = IsEdRefusal (RefusesEdInfo derives secret (identifier_contents (oid_of info.private_key_algorithm))) e
+RefusesKept derives (values.Ec read) info e =
+    IsEcRefusal
+    (RefusesEcInfo derives read (kept_option (parameters_of info.private_key_algorithm))) e
+RefusesKept derives (values.Ed secret) info e =
+    IsEdRefusal
+    (RefusesEdInfo derives secret (identifier_contents (oid_of info.private_key_algorithm))) e
 
 -- A key by the encoding of its PrivateKeyInfo.
 pub record IsPkcs8Key (derives : Derivation) (octets : List ℕ) (key : PrivateKey) : Type 0 where
@@ -73,4 +86,5 @@ pub record IsPkcs8Key (derives : Derivation) (octets : List ℕ) (key : PrivateK
 abbrev pub RefusesPkcs8 : Derivation → List ℕ → KeyError → Type 0
 RefusesPkcs8 derives octets e =
     IsUnreadKey elements.PrivateKeyInfo (RefusesOctets IsPrivateKeyInfo octets) e
-    ⊎ ((info : PrivateKeyInfo) × IsWithin IsPrivateKeyInfo octets info × RefusesKept derives info.private_key info e)
+    ⊎ ((info : PrivateKeyInfo) × IsWithin IsPrivateKeyInfo octets info
+    × RefusesKept derives info.private_key info e)

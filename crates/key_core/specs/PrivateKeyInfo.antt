@@ -12,7 +12,8 @@ use Rattle.key_core.specs.PrivateKeyValue.{private_key}
 use Rattle.key_core.specs.PrivateKeyFields.{private_key_info_of}
 use Rattle.key_core.specs.declared.private_key_info.PrivateKeyInfo.{PrivateKeyInfo}
 
--- The private key stands in its octets as an element of its own, and the public key as the contents octets of a BIT STRING.
+-- The private key stands in its octets as an element of its own, and the public key as the contents
+-- octets of a BIT STRING.
 abbrev pub private_key_info : PrivateKeyInfo → DerElement
 private_key_info info =
     private_key_info_of

@@ -17,7 +17,8 @@ private_kind (values.Rsa key) = kinds.Rsa
 private_kind (values.Ec key) = kinds.Ec
 private_kind (values.Ed octets) = kinds.Ed
 
--- An RSAPrivateKey (RFC 8017 A.1.2), an ECPrivateKey (RFC 5915 3), or a CurvePrivateKey ::= OCTET STRING (RFC 8410 7).
+-- An RSAPrivateKey (RFC 8017 A.1.2), an ECPrivateKey (RFC 5915 3), or a CurvePrivateKey ::= OCTET
+-- STRING (RFC 8410 7).
 abbrev pub private_key : PrivateKeyValue → DerElement
 private_key (values.Rsa key) = rsa_private_key key
 private_key (values.Ec key) = ec_private_key key

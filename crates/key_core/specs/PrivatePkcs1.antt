@@ -22,7 +22,8 @@ use Rattle.key_core.specs.declared.private_key_value.PrivateKeyValue.TheVariants
 use Rattle.key_core.specs.declared.private_key_version.PrivateKeyVersion.TheVariants as versions
 use Rattle.key_core.specs.declared.private_key.PrivateKey.{PrivateKey}
 
--- The container of a key of RSA (RFC 3279 2.3.1): the parameters are NULL, and nothing stands beside the key.
+-- The container of a key of RSA (RFC 3279 2.3.1): the parameters are NULL, and nothing stands
+-- beside the key.
 pub record IsRsaContainer (key : RsaPrivateKey) (info : PrivateKeyInfo) : Type 0 where
   pub version : info.version ≡ versions.V1
   pub identifier : identifier_contents (oid_of info.private_key_algorithm) ≡ RSA_ENCRYPTION.now
@@ -44,12 +45,14 @@ pub record IsPrivatePkcs1 (octets : List ℕ) (key : PrivateKey) : Type 0 where
 
 -- the octets are the encoding of the RSAPrivateKey of the key, which is one of RSA
 abbrev pub IsPkcs1OfPrivate : PrivateKeyValue → List ℕ → Type 0
-IsPkcs1OfPrivate (values.Rsa key) octets = (octets ≡ encoding (rsa_private_key key)) × IsDer (rsa_private_key key)
+IsPkcs1OfPrivate (values.Rsa key) octets =
+    (octets ≡ encoding (rsa_private_key key)) × IsDer (rsa_private_key key)
 IsPkcs1OfPrivate (values.Ec key) octets = ⊥
 IsPkcs1OfPrivate (values.Ed secret) octets = ⊥
 
 -- why a private key has no such octets: it can't be written, or is of another kind
 abbrev pub RefusesPrivatePkcs1 : PrivateKeyValue → KeyError → Type 0
-RefusesPrivatePkcs1 (values.Rsa key) e = IsUnwrittenKey elements.RsaPrivateKey (RefusesInner (rsa_private_key key ∷ [])) e
+RefusesPrivatePkcs1 (values.Rsa key) e =
+    IsUnwrittenKey elements.RsaPrivateKey (RefusesInner (rsa_private_key key ∷ [])) e
 RefusesPrivatePkcs1 (values.Ec key) e = e ≡ errors.Rsa contexts.NotRsa
 RefusesPrivatePkcs1 (values.Ed secret) e = e ≡ errors.Rsa contexts.NotRsa

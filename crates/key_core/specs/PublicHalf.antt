@@ -20,19 +20,25 @@ use Rattle.key_core.specs.declared.private_key_value.PrivateKeyValue.TheVariants
 abbrev pub public_numbers : RsaPrivateKey → RsaPublicKey
 public_numbers key = record { modulus = key.n; public_exponent = key.e }
 
--- The public key of RSA is part of the private one. That of a curve is what is kept beside the container: of an elliptic curve with the
--- same algorithm, of a curve 25519 or 448 with its identifier, without parameters (RFC 8410 3).
-abbrev pub IsPublicHalf : PrivateKeyValue → AlgorithmIdentifier → Option BitString → SubjectPublicKeyInfo → Type 0
+-- The public key of RSA is part of the private one. That of a curve is what is kept beside the
+-- container: of an elliptic curve with the same algorithm, of a curve 25519 or 448 with its
+-- identifier, without parameters (RFC 8410 3).
+abbrev pub IsPublicHalf : PrivateKeyValue → AlgorithmIdentifier → Option BitString
+    → SubjectPublicKeyInfo → Type 0
 IsPublicHalf (values.Rsa key) algorithm public_key info = IsRsaInfo (public_numbers key) info
-IsPublicHalf (values.Ec key) algorithm public_key info = (info.algorithm ≡ algorithm) × (option_map keys.Ec public_key ≡ Some info.subject_public_key)
+IsPublicHalf (values.Ec key) algorithm public_key info =
+    (info.algorithm ≡ algorithm) × (option_map keys.Ec public_key ≡ Some info.subject_public_key)
 IsPublicHalf (values.Ed secret) algorithm public_key info =
-    (oid_of info.algorithm ≡ oid_of algorithm) × (parameters_of info.algorithm ≡ None) × (option_map keys.Ed public_key ≡ Some info.subject_public_key)
+    (oid_of info.algorithm ≡ oid_of algorithm) × (parameters_of info.algorithm ≡ None)
+    × (option_map keys.Ed public_key ≡ Some info.subject_public_key)
 
 -- why there is none: none is kept
 abbrev pub RefusesPublicHalf : PrivateKeyValue → Option BitString → KeyError → Type 0
 RefusesPublicHalf (values.Rsa key) public_key e = e ≡ errors.Memory
-RefusesPublicHalf (values.Ec key) public_key e = IsEcRefusal (λ context. (context ≡ contexts.PublicKeyMissing) × (public_key ≡ None)) e
-RefusesPublicHalf (values.Ed secret) public_key e = IsEdRefusal (λ context. (context ≡ contexts.PublicKeyMissing) × (public_key ≡ None)) e
+RefusesPublicHalf (values.Ec key) public_key e =
+    IsEcRefusal (λ context. (context ≡ contexts.PublicKeyMissing) × (public_key ≡ None)) e
+RefusesPublicHalf (values.Ed secret) public_key e =
+    IsEdRefusal (λ context. (context ≡ contexts.PublicKeyMissing) × (public_key ≡ None)) e
 
 -- what is told where there is none, of a key of RSA nothing
 abbrev pub IsMissingHalf : PrivateKeyValue → KeyError → Type 0

@@ -16,8 +16,8 @@ rsa_alg SHA2_256 = algs.RsaSha256
 rsa_alg SHA2_384 = algs.RsaSha384
 rsa_alg SHA2_512 = algs.RsaSha512
 
--- The curve whose keys sign a digest, where there is one: the digest is no longer than an element of the field, and has its strength
--- (RFC 5480 4, RFC 5656 6.2.1).
+-- The curve whose keys sign a digest, where there is one: the digest is no longer than an element
+-- of the field, and has its strength (RFC 5480 4, RFC 5656 6.2.1).
 abbrev pub curve_for : HashAlgorithm → Option EcCurve
 curve_for MD5 = None
 curve_for SHA1 = None

@@ -17,7 +17,8 @@ use Rattle.key_core.specs.declared.signature_error.SignatureError.{SignatureErro
 use Rattle.key_core.specs.declared.signature_error.SignatureError.TheVariants as errors
 use Rattle.key_core.specs.declared.signature_error.Unsupported.TheVariants as unsupported
 
--- the contents octets of the identifier, where there is one here (RFC 8017 A.2.4, RFC 5758 3.2, RFC 8410 3)
+-- the contents octets of the identifier, where there is one here (RFC 8017 A.2.4, RFC 5758 3.2, RFC
+-- 8410 3)
 abbrev pub signature_identifier : SignatureAlgorithm → Option (List ℕ)
 signature_identifier (RsaPkcs1v15 MD5) = Some octets.MD5_WITH_RSA_ENCRYPTION.now
 signature_identifier (RsaPkcs1v15 SHA1) = Some octets.SHA1_WITH_RSA_ENCRYPTION.now
@@ -47,10 +48,12 @@ signature_hash Ed25519 = SHA2_512
 
 -- The identifier is that of the algorithm, whatever stands beside it.
 abbrev pub NamesSignature : AlgorithmIdentifier → SignatureAlgorithm → Type 0
-NamesSignature id algorithm = signature_identifier algorithm ≡ Some (identifier_contents (oid_of id))
+NamesSignature id algorithm =
+    signature_identifier algorithm ≡ Some (identifier_contents (oid_of id))
 
 -- An algorithm as it is written.
-pub record IsWrittenAlgorithm (algorithm : SignatureAlgorithm) (id : AlgorithmIdentifier) : Type 0 where
+pub record IsWrittenAlgorithm (algorithm : SignatureAlgorithm)
+    (id : AlgorithmIdentifier) : Type 0 where
   pub identifier : NamesSignature id algorithm
   pub parameters : kept_option (parameters_of id) ≡ signature_parameters algorithm
 
@@ -58,8 +61,11 @@ pub record IsWrittenAlgorithm (algorithm : SignatureAlgorithm) (id : AlgorithmId
 abbrev pub IsUnnamed : AlgorithmIdentifier → SignatureError → Type 0
 IsUnnamed id e =
     ((algorithm : SignatureAlgorithm) → NamesSignature id algorithm → ⊥)
-    × OrMemory errors.Memory (λ told. told ≡ errors.UnsupportedAlgorithm (unsupported.Oid (oid_of id))) e
+    × OrMemory errors.Memory
+    (λ told. told ≡ errors.UnsupportedAlgorithm (unsupported.Oid (oid_of id))) e
 
 -- why an algorithm isn't written: it has no identifier
 abbrev pub IsUnwritable : SignatureAlgorithm → SignatureError → Type 0
-IsUnwritable algorithm = OrMemory errors.Memory (λ e. (signature_identifier algorithm ≡ None) × (e ≡ errors.Ec contexts.HashNotSupported))
+IsUnwritable algorithm =
+    OrMemory errors.Memory
+    (λ e. (signature_identifier algorithm ≡ None) × (e ≡ errors.Ec contexts.HashNotSupported))

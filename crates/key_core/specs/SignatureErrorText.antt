@@ -27,20 +27,25 @@ sig_context_text contexts.NotForSigning = codes "the key isn't one for signature
 abbrev pub unsupported_text : Unsupported → List ℕ
 unsupported_text (unsupported.Oid oid) = dotted (arcs_of oid)
 unsupported_text (unsupported.Hash hash) = digest_name hash
-unsupported_text (unsupported.Pairing curve hash) = curve_text curve ++ codes " with " ++ digest_name hash
+unsupported_text (unsupported.Pairing curve hash) =
+    curve_text curve ++ codes " with " ++ digest_name hash
 
--- What is told of a signature that isn't made or accepted. Of a key that can't be written no contract says what is told.
+-- What is told of a signature that isn't made or accepted. Of a key that can't be written no
+-- contract says what is told.
 abbrev pub signature_error_text : SignatureError → Option (List ℕ)
-signature_error_text (errors.Key source) = option_map (λ text. codes "Key error: " ++ text) (key_error_text source)
+signature_error_text (errors.Key source) =
+    option_map (λ text. codes "Key error: " ++ text) (key_error_text source)
 signature_error_text (errors.Rsa context) = Some (codes "RSA error: " ++ sig_context_text context)
 signature_error_text (errors.Ec context) = Some (codes "EC error: " ++ sig_context_text context)
 signature_error_text (errors.Ed context) = Some (codes "ED error: " ++ sig_context_text context)
 signature_error_text errors.BadSignature = Some (codes "invalid signature")
-signature_error_text (errors.UnsupportedAlgorithm algorithm) = Some (codes "unsupported algorithm: " ++ unsupported_text algorithm)
+signature_error_text (errors.UnsupportedAlgorithm algorithm) =
+    Some (codes "unsupported algorithm: " ++ unsupported_text algorithm)
 signature_error_text errors.Memory = Some (codes "out of memory")
 
 -- what is told of a key that has no identifier, but for an element that can't be written
 abbrev pub key_id_error_text : KeyIdGenError → Option (List ℕ)
-key_id_error_text (id_errors.InvalidKey source) = option_map (λ text. codes "invalid key: " ++ text) (key_error_text source)
+key_id_error_text (id_errors.InvalidKey source) =
+    option_map (λ text. codes "invalid key: " ++ text) (key_error_text source)
 key_id_error_text (id_errors.Asn1Serialization element source) = None
 key_id_error_text id_errors.Memory = Some (codes "out of memory")

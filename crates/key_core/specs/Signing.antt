@@ -46,9 +46,11 @@ HasCurveOf key curve = NamesCurve key.info.private_key_algorithm curve
 
 -- the algorithm of the private key has the identifier of this one on the curve 25519 (RFC 8410 3)
 abbrev pub HasEdOf : PrivateKey → EdAlgorithm → Type 0
-HasEdOf key algorithm = identifier_contents (oid_of key.info.private_key_algorithm) ≡ ed_identifier algorithm
+HasEdOf key algorithm =
+    identifier_contents (oid_of key.info.private_key_algorithm) ≡ ed_identifier algorithm
 
--- The octets are the number of a key on this curve, as many as an element of its field has (SEC 1 3.2.1).
+-- The octets are the number of a key on this curve, as many as an element of its field has (SEC 1
+-- 3.2.1).
 pub record IsSecretOn (curve : EcCurve) (key : PrivateKey) (secret : List ℕ) : Type 0 where
   pub ec : ECPrivateKey
   pub is : key.info.private_key ≡ values.Ec ec
@@ -56,7 +58,8 @@ pub record IsSecretOn (curve : EcCurve) (key : PrivateKey) (secret : List ℕ) :
   pub octets : secret ≡ ec.private_key
   pub size : length secret ≡ field_size curve
 
--- The octets are the secret of a key of Ed25519: it has 32, and so has the public key (RFC 8032 5.1.5).
+-- The octets are the secret of a key of Ed25519: it has 32, and so has the public key (RFC 8032
+-- 5.1.5).
 pub record IsEd25519Secret (key : PrivateKey) (secret : List ℕ) : Type 0 where
   pub is : key.info.private_key ≡ values.Ed secret
   pub of : HasEdOf key ed.Ed25519
@@ -67,15 +70,19 @@ pub record IsEd25519Secret (key : PrivateKey) (secret : List ℕ) : Type 0 where
 
 -- The private key is one for the algorithm, which a scheme knows by this name, with this secret.
 abbrev pub FitsSecret : SignatureAlgorithm → PrivateKey → SigAlg → List ℕ → Type 0
-FitsSecret (RsaPkcs1v15 hash) key alg secret = (alg ≡ rsa_alg hash) × IsPkcs1OfPrivate key.info.private_key secret
-FitsSecret (Ecdsa hash) key alg secret = (curve : EcCurve) × (curve_for hash ≡ Some curve) × (alg ≡ ecdsa_alg curve) × IsSecretOn curve key secret
+FitsSecret (RsaPkcs1v15 hash) key alg secret =
+    (alg ≡ rsa_alg hash) × IsPkcs1OfPrivate key.info.private_key secret
+FitsSecret (Ecdsa hash) key alg secret =
+    (curve : EcCurve) × (curve_for hash ≡ Some curve) × (alg ≡ ecdsa_alg curve)
+    × IsSecretOn curve key secret
 FitsSecret Ed25519 key alg secret = (alg ≡ algs.Ed25519) × IsEd25519Secret key secret
 
 -- Whether a scheme signs, of an algorithm, a secret and a message.
 abbrev pub Signs : Type 0
 Signs = SigAlg → List ℕ → List ℕ → Bool
 
--- Whether key bytes and a secret belong together for a scheme, of a kind, the key bytes and the secret.
+-- Whether key bytes and a secret belong together for a scheme, of a kind, the key bytes and the
+-- secret.
 abbrev pub Pair : Type 1
 Pair = SchemeKind → List ℕ → List ℕ → Type 0
 
@@ -89,8 +96,10 @@ pub record KeyArithmetic : Type 1 where
 abbrev pub arithmetic : Judge → Signs → Pair → KeyArithmetic
 arithmetic judge signs pair = record { judge = judge; signs = signs; pair = pair }
 
--- The private key is one for the algorithm, and this is whether the scheme signs the message with it.
-pub record IsAsked (signs : Signs) (algorithm : SignatureAlgorithm) (key : PrivateKey) (msg : List ℕ) (holds : Bool) : Type 0 where
+-- The private key is one for the algorithm, and this is whether the scheme signs the message with
+-- it.
+pub record IsAsked (signs : Signs) (algorithm : SignatureAlgorithm) (key : PrivateKey)
+    (msg : List ℕ) (holds : Bool) : Type 0 where
   pub alg : SigAlg
   pub secret : List ℕ
   pub fits : FitsSecret algorithm key alg secret
@@ -107,7 +116,8 @@ pub record IsRsaPair (pair : Pair) (key : PrivateKey) (info : SubjectPublicKeyIn
   pub paired : pair schemes.Rsa bytes secret
 
 -- Both keys are on this curve, and the scheme pairs them.
-pub record IsEcPair (pair : Pair) (curve : EcCurve) (key : PrivateKey) (info : SubjectPublicKeyInfo) : Type 0 where
+pub record IsEcPair (pair : Pair) (curve : EcCurve) (key : PrivateKey)
+    (info : SubjectPublicKeyInfo) : Type 0 where
   pub ec : ECPrivateKey
   pub private : key.info.private_key ≡ values.Ec ec
   pub on : HasCurveOf key curve
@@ -115,8 +125,10 @@ pub record IsEcPair (pair : Pair) (curve : EcCurve) (key : PrivateKey) (info : S
   pub public : IsPointOn curve info bytes
   pub paired : pair (curve_kind curve) bytes ec.private_key
 
--- Both keys are of this algorithm on the curve 25519, a public key of Ed25519 has 32 octets, and the scheme pairs them.
-pub record IsEdPair (pair : Pair) (algorithm : EdAlgorithm) (key : PrivateKey) (info : SubjectPublicKeyInfo) : Type 0 where
+-- Both keys are of this algorithm on the curve 25519, a public key of Ed25519 has 32 octets, and
+-- the scheme pairs them.
+pub record IsEdPair (pair : Pair) (algorithm : EdAlgorithm) (key : PrivateKey)
+    (info : SubjectPublicKeyInfo) : Type 0 where
   pub secret : List ℕ
   pub private : key.info.private_key ≡ values.Ed secret
   pub of : HasEdOf key algorithm
@@ -137,7 +149,9 @@ IsKeyPair pair key info =
 
 -- the key is not one of RSA
 abbrev pub NotRsaSecret : PrivateKey → Rule SignatureError
-NotRsaSecret key e = (private_kind key.info.private_key ≢ kinds.Rsa) × (e ≡ errors.Key (key_errors.Rsa key_contexts.NotRsa))
+NotRsaSecret key e =
+    (private_kind key.info.private_key ≢ kinds.Rsa)
+    × (e ≡ errors.Key (key_errors.Rsa key_contexts.NotRsa))
 
 -- the RSAPrivateKey of the key has no encoding
 pub record UnwritableSecret (key : PrivateKey) (e : SignatureError) : Type 0 where
@@ -149,30 +163,39 @@ pub record UnwritableSecret (key : PrivateKey) (e : SignatureError) : Type 0 whe
 
 -- the key is not one of an elliptic curve
 abbrev pub NotEcSecret : PrivateKey → Rule SignatureError
-NotEcSecret key e = (private_kind key.info.private_key ≢ kinds.Ec) × (e ≡ errors.Key (key_errors.EC key_contexts.NotEc))
+NotEcSecret key e =
+    (private_kind key.info.private_key ≢ kinds.Ec)
+    × (e ≡ errors.Key (key_errors.EC key_contexts.NotEc))
 
 -- no curve is known by the parameters of the key
 abbrev pub UnknownCurveOf : PrivateKey → Rule SignatureError
-UnknownCurveOf key e = ((curve : EcCurve) → HasCurveOf key curve → ⊥) × (e ≡ errors.Key (key_errors.EC key_contexts.UnsupportedCurve))
+UnknownCurveOf key e =
+    ((curve : EcCurve) → HasCurveOf key curve → ⊥)
+    × (e ≡ errors.Key (key_errors.EC key_contexts.UnsupportedCurve))
 
 -- keys on the curve don't sign the digest
 abbrev pub UnpairedSecret : PrivateKey → HashAlgorithm → Rule SignatureError
 UnpairedSecret key hash e =
-    (curve : EcCurve) × HasCurveOf key curve × (curve_for hash ≢ Some curve) × (e ≡ errors.UnsupportedAlgorithm (unsupported.Pairing curve hash))
+    (curve : EcCurve) × HasCurveOf key curve × (curve_for hash ≢ Some curve)
+    × (e ≡ errors.UnsupportedAlgorithm (unsupported.Pairing curve hash))
 
 -- the secret hasn't the size of the curve's field
 abbrev pub WrongSecretSize : PrivateKey → Rule SignatureError
 WrongSecretSize key e =
-    (curve : EcCurve) × (ec : ECPrivateKey) × HasCurveOf key curve × (key.info.private_key ≡ values.Ec ec) × (length ec.private_key ≢ field_size curve)
+    (curve : EcCurve) × (ec : ECPrivateKey) × HasCurveOf key curve
+    × (key.info.private_key ≡ values.Ec ec) × (length ec.private_key ≢ field_size curve)
     × (e ≡ errors.Key (key_errors.EC key_contexts.SecretSize))
 
 -- the key is not one of a curve 25519 or 448
 abbrev pub NotEdSecret : PrivateKey → Rule SignatureError
-NotEdSecret key e = (private_kind key.info.private_key ≢ kinds.Ed) × (e ≡ errors.Key (key_errors.ED key_contexts.NotEd))
+NotEdSecret key e =
+    (private_kind key.info.private_key ≢ kinds.Ed)
+    × (e ≡ errors.Key (key_errors.ED key_contexts.NotEd))
 
 -- no public key is kept beside the container
 abbrev pub NoPublicKey : PrivateKey → Rule SignatureError
-NoPublicKey key e = (key.public_key ≡ None) × (e ≡ errors.Key (key_errors.ED key_contexts.PublicKeyMissing))
+NoPublicKey key e =
+    (key.public_key ≡ None) × (e ≡ errors.Key (key_errors.ED key_contexts.PublicKeyMissing))
 
 -- the key is one of X25519, which signs nothing
 abbrev pub ForAgreementOnly : PrivateKey → Rule SignatureError
@@ -180,13 +203,16 @@ ForAgreementOnly key e = HasEdOf key ed.X25519 × (e ≡ errors.Ed contexts.NotF
 
 -- the key isn't one of Ed25519
 abbrev pub NotEd25519Secret : PrivateKey → Rule SignatureError
-NotEd25519Secret key e = (HasEdOf key ed.Ed25519 → ⊥) × (e ≡ errors.Key (key_errors.ED key_contexts.UnsupportedEd))
+NotEd25519Secret key e =
+    (HasEdOf key ed.Ed25519 → ⊥) × (e ≡ errors.Key (key_errors.ED key_contexts.UnsupportedEd))
 
 -- the public key or the secret hasn't 32 octets
 abbrev pub WrongEdSize : PrivateKey → Rule SignatureError
 WrongEdSize key e =
-    (bits : BitString) × (secret : List ℕ) × (key.public_key ≡ Some bits) × (key.info.private_key ≡ values.Ed secret)
-    × ((length (payload_of bits) ≡ 32) × (length secret ≡ 32) → ⊥) × (e ≡ errors.Ed contexts.KeySize)
+    (bits : BitString) × (secret : List ℕ) × (key.public_key ≡ Some bits)
+    × (key.info.private_key ≡ values.Ed secret)
+    × ((length (payload_of bits) ≡ 32) × (length secret ≡ 32) → ⊥)
+    × (e ≡ errors.Ed contexts.KeySize)
 
 -- what is told where the scheme doesn't sign
 abbrev pub scheme_refused : SignatureAlgorithm → SignatureError
@@ -196,14 +222,20 @@ scheme_refused Ed25519 = errors.Ed contexts.SchemeRefused
 
 -- the scheme, asked for a signature, refuses
 abbrev pub Unsigned : Signs → SignatureAlgorithm → PrivateKey → List ℕ → Rule SignatureError
-Unsigned signs algorithm key msg e = IsAsked signs algorithm key msg false × (e ≡ scheme_refused algorithm)
+Unsigned signs algorithm key msg e =
+    IsAsked signs algorithm key msg false × (e ≡ scheme_refused algorithm)
 
 -- The rules on the key, in their order.
 abbrev pub secret_rules : SignatureAlgorithm → PrivateKey → List (Rule SignatureError)
 secret_rules (RsaPkcs1v15 hash) key = NotRsaSecret key ∷ []
-secret_rules (Ecdsa hash) key = NotEcSecret key ∷ UnknownCurveOf key ∷ UnpairedSecret key hash ∷ WrongSecretSize key ∷ []
-secret_rules Ed25519 key = NotEdSecret key ∷ NoPublicKey key ∷ ForAgreementOnly key ∷ NotEd25519Secret key ∷ WrongEdSize key ∷ []
+secret_rules (Ecdsa hash) key =
+    NotEcSecret key ∷ UnknownCurveOf key ∷ UnpairedSecret key hash ∷ WrongSecretSize key ∷ []
+secret_rules Ed25519 key =
+    NotEdSecret key ∷ NoPublicKey key ∷ ForAgreementOnly key ∷ NotEd25519Secret key ∷
+    WrongEdSize key ∷ []
 
 -- The rules of signing, in their order: on the key, on its writing, on what the scheme signs.
-abbrev pub sign_rules : Signs → SignatureAlgorithm → PrivateKey → List ℕ → List (Rule SignatureError)
-sign_rules signs algorithm key msg = secret_rules algorithm key ++ UnwritableSecret key ∷ Unsigned signs algorithm key msg ∷ []
+abbrev pub sign_rules : Signs → SignatureAlgorithm → PrivateKey → List ℕ
+    → List (Rule SignatureError)
+sign_rules signs algorithm key msg =
+    secret_rules algorithm key ++ UnwritableSecret key ∷ Unsigned signs algorithm key msg ∷ []

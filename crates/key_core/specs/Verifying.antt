@@ -43,7 +43,8 @@ Judge = SigAlg → List ℕ → List ℕ → List ℕ → Verdict
 
 -- the algorithm has the identifier of this curve as its parameters (RFC 5480 2.1.1)
 abbrev pub NamesCurve : AlgorithmIdentifier → EcCurve → Type 0
-NamesCurve algorithm curve = kept_option (parameters_of algorithm) ≡ Some (Primitive 0x06 (curve_identifier curve))
+NamesCurve algorithm curve =
+    kept_option (parameters_of algorithm) ≡ Some (Primitive 0x06 (curve_identifier curve))
 
 -- the algorithm of the key names this curve
 abbrev pub IsOnCurve : SubjectPublicKeyInfo → EcCurve → Type 0
@@ -54,7 +55,8 @@ abbrev pub IsOfEd : SubjectPublicKeyInfo → EdAlgorithm → Type 0
 IsOfEd info algorithm = identifier_contents (oid_of info.algorithm) ≡ ed_identifier algorithm
 
 -- The octets are those of a point on this curve, which the key is (RFC 5480 2.2).
-pub record IsPointOn (curve : EcCurve) (info : SubjectPublicKeyInfo) (octets : List ℕ) : Type 0 where
+pub record IsPointOn (curve : EcCurve) (info : SubjectPublicKeyInfo)
+    (octets : List ℕ) : Type 0 where
   pub bits : BitString
   pub is : info.subject_public_key ≡ keys.Ec bits
   pub on : IsOnCurve info curve
@@ -70,12 +72,16 @@ pub record IsEd25519Key (info : SubjectPublicKeyInfo) (octets : List ℕ) : Type
 
 -- The key is one for the algorithm, which a scheme knows by this name, with these key bytes.
 abbrev pub FitsKey : SignatureAlgorithm → SubjectPublicKeyInfo → SigAlg → List ℕ → Type 0
-FitsKey (RsaPkcs1v15 hash) info alg bytes = (alg ≡ rsa_alg hash) × IsPkcs1Of info.subject_public_key bytes
-FitsKey (Ecdsa hash) info alg bytes = (curve : EcCurve) × (curve_for hash ≡ Some curve) × (alg ≡ ecdsa_alg curve) × IsPointOn curve info bytes
+FitsKey (RsaPkcs1v15 hash) info alg bytes =
+    (alg ≡ rsa_alg hash) × IsPkcs1Of info.subject_public_key bytes
+FitsKey (Ecdsa hash) info alg bytes =
+    (curve : EcCurve) × (curve_for hash ≡ Some curve) × (alg ≡ ecdsa_alg curve)
+    × IsPointOn curve info bytes
 FitsKey Ed25519 info alg bytes = (alg ≡ algs.Ed25519) × IsEd25519Key info bytes
 
 -- The key is one for the algorithm, and the verdict on the signature of the message is this.
-pub record IsJudged (judge : Judge) (algorithm : SignatureAlgorithm) (info : SubjectPublicKeyInfo) (msg sig : List ℕ) (verdict : Verdict) : Type 0 where
+pub record IsJudged (judge : Judge) (algorithm : SignatureAlgorithm) (info : SubjectPublicKeyInfo)
+    (msg sig : List ℕ) (verdict : Verdict) : Type 0 where
   pub alg : SigAlg
   pub bytes : List ℕ
   pub fits : FitsKey algorithm info alg bytes
@@ -90,7 +96,8 @@ Accepts judge algorithm info msg sig = IsJudged judge algorithm info msg sig ver
 -- the key is not one of RSA
 abbrev pub NotRsa : SubjectPublicKeyInfo → Rule SignatureError
 NotRsa info e =
-    (kind_of_key info.subject_public_key ≢ kinds.Rsa) × (e ≡ errors.Key (key_errors.UnsupportedAlgorithm (kind_of_key info.subject_public_key)))
+    (kind_of_key info.subject_public_key ≢ kinds.Rsa)
+    × (e ≡ errors.Key (key_errors.UnsupportedAlgorithm (kind_of_key info.subject_public_key)))
 
 -- the RSAPublicKey of the key has no encoding
 pub record Unwritable (info : SubjectPublicKeyInfo) (e : SignatureError) : Type 0 where
@@ -102,24 +109,32 @@ pub record Unwritable (info : SubjectPublicKeyInfo) (e : SignatureError) : Type 
 
 -- the key is not one of an elliptic curve
 abbrev pub NotEc : SubjectPublicKeyInfo → Rule SignatureError
-NotEc info e = (kind_of_key info.subject_public_key ≢ kinds.Ec) × (e ≡ errors.Key (key_errors.EC key_contexts.NotEc))
+NotEc info e =
+    (kind_of_key info.subject_public_key ≢ kinds.Ec)
+    × (e ≡ errors.Key (key_errors.EC key_contexts.NotEc))
 
 -- no curve is known by the parameters of the key
 abbrev pub UnknownCurve : SubjectPublicKeyInfo → Rule SignatureError
-UnknownCurve info e = ((curve : EcCurve) → IsOnCurve info curve → ⊥) × (e ≡ errors.Key (key_errors.EC key_contexts.UnsupportedCurve))
+UnknownCurve info e =
+    ((curve : EcCurve) → IsOnCurve info curve → ⊥)
+    × (e ≡ errors.Key (key_errors.EC key_contexts.UnsupportedCurve))
 
 -- keys on no curve sign the digest
 abbrev pub UnknownHash : HashAlgorithm → Rule SignatureError
-UnknownHash hash e = (curve_for hash ≡ None) × (e ≡ errors.UnsupportedAlgorithm (unsupported.Hash hash))
+UnknownHash hash e =
+    (curve_for hash ≡ None) × (e ≡ errors.UnsupportedAlgorithm (unsupported.Hash hash))
 
 -- keys on the curve don't sign the digest
 abbrev pub Unpaired : SubjectPublicKeyInfo → HashAlgorithm → Rule SignatureError
 Unpaired info hash e =
-    (curve : EcCurve) × IsOnCurve info curve × (curve_for hash ≢ Some curve) × (e ≡ errors.UnsupportedAlgorithm (unsupported.Pairing curve hash))
+    (curve : EcCurve) × IsOnCurve info curve × (curve_for hash ≢ Some curve)
+    × (e ≡ errors.UnsupportedAlgorithm (unsupported.Pairing curve hash))
 
 -- the key is not one of a curve 25519 or 448
 abbrev pub NotEd : SubjectPublicKeyInfo → Rule SignatureError
-NotEd info e = (kind_of_key info.subject_public_key ≢ kinds.Ed) × (e ≡ errors.Key (key_errors.ED key_contexts.NotEd))
+NotEd info e =
+    (kind_of_key info.subject_public_key ≢ kinds.Ed)
+    × (e ≡ errors.Key (key_errors.ED key_contexts.NotEd))
 
 -- the key is one of X25519, which verifies nothing
 abbrev pub ForAgreement : SubjectPublicKeyInfo → Rule SignatureError
@@ -127,12 +142,14 @@ ForAgreement info e = IsOfEd info ed.X25519 × (e ≡ errors.Ed contexts.NotForS
 
 -- the key isn't one of Ed25519
 abbrev pub NotEd25519 : SubjectPublicKeyInfo → Rule SignatureError
-NotEd25519 info e = (IsOfEd info ed.Ed25519 → ⊥) × (e ≡ errors.Key (key_errors.ED key_contexts.UnsupportedEd))
+NotEd25519 info e =
+    (IsOfEd info ed.Ed25519 → ⊥) × (e ≡ errors.Key (key_errors.ED key_contexts.UnsupportedEd))
 
 -- the key hasn't 32 octets
 abbrev pub WrongSize : SubjectPublicKeyInfo → Rule SignatureError
 WrongSize info e =
-    (bits : BitString) × (info.subject_public_key ≡ keys.Ed bits) × (length (payload_of bits) ≢ 32) × (e ≡ errors.Ed contexts.KeySize)
+    (bits : BitString) × (info.subject_public_key ≡ keys.Ed bits) × (length (payload_of bits) ≢ 32)
+    × (e ≡ errors.Ed contexts.KeySize)
 
 -- what is told of a signature that has no form
 abbrev pub malformed : SignatureAlgorithm → SignatureError
@@ -141,20 +158,27 @@ malformed (Ecdsa hash) = errors.Ec contexts.Malformed
 malformed Ed25519 = errors.Ed contexts.Malformed
 
 -- the scheme finds the signature malformed
-abbrev pub Malformed : Judge → SignatureAlgorithm → SubjectPublicKeyInfo → List ℕ → List ℕ → Rule SignatureError
-Malformed judge algorithm info msg sig e = IsJudged judge algorithm info msg sig verdicts.Malformed × (e ≡ malformed algorithm)
+abbrev pub Malformed : Judge → SignatureAlgorithm → SubjectPublicKeyInfo → List ℕ → List ℕ
+    → Rule SignatureError
+Malformed judge algorithm info msg sig e =
+    IsJudged judge algorithm info msg sig verdicts.Malformed × (e ≡ malformed algorithm)
 
 -- the scheme rejects the signature
-abbrev pub Rejected : Judge → SignatureAlgorithm → SubjectPublicKeyInfo → List ℕ → List ℕ → Rule SignatureError
-Rejected judge algorithm info msg sig e = IsJudged judge algorithm info msg sig verdicts.Reject × (e ≡ errors.BadSignature)
+abbrev pub Rejected : Judge → SignatureAlgorithm → SubjectPublicKeyInfo → List ℕ → List ℕ
+    → Rule SignatureError
+Rejected judge algorithm info msg sig e =
+    IsJudged judge algorithm info msg sig verdicts.Reject × (e ≡ errors.BadSignature)
 
 -- The rules on the key, in their order.
 abbrev pub key_rules : SignatureAlgorithm → SubjectPublicKeyInfo → List (Rule SignatureError)
 key_rules (RsaPkcs1v15 hash) info = NotRsa info ∷ []
-key_rules (Ecdsa hash) info = NotEc info ∷ UnknownCurve info ∷ UnknownHash hash ∷ Unpaired info hash ∷ []
+key_rules (Ecdsa hash) info =
+    NotEc info ∷ UnknownCurve info ∷ UnknownHash hash ∷ Unpaired info hash ∷ []
 key_rules Ed25519 info = NotEd info ∷ ForAgreement info ∷ NotEd25519 info ∷ WrongSize info ∷ []
 
 -- The rules of a verification, in their order: on the key, on its writing, on the signature.
-abbrev pub verify_rules : Judge → SignatureAlgorithm → SubjectPublicKeyInfo → List ℕ → List ℕ → List (Rule SignatureError)
+abbrev pub verify_rules : Judge → SignatureAlgorithm → SubjectPublicKeyInfo → List ℕ → List ℕ
+    → List (Rule SignatureError)
 verify_rules judge algorithm info msg sig =
-    key_rules algorithm info ++ Unwritable info ∷ Malformed judge algorithm info msg sig ∷ Rejected judge algorithm info msg sig ∷ []
+    key_rules algorithm info ++ Unwritable info ∷ Malformed judge algorithm info msg sig ∷
+    Rejected judge algorithm info msg sig ∷ []

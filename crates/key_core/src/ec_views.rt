@@ -70,7 +70,8 @@ impl<'a> EcdsaPublicKey<'a> {
 /// The identifier that parameters of a key of an elliptic curve are.
 fn curve_of<'a>(algorithm: &'a AlgorithmIdentifier) -> LentIdentifier<'a>
     requires { MayHave kinds.Ec (kept_option (parameters_of algorithm.now)) }
-    ensures { kept_option (parameters_of algorithm.now) ≡ Some (Primitive 0x06 (lent_contents result)) }
+    ensures { kept_option (parameters_of algorithm.now)
+        ≡ Some (Primitive 0x06 (lent_contents result)) }
 {
     match curve_octets(algorithm) {
         Some(octets) => identifier_of(octets),

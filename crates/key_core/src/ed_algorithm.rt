@@ -25,7 +25,8 @@ impl EdAlgorithm {
 
     /// The algorithm that an identifier names, by its contents octets, if it names one.
     pub fn named(oid: &[u8]) -> Option<EdAlgorithm>
-        ensures named { (algorithm : EdAlgorithm) → ed_identifier algorithm ≡ oid.now → result ≡ Some algorithm }
+        ensures named { (algorithm : EdAlgorithm) → ed_identifier algorithm ≡ oid.now
+            → result ≡ Some algorithm }
         ensures name { IfSome result (λ algorithm. ed_identifier algorithm ≡ oid.now) }
     {
         for algorithm in EdAlgorithm::ALL {

@@ -12,8 +12,10 @@ use key_types::{AlgorithmIdentifier, KeyKind};
 /// The kind of keys that the algorithm names that lies in octets.
 pub(crate) fn kind_at(elem: Elem<'_>) -> Option<KeyKind>
     ensures { MatchOption result
-        ((kind : KeyKind) (algorithm : AlgorithmIdentifier) → elem.entry.is.0 ≡ algorithm_identifier algorithm → Names algorithm kind → ⊥)
-        (λ kind. (algorithm : AlgorithmIdentifier) × (elem.entry.is.0 ≡ algorithm_identifier algorithm) × Names algorithm kind) }
+        ((kind : KeyKind) (algorithm : AlgorithmIdentifier)
+        → elem.entry.is.0 ≡ algorithm_identifier algorithm → Names algorithm kind → ⊥)
+        (λ kind. (algorithm : AlgorithmIdentifier)
+        × (elem.entry.is.0 ≡ algorithm_identifier algorithm) × Names algorithm kind) }
 {
     if !AlgorithmIdentifier::has_shape(elem) {
         return None;

@@ -38,8 +38,8 @@ pub enum KeyIdGenMethod {
 /// Why a key has no identifier.
 #[derive(Clone, Copy, Debug, PartialEq, Eq, Error)]
 pub enum KeyIdGenError {
-    /// The key can't be written, or the digest has fewer octets than the identifier. Never with want of
-    /// memory.
+    /// The key can't be written, or the digest has fewer octets than the identifier. Never with
+    /// want of memory.
     InvalidKey { source: KeyError },
     /// What the bits of the key hold can't be written. Never with want of memory.
     Asn1Serialization { element: Element, source: DerError },
@@ -60,10 +60,12 @@ impl KeyIdGenMethod {
         ensures answer { MatchResult result
             (λ id. IsKeyIdentifier self public_key.now.info id.items)
             (RefusesKeyIdentifier self public_key.now.info) }
-        ensures sized { IfOk result (λ id. (hash : HashAlgorithm) → self ≡ methods.SPKValueHashedLeftmost160 hash → vec_len id ≡ 20) }
+        ensures sized { IfOk result (λ id. (hash : HashAlgorithm)
+            → self ≡ methods.SPKValueHashedLeftmost160 hash → vec_len id ≡ 20) }
         // MD5 is refused for the bits, whatever memory there is.
         ensures refused { self ≡ methods.SPKValueHashedLeftmost160 MD5
-            → result ≡ Err (errors.InvalidKey (key_errors.UnsupportedAlgorithm (kind_of_key public_key.now.info.subject_public_key))) }
+            → result ≡ Err (errors.InvalidKey (key_errors.UnsupportedAlgorithm
+            (kind_of_key public_key.now.info.subject_public_key))) }
     {
         match self {
             KeyIdGenMethod::SPKFullDER(hash) => {
@@ -82,11 +84,13 @@ fn leftmost160(
     public_key: &PublicKey,
 ) -> Result<Vec<u8>, KeyIdGenError>
     ensures answer { MatchResult result
-        (λ id. IsKeyIdentifier (methods.SPKValueHashedLeftmost160 hash) public_key.now.info id.items)
+        (λ id. IsKeyIdentifier (methods.SPKValueHashedLeftmost160 hash) public_key.now.info
+        id.items)
         (RefusesKeyIdentifier (methods.SPKValueHashedLeftmost160 hash) public_key.now.info) }
     ensures sized { IfOk result (λ id. vec_len id ≡ 20) }
     ensures refused { hash ≡ MD5
-        → result ≡ Err (errors.InvalidKey (key_errors.UnsupportedAlgorithm (kind_of_key public_key.now.info.subject_public_key))) }
+        → result ≡ Err (errors.InvalidKey (key_errors.UnsupportedAlgorithm
+        (kind_of_key public_key.now.info.subject_public_key))) }
 {
     if hash == HashAlgorithm::MD5 {
         return Err(KeyIdGenError::InvalidKey {
@@ -107,7 +111,8 @@ fn payload_digest(
     public_key: &PublicKey,
 ) -> Result<Vec<u8>, KeyIdGenError>
     ensures answer { MatchResult result
-        (λ digest. (octets : List ℕ) × IsPayloadOf public_key.now.info.subject_public_key octets × (digest.items ≡ digest_of hash octets))
+        (λ digest. (octets : List ℕ) × IsPayloadOf public_key.now.info.subject_public_key octets
+        × (digest.items ≡ digest_of hash octets))
         (RefusesPayload public_key.now.info.subject_public_key) }
     ensures size { IfOk result (λ digest. vec_len digest ≡ digest_size hash) }
 {

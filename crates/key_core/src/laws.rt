@@ -41,12 +41,15 @@ pub fn pkcs1_comes_back()
         → IsPrivatePkcs1 read key → IsPkcs1OfPrivate key.info.private_key written → written ≡ read }
 {}
 
-/// What `PublicKey::to_der` writes of a key is read by `from_der` as that key again, and refused for
-/// want of memory alone.
+/// What `PublicKey::to_der` writes of a key is read by `from_der` as that key again, and refused
+/// for want of memory alone.
 pub fn public_keys_come_back()
-    ensures again { (octets : List ℕ) (info again : SubjectPublicKeyInfo) → IsWholeOf info octets → IsWithin IsPublicKeyInfo octets again → again ≡ info }
+    ensures again { (octets : List ℕ) (info again : SubjectPublicKeyInfo) → IsWholeOf info octets
+        → IsWithin IsPublicKeyInfo octets again → again ≡ info }
     ensures memory { (octets : List ℕ) (info : SubjectPublicKeyInfo) (e : KeyError)
-        → IsWholeOf info octets → IsUnreadKey elements.SubjectPublicKeyInfo (RefusesOctets IsPublicKeyInfo octets) e → e ≡ errors.Memory }
+        → IsWholeOf info octets
+        → IsUnreadKey elements.SubjectPublicKeyInfo (RefusesOctets IsPublicKeyInfo octets) e
+        → e ≡ errors.Memory }
 {}
 
 /// What `PrivateKey::to_pkcs8` writes of a key that was read is read by `from_pkcs8` as that key
@@ -54,15 +57,24 @@ pub fn public_keys_come_back()
 /// secrets.
 pub fn pkcs8_comes_back()
     ensures again { (derives : Derivation) (octets : List ℕ) (key again : PrivateKey)
-        → KeepsItself derives key → octets ≡ encoding (private_key_info key.info) → IsPkcs8Key derives octets again → again ≡ key }
+        → KeepsItself derives key → octets ≡ encoding (private_key_info key.info)
+        → IsPkcs8Key derives octets again → again ≡ key }
     ensures memory { (derives : Derivation) (octets : List ℕ) (key : PrivateKey) (e : KeyError)
-        → KeepsItself derives key → octets ≡ encoding (private_key_info key.info) → IsDer (private_key_info key.info) → AreDer (inner_private_key key.info)
+        → KeepsItself derives key → octets ≡ encoding (private_key_info key.info)
+        → IsDer (private_key_info key.info) → AreDer (inner_private_key key.info)
         → RefusesPkcs8 derives octets e → e ≡ errors.Memory }
-    ensures of_pkcs8 { (derives : Derivation) (octets : List ℕ) (key : PrivateKey) → IsPkcs8Key derives octets key → KeepsItself derives key }
-    ensures of_pkcs1 { (derives : Derivation) (octets : List ℕ) (key : PrivateKey) → IsPrivatePkcs1 octets key → KeepsItself derives key }
-    ensures of_sec1 { (derives : Derivation) (octets : List ℕ) (key : PrivateKey) → IsSec1Key derives octets key → KeepsItself derives key }
-    ensures of_sec1_on { (derives : Derivation) (curve : ObjectIdentifier) (octets : List ℕ) (key : PrivateKey) → IsSec1KeyOn derives curve octets key → KeepsItself derives key }
-    ensures of_sec1_on_known { (derives : Derivation) (curve : EcCurve) (octets : List ℕ) (key : PrivateKey) → IsSec1KeyOnKnown derives curve octets key → KeepsItself derives key }
+    ensures of_pkcs8 { (derives : Derivation) (octets : List ℕ) (key : PrivateKey)
+        → IsPkcs8Key derives octets key → KeepsItself derives key }
+    ensures of_pkcs1 { (derives : Derivation) (octets : List ℕ) (key : PrivateKey)
+        → IsPrivatePkcs1 octets key → KeepsItself derives key }
+    ensures of_sec1 { (derives : Derivation) (octets : List ℕ) (key : PrivateKey)
+        → IsSec1Key derives octets key → KeepsItself derives key }
+    ensures of_sec1_on { (derives : Derivation) (curve : ObjectIdentifier) (octets : List ℕ)
+        (key : PrivateKey)
+        → IsSec1KeyOn derives curve octets key → KeepsItself derives key }
+    ensures of_sec1_on_known { (derives : Derivation) (curve : EcCurve) (octets : List ℕ)
+        (key : PrivateKey)
+        → IsSec1KeyOnKnown derives curve octets key → KeepsItself derives key }
 {}
 
 /// No two curves have one identifier, and no two algorithms on the curve 25519. So the identifier
@@ -81,12 +93,17 @@ pub fn lists_have_each_curve()
 {}
 
 /// What `PrivateKey::to_pkcs1` writes of a key of RSA is what the demonstration scheme takes for a
-/// secret of RSA, and each such secret is that of a key. The public key that the scheme derives from
-/// it is that of `to_public_key`.
+/// secret of RSA, and each such secret is that of a key. The public key that the scheme derives
+/// from it is that of `to_public_key`.
 pub fn keys_of_rsa_are_secrets()
-    ensures secret { (key : RsaPrivateKey) (octets : List ℕ) → octets ≡ encoding (rsa_private_key key) → IsDer (rsa_private_key key) → IsRsaSecret octets }
-    ensures key { (octets : List ℕ) → IsRsaSecret octets → (key : RsaPrivateKey) × (octets ≡ encoding (rsa_private_key key)) × IsDer (rsa_private_key key) }
+    ensures secret { (key : RsaPrivateKey) (octets : List ℕ)
+        → octets ≡ encoding (rsa_private_key key) → IsDer (rsa_private_key key)
+        → IsRsaSecret octets }
+    ensures key { (octets : List ℕ) → IsRsaSecret octets
+        → (key : RsaPrivateKey) × (octets ≡ encoding (rsa_private_key key))
+        × IsDer (rsa_private_key key) }
     ensures derived { (key : PrivateKey) (info : SubjectPublicKeyInfo) (secret bytes : List ℕ)
-        → IsPkcs1OfPrivate key.info.private_key secret → IsPublicHalf key.info.private_key key.info.private_key_algorithm key.public_key info
+        → IsPkcs1OfPrivate key.info.private_key secret
+        → IsPublicHalf key.info.private_key key.info.private_key_algorithm key.public_key info
         → IsPkcs1Of info.subject_public_key bytes → demo_key Rsa secret ≡ Some bytes }
 {}

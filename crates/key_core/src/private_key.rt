@@ -37,7 +37,9 @@ use std::fmt;
 pub struct PrivateKey {
     pub(crate) info: PrivateKeyInfo,
     pub(crate) public_key: Option<BitString>,
-    pub ghost curve: { HasCurve info.private_key (kept_option (parameters_of info.private_key_algorithm)) } by { HasCurve-prop info.private_key (kept_option (parameters_of info.private_key_algorithm)) },
+    pub ghost curve: { HasCurve info.private_key
+        (kept_option (parameters_of info.private_key_algorithm)) } by { HasCurve-prop info.private_key
+            (kept_option (parameters_of info.private_key_algorithm)) },
 }
 
 /// Written out, so that dropping one is a call: else each function that drops one is proved through
@@ -59,12 +61,14 @@ impl PrivateKey {
         self.info.private_key.kind()
     }
 
-    /// The encoding of the key's container, which is a PrivateKeyInfo. A key that has none is refused
-    /// as `Asn1Serialization`.
+    /// The encoding of the key's container, which is a PrivateKeyInfo. A key that has none is
+    /// refused as `Asn1Serialization`.
     pub fn to_pkcs8(&self, alloc: Global) -> Result<Vec<u8>, KeyError>
         ensures { MatchResult result
-            (λ octets. (octets.items ≡ encoding (private_key_info self.now.info)) × IsDer (private_key_info self.now.info) × AreDer (inner_private_key self.now.info))
-            (IsUnwrittenKey elements.PrivateKeyInfo (RefusesInner (inner_private_key self.now.info ++ private_key_info self.now.info ∷ []))) }
+            (λ octets. (octets.items ≡ encoding (private_key_info self.now.info))
+            × IsDer (private_key_info self.now.info) × AreDer (inner_private_key self.now.info))
+            (IsUnwrittenKey elements.PrivateKeyInfo (RefusesInner
+            (inner_private_key self.now.info ++ private_key_info self.now.info ∷ []))) }
     {
         match self.info.to_der(alloc) {
             Ok(octets) => Ok(octets),

@@ -33,8 +33,14 @@ impl<'a> PrivateKeyFields<'a> {
     /// The fields of the element.
     pub fn of(elem: Elem<'a>) -> Option<PrivateKeyFields<'a>>
         ensures { MatchOption result
-            ((v : PrivateKeyVersion) (algorithm : DerElement) (private_key : List ℕ) (attributes : Option DerElement) (public_key : Option (List ℕ)) → HaveTag attributes → elem.entry.is.0 ≢ private_key_info_of (key_version v) algorithm private_key attributes public_key)
-            (λ f. (elem.entry.is.0 ≡ private_key_info_of (key_version f.version) f.algorithm.is.0 f.private_key.now (at_option f.attributes) (option_copied f.public_key)) × HaveTag (at_option f.attributes)) }
+            ((v : PrivateKeyVersion) (algorithm : DerElement) (private_key : List ℕ)
+            (attributes : Option DerElement) (public_key : Option (List ℕ))
+            → HaveTag attributes
+            → elem.entry.is.0 ≢ private_key_info_of (key_version v) algorithm private_key
+            attributes public_key)
+            (λ f. (elem.entry.is.0 ≡ private_key_info_of (key_version f.version) f.algorithm.is.0
+            f.private_key.now (at_option f.attributes) (option_copied f.public_key))
+            × HaveTag (at_option f.attributes)) }
     {
         let mut kids = Kids::of(elem, SEQUENCE)?;
         let version = PrivateKeyVersion::at(kids.next()?)?;

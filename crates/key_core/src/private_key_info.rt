@@ -27,8 +27,8 @@ use std::alloc::{AllocError, Global};
 
 /// A private key with its algorithm, which names keys of its kind (RFC 5208 5, RFC 5958 2). What
 /// parameters the algorithm has isn't asked, and neither is what the attributes are, which are kept
-/// as an element of the tag \[0\]. The public key is what stands beside the private one; that the two
-/// belong together isn't asked. An algorithm of no known kind has no private key here: it is
+/// as an element of the tag \[0\]. The public key is what stands beside the private one; that the
+/// two belong together isn't asked. An algorithm of no known kind has no private key here: it is
 /// `Shape`, as one of ML-DSA is. It has no `Debug`, so no secret is printed by mistake.
 #[derive(Drop)]
 pub struct PrivateKeyInfo {
@@ -50,9 +50,10 @@ impl PrivateKeyInfo {
         attributes: Option<Raw>,
         public_key: Option<BitString>,
     ) -> Option<PrivateKeyInfo>
-        ensures { MatchOption result
-            (Agree private_key_algorithm private_key attributes → ⊥)
-            (λ info. (info.version ≡ version) × (info.private_key_algorithm ≡ private_key_algorithm) × (info.private_key ≡ private_key) × (info.attributes ≡ attributes) × (info.public_key ≡ public_key)) }
+        ensures { MatchOption result (Agree private_key_algorithm private_key attributes → ⊥)
+            (λ info. (info.version ≡ version) × (info.private_key_algorithm ≡ private_key_algorithm)
+            × (info.private_key ≡ private_key) × (info.attributes ≡ attributes)
+            × (info.public_key ≡ public_key)) }
     {
         let oid = private_key_algorithm.oid().as_bytes();
         if !private_key.kind().is_named(oid) || !have_tag(&attributes) {
@@ -80,8 +81,11 @@ fn have_tag(attributes: &Option<Raw>) -> bool
 
 /// Whether contents octets, where there are any, are those of a BIT STRING.
 fn has_bits(content: Option<&[u8]>) -> bool
-    ensures fits { IsTrue result → (bits : Option BitString) × (option_copied content.entry ≡ option_map bit_string_contents bits) }
-    ensures unfit { result ≡ false → (bits : Option BitString) → option_copied content.entry ≢ option_map bit_string_contents bits }
+    ensures fits { IsTrue result
+        → (bits : Option BitString)
+        × (option_copied content.entry ≡ option_map bit_string_contents bits) }
+    ensures unfit { result ≡ false → (bits : Option BitString)
+        → option_copied content.entry ≢ option_map bit_string_contents bits }
 {
     match content {
         Some(content) => BitString::is_content(content),
@@ -93,7 +97,8 @@ fn has_bits(content: Option<&[u8]>) -> bool
 fn read_bits(alloc: Global, content: Option<&[u8]>) -> Result<Option<BitString>, DerError>
     ensures { MatchResult result
         (λ bits. option_copied content.entry ≡ option_map bit_string_contents bits)
-        (RefusesShape (λ (bits : Option BitString). option_copied content.entry ≡ option_map bit_string_contents bits)) }
+        (RefusesShape (λ (bits : Option BitString). option_copied content.entry
+        ≡ option_map bit_string_contents bits)) }
 {
     match content {
         Some(content) => Ok(Some(BitString::from_content(alloc, content)?)),
@@ -118,8 +123,10 @@ fn read_key(
     octets: &[u8],
 ) -> Result<PrivateKeyValue, DerError>
     ensures { MatchResult result
-        (λ key. Names algorithm.now (private_kind key) × IsPrivateKeyOf (private_kind key) octets.now key)
-        (RefusesShape (λ (key : PrivateKeyValue). Names algorithm.now (private_kind key) × IsPrivateKeyOf (private_kind key) octets.now key)) }
+        (λ key. Names algorithm.now (private_kind key)
+        × IsPrivateKeyOf (private_kind key) octets.now key)
+        (RefusesShape (λ (key : PrivateKeyValue). Names algorithm.now (private_kind key)
+        × IsPrivateKeyOf (private_kind key) octets.now key)) }
 {
     match KeyKind::named(algorithm.oid().as_bytes()) {
         Some(kind) => PrivateKeyValue::read(alloc, kind, octets),
@@ -130,7 +137,8 @@ fn read_key(
 /// The octets of the key, as an element.
 fn write_key(alloc: Global, key: &PrivateKeyValue) -> Result<Tree, DerError>
     ensures { MatchResult result
-        (λ tree. (tree ≡ octet_string (encoding (private_key key.now))) × IsWellFormed tree × IsDer (private_key key.now))
+        (λ tree. (tree ≡ octet_string (encoding (private_key key.now))) × IsWellFormed tree
+        × IsDer (private_key key.now))
         (RefusesInner (private_key key.now ∷ [])) }
 {
     Ok(Tree::leaf(OCTET_STRING, key.write(alloc)?))
@@ -139,7 +147,8 @@ fn write_key(alloc: Global, key: &PrivateKeyValue) -> Result<Tree, DerError>
 /// Appends the octets of the key, as an element.
 fn push_key(alloc: Global, kids: &mut NewKids, key: &PrivateKeyValue) -> Result<(), DerError>
     ensures { MatchResult result
-        (λ _. (kids.new.kids ≡ kids.old.kids ++ octet_string (encoding (private_key key.now)) ∷ []) × IsDer (private_key key.now))
+        (λ _. (kids.new.kids ≡ kids.old.kids ++ octet_string (encoding (private_key key.now)) ∷ [])
+        × IsDer (private_key key.now))
         (RefusesInner (private_key key.now ∷ [])) }
 {
     Ok(kids.push(write_key(alloc, key)?)?)
@@ -167,7 +176,8 @@ fn push_public_key(
     kids: &mut NewKids,
     public_key: &Option<BitString>,
 ) -> Result<(), AllocError>
-    ensures { IfOk result (λ _. kids.new.kids ≡ kids.old.kids ++ optional_leaf 0x81 (option_map bit_string_contents public_key.now)) }
+    ensures { IfOk result (λ _. kids.new.kids ≡ kids.old.kids
+        ++ optional_leaf 0x81 (option_map bit_string_contents public_key.now)) }
 {
     match public_key {
         Some(public_key) => kids.push(Tree::leaf(PUBLIC_KEY, public_key.to_content(alloc)?)),
@@ -237,8 +247,8 @@ impl Structure for PrivateKeyInfo {
     ghost grammar = { private_key_infos };
 }
 
-/// Keys with their algorithms are equal exactly where their octets are. How long this takes tells of
-/// the keys.
+/// Keys with their algorithms are equal exactly where their octets are. How long this takes tells
+/// of the keys.
 impl PartialEq for PrivateKeyInfo {
     ghost use Rattle.der_core.specs.Equality.{same_octets};
     ghost use Rattle.der_core.specs.Facts.Equality.{same_octets_per};

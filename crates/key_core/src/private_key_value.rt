@@ -46,8 +46,10 @@ impl PrivateKeyValue {
 
     /// Whether octets are those of a key of the kind.
     pub(crate) fn is_of(kind: KeyKind, octets: &[u8]) -> bool
-        ensures fits { IsTrue result → (key : PrivateKeyValue) × IsPrivateKeyOf kind octets.now key }
-        ensures unfit { result ≡ false → (key : PrivateKeyValue) → IsPrivateKeyOf kind octets.now key → ⊥ }
+        ensures fits { IsTrue result
+            → (key : PrivateKeyValue) × IsPrivateKeyOf kind octets.now key }
+        ensures unfit { result ≡ false → (key : PrivateKeyValue)
+            → IsPrivateKeyOf kind octets.now key → ⊥ }
     {
         match kind {
             KeyKind::Rsa => has_within::<RsaPrivateKey>(octets),
@@ -63,7 +65,8 @@ impl PrivateKeyValue {
         kind: KeyKind,
         octets: &[u8],
     ) -> Result<PrivateKeyValue, DerError>
-        ensures { MatchResult result (IsPrivateKeyOf kind octets.now) (RefusesShape (IsPrivateKeyOf kind octets.now)) }
+        ensures { MatchResult result (IsPrivateKeyOf kind octets.now)
+            (RefusesShape (IsPrivateKeyOf kind octets.now)) }
     {
         match kind {
             KeyKind::Rsa => Ok(PrivateKeyValue::Rsa(read_within(alloc, octets)?)),
@@ -112,10 +115,12 @@ impl PartialEq for PrivateKeyValue {
 
     ghost eq = { on (λ value. private_key_octets value) bytes_eq };
 
-    ghost laws = { on_per (λ value. private_key_octets value) (partial_equiv_from_equiv nat_list_eq_equiv) };
+    ghost laws = { on_per (λ value. private_key_octets value)
+        (partial_equiv_from_equiv nat_list_eq_equiv) };
 
     fn eq(&self, other: &PrivateKeyValue) -> bool
-        ensures octets { result ≡ bytes_eq (private_key_octets self.now) (private_key_octets other.now) }
+        ensures octets { result ≡ bytes_eq (private_key_octets self.now)
+            (private_key_octets other.now) }
         ensures same { IsTrue result ↔ (self.now ≡ other.now) }
     {
         match (self, other) {

@@ -14,7 +14,8 @@ use std::alloc::{AllocError, Global};
 pub enum PrivateKeyVersion {
     /// Written 0.
     V1,
-    /// Written 1: of a key that may have its public key beside it. This isn't asked of what is read.
+    /// Written 1: of a key that may have its public key beside it. This isn't asked of what is
+    /// read.
     V2,
 }
 

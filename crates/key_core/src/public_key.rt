@@ -49,19 +49,22 @@ impl Drop for PublicKey {
 }
 
 impl PublicKey {
-    /// The key in octets, which are the encoding of a SubjectPublicKeyInfo (RFC 5280 4.1.2.7). Octets
-    /// that are no element, or one of another structure, are refused as `Asn1Deserialization`
-    /// without memory.
+    /// The key in octets, which are the encoding of a SubjectPublicKeyInfo (RFC 5280 4.1.2.7).
+    /// Octets that are no element, or one of another structure, are refused as
+    /// `Asn1Deserialization` without memory.
     pub fn from_der(alloc: Global, der: &[u8]) -> Result<PublicKey, KeyError>
         ensures answer { MatchResult result
             (λ key. IsWithin IsPublicKeyInfo der.now key.info)
             (IsUnreadKey elements.SubjectPublicKeyInfo (RefusesOctets IsPublicKeyInfo der.now)) }
         // Octets with a fault are refused with it, whatever memory there is.
         ensures faulty { (at : ℕ) (fault : DerFault) → IsExactFault der.now at fault
-            → result ≡ Err (errors.Asn1Deserialization elements.SubjectPublicKeyInfo (der_errors.Malformed (record { at = at; fault = fault }))) }
+            → result ≡ Err (errors.Asn1Deserialization elements.SubjectPublicKeyInfo
+            (der_errors.Malformed (record { at = at; fault = fault }))) }
         // An element that is that of no key is refused as such, whatever memory there is.
-        ensures shapeless { (element : DerElement) → IsDer element → der.now ≡ encoding element → ((info : SubjectPublicKeyInfo) → IsPublicKeyInfo element info → ⊥)
-            → result ≡ Err (errors.Asn1Deserialization elements.SubjectPublicKeyInfo der_errors.Shape) }
+        ensures shapeless { (element : DerElement) → IsDer element → der.now ≡ encoding element
+            → ((info : SubjectPublicKeyInfo) → IsPublicKeyInfo element info → ⊥)
+            → result ≡ Err
+            (errors.Asn1Deserialization elements.SubjectPublicKeyInfo der_errors.Shape) }
     {
         match SubjectPublicKeyInfo::from_der(alloc, der) {
             Ok(info) => Ok(PublicKey { info }),
@@ -73,8 +76,12 @@ impl PublicKey {
     /// `Asn1Serialization`.
     pub fn to_der(&self, alloc: Global) -> Result<Vec<u8>, KeyError>
         ensures { MatchResult result
-            (λ octets. (octets.items ≡ encoding (public_key_info self.now.info)) × IsDer (public_key_info self.now.info) × AreDer (inner_key self.now.info.subject_public_key))
-            (IsUnwrittenKey elements.SubjectPublicKeyInfo (RefusesInner (inner_key self.now.info.subject_public_key ++ public_key_info self.now.info ∷ []))) }
+            (λ octets. (octets.items ≡ encoding (public_key_info self.now.info))
+            × IsDer (public_key_info self.now.info)
+            × AreDer (inner_key self.now.info.subject_public_key))
+            (IsUnwrittenKey elements.SubjectPublicKeyInfo
+            (RefusesInner (inner_key self.now.info.subject_public_key
+            ++ public_key_info self.now.info ∷ []))) }
     {
         match self.info.to_der(alloc) {
             Ok(octets) => Ok(octets),
@@ -99,16 +106,15 @@ impl PublicKey {
         })
     }
 
-    /// The point of these octets on the curve of this identifier. Neither is asked for its meaning. An
-    /// identifier of more than 4,294,967,295 octets is refused as `Asn1Serialization`.
+    /// The point of these octets on the curve of this identifier. Neither is asked for its meaning.
+    /// An identifier of more than 4,294,967,295 octets is refused as `Asn1Serialization`.
     pub fn from_ec_encoded_components(
         alloc: Global,
         curve: ObjectIdentifier,
         point: &[u8],
     ) -> Result<PublicKey, KeyError>
-        ensures { MatchResult result
-            (λ key. IsEcKey curve point.now key.info)
-            (IsUnwrittenKey elements.SubjectPublicKeyInfo (RefusesToWrite (object_identifier curve))) }
+        ensures { MatchResult result (λ key. IsEcKey curve point.now key.info) (IsUnwrittenKey
+            elements.SubjectPublicKeyInfo (RefusesToWrite (object_identifier curve))) }
     {
         match ec_key(alloc, &curve, point) {
             Ok(info) => Ok(PublicKey { info }),
@@ -123,9 +129,11 @@ impl PublicKey {
         algorithm: ObjectIdentifier,
         public_key: &[u8],
     ) -> Result<PublicKey, KeyError>
-        ensures answer { MatchResult result (λ key. IsEdKey algorithm public_key.now key.info) (RefusesEd algorithm) }
+        ensures answer { MatchResult result (λ key. IsEdKey algorithm public_key.now key.info)
+            (RefusesEd algorithm) }
         // Another identifier is refused, whatever memory there is.
-        ensures refused { (NamesEd algorithm → ⊥) → result ≡ Err (errors.ED contexts.UnsupportedEd) }
+        ensures refused { (NamesEd algorithm → ⊥)
+            → result ≡ Err (errors.ED contexts.UnsupportedEd) }
     {
         if !KeyKind::Ed.is_named(algorithm.as_bytes()) {
             return Err(KeyError::ED {
@@ -190,7 +198,8 @@ fn ec_key(
     curve: &ObjectIdentifier,
     point: &[u8],
 ) -> Result<SubjectPublicKeyInfo, DerError>
-    ensures { MatchResult result (IsEcKey curve.now point.now) (RefusesToWrite (object_identifier curve.now)) }
+    ensures { MatchResult result (IsEcKey curve.now point.now)
+        (RefusesToWrite (object_identifier curve.now)) }
 {
     let parameters = named_curve(alloc, curve)?;
     let oid = ObjectIdentifier::from_known(alloc, EC_PUBLIC_KEY)?;

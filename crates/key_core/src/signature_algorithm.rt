@@ -52,7 +52,8 @@ impl SignatureAlgorithm {
     ) -> Result<SignatureAlgorithm, SignatureError>
         ensures answer { MatchResult result (NamesSignature id.now) (IsUnnamed id.now) }
         // An algorithm that there is is read whatever memory there is.
-        ensures read { (algorithm : SignatureAlgorithm) → NamesSignature id.now algorithm → result ≡ Ok algorithm }
+        ensures read { (algorithm : SignatureAlgorithm) → NamesSignature id.now algorithm
+            → result ≡ Ok algorithm }
     {
         match SignatureAlgorithm::named(id.oid().as_bytes()) {
             Some(algorithm) => Ok(algorithm),
@@ -62,15 +63,16 @@ impl SignatureAlgorithm {
         }
     }
 
-    /// The AlgorithmIdentifier of the algorithm, whose parameters are NULL for RSA, and else absent.
-    /// `Ec` exactly for ECDSA with MD5, SHA-1 or SHA-224, which have no identifier here.
+    /// The AlgorithmIdentifier of the algorithm, whose parameters are NULL for RSA, and else
+    /// absent. `Ec` exactly for ECDSA with MD5, SHA-1 or SHA-224, which have no identifier here.
     pub fn to_algorithm_identifier(
         self,
         alloc: Global,
     ) -> Result<AlgorithmIdentifier, SignatureError>
         ensures answer { MatchResult result (IsWrittenAlgorithm self) (IsUnwritable self) }
         // One without an identifier is refused, whatever memory there is.
-        ensures refused { signature_identifier self ≡ None → result ≡ Err (errors.Ec contexts.HashNotSupported) }
+        ensures refused { signature_identifier self ≡ None
+            → result ≡ Err (errors.Ec contexts.HashNotSupported) }
     {
         let Some(contents) = self.oid_contents() else {
             return Err(SignatureError::Ec {
@@ -93,7 +95,8 @@ impl SignatureAlgorithm {
 
     /// The algorithm that an identifier names, by its contents octets, if it names one.
     pub fn named(oid: &[u8]) -> Option<SignatureAlgorithm>
-        ensures named { (algorithm : SignatureAlgorithm) → signature_identifier algorithm ≡ Some oid.now → result ≡ Some algorithm }
+        ensures named { (algorithm : SignatureAlgorithm)
+            → signature_identifier algorithm ≡ Some oid.now → result ≡ Some algorithm }
         ensures name { IfSome result (λ algorithm. signature_identifier algorithm ≡ Some oid.now) }
     {
         for algorithm in SignatureAlgorithm::IDENTIFIED {
@@ -133,7 +136,8 @@ impl SignatureAlgorithm {
         alloc: Global,
         oid: ObjectIdentifier,
     ) -> Result<AlgorithmIdentifier, AllocError>
-        ensures { IfOk result (λ id. (oid_of id ≡ oid) × (kept_option (parameters_of id) ≡ signature_parameters self)) }
+        ensures { IfOk result (λ id. (oid_of id ≡ oid)
+            × (kept_option (parameters_of id) ≡ signature_parameters self)) }
     {
         match self {
             SignatureAlgorithm::RsaPkcs1v15(_) => AlgorithmIdentifier::with_null(alloc, oid),

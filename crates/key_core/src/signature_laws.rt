@@ -28,31 +28,40 @@ pub fn signature_algorithms_are_read_as_written()
         → identifier_contents (oid_of written) ≡ identifier_contents (oid_of id) }
     ensures refused { (algorithm : SignatureAlgorithm) (id : AlgorithmIdentifier)
         → NamesSignature id algorithm → signature_identifier algorithm ≢ None }
-    ensures each { (algorithm : SignatureAlgorithm) → signature_identifier algorithm ≢ None → Contains constants.IDENTIFIED algorithm }
+    ensures each { (algorithm : SignatureAlgorithm) → signature_identifier algorithm ≢ None
+        → Contains constants.IDENTIFIED algorithm }
     ensures once { length constants.IDENTIFIED ≡ 10 }
 {}
 
 /// At most one error tells of the first broken rule of a verification, and none does where the
 /// signature is accepted. So `SignatureAlgorithm::verify` has one answer, want of memory aside.
 pub fn signatures_have_one_answer()
-    ensures one_refusal { (judge : Judge) (algorithm : SignatureAlgorithm) (info : SubjectPublicKeyInfo) (msg sig : List ℕ) (a b : SignatureError)
-        → IsFirstBroken (verify_rules judge algorithm info msg sig) a → IsFirstBroken (verify_rules judge algorithm info msg sig) b → a ≡ b }
-    ensures not_both { (judge : Judge) (algorithm : SignatureAlgorithm) (info : SubjectPublicKeyInfo) (msg sig : List ℕ) (e : SignatureError)
-        → Accepts judge algorithm info msg sig → IsFirstBroken (verify_rules judge algorithm info msg sig) e → ⊥ }
+    ensures one_refusal { (judge : Judge) (algorithm : SignatureAlgorithm)
+        (info : SubjectPublicKeyInfo) (msg sig : List ℕ) (a b : SignatureError)
+        → IsFirstBroken (verify_rules judge algorithm info msg sig) a
+        → IsFirstBroken (verify_rules judge algorithm info msg sig) b → a ≡ b }
+    ensures not_both { (judge : Judge) (algorithm : SignatureAlgorithm)
+        (info : SubjectPublicKeyInfo) (msg sig : List ℕ) (e : SignatureError)
+        → Accepts judge algorithm info msg sig
+        → IsFirstBroken (verify_rules judge algorithm info msg sig) e → ⊥ }
 {}
 
 /// At most one error tells of the first broken rule of signing, and none does where the key is one
 /// for the algorithm and the scheme signs. So `SignatureAlgorithm::sign` has one answer, want of
 /// memory aside.
 pub fn signing_has_one_answer()
-    ensures one_refusal { (signs : Signs) (algorithm : SignatureAlgorithm) (key : PrivateKey) (msg : List ℕ) (a b : SignatureError)
-        → IsFirstBroken (sign_rules signs algorithm key msg) a → IsFirstBroken (sign_rules signs algorithm key msg) b → a ≡ b }
-    ensures not_both { (signs : Signs) (algorithm : SignatureAlgorithm) (key : PrivateKey) (msg : List ℕ) (e : SignatureError)
-        → IsAsked signs algorithm key msg true → IsFirstBroken (sign_rules signs algorithm key msg) e → ⊥ }
+    ensures one_refusal { (signs : Signs) (algorithm : SignatureAlgorithm) (key : PrivateKey)
+        (msg : List ℕ) (a b : SignatureError)
+        → IsFirstBroken (sign_rules signs algorithm key msg) a
+        → IsFirstBroken (sign_rules signs algorithm key msg) b → a ≡ b }
+    ensures not_both { (signs : Signs) (algorithm : SignatureAlgorithm) (key : PrivateKey)
+        (msg : List ℕ) (e : SignatureError)
+        → IsAsked signs algorithm key msg true
+        → IsFirstBroken (sign_rules signs algorithm key msg) e → ⊥ }
 {}
 
 /// A key has at most one identifier by a method, so equal keys have equal identifiers.
 pub fn key_identifiers_are_of_keys()
-    ensures { (method : KeyIdGenMethod) (key other : PublicKey) (a b : List ℕ)
-        → key ≡ other → IsKeyIdentifier method key.info a → IsKeyIdentifier method other.info b → a ≡ b }
+    ensures { (method : KeyIdGenMethod) (key other : PublicKey) (a b : List ℕ) → key ≡ other
+        → IsKeyIdentifier method key.info a → IsKeyIdentifier method other.info b → a ≡ b }
 {}

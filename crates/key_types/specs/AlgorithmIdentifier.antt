@@ -1,4 +1,5 @@
--- AlgorithmIdentifier ::= SEQUENCE { algorithm OBJECT IDENTIFIER, parameters ANY DEFINED BY algorithm OPTIONAL } (RFC 5280 4.1.1.2)
+-- AlgorithmIdentifier ::= SEQUENCE { algorithm OBJECT IDENTIFIER, parameters ANY DEFINED BY
+-- algorithm OPTIONAL } (RFC 5280 4.1.1.2)
 use Rattle.std.specs.Prelude.{◌∷◌, Option, option_to_list}
 use Rattle.der_core.specs.DerElement.{DerElement}
 use Rattle.der_core.specs.Elements.{sequence}

@@ -1,4 +1,5 @@
--- SubjectPublicKeyInfo ::= SEQUENCE { algorithm AlgorithmIdentifier, subjectPublicKey BIT STRING } (RFC 5280 4.1)
+-- SubjectPublicKeyInfo ::= SEQUENCE { algorithm AlgorithmIdentifier, subjectPublicKey BIT STRING }
+-- (RFC 5280 4.1)
 use Rattle.std.specs.Prelude.{◌≡◌, ℕ, List, [], ◌∷◌}
 use Rattle.der_core.specs.DerElement.{DerElement}
 use Rattle.der_core.specs.Encoding.{encoding}
@@ -30,7 +31,8 @@ inner_key (keys.Mldsa bits) = []
 
 -- the algorithm, then the key
 abbrev pub public_key_info : SubjectPublicKeyInfo → DerElement
-public_key_info info = sequence (algorithm_identifier info.algorithm ∷ subject_public_key info.subject_public_key ∷ [])
+public_key_info info =
+    sequence (algorithm_identifier info.algorithm ∷ subject_public_key info.subject_public_key ∷ [])
 
 -- the element is the one of this key, whose inner element is one that is read
 abbrev pub IsSubjectKey : DerElement → SubjectKey → Type 0
@@ -38,7 +40,8 @@ IsSubjectKey element key = (element ≡ subject_public_key key) × AreDer (inner
 
 -- the element is the one of this algorithm and key, whose inner element is one that is read
 abbrev pub IsPublicKeyInfo : DerElement → SubjectPublicKeyInfo → Type 0
-IsPublicKeyInfo element info = (element ≡ public_key_info info) × AreDer (inner_key info.subject_public_key)
+IsPublicKeyInfo element info =
+    (element ≡ public_key_info info) × AreDer (inner_key info.subject_public_key)
 
 -- the element is the one of this key, which is of the kind
 abbrev pub IsKeyOf : KeyKind → DerElement → SubjectKey → Type 0

@@ -19,8 +19,10 @@ impl<'a> AlgorithmFields<'a> {
     /// The fields of the element.
     pub(crate) fn of(elem: Elem<'a>) -> Option<AlgorithmFields<'a>>
         ensures { MatchOption result
-            ((oid : DerElement) (parameters : Option DerElement) → elem.entry.is.0 ≢ algorithm_of oid parameters)
-            (λ fields. elem.entry.is.0 ≡ algorithm_of fields.oid.is.0 (at_option fields.parameters)) }
+            ((oid : DerElement) (parameters : Option DerElement)
+            → elem.entry.is.0 ≢ algorithm_of oid parameters)
+            (λ fields. elem.entry.is.0 ≡ algorithm_of fields.oid.is.0
+            (at_option fields.parameters)) }
     {
         let mut kids = Kids::of(elem, SEQUENCE)?;
         let oid = kids.next()?;

@@ -79,8 +79,12 @@ impl KeyKind {
     /// The kind of keys that the algorithm is for that lies in octets.
     pub(crate) fn at(elem: Elem<'_>) -> Option<KeyKind>
         ensures { MatchOption result
-            ((kind : KeyKind) (algorithm : AlgorithmIdentifier) → elem.entry.is.0 ≡ algorithm_identifier algorithm → IsAlgorithmOf kind algorithm → ⊥)
-            (λ kind. (algorithm : AlgorithmIdentifier) × (elem.entry.is.0 ≡ algorithm_identifier algorithm) × IsAlgorithmOf kind algorithm) }
+            ((kind : KeyKind) (algorithm : AlgorithmIdentifier)
+            → elem.entry.is.0 ≡ algorithm_identifier algorithm → IsAlgorithmOf kind algorithm
+            → ⊥)
+            (λ kind. (algorithm : AlgorithmIdentifier)
+            × (elem.entry.is.0 ≡ algorithm_identifier algorithm)
+            × IsAlgorithmOf kind algorithm) }
     {
         if !AlgorithmIdentifier::has_shape(elem) {
             return None;

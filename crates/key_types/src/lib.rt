@@ -1,5 +1,5 @@
-//! Algorithms and keys of X.509 (RFC 5280 4.1.1.2, 4.1.2.7), as values, read from octets or trees and
-//! written as trees.
+//! Algorithms and keys of X.509 (RFC 5280 4.1.1.2, 4.1.2.7), as values, read from octets or trees
+//! and written as trees.
 #![tactic(auto)]
 
 mod algorithm;

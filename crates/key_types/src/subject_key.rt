@@ -63,7 +63,8 @@ impl SubjectKey {
         kind: KeyKind,
         elem: Elem<'_>,
     ) -> Result<SubjectKey, DerError>
-        ensures { MatchResult result (IsKeyOf kind elem.entry.is.0) (RefusesShape (IsKeyOf kind elem.entry.is.0)) }
+        ensures { MatchResult result (IsKeyOf kind elem.entry.is.0)
+            (RefusesShape (IsKeyOf kind elem.entry.is.0)) }
     {
         match kind {
             KeyKind::Rsa => Ok(SubjectKey::Rsa(read_rsa_key(alloc, elem)?)),
@@ -103,7 +104,8 @@ impl SubjectKey {
 /// Whether the element is a BIT STRING without unused bits that holds a key of RSA.
 fn has_rsa_key(elem: Elem<'_>) -> bool
     ensures fits { IsTrue result → (key : RsaPublicKey) × IsSubjectKey elem.entry.is.0 (Rsa key) }
-    ensures unfit { result ≡ false → (key : RsaPublicKey) → IsSubjectKey elem.entry.is.0 (Rsa key) → ⊥ }
+    ensures unfit { result ≡ false → (key : RsaPublicKey) → IsSubjectKey elem.entry.is.0 (Rsa key)
+        → ⊥ }
 {
     match bit_octets_at(elem) {
         Some(payload) => has_within::<RsaPublicKey>(payload),
@@ -145,7 +147,8 @@ impl PartialEq for SubjectKey {
 
     ghost eq = { on (λ value. key_octets value) bytes_eq };
 
-    ghost laws = { on_per (λ value. key_octets value) (partial_equiv_from_equiv nat_list_eq_equiv) };
+    ghost laws = { on_per (λ value. key_octets value)
+        (partial_equiv_from_equiv nat_list_eq_equiv) };
 
     fn eq(&self, other: &SubjectKey) -> bool
         ensures octets { result ≡ bytes_eq (key_octets self.now) (key_octets other.now) }

@@ -19,7 +19,8 @@ abbrev pub AreWithoutRoots : List CertificateElements → List CertificateElemen
 AreWithoutRoots [] carried = carried ≡ []
 AreWithoutRoots (c ∷ bag) carried =
     (IsRootCertificate c × AreWithoutRoots bag carried)
-    ⊎ ((IsRootCertificate c → ⊥) × (others : List CertificateElements) × (carried ≡ c ∷ others) × AreWithoutRoots bag others)
+    ⊎ ((IsRootCertificate c → ⊥) × (others : List CertificateElements) × (carried ≡ c ∷ others)
+    × AreWithoutRoots bag others)
 
 -- of one certificate this one, of others those that are no root's
 abbrev pub AreCarried : List CertificateElements → List CertificateElements → Type 0
@@ -29,8 +30,12 @@ AreCarried (c ∷ d ∷ bag) carried = AreWithoutRoots (c ∷ d ∷ bag) carried
 
 -- The elements are those of the certificates that are no root's.
 abbrev pub HoldsWithoutRoots : List CertificateElements → List DerElement → Type 0
-HoldsWithoutRoots bag elements = (carried : List CertificateElements) × AreWithoutRoots bag carried × (elements ≡ map certificate_of carried)
+HoldsWithoutRoots bag elements =
+    (carried : List CertificateElements) × AreWithoutRoots bag carried
+    × (elements ≡ map certificate_of carried)
 
 -- The elements are those of the certificates that are carried.
 abbrev pub HoldsCarried : List CertificateElements → List DerElement → Type 0
-HoldsCarried bag elements = (carried : List CertificateElements) × AreCarried bag carried × (elements ≡ map certificate_of carried)
+HoldsCarried bag elements =
+    (carried : List CertificateElements) × AreCarried bag carried
+    × (elements ≡ map certificate_of carried)

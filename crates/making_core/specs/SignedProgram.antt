@@ -19,7 +19,8 @@ use Rattle.making_core.specs.Carried.{AreCarried}
 use Rattle.making_core.specs.MadeContent.{attributes_message, content_digest, opus_element, program_attributes, program_content}
 use Rattle.making_core.specs.MadeSignature.{SignatureParts, attributes_element, signature_made}
 
--- What is signed of a program: by which digest algorithm, the digest of the file, and what is said of the program.
+-- What is signed of a program: by which digest algorithm, the digest of the file, and what is said
+-- of the program.
 pub record Program : Type 0 where
   pub hash : ShaVariant
   pub file_hash : List ℕ
@@ -27,7 +28,8 @@ pub record Program : Type 0 where
 
 -- a program of which a name is said, or nothing
 abbrev pub program_of : ShaVariant → List ℕ → Option (List ℕ) → Program
-program_of hash file_hash name = record { hash = hash; file_hash = file_hash; opus = opus_element name }
+program_of hash file_hash name =
+    record { hash = hash; file_hash = file_hash; opus = opus_element name }
 
 -- the name, where there is one, is one of characters of the basic plane
 abbrev pub IsBasicName : Option (List ℕ) → Type 0
@@ -51,7 +53,8 @@ abbrev pub issuer_and_serial_of : CertificateElements → DerElement
 issuer_and_serial_of c = sequence (c.tbs.issuer ∷ integer_of c.tbs.serial_number ∷ [])
 
 -- The signature of a program by the first of these certificates.
-abbrev pub parts_for : Program → (first : CertificateElements) → (carried : List CertificateElements) → (signature : List ℕ) → SignatureParts
+abbrev pub parts_for : Program → (first : CertificateElements)
+    → (carried : List CertificateElements) → (signature : List ℕ) → SignatureParts
 parts_for p first carried signature = record {
   algorithm = digest_algorithm p.hash;
   content_info = program_content p.hash p.file_hash;
@@ -62,13 +65,19 @@ parts_for p first carried signature = record {
   unsigned = None;
 }
 
--- The octets are a signature of the message by the key, accepted under each public key that pairs with it.
-pub record IsSignature (scheme : KeyArithmetic) (algorithm : SignatureAlgorithm) (key : PrivateKey) (message signature : List ℕ) : Type 0 where
+-- The octets are a signature of the message by the key, accepted under each public key that pairs
+-- with it.
+pub record IsSignature (scheme : KeyArithmetic) (algorithm : SignatureAlgorithm) (key : PrivateKey)
+    (message signature : List ℕ) : Type 0 where
   pub signed : IsAsked scheme.signs algorithm key message true
-  pub accepted : (info : SubjectPublicKeyInfo) → IsKeyPair scheme.pair key info → Accepts scheme.judge algorithm info message signature
+  pub accepted : (info : SubjectPublicKeyInfo) → IsKeyPair scheme.pair key info
+      → Accepts scheme.judge algorithm info message signature
 
--- The signed data is the signature of the program by this key and by the first of the certificates, of which it carries some.
-pub record IsSignedProgram (scheme : KeyArithmetic) (bag : List CertificateElements) (first : CertificateElements) (p : Program) (key : PrivateKey) (made : SignedDataElements) : Type 0 where
+-- The signed data is the signature of the program by this key and by the first of the certificates,
+-- of which it carries some.
+pub record IsSignedProgram (scheme : KeyArithmetic) (bag : List CertificateElements)
+    (first : CertificateElements) (p : Program) (key : PrivateKey)
+    (made : SignedDataElements) : Type 0 where
   pub carried : List CertificateElements
   pub are_carried : AreCarried bag carried
   pub signature : List ℕ

@@ -30,10 +30,12 @@ const SIGNED_ATTRIBUTES: u8 = 0xA0;
 /// What is said of the program: its name, where it has one, and an empty link to more.
 pub fn opus_of(alloc: Global, name: Option<&str>) -> Result<SpcSpOpusInfo, CharSetError>
     ensures answer { MatchResult result
-        (λ info. (opus_info info ≡ opus_element (option_copied name.entry)) × IsBasicName (option_copied name.entry))
+        (λ info. (opus_info info ≡ opus_element (option_copied name.entry))
+        × IsBasicName (option_copied name.entry))
         (RefusesCharSet (IsBasicName (option_copied name.entry))) }
     // A name is refused before memory is asked for, and none asks for none.
-    ensures refused { (IsBasicName (option_copied name.entry) → ⊥) → result ≡ Err CharSetError.CharSet }
+    ensures refused { (IsBasicName (option_copied name.entry) → ⊥)
+        → result ≡ Err CharSetError.CharSet }
     ensures nameless { option_copied name.entry ≡ None → IsOk result }
 {
     let program_name = match name {
@@ -50,7 +52,9 @@ pub fn opus_of(alloc: Global, name: Option<&str>) -> Result<SpcSpOpusInfo, CharS
 
 /// The attribute that tells what the content is: indirect data (RFC 2985 5.3.1).
 fn content_type(alloc: Global) -> Result<Attribute, AllocError>
-    ensures { IfOk result (λ a. (attribute a ≡ attribute_by CONTENT_TYPE.now (Primitive 0x06 SPC_INDIRECT_DATA.now)) × (inner_values a.value ≡ [])) }
+    ensures { IfOk result
+        (λ a. (attribute a ≡ attribute_by CONTENT_TYPE.now (Primitive 0x06 SPC_INDIRECT_DATA.now))
+        × (inner_values a.value ≡ [])) }
 {
     let ty = ObjectIdentifier::from_known(alloc, CONTENT_TYPE)?;
     let mut types = ListOf::new(alloc);
@@ -61,7 +65,9 @@ fn content_type(alloc: Global) -> Result<Attribute, AllocError>
 
 /// The attribute that has the digest of the content (RFC 2985 5.3.2).
 fn message_digest(alloc: Global, digest: &[u8]) -> Result<Attribute, AllocError>
-    ensures { IfOk result (λ a. (attribute a ≡ attribute_by MESSAGE_DIGEST.now (octet_string digest.now)) × (inner_values a.value ≡ [])) }
+    ensures { IfOk result
+        (λ a. (attribute a ≡ attribute_by MESSAGE_DIGEST.now (octet_string digest.now))
+        × (inner_values a.value ≡ [])) }
 {
     let ty = ObjectIdentifier::from_known(alloc, MESSAGE_DIGEST)?;
     let mut digests = ListOf::new(alloc);
@@ -72,7 +78,8 @@ fn message_digest(alloc: Global, digest: &[u8]) -> Result<Attribute, AllocError>
 
 /// The attribute with what is said of the program.
 fn opus_attribute(alloc: Global, info: Raw) -> Result<Attribute, AllocError>
-    ensures { IfOk result (λ a. (attribute a ≡ attribute_by SPC_SP_OPUS_INFO.now info.element) × (inner_values a.value ≡ [])) }
+    ensures { IfOk result (λ a. (attribute a ≡ attribute_by SPC_SP_OPUS_INFO.now info.element)
+        × (inner_values a.value ≡ [])) }
 {
     let ty = ObjectIdentifier::from_known(alloc, SPC_SP_OPUS_INFO)?;
     let mut infos = ListOf::new(alloc);
@@ -93,7 +100,8 @@ fn keep_opus(alloc: Global, opus: &SpcSpOpusInfo) -> Result<Raw, DerError>
 
 /// The three attributes, in their order.
 fn listed(alloc: Global, info: Raw, digest: &[u8]) -> Result<AttributeList, AllocError>
-    ensures { IfOk result (λ list. (map attribute list ≡ program_attributes info.element digest.now) × (inner_attributes list ≡ [])) }
+    ensures { IfOk result (λ list. (map attribute list ≡ program_attributes info.element digest.now)
+        × (inner_attributes list ≡ [])) }
 {
     let mut list = ListOf::new(alloc);
     list.push(content_type(alloc)?)?;
@@ -108,8 +116,10 @@ pub fn attributes_of(
     opus: &SpcSpOpusInfo,
     digest: &[u8],
 ) -> Result<SignedAttributes, DerError>
-    ensures { let attributes = program_attributes (opus_info opus.now) digest.now in MatchResult result
-        (λ kept. (signed_attributes kept ≡ attributes_element attributes) × AreDer (opus_info opus.now ∷ attributes_element attributes ∷ []))
+    ensures { let attributes = program_attributes (opus_info opus.now) digest.now in
+        MatchResult result
+        (λ kept. (signed_attributes kept ≡ attributes_element attributes)
+        × AreDer (opus_info opus.now ∷ attributes_element attributes ∷ []))
         (RefusesInner (opus_info opus.now ∷ attributes_element attributes ∷ [])) }
 {
     let info = keep_opus(alloc, opus)?;
@@ -119,8 +129,10 @@ pub fn attributes_of(
 
 /// Attributes as a signer carries them (RFC 5652 5.3).
 pub fn keep_attributes(alloc: Global, list: &AttributeList) -> Result<SignedAttributes, DerError>
-    ensures { let element = attributes_element (map attribute list.now) in MatchResult result
-        (λ kept. (signed_attributes kept ≡ element) × AreDer (inner_attributes list.now ++ element ∷ []))
+    ensures { let element = attributes_element (map attribute list.now) in
+        MatchResult result
+        (λ kept. (signed_attributes kept ≡ element)
+        × AreDer (inner_attributes list.now ++ element ∷ []))
         (RefusesInner (inner_attributes list.now ++ element ∷ [])) }
 {
     let tree = write_list(alloc, list, SIGNED_ATTRIBUTES)?;
@@ -128,10 +140,12 @@ pub fn keep_attributes(alloc: Global, list: &AttributeList) -> Result<SignedAttr
     SignedAttributes::read_at(alloc, kept.elem())
 }
 
-/// What is signed of attributes: their SET, in the order that stands (RFC 2315 9.3). No other octet of
-/// them is changed.
+/// What is signed of attributes: their SET, in the order that stands (RFC 2315 9.3). No other octet
+/// of them is changed.
 pub fn message_of(alloc: Global, attributes: &SignedAttributes) -> Result<Vec<u8>, AllocError>
-    ensures { (members : List DerElement) → signed_attributes attributes.now ≡ attributes_element members → IfOk result (λ octets. octets.items ≡ attributes_message members) }
+    ensures { (members : List DerElement)
+        → signed_attributes attributes.now ≡ attributes_element members
+        → IfOk result (λ octets. octets.items ≡ attributes_message members) }
 {
     let mut octets = Vec::from_slice(alloc, attributes.element().as_bytes())?;
     octets[0] = SET;

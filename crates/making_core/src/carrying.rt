@@ -12,7 +12,8 @@ use x509_core::Cert;
 
 /// A certificate as signed data carries it: its octets as they are.
 pub fn member_of(alloc: Global, certificate: &Cert) -> Result<CertificateChoices, AllocError>
-    ensures { IfOk result (λ member. certificate_choice member ≡ certificate_of certificate.now.elements) }
+    ensures { IfOk result
+        (λ member. certificate_choice member ≡ certificate_of certificate.now.elements) }
 {
     match whole_element(certificate.as_bytes()) {
         Some(elem) => Ok(CertificateChoices::from(Raw::from_elem(alloc, elem)?)),
@@ -22,7 +23,8 @@ pub fn member_of(alloc: Global, certificate: &Cert) -> Result<CertificateChoices
 
 /// The certificates, in order.
 pub fn kept_certificates(alloc: Global, certificates: &[Cert]) -> Result<CertificateSet, AllocError>
-    ensures { IfOk result (λ members. map certificate_choice members ≡ map certificate_of (elements_of certificates.now)) }
+    ensures { IfOk result (λ members. map certificate_choice members
+        ≡ map certificate_of (elements_of certificates.now)) }
 {
     let mut members = ListOf::new(alloc);
     let mut rest = certificates;

@@ -38,7 +38,8 @@ pub fn indirect_of(
     hash: ShaVariant,
     file_hash: &[u8],
 ) -> Result<SpcIndirectDataContent, AllocError>
-    ensures { IfOk result (λ indirect. indirect_data_content indirect ≡ data_element hash file_hash.now) }
+    ensures { IfOk result
+        (λ indirect. indirect_data_content indirect ≡ data_element hash file_hash.now) }
 {
     let image = image_of(alloc)?;
     let oid = new_sha(alloc, hash)?;
@@ -83,7 +84,9 @@ pub fn digest_of_content(
     hash: HashAlgorithm,
 ) -> Result<Vec<u8>, DerError>
     ensures { MatchResult result
-        (λ digest. (digest.items ≡ digest_of hash (contents_octets (indirect_data_content indirect.now))) × IsDer (indirect_data_content indirect.now))
+        (λ digest. (digest.items ≡ digest_of hash
+        (contents_octets (indirect_data_content indirect.now)))
+        × IsDer (indirect_data_content indirect.now))
         (RefusesInner (indirect_data_content indirect.now ∷ [])) }
 {
     let octets = indirect.to_der(alloc)?;
@@ -98,7 +101,8 @@ pub fn content_of(
     alloc: Global,
     indirect: SpcIndirectDataContent,
 ) -> Result<EncapsulatedContentInfo, AllocError>
-    ensures { IfOk result (λ content. content_info content ≡ content_info_of (Primitive 0x06 SPC_INDIRECT_DATA.now) (Some (indirect_data_content indirect))) }
+    ensures { IfOk result (λ content. content_info content ≡ content_info_of
+        (Primitive 0x06 SPC_INDIRECT_DATA.now) (Some (indirect_data_content indirect))) }
 {
     let content_type = ObjectIdentifier::from_known(alloc, SPC_INDIRECT_DATA)?;
     let content = Some(ContentValue::SpcIndirectDataContent(indirect));

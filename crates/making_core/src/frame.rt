@@ -32,7 +32,8 @@ use x509_core::Cert;
 
 /// What names a certificate: its issuer and its serial number (RFC 5652 10.2.4).
 pub fn named_by(alloc: Global, certificate: &Cert) -> Result<SignerIdentifier, AllocError>
-    ensures { IfOk result (λ sid. signer_identifier sid ≡ issuer_and_serial_of certificate.now.elements) }
+    ensures { IfOk result
+        (λ sid. signer_identifier sid ≡ issuer_and_serial_of certificate.now.elements) }
 {
     let issuer = Name::from(certificate.issuer_name(alloc)?);
     let serial_number = certificate.serial_number().try_clone(alloc)?;
@@ -88,7 +89,8 @@ pub fn digests_of(
     alloc: Global,
     hash: ShaVariant,
 ) -> Result<ListOf<AlgorithmIdentifier>, AllocError>
-    ensures { IfOk result (λ digests. list_element 0x31 algorithm_identifier digests ≡ set (digest_algorithm hash ∷ [])) }
+    ensures { IfOk result (λ digests. list_element 0x31 algorithm_identifier digests
+        ≡ set (digest_algorithm hash ∷ [])) }
 {
     let mut digests = ListOf::new(alloc);
     digests.push(new_sha(alloc, hash)?)?;
@@ -97,7 +99,8 @@ pub fn digests_of(
 
 /// The signer, alone in its list.
 pub fn signers_of(alloc: Global, signer: SignerInfo) -> Result<ListOf<SignerInfo>, AllocError>
-    ensures { IfOk result (λ signers. list_element 0x31 signer_info signers ≡ set (signer_info signer ∷ [])) }
+    ensures { IfOk result
+        (λ signers. list_element 0x31 signer_info signers ≡ set (signer_info signer ∷ [])) }
 {
     let mut signers = ListOf::new(alloc);
     signers.push(signer)?;

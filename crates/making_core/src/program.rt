@@ -22,8 +22,8 @@ use sig_core::ShaVariant;
 use std::alloc::{AllocError, Global};
 use x509_core::Cert;
 
-/// The signature of a program by the first of certificates, of its parts: what is signed in the place of
-/// the program, the attributes, and the signature over them.
+/// The signature of a program by the first of certificates, of its parts: what is signed in the
+/// place of the program, the attributes, and the signature over them.
 pub fn program_signature(
     alloc: Global,
     bag: &[Cert],
@@ -33,15 +33,19 @@ pub fn program_signature(
     attributes: SignedAttributes,
     signature: Octets,
 ) -> Result<Pkcs7Certificate, AllocError>
-    ensures { IfOk result (λ made. (carried : List CertificateElements) × AreCarried (elements_of bag.now) carried × (signed_data_elements made.signed_data ≡ signature_made (record {
-      algorithm = digest_algorithm hash;
-      content_info = content_info_of (Primitive 0x06 SPC_INDIRECT_DATA.now) (Some (indirect_data_content indirect));
-      certificates = map certificate_of carried;
-      named = issuer_and_serial_of first.now.elements;
-      attributes = signed_attributes attributes;
-      signature = signature;
-      unsigned = None;
-    }))) }
+    ensures { IfOk result
+        (λ made. (carried : List CertificateElements) × AreCarried (elements_of bag.now) carried
+        × (signed_data_elements made.signed_data
+        ≡ signature_made (record {
+          algorithm = digest_algorithm hash;
+          content_info = content_info_of (Primitive 0x06 SPC_INDIRECT_DATA.now)
+              (Some (indirect_data_content indirect));
+          certificates = map certificate_of carried;
+          named = issuer_and_serial_of first.now.elements;
+          attributes = signed_attributes attributes;
+          signature = signature;
+          unsigned = None;
+        }))) }
 {
     let sid = named_by(alloc, first)?;
     let signer = signer_info_of(alloc, sid, hash, attributes, signature, None)?;

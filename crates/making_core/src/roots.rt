@@ -24,7 +24,8 @@ fn is_root(certificate: &Cert) -> bool
 
 /// Those that are no root's, in order.
 pub fn without_roots(alloc: Global, certificates: &[Cert]) -> Result<CertificateSet, AllocError>
-    ensures { IfOk result (λ members. HoldsWithoutRoots (elements_of certificates.now) (map certificate_choice members)) }
+    ensures { IfOk result (λ members. HoldsWithoutRoots (elements_of certificates.now)
+        (map certificate_choice members)) }
 {
     let mut members = ListOf::new(alloc);
     let mut rest = certificates;
@@ -39,7 +40,8 @@ pub fn without_roots(alloc: Global, certificates: &[Cert]) -> Result<Certificate
 
 /// One certificate alone, or of others those that are no root's.
 pub fn carried_of(alloc: Global, bag: &[Cert]) -> Result<CertificateSet, AllocError>
-    ensures { IfOk result (λ members. HoldsCarried (elements_of bag.now) (map certificate_choice members)) }
+    ensures { IfOk result
+        (λ members. HoldsCarried (elements_of bag.now) (map certificate_choice members)) }
 {
     if bag.len() == 1 {
         kept_certificates(alloc, bag)

@@ -20,8 +20,10 @@ pub fn signature_of<S: Scheme>(
     scheme: &S,
 ) -> Result<Octets, SignatureError>
     ensures { MatchResult result
-        (IsSignature (arithmetic (S.judge scheme.now) (S.signs scheme.now) (S.pair scheme.now)) (RsaPkcs1v15 hash) private_key.now message.now)
-        (RefusesSignatureBy (sign_rules (S.signs scheme.now) (RsaPkcs1v15 hash) private_key.now message.now)) }
+        (IsSignature (arithmetic (S.judge scheme.now) (S.signs scheme.now) (S.pair scheme.now))
+        (RsaPkcs1v15 hash) private_key.now message.now)
+        (RefusesSignatureBy
+        (sign_rules (S.signs scheme.now) (RsaPkcs1v15 hash) private_key.now message.now)) }
 {
     let algorithm = SignatureAlgorithm::RsaPkcs1v15(hash);
     match algorithm.sign(alloc, message, private_key, scheme) {

@@ -14,8 +14,10 @@ use Rattle.x501_types.specs.NameAttr.{attribute_arcs}
 abbrev pub utf8_value : List ℕ → AttributeValue
 utf8_value text = values.DirectoryString (strings.Utf8String text)
 
--- The later name has one more set at its end, of one attribute, which has these arcs as its type and this value.
-pub record IsExtended (arcs : List ℕ) (value : AttributeValue) (earlier later : List (List AttributeTypeAndValue)) : Type 0 where
+-- The later name has one more set at its end, of one attribute, which has these arcs as its type
+-- and this value.
+pub record IsExtended (arcs : List ℕ) (value : AttributeValue)
+    (earlier later : List (List AttributeTypeAndValue)) : Type 0 where
   pub attribute : AttributeTypeAndValue
   pub appended : later ≡ earlier ++ (attribute ∷ []) ∷ []
   pub typed : arcs_of attribute.ty ≡ arcs
@@ -29,7 +31,10 @@ string_of (values.Other other) = None
 
 -- the string of a common name; another kind of value is none
 abbrev pub common_name_of : AttributeTypeAndValue → Option DirectoryString
-common_name_of attribute = if bytes_eq (arcs_of attribute.ty) (attribute_arcs attributes.CommonName) then string_of attribute.value else None
+common_name_of attribute =
+    if bytes_eq (arcs_of attribute.ty) (attribute_arcs attributes.CommonName)
+    then string_of attribute.value
+    else None
 
 -- the common names among the attributes of all sets, in their order
 abbrev pub common_names : List (List AttributeTypeAndValue) → List DirectoryString

@@ -15,7 +15,8 @@ raw_name (forms.OtherName other) = raw.OtherName other
 raw_name (forms.RFC822Name text) = raw.Rfc822Name text
 raw_name (forms.DNSName text) = raw.DnsName text
 raw_name (forms.DirectoryName made) = raw.DirectoryName made.name
-raw_name (forms.EDIPartyName assigner party) = raw.EdiPartyName (record { name_assigner = assigner; party_name = party })
+raw_name (forms.EDIPartyName assigner party) =
+    raw.EdiPartyName (record { name_assigner = assigner; party_name = party })
 raw_name (forms.URI text) = raw.Uri text
 raw_name (forms.IpAddress address) = raw.IpAddress address
 raw_name (forms.RegisteredId id) = raw.RegisteredId id

@@ -12,8 +12,9 @@ use der_core::{Octets, Structure};
 use std::alloc::{AllocError, Global};
 use x501_types::{DirectoryString, EdiPartyName, OtherName, RawGeneralName};
 
-/// A name in one of eight of the nine forms (RFC 5280 4.2.1.6), all but the x400Address, with a name of
-/// the directory that can be searched and can grow. What a text or an address means is not asked.
+/// A name in one of eight of the nine forms (RFC 5280 4.2.1.6), all but the x400Address, with a
+/// name of the directory that can be searched and can grow. What a text or an address means is not
+/// asked.
 #[derive(Debug, Drop)]
 pub enum GeneralName {
     /// A name of a form that its identifier tells.

@@ -15,8 +15,8 @@ use std::alloc::{AllocError, Global};
 use std::marker::Model;
 use x501_types::{RawGeneralName, RawGeneralNames};
 
-/// General names in order (RFC 5280 4.2.1.6), to be made and searched. Contracts see the list of the
-/// raw names that they stand for.
+/// General names in order (RFC 5280 4.2.1.6), to be made and searched. Contracts see the list of
+/// the raw names that they stand for.
 #[derive(Debug, Drop)]
 pub struct GeneralNames {
     names: RawGeneralNames,
@@ -126,7 +126,8 @@ impl GeneralNames {
 
     /// A copy of the first name of the directory, None exactly where there is none.
     pub fn find_directory_name(&self, alloc: Global) -> Result<Option<DirectoryName>, AllocError>
-        ensures found { IfOk result (λ found. option_map (λ name. name.name) found ≡ first_directory_name self.now) }
+        ensures found { IfOk result
+            (λ found. option_map (λ name. name.name) found ≡ first_directory_name self.now) }
         // That there is none is answered whatever memory there is.
         ensures none { first_directory_name self.now ≡ None → result ≡ Ok None }
     {

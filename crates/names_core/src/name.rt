@@ -40,8 +40,8 @@ impl DirectoryName {
 
     /// The name of one common name.
     pub fn new_common_name(alloc: Global, name: &str) -> Result<DirectoryName, AllocError>
-        ensures { IfOk result
-            (λ made. IsExtended (attribute_arcs attributes.CommonName) (utf8_value name.now) [] made.name) }
+        ensures { IfOk result (λ made. IsExtended (attribute_arcs attributes.CommonName)
+            (utf8_value name.now) [] made.name) }
     {
         let mut made = DirectoryName::new(alloc);
         made.add_attr(NameAttr::CommonName, name)?;

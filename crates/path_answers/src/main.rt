@@ -4,9 +4,9 @@
 //! path_answers FILE
 //! ```
 //!
-//! Each line of FILE is signed data in hexadecimal digits. `tools/path_answers.py` makes such a file,
-//! and the answers to it: how many certificates there are, the place of the signer's, and the places
-//! of the issuer walk, those that aren't on the issuer path in parentheses.
+//! Each line of FILE is signed data in hexadecimal digits. `tools/path_answers.py` makes such a
+//! file, and the answers to it: how many certificates there are, the place of the signer's, and the
+//! places of the issuer walk, those that aren't on the issuer path in parentheses.
 #![tactic(auto)]
 
 use anyhow::{Context, Result};

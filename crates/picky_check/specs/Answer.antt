@@ -22,8 +22,10 @@ table_in (Check signature table hash date options) (octets ∷ text ∷ others) 
 table_in (Chain table date certificates) (text ∷ others) = text
 table_in job contents = []
 
--- An answer of the check of a signature file, under what is asked of it.
-pub record IsCheckAnswer (judge : Judge) (policy : Policy) (octets : List ℕ) (given : Result Accepted CheckError) : Type 0 where
+-- An answer of the check of a signature file, under what is asked of it. It is a record, so that
+-- proofs hand it on as one thing.
+pub record IsCheckAnswer (judge : Judge) (policy : Policy) (octets : List ℕ)
+    (given : Result Accepted CheckError) : Type 0 where
   pub is : IsAnswer judge policy octets given
 
 -- an answer about the octets of a signature file
@@ -38,9 +40,12 @@ IsCertificateAnswer judge date octets (OfChain given) = IsChainAnswer judge date
 
 -- The answer to a job about the contents of its files, where these are the verdicts of its table.
 abbrev pub IsAnswerTo : Judge → Job → List (List ℕ) → Answer → Type 0
-IsAnswerTo judge (Basic signature table hash) (octets ∷ others) answer = IsSignatureAnswer judge (basic_policy hash) octets answer
-IsAnswerTo judge (Check signature table hash date options) (octets ∷ others) answer = IsSignatureAnswer judge (check_policy hash date options) octets answer
-IsAnswerTo judge (Chain table date certificates) (text ∷ octets) answer = IsCertificateAnswer judge date octets answer
+IsAnswerTo judge (Basic signature table hash) (octets ∷ others) answer =
+    IsSignatureAnswer judge (basic_policy hash) octets answer
+IsAnswerTo judge (Check signature table hash date options) (octets ∷ others) answer =
+    IsSignatureAnswer judge (check_policy hash date options) octets answer
+IsAnswerTo judge (Chain table date certificates) (text ∷ octets) answer =
+    IsCertificateAnswer judge date octets answer
 IsAnswerTo judge job contents answer = ⊥
 
 -- The answer to a job, by the verdicts of its table. The contents are those of the named files, as

@@ -28,22 +28,31 @@ abbrev pub IsFirstUnread : List (List ℕ) → CertError → Type 0
 IsFirstUnread [] e = ⊥
 IsFirstUnread (octets ∷ others) e =
     IsUnreadCert elements.Certificate (RefusesOctets IsCertificate octets) e
-    ⊎ (((certificate : KeptCertificate) × (kept_octets certificate ≡ octets)) × IsFirstUnread others e)
+    ⊎ (((certificate : KeptCertificate) × (kept_octets certificate ≡ octets))
+    × IsFirstUnread others e)
 
--- The first certificate is accepted over the others, and these are counted; or the error tells of the first rule that is broken.
-abbrev pub IsChainJudged : Judge → GeneralizedTime → List KeptCertificate → Result ℕ CertError → Type 0
+-- The first certificate is accepted over the others, and these are counted; or the error tells of
+-- the first rule that is broken.
+abbrev pub IsChainJudged : Judge → GeneralizedTime → List KeptCertificate → Result ℕ CertError
+    → Type 0
 IsChainJudged judge date [] answer = ⊥
-IsChainJudged judge date (checked ∷ parents) (Ok count) = (count ≡ length parents) × IsAccepted judge (all_checks date) checked (Some parents)
-IsChainJudged judge date (checked ∷ parents) (Err e) = RefusesCertBy (chain_rules judge (all_checks date) checked (Some parents)) e
+IsChainJudged judge date (checked ∷ parents) (Ok count) =
+    (count ≡ length parents) × IsAccepted judge (all_checks date) checked (Some parents)
+IsChainJudged judge date (checked ∷ parents) (Err e) =
+    RefusesCertBy (chain_rules judge (all_checks date) checked (Some parents)) e
 
--- Octets that aren't all certificates are refused for the first that is none; else the answer is one about the certificates.
+-- Octets that aren't all certificates are refused for the first that is none; else the answer is
+-- one about the certificates.
 abbrev pub IsChainAnswer : Judge → GeneralizedTime → List (List ℕ) → Result ℕ CertError → Type 0
 IsChainAnswer judge date octets answer =
     IsErrAnd answer (IsFirstUnread octets)
-    ⊎ ((certificates : List KeptCertificate) × AreKeptCertificates octets certificates × IsChainJudged judge date certificates answer)
+    ⊎ ((certificates : List KeptCertificate) × AreKeptCertificates octets certificates
+    × IsChainJudged judge date certificates answer)
 
 -- The same for a certificate that was read, about the octets of the others.
-abbrev pub IsAnswerOver : Judge → GeneralizedTime → KeptCertificate → List (List ℕ) → Result ℕ CertError → Type 0
+abbrev pub IsAnswerOver : Judge → GeneralizedTime → KeptCertificate → List (List ℕ)
+    → Result ℕ CertError → Type 0
 IsAnswerOver judge date checked octets answer =
     IsErrAnd answer (IsFirstUnread octets)
-    ⊎ ((parents : List KeptCertificate) × AreKeptCertificates octets parents × IsChainJudged judge date (checked ∷ parents) answer)
+    ⊎ ((parents : List KeptCertificate) × AreKeptCertificates octets parents
+    × IsChainJudged judge date (checked ∷ parents) answer)

@@ -21,13 +21,14 @@ use Rattle.picky_check.specs.Words.{Chain, AsksFor}
 abbrev pub window_at : GeneralizedTime → Window
 window_at date = record { date = dates.Exact date; not_before = true; not_after = true }
 
--- The words are chain TABLE DATE CERT .. The octets of the files CERT are certificates, and the text
--- of the file TABLE is a table, as far as the shelf tells its files. The first certificate is valid
--- at DATE. Each of the others is, and may have issued the one before it: it is an authority's, its
--- path length allows those between, names and key identifiers agree, and the table accepts the
--- signature over the octets that the file holds. The last is a root. What is told is the line that
--- the sink has more: how many these others are.
-pub record IsVouchedChain (words : List (List ℕ)) (files : Option Files) (held held_now : Option (List ℕ)) : Type 0 where
+-- The words are chain TABLE DATE CERT .. The octets of the files CERT are certificates, and the
+-- text of the file TABLE is a table, as far as the shelf tells its files. The first certificate is
+-- valid at DATE. Each of the others is, and may have issued the one before it: it is an
+-- authority's, its path length allows those between, names and key identifiers agree, and the table
+-- accepts the signature over the octets that the file holds. The last is a root. What is told is
+-- the line that the sink has more: how many these others are.
+pub record IsVouchedChain (words : List (List ℕ)) (files : Option Files)
+    (held held_now : Option (List ℕ)) : Type 0 where
   pub table : List ℕ
   pub date : GeneralizedTime
   pub names : List (List ℕ)

@@ -5,11 +5,15 @@ use Rattle.asn1_types.specs.declared.generalized_time.GeneralizedTime.{Generaliz
 
 -- YYYY-MM-DD
 abbrev pub day_text : GeneralizedTime → List ℕ
-day_text t = two_digits (year_of t / 100) ++ two_digits (year_of t % 100) ++ codes "-" ++ two_digits (month_of t) ++ codes "-" ++ two_digits (day_of t)
+day_text t =
+    two_digits (year_of t / 100) ++ two_digits (year_of t % 100) ++ codes "-"
+    ++ two_digits (month_of t) ++ codes "-" ++ two_digits (day_of t)
 
 -- YYYY-MM-DDTHH:MM:SS
 abbrev pub moment_text : GeneralizedTime → List ℕ
-moment_text t = day_text t ++ codes "T" ++ two_digits (hour_of t) ++ codes ":" ++ two_digits (minute_of t) ++ codes ":" ++ two_digits (second_of t)
+moment_text t =
+    day_text t ++ codes "T" ++ two_digits (hour_of t) ++ codes ":" ++ two_digits (minute_of t)
+    ++ codes ":" ++ two_digits (second_of t)
 
 -- it is the first second of its day
 pub record IsMidnight (t : GeneralizedTime) : Type 0 where

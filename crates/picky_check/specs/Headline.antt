@@ -28,7 +28,8 @@ use Rattle.picky_check.specs.Words.{Basic, Check, AsksFor}
 -- of the file TABLE is a table, as far as the shelf tells its files. By the verdicts of the table
 -- the signed data vouches for the digest HASH, under the key of the signer's certificate. What is
 -- told is the line that the sink has more: the place of that certificate, no path and no excuse.
-pub record IsVouchedFor (words : List (List ℕ)) (files : Option Files) (held held_now : Option (List ℕ)) : Type 0 where
+pub record IsVouchedFor (words : List (List ℕ)) (files : Option Files)
+    (held held_now : Option (List ℕ)) : Type 0 where
   pub signature : List ℕ
   pub table : List ℕ
   pub hash : List ℕ
@@ -54,9 +55,14 @@ pub record IsVouchedFor (words : List (List ℕ)) (files : Option Files) (held h
   pub place_told : told.signer ≡ Some place
   pub vouches : VouchesFor (verdict_of rows) signed_data hash place
 
--- when certificates have to be valid, but for what the options leave out: already and still at DATE, or already at the date of --until and still at DATE
+-- when certificates have to be valid, but for what the options leave out: already and still at
+-- DATE, or already at the date of --until and still at DATE
 abbrev pub asked_window : (date : GeneralizedTime) → CheckOptions → Window
-asked_window date options = record { date = moments date options.until; not_before = not options.no_before; not_after = not options.no_after }
+asked_window date options = record {
+  date = moments date options.until;
+  not_before = not options.no_before;
+  not_after = not options.no_after;
+}
 
 -- The words are check SIG TABLE HASH DATE and options. The octets of the file SIG hold one signed
 -- data, and the text of the file TABLE is a table, as far as the shelf tells its files. By the
@@ -67,7 +73,8 @@ asked_window date options = record { date = moments date options.until; not_befo
 -- one before it: it is an authority's, its path length allows those between, names and key
 -- identifiers agree, and the table accepts the signature over the octets that the file holds. An
 -- excuse is told only of an expired certificate whose expiry it excuses.
-pub record IsVouchedSignature (words : List (List ℕ)) (files : Option Files) (held held_now : Option (List ℕ)) : Type 0 where
+pub record IsVouchedSignature (words : List (List ℕ)) (files : Option Files)
+    (held held_now : Option (List ℕ)) : Type 0 where
   pub signature : List ℕ
   pub table : List ℕ
   pub hash : List ℕ
@@ -97,8 +104,10 @@ pub record IsVouchedSignature (words : List (List ℕ)) (files : Option Files) (
   pub signer : KeptCertificate
   pub is_signer : IsSignerCertificate signed_data bag place signer.elements
   -- unless an excuse is told
-  pub valid : told.excuse ≡ excuses.None → IsWithinWindow (asked_window date options) signer.elements
-  pub is_path : told.excuse ≡ excuses.None → options.no_chain ≡ false → IsIssuerPath bag signer.elements told.path
+  pub valid : told.excuse ≡ excuses.None
+      → IsWithinWindow (asked_window date options) signer.elements
+  pub is_path : told.excuse ≡ excuses.None → options.no_chain ≡ false
+      → IsIssuerPath bag signer.elements told.path
   -- every link of the path that is told
   pub parents : List KeptCertificate
   pub stand : StandAt bag told.path parents
@@ -108,4 +117,5 @@ pub record IsVouchedSignature (words : List (List ℕ)) (files : Option Files) (
   pub pathless : told.excuse ≢ excuses.None → told.path ≡ []
   -- an excuse
   pub expired : told.excuse ≢ excuses.None → IsExpired (asked_window date options) signer.elements
-  pub excused : told.excuse ≢ excuses.None → IsExcused (verdict_of rows) signed_data bag signer.elements told.excuse
+  pub excused : told.excuse ≢ excuses.None
+      → IsExcused (verdict_of rows) signed_data bag signer.elements told.excuse

@@ -26,9 +26,11 @@ IsReported answer result = MatchResult result (IsReportOf answer) (λ stop. stop
 abbrev pub GivesReport : Answer → Result Report Stop → Type 0
 GivesReport answer result = (WantsMemory answer → ⊥) → IsReported answer result
 
--- What is reported is an answer of which this holds, and each such answer is, unless memory ran out.
+-- What is reported is an answer of which this holds, and each such answer is, unless memory ran
+-- out.
 pub record Reports (IsAnswer : Answer → Type 0) (result : Result Report Stop) : Type 0 where
-  pub reported : IfOk result (λ report. (answer : Answer) × IsAnswer answer × IsReportOf answer report)
+  pub reported : IfOk result
+      (λ report. (answer : Answer) × IsAnswer answer × IsReportOf answer report)
   pub stopped : IfErr result (λ stop. stop ≡ Memory)
   pub only : (answer : Answer) → IsAnswer answer → GivesReport answer result
 
@@ -48,9 +50,11 @@ StopsForText text TooLong = ⊥
 abbrev pub IsStopped : ShelfState → ShelfState → Job → Stop → Type 0
 IsStopped before after job BadTable = HasBadTable before.files job
 IsStopped before after job Shelf =
-    HasRisen before.faults after.faults × (before.is_quiet → HasFiles before.files (files_of job) → ⊥)
+    HasRisen before.faults after.faults
+    × (before.is_quiet → HasFiles before.files (files_of job) → ⊥)
 IsStopped before after job TooLong =
-    RisesBeyond longest_file before.given after.given × (IsSome before.files → HasLongFile before.files (files_of job))
+    RisesBeyond longest_file before.given after.given
+    × (IsSome before.files → HasLongFile before.files (files_of job))
 IsStopped before after job Memory = Unit {0}
 IsStopped before after job Usage = ⊥
 

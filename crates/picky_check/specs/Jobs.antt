@@ -9,8 +9,10 @@ use Rattle.picky_check.specs.Words.{Job, Basic, Check, Chain}
 -- the job that it is
 abbrev pub job_held : HeldJob → Job
 job_held (held.Basic signature table hash) = Basic signature.now table.now hash.items
-job_held (held.Check signature table hash date options) = Check signature.now table.now hash.items date options
-job_held (held.Chain table date checked parents) = Chain table.now date (checked.now ∷ map string_bytes parents.now)
+job_held (held.Check signature table hash date options) =
+    Check signature.now table.now hash.items date options
+job_held (held.Chain table date checked parents) =
+    Chain table.now date (checked.now ∷ map string_bytes parents.now)
 
 -- the names of files, in order
 abbrev pub names_held : Names → List (List ℕ)

@@ -28,7 +28,8 @@ abbrev pub AreWholeFiles : Option Files → (names contents : List (List ℕ)) �
 AreWholeFiles files [] [] = Unit {0}
 AreWholeFiles files [] (octets ∷ contents) = ⊥
 AreWholeFiles files (name ∷ names) [] = ⊥
-AreWholeFiles files (name ∷ names) (octets ∷ contents) = IsWholeFile files name octets × AreWholeFiles files names contents
+AreWholeFiles files (name ∷ names) (octets ∷ contents) =
+    IsWholeFile files name octets × AreWholeFiles files names contents
 
 -- the shelf tells each of them
 abbrev pub HasFiles : Option Files → List (List ℕ) → Type 0

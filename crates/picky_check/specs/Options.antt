@@ -5,9 +5,11 @@ use Rattle.picky_check.specs.declared.options.CheckOption.TheVariants.{Until, No
 use Rattle.picky_check.specs.declared.options.CheckOptions.{CheckOptions}
 use Rattle.picky_check.specs.DateWord.{IsDateWord}
 
--- The words begin with an option, and these follow it. The word behind `--until` is taken as it stands.
+-- The words begin with an option, and these follow it. The word behind `--until` is taken as it
+-- stands.
 abbrev pub BeginsWithOption : CheckOption → (words rest : List (List ℕ)) → Type 0
-BeginsWithOption (Until date) words rest = (word : List ℕ) × (words ≡ codes "--until" ∷ word ∷ rest) × IsDateWord word date
+BeginsWithOption (Until date) words rest =
+    (word : List ℕ) × (words ≡ codes "--until" ∷ word ∷ rest) × IsDateWord word date
 BeginsWithOption NoBefore words rest = words ≡ codes "--no-before" ∷ rest
 BeginsWithOption NoAfter words rest = words ≡ codes "--no-after" ∷ rest
 BeginsWithOption NoChain words rest = words ≡ codes "--no-chain" ∷ rest
@@ -15,7 +17,8 @@ BeginsWithOption NoChain words rest = words ≡ codes "--no-chain" ∷ rest
 -- the words are these options, one behind another
 abbrev pub AreWordsOf : List CheckOption → List (List ℕ) → Type 0
 AreWordsOf [] words = words ≡ []
-AreWordsOf (option ∷ others) words = (rest : List (List ℕ)) × BeginsWithOption option words rest × AreWordsOf others rest
+AreWordsOf (option ∷ others) words =
+    (rest : List (List ℕ)) × BeginsWithOption option words rest × AreWordsOf others rest
 
 -- ---- which options stand there
 
@@ -25,10 +28,18 @@ no_options = record { until = None; no_before = false; no_after = false; no_chai
 
 -- one more does
 abbrev pub with_option : CheckOption → CheckOptions → CheckOptions
-with_option (Until date) o = record { until = Some date; no_before = o.no_before; no_after = o.no_after; no_chain = o.no_chain }
-with_option NoBefore o = record { until = o.until; no_before = true; no_after = o.no_after; no_chain = o.no_chain }
-with_option NoAfter o = record { until = o.until; no_before = o.no_before; no_after = true; no_chain = o.no_chain }
-with_option NoChain o = record { until = o.until; no_before = o.no_before; no_after = o.no_after; no_chain = true }
+with_option (Until date) o = record {
+  until = Some date;
+  no_before = o.no_before;
+  no_after = o.no_after;
+  no_chain = o.no_chain;
+}
+with_option NoBefore o =
+    record { until = o.until; no_before = true; no_after = o.no_after; no_chain = o.no_chain }
+with_option NoAfter o =
+    record { until = o.until; no_before = o.no_before; no_after = true; no_chain = o.no_chain }
+with_option NoChain o =
+    record { until = o.until; no_before = o.no_before; no_after = o.no_after; no_chain = true }
 
 -- these do
 abbrev pub standing : List CheckOption → CheckOptions

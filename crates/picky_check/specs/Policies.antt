@@ -8,15 +8,30 @@ use Rattle.picky_check.specs.declared.options.CheckOptions.{CheckOptions}
 
 -- basic: the form, the digest HASH and the signature, and nothing of the signer's certificate
 abbrev pub basic_policy : (hash : List ℕ) → Policy
-basic_policy hash =
-    record { basic = true; file_hash = Some hash; signing = false; not_before = false; not_after = false; chain = false; date = dates.Absent }
+basic_policy hash = record {
+  basic = true;
+  file_hash = Some hash;
+  signing = false;
+  not_before = false;
+  not_after = false;
+  chain = false;
+  date = dates.Absent;
+}
 
 -- the moment DATE, or those from it to the other one
 abbrev pub moments : (date : GeneralizedTime) (until : Option GeneralizedTime) → DateCheck
 moments date None = dates.Exact date
 moments date (Some other) = dates.Interval date other
 
--- check: that, and the signer's certificate over those of its issuers, all of them valid at DATE, but for what the options leave out
+-- check: that, and the signer's certificate over those of its issuers, all of them valid at DATE,
+-- but for what the options leave out
 abbrev pub check_policy : (hash : List ℕ) → (date : GeneralizedTime) → CheckOptions → Policy
-check_policy hash date o =
-    record { basic = true; file_hash = Some hash; signing = true; not_before = not o.no_before; not_after = not o.no_after; chain = not o.no_chain; date = moments date o.until }
+check_policy hash date o = record {
+  basic = true;
+  file_hash = Some hash;
+  signing = true;
+  not_before = not o.no_before;
+  not_after = not o.no_after;
+  chain = not o.no_chain;
+  date = moments date o.until;
+}

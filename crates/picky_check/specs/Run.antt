@@ -30,8 +30,8 @@ pub record FindsLongFile (words : List (List ℕ)) (before after : ShelfState) :
   pub has_long_file : IsSome before.files → HasLongFile before.files (files_of job)
 
 -- An answer with this status is reported: the sink has its line more.
-pub record IsDelivered (words : List (List ℕ)) (files : Option Files) (out out_now : SinkState) (status : ℕ)
-    : Type 0 where
+pub record IsDelivered (words : List (List ℕ)) (files : Option Files) (out out_now : SinkState)
+    (status : ℕ) : Type 0 where
   pub answer : Answer
   pub is_answer : Answers words files answer
   pub told : WantsMemory answer → ⊥
@@ -81,9 +81,10 @@ pub record IsRun (words : List (List ℕ)) (shelf shelf_now : ShelfState) (out o
       → ((status ≡ 6) ⊎ (status ≡ 7)) ⊎ (status ≡ 4)
   -- without a report nothing is written
   pub nothing_written : 2 ≤ status → status ≢ 5 → Keeps out.held out_now.held
-  -- Where a quiet shelf tells its files, the answer about them is reported by its line, unless memory
-  -- runs out, or the sink fails that tells no room for the line.
-  pub answered : (job : Job) (answer : Answer) → AsksFor words job → shelf.is_quiet → IsSome shelf.files
-      → IsAnswered shelf.files job answer → (WantsMemory answer → ⊥)
-      → (((status ≡ status_of answer) × Appends out.held (report_line answer) out_now.held) ⊎ (status ≡ 7))
+  -- Where a quiet shelf tells its files, the answer about them is reported by its line, unless
+  -- memory runs out, or the sink fails that tells no room for the line.
+  pub answered : (job : Job) (answer : Answer) → AsksFor words job → shelf.is_quiet
+      → IsSome shelf.files → IsAnswered shelf.files job answer → (WantsMemory answer → ⊥)
+      → (((status ≡ status_of answer) × Appends out.held (report_line answer) out_now.held)
+      ⊎ (status ≡ 7))
       ⊎ ((status ≡ 5) × HasRisen out.faults out_now.faults × LacksRoom out answer)

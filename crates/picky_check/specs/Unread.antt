@@ -8,7 +8,8 @@ use Rattle.picky_check.specs.Limits.{longest_file, IsMissingFile, HasFiles, HasL
 use Rattle.picky_check.specs.Shelf.{ShelfState}
 
 -- Why the files of these names weren't all read, in their order.
-pub record AreUnread (before after : ShelfState) (names : List (List ℕ)) (e : FileError) : Type 0 where
+pub record AreUnread (before after : ShelfState) (names : List (List ℕ))
+    (e : FileError) : Type 0 where
   -- the shelf failed, and not where it is quiet and has each of them
   pub failed : e ≡ file.Fault → HasRisen before.faults after.faults
   pub quiet : before.is_quiet → HasFiles before.files names → e ≢ file.Fault
@@ -16,5 +17,5 @@ pub record AreUnread (before after : ShelfState) (names : List (List ℕ)) (e : 
   pub more_given : e ≡ file.TooLong → RisesBeyond longest_file before.given after.given
   pub too_long : e ≡ file.TooLong → IsSome before.files → HasLongFile before.files names
   -- where one is missing, those behind it aren't read
-  pub missing : (ahead behind : List (List ℕ)) (name : List ℕ) → names ≡ ahead ++ name ∷ behind → IsMissingFile before.files name
-      → e ≡ file.TooLong → HasLongFile before.files ahead
+  pub missing : (ahead behind : List (List ℕ)) (name : List ℕ) → names ≡ ahead ++ name ∷ behind
+      → IsMissingFile before.files name → e ≡ file.TooLong → HasLongFile before.files ahead

@@ -11,9 +11,12 @@ use Rattle.picky_check.specs.Options.{AreOptions}
 pub data Job : Type 0 where
   -- the form of the file SIG, its digest, which is HASH, and its signature, which TABLE accepts
   Basic : (signature table hash : List ℕ) → Job
-  -- the same, and the certificate of its signer over those of its issuers, at DATE, but for what the options leave out
-  Check : (signature table hash : List ℕ) → (date : GeneralizedTime) → (options : CheckOptions) → Job
-  -- the first of the files CERT over the others, its parents, at DATE, by the signatures that TABLE accepts
+  -- the same, and the certificate of its signer over those of its issuers, at DATE, but for what
+  -- the options leave out
+  Check : (signature table hash : List ℕ) → (date : GeneralizedTime) → (options : CheckOptions)
+      → Job
+  -- the first of the files CERT over the others, its parents, at DATE, by the signatures that TABLE
+  -- accepts
   Chain : (table : List ℕ) → (date : GeneralizedTime) → (certificates : List (List ℕ)) → Job
 
 -- the names of its files, in the order in which they are read
@@ -39,7 +42,8 @@ pub record IsBasic (words : List (List ℕ)) (signature table hash : List ℕ) :
   pub hash_is : asked_hash word ≡ Some hash
 
 -- check SIG TABLE HASH DATE, then options
-pub record IsCheck (words : List (List ℕ)) (signature table hash : List ℕ) (date : GeneralizedTime) (options : CheckOptions) : Type 0 where
+pub record IsCheck (words : List (List ℕ)) (signature table hash : List ℕ) (date : GeneralizedTime)
+    (options : CheckOptions) : Type 0 where
   pub word : List ℕ
   pub date_word : List ℕ
   pub option_words : List (List ℕ)
@@ -49,7 +53,8 @@ pub record IsCheck (words : List (List ℕ)) (signature table hash : List ℕ) (
   pub options_are : AreOptions option_words options
 
 -- chain TABLE DATE CERT .., with 1 to 32 files CERT
-pub record IsChain (words : List (List ℕ)) (table : List ℕ) (date : GeneralizedTime) (certificates : List (List ℕ)) : Type 0 where
+pub record IsChain (words : List (List ℕ)) (table : List ℕ) (date : GeneralizedTime)
+    (certificates : List (List ℕ)) : Type 0 where
   pub word : List ℕ
   pub words_are : words ≡ codes "chain" ∷ table ∷ word ∷ certificates
   pub date_is : IsDateWord word date
@@ -59,7 +64,8 @@ pub record IsChain (words : List (List ℕ)) (table : List ℕ) (date : Generali
 -- The table of the commands: the words ask for this job.
 abbrev pub AsksFor : List (List ℕ) → Job → Type 0
 AsksFor words (Basic signature table hash) = IsBasic words signature table hash
-AsksFor words (Check signature table hash date options) = IsCheck words signature table hash date options
+AsksFor words (Check signature table hash date options) =
+    IsCheck words signature table hash date options
 AsksFor words (Chain table date certificates) = IsChain words table date certificates
 
 -- the words are of no command

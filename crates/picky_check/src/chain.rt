@@ -11,9 +11,9 @@ use sig_core::Scheme;
 use std::alloc::Global;
 use x509_core::{Cert, CertError};
 
-/// Whether the certificate that octets are is accepted over those that others are, the nearest parent
-/// first, at a date: how many parents these are. All checks of `CertValidator` are on, and a root is
-/// asked for.
+/// Whether the certificate that octets are is accepted over those that others are, the nearest
+/// parent first, at a date: how many parents these are. All checks of `CertValidator` are on, and a
+/// root is asked for.
 pub(crate) fn check_chain<S: Scheme>(
     alloc: Global,
     checked: &[u8],
@@ -73,7 +73,8 @@ fn accept<S: Scheme>(
 ) -> Result<(), CertError>
     ensures { MatchResult result
         (λ _. IsAccepted (S.judge scheme.now) (all_checks date.now) checked.now (Some parents.now))
-        (RefusesCertBy (chain_rules (S.judge scheme.now) (all_checks date.now) checked.now (Some parents.now))) }
+        (RefusesCertBy (chain_rules (S.judge scheme.now) (all_checks date.now) checked.now
+        (Some parents.now))) }
 {
     checked
         .verifier()

@@ -29,7 +29,8 @@ pub fn read_file<F: Shelf>(alloc: Global, shelf: &mut F, name: &str) -> Result<V
     ensures more_given { IsErrOf result FileError.TooLong
         → RisesBy (longest_file + 1) (F.state shelf.old).given (F.state shelf.new).given }
 
-    ensures missing { IsMissingFile (F.state shelf.old).files name.now → result ≡ Err FileError.Fault }
+    ensures missing { IsMissingFile (F.state shelf.old).files name.now
+        → result ≡ Err FileError.Fault }
     ensures cause { IsErrOf result FileError.Fault
         → HasRisen (F.state shelf.old).faults (F.state shelf.new).faults }
     ensures no_fault { (F.state shelf.old).is_quiet
@@ -103,7 +104,8 @@ pub(crate) fn read_files<F: Shelf>(
     names: &Names<'_>,
 ) -> Result<Contents, FileError>
     ensures read { MatchResult result
-        (λ read. AreWholeFiles (F.state shelf.old).files (names_held names.now) (contents_held read))
+        (λ read. AreWholeFiles (F.state shelf.old).files (names_held names.now)
+        (contents_held read))
         (AreUnread (F.state shelf.old) (F.state shelf.new) (names_held names.now)) }
     ensures once { FailsOnce (result ≡ Err FileError.Fault)
         (F.state shelf.old).faults (F.state shelf.new).faults }
@@ -127,7 +129,8 @@ fn read_others<F: Shelf>(
     contents: &mut Vec<Vec<u8>>,
 ) -> Result<(), FileError>
     ensures read { OnOk result ((read : List (List ℕ))
-        × (map (λ octets. octets.items) contents.new.items ≡ map (λ octets. octets.items) contents.old.items ++ read)
+        × (map (λ octets. octets.items) contents.new.items
+        ≡ map (λ octets. octets.items) contents.old.items ++ read)
         × AreWholeFiles (F.state shelf.old).files (map string_bytes names.now) read) }
     ensures unread { IfErr result
         (AreUnread (F.state shelf.old) (F.state shelf.new) (map string_bytes names.now)) }

@@ -94,7 +94,8 @@ fn judge_by<S: Scheme>(
     read: &Contents,
     scheme: &S,
 ) -> Result<Report, Stop>
-    ensures { Reports (IsAnswerTo (S.judge scheme.now) (job_held asked.now) (contents_held read.now)) result }
+    ensures { Reports
+        (IsAnswerTo (S.judge scheme.now) (job_held asked.now) (contents_held read.now)) result }
 {
     match asked {
         Job::Basic { hash, .. } => judge_basic(alloc, &read.first, hash, scheme),
@@ -115,7 +116,8 @@ fn judge_basic<S: Scheme>(
     hash: &[u8],
     scheme: &S,
 ) -> Result<Report, Stop>
-    ensures { Reports (IsSignatureAnswer (S.judge scheme.now) (basic_policy hash.now) octets.now) result }
+    ensures { Reports (IsSignatureAnswer (S.judge scheme.now) (basic_policy hash.now) octets.now)
+        result }
 {
     let policy = basic_policy(alloc, hash)?;
     judge_signature(alloc, octets, &policy, scheme)
@@ -130,7 +132,9 @@ fn judge_signer<S: Scheme>(
     options: CheckOptions,
     scheme: &S,
 ) -> Result<Report, Stop>
-    ensures { Reports (IsSignatureAnswer (S.judge scheme.now) (check_policy hash.now date options) octets.now) result }
+    ensures { Reports
+        (IsSignatureAnswer (S.judge scheme.now) (check_policy hash.now date options) octets.now)
+        result }
 {
     let policy = check_policy(alloc, hash, date, options)?;
     judge_signature(alloc, octets, &policy, scheme)

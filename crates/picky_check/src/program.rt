@@ -29,7 +29,8 @@ pub fn run<F: Shelf, O: Sink>(alloc: Global, words: &[String], shelf: &mut F, ou
         ⊎ IsVouchedChain (map string_bytes words.now) (F.state shelf.old).files
         (O.state out.old).held (O.state out.new).held) }
     // A call of the shelf or of the sink that failed is the last, and the status tells it.
-    ensures shelf_once { FailsOnce (result ≡ 4) (F.state shelf.old).faults (F.state shelf.new).faults }
+    ensures shelf_once { FailsOnce (result ≡ 4) (F.state shelf.old).faults
+        (F.state shelf.new).faults }
     ensures sink_once { FailsOnce (result ≡ 5) (O.state out.old).faults (O.state out.new).faults }
     // What each status tells, and when it comes.
     ensures ends { IsRun (map string_bytes words.now) (F.state shelf.old) (F.state shelf.new)

@@ -12,8 +12,8 @@ use thiserror::Error;
 #[error("the outside failed")]
 pub struct Failed;
 
-/// Files that are picked by name and read piece by piece. A call that fails counts one fault, and no
-/// other call counts any.
+/// Files that are picked by name and read piece by piece. A call that fails counts one fault, and
+/// no other call counts any.
 pub trait Shelf {
     /// What is seen of it.
     ghost state: { Self → ShelfState };

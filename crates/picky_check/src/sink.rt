@@ -7,8 +7,8 @@ ghost use Rattle.picky_check.specs.Sink.{SinkState, Appends, Keeps, Lowers, IsFu
 
 use crate::Failed;
 
-/// An output that takes octets piece by piece. A call that fails counts one fault, and no other call
-/// counts any.
+/// An output that takes octets piece by piece. A call that fails counts one fault, and no other
+/// call counts any.
 pub trait Sink {
     /// What is seen of it.
     ghost state: { Self → SinkState };

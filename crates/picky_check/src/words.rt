@@ -84,7 +84,8 @@ pub(crate) fn job_of(alloc: Global, words: &[String]) -> Result<Option<Job<'_>>,
         (λ held. AsksFor (map string_bytes words.now) (job_held held))) }
     ensures only { (asked : AskedJob) → AsksFor (map string_bytes words.now) asked
         → IfOk result (λ held. option_map job_held held ≡ Some asked) }
-    ensures memory { IsErr result → (asked : AskedJob) × AsksFor (map string_bytes words.now) asked }
+    ensures memory { IsErr result
+        → (asked : AskedJob) × AsksFor (map string_bytes words.now) asked }
 {
     let [command, words @ ..] = words else {
         return Ok(None);

@@ -1,4 +1,5 @@
-//! Elements whose length needs several octets, and elements at the greatest depth, read and written.
+//! Elements whose length needs several octets, and elements at the greatest depth, read and
+//! written.
 
 ghost use Rattle.std.specs.Prelude.{IfOk};
 ghost use Rattle.der_core.specs.Encoding.{IsWellFormed};

@@ -1,5 +1,6 @@
--- RSAPrivateKey ::= SEQUENCE { version Version, modulus, publicExponent, privateExponent, prime1, prime2, exponent1, exponent2,
--- coefficient, each an INTEGER, otherPrimeInfos OtherPrimeInfos OPTIONAL } (RFC 8017 A.1.2): of two primes alone, whose version is 0
+-- RSAPrivateKey ::= SEQUENCE { version Version, modulus, publicExponent, privateExponent, prime1,
+-- prime2, exponent1, exponent2, coefficient, each an INTEGER, otherPrimeInfos OtherPrimeInfos
+-- OPTIONAL } (RFC 8017 A.1.2): of two primes alone, whose version is 0
 use Rattle.std.specs.Prelude.{[], ◌∷◌}
 use Rattle.der_core.specs.DerElement.{DerElement}
 use Rattle.der_core.specs.Elements.{sequence}
@@ -23,7 +24,8 @@ pub record RsaElements : Type 0 where
 
 -- by these
 abbrev pub rsa_private_key_of : RsaElements → DerElement
-rsa_private_key_of f = sequence (two_prime ∷ f.n ∷ f.e ∷ f.d ∷ f.p ∷ f.q ∷ f.dp ∷ f.dq ∷ f.qinv ∷ [])
+rsa_private_key_of f =
+    sequence (two_prime ∷ f.n ∷ f.e ∷ f.d ∷ f.p ∷ f.q ∷ f.dp ∷ f.dq ∷ f.qinv ∷ [])
 
 -- the element of a key
 abbrev pub rsa_private_key : RsaPrivateKey → DerElement

@@ -20,10 +20,10 @@ const PARAMETERS: u8 = 0xA0;
 
 const PUBLIC_KEY: u8 = 0xA1;
 
-/// A private key of an elliptic curve (RFC 5915 3): the octets of a number, and the identifier of its
-/// curve and its public key, a point, which may each be left out. How many octets there are, which
-/// curve it is, and that the point is that of the number isn't asked. It has no `Debug`, so no secret
-/// is printed by mistake.
+/// A private key of an elliptic curve (RFC 5915 3): the octets of a number, and the identifier of
+/// its curve and its public key, a point, which may each be left out. How many octets there are,
+/// which curve it is, and that the point is that of the number isn't asked. It has no `Debug`, so
+/// no secret is printed by mistake.
 pub struct ECPrivateKey {
     pub private_key: Octets,
     pub parameters: Option<ObjectIdentifier>,
@@ -54,8 +54,10 @@ impl<'a> Fields<'a> {
     /// The fields of the element.
     fn of(elem: Elem<'a>) -> Option<Fields<'a>>
         ensures { MatchOption result
-            ((private_key : DerElement) (parameters public_key : Option DerElement) → elem.entry.is.0 ≢ ec_private_key_of private_key parameters public_key)
-            (λ f. elem.entry.is.0 ≡ ec_private_key_of f.private_key.is.0 (at_option f.parameters) (at_option f.public_key)) }
+            ((private_key : DerElement) (parameters public_key : Option DerElement)
+            → elem.entry.is.0 ≢ ec_private_key_of private_key parameters public_key)
+            (λ f. elem.entry.is.0 ≡ ec_private_key_of f.private_key.is.0 (at_option f.parameters)
+            (at_option f.public_key)) }
     {
         let mut kids = Kids::of(elem, SEQUENCE)?;
         expect_leaf(kids.next()?, INTEGER, &VERSION)?;

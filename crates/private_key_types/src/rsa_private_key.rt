@@ -141,7 +141,8 @@ impl TwoNumbers {
     fn read(alloc: Global, one: Elem<'_>, other: Elem<'_>) -> Result<TwoNumbers, DerError>
         ensures { MatchResult result
             (λ two. (one.entry.is.0 ≡ integer two.one) × (other.entry.is.0 ≡ integer two.other))
-            (RefusesShape (λ (two : TwoNumbers). (one.entry.is.0 ≡ integer two.one) × (other.entry.is.0 ≡ integer two.other))) }
+            (RefusesShape (λ (two : TwoNumbers). (one.entry.is.0 ≡ integer two.one)
+            × (other.entry.is.0 ≡ integer two.other))) }
     {
         let one = IntegerAsn1::read_at(alloc, one)?;
         match IntegerAsn1::read_at(alloc, other) {

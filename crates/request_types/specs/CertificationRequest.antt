@@ -1,5 +1,5 @@
--- CertificationRequest ::= SEQUENCE { certificationRequestInfo CertificationRequestInfo, signatureAlgorithm AlgorithmIdentifier,
--- signature BIT STRING } (RFC 2986 4.2)
+-- CertificationRequest ::= SEQUENCE { certificationRequestInfo CertificationRequestInfo,
+-- signatureAlgorithm AlgorithmIdentifier, signature BIT STRING } (RFC 2986 4.2)
 use Rattle.std.specs.Prelude.{◌≡◌, ℕ, [], ◌∷◌, ◌++◌, List}
 use Rattle.der_core.specs.DerElement.{DerElement}
 use Rattle.der_core.specs.Elements.{sequence}
@@ -11,7 +11,8 @@ use Rattle.request_types.specs.declared.request.CertificationRequest.{Certificat
 
 -- the element around what is signed, with the algorithm of the signature and the signature
 abbrev pub request_of : DerElement → CertificationRequest → DerElement
-request_of info r = sequence (info ∷ algorithm_identifier r.signature_algorithm ∷ bit_string r.signature ∷ [])
+request_of info r =
+    sequence (info ∷ algorithm_identifier r.signature_algorithm ∷ bit_string r.signature ∷ [])
 
 -- The element spells the request.
 pub record IsRequest (element : DerElement) (r : CertificationRequest) : Type 0 where

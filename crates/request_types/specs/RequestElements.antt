@@ -1,5 +1,6 @@
--- CertificationRequestInfo ::= SEQUENCE { version INTEGER { v1(0) }, subject Name, subjectPKInfo SubjectPublicKeyInfo,
--- attributes [0] IMPLICIT SET OF Attribute } (RFC 2986 4.1), by the elements of its fields.
+-- CertificationRequestInfo ::= SEQUENCE { version INTEGER { v1(0) }, subject Name, subjectPKInfo
+-- SubjectPublicKeyInfo, attributes [0] IMPLICIT SET OF Attribute } (RFC 2986 4.1), by the elements
+-- of its fields.
 use Rattle.std.specs.Prelude.{[], ◌∷◌, Option, option_to_list}
 use Rattle.asn1_types.specs.Elements.{integer_of}
 use Rattle.der_core.specs.DerElement.{DerElement}
@@ -11,4 +12,5 @@ request_version = integer_of (0 ∷ [])
 
 -- the element around those of the fields. The attributes may be left out here.
 abbrev pub request_info_of : DerElement → DerElement → Option DerElement → DerElement
-request_info_of subject key attributes = sequence (request_version ∷ subject ∷ key ∷ option_to_list attributes)
+request_info_of subject key attributes =
+    sequence (request_version ∷ subject ∷ key ∷ option_to_list attributes)

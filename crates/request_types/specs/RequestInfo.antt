@@ -27,11 +27,15 @@ pub record IsRequestInfo (element : DerElement) (info : CertificationRequestInfo
 
 -- the element that is written
 abbrev pub request_info : CertificationRequestInfo → DerElement
-request_info info = request_info_of (name info.subject) (public_key_info info.subject_public_key_info) (option_map attribute_list info.attributes)
+request_info info =
+    request_info_of (name info.subject) (public_key_info info.subject_public_key_info)
+    (option_map attribute_list info.attributes)
 
 -- the elements that are written into strings of it: that of the key, then those of the attributes
 abbrev pub inner_request : CertificationRequestInfo → List DerElement
-inner_request info = inner_key info.subject_public_key_info.subject_public_key ++ inner_option inner_attributes info.attributes
+inner_request info =
+    inner_key info.subject_public_key_info.subject_public_key
+    ++ inner_option inner_attributes info.attributes
 
 -- the kinds of the values of extensions in it, and the octets that are written
 abbrev pub request_info_octets : CertificationRequestInfo → List ℕ

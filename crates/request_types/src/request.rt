@@ -87,8 +87,8 @@ impl Structure for CertificationRequest {
     ghost grammar = { requests };
 }
 
-/// Requests are equal exactly where the kinds of the values of their extensions are, and the octets that
-/// are written for them; the octets alone decide where they can be written.
+/// Requests are equal exactly where the kinds of the values of their extensions are, and the octets
+/// that are written for them; the octets alone decide where they can be written.
 impl PartialEq for CertificationRequest {
     ghost use Rattle.std.specs.Ordering.{on};
     ghost use Rattle.std.specs.Cmp.Lexicographic.{nat_list_eq_equiv};
@@ -100,10 +100,12 @@ impl PartialEq for CertificationRequest {
 
     ghost eq = { on (λ value. request_octets value) bytes_eq };
 
-    ghost laws = { on_per (λ value. request_octets value) (partial_equiv_from_equiv nat_list_eq_equiv) };
+    ghost laws = { on_per (λ value. request_octets value)
+        (partial_equiv_from_equiv nat_list_eq_equiv) };
 
     fn eq(&self, other: &CertificationRequest) -> bool
-        ensures octets { AreDer (inner_of_request self.now) → AreDer (inner_of_request other.now) → result ≡ same_octets request self.now other.now }
+        ensures octets { AreDer (inner_of_request self.now) → AreDer (inner_of_request other.now)
+            → result ≡ same_octets request self.now other.now }
         ensures told { result ≡ bytes_eq (request_octets self.now) (request_octets other.now) }
         ensures same { IsTrue result ↔ (self.now ≡ other.now) }
     {

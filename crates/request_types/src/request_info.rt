@@ -46,8 +46,10 @@ impl<'a> RequestFields<'a> {
     /// The fields of the element.
     fn of(elem: Elem<'a>) -> Option<RequestFields<'a>>
         ensures { MatchOption result
-            ((subject key : DerElement) (attributes : Option DerElement) → elem.entry.is.0 ≢ request_info_of subject key attributes)
-            (λ fields. elem.entry.is.0 ≡ request_info_of fields.subject.is.0 fields.subject_public_key_info.is.0 (at_option fields.attributes)) }
+            ((subject key : DerElement) (attributes : Option DerElement)
+            → elem.entry.is.0 ≢ request_info_of subject key attributes)
+            (λ fields. elem.entry.is.0 ≡ request_info_of fields.subject.is.0
+            fields.subject_public_key_info.is.0 (at_option fields.attributes)) }
     {
         let mut kids = Kids::of(elem, SEQUENCE)?;
         expect_leaf(kids.next()?, INTEGER, &[0])?;
@@ -66,7 +68,8 @@ impl<'a> RequestFields<'a> {
 /// The element, where there is one, spells attributes.
 fn expect_attributes(elem: Option<Elem<'_>>) -> Option<()>
     ensures { MatchOption result
-        ((attributes : Option (List Attribute)) → SpellsOption AreAttributes (at_option elem.entry) attributes → ⊥)
+        ((attributes : Option (List Attribute))
+        → SpellsOption AreAttributes (at_option elem.entry) attributes → ⊥)
         (λ _. Fits (SpellsOption AreAttributes) (at_option elem.entry)) }
 {
     match elem {
@@ -90,7 +93,8 @@ fn expect_list(elem: Elem<'_>) -> Option<()>
 
 /// The attributes that the element spells, where there is one.
 fn read_attributes(alloc: Global, elem: Option<Elem<'_>>) -> Result<Option<AttributeList>, DerError>
-    ensures { MatchResult result (SpellsOption AreAttributes (at_option elem.entry)) (RefusesShape (SpellsOption AreAttributes (at_option elem.entry))) }
+    ensures { MatchResult result (SpellsOption AreAttributes (at_option elem.entry))
+        (RefusesShape (SpellsOption AreAttributes (at_option elem.entry))) }
 {
     match elem {
         Some(elem) => Ok(Some(read_list(alloc, elem, ATTRIBUTES)?)),
@@ -105,7 +109,9 @@ fn push_attributes(
     attributes: &Option<AttributeList>,
 ) -> Result<(), DerError>
     ensures { MatchResult result
-        (λ _. (kids.new.kids ≡ kids.old.kids ++ option_to_list (option_map attribute_list attributes.now)) × AreDer (inner_option inner_attributes attributes.now))
+        (λ _. (kids.new.kids ≡ kids.old.kids
+        ++ option_to_list (option_map attribute_list attributes.now))
+        × AreDer (inner_option inner_attributes attributes.now))
         (RefusesInner (inner_option inner_attributes attributes.now)) }
 {
     if let Some(attributes) = attributes {
@@ -202,8 +208,8 @@ impl Structure for CertificationRequestInfo {
     ghost grammar = { request_infos };
 }
 
-/// What is signed of requests is equal exactly where the kinds of the values of extensions in it are,
-/// and the octets that are written; the octets alone decide where they can be written.
+/// What is signed of requests is equal exactly where the kinds of the values of extensions in it
+/// are, and the octets that are written; the octets alone decide where they can be written.
 impl PartialEq for CertificationRequestInfo {
     ghost use Rattle.std.specs.Ordering.{on};
     ghost use Rattle.std.specs.Cmp.Lexicographic.{nat_list_eq_equiv};
@@ -214,11 +220,14 @@ impl PartialEq for CertificationRequestInfo {
 
     ghost eq = { on (λ value. request_info_octets value) bytes_eq };
 
-    ghost laws = { on_per (λ value. request_info_octets value) (partial_equiv_from_equiv nat_list_eq_equiv) };
+    ghost laws = { on_per (λ value. request_info_octets value)
+        (partial_equiv_from_equiv nat_list_eq_equiv) };
 
     fn eq(&self, other: &CertificationRequestInfo) -> bool
-        ensures octets { AreDer (inner_request self.now) → AreDer (inner_request other.now) → result ≡ same_octets request_info self.now other.now }
-        ensures told { result ≡ bytes_eq (request_info_octets self.now) (request_info_octets other.now) }
+        ensures octets { AreDer (inner_request self.now) → AreDer (inner_request other.now)
+            → result ≡ same_octets request_info self.now other.now }
+        ensures told { result ≡ bytes_eq (request_info_octets self.now)
+            (request_info_octets other.now) }
         ensures same { IsTrue result ↔ (self.now ≡ other.now) }
     {
         self.subject == other.subject

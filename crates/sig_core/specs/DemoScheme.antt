@@ -13,16 +13,19 @@ use Rattle.sig_core.specs.RsaSecret.{rsa_public_element, IsRsaSecret}
 use Rattle.sig_core.specs.Facts.RsaSecrets.{rsa_secret_or_none}
 
 -- the key of a secret of RSA: the encoding of the RSAPublicKey with its modulus and public exponent
-abbrev pub rsa_key : {secret : List ℕ} → IsRsaSecret secret ⊎ (IsRsaSecret secret → ⊥) → Option (List ℕ)
-rsa_key (inl rsa) = Some (encoding (rsa_public_element rsa.numbers.modulus rsa.numbers.public_exponent))
+abbrev pub rsa_key : {secret : List ℕ} → IsRsaSecret secret ⊎ (IsRsaSecret secret → ⊥)
+    → Option (List ℕ)
+rsa_key (inl rsa) =
+    Some (encoding (rsa_public_element rsa.numbers.modulus rsa.numbers.public_exponent))
 rsa_key (inr none) = None
 
 -- the key where the secret has so many octets
 abbrev pub key_of_length : ℕ → List ℕ → List ℕ → Option (List ℕ)
 key_of_length size secret key = if length secret == size then Some key else None
 
--- the key of a secret, where it has one. That of a curve begins as an uncompressed point (SEC 1 2.3.3) and has the secret,
--- of the length of the field, in the place of both coordinates; that of curve 25519 is the digest of 32 octets
+-- the key of a secret, where it has one. That of a curve begins as an uncompressed point (SEC 1
+-- 2.3.3) and has the secret, of the length of the field, in the place of both coordinates; that of
+-- curve 25519 is the digest of 32 octets
 abbrev pub demo_key : SchemeKind → List ℕ → Option (List ℕ)
 demo_key Rsa secret = rsa_key (rsa_secret_or_none secret)
 demo_key P256 secret = key_of_length 32 secret (0x04 ∷ secret ++ secret)
@@ -42,4 +45,6 @@ demo_signature alg key msg = sha256 (name_of alg ++ 0x00 ∷ sha256 key ++ msg)
 -- a signature has 32 octets; one is accepted, and all others of that length are rejected
 abbrev pub demo_verdict : SigAlg → List ℕ → List ℕ → List ℕ → Verdict
 demo_verdict alg key msg sig =
-    if length sig == 32 then (if bytes_eq sig (demo_signature alg key msg) then Accept else Reject) else Malformed
+    if length sig == 32
+    then (if bytes_eq sig (demo_signature alg key msg) then Accept else Reject)
+    else Malformed

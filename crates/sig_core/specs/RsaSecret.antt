@@ -28,15 +28,20 @@ pub record AreIntegers (numbers : RsaNumbers) : Type 0 where
   pub exponent2 : IsInteger numbers.exponent2
   pub coefficient : IsInteger numbers.coefficient
 
--- RSAPrivateKey ::= SEQUENCE { version Version, modulus, publicExponent, privateExponent, prime1, prime2, exponent1, exponent2,
--- coefficient, each an INTEGER, otherPrimeInfos OtherPrimeInfos OPTIONAL } (RFC 8017 A.1.2): of two primes alone, whose version is 0
+-- RSAPrivateKey ::= SEQUENCE { version Version, modulus, publicExponent, privateExponent, prime1,
+-- prime2, exponent1, exponent2, coefficient, each an INTEGER, otherPrimeInfos OtherPrimeInfos
+-- OPTIONAL } (RFC 8017 A.1.2): of two primes alone, whose version is 0
 abbrev pub rsa_private_element : RsaNumbers → DerElement
 rsa_private_element numbers =
-    sequence (integer_of (0 ∷ []) ∷ integer_of numbers.modulus ∷ integer_of numbers.public_exponent ∷ integer_of numbers.private_exponent ∷ integer_of numbers.prime1 ∷ integer_of numbers.prime2 ∷ integer_of numbers.exponent1 ∷ integer_of numbers.exponent2 ∷ integer_of numbers.coefficient ∷ [])
+    sequence (integer_of (0 ∷ []) ∷ integer_of numbers.modulus ∷
+    integer_of numbers.public_exponent ∷ integer_of numbers.private_exponent ∷
+    integer_of numbers.prime1 ∷ integer_of numbers.prime2 ∷ integer_of numbers.exponent1 ∷
+    integer_of numbers.exponent2 ∷ integer_of numbers.coefficient ∷ [])
 
 -- RSAPublicKey ::= SEQUENCE { modulus INTEGER, publicExponent INTEGER } (RFC 8017 A.1.1)
 abbrev pub rsa_public_element : List ℕ → List ℕ → DerElement
-rsa_public_element modulus public_exponent = sequence (integer_of modulus ∷ integer_of public_exponent ∷ [])
+rsa_public_element modulus public_exponent =
+    sequence (integer_of modulus ∷ integer_of public_exponent ∷ [])
 
 -- the secret is the encoding of an RSAPrivateKey
 pub record IsRsaSecret (secret : List ℕ) : Type 0 where

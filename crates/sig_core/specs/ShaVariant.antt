@@ -1,4 +1,5 @@
--- The digest algorithms by their identifiers, and what a conversion between the two types of them gives.
+-- The digest algorithms by their identifiers, and what a conversion between the two types of them
+-- gives.
 use Rattle.std.specs.Prelude.{◌≡◌, ◌≢◌, ℕ, List, Result, MatchResult}
 use Rattle.asn1_types.specs.declared.oids.TheConstants as octets
 use Rattle.sig_core.specs.declared.error.UnsupportedHashAlgorithmError.{UnsupportedHashAlgorithmError}

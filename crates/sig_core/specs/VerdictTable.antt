@@ -45,7 +45,8 @@ IsTable text rows = AllByRecursion IsRow rows × (text ≡ lines_of rows)
 
 -- the text doesn't begin with the line of a row
 abbrev pub BeginsWithNoLine : List ℕ → Type 0
-BeginsWithNoLine text = (row : VerdictRow) (after : List ℕ) → IsRow row → text ≢ line_of row ++ after
+BeginsWithNoLine text =
+    (row : VerdictRow) (after : List ℕ) → IsRow row → text ≢ line_of row ++ after
 
 -- the line of this number is the first that spells no row: after the lines of the rows before it
 -- something is left, and that doesn't begin with a line. Lines are counted from 1

@@ -51,7 +51,8 @@ impl Scheme for DemoScheme {
         msg: &[u8],
         sig: &[u8],
     ) -> Result<Verdict, AllocError>
-        ensures verdict { IfOk result (λ verdict. verdict ≡ demo_verdict alg key.now msg.now sig.now) }
+        ensures verdict { IfOk result
+            (λ verdict. verdict ≡ demo_verdict alg key.now msg.now sig.now) }
         // No memory is asked for.
         ensures never_memory { IsOk result }
     {
@@ -74,7 +75,8 @@ impl Scheme for DemoScheme {
     ) -> Result<Vec<u8>, SchemeError>
         ensures signed { OnOk result (IsTrue (demo_signs alg secret.now)) }
         // Accepted under the key of the secret.
-        ensures accepted { IfOk result (λ sig. (key : List ℕ) → demo_key (kind_of_algorithm alg) secret.now ≡ Some key
+        ensures accepted { IfOk result
+            (λ sig. (key : List ℕ) → demo_key (kind_of_algorithm alg) secret.now ≡ Some key
             → demo_verdict alg key msg.now sig.items ≡ Verdict.Accept) }
         ensures refused { IsErrOf result SchemeError.Refused → demo_signs alg secret.now ≡ false }
         // A secret without a key is refused, whatever memory there is.
@@ -131,7 +133,8 @@ fn rsa_key(alloc: Global, secret: &[u8]) -> Result<Vec<u8>, SchemeError>
 
 /// The key of a secret for a curve whose field has so many octets.
 fn point(alloc: Global, secret: &[u8], field: usize) -> Result<Vec<u8>, SchemeError>
-    ensures derived { IfOk result (λ key. key_of_length field secret.now (0x04 ∷ secret.now ++ secret.now) ≡ Some key.items) }
+    ensures derived { IfOk result
+        (λ key. key_of_length field secret.now (0x04 ∷ secret.now ++ secret.now) ≡ Some key.items) }
     ensures refused { IsErrOf result SchemeError.Refused
         → key_of_length field secret.now (0x04 ∷ secret.now ++ secret.now) ≡ None }
     ensures always { key_of_length field secret.now (0x04 ∷ secret.now ++ secret.now) ≡ None
@@ -149,9 +152,12 @@ fn point(alloc: Global, secret: &[u8], field: usize) -> Result<Vec<u8>, SchemeEr
 
 /// The key of a secret for curve 25519.
 fn digest(alloc: Global, secret: &[u8]) -> Result<Vec<u8>, SchemeError>
-    ensures derived { IfOk result (λ key. key_of_length 32 secret.now (sha256 secret.now) ≡ Some key.items) }
-    ensures refused { IsErrOf result SchemeError.Refused → key_of_length 32 secret.now (sha256 secret.now) ≡ None }
-    ensures always { key_of_length 32 secret.now (sha256 secret.now) ≡ None → result ≡ Err SchemeError.Refused }
+    ensures derived { IfOk result
+        (λ key. key_of_length 32 secret.now (sha256 secret.now) ≡ Some key.items) }
+    ensures refused { IsErrOf result SchemeError.Refused
+        → key_of_length 32 secret.now (sha256 secret.now) ≡ None }
+    ensures always { key_of_length 32 secret.now (sha256 secret.now) ≡ None
+        → result ≡ Err SchemeError.Refused }
 {
     if secret.len() != 32 {
         return Err(SchemeError::Refused);

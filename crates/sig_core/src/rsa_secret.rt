@@ -24,10 +24,9 @@ pub(crate) struct RsaSecret<'a> {
 impl<'a> RsaSecret<'a> {
     /// What the secret says, where it is the encoding of such a key.
     pub(crate) fn of(secret: &'a [u8]) -> Option<RsaSecret<'a>>
-        ensures { MatchOption result
-            (IsRsaSecret secret.now → ⊥)
-            (λ rsa. (is : IsRsaSecret secret.now)
-            × (is.numbers.modulus ≡ rsa.modulus.now) × (is.numbers.public_exponent ≡ rsa.public_exponent.now)) }
+        ensures { MatchOption result (IsRsaSecret secret.now → ⊥)
+            (λ rsa. (is : IsRsaSecret secret.now) × (is.numbers.modulus ≡ rsa.modulus.now)
+            × (is.numbers.public_exponent ≡ rsa.public_exponent.now)) }
     {
         let elem = whole_element(secret)?;
         match RsaSecret::within(elem) {
@@ -39,9 +38,12 @@ impl<'a> RsaSecret<'a> {
     /// What the element of such a key says.
     fn within(elem: Elem<'a>) -> Option<RsaSecret<'a>>
         ensures { MatchOption result
-            ((numbers : RsaNumbers) → AreIntegers numbers → elem.entry.is.0 ≢ rsa_private_element numbers)
-            (λ rsa. (numbers : RsaNumbers) × AreIntegers numbers × (elem.entry.is.0 ≡ rsa_private_element numbers)
-            × (numbers.modulus ≡ rsa.modulus.now) × (numbers.public_exponent ≡ rsa.public_exponent.now)) }
+            ((numbers : RsaNumbers) → AreIntegers numbers
+            → elem.entry.is.0 ≢ rsa_private_element numbers)
+            (λ rsa. (numbers : RsaNumbers) × AreIntegers numbers
+            × (elem.entry.is.0 ≡ rsa_private_element numbers)
+            × (numbers.modulus ≡ rsa.modulus.now)
+            × (numbers.public_exponent ≡ rsa.public_exponent.now)) }
     {
         let mut kids = Kids::of(elem, SEQUENCE)?;
         // The version of keys of two primes.
@@ -63,8 +65,8 @@ impl<'a> RsaSecret<'a> {
 
     /// The encoding of the RSAPublicKey (RFC 8017 A.1.1).
     pub(crate) fn public_key(self, alloc: Global) -> Result<Vec<u8>, SchemeError>
-        ensures written { IfOk result (λ key.
-            key.items ≡ encoding (rsa_public_element self.entry.modulus.now self.entry.public_exponent.now)) }
+        ensures written { IfOk result (λ key. key.items ≡ encoding
+            (rsa_public_element self.entry.modulus.now self.entry.public_exponent.now)) }
         ensures only { IfErr result (λ e. e ≡ Memory) }
     {
         let mut kids = NewKids::new(alloc);
@@ -83,7 +85,8 @@ fn next_integer<'a>(kids: &mut Kids<'a>) -> Option<&'a [u8]>
     ensures { MatchOption result
         ((contents : List ℕ) (rest : List DerElement) → IsInteger contents
         → kids.old.are.0 ≢ integer_of contents ∷ rest)
-        (λ contents. IsInteger contents.now × (kids.old.are.0 ≡ integer_of contents.now ∷ kids.new.are.0)) }
+        (λ contents. IsInteger contents.now
+        × (kids.old.are.0 ≡ integer_of contents.now ∷ kids.new.are.0)) }
 {
     let contents = leaf_at(kids.next()?, INTEGER)?;
     if contents.is_empty() {

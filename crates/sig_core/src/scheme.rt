@@ -100,7 +100,8 @@ pub trait Scheme {
     ) -> Result<Vec<u8>, SchemeError>
         ensures signed { OnOk result (IsTrue (signs self.now alg secret.now msg.now)) }
         // Accepted under every key that pairs with the secret.
-        ensures accepted { IfOk result (λ sig. (key : List ℕ) → pair self.now (kind_of_algorithm alg) key secret.now
+        ensures accepted { IfOk result
+            (λ sig. (key : List ℕ) → pair self.now (kind_of_algorithm alg) key secret.now
             → judge self.now alg key msg.now sig.items ≡ Verdict.Accept) }
         ensures refused { IsErrOf result SchemeError.Refused
             → signs self.now alg secret.now msg.now ≡ false };

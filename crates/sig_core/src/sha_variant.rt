@@ -33,9 +33,10 @@ impl ShaVariant {
 
     /// The variant that an identifier names, refused exactly where it names none.
     pub fn from_oid(oid: &ObjectIdentifier) -> Result<ShaVariant, UnsupportedAlgorithmError>
-        ensures named { (variant : ShaVariant) → digest_identifier variant ≡ identifier_contents oid.now
-            → result ≡ Ok variant }
-        ensures name { IfOk result (λ variant. digest_identifier variant ≡ identifier_contents oid.now) }
+        ensures named { (variant : ShaVariant)
+            → digest_identifier variant ≡ identifier_contents oid.now → result ≡ Ok variant }
+        ensures name { IfOk result
+            (λ variant. digest_identifier variant ≡ identifier_contents oid.now) }
     {
         let contents = oid.as_bytes();
         for variant in ShaVariant::ALL {

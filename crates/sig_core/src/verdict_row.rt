@@ -58,7 +58,8 @@ fn first_space(text: &[u8]) -> Option<usize>
 /// The digest whose digits begin the text, and the text after the octet `end` behind them.
 fn split_digest(text: &[u8], end: u8) -> Option<([u8; DIGEST_LEN], &[u8])>
     ensures { MatchOption result
-        ((digest : List ℕ) (after : List ℕ) → IsDigest digest → text.now ≢ encode_lower digest ++ end ∷ after)
+        ((digest : List ℕ) (after : List ℕ) → IsDigest digest
+        → text.now ≢ encode_lower digest ++ end ∷ after)
         (λ split. IsDigest split.0 × (text.now ≡ encode_lower split.0 ++ end ∷ split.1.now)) }
 {
     let (digits, rest) = text.split_at_checked(DIGITS_LEN)?;

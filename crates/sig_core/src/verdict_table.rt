@@ -75,7 +75,8 @@ impl Model for VerdictTable {
 
     ghost view = { λ table. table.rows.items };
 
-    ghost invariant = { λ table. IsIndex ⟦<VerdictRow as Ord>⟧.cmp table.rows.items table.sorted.items };
+    ghost invariant = { λ table. IsIndex ⟦<VerdictRow as Ord>⟧.cmp table.rows.items
+        table.sorted.items };
 }
 
 impl VerdictTable {
@@ -169,7 +170,8 @@ fn rows_of(alloc: Global, text: &[u8]) -> Result<Vec<VerdictRow>, TableError>
 
 /// The rows in the order of their types, in which one is found by halves.
 fn sorted_copy(alloc: Global, rows: &[VerdictRow]) -> Result<Vec<VerdictRow>, AllocError>
-    ensures index { IfOk result (λ sorted. IsIndex ⟦<VerdictRow as Ord>⟧.cmp rows.now sorted.items) }
+    ensures index { IfOk result
+        (λ sorted. IsIndex ⟦<VerdictRow as Ord>⟧.cmp rows.now sorted.items) }
     // Nothing is asked for where there are no rows.
     ensures none { rows.now ≡ [] → IsOk result }
 {

@@ -8,11 +8,13 @@ use Rattle.sig_core.specs.declared.scheme.Verdict.TheVariants.{Accept, Reject, M
 -- whether the rows speak of the algorithm, the octets and the message
 abbrev pub is_asked : List ℕ → SigAlg → List ℕ → List ℕ → Bool
 is_asked octets alg given msg =
-    bytes_eq (name_of alg) (codes "rsa-sha256") && bytes_eq given octets && bytes_eq msg (codes "message")
+    bytes_eq (name_of alg) (codes "rsa-sha256") && bytes_eq given octets
+    && bytes_eq msg (codes "message")
 
 -- the three rows: good is accepted, odd has no form, all else is rejected
 abbrev pub row_verdict : List ℕ → SigAlg → List ℕ → List ℕ → List ℕ → Verdict
 row_verdict key alg given msg sig =
     if is_asked key alg given msg
-    then (if bytes_eq sig (codes "good") then Accept else (if bytes_eq sig (codes "odd") then Malformed else Reject))
+    then (if bytes_eq sig (codes "good") then Accept
+    else (if bytes_eq sig (codes "odd") then Malformed else Reject))
     else Reject

@@ -1,5 +1,5 @@
-//! Texts of errors that tell of an element that isn't written. No row shows them, since most come of
-//! contents past 4,294,967,295 octets alone.
+//! Texts of errors that tell of an element that isn't written. No row shows them, since most come
+//! of contents past 4,294,967,295 octets alone.
 
 use der_core::DerError;
 use key_core::{Element, KeyError, KeyIdGenError, SignatureError};

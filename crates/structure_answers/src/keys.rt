@@ -95,8 +95,8 @@ fn comes_back(alloc: Global, key: &PublicKey) -> Result<bool, AllocError> {
     Ok(equals(PublicKey::from(info), key))
 }
 
-/// The octets of a private key with an algorithm, and with attributes and a public key where these are
-/// there, and its details; `None` where the parts don't belong together.
+/// The octets of a private key with an algorithm, and with attributes and a public key where these
+/// are there, and its details; `None` where the parts don't belong together.
 fn print_private(alloc: Global, args: Args<'_>, line: &mut Line) {
     match private_key_info(alloc, args) {
         Ok(Some(info)) => {

@@ -192,7 +192,8 @@ fn is_copied(alloc: Global, key: &PrivateKey) -> Result<bool, KeyError> {
     Ok(equals(key.try_clone(alloc)?, key))
 }
 
-/// Whether the octets are read as the key. Those of a key that is written without a test may be refused.
+/// Whether the octets are read as the key. Those of a key that is written without a test may be
+/// refused.
 fn is_read_of(alloc: Global, key: &PrivateKey, octets: &[u8]) -> Result<bool, KeyError> {
     match PrivateKey::from_pkcs8(alloc, octets, &DemoScheme::new()) {
         Ok(again) => Ok(equals(again, key)),

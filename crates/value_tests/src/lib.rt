@@ -1,5 +1,5 @@
-//! Tests of what rows of data can't show: a hash, lists that grow, and values that callers make. The
-//! rows of `value_answers` and `structure_answers` are the others.
+//! Tests of what rows of data can't show: a hash, lists that grow, and values that callers make.
+//! The rows of `value_answers` and `structure_answers` are the others.
 #![tactic(auto)]
 
 #[cfg(test)]

@@ -22,7 +22,8 @@ type_number WinCertTypePkcs1Sign = 9
 -- the revision of a number, where one has it
 abbrev pub revision_numbered : ℕ → Option RevisionType
 revision_numbered n =
-    find (λ revision. revision_number revision == n) (WinCertificateRevision10 ∷ WinCertificateRevision20 ∷ [])
+    find (λ revision. revision_number revision == n)
+    (WinCertificateRevision10 ∷ WinCertificateRevision20 ∷ [])
 
 -- the type of a number, where one has it
 abbrev pub type_numbered : ℕ → Option CertificateType

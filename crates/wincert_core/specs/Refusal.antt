@@ -10,16 +10,23 @@ use Rattle.wincert_core.specs.WinCert.{WinCert, stated_length, spelling, with_pa
 -- The first of these refusals whose test holds, if one does.
 unfoldable pub first_refusal : List ℕ → Option WinCertificateError
 first_refusal octets =
-    if nat_lt (length octets) 8 then Some (WrongLength 8 (length octets))
-    else (if length_field octets == 0 then Some CertificateDataIsEmpty
-    else (if is_none (revision_numbered (revision_field octets)) then Some (WrongRevisionValue (revision_field octets))
-    else (if is_none (type_numbered (type_field octets)) then Some (WrongCertificateType (type_field octets))
-    else (if nat_lt (length_field octets) 8 then Some (WrongLength 8 (length_field octets))
-    else (if nat_lt (length octets) (length_field octets) then Some (Io (length_field octets) (length octets))
+    if nat_lt (length octets) 8
+    then Some (WrongLength 8 (length octets))
+    else (if length_field octets == 0
+    then Some CertificateDataIsEmpty
+    else (if is_none (revision_numbered (revision_field octets))
+    then Some (WrongRevisionValue (revision_field octets))
+    else (if is_none (type_numbered (type_field octets))
+    then Some (WrongCertificateType (type_field octets))
+    else (if nat_lt (length_field octets) 8
+    then Some (WrongLength 8 (length_field octets))
+    else (if nat_lt (length octets) (length_field octets)
+    then Some (Io (length_field octets) (length octets))
     else None)))))
 
 -- a value, where nothing refuses it
-abbrev pub unless_refused : {A : Type 0} → Option WinCertificateError → A → Result A WinCertificateError
+abbrev pub unless_refused : {A : Type 0} → Option WinCertificateError → A
+    → Result A WinCertificateError
 unless_refused None value = Ok value
 unless_refused (Some refusal) value = Err refusal
 
@@ -32,13 +39,19 @@ contents_in octets =
 abbrev pub current : List ℕ → CertificateType → Result WinCert WinCertificateError
 current certificate certificate_type =
     if nat_lt (stated_length certificate) (2 ^ 32)
-    then Ok (record { revision = WinCertificateRevision20; certificate_type = certificate_type; certificate = certificate })
+    then Ok (record {
+      revision = WinCertificateRevision20;
+      certificate_type = certificate_type;
+      certificate = certificate;
+    })
     else Err TooLong
 
 -- The octets that stand for a WIN_CERTIFICATE in a file, padding among them, or why there are none.
 abbrev pub encoded : WinCert → Result (List ℕ) WinCertificateError
 encoded w =
-    if nat_lt (stated_length (with_padding w).certificate) (2 ^ 32) then Ok (spelling (with_padding w)) else Err TooLong
+    if nat_lt (stated_length (with_padding w).certificate) (2 ^ 32)
+    then Ok (spelling (with_padding w))
+    else Err TooLong
 
 -- The result, seen by view, is the one that is asked for, unless memory ran out.
 abbrev pub Gives : {A B : Type 0}

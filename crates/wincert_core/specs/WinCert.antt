@@ -28,7 +28,9 @@ header dw_length w_revision w_certificate_type =
 -- the header, and bCertificate
 abbrev pub spelling : WinCert → List ℕ
 spelling w =
-    header (stated_length w.certificate) (revision_number w.revision) (type_number w.certificate_type) ++ w.certificate
+    header (stated_length w.certificate) (revision_number w.revision)
+    (type_number w.certificate_type)
+    ++ w.certificate
 
 -- The octets begin with a WIN_CERTIFICATE; what comes later is not part of it.
 pub record BeginsWith (octets : List ℕ) (w : WinCert) : Type 0 where

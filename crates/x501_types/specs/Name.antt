@@ -7,11 +7,14 @@ use Rattle.asn1_types.specs.Elements.{object_identifier}
 use Rattle.x501_types.specs.AttributeValue.{attribute_value}
 use Rattle.x501_types.specs.declared.attribute.AttributeTypeAndValue.{AttributeTypeAndValue}
 
--- AttributeTypeAndValue ::= SEQUENCE { type AttributeType, value AttributeValue }, AttributeType ::= OBJECT IDENTIFIER
+-- AttributeTypeAndValue ::= SEQUENCE { type AttributeType, value AttributeValue }, AttributeType
+-- ::= OBJECT IDENTIFIER
 abbrev pub attribute_type_and_value : AttributeTypeAndValue → DerElement
-attribute_type_and_value attribute = sequence (object_identifier attribute.ty ∷ attribute_value attribute.value ∷ [])
+attribute_type_and_value attribute =
+    sequence (object_identifier attribute.ty ∷ attribute_value attribute.value ∷ [])
 
--- RelativeDistinguishedName ::= SET SIZE (1..MAX) OF AttributeTypeAndValue; an empty one is read, too
+-- RelativeDistinguishedName ::= SET SIZE (1..MAX) OF AttributeTypeAndValue; an empty one is read,
+-- too
 abbrev pub relative_distinguished_name : List AttributeTypeAndValue → DerElement
 relative_distinguished_name = list_element 0x31 attribute_type_and_value
 

@@ -36,7 +36,9 @@ attribute_word attributes.GivenName = codes "GN"
 -- every attribute type
 abbrev pub attribute_types : List NameAttr
 attribute_types =
-    attributes.CommonName ∷ attributes.Surname ∷ attributes.SerialNumber ∷ attributes.CountryName ∷ attributes.LocalityName ∷ attributes.StateOrProvinceName ∷ attributes.StreetName ∷ attributes.OrganizationName ∷ attributes.OrganizationalUnitName ∷ attributes.GivenName ∷ []
+    attributes.CommonName ∷ attributes.Surname ∷ attributes.SerialNumber ∷ attributes.CountryName ∷
+    attributes.LocalityName ∷ attributes.StateOrProvinceName ∷ attributes.StreetName ∷
+    attributes.OrganizationName ∷ attributes.OrganizationalUnitName ∷ attributes.GivenName ∷ []
 
 -- the attribute type with these arcs
 abbrev pub attribute_type : List ℕ → Option NameAttr

@@ -33,7 +33,8 @@ value_text (values.Other other) = codes "#" ++ encode_lower (encoding other.elem
 
 -- word, `=` and value
 abbrev pub attribute_text : AttributeTypeAndValue → List ℕ
-attribute_text attribute = type_word (arcs_of attribute.ty) ++ codes "=" ++ value_text attribute.value
+attribute_text attribute =
+    type_word (arcs_of attribute.ty) ++ codes "=" ++ value_text attribute.value
 
 -- what stands between sets
 abbrev pub comma : ℕ

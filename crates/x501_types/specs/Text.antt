@@ -29,7 +29,8 @@ is_surrogate unit = nat_le 0xD800 unit && nat_lt unit 0xE000
 abbrev pub unit_character : ℕ → ℕ
 unit_character unit = if is_surrogate unit then question_mark else unit
 
--- A BMPString has units of two octets, the higher first (X.690 8.23.8); an octet that is left is printed as `?`.
+-- A BMPString has units of two octets, the higher first (X.690 8.23.8); an octet that is left is
+-- printed as `?`.
 abbrev pub bmp_text : List ℕ → List ℕ
 bmp_text [] = []
 bmp_text (last ∷ []) = question_mark ∷ []

@@ -26,7 +26,8 @@ pub struct EdiPartyName {
 /// The strings of an element, each any element.
 fn fields_of<'a>(elem: Elem<'a>) -> Option<(Option<Elem<'a>>, Elem<'a>)>
     ensures { MatchOption result
-        ((assigner : Option DerElement) (party : DerElement) → elem.entry.is.0 ≢ edi_party_name_of assigner party)
+        ((assigner : Option DerElement) (party : DerElement)
+        → elem.entry.is.0 ≢ edi_party_name_of assigner party)
         (λ fields. elem.entry.is.0 ≡ edi_party_name_of (at_option fields.0) fields.1.is.0) }
 {
     let mut kids = Kids::of(elem, EDI_PARTY_NAME)?;

@@ -27,8 +27,8 @@ const IP_ADDRESS: u8 = 0x87;
 
 const REGISTERED_ID: u8 = 0x88;
 
-/// A name in one of eight of the nine forms (RFC 5280 4.2.1.6), all but the x400Address. What a text or
-/// an address means is not asked of what is read.
+/// A name in one of eight of the nine forms (RFC 5280 4.2.1.6), all but the x400Address. What a
+/// text or an address means is not asked of what is read.
 #[derive(Debug, Drop)]
 pub enum RawGeneralName {
     OtherName(OtherName),
@@ -131,8 +131,11 @@ impl Structure for RawGeneralName {
 
 /// Whether the element is a name under its tag.
 fn has_directory_name(elem: Elem<'_>) -> bool
-    ensures fits { IsTrue result → (sets : List (List AttributeTypeAndValue)) × (elem.entry.is.0 ≡ explicit 0xA4 (name sets)) }
-    ensures unfit { result ≡ false → (sets : List (List AttributeTypeAndValue)) → elem.entry.is.0 ≢ explicit 0xA4 (name sets) }
+    ensures fits { IsTrue result
+        → (sets : List (List AttributeTypeAndValue))
+        × (elem.entry.is.0 ≡ explicit 0xA4 (name sets)) }
+    ensures unfit { result ≡ false → (sets : List (List AttributeTypeAndValue))
+        → elem.entry.is.0 ≢ explicit 0xA4 (name sets) }
 {
     match explicit_at(elem, DIRECTORY_NAME) {
         Some(name) => Name::has_shape(name),
@@ -142,9 +145,9 @@ fn has_directory_name(elem: Elem<'_>) -> bool
 
 /// The name under its tag.
 fn read_directory_name(alloc: Global, elem: Elem<'_>) -> Result<Name, DerError>
-    ensures { MatchResult result
-        (λ sets. elem.entry.is.0 ≡ explicit 0xA4 (name sets))
-        (RefusesShape (λ (sets : List (List AttributeTypeAndValue)). elem.entry.is.0 ≡ explicit 0xA4 (name sets))) }
+    ensures { MatchResult result (λ sets. elem.entry.is.0 ≡ explicit 0xA4 (name sets))
+        (RefusesShape (λ (sets : List (List AttributeTypeAndValue)). elem.entry.is.0 ≡ explicit 0xA4
+        (name sets))) }
 {
     match explicit_at(elem, DIRECTORY_NAME) {
         Some(name) => Name::read_at(alloc, name),

@@ -43,7 +43,8 @@ impl NameAttr {
 
     /// The attribute type that an identifier names, by its contents octets.
     pub fn from_contents(contents: &[u8]) -> Option<NameAttr>
-        ensures named { (attr : NameAttr) → contents_of (attribute_arcs attr) ≡ contents.now → result ≡ Some attr }
+        ensures named { (attr : NameAttr) → contents_of (attribute_arcs attr) ≡ contents.now
+            → result ≡ Some attr }
         ensures name { IfSome result (λ attr. contents_of (attribute_arcs attr) ≡ contents.now) }
     {
         for attr in NameAttr::ALL {

@@ -16,7 +16,8 @@ pub struct OtherValue {
 }
 
 impl OtherValue {
-    /// The element as a value, None where it is a DirectoryString or an IA5String (RFC 5280 4.1.2.4).
+    /// The element as a value, None where it is a DirectoryString or an IA5String (RFC 5280
+    /// 4.1.2.4).
     pub fn new(element: Raw) -> Option<OtherValue>
         ensures { MatchOption result
             (IsOtherValue element.element → ⊥)

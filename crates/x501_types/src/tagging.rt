@@ -13,8 +13,10 @@ use std::alloc::Global;
 
 /// Whether the element is an IA5String under this tag in place of its own.
 pub(crate) fn has_text(elem: Elem<'_>, tag: u8) -> bool
-    ensures fits { IsTrue result → (text : Ia5String) × (elem.entry.is.0 ≡ Primitive tag (ia5_contents text)) }
-    ensures unfit { result ≡ false → (text : Ia5String) → elem.entry.is.0 ≢ Primitive tag (ia5_contents text) }
+    ensures fits { IsTrue result
+        → (text : Ia5String) × (elem.entry.is.0 ≡ Primitive tag (ia5_contents text)) }
+    ensures unfit { result ≡ false → (text : Ia5String)
+        → elem.entry.is.0 ≢ Primitive tag (ia5_contents text) }
 {
     match leaf_at(elem, tag) {
         Some(content) => Ia5String::is_content(content),
@@ -36,8 +38,10 @@ pub(crate) fn read_text(alloc: Global, elem: Elem<'_>, tag: u8) -> Result<Ia5Str
 
 /// Whether the element is an OBJECT IDENTIFIER under this tag in place of its own.
 pub(crate) fn has_identifier(elem: Elem<'_>, tag: u8) -> bool
-    ensures fits { IsTrue result → (id : ObjectIdentifier) × (elem.entry.is.0 ≡ Primitive tag id.contents) }
-    ensures unfit { result ≡ false → (id : ObjectIdentifier) → elem.entry.is.0 ≢ Primitive tag id.contents }
+    ensures fits { IsTrue result
+        → (id : ObjectIdentifier) × (elem.entry.is.0 ≡ Primitive tag id.contents) }
+    ensures unfit { result ≡ false → (id : ObjectIdentifier)
+        → elem.entry.is.0 ≢ Primitive tag id.contents }
 {
     match leaf_at(elem, tag) {
         Some(content) => ObjectIdentifier::is_content(content),

@@ -66,9 +66,9 @@ fn write_bmp<W: fmt::Write>(octets: &[u8], f: &mut fmt::Formatter<W>) -> fmt::Re
 
 /// The character of the first two octets, and the others.
 fn split_unit(octets: &[u8]) -> Option<(char, &[u8])>
-    ensures { MatchOption result
-        (length octets.now < 2)
-        (λ x. (length octets.now ≡ length x.1.now + 2) × (bmp_text octets.now ≡ encode_utf8 x.0 ++ bmp_text x.1.now)) }
+    ensures { MatchOption result (length octets.now < 2)
+        (λ x. (length octets.now ≡ length x.1.now + 2)
+        × (bmp_text octets.now ≡ encode_utf8 x.0 ++ bmp_text x.1.now)) }
 {
     match octets {
         [high, low, after @ ..] => {

@@ -23,9 +23,12 @@ abbrev pub last_of : {A : Type 0} → A → List A → A
 last_of checked [] = checked
 last_of checked (parent ∷ parents) = last_of parent parents
 
--- Each parent is linked to the certificate before it, the checked one before the first, and numbered by the parents before it.
+-- Each parent is linked to the certificate before it, the checked one before the first, and
+-- numbered by the parents before it.
 abbrev pub IsLinkedChain : Judge → Window → KeptCertificate → List KeptCertificate → Type 0
-IsLinkedChain judge w checked parents = (before after : List KeptCertificate) (parent : KeptCertificate) → parents ≡ before ++ parent ∷ after
+IsLinkedChain judge w checked parents =
+    (before after : List KeptCertificate) (parent : KeptCertificate)
+    → parents ≡ before ++ parent ∷ after
     → IsLink judge w (length before) parent.elements (last_of checked before).elements
 
 -- the checks ask for the dates of a certificate
@@ -38,17 +41,20 @@ IsDated checks = AsksForDate checks.window → checks.window.date ≢ dates.Abse
 
 -- The last certificate is a root, where that is asked for.
 abbrev pub IsRooted : ChainChecks → KeptCertificate → List KeptCertificate → Type 0
-IsRooted checks checked parents = IsTrue checks.root → IsOfType (last_of checked parents).elements types.Root
+IsRooted checks checked parents =
+    IsTrue checks.root → IsOfType (last_of checked parents).elements types.Root
 
 -- A chain is given, it is linked, and it ends as is asked.
-pub record IsPath (judge : Judge) (checks : ChainChecks) (checked : KeptCertificate) (given : Option (List KeptCertificate)) : Type 0 where
+pub record IsPath (judge : Judge) (checks : ChainChecks) (checked : KeptCertificate)
+    (given : Option (List KeptCertificate)) : Type 0 where
   pub parents : List KeptCertificate
   pub is : given ≡ Some parents
   pub linked : IsLinkedChain judge checks.window checked parents
   pub rooted : IsRooted checks checked parents
 
 -- The certificate is accepted, over the parents that are given.
-pub record IsAccepted (judge : Judge) (checks : ChainChecks) (checked : KeptCertificate) (given : Option (List KeptCertificate)) : Type 0 where
+pub record IsAccepted (judge : Judge) (checks : ChainChecks) (checked : KeptCertificate)
+    (given : Option (List KeptCertificate)) : Type 0 where
   pub dated : IsDated checks
   pub valid : IsWithinWindow checks.window checked.elements
   pub chained : IsTrue checks.chain → IsPath judge checks checked given
@@ -57,14 +63,18 @@ pub record IsAccepted (judge : Judge) (checks : ChainChecks) (checked : KeptCert
 
 -- dates are asked for, and none is given
 abbrev pub LacksDate : ChainChecks → Rule CertError
-LacksDate checks e = AsksForDate checks.window × (checks.window.date ≡ dates.Absent) × (e ≡ errors.MissingBuilderArgument arguments.Now)
+LacksDate checks e =
+    AsksForDate checks.window × (checks.window.date ≡ dates.Absent)
+    × (e ≡ errors.MissingBuilderArgument arguments.Now)
 
 -- a chain is asked for, and none is given
 abbrev pub LacksChain : ChainChecks → Option (List KeptCertificate) → Rule CertError
-LacksChain checks given e = IsTrue checks.chain × (given ≡ None) × (e ≡ errors.MissingBuilderArgument arguments.Chain)
+LacksChain checks given e =
+    IsTrue checks.chain × (given ≡ None) × (e ≡ errors.MissingBuilderArgument arguments.Chain)
 
 -- A parent isn't linked to the certificate before it, and all before it are.
-pub record IsFirstUnlinked (judge : Judge) (w : Window) (checked : KeptCertificate) (parents : List KeptCertificate) (e : CertError) : Type 0 where
+pub record IsFirstUnlinked (judge : Judge) (w : Window) (checked : KeptCertificate)
+    (parents : List KeptCertificate) (e : CertError) : Type 0 where
   pub before : List KeptCertificate
   pub parent : KeptCertificate
   pub after : List KeptCertificate
@@ -73,14 +83,16 @@ pub record IsFirstUnlinked (judge : Judge) (w : Window) (checked : KeptCertifica
   pub broken : IsFirstBroken (link_rules judge w (length before) parent (last_of checked before)) e
 
 -- some parent isn't linked
-pub record IsUnlinked (judge : Judge) (checks : ChainChecks) (checked : KeptCertificate) (given : Option (List KeptCertificate)) (e : CertError) : Type 0 where
+pub record IsUnlinked (judge : Judge) (checks : ChainChecks) (checked : KeptCertificate)
+    (given : Option (List KeptCertificate)) (e : CertError) : Type 0 where
   pub asked : IsTrue checks.chain
   pub parents : List KeptCertificate
   pub is : given ≡ Some parents
   pub first : IsFirstUnlinked judge checks.window checked parents e
 
 -- the last certificate is no root
-pub record LacksRoot (checks : ChainChecks) (checked : KeptCertificate) (given : Option (List KeptCertificate)) (e : CertError) : Type 0 where
+pub record LacksRoot (checks : ChainChecks) (checked : KeptCertificate)
+    (given : Option (List KeptCertificate)) (e : CertError) : Type 0 where
   pub asked : IsTrue checks.chain
   pub parents : List KeptCertificate
   pub is : given ≡ Some parents
@@ -88,9 +100,11 @@ pub record LacksRoot (checks : ChainChecks) (checked : KeptCertificate) (given :
   pub told : e ≡ errors.InvalidChain chain_errors.NoRoot
 
 -- The rules of a verification, in their order.
-abbrev pub chain_rules : Judge → ChainChecks → KeptCertificate → Option (List KeptCertificate) → List (Rule CertError)
+abbrev pub chain_rules : Judge → ChainChecks → KeptCertificate → Option (List KeptCertificate)
+    → List (Rule CertError)
 chain_rules judge checks checked given =
-    LacksDate checks ∷ IsOutside checks.window checked ∷ LacksChain checks given ∷ IsUnlinked judge checks checked given ∷ LacksRoot checks checked given ∷ []
+    LacksDate checks ∷ IsOutside checks.window checked ∷ LacksChain checks given ∷
+    IsUnlinked judge checks checked given ∷ LacksRoot checks checked given ∷ []
 
 -- ---- what an iterator gives
 
@@ -104,7 +118,8 @@ nearest checked None = checked
 nearest checked (Some parent) = parent.cert.now
 
 -- where there is an iterator, it gives these and no others
-abbrev pub YieldsParents : {S : Type 0} → (S → Option (Bor KeptCertificate) → S → Type 0) → Option S → Option (List KeptCertificate) → Type 0
+abbrev pub YieldsParents : {S : Type 0} → (S → Option (Bor KeptCertificate) → S → Type 0) → Option S
+    → Option (List KeptCertificate) → Type 0
 YieldsParents steps None None = ⊤
 YieldsParents steps None (Some parents) = ⊥
 YieldsParents steps (Some chain) None = ⊥
@@ -113,44 +128,60 @@ YieldsParents steps (Some chain) (Some parents) = AlwaysYields steps lent chain 
 -- ---- what an iterator gave in one call, where it may give this or that
 
 -- where there is an iterator, it gave these so far
-abbrev pub GaveSoFar : {S : Type 0} → (S → Option (Bor KeptCertificate) → S → Type 0) → Option S → Option (List KeptCertificate) → Type 0
+abbrev pub GaveSoFar : {S : Type 0} → (S → Option (Bor KeptCertificate) → S → Type 0) → Option S
+    → Option (List KeptCertificate) → Type 0
 GaveSoFar steps None given = given ≡ None
-GaveSoFar {S} steps (Some chain) given = (parents : List (Bor KeptCertificate)) × (rest : S) × Yields steps chain parents rest × (given ≡ Some (map lent parents))
+GaveSoFar {S} steps (Some chain) given =
+    (parents : List (Bor KeptCertificate)) × (rest : S) × Yields steps chain parents rest
+    × (given ≡ Some (map lent parents))
 
 -- There is an iterator, it was walked to its end, and gave these.
-pub record IsWalked {S : Type 0} (steps : S → Option (Bor KeptCertificate) → S → Type 0) (chain : Option S) (given : Option (List KeptCertificate)) : Type 0 where
+pub record IsWalked {S : Type 0} (steps : S → Option (Bor KeptCertificate) → S → Type 0)
+    (chain : Option S) (given : Option (List KeptCertificate)) : Type 0 where
   pub iterator : S
   pub parents : List (Bor KeptCertificate)
   pub is : chain ≡ Some iterator
   pub ended : Drains steps iterator parents
   pub are : given ≡ Some (map lent parents)
 
--- The certificate is accepted over all that the iterator gave. Where no chain is asked for, nothing is said of the iterator.
-pub record WasAccepted {S : Type 0} (judge : Judge) (steps : S → Option (Bor KeptCertificate) → S → Type 0) (checks : ChainChecks) (checked : KeptCertificate) (chain : Option S) : Type 0 where
+-- The certificate is accepted over all that the iterator gave. Where no chain is asked for, nothing
+-- is said of the iterator.
+pub record WasAccepted {S : Type 0} (judge : Judge)
+    (steps : S → Option (Bor KeptCertificate) → S → Type 0) (checks : ChainChecks)
+    (checked : KeptCertificate) (chain : Option S) : Type 0 where
   pub given : Option (List KeptCertificate)
   pub walked : IsTrue checks.chain → IsWalked steps chain given
   pub accepted : IsAccepted judge checks checked given
 
--- The error tells of the first rule that is broken over what the iterator gave so far. That a root is missing is told at its end.
-pub record WasRefused {S : Type 0} (judge : Judge) (steps : S → Option (Bor KeptCertificate) → S → Type 0) (checks : ChainChecks) (checked : KeptCertificate) (chain : Option S) (e : CertError) : Type 0 where
+-- The error tells of the first rule that is broken over what the iterator gave so far. That a root
+-- is missing is told at its end.
+pub record WasRefused {S : Type 0} (judge : Judge)
+    (steps : S → Option (Bor KeptCertificate) → S → Type 0) (checks : ChainChecks)
+    (checked : KeptCertificate) (chain : Option S) (e : CertError) : Type 0 where
   pub given : Option (List KeptCertificate)
   pub came : GaveSoFar steps chain given
   pub ended : e ≡ errors.InvalidChain chain_errors.NoRoot → IsWalked steps chain given
   pub broken : IsFirstBroken (chain_rules judge checks checked given) e
 
 -- the iterator may give a parent at once
-pub record GivesParent {S : Type 0} (steps : S → Option (Bor KeptCertificate) → S → Type 0) (iterator : S) : Type 0 where
+pub record GivesParent {S : Type 0} (steps : S → Option (Bor KeptCertificate) → S → Type 0)
+    (iterator : S) : Type 0 where
   pub parent : Bor KeptCertificate
   pub rest : S
   pub given : steps iterator (Some parent) rest
 
 -- A chain is asked for and given, and gives a parent.
-pub record HasParent {S : Type 0} (steps : S → Option (Bor KeptCertificate) → S → Type 0) (checks : ChainChecks) (chain : Option S) : Type 0 where
+pub record HasParent {S : Type 0} (steps : S → Option (Bor KeptCertificate) → S → Type 0)
+    (checks : ChainChecks) (chain : Option S) : Type 0 where
   pub asked : IsTrue checks.chain
   pub iterator : S
   pub is : chain ≡ Some iterator
   pub gives : GivesParent steps iterator
 
--- Memory is asked for: a date is given where one is asked for, and the certificate isn't valid, which its name tells of, or there is a parent to look at.
-abbrev pub AsksForMemory : {S : Type 0} → (S → Option (Bor KeptCertificate) → S → Type 0) → ChainChecks → KeptCertificate → Option S → Type 0
-AsksForMemory steps checks checked chain = IsDated checks × ((IsWithinWindow checks.window checked.elements → ⊥) ⊎ HasParent steps checks chain)
+-- Memory is asked for: a date is given where one is asked for, and the certificate isn't valid,
+-- which its name tells of, or there is a parent to look at.
+abbrev pub AsksForMemory : {S : Type 0} → (S → Option (Bor KeptCertificate) → S → Type 0)
+    → ChainChecks → KeptCertificate → Option S → Type 0
+AsksForMemory steps checks checked chain =
+    IsDated checks
+    × ((IsWithinWindow checks.window checked.elements → ⊥) ⊎ HasParent steps checks chain)

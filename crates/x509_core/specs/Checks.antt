@@ -18,20 +18,25 @@ first_checks = checks_of dates.Absent true true true true
 
 -- the checks at these dates
 abbrev pub checks_at : DateCheck → ChainChecks → ChainChecks
-checks_at date checks = checks_of date checks.window.not_before checks.window.not_after checks.chain checks.root
+checks_at date checks =
+    checks_of date checks.window.not_before checks.window.not_after checks.chain checks.root
 
 -- the checks with this answer to whether a certificate has to be valid already
 abbrev pub with_not_before : Bool → ChainChecks → ChainChecks
-with_not_before asked checks = checks_of checks.window.date asked checks.window.not_after checks.chain checks.root
+with_not_before asked checks =
+    checks_of checks.window.date asked checks.window.not_after checks.chain checks.root
 
 -- the checks with this answer to whether a certificate has to be still valid
 abbrev pub with_not_after : Bool → ChainChecks → ChainChecks
-with_not_after asked checks = checks_of checks.window.date checks.window.not_before asked checks.chain checks.root
+with_not_after asked checks =
+    checks_of checks.window.date checks.window.not_before asked checks.chain checks.root
 
 -- the checks with this answer to whether the chain is asked for
 abbrev pub with_chain : Bool → ChainChecks → ChainChecks
-with_chain asked checks = checks_of checks.window.date checks.window.not_before checks.window.not_after asked checks.root
+with_chain asked checks =
+    checks_of checks.window.date checks.window.not_before checks.window.not_after asked checks.root
 
 -- the checks with this answer to whether a root is asked for
 abbrev pub with_root : Bool → ChainChecks → ChainChecks
-with_root asked checks = checks_of checks.window.date checks.window.not_before checks.window.not_after checks.chain asked
+with_root asked checks =
+    checks_of checks.window.date checks.window.not_before checks.window.not_after checks.chain asked

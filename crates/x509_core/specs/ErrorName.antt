@@ -28,7 +28,8 @@ cause_name (causes.CertificateExpired not_after now) = codes "CertificateExpired
 -- an error by its variant, and what a refused certificate or chain holds by its own
 abbrev pub cert_error_name : CertError → List ℕ
 cert_error_name (errors.CertGeneration source) = codes "CertGeneration"
-cert_error_name (errors.InvalidCertificate id source) = codes "InvalidCertificate:" ++ cause_name source
+cert_error_name (errors.InvalidCertificate id source) =
+    codes "InvalidCertificate:" ++ cause_name source
 cert_error_name (errors.Asn1Serialization element source) = codes "Asn1Serialization"
 cert_error_name (errors.Asn1Deserialization element source) = codes "Asn1Deserialization"
 cert_error_name (errors.Signature source) = codes "Signature"

@@ -42,35 +42,43 @@ argument_text arguments.SubjectInfos = codes "subject_infos"
 -- that a certificate isn't valid yet, with its begin and the time that it is checked at
 abbrev pub not_yet_valid_text : GeneralizedTime → GeneralizedTime → List ℕ
 not_yet_valid_text not_before now =
-    codes "certificate is not yet valid (not before: " ++ time_text not_before ++ codes ", now: " ++ time_text now ++ codes ")"
+    codes "certificate is not yet valid (not before: " ++ time_text not_before ++ codes ", now: "
+    ++ time_text now ++ codes ")"
 
 -- that a certificate has expired, with its end and the time that it is checked at
 abbrev pub expired_text : GeneralizedTime → GeneralizedTime → List ℕ
 expired_text not_after now =
-    codes "certificate expired (not after: " ++ time_text not_after ++ codes ", now: " ++ time_text now ++ codes ")"
+    codes "certificate expired (not after: " ++ time_text not_after ++ codes ", now: "
+    ++ time_text now ++ codes ")"
 
 -- a signature that isn't accepted, where its error has a text
 abbrev pub bad_signature_text : SignatureError → Option (List ℕ)
-bad_signature_text source = option_map (λ text. codes "signature error: " ++ text) (signature_error_text source)
+bad_signature_text source =
+    option_map (λ text. codes "signature error: " ++ text) (signature_error_text source)
 
 -- a key without an identifier, likewise
 abbrev pub key_id_text : KeyIdGenError → Option (List ℕ)
-key_id_text source = option_map (λ text. codes "key id generation error: " ++ text) (key_id_error_text source)
+key_id_text source =
+    option_map (λ text. codes "key id generation error: " ++ text) (key_id_error_text source)
 
 -- the key that is named and the one that stands there, in hexadecimal digits
 abbrev pub key_mismatch_text : List ℕ → List ℕ → List ℕ
 key_mismatch_text expected actual =
-    codes "authority key id doesn't match (expected: " ++ encode_lower expected ++ codes ", got: " ++ encode_lower actual ++ codes ")"
+    codes "authority key id doesn't match (expected: " ++ encode_lower expected ++ codes ", got: "
+    ++ encode_lower actual ++ codes ")"
 
 -- why certificates are no chain
 abbrev pub chain_error_text : CaChainError → List ℕ
 chain_error_text (chain.TooDeep id length) =
-    codes "chain depth doesn't satisfy basic constraints extension: certificate '" ++ name_text (sets_of id) ++ codes "' has pathlen of " ++ decimal length
+    codes "chain depth doesn't satisfy basic constraints extension: certificate '"
+    ++ name_text (sets_of id) ++ codes "' has pathlen of " ++ decimal length
 chain_error_text chain.NoRoot = codes "chain is missing a root certificate"
-chain_error_text (chain.IssuerIsNotCA id) = codes "issuer certificate '" ++ name_text (sets_of id) ++ codes "' is not a CA"
+chain_error_text (chain.IssuerIsNotCA id) =
+    codes "issuer certificate '" ++ name_text (sets_of id) ++ codes "' is not a CA"
 chain_error_text (chain.AuthorityKeyIdMismatch expected actual) = key_mismatch_text expected actual
 chain_error_text (chain.IssuerNameMismatch expected actual) =
-    codes "issuer name doesn't match (expected: " ++ name_text (sets_of expected) ++ codes ", got: " ++ name_text (sets_of actual) ++ codes ")"
+    codes "issuer name doesn't match (expected: " ++ name_text (sets_of expected) ++ codes ", got: "
+    ++ name_text (sets_of actual) ++ codes ")"
 
 -- a cause has the text of the error of its name
 abbrev pub cause_text : CertCause → Option (List ℕ)
@@ -78,24 +86,36 @@ cause_text (causes.Asn1Serialization element source) = None
 cause_text (causes.Signature source) = bad_signature_text source
 cause_text (causes.KeyIdGen source) = key_id_text source
 cause_text (causes.InvalidChain source) = Some (codes "CA chain error: " ++ chain_error_text source)
-cause_text (causes.ExtensionNotFound name) = Some (codes "extension not found: " ++ extension_text name)
+cause_text (causes.ExtensionNotFound name) =
+    Some (codes "extension not found: " ++ extension_text name)
 cause_text (causes.CertificateNotYetValid not_before now) = Some (not_yet_valid_text not_before now)
 cause_text (causes.CertificateExpired not_after now) = Some (expired_text not_after now)
 
--- What is told of a certificate. Of an element that isn't read or written no contract says what is told.
+-- What is told of a certificate. Of an element that isn't read or written no contract says what is
+-- told.
 abbrev pub cert_error_text : CertError → Option (List ℕ)
-cert_error_text (errors.CertGeneration source) = option_map (λ text. codes "couldn't generate certificate: " ++ text) (cause_text source)
+cert_error_text (errors.CertGeneration source) =
+    option_map (λ text. codes "couldn't generate certificate: " ++ text) (cause_text source)
 cert_error_text (errors.InvalidCertificate id source) =
-    option_map (λ text. codes "invalid certificate '" ++ name_text (sets_of id) ++ codes "': " ++ text) (cause_text source)
+    option_map
+    (λ text. codes "invalid certificate '" ++ name_text (sets_of id) ++ codes "': " ++ text)
+    (cause_text source)
 cert_error_text (errors.Asn1Serialization element source) = None
 cert_error_text (errors.Asn1Deserialization element source) = None
 cert_error_text (errors.Signature source) = bad_signature_text source
 cert_error_text (errors.KeyIdGen source) = key_id_text source
-cert_error_text (errors.InvalidChain source) = Some (codes "CA chain error: " ++ chain_error_text source)
-cert_error_text (errors.InvalidCsr source) = option_map (λ text. codes "CSR error: " ++ text) (csr_error_text source)
-cert_error_text (errors.ExtensionNotFound name) = Some (codes "extension not found: " ++ extension_text name)
-cert_error_text (errors.MissingBuilderArgument argument) = Some (codes "missing required builder argument `" ++ argument_text argument ++ codes "`")
-cert_error_text (errors.CertificateNotYetValid not_before now) = Some (not_yet_valid_text not_before now)
+cert_error_text (errors.InvalidChain source) =
+    Some (codes "CA chain error: " ++ chain_error_text source)
+cert_error_text (errors.InvalidCsr source) =
+    option_map (λ text. codes "CSR error: " ++ text) (csr_error_text source)
+cert_error_text (errors.ExtensionNotFound name) =
+    Some (codes "extension not found: " ++ extension_text name)
+cert_error_text (errors.MissingBuilderArgument argument) =
+    Some (codes "missing required builder argument `" ++ argument_text argument ++ codes "`")
+cert_error_text (errors.CertificateNotYetValid not_before now) =
+    Some (not_yet_valid_text not_before now)
 cert_error_text (errors.CertificateExpired not_after now) = Some (expired_text not_after now)
-cert_error_text (errors.PrivateKeyToPublicKey source) = option_map (λ text. codes "failed to get public key from private key: " ++ text) (key_error_text source)
+cert_error_text (errors.PrivateKeyToPublicKey source) =
+    option_map (λ text. codes "failed to get public key from private key: " ++ text)
+    (key_error_text source)
 cert_error_text errors.Memory = Some (codes "out of memory")

@@ -9,11 +9,13 @@ use Rattle.x509_core.specs.declared.error.CertError.TheVariants as errors
 use Rattle.x509_core.specs.declared.error.ExtName.{ExtName}
 
 -- The first extension of this identifier, by its contents octets, has this value.
-pub record HasFirst (oid : List ℕ) (extensions : List Extension) (value : ExtensionView) : Type 0 where
+pub record HasFirst (oid : List ℕ) (extensions : List Extension)
+    (value : ExtensionView) : Type 0 where
   pub extension : Extension
   pub first : IsFirstWith oid extensions extension
   pub valued : extension_value extension ≡ value
 
 -- The error tells that no extension has this identifier, and none has.
 abbrev pub IsMissingExtension : List ℕ → ExtName → List Extension → CertError → Type 0
-IsMissingExtension oid name extensions e = (e ≡ errors.ExtensionNotFound name) × NoneHas oid extensions
+IsMissingExtension oid name extensions e =
+    (e ≡ errors.ExtensionNotFound name) × NoneHas oid extensions

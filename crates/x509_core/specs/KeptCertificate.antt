@@ -6,7 +6,8 @@ use Rattle.x509_types.specs.Certificate.{certificate, inner_certificate}
 use Rattle.x509_types.specs.CertificateElements.{CertificateElements, certificate_of, AreCertificateFields}
 use Rattle.x509_types.specs.declared.certificate.Certificate.{Certificate}
 
--- The elements that stand for its fields, which are in bounds, and the value whose fields they spell.
+-- The elements that stand for its fields, which are in bounds, and the value whose fields they
+-- spell.
 pub record KeptCertificate : Type 0 where
   pub elements : CertificateElements
   pub certificate : Certificate
@@ -19,7 +20,8 @@ kept_octets kept = encoding (certificate_of kept.elements)
 
 -- The element is the one around these fields, which are in bounds and spell the certificate.
 abbrev pub IsAround : DerElement → Certificate → CertificateElements → Type 0
-IsAround element c f = (element ≡ certificate_of f) × IsDer (certificate_of f) × ∥ AreCertificateFields f c ∥₁
+IsAround element c f =
+    (element ≡ certificate_of f) × IsDer (certificate_of f) × ∥ AreCertificateFields f c ∥₁
 
 -- The element is the one around some such fields.
 abbrev pub HasFields : DerElement → Certificate → Type 0

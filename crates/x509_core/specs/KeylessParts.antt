@@ -5,11 +5,24 @@ use Rattle.x509_core.specs.declared.keyless_parts.LaterFields.{LaterFields}
 
 -- the first part of the fields
 abbrev pub issued_fields : Keyless → IssuedFields
-issued_fields rest = record { version = rest.version; serial_number = rest.serial_number; signature = rest.signature; issuer = rest.issuer; validity = rest.validity; subject = rest.subject }
+issued_fields rest = record {
+  version = rest.version;
+  serial_number = rest.serial_number;
+  signature = rest.signature;
+  issuer = rest.issuer;
+  validity = rest.validity;
+  subject = rest.subject;
+}
 
 -- the second part of the fields
 abbrev pub later_fields : Keyless → LaterFields
-later_fields rest = record { issuer_unique_id = rest.issuer_unique_id; subject_unique_id = rest.subject_unique_id; extensions = rest.extensions; signature_algorithm = rest.signature_algorithm; signature_value = rest.signature_value }
+later_fields rest = record {
+  issuer_unique_id = rest.issuer_unique_id;
+  subject_unique_id = rest.subject_unique_id;
+  extensions = rest.extensions;
+  signature_algorithm = rest.signature_algorithm;
+  signature_value = rest.signature_value;
+}
 
 -- the fields of both parts
 abbrev pub keyless_of_parts : IssuedFields → LaterFields → Keyless

@@ -1,4 +1,5 @@
--- When a certificate may have issued another, as one link of a chain (RFC 5280 6.1.3, 6.1.4, 4.2.1.9).
+-- When a certificate may have issued another, as one link of a chain (RFC 5280 6.1.3, 6.1.4,
+-- 4.2.1.9).
 use Rattle.std.specs.Prelude.{◌≡◌, ◌≢◌, ◌<◌, ◌≤◌, min, ℕ, List, [], ◌∷◌, true}
 use Rattle.der_core.specs.Encoding.{encoding}
 use Rattle.key_types.specs.AlgorithmIdentifier.{algorithm_identifier, oid_of}
@@ -35,7 +36,8 @@ abbrev pub HasKey : CertificateElements → SubjectPublicKeyInfo → Type 0
 HasKey f info = f.tbs.subject_public_key_info ≡ public_key_info info
 
 -- The certificate is signed by this algorithm, and the other one has this key.
-pub record IsSignedWith (parent child : CertificateElements) (algorithm : SignatureAlgorithm) (info : SubjectPublicKeyInfo) : Type 0 where
+pub record IsSignedWith (parent child : CertificateElements) (algorithm : SignatureAlgorithm)
+    (info : SubjectPublicKeyInfo) : Type 0 where
   pub id : AlgorithmIdentifier
   pub beside : HasAlgorithm child id
   pub named : NamesSignature id algorithm
@@ -52,7 +54,8 @@ pub record IsSignedBy (judge : Judge) (parent child : CertificateElements) : Typ
   pub parts : IsSignedWith parent child algorithm info
   pub accepted : Accepts judge algorithm info (signed_octets child) child.signature
 
--- no more than its path length stand between it and the end of the path, self-issued ones among them (RFC 5280 4.2.1.9)
+-- no more than its path length stand between it and the end of the path, self-issued ones among
+-- them (RFC 5280 4.2.1.9)
 abbrev pub IsDeepEnough : ℕ → CertificateElements → Type 0
 IsDeepEnough number parent = (limit : ℕ) → HasPathLength parent limit → number ≤ limit
 
@@ -60,8 +63,10 @@ IsDeepEnough number parent = (limit : ℕ) → HasPathLength parent limit → nu
 abbrev pub IsStandingFor : ℕ → ℕ → Type 0
 IsStandingFor number count = min number 256 ≡ min count 256
 
--- The parent may have issued the child, where so many stand between the parent and the end of the path.
-pub record IsLink (judge : Judge) (w : Window) (number : ℕ) (parent child : CertificateElements) : Type 0 where
+-- The parent may have issued the child, where so many stand between the parent and the end of the
+-- path.
+pub record IsLink (judge : Judge) (w : Window) (number : ℕ)
+    (parent child : CertificateElements) : Type 0 where
   pub authority : HasCa parent true
   pub depth : IsDeepEnough number parent
   pub valid : IsWithinWindow w parent
@@ -107,7 +112,8 @@ pub record IsUnsupported (child : KeptCertificate) (e : CertError) : Type 0 wher
   pub id : AlgorithmIdentifier
   pub beside : HasAlgorithm child.elements id
   pub unnamed : (algorithm : SignatureAlgorithm) → NamesSignature id algorithm → ⊥
-  pub told : e ≡ errors.Signature (signature_errors.UnsupportedAlgorithm (unsupported.Oid (oid_of id)))
+  pub told : e ≡ errors.Signature
+      (signature_errors.UnsupportedAlgorithm (unsupported.Oid (oid_of id)))
 
 -- an error of a signature as one of a certificate: want of memory is told as such
 abbrev pub signature_refusal : SignatureError → CertError
@@ -115,19 +121,25 @@ signature_refusal signature_errors.Memory = errors.Memory
 signature_refusal source = errors.Signature source
 
 -- the signature is refused, and the cause has why
-pub record IsBadlySignedLink (judge : Judge) (parent child : CertificateElements) (cause : CertCause) : Type 0 where
+pub record IsBadlySignedLink (judge : Judge) (parent child : CertificateElements)
+    (cause : CertCause) : Type 0 where
   pub algorithm : SignatureAlgorithm
   pub info : SubjectPublicKeyInfo
   pub source : SignatureError
   pub parts : IsSignedWith parent child algorithm info
-  pub refused : IsFirstBroken (verify_rules judge algorithm info (signed_octets child) child.signature) source
+  pub refused : IsFirstBroken
+      (verify_rules judge algorithm info (signed_octets child) child.signature) source
   pub told : cause ≡ causes.Signature source
 
 -- the rules of signatures, in their order
 abbrev pub link_signature_rules : Judge → (parent child : KeptCertificate) → List (Rule CertError)
-link_signature_rules judge parent child = IsUnsupported child ∷ IsToldOf child (IsBadlySignedLink judge parent.elements child.elements) ∷ []
+link_signature_rules judge parent child =
+    IsUnsupported child ∷
+    IsToldOf child (IsBadlySignedLink judge parent.elements child.elements) ∷ []
 
 -- The rules of a link, in their order.
-abbrev pub link_rules : Judge → Window → ℕ → (parent child : KeptCertificate) → List (Rule CertError)
+abbrev pub link_rules : Judge → Window → ℕ → (parent child : KeptCertificate)
+    → List (Rule CertError)
 link_rules judge w number parent child =
-    IsNoAuthority parent ∷ IsTooDeep number parent ∷ IsOutside w parent ∷ IsNoParent parent child ∷ link_signature_rules judge parent child
+    IsNoAuthority parent ∷ IsTooDeep number parent ∷ IsOutside w parent ∷ IsNoParent parent child ∷
+    link_signature_rules judge parent child

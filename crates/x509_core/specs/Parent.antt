@@ -1,4 +1,5 @@
--- Which certificate may be the parent of another, by what both say of names and keys (RFC 5280 4.2.1.1, 6.1.3).
+-- Which certificate may be the parent of another, by what both say of names and keys (RFC 5280
+-- 4.2.1.1, 6.1.3).
 use Rattle.std.specs.Prelude.{◌≡◌, ◌≢◌, ⊤, ℕ, List}
 use Rattle.names_core.specs.Names.{sets_of}
 use Rattle.names_core.specs.declared.name.DirectoryName.{DirectoryName}
@@ -15,7 +16,8 @@ use Rattle.x509_core.specs.declared.error.ExtName.TheVariants as names
 use Rattle.x509_core.specs.declared.key_link.KeyLink.{KeyLink}
 use Rattle.x509_core.specs.declared.key_link.KeyLink.TheVariants as links
 
--- where the child names the key of its authority by an identifier, the key of the parent has that identifier (RFC 5280 4.2.1.1)
+-- where the child names the key of its authority by an identifier, the key of the parent has that
+-- identifier (RFC 5280 4.2.1.1)
 abbrev pub AgreeByKey : (parent child : CertificateElements) → Type 0
 AgreeByKey parent child = (key : List ℕ) → HasAuthorityKey child key → HasSubjectKey parent key
 
@@ -35,7 +37,8 @@ pub record LacksKey (parent child : CertificateElements) : Type 0 where
   pub none : (key : List ℕ) → HasSubjectKey parent key → ⊥
 
 -- The child names a key by one identifier, and the parent's has another.
-pub record DifferByKey (parent child : CertificateElements) (expected actual : List ℕ) : Type 0 where
+pub record DifferByKey (parent child : CertificateElements)
+    (expected actual : List ℕ) : Type 0 where
   pub named : HasAuthorityKey child expected
   pub had : HasSubjectKey parent actual
   pub other : expected ≢ actual
@@ -44,7 +47,8 @@ pub record DifferByKey (parent child : CertificateElements) (expected actual : L
 abbrev pub IsKeyLink : (parent child : CertificateElements) → KeyLink → Type 0
 IsKeyLink parent child links.Agree = AgreeByKey parent child
 IsKeyLink parent child links.Missing = LacksKey parent child
-IsKeyLink parent child (links.Differ expected actual) = DifferByKey parent child expected.now actual.now
+IsKeyLink parent child (links.Differ expected actual) =
+    DifferByKey parent child expected.now actual.now
 
 -- a certificate is told by the name of its subject
 abbrev pub IsNameOf : KeptCertificate → DirectoryName → Type 0
@@ -56,12 +60,15 @@ IsInvalid kept cause (errors.InvalidCertificate id source) = IsNameOf kept id ×
 IsInvalid kept cause errors.Memory = ⊤
 IsInvalid kept cause e = ⊥
 
--- The error tells of this certificate that it names one key and its parent has another, or of want of memory.
+-- The error tells of this certificate that it names one key and its parent has another, or of want
+-- of memory.
 abbrev pub IsOtherKey : KeptCertificate → (expected actual : List ℕ) → CertError → Type 0
-IsOtherKey kept expected actual = IsInvalid kept (causes.InvalidChain (chain.AuthorityKeyIdMismatch expected actual))
+IsOtherKey kept expected actual =
+    IsInvalid kept (causes.InvalidChain (chain.AuthorityKeyIdMismatch expected actual))
 
 -- The names don't agree, and the key identifiers do.
-pub record DifferByName (parent child : KeptCertificate) (expected actual : DirectoryName) : Type 0 where
+pub record DifferByName (parent child : KeptCertificate)
+    (expected actual : DirectoryName) : Type 0 where
   pub key : AgreeByKey parent.elements child.elements
   pub name : AgreeByName parent.elements child.elements → ⊥
   pub expected_is : sets_of expected ≡ child.certificate.tbs_certificate.issuer
@@ -72,18 +79,24 @@ abbrev pub RefusesChain : (parent child : KeptCertificate) → CaChainError → 
 RefusesChain parent child (chain.TooDeep id length) = ⊥
 RefusesChain parent child chain.NoRoot = ⊥
 RefusesChain parent child (chain.IssuerIsNotCA id) = ⊥
-RefusesChain parent child (chain.AuthorityKeyIdMismatch expected actual) = DifferByKey parent.elements child.elements expected actual
-RefusesChain parent child (chain.IssuerNameMismatch expected actual) = DifferByName parent child expected actual
+RefusesChain parent child (chain.AuthorityKeyIdMismatch expected actual) =
+    DifferByKey parent.elements child.elements expected actual
+RefusesChain parent child (chain.IssuerNameMismatch expected actual) =
+    DifferByName parent child expected actual
 
--- of the parent it is told that it has no key identifier, of the child that one or the other doesn't agree
+-- of the parent it is told that it has no key identifier, of the child that one or the other
+-- doesn't agree
 abbrev pub RefusesLink : (parent child : KeptCertificate) → DirectoryName → CertCause → Type 0
 RefusesLink parent child id (causes.ExtensionNotFound name) =
-    IsNameOf parent id × (name ≡ names.SubjectKeyIdentifier) × LacksKey parent.elements child.elements
-RefusesLink parent child id (causes.InvalidChain source) = IsNameOf child id × RefusesChain parent child source
+    IsNameOf parent id × (name ≡ names.SubjectKeyIdentifier)
+    × LacksKey parent.elements child.elements
+RefusesLink parent child id (causes.InvalidChain source) =
+    IsNameOf child id × RefusesChain parent child source
 RefusesLink parent child id cause = ⊥
 
 -- why one certificate isn't the parent of another
 abbrev pub RefusesParent : (parent child : KeptCertificate) → CertError → Type 0
-RefusesParent parent child (errors.InvalidCertificate id source) = RefusesLink parent child id source
+RefusesParent parent child (errors.InvalidCertificate id source) =
+    RefusesLink parent child id source
 RefusesParent parent child errors.Memory = ⊤
 RefusesParent parent child e = ⊥

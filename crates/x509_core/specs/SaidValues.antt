@@ -1,4 +1,5 @@
--- What the elements of a certificate say of its key, beside the values of its first extensions (RFC 5280 4.2.1.1, 4.2.1.2, 4.2.1.9).
+-- What the elements of a certificate say of its key, beside the values of its first extensions (RFC
+-- 5280 4.2.1.1, 4.2.1.2, 4.2.1.9).
 use Rattle.std.specs.Prelude.{◌≡◌, ◌↔◌, ℕ, Bool, List, Some}
 use Rattle.asn1_types.specs.declared.oids.TheConstants.{CE_SUBJECT_KEY_IDENTIFIER, CE_BASIC_CONSTRAINTS, CE_AUTHORITY_KEY_IDENTIFIER}
 use Rattle.x509_types.specs.CertificateElements.{CertificateElements}
@@ -16,7 +17,8 @@ use Rattle.x509_core.specs.FirstValue.{HasFirst}
 -- The first key identifier of an authority names its key by this one.
 pub record NamesKey (extensions : List Extension) (key : List ℕ) : Type 0 where
   pub value : AuthorityKeyIdentifier
-  pub first : HasFirst CE_AUTHORITY_KEY_IDENTIFIER.now extensions (views.AuthorityKeyIdentifier value)
+  pub first : HasFirst CE_AUTHORITY_KEY_IDENTIFIER.now extensions
+      (views.AuthorityKeyIdentifier value)
   pub named : key_identifier_of value ≡ Some key
 
 -- The first basic constraints have this flag.
@@ -33,7 +35,13 @@ pub record HasLength (extensions : List Extension) (number : ℕ) : Type 0 where
 
 -- Each says the same.
 pub record SayTheSame (f : CertificateElements) (c : Certificate) : Type 0 where
-  pub subject_key : (key : List ℕ) → HasSubjectKey f key ↔ HasFirst CE_SUBJECT_KEY_IDENTIFIER.now (extensions_in c.tbs_certificate.extensions) (views.SubjectKeyIdentifier key)
-  pub authority_key : (key : List ℕ) → HasAuthorityKey f key ↔ NamesKey (extensions_in c.tbs_certificate.extensions) key
-  pub flag : (flag : Bool) → HasCa f flag ↔ HasFlag (extensions_in c.tbs_certificate.extensions) flag
-  pub length : (number : ℕ) → HasPathLength f number ↔ HasLength (extensions_in c.tbs_certificate.extensions) number
+  pub subject_key : (key : List ℕ)
+      → HasSubjectKey f key
+      ↔ HasFirst CE_SUBJECT_KEY_IDENTIFIER.now (extensions_in c.tbs_certificate.extensions)
+      (views.SubjectKeyIdentifier key)
+  pub authority_key : (key : List ℕ)
+      → HasAuthorityKey f key ↔ NamesKey (extensions_in c.tbs_certificate.extensions) key
+  pub flag : (flag : Bool)
+      → HasCa f flag ↔ HasFlag (extensions_in c.tbs_certificate.extensions) flag
+  pub length : (number : ℕ)
+      → HasPathLength f number ↔ HasLength (extensions_in c.tbs_certificate.extensions) number

@@ -26,10 +26,12 @@ without_extensions f = record {
   extensions = None;
 }
 
--- The fields of the value are the written ones, but for the spelling of its extensions, each at its place.
+-- The fields of the value are the written ones, but for the spelling of its extensions, each at its
+-- place.
 pub record AreAsWritten (f : CertificateElements) (c : Certificate) : Type 0 where
   pub others : without_extensions f.tbs ≡ without_extensions (tbs_elements c.tbs_certificate)
-  pub extensions : SpellsOption (IsListOf 0x30 IsSpelling) f.tbs.extensions c.tbs_certificate.extensions
+  pub extensions : SpellsOption (IsListOf 0x30 IsSpelling) f.tbs.extensions
+      c.tbs_certificate.extensions
   pub algorithm : f.algorithm ≡ algorithm_identifier c.signature_algorithm
   pub signature : f.unused ∷ f.signature ≡ bit_string_contents c.signature_value
 

@@ -1,4 +1,5 @@
--- When a certificate is valid: at a date, or already at the upper end of an interval and still at its lower one (RFC 5280 4.1.2.5, 6.1.3 (a) (2)).
+-- When a certificate is valid: at a date, or already at the upper end of an interval and still at
+-- its lower one (RFC 5280 4.1.2.5, 6.1.3 (a) (2)).
 use Rattle.std.specs.Prelude.{◌≡◌, List, [], ◌∷◌, Option, Some, None, IsTrue}
 use Rattle.std.specs.Cmp.Lexicographic.{slice_cmp}
 use Rattle.std.specs.Ordering.{nat_cmp}
@@ -18,7 +19,8 @@ use Rattle.x509_core.specs.declared.window.DateCheck.{DateCheck}
 use Rattle.x509_core.specs.declared.window.DateCheck.TheVariants as dates
 use Rattle.x509_core.specs.declared.window.Window.{Window}
 
--- One moment lies before another: by the year, then the month, the day, the hour, the minute and the second.
+-- One moment lies before another: by the year, then the month, the day, the hour, the minute and
+-- the second.
 abbrev pub IsEarlier : (a b : GeneralizedTime) → Type 0
 IsEarlier a b = slice_cmp nat_cmp (generalized_fields a) (generalized_fields b) ≡ Less
 
@@ -50,11 +52,15 @@ latest (dates.Interval lower upper) = Some upper
 
 -- where it is asked for: not-before is at most the last moment
 abbrev pub HasBegun : Window → CertificateElements → Type 0
-HasBegun w f = IsTrue w.not_before → (not_before now : GeneralizedTime) → IsNotBefore f not_before → latest w.date ≡ Some now → IsEarlier now not_before → ⊥
+HasBegun w f =
+    IsTrue w.not_before → (not_before now : GeneralizedTime) → IsNotBefore f not_before
+    → latest w.date ≡ Some now → IsEarlier now not_before → ⊥
 
 -- where it is asked for: not-after is at least the first moment
 abbrev pub HasNotEnded : Window → CertificateElements → Type 0
-HasNotEnded w f = IsTrue w.not_after → (not_after now : GeneralizedTime) → IsNotAfter f not_after → earliest w.date ≡ Some now → IsEarlier not_after now → ⊥
+HasNotEnded w f =
+    IsTrue w.not_after → (not_after now : GeneralizedTime) → IsNotAfter f not_after
+    → earliest w.date ≡ Some now → IsEarlier not_after now → ⊥
 
 -- The certificate is valid, as far as it is asked for. Where no date is, each one is.
 pub record IsWithinWindow (w : Window) (f : CertificateElements) : Type 0 where
@@ -62,7 +68,8 @@ pub record IsWithinWindow (w : Window) (f : CertificateElements) : Type 0 where
   pub lasts : HasNotEnded w f
 
 -- The validity has ended by the first moment, as it is asked for.
-pub record HasEnded (w : Window) (f : CertificateElements) (not_after now : GeneralizedTime) : Type 0 where
+pub record HasEnded (w : Window) (f : CertificateElements)
+    (not_after now : GeneralizedTime) : Type 0 where
   pub asked : IsTrue w.not_after
   pub ends : IsNotAfter f not_after
   pub first : earliest w.date ≡ Some now
@@ -70,7 +77,9 @@ pub record HasEnded (w : Window) (f : CertificateElements) (not_after now : Gene
 
 -- A certificate is expired where its validity has begun and ended.
 abbrev pub IsExpired : Window → CertificateElements → Type 0
-IsExpired w f = HasBegun w f × ((not_after : GeneralizedTime) × (now : GeneralizedTime) × HasEnded w f not_after now)
+IsExpired w f =
+    HasBegun w f
+    × ((not_after : GeneralizedTime) × (now : GeneralizedTime) × HasEnded w f not_after now)
 
 -- ---- rules, by what breaks them
 

@@ -67,7 +67,12 @@ impl Model for Cert {
 
     ghost coded = { coded_certificates };
 
-    ghost view = { λ cert. record { elements = cert.fields.0; certificate = joined cert.rest cert.public_key; der = cert.fields.1.1; spelled = cert.fields.1.2 } };
+    ghost view = { λ cert. record {
+      elements = cert.fields.0;
+      certificate = joined cert.rest cert.public_key;
+      der = cert.fields.1.1;
+      spelled = cert.fields.1.2;
+    } };
 }
 
 impl Cert {
@@ -80,9 +85,11 @@ impl Cert {
             (IsUnreadCert elements.Certificate (RefusesOctets IsCertificate der.now)) }
         // Octets with a fault are refused with it, whatever memory there is.
         ensures faulty { (at : ℕ) (fault : DerFault) → IsExactFault der.now at fault
-            → result ≡ Err (errors.Asn1Deserialization elements.Certificate (der_errors.Malformed (record { at = at; fault = fault }))) }
+            → result ≡ Err (errors.Asn1Deserialization elements.Certificate
+            (der_errors.Malformed (record { at = at; fault = fault }))) }
         // An element that is that of no certificate is refused as such, whatever memory there is.
-        ensures shapeless { (element : DerElement) → IsDer element → der.now ≡ encoding element → ((c : Certificate) → IsCertificate element c → ⊥)
+        ensures shapeless { (element : DerElement) → IsDer element → der.now ≡ encoding element
+            → ((c : Certificate) → IsCertificate element c → ⊥)
             → result ≡ Err (errors.Asn1Deserialization elements.Certificate der_errors.Shape) }
     {
         match Cert::read(alloc, der) {
@@ -97,8 +104,10 @@ impl Cert {
         ensures answer { MatchResult result
             (λ cert. IsWithin IsCertificate der.now cert.certificate)
             (RefusesOctets IsCertificate der.now) }
-        ensures faulty { (at : ℕ) (fault : DerFault) → IsExactFault der.now at fault → result ≡ Err (der_errors.Malformed (record { at = at; fault = fault })) }
-        ensures shapeless { (element : DerElement) → IsDer element → der.now ≡ encoding element → ((c : Certificate) → IsCertificate element c → ⊥) → result ≡ Err der_errors.Shape }
+        ensures faulty { (at : ℕ) (fault : DerFault) → IsExactFault der.now at fault
+            → result ≡ Err (der_errors.Malformed (record { at = at; fault = fault })) }
+        ensures shapeless { (element : DerElement) → IsDer element → der.now ≡ encoding element
+            → ((c : Certificate) → IsCertificate element c → ⊥) → result ≡ Err der_errors.Shape }
     {
         let elem = exact_elem(der)?;
         if !is_certificate(elem) {
@@ -122,7 +131,8 @@ impl Cert {
     /// The certificate that a kept element spells.
     fn keep(kept: Raw, certificate: Certificate) -> Cert
         requires { IsCertificate kept.element certificate }
-        ensures { (certificate_of result.elements ≡ kept.element) × (result.certificate ≡ certificate) }
+        ensures { (certificate_of result.elements ≡ kept.element)
+            × (result.certificate ≡ certificate) }
     {
         let (rest, public_key) = Keyless::split(certificate);
         Cert::of_parts(kept, rest, public_key)
@@ -131,7 +141,8 @@ impl Cert {
     /// The certificate that is kept in these parts.
     fn of_parts(kept: Raw, rest: Keyless, public_key: PublicKey) -> Cert
         requires { HasFields kept.element (joined rest public_key) }
-        ensures { (certificate_of result.elements ≡ kept.element) × (result.certificate ≡ joined rest public_key) }
+        ensures { (certificate_of result.elements ≡ kept.element)
+            × (result.certificate ≡ joined rest public_key) }
     {
         Cert {
             kept,
@@ -142,7 +153,8 @@ impl Cert {
 
     /// The octets that are kept: those that were read, or written at first.
     pub fn to_der(&self, alloc: Global) -> Result<Vec<u8>, CertError>
-        ensures { MatchResult result (λ octets. octets.items ≡ kept_octets self.now) (λ e. e ≡ errors.Memory) }
+        ensures { MatchResult result (λ octets. octets.items ≡ kept_octets self.now)
+            (λ e. e ≡ errors.Memory) }
     {
         Ok(Vec::from_slice(alloc, self.kept.as_bytes())?)
     }
@@ -154,11 +166,12 @@ impl Cert {
         self.kept.as_bytes()
     }
 
-    /// The certificate of a value, with the octets that are written for it. A value that has none is
-    /// refused as `Asn1Serialization`.
+    /// The certificate of a value, with the octets that are written for it. A value that has none
+    /// is refused as `Asn1Serialization`.
     pub fn from_certificate(alloc: Global, certificate: Certificate) -> Result<Cert, CertError>
         ensures { MatchResult result
-            (λ cert. (kept_octets cert ≡ written_octets certificate) × (cert.certificate ≡ certificate))
+            (λ cert. (kept_octets cert ≡ written_octets certificate)
+            × (cert.certificate ≡ certificate))
             (IsUnwrittenCert elements.Certificate (RefusesInner (written_elements certificate))) }
     {
         match written(alloc, &certificate) {
@@ -210,14 +223,16 @@ impl Cert {
 
     /// The moment from which on the certificate is valid (RFC 5280 4.1.2.5).
     pub fn valid_not_before(&self) -> UtcDate
-        ensures { generalized_fields result ≡ time_fields self.now.certificate.tbs_certificate.validity.not_before }
+        ensures { generalized_fields result
+            ≡ time_fields self.now.certificate.tbs_certificate.validity.not_before }
     {
         date_of(&self.rest.validity.not_before)
     }
 
     /// The moment up to which the certificate is valid (RFC 5280 4.1.2.5).
     pub fn valid_not_after(&self) -> UtcDate
-        ensures { generalized_fields result ≡ time_fields self.now.certificate.tbs_certificate.validity.not_after }
+        ensures { generalized_fields result
+            ≡ time_fields self.now.certificate.tbs_certificate.validity.not_after }
     {
         date_of(&self.rest.validity.not_after)
     }
@@ -234,7 +249,8 @@ impl Cert {
 
     /// The key of the subject with its algorithm (RFC 5280 4.1.2.7).
     pub fn public_key(&self) -> &PublicKey
-        ensures { info_of result.now ≡ self.now.certificate.tbs_certificate.subject_public_key_info }
+        ensures { info_of result.now
+            ≡ self.now.certificate.tbs_certificate.subject_public_key_info }
     {
         &self.public_key
     }
@@ -253,7 +269,8 @@ impl Cert {
 
     /// The name of the subject (RFC 5280 4.1.2.6).
     pub fn subject_name(&self, alloc: Global) -> Result<DirectoryName, AllocError>
-        ensures { IfOk result (λ copy. sets_of copy ≡ self.now.certificate.tbs_certificate.subject) }
+        ensures { IfOk result
+            (λ copy. sets_of copy ≡ self.now.certificate.tbs_certificate.subject) }
     {
         Ok(DirectoryName::from(self.rest.subject.try_clone(alloc)?))
     }
@@ -287,7 +304,8 @@ fn is_certificate(elem: Elem<'_>) -> bool
 /// The element that is written for a certificate, kept with its octets.
 fn written(alloc: Global, certificate: &Certificate) -> Result<Raw, DerError>
     ensures { MatchResult result
-        (λ raw. (encoding raw.element ≡ written_octets certificate.now) × IsCertificate raw.element certificate.now)
+        (λ raw. (encoding raw.element ≡ written_octets certificate.now)
+        × IsCertificate raw.element certificate.now)
         (RefusesInner (written_elements certificate.now)) }
 {
     let tree = certificate.write(alloc)?;
@@ -311,7 +329,8 @@ impl PartialEq for Cert {
     ghost laws = { same_octets_per (λ kept. certificate_of kept.elements) };
 
     fn eq(&self, other: &Cert) -> bool
-        ensures octets { result ≡ same_octets (λ kept. certificate_of kept.elements) self.now other.now }
+        ensures octets { result ≡ same_octets (λ kept. certificate_of kept.elements) self.now
+            other.now }
         ensures same { IsTrue result ↔ (self.now ≡ other.now) }
     {
         self.kept == other.kept

@@ -17,12 +17,15 @@ use der_core::is_same;
 use x509_types::{AuthorityKeyIdentifier, BasicConstraints, Extension, ExtensionView};
 
 impl Cert {
-    /// The identifier of the key of the subject (RFC 5280 4.2.1.2), `ExtensionNotFound` exactly where
-    /// there is no such extension. It takes no memory.
+    /// The identifier of the key of the subject (RFC 5280 4.2.1.2), `ExtensionNotFound` exactly
+    /// where there is no such extension. It takes no memory.
     pub fn subject_key_identifier(&self) -> Result<&[u8], CertError>
         ensures { MatchResult result
-            (λ key. HasFirst CE_SUBJECT_KEY_IDENTIFIER.now (extensions_in self.now.certificate.tbs_certificate.extensions) (views.SubjectKeyIdentifier key.now))
-            (IsMissingExtension CE_SUBJECT_KEY_IDENTIFIER.now names.SubjectKeyIdentifier (extensions_in self.now.certificate.tbs_certificate.extensions)) }
+            (λ key. HasFirst CE_SUBJECT_KEY_IDENTIFIER.now
+            (extensions_in self.now.certificate.tbs_certificate.extensions)
+            (views.SubjectKeyIdentifier key.now))
+            (IsMissingExtension CE_SUBJECT_KEY_IDENTIFIER.now names.SubjectKeyIdentifier
+            (extensions_in self.now.certificate.tbs_certificate.extensions)) }
     {
         match first_with(self.extensions(), CE_SUBJECT_KEY_IDENTIFIER) {
             Some(extension) => match extension.extn_value() {
@@ -35,12 +38,15 @@ impl Cert {
         }
     }
 
-    /// Which key the issuer signs with (RFC 5280 4.2.1.1), `ExtensionNotFound` exactly where there is
-    /// no such extension. It takes no memory.
+    /// Which key the issuer signs with (RFC 5280 4.2.1.1), `ExtensionNotFound` exactly where there
+    /// is no such extension. It takes no memory.
     pub fn authority_key_identifier(&self) -> Result<&AuthorityKeyIdentifier, CertError>
         ensures { MatchResult result
-            (λ key. HasFirst CE_AUTHORITY_KEY_IDENTIFIER.now (extensions_in self.now.certificate.tbs_certificate.extensions) (views.AuthorityKeyIdentifier key.now))
-            (IsMissingExtension CE_AUTHORITY_KEY_IDENTIFIER.now names.AuthorityKeyIdentifier (extensions_in self.now.certificate.tbs_certificate.extensions)) }
+            (λ key. HasFirst CE_AUTHORITY_KEY_IDENTIFIER.now
+            (extensions_in self.now.certificate.tbs_certificate.extensions)
+            (views.AuthorityKeyIdentifier key.now))
+            (IsMissingExtension CE_AUTHORITY_KEY_IDENTIFIER.now names.AuthorityKeyIdentifier
+            (extensions_in self.now.certificate.tbs_certificate.extensions)) }
     {
         match first_with(self.extensions(), CE_AUTHORITY_KEY_IDENTIFIER) {
             Some(extension) => match extension.extn_value() {
@@ -57,8 +63,11 @@ impl Cert {
     /// `ExtensionNotFound` exactly where there is no such extension. It takes no memory.
     pub fn basic_constraints(&self) -> Result<&BasicConstraints, CertError>
         ensures { MatchResult result
-            (λ constraints. HasFirst CE_BASIC_CONSTRAINTS.now (extensions_in self.now.certificate.tbs_certificate.extensions) (views.BasicConstraints constraints.now))
-            (IsMissingExtension CE_BASIC_CONSTRAINTS.now names.BasicConstraints (extensions_in self.now.certificate.tbs_certificate.extensions)) }
+            (λ constraints. HasFirst CE_BASIC_CONSTRAINTS.now
+            (extensions_in self.now.certificate.tbs_certificate.extensions)
+            (views.BasicConstraints constraints.now))
+            (IsMissingExtension CE_BASIC_CONSTRAINTS.now names.BasicConstraints
+            (extensions_in self.now.certificate.tbs_certificate.extensions)) }
     {
         match first_with(self.extensions(), CE_BASIC_CONSTRAINTS) {
             Some(extension) => match extension.extn_value() {

@@ -8,8 +8,8 @@ use crate::parent::names_agree;
 use crate::viewed::ViewedCert;
 use x509_types::CertView;
 
-/// What kind of certificate one is, by what it says of itself (RFC 5280 3.2, 4.2.1.9). Whether it is
-/// to be believed isn't asked.
+/// What kind of certificate one is, by what it says of itself (RFC 5280 3.2, 4.2.1.9). Whether it
+/// is to be believed isn't asked.
 #[derive(Clone, Copy, Debug, PartialEq, Eq, Hash)]
 pub enum CertType {
     /// An authority's, whose subject is its issuer.

@@ -21,12 +21,18 @@ ghost use Rattle.x509_core.specs.declared.window.Window.{Window};
 pub fn chains_break_no_rule()
     ensures window { (w : Window) (f : CertificateElements) (cause : CertCause)
         → IsWithinWindow w f → IsFirstBroken (window_rules w f) cause → ⊥ }
-    ensures expired { (w : Window) (f : CertificateElements) → IsExpired w f
-        ↔ ((not_after : GeneralizedTime) × (now : GeneralizedTime) × IsFirstBroken (window_rules w f) (causes.CertificateExpired not_after now)) }
-    ensures link { (judge : Judge) (w : Window) (count : ℕ) (parent child : KeptCertificate) (e : CertError)
-        → IsLink judge w count parent.elements child.elements → IsFirstBroken (link_rules judge w count parent child) e → ⊥ }
-    ensures chain { (judge : Judge) (checks : ChainChecks) (checked : KeptCertificate) (given : Option (List KeptCertificate)) (e : CertError)
-        → IsAccepted judge checks checked given → IsFirstBroken (chain_rules judge checks checked given) e → ⊥ }
+    ensures expired { (w : Window) (f : CertificateElements)
+        → IsExpired w f
+        ↔ ((not_after : GeneralizedTime) × (now : GeneralizedTime)
+        × IsFirstBroken (window_rules w f) (causes.CertificateExpired not_after now)) }
+    ensures link { (judge : Judge) (w : Window) (count : ℕ) (parent child : KeptCertificate)
+        (e : CertError)
+        → IsLink judge w count parent.elements child.elements
+        → IsFirstBroken (link_rules judge w count parent child) e → ⊥ }
+    ensures chain { (judge : Judge) (checks : ChainChecks) (checked : KeptCertificate)
+        (given : Option (List KeptCertificate)) (e : CertError)
+        → IsAccepted judge checks checked given
+        → IsFirstBroken (chain_rules judge checks checked given) e → ⊥ }
 {}
 
 /// At most one error tells of the first broken rule of windows, of links and of chains. So
@@ -35,8 +41,12 @@ pub fn chains_break_no_rule()
 pub fn chains_have_one_answer()
     ensures window { (w : Window) (f : CertificateElements) (a b : CertCause)
         → IsFirstBroken (window_rules w f) a → IsFirstBroken (window_rules w f) b → a ≡ b }
-    ensures link { (judge : Judge) (w : Window) (count : ℕ) (parent child : KeptCertificate) (a b : CertError)
-        → IsFirstBroken (link_rules judge w count parent child) a → IsFirstBroken (link_rules judge w count parent child) b → a ≡ b }
-    ensures chain { (judge : Judge) (checks : ChainChecks) (checked : KeptCertificate) (given : Option (List KeptCertificate)) (a b : CertError)
-        → IsFirstBroken (chain_rules judge checks checked given) a → IsFirstBroken (chain_rules judge checks checked given) b → a ≡ b }
+    ensures link { (judge : Judge) (w : Window) (count : ℕ) (parent child : KeptCertificate)
+        (a b : CertError)
+        → IsFirstBroken (link_rules judge w count parent child) a
+        → IsFirstBroken (link_rules judge w count parent child) b → a ≡ b }
+    ensures chain { (judge : Judge) (checks : ChainChecks) (checked : KeptCertificate)
+        (given : Option (List KeptCertificate)) (a b : CertError)
+        → IsFirstBroken (chain_rules judge checks checked given) a
+        → IsFirstBroken (chain_rules judge checks checked given) b → a ≡ b }
 {}

@@ -1,5 +1,5 @@
-//! Why a certificate isn't read, written or made, lacks an extension, isn't valid, or isn't one of a
-//! chain.
+//! Why a certificate isn't read, written or made, lacks an extension, isn't valid, or isn't one of
+//! a chain.
 
 ghost use Rattle.std.specs.Prelude.{◌≡◌, ◌++◌, Some, codes};
 ghost use Rattle.std.specs.Fmt.{WritesOnOk};
@@ -16,8 +16,8 @@ use std::fmt;
 use thiserror::Error;
 use x501_types::write_hexadecimal;
 
-/// Why a certificate isn't read, written or made, lacks an extension, isn't valid, or isn't one of a
-/// chain.
+/// Why a certificate isn't read, written or made, lacks an extension, isn't valid, or isn't one of
+/// a chain.
 #[derive(Debug, Error)]
 pub enum CertError {
     /// A certificate isn't made, for what is told.
@@ -126,8 +126,8 @@ pub enum CertCause {
     /// The value has no encoding: it is nested too deep, or some contents are too long. Never with
     /// want of memory.
     Asn1Serialization { element: Element, source: DerError },
-    /// The signature of the certificate isn't one by the key of its parent, or isn't made. Never with
-    /// want of memory.
+    /// The signature of the certificate isn't one by the key of its parent, or isn't made. Never
+    /// with want of memory.
     Signature { source: SignatureError },
     /// A key has no identifier. Never with want of memory.
     KeyIdGen { source: KeyIdGenError },
@@ -162,8 +162,8 @@ pub enum CaChainError {
         expected: Octets,
         actual: Octets,
     },
-    /// The issuer of the certificate, `expected`, isn't the subject of the parent, `actual` (RFC 5280
-    /// 6.1.3).
+    /// The issuer of the certificate, `expected`, isn't the subject of the parent, `actual` (RFC
+    /// 5280 6.1.3).
     IssuerNameMismatch {
         expected: DirectoryName,
         actual: DirectoryName,
@@ -198,8 +198,8 @@ pub enum Arg {
 }
 
 impl CertError {
-    /// The error of octets that aren't read as the structure: want of memory as such, any other cause
-    /// with the structure.
+    /// The error of octets that aren't read as the structure: want of memory as such, any other
+    /// cause with the structure.
     pub fn unread(element: Element, source: DerError) -> CertError
         ensures { result ≡ unread element source }
     {
@@ -278,7 +278,8 @@ fn write_key_mismatch<W: fmt::Write>(
     actual: &[u8],
     f: &mut fmt::Formatter<W>,
 ) -> fmt::Result
-    ensures { WritesOnOk W.write_str_gives f.old result (key_mismatch_text expected.now actual.now) f.new }
+    ensures { WritesOnOk W.write_str_gives f.old result (key_mismatch_text expected.now actual.now)
+        f.new }
 {
     f.write_str("authority key id doesn't match (expected: ")?;
     write_hexadecimal(expected, f)?;
@@ -289,14 +290,16 @@ fn write_key_mismatch<W: fmt::Write>(
 
 /// The text of certificates that are no chain.
 fn write_chain<W: fmt::Write>(source: &CaChainError, f: &mut fmt::Formatter<W>) -> fmt::Result
-    ensures { WritesOnOk W.write_str_gives f.old result (codes "CA chain error: " ++ chain_error_text source.now) f.new }
+    ensures { WritesOnOk W.write_str_gives f.old result
+        (codes "CA chain error: " ++ chain_error_text source.now) f.new }
 {
     write!(f, "CA chain error: {source}")
 }
 
 /// The text of an extension that isn't there.
 fn write_not_found<W: fmt::Write>(name: ExtName, f: &mut fmt::Formatter<W>) -> fmt::Result
-    ensures { WritesOnOk W.write_str_gives f.old result (codes "extension not found: " ++ extension_text name) f.new }
+    ensures { WritesOnOk W.write_str_gives f.old result
+        (codes "extension not found: " ++ extension_text name) f.new }
 {
     write!(f, "extension not found: {name}")
 }
@@ -307,7 +310,8 @@ fn write_not_yet_valid<W: fmt::Write>(
     now: &UtcDate,
     f: &mut fmt::Formatter<W>,
 ) -> fmt::Result
-    ensures { WritesOnOk W.write_str_gives f.old result (not_yet_valid_text not_before.now now.now) f.new }
+    ensures { WritesOnOk W.write_str_gives f.old result (not_yet_valid_text not_before.now now.now)
+        f.new }
 {
     write!(
         f,

@@ -7,8 +7,8 @@ use crate::error::{CaChainError, CertCause, CertError};
 use std::alloc::{AllocError, Global};
 
 impl CertError {
-    /// The name of the variant. Behind that of `InvalidCertificate` and that of `InvalidChain` stand
-    /// a colon and the name of what each holds.
+    /// The name of the variant. Behind that of `InvalidCertificate` and that of `InvalidChain`
+    /// stand a colon and the name of what each holds.
     pub fn name(&self, alloc: Global) -> Result<String, AllocError>
         ensures { IfOk result (λ name. string_bytes name ≡ cert_error_name self.now) }
     {
@@ -39,14 +39,16 @@ impl CertError {
 
 /// The name of what a certificate is refused for, behind that of the refusal.
 fn named_certificate(alloc: Global, cause: &CertCause) -> Result<String, AllocError>
-    ensures { IfOk result (λ name. string_bytes name ≡ codes "InvalidCertificate:" ++ cause_name cause.now) }
+    ensures { IfOk result
+        (λ name. string_bytes name ≡ codes "InvalidCertificate:" ++ cause_name cause.now) }
 {
     format!(in alloc; "InvalidCertificate:{}", cause.name(alloc)?)
 }
 
 /// The name of why certificates are no chain, behind that of the refusal.
 fn named_chain(alloc: Global, error: &CaChainError) -> Result<String, AllocError>
-    ensures { IfOk result (λ name. string_bytes name ≡ codes "InvalidChain:" ++ chain_error_name error.now) }
+    ensures { IfOk result
+        (λ name. string_bytes name ≡ codes "InvalidChain:" ++ chain_error_name error.now) }
 {
     format!(in alloc; "InvalidChain:{}", error.name())
 }

@@ -6,7 +6,8 @@ ghost use Rattle.x509_core.specs.Parent.{IsKeyLink};
 use der_core::is_same;
 use x509_types::CertView;
 
-/// How the identifier of the key that a child names and that of its parent's key stand to one another.
+/// How the identifier of the key that a child names and that of its parent's key stand to one
+/// another.
 #[derive(Clone, Copy)]
 pub(crate) enum KeyLink<'a> {
     /// They are the same, or the child names none.

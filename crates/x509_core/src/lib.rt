@@ -1,5 +1,6 @@
-//! Certificates: read from octets, kept with them, and asked for what a caller wants of one; whether
-//! one may be the parent of another, and whether some are a chain. Errors of requests for them.
+//! Certificates: read from octets, kept with them, and asked for what a caller wants of one;
+//! whether one may be the parent of another, and whether some are a chain. Errors of requests for
+//! them.
 #![tactic(auto)]
 
 mod cert;

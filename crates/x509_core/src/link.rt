@@ -20,10 +20,10 @@ use sig_core::Scheme;
 use std::alloc::Global;
 
 impl Cert {
-    /// Whether this certificate may have issued the other, where `number` certificates stand between
-    /// it and the end of the path (RFC 5280 6.1.3, 6.1.4). The first of these is answered that
-    /// doesn't hold: its CA flag is true, else `IssuerIsNotCA`; its path length, where it has one, is
-    /// at least the number, else `TooDeep`; it is valid; names and key identifiers agree
+    /// Whether this certificate may have issued the other, where `number` certificates stand
+    /// between it and the end of the path (RFC 5280 6.1.3, 6.1.4). The first of these is answered
+    /// that doesn't hold: its CA flag is true, else `IssuerIsNotCA`; its path length, where it has
+    /// one, is at least the number, else `TooDeep`; it is valid; names and key identifiers agree
     /// (`is_parent_of`); the algorithm of the signature is known, else `Signature`; the scheme
     /// accepts the signature of the other over its octets as they are kept, else `Signature` of it.
     /// No path length is more than 255, so a number past that stands for any.
@@ -104,9 +104,12 @@ impl ViewedCert<'_> {
         window: &Window,
         scheme: &S,
     ) -> Result<(), CertError>
-        ensures { (count : ℕ) → IsStandingFor number count → MatchResult result
-            (λ _. IsLink (S.judge scheme.now) window.now count self.now.cert.now.elements child.now.cert.now.elements)
-            (RefusesCertBy (link_rules (S.judge scheme.now) window.now count self.now.cert.now child.now.cert.now)) }
+        ensures { (count : ℕ) → IsStandingFor number count
+            → MatchResult result
+            (λ _. IsLink (S.judge scheme.now) window.now count self.now.cert.now.elements
+            child.now.cert.now.elements)
+            (RefusesCertBy (link_rules (S.judge scheme.now) window.now count self.now.cert.now
+            child.now.cert.now)) }
     {
         self.expect_authority(alloc)?;
         self.expect_deep_enough(alloc, number)?;
@@ -117,7 +120,8 @@ impl ViewedCert<'_> {
 
     /// The certificate is that of an authority (RFC 5280 4.2.1.9).
     fn expect_authority(&self, alloc: Global) -> Result<(), CertError>
-        ensures { MatchResult result (λ _. HasCa self.now.cert.now.elements true) (Breaks (IsNoAuthority self.now.cert.now)) }
+        ensures { MatchResult result (λ _. HasCa self.now.cert.now.elements true)
+            (Breaks (IsNoAuthority self.now.cert.now)) }
     {
         if self.is_authority() {
             return Ok(());
@@ -172,8 +176,10 @@ impl ViewedCert<'_> {
         scheme: &S,
     ) -> Result<(), CertError>
         ensures { MatchResult result
-            (λ _. IsSignedBy (S.judge scheme.now) parent.now.cert.now.elements self.now.cert.now.elements)
-            (RefusesCertBy (link_signature_rules (S.judge scheme.now) parent.now.cert.now self.now.cert.now)) }
+            (λ _. IsSignedBy (S.judge scheme.now) parent.now.cert.now.elements
+            self.now.cert.now.elements)
+            (RefusesCertBy
+            (link_signature_rules (S.judge scheme.now) parent.now.cert.now self.now.cert.now)) }
     {
         match SignatureAlgorithm::from_algorithm_identifier(alloc, self.cert.outer_algorithm()) {
             Ok(algorithm) => self.expect_accepted(alloc, algorithm, parent, scheme),
@@ -192,8 +198,10 @@ impl ViewedCert<'_> {
     ) -> Result<(), CertError>
         requires { NamesSignature self.now.cert.now.certificate.signature_algorithm algorithm }
         ensures { MatchResult result
-            (λ _. IsSignedBy (S.judge scheme.now) parent.now.cert.now.elements self.now.cert.now.elements)
-            (Breaks (IsToldOf self.now.cert.now (IsBadlySignedLink (S.judge scheme.now) parent.now.cert.now.elements self.now.cert.now.elements))) }
+            (λ _. IsSignedBy (S.judge scheme.now) parent.now.cert.now.elements
+            self.now.cert.now.elements)
+            (Breaks (IsToldOf self.now.cert.now (IsBadlySignedLink (S.judge scheme.now)
+            parent.now.cert.now.elements self.now.cert.now.elements))) }
     {
         match algorithm.verify_by(
             alloc,

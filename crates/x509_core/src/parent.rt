@@ -37,9 +37,11 @@ impl Cert {
         parent.is_parent_of(alloc, &child)
     }
 
-    /// The issuer of the other certificate is the subject of this one, by whether their names agree.
+    /// The issuer of the other certificate is the subject of this one, by whether their names
+    /// agree.
     fn expect_issuer_of(&self, alloc: Global, other: &Cert, agree: bool) -> Result<(), CertError>
-        requires { AgreeByKey self.now.elements other.now.elements × (IsTrue agree ↔ AgreeByName self.now.elements other.now.elements) }
+        requires { AgreeByKey self.now.elements other.now.elements
+            × (IsTrue agree ↔ AgreeByName self.now.elements other.now.elements) }
         ensures answer { MatchResult result
             (λ _. AgreeByKeyAndName self.now.elements other.now.elements)
             (RefusesParent self.now other.now) }
@@ -87,7 +89,8 @@ impl ViewedCert<'_> {
         ensures answer { MatchResult result
             (λ _. AgreeByKeyAndName self.now.cert.now.elements child.now.cert.now.elements)
             (RefusesParent self.now.cert.now child.now.cert.now) }
-        ensures accepted { AgreeByKeyAndName self.now.cert.now.elements child.now.cert.now.elements → result ≡ Ok tt }
+        ensures accepted { AgreeByKeyAndName self.now.cert.now.elements child.now.cert.now.elements
+            → result ≡ Ok tt }
     {
         match key_link(self.view, child.view) {
             KeyLink::Agree => {

@@ -86,7 +86,8 @@ impl<'a, 'b, Chain: Iterator<Item = &'b Cert> + Drop> CertValidator<'a, 'b, Chai
     /// The interval: certificates have to be valid already at its upper end and still at its lower
     /// one. It takes the place of a date.
     pub fn interval_date(mut self, lower: &'a UtcDate, upper: &'a UtcDate) -> Self
-        ensures checks { result.checks ≡ checks_at (dates.Interval lower.now upper.now) self.entry.checks }
+        ensures checks { result.checks ≡ checks_at (dates.Interval lower.now upper.now)
+            self.entry.checks }
         ensures rest { (result.chain ≡ self.entry.chain) × (result.cert.now ≡ self.entry.cert.now) }
     {
         self.at(DateCheck::Interval {
@@ -117,7 +118,8 @@ impl<'a, 'b, Chain: Iterator<Item = &'b Cert> + Drop> CertValidator<'a, 'b, Chai
     /// The parents, that of the certificate first.
     pub fn chain(mut self, chain: Chain) -> Self
         ensures chain { result.chain ≡ Some chain }
-        ensures rest { (result.checks ≡ self.entry.checks) × (result.cert.now ≡ self.entry.cert.now) }
+        ensures rest { (result.checks ≡ self.entry.checks)
+            × (result.cert.now ≡ self.entry.cert.now) }
     {
         self.chain = Some(chain);
         self
@@ -186,27 +188,35 @@ impl<'a, 'b, Chain: Iterator<Item = &'b Cert> + Drop> CertValidator<'a, 'b, Chai
         self
     }
 
-    /// Whether the certificate is accepted over its parents (RFC 5280 6.1.3, 6.1.4). The first of these
-    /// is answered that doesn't hold: a date is given where a date is asked for, else
-    /// `MissingBuilderArgument`; the certificate is valid; where the chain is asked for, parents are
-    /// given, else `MissingBuilderArgument`; each parent may have issued the certificate before it
-    /// (`Cert::expect_link`); the last certificate is a root where that is asked for, else `NoRoot`.
-    /// Where the chain isn't asked for, its iterator isn't looked at; where the certificate is accepted
-    /// over a chain, or lacks a root, the iterator is walked to its end.
+    /// Whether the certificate is accepted over its parents (RFC 5280 6.1.3, 6.1.4). The first of
+    /// these is answered that doesn't hold: a date is given where a date is asked for, else
+    /// `MissingBuilderArgument`; the certificate is valid; where the chain is asked for, parents
+    /// are given, else `MissingBuilderArgument`; each parent may have issued the certificate before
+    /// it (`Cert::expect_link`); the last certificate is a root where that is asked for, else
+    /// `NoRoot`. Where the chain isn't asked for, its iterator isn't looked at; where the
+    /// certificate is accepted over a chain, or lacks a root, the iterator is walked to its end.
     pub fn verify<S: Scheme>(self, alloc: Global, scheme: &S) -> Result<(), CertError>
         requires can { IsTrue self.checks.chain → IfSome self.chain Chain.can_next }
-        requires ends { IsTrue self.checks.chain → IfSome self.chain (λ chain. IsFinite (Chain.remaining chain)) }
+        requires ends { IsTrue self.checks.chain
+            → IfSome self.chain (λ chain. IsFinite (Chain.remaining chain)) }
         // Of an iterator that gives one list on every run; where the chain isn't asked for, of any.
-        ensures answer { (given : Option (List KeptCertificate)) → (IsTrue self.entry.checks.chain → YieldsParents Chain.next_gives self.entry.chain given)
+        ensures answer { (given : Option (List KeptCertificate))
+            → (IsTrue self.entry.checks.chain
+            → YieldsParents Chain.next_gives self.entry.chain given)
             → MatchResult result
             (λ _. IsAccepted (S.judge scheme.now) self.entry.checks self.entry.cert.now given)
-            (RefusesCertBy (chain_rules (S.judge scheme.now) self.entry.checks self.entry.cert.now given)) }
+            (RefusesCertBy
+            (chain_rules (S.judge scheme.now) self.entry.checks self.entry.cert.now given)) }
         // Of any iterator: what it gave in this call.
         ensures walked { MatchResult result
-            (λ _. WasAccepted (S.judge scheme.now) Chain.next_gives self.entry.checks self.entry.cert.now self.entry.chain)
-            (OrMemory errors.Memory (WasRefused (S.judge scheme.now) Chain.next_gives self.entry.checks self.entry.cert.now self.entry.chain)) }
+            (λ _. WasAccepted (S.judge scheme.now) Chain.next_gives self.entry.checks
+            self.entry.cert.now self.entry.chain)
+            (OrMemory errors.Memory (WasRefused (S.judge scheme.now) Chain.next_gives
+            self.entry.checks self.entry.cert.now self.entry.chain)) }
         // Memory is asked for by the scheme, and for an error that keeps a name or an identifier.
-        ensures memory { IfErr result (λ e. e ≡ errors.Memory → AsksForMemory Chain.next_gives self.entry.checks self.entry.cert.now self.entry.chain) }
+        ensures memory { IfErr result (λ e. e ≡ errors.Memory
+            → AsksForMemory Chain.next_gives self.entry.checks self.entry.cert.now
+            self.entry.chain) }
     {
         let CertValidator {
             cert,
@@ -278,9 +288,9 @@ impl ChainChecks {
 
     /// The last certificate is a root, where one is asked for.
     fn expect_root(&self, last: CertType) -> Result<(), CertError>
-        ensures { MatchResult result
-            (λ _. IsTrue self.now.root → last ≡ types.Root)
-            (λ e. IsTrue self.now.root × (last ≢ types.Root) × (e ≡ errors.InvalidChain chain.NoRoot)) }
+        ensures { MatchResult result (λ _. IsTrue self.now.root → last ≡ types.Root)
+            (λ e. IsTrue self.now.root × (last ≢ types.Root)
+            × (e ≡ errors.InvalidChain chain.NoRoot)) }
     {
         if self.root && last != CertType::Root {
             return Err(CertError::InvalidChain {
@@ -302,8 +312,14 @@ fn last_type<'b, Chain: Iterator<Item = &'b Cert> + Drop, S: Scheme>(
     requires can { Chain.can_next chain }
     requires ends { IsFinite (Chain.remaining chain) }
     ensures answer { MatchResult result
-        (λ last. (xs : List (Bor KeptCertificate)) × Drains Chain.next_gives chain xs × IsLinkedChain (S.judge scheme.now) window.now checked.entry.cert.now (map lent xs) × IsOfType (last_of checked.entry.cert.now (map lent xs)).elements last)
-        (λ e. (e ≡ errors.Memory) ⊎ ((xs : List (Bor KeptCertificate)) × (rest : Chain) × Yields Chain.next_gives chain xs rest × IsFirstUnlinked (S.judge scheme.now) window.now checked.entry.cert.now (map lent xs) e)) }
+        (λ last. (xs : List (Bor KeptCertificate)) × Drains Chain.next_gives chain xs
+        × IsLinkedChain (S.judge scheme.now) window.now checked.entry.cert.now (map lent xs)
+        × IsOfType (last_of checked.entry.cert.now (map lent xs)).elements last)
+        (λ e. (e ≡ errors.Memory)
+        ⊎ ((xs : List (Bor KeptCertificate)) × (rest : Chain)
+        × Yields Chain.next_gives chain xs rest
+        × IsFirstUnlinked (S.judge scheme.now) window.now checked.entry.cert.now
+        (map lent xs) e)) }
     ensures memory { IfErr result (λ e. e ≡ errors.Memory → GivesParent Chain.next_gives chain) }
 {
     let mut last: Option<ViewedCert<'b>> = None;
@@ -327,9 +343,12 @@ fn expect_next<S: Scheme>(
     window: &Window,
     scheme: &S,
 ) -> Result<(), CertError>
-    ensures { (count : ℕ) → IsStandingFor number count → MatchResult result
-        (λ _. IsLink (S.judge scheme.now) window.now count above.now.cert.now.elements (nearest checked.now.cert.now last.now).elements)
-        (RefusesCertBy (link_rules (S.judge scheme.now) window.now count above.now.cert.now (nearest checked.now.cert.now last.now))) }
+    ensures { (count : ℕ) → IsStandingFor number count
+        → MatchResult result
+        (λ _. IsLink (S.judge scheme.now) window.now count above.now.cert.now.elements
+        (nearest checked.now.cert.now last.now).elements)
+        (RefusesCertBy (link_rules (S.judge scheme.now) window.now count above.now.cert.now
+        (nearest checked.now.cert.now last.now))) }
 {
     match last {
         Some(child) => above.expect_link(alloc, child, number, window, scheme),

@@ -1,5 +1,5 @@
-//! A certificate that is kept, with its view. What is asked of one certificate several times is asked
-//! of one view.
+//! A certificate that is kept, with its view. What is asked of one certificate several times is
+//! asked of one view.
 
 ghost use Rattle.std.specs.Prelude.{◌≡◌};
 ghost use Rattle.std.specs.Coded.{Coded-set};

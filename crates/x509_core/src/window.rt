@@ -57,9 +57,9 @@ pub struct Window {
 
 impl Window {
     /// Whether the certificate is valid (RFC 5280 4.1.2.5, 6.1.3 (a) (2)): its first moment is at
-    /// most the date, or the upper end of the interval, else `CertificateNotYetValid` with this; then
-    /// its last moment is at least the date, or the lower end, else `CertificateExpired` with that.
-    /// Without a date each certificate is. It takes no memory.
+    /// most the date, or the upper end of the interval, else `CertificateNotYetValid` with this;
+    /// then its last moment is at least the date, or the lower end, else `CertificateExpired` with
+    /// that. Without a date each certificate is. It takes no memory.
     pub fn expect_valid(&self, view: CertView<'_>) -> Result<(), CertCause>
         ensures { MatchResult result
             (λ _. IsWithinWindow self.now (view_elements view.entry))

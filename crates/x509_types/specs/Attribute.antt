@@ -1,4 +1,5 @@
--- Attribute ::= SEQUENCE { type OBJECT IDENTIFIER, values SET OF ANY } (RFC 2986 4.1, RFC 5652 5.3), and attributes in a set
+-- Attribute ::= SEQUENCE { type OBJECT IDENTIFIER, values SET OF ANY } (RFC 2986 4.1, RFC 5652
+-- 5.3), and attributes in a set
 use Rattle.std.specs.Prelude.{◌≡◌, ℕ, List, [], ◌∷◌, ◌++◌, flat_map}
 use Rattle.der_core.specs.DerElement.{DerElement}
 use Rattle.der_core.specs.Each.{IsListOf, list_element}
@@ -18,7 +19,8 @@ pub record IsAttribute (element : DerElement) (a : Attribute) : Type 0 where
   pub is : element ≡ sequence (object_identifier a.ty ∷ values ∷ [])
   pub spelled : AreAttributeValues values a.value
 
--- [0] IMPLICIT SET OF Attribute, as a request has it (RFC 2986 4.1) and a signer (RFC 5652 5.3): the element holds the attributes, each its own
+-- [0] IMPLICIT SET OF Attribute, as a request has it (RFC 2986 4.1) and a signer (RFC 5652 5.3):
+-- the element holds the attributes, each its own
 abbrev pub AreAttributes : DerElement → List Attribute → Type 0
 AreAttributes = IsListOf 0xA0 IsAttribute
 

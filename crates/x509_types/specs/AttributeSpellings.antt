@@ -1,4 +1,5 @@
--- In what an attribute that is written anew may be another than the one that was read: in the extensions that it asks for.
+-- In what an attribute that is written anew may be another than the one that was read: in the
+-- extensions that it asks for.
 use Rattle.std.specs.Prelude.{◌≡◌, [], ◌∷◌}
 use Rattle.der_core.specs.DerElement.{DerElement}
 use Rattle.der_core.specs.Each.{IsListOf}
@@ -10,11 +11,15 @@ use Rattle.x509_types.specs.declared.attribute.Attribute.{Attribute}
 use Rattle.x509_types.specs.declared.attribute_values.AttributeValues.{AttributeValues}
 use Rattle.x509_types.specs.declared.attribute_values.AttributeValues.TheVariants as variants
 
--- the element of the values is the one that is written, but for the spelling of extensions, each at its place
+-- the element of the values is the one that is written, but for the spelling of extensions, each at
+-- its place
 abbrev pub AreSpelling : DerElement → AttributeValues → Type 0
-AreSpelling element (variants.ContentType types) = element ≡ attribute_values (variants.ContentType types)
-AreSpelling element (variants.MessageDigest digests) = element ≡ attribute_values (variants.MessageDigest digests)
-AreSpelling element (variants.Extensions requests) = IsListOf 0x31 (IsListOf 0x30 IsSpelling) element requests
+AreSpelling element (variants.ContentType types) =
+    element ≡ attribute_values (variants.ContentType types)
+AreSpelling element (variants.MessageDigest digests) =
+    element ≡ attribute_values (variants.MessageDigest digests)
+AreSpelling element (variants.Extensions requests) =
+    IsListOf 0x31 (IsListOf 0x30 IsSpelling) element requests
 AreSpelling element (variants.Raw kept) = element ≡ attribute_values (variants.Raw kept)
 
 -- The element is the one that is written for the attribute, but for that.

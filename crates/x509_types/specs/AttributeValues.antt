@@ -1,5 +1,7 @@
--- The values of attributes, a SET OF: SET { ANY } (RFC 2986 4.1, RFC 5652 5.3). ContentType ::= OBJECT IDENTIFIER,
--- MessageDigest ::= OCTET STRING (RFC 2985 5.3.1, 5.3.2), ExtensionRequest ::= Extensions (RFC 2985 5.4.2).
+-- The values of attributes, a SET OF: SET { ANY } (RFC 2986 4.1, RFC 5652 5.3). ContentType ::=
+-- OBJECT IDENTIFIER,
+-- MessageDigest ::= OCTET STRING (RFC 2985 5.3.1, 5.3.2), ExtensionRequest ::= Extensions (RFC 2985
+-- 5.4.2).
 use Rattle.std.specs.Prelude.{◌≡◌, ℕ, List, [], ◌∷◌, ◌++◌, flat_map, Some}
 use Rattle.der_core.specs.DerElement.{DerElement}
 use Rattle.der_core.specs.Elements.{octet_string}
@@ -32,10 +34,16 @@ attribute_values (values.Raw kept) = list_element 0x31 (λ (k : KeptElement). k.
 
 -- The element is a SET OF whose members spell the values, each its own.
 abbrev pub AreAttributeValues : DerElement → AttributeValues → Type 0
-AreAttributeValues element (values.ContentType types) = IsListOf 0x31 (λ (kid : DerElement) (id : ObjectIdentifier). kid ≡ object_identifier id) element types
-AreAttributeValues element (values.MessageDigest digests) = IsListOf 0x31 (λ (kid : DerElement) (digest : List ℕ). kid ≡ octet_string digest) element digests
-AreAttributeValues element (values.Extensions requests) = IsListOf 0x31 IsExtensions element requests
-AreAttributeValues element (values.Raw kept) = IsListOf 0x31 (λ (kid : DerElement) (k : KeptElement). kid ≡ k.element) element kept
+AreAttributeValues element (values.ContentType types) =
+    IsListOf 0x31 (λ (kid : DerElement) (id : ObjectIdentifier). kid ≡ object_identifier id) element
+    types
+AreAttributeValues element (values.MessageDigest digests) =
+    IsListOf 0x31 (λ (kid : DerElement) (digest : List ℕ). kid ≡ octet_string digest) element
+    digests
+AreAttributeValues element (values.Extensions requests) =
+    IsListOf 0x31 IsExtensions element requests
+AreAttributeValues element (values.Raw kept) =
+    IsListOf 0x31 (λ (kid : DerElement) (k : KeptElement). kid ≡ k.element) element kept
 
 -- what is written into strings of the values: that of extensions
 abbrev pub inner_values : AttributeValues → List DerElement
@@ -55,6 +63,8 @@ asked_kinds (values.MessageDigest digests) = []
 asked_kinds (values.Extensions requests) = flat_map (λ request. value_kinds (Some request)) requests
 asked_kinds (values.Raw kept) = []
 
--- the kind of values, the kinds of the values of extensions in them, and the octets of their element
+-- the kind of values, the kinds of the values of extensions in them, and the octets of their
+-- element
 abbrev pub values_octets : AttributeValues → List ℕ
-values_octets vs = attribute_number (kind_of_values vs) ∷ (asked_kinds vs ++ encoding (attribute_values vs))
+values_octets vs =
+    attribute_number (kind_of_values vs) ∷ (asked_kinds vs ++ encoding (attribute_values vs))

@@ -1,4 +1,5 @@
--- Certificate ::= SEQUENCE { tbsCertificate TBSCertificate, signatureAlgorithm AlgorithmIdentifier, signatureValue BIT STRING } (RFC 5280 4.1)
+-- Certificate ::= SEQUENCE { tbsCertificate TBSCertificate, signatureAlgorithm AlgorithmIdentifier,
+-- signatureValue BIT STRING } (RFC 5280 4.1)
 use Rattle.std.specs.Prelude.{◌≡◌, ℕ, [], ◌∷◌, ◌++◌, List}
 use Rattle.der_core.specs.DerElement.{DerElement}
 use Rattle.der_core.specs.Elements.{sequence}
@@ -10,7 +11,8 @@ use Rattle.x509_types.specs.CertificateElements.{CertificateElements, certificat
 use Rattle.x509_types.specs.TbsCertificate.{tbs_certificate, inner_tbs}
 use Rattle.x509_types.specs.declared.certificate.Certificate.{Certificate}
 
--- The element spells the certificate: it has its fields, and each spells the field that it stands for.
+-- The element spells the certificate: it has its fields, and each spells the field that it stands
+-- for.
 pub record IsCertificate (element : DerElement) (c : Certificate) : Type 0 where
   pub elements : CertificateElements
   pub is : element ≡ certificate_of elements
@@ -18,7 +20,9 @@ pub record IsCertificate (element : DerElement) (c : Certificate) : Type 0 where
 
 -- the element that is written
 abbrev pub certificate : Certificate → DerElement
-certificate c = sequence (tbs_certificate c.tbs_certificate ∷ algorithm_identifier c.signature_algorithm ∷ bit_string c.signature_value ∷ [])
+certificate c =
+    sequence (tbs_certificate c.tbs_certificate ∷ algorithm_identifier c.signature_algorithm ∷
+    bit_string c.signature_value ∷ [])
 
 -- the elements that are written into strings of it
 abbrev pub inner_certificate : Certificate → List DerElement

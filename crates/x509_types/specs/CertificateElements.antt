@@ -8,7 +8,8 @@ use Rattle.x509_types.specs.TbsElements.{TbsElements, tbs_of}
 use Rattle.x509_types.specs.TbsCertificate.{AreTbsFields}
 use Rattle.x509_types.specs.declared.certificate.Certificate.{Certificate}
 
--- The elements in what is signed, that of the algorithm beside it, and of the signature the count of unused bits and the octets that hold the bits.
+-- The elements in what is signed, that of the algorithm beside it, and of the signature the count
+-- of unused bits and the octets that hold the bits.
 pub record CertificateElements : Type 0 where
   pub tbs : TbsElements
   pub algorithm : DerElement
@@ -17,7 +18,8 @@ pub record CertificateElements : Type 0 where
 
 -- the element around them
 abbrev pub certificate_of : CertificateElements → DerElement
-certificate_of f = sequence (tbs_of f.tbs ∷ f.algorithm ∷ Primitive 0x03 (f.unused ∷ f.signature) ∷ [])
+certificate_of f =
+    sequence (tbs_of f.tbs ∷ f.algorithm ∷ Primitive 0x03 (f.unused ∷ f.signature) ∷ [])
 
 -- Each spells the field that it stands for.
 pub record AreCertificateFields (f : CertificateElements) (c : Certificate) : Type 0 where

@@ -10,7 +10,8 @@ use Rattle.x509_types.specs.declared.cert_view.CertView.{CertView}
 abbrev pub view_elements : CertView → CertificateElements
 view_elements view = lent_elements view.parts
 
--- The view is one of this element: its elements are those of the fields, and spell those of a certificate.
+-- The view is one of this element: its elements are those of the fields, and spell those of a
+-- certificate.
 pub record IsCertView (element : DerElement) (view : CertView) : Type 0 where
   pub is : element ≡ certificate_of (view_elements view)
   pub fits : Fits AreCertificateFields (view_elements view)

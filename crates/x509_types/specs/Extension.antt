@@ -1,4 +1,5 @@
--- Extension ::= SEQUENCE { extnID OBJECT IDENTIFIER, critical BOOLEAN DEFAULT FALSE, extnValue OCTET STRING } (RFC 5280 4.1, 4.1.2.9)
+-- Extension ::= SEQUENCE { extnID OBJECT IDENTIFIER, critical BOOLEAN DEFAULT FALSE, extnValue
+-- OCTET STRING } (RFC 5280 4.1, 4.1.2.9)
 use Rattle.std.specs.Prelude.{◌≡◌, ℕ, Bool, false, List, [], ◌∷◌, ◌++◌, map, Option, Some, None}
 use Rattle.der_core.specs.DerElement.{DerElement, Primitive}
 use Rattle.der_core.specs.Elements.{sequence}
@@ -15,7 +16,9 @@ use Rattle.x509_types.specs.declared.extension_view.ExtensionView.{ExtensionView
 
 -- the element that is written: FALSE is left out, TRUE is FF
 abbrev pub extension : Extension → DerElement
-extension e = sequence (object_identifier e.extn_id ∷ (default_false e.critical ++ Primitive 0x04 (value_octets e.extn_value) ∷ []))
+extension e =
+    sequence (object_identifier e.extn_id ∷
+    (default_false e.critical ++ Primitive 0x04 (value_octets e.extn_value) ∷ []))
 
 -- the kind of the value, and the octets that are written
 abbrev pub extension_octets : Extension → List ℕ
@@ -24,7 +27,8 @@ extension_octets e = extension_kind_number (kind_of_view e.extn_value) ∷ encod
 -- the kinds of the values of extensions, where there are any
 abbrev pub value_kinds : Option (List Extension) → List ℕ
 value_kinds None = []
-value_kinds (Some extensions) = map (λ e. extension_kind_number (kind_of_view e.extn_value)) extensions
+value_kinds (Some extensions) =
+    map (λ e. extension_kind_number (kind_of_view e.extn_value)) extensions
 
 -- The element spells the extension.
 pub record IsExtension (element : DerElement) (e : Extension) : Type 0 where

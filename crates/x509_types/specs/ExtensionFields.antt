@@ -4,9 +4,10 @@ use Rattle.der_core.specs.DerElement.{DerElement, Primitive}
 use Rattle.der_core.specs.Elements.{sequence}
 use Rattle.der_core.specs.Default.{IsDefaultFalse}
 
--- An element by the element of the identifier, the flag and the octets of the value. That FALSE is left out and that TRUE is FF
--- (X.690 11.5, 11.1) is not asked.
-pub record IsExtensionOf (element oid : DerElement) (critical : Bool) (octets : List ℕ) : Type 0 where
+-- An element by the element of the identifier, the flag and the octets of the value. That FALSE is
+-- left out and that TRUE is FF (X.690 11.5, 11.1) is not asked.
+pub record IsExtensionOf (element oid : DerElement) (critical : Bool)
+    (octets : List ℕ) : Type 0 where
   pub flag : List DerElement
   pub flagged : IsDefaultFalse flag critical
   pub is : element ≡ sequence (oid ∷ (flag ++ Primitive 0x04 octets ∷ []))

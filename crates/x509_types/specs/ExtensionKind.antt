@@ -4,7 +4,8 @@ use Rattle.asn1_types.specs.declared.oids.TheConstants.{CE_SUBJECT_KEY_IDENTIFIE
 use Rattle.x509_types.specs.declared.extension_kind.ExtensionKind.{ExtensionKind}
 use Rattle.x509_types.specs.declared.extension_kind.ExtensionKind.TheVariants as kinds
 
--- the kind that an identifier names, by its contents octets (RFC 5280 4.2.1.1 to 4.2.1.3, 4.2.1.6, 4.2.1.7, 4.2.1.9, 4.2.1.12)
+-- the kind that an identifier names, by its contents octets (RFC 5280 4.2.1.1 to 4.2.1.3, 4.2.1.6,
+-- 4.2.1.7, 4.2.1.9, 4.2.1.12)
 abbrev pub named_kind : List ℕ → ExtensionKind
 named_kind oid =
     if bytes_eq oid CE_SUBJECT_KEY_IDENTIFIER.now then kinds.SubjectKeyIdentifier

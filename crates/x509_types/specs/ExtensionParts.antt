@@ -1,4 +1,5 @@
--- What a certificate says of its key by the first extension of an identifier (RFC 5280 4.2.1.1, 4.2.1.2, 4.2.1.9).
+-- What a certificate says of its key by the first extension of an identifier (RFC 5280 4.2.1.1,
+-- 4.2.1.2, 4.2.1.9).
 use Rattle.std.specs.Prelude.{◌≡◌, ℕ, Bool, List, [], ◌∷◌, ◌++◌}
 use Rattle.der_core.specs.DerElement.{DerElement, Primitive}
 use Rattle.der_core.specs.Elements.{sequence}
@@ -10,13 +11,15 @@ use Rattle.x509_types.specs.CertificateElements.{CertificateElements}
 use Rattle.x509_types.specs.FirstExtension.{Says}
 
 -- A SEQUENCE begins with an element that says the value.
-pub record HasFirstElement {X : Type 0} (part : DerElement → X → Type 0) (element : DerElement) (value : X) : Type 0 where
+pub record HasFirstElement {X : Type 0} (part : DerElement → X → Type 0) (element : DerElement)
+    (value : X) : Type 0 where
   pub kid : DerElement
   pub kids : List DerElement
   pub is : element ≡ sequence (kid ∷ kids)
   pub says : part kid value
 
--- pathLenConstraint INTEGER (0..MAX) OPTIONAL of BasicConstraints, behind the flag where that is given
+-- pathLenConstraint INTEGER (0..MAX) OPTIONAL of BasicConstraints, behind the flag where that is
+-- given
 pub record EndsWithLength (element : DerElement) (number : ℕ) : Type 0 where
   pub flag : List DerElement
   pub ca : Bool

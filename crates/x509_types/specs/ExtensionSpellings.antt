@@ -1,4 +1,5 @@
--- The two ways in which an element that spells an extension is another than the one that is written for it.
+-- The two ways in which an element that spells an extension is another than the one that is written
+-- for it.
 use Rattle.std.specs.Prelude.{◌≡◌, ◌≢◌, ◌⊎◌, ℕ, ◌==◌, Bool, not, List, [], ◌∷◌}
 use Rattle.der_core.specs.DerElement.{DerElement, Primitive}
 use Rattle.der_core.specs.Encoding.{encoding}
@@ -13,8 +14,10 @@ use Rattle.x509_types.specs.declared.extension.Extension.{Extension}
 use Rattle.x509_types.specs.declared.extension_view.ExtensionView.{ExtensionView}
 use Rattle.x509_types.specs.declared.extension_view.ExtensionView.TheVariants as views
 
--- The flag of an extension stands in another octet than FF: TRUE, against X.690 11.1, or FALSE, against X.690 11.5.
-pub record HasOtherFlag (element oid : DerElement) (critical : Bool) (octets : List ℕ) : Type 0 where
+-- The flag of an extension stands in another octet than FF: TRUE, against X.690 11.1, or FALSE,
+-- against X.690 11.5.
+pub record HasOtherFlag (element oid : DerElement) (critical : Bool)
+    (octets : List ℕ) : Type 0 where
   pub octet : ℕ
   pub other : octet ≢ 0xFF
   pub flagged : critical ≡ not (octet == 0)
@@ -28,10 +31,13 @@ pub record HasOtherConstraints (octets : List ℕ) (view : ExtensionView) : Type
   pub valued : view ≡ views.BasicConstraints constraints
   pub are : octets ≡ encoding element
 
--- The element spells the extension. Its flag stands as it is written, or in another octet; and, whichever it is, the octets of its value
--- are the written ones, or have another TRUE. Where both are as they are written, so is the element.
+-- The element spells the extension. Its flag stands as it is written, or in another octet; and,
+-- whichever it is, the octets of its value are the written ones, or have another TRUE. Where both
+-- are as they are written, so is the element.
 pub record IsSpelling (element : DerElement) (e : Extension) : Type 0 where
   pub is : IsExtension element e
-  pub flag : (is.fields.flag ≡ default_false e.critical) ⊎ HasOtherFlag element (object_identifier e.extn_id) e.critical is.octets
+  pub flag : (is.fields.flag ≡ default_false e.critical)
+      ⊎ HasOtherFlag element (object_identifier e.extn_id) e.critical is.octets
   pub value : (is.octets ≡ value_octets e.extn_value) ⊎ HasOtherConstraints is.octets e.extn_value
-  pub same : is.fields.flag ≡ default_false e.critical → is.octets ≡ value_octets e.extn_value → element ≡ extension e
+  pub same : is.fields.flag ≡ default_false e.critical → is.octets ≡ value_octets e.extn_value
+      → element ≡ extension e

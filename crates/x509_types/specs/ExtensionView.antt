@@ -30,11 +30,13 @@ kind_of_view (views.AuthorityKeyIdentifier key) = kinds.AuthorityKeyIdentifier
 kind_of_view (views.ExtendedKeyUsage usage) = kinds.ExtendedKeyUsage
 kind_of_view (views.Raw octets) = kinds.Other
 
--- SubjectKeyIdentifier ::= KeyIdentifier, KeyIdentifier ::= OCTET STRING (RFC 5280 4.2.1.1, 4.2.1.2)
+-- SubjectKeyIdentifier ::= KeyIdentifier, KeyIdentifier ::= OCTET STRING (RFC 5280 4.2.1.1,
+-- 4.2.1.2)
 abbrev pub key_identifier : List ℕ → DerElement
 key_identifier = octet_string
 
--- the octets that are written for a value: the encoding of its element, but for one that is kept as octets
+-- the octets that are written for a value: the encoding of its element, but for one that is kept as
+-- octets
 abbrev pub value_octets : ExtensionView → List ℕ
 value_octets (views.SubjectKeyIdentifier key) = encoding (key_identifier key)
 value_octets (views.KeyUsage usage) = encoding (key_usage usage)
@@ -56,24 +58,32 @@ inner_value (views.AuthorityKeyIdentifier key) = authority_key_identifier key �
 inner_value (views.ExtendedKeyUsage usage) = extended_key_usage usage ∷ []
 inner_value (views.Raw octets) = []
 
--- The octets hold the value: the encoding of one element that spells it, and nothing more, or the octets that are kept.
+-- The octets hold the value: the encoding of one element that spells it, and nothing more, or the
+-- octets that are kept.
 abbrev pub IsValueIn : List ℕ → ExtensionView → Type 0
-IsValueIn octets (views.SubjectKeyIdentifier key) = IsWithin (λ (element : DerElement) (k : List ℕ). element ≡ key_identifier k) octets key
-IsValueIn octets (views.KeyUsage usage) = IsWithin (λ (element : DerElement) (u : KeyUsage). element ≡ key_usage u) octets usage
+IsValueIn octets (views.SubjectKeyIdentifier key) =
+    IsWithin (λ (element : DerElement) (k : List ℕ). element ≡ key_identifier k) octets key
+IsValueIn octets (views.KeyUsage usage) =
+    IsWithin (λ (element : DerElement) (u : KeyUsage). element ≡ key_usage u) octets usage
 IsValueIn octets (views.SubjectAltName names) = IsWithin AreGeneralNames octets names
 IsValueIn octets (views.IssuerAltName names) = IsWithin AreGeneralNames octets names
-IsValueIn octets (views.BasicConstraints constraints) = IsWithin IsBasicConstraints octets constraints
+IsValueIn octets (views.BasicConstraints constraints) =
+    IsWithin IsBasicConstraints octets constraints
 IsValueIn octets (views.AuthorityKeyIdentifier key) =
-    IsWithin (λ (element : DerElement) (a : AuthorityKeyIdentifier). element ≡ authority_key_identifier a) octets key
+    IsWithin
+    (λ (element : DerElement) (a : AuthorityKeyIdentifier). element ≡ authority_key_identifier a)
+    octets key
 IsValueIn octets (views.ExtendedKeyUsage usage) =
-    IsWithin (λ (element : DerElement) (u : ExtendedKeyUsage). element ≡ extended_key_usage u) octets usage
+    IsWithin (λ (element : DerElement) (u : ExtendedKeyUsage). element ≡ extended_key_usage u)
+    octets usage
 IsValueIn octets (views.Raw kept) = octets ≡ kept
 
 -- the octets hold no general names
 abbrev pub HoldsNoNames : List ℕ → Type 0
 HoldsNoNames octets = (names : List RawGeneralName) → IsWithin AreGeneralNames octets names → ⊥
 
--- octets are kept where the identifier names no kind, and under the two of alternative names where they hold no general names
+-- octets are kept where the identifier names no kind, and under the two of alternative names where
+-- they hold no general names
 abbrev pub MayBeKept : ExtensionKind → List ℕ → Type 0
 MayBeKept kinds.SubjectKeyIdentifier octets = ⊥
 MayBeKept kinds.KeyUsage octets = ⊥

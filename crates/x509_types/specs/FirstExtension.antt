@@ -17,12 +17,14 @@ extensions_of f = listed_at f.tbs.extensions
 
 -- An extension of this identifier, by its contents octets, whose OCTET STRING holds these octets.
 abbrev pub IsNamed : List ℕ → DerElement → List ℕ → Type 0
-IsNamed oid extension octets = (critical : Bool) × IsExtensionOf extension (Primitive 0x06 oid) critical octets
+IsNamed oid extension octets =
+    (critical : Bool) × IsExtensionOf extension (Primitive 0x06 oid) critical octets
 
 -- none of the elements is an extension of this identifier
 abbrev pub NoneIsNamed : List ℕ → List DerElement → Type 0
 NoneIsNamed oid [] = ⊤
-NoneIsNamed oid (element ∷ elements) = ((octets : List ℕ) → IsNamed oid element octets → ⊥) × NoneIsNamed oid elements
+NoneIsNamed oid (element ∷ elements) =
+    ((octets : List ℕ) → IsNamed oid element octets → ⊥) × NoneIsNamed oid elements
 
 -- The first of the elements that is an extension of this identifier holds these octets.
 pub record IsFirstNamed (oid : List ℕ) (elements : List DerElement) (octets : List ℕ) : Type 0 where
@@ -33,12 +35,15 @@ pub record IsFirstNamed (oid : List ℕ) (elements : List DerElement) (octets : 
   pub first : NoneIsNamed oid before
   pub named : IsNamed oid extension octets
 
--- The first extension of this identifier in a certificate holds the encoding of the element, and nothing more.
-pub record IsFirstValue (f : CertificateElements) (oid : List ℕ) (element : DerElement) : Type 0 where
+-- The first extension of this identifier in a certificate holds the encoding of the element, and
+-- nothing more.
+pub record IsFirstValue (f : CertificateElements) (oid : List ℕ)
+    (element : DerElement) : Type 0 where
   pub octets : List ℕ
   pub first : IsFirstNamed oid (extensions_of f) octets
   pub holds : IsKept octets element
 
 -- the value of the first extension of this identifier says this
-abbrev pub Says : {X : Type 0} → List ℕ → (DerElement → X → Type 0) → CertificateElements → X → Type 0
+abbrev pub Says : {X : Type 0} → List ℕ → (DerElement → X → Type 0) → CertificateElements → X
+    → Type 0
 Says oid part f value = (element : DerElement) × IsFirstValue f oid element × part element value

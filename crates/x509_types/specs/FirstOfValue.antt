@@ -31,7 +31,11 @@ pub record HoldFirst (oid : List ℕ) (extensions : List Extension) (octets : Li
   pub first : IsFirstWith oid extensions extension
   pub value : IsValueIn octets extension.extn_value
 
--- Where the first extension of an identifier lies in the elements of a certificate, its value has one, and the other way around.
+-- Where the first extension of an identifier lies in the elements of a certificate, its value has
+-- one, and the other way around.
 pub record AreFirstOf (f : CertificateElements) (c : Certificate) (oid : List ℕ) : Type 0 where
-  pub had : (octets : List ℕ) → IsFirstNamed oid (extensions_of f) octets → HoldFirst oid (extensions_in c.tbs_certificate.extensions) octets
-  pub lies : (e : Extension) → IsFirstWith oid (extensions_in c.tbs_certificate.extensions) e → (octets : List ℕ) × IsFirstNamed oid (extensions_of f) octets × IsValueIn octets e.extn_value
+  pub had : (octets : List ℕ) → IsFirstNamed oid (extensions_of f) octets
+      → HoldFirst oid (extensions_in c.tbs_certificate.extensions) octets
+  pub lies : (e : Extension) → IsFirstWith oid (extensions_in c.tbs_certificate.extensions) e
+      → (octets : List ℕ) × IsFirstNamed oid (extensions_of f) octets
+      × IsValueIn octets e.extn_value

@@ -11,7 +11,8 @@ use Rattle.x509_types.specs.CertificateElements.{CertificateElements}
 use Rattle.x509_types.specs.CertificateFields.{not_before_of, not_after_of, key_algorithm_of, key_octets_of}
 use Rattle.x509_types.specs.declared.certificate.Certificate.{Certificate}
 
--- the octets that hold the bits of a key: for one of RSA the encoding of an RSAPublicKey (RFC 3279 2.3.1)
+-- the octets that hold the bits of a key: for one of RSA the encoding of an RSAPublicKey (RFC 3279
+-- 2.3.1)
 abbrev pub key_payload : SubjectKey → List ℕ
 key_payload (keys.Rsa key) = encoding (rsa_public_key key)
 key_payload (keys.Ec bits) = payload_of bits
@@ -22,5 +23,7 @@ key_payload (keys.Mldsa bits) = payload_of bits
 pub record AreInnerFields (f : CertificateElements) (c : Certificate) : Type 0 where
   pub not_before : not_before_of f ≡ Some (time c.tbs_certificate.validity.not_before)
   pub not_after : not_after_of f ≡ Some (time c.tbs_certificate.validity.not_after)
-  pub key_algorithm : key_algorithm_of f ≡ Some (algorithm_identifier c.tbs_certificate.subject_public_key_info.algorithm)
-  pub key_octets : key_octets_of f ≡ Some (key_payload c.tbs_certificate.subject_public_key_info.subject_public_key)
+  pub key_algorithm : key_algorithm_of f ≡ Some
+      (algorithm_identifier c.tbs_certificate.subject_public_key_info.algorithm)
+  pub key_octets : key_octets_of f ≡ Some
+      (key_payload c.tbs_certificate.subject_public_key_info.subject_public_key)

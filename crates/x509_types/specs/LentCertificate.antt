@@ -3,6 +3,12 @@ use Rattle.x509_types.specs.CertificateElements.{CertificateElements}
 use Rattle.x509_types.specs.LentTbs.{elements_at}
 use Rattle.x509_types.specs.declared.cert_parts.CertParts.{CertParts}
 
--- the elements that lie there: the fields of what is signed, the algorithm, and the signature's count of unused bits and octets
+-- the elements that lie there: the fields of what is signed, the algorithm, and the signature's
+-- count of unused bits and octets
 abbrev pub lent_elements : CertParts → CertificateElements
-lent_elements parts = record { tbs = elements_at parts.fields; algorithm = parts.algorithm.is.0; unused = parts.unused; signature = parts.signature.now }
+lent_elements parts = record {
+  tbs = elements_at parts.fields;
+  algorithm = parts.algorithm.is.0;
+  unused = parts.unused;
+  signature = parts.signature.now;
+}

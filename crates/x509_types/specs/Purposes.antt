@@ -21,15 +21,18 @@ IsPurpose oid element = element ≡ Primitive 0x06 oid
 
 -- ExtKeyUsageSyntax ::= SEQUENCE SIZE (1..MAX) OF KeyPurposeId: the purpose is one of them
 abbrev pub HoldsPurpose : List ℕ → DerElement → Type 0
-HoldsPurpose oid element = (kids : List DerElement) × (element ≡ sequence kids) × HasSome (IsPurpose oid) kids
+HoldsPurpose oid element =
+    (kids : List DerElement) × (element ≡ sequence kids) × HasSome (IsPurpose oid) kids
 
 -- An extension is an extended key usage, and holds the encoding of the element.
 abbrev pub IsUsage : DerElement → DerElement → Type 0
-IsUsage extension element = (octets : List ℕ) × IsNamed CE_EXT_KEY_USAGE.now extension octets × IsKept octets element
+IsUsage extension element =
+    (octets : List ℕ) × IsNamed CE_EXT_KEY_USAGE.now extension octets × IsKept octets element
 
 -- An extension is an extended key usage that holds the purpose.
 abbrev pub IsUsageFor : List ℕ → DerElement → Type 0
-IsUsageFor oid extension = (element : DerElement) × IsUsage extension element × HoldsPurpose oid element
+IsUsageFor oid extension =
+    (element : DerElement) × IsUsage extension element × HoldsPurpose oid element
 
 -- some extended key usage holds the purpose
 abbrev pub NamesPurpose : CertificateElements → List ℕ → Type 0

@@ -42,7 +42,8 @@ pub record AreTbsFields (f : TbsElements) (tbs : TbsCertificate) : Type 0 where
   pub issuer : IsName f.issuer tbs.issuer
   pub validity : f.validity ≡ validity tbs.validity
   pub subject : IsName f.subject tbs.subject
-  pub subject_public_key_info : IsPublicKeyInfo f.subject_public_key_info tbs.subject_public_key_info
+  pub subject_public_key_info : IsPublicKeyInfo f.subject_public_key_info
+      tbs.subject_public_key_info
   pub issuer_unique_id : f.issuer_unique_id ≡ tbs.issuer_unique_id
   pub subject_unique_id : f.subject_unique_id ≡ tbs.subject_unique_id
   pub extensions : SpellsOption IsExtensions f.extensions tbs.extensions
@@ -81,7 +82,9 @@ tbs_certificate tbs = tbs_of (tbs_elements tbs)
 
 -- the elements that are written into strings of it: that of the key, then those of the extensions
 abbrev pub inner_tbs : TbsCertificate → List DerElement
-inner_tbs tbs = inner_key tbs.subject_public_key_info.subject_public_key ++ inner_option inner_extensions tbs.extensions
+inner_tbs tbs =
+    inner_key tbs.subject_public_key_info.subject_public_key
+    ++ inner_option inner_extensions tbs.extensions
 
 -- the kinds of the values of its extensions, and the octets that are written
 abbrev pub tbs_octets : TbsCertificate → List ℕ

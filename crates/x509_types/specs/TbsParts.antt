@@ -1,4 +1,5 @@
--- The fields of a TBSCertificate in three parts, which are read and copied one after another (RFC 5280 4.1.2).
+-- The fields of a TBSCertificate in three parts, which are read and copied one after another (RFC
+-- 5280 4.1.2).
 use Rattle.std.specs.Prelude.{◌≡◌}
 use Rattle.asn1_types.specs.Values.{integer_contents}
 use Rattle.x501_types.specs.Name.{IsName}
@@ -24,7 +25,8 @@ pub record IsIssuedBy (f : TbsElements) (part : IssuedBy) : Type 0 where
 pub record IsIssuedTo (f : TbsElements) (part : IssuedTo) : Type 0 where
   pub validity : f.validity ≡ validity part.validity
   pub subject : IsName f.subject part.subject
-  pub subject_public_key_info : IsPublicKeyInfo f.subject_public_key_info part.subject_public_key_info
+  pub subject_public_key_info : IsPublicKeyInfo f.subject_public_key_info
+      part.subject_public_key_info
 
 -- Each element spells the field of the third part.
 pub record AreAdded (f : TbsElements) (part : AddedFields) : Type 0 where
@@ -34,15 +36,28 @@ pub record AreAdded (f : TbsElements) (part : AddedFields) : Type 0 where
 
 -- the first part of a TBSCertificate
 abbrev pub issued_by : TbsCertificate → IssuedBy
-issued_by tbs = record { version = tbs.version; serial_number = tbs.serial_number; signature = tbs.signature; issuer = tbs.issuer }
+issued_by tbs = record {
+  version = tbs.version;
+  serial_number = tbs.serial_number;
+  signature = tbs.signature;
+  issuer = tbs.issuer;
+}
 
 -- the second part of a TBSCertificate
 abbrev pub issued_to : TbsCertificate → IssuedTo
-issued_to tbs = record { validity = tbs.validity; subject = tbs.subject; subject_public_key_info = tbs.subject_public_key_info }
+issued_to tbs = record {
+  validity = tbs.validity;
+  subject = tbs.subject;
+  subject_public_key_info = tbs.subject_public_key_info;
+}
 
 -- the third part of a TBSCertificate
 abbrev pub added_fields : TbsCertificate → AddedFields
-added_fields tbs = record { issuer_unique_id = tbs.issuer_unique_id; subject_unique_id = tbs.subject_unique_id; extensions = tbs.extensions }
+added_fields tbs = record {
+  issuer_unique_id = tbs.issuer_unique_id;
+  subject_unique_id = tbs.subject_unique_id;
+  extensions = tbs.extensions;
+}
 
 -- the TBSCertificate of its parts
 abbrev pub tbs_of_parts : IssuedBy → IssuedTo → AddedFields → TbsCertificate

@@ -20,13 +20,14 @@ use std::alloc::{AllocError, Global};
 pub type AttributeList = ListOf<Attribute>;
 
 /// An attribute: its identifier, and its values, which are of the kind that the identifier names
-/// (RFC 2986 4.1, RFC 5652 5.3). An attribute of a known kind whose values don't all read is none: it
-/// is `Shape`.
+/// (RFC 2986 4.1, RFC 5652 5.3). An attribute of a known kind whose values don't all read is none:
+/// it is `Shape`.
 #[derive(Debug, Drop)]
 pub struct Attribute {
     pub ty: ObjectIdentifier,
     pub value: AttributeValues,
-    pub ghost fits: { kind_of_values value ≡ named_attribute (identifier_contents ty) } by { same_attribute_kinds (kind_of_values value) (named_attribute (identifier_contents ty)) },
+    pub ghost fits: { kind_of_values value ≡ named_attribute (identifier_contents ty) } by { same_attribute_kinds (kind_of_values value)
+        (named_attribute (identifier_contents ty)) },
 }
 
 impl Attribute {
@@ -51,7 +52,9 @@ impl Attribute {
         alloc: Global,
         extensions: Extensions,
     ) -> Result<Attribute, AllocError>
-        ensures { IfOk result (λ attribute. (identifier_contents attribute.ty ≡ EXTENSION_REQUEST.now) × (attribute.value ≡ values.Extensions (extensions ∷ []))) }
+        ensures { IfOk result
+            (λ attribute. (identifier_contents attribute.ty ≡ EXTENSION_REQUEST.now)
+            × (attribute.value ≡ values.Extensions (extensions ∷ []))) }
     {
         let ty = ObjectIdentifier::from_known(alloc, EXTENSION_REQUEST)?;
         let mut requests = ListOf::new(alloc);
@@ -128,7 +131,9 @@ impl PartialEq for Attribute {
     ghost laws = { on_per (λ a. attribute_octets a) (partial_equiv_from_equiv nat_list_eq_equiv) };
 
     fn eq(&self, other: &Attribute) -> bool
-        ensures octets { AreDer (inner_values self.now.value) → AreDer (inner_values other.now.value) → result ≡ same_octets attribute self.now other.now }
+        ensures octets { AreDer (inner_values self.now.value)
+            → AreDer (inner_values other.now.value)
+            → result ≡ same_octets attribute self.now other.now }
         ensures told { result ≡ bytes_eq (attribute_octets self.now) (attribute_octets other.now) }
         ensures same { IsTrue result ↔ (self.now ≡ other.now) }
     {

@@ -18,8 +18,8 @@ use der_core::{
 use std::alloc::{AllocError, Global};
 use x509_values::OidList;
 
-/// The values of an attribute, a SET OF (RFC 2986 4.1, RFC 5652 5.3), by the attribute's identifier.
-/// Of each kind any number of values are read, also none, in the order that stands.
+/// The values of an attribute, a SET OF (RFC 2986 4.1, RFC 5652 5.3), by the attribute's
+/// identifier. Of each kind any number of values are read, also none, in the order that stands.
 #[derive(Debug, Drop)]
 pub enum AttributeValues {
     /// What the signed content is (RFC 2985 5.3.1).
@@ -47,8 +47,10 @@ impl AttributeValues {
 
     /// Whether an element holds values of the kind.
     pub(crate) fn has_shape_of(kind: AttributeKind, elem: Elem<'_>) -> bool
-        ensures fits { IsTrue result → (values : AttributeValues) × AreValuesOf kind elem.entry.is.0 values }
-        ensures unfit { result ≡ false → (values : AttributeValues) → AreValuesOf kind elem.entry.is.0 values → ⊥ }
+        ensures fits { IsTrue result
+            → (values : AttributeValues) × AreValuesOf kind elem.entry.is.0 values }
+        ensures unfit { result ≡ false → (values : AttributeValues)
+            → AreValuesOf kind elem.entry.is.0 values → ⊥ }
     {
         match kind {
             AttributeKind::ContentType => has_list::<ObjectIdentifier>(elem, SET),
@@ -64,7 +66,8 @@ impl AttributeValues {
         kind: AttributeKind,
         elem: Elem<'_>,
     ) -> Result<AttributeValues, DerError>
-        ensures { MatchResult result (AreValuesOf kind elem.entry.is.0) (RefusesShape (AreValuesOf kind elem.entry.is.0)) }
+        ensures { MatchResult result (AreValuesOf kind elem.entry.is.0)
+            (RefusesShape (AreValuesOf kind elem.entry.is.0)) }
     {
         match kind {
             AttributeKind::ContentType => {
@@ -83,7 +86,8 @@ impl AttributeValues {
     /// The element of the values.
     pub(crate) fn write(&self, alloc: Global) -> Result<Tree, DerError>
         ensures { MatchResult result
-            (λ tree. (tree ≡ attribute_values self.now) × IsWellFormed tree × AreDer (inner_values self.now))
+            (λ tree. (tree ≡ attribute_values self.now) × IsWellFormed tree
+            × AreDer (inner_values self.now))
             (RefusesInner (inner_values self.now)) }
     {
         match self {
@@ -113,8 +117,8 @@ impl AttributeValues {
     }
 }
 
-/// Values are equal exactly where their kind, the kinds of the values of extensions in them, and the
-/// octets that are written for them are.
+/// Values are equal exactly where their kind, the kinds of the values of extensions in them, and
+/// the octets that are written for them are.
 impl PartialEq for AttributeValues {
     ghost use Rattle.std.specs.Ordering.{on};
     ghost use Rattle.std.specs.Cmp.Lexicographic.{nat_list_eq_equiv};
@@ -124,7 +128,8 @@ impl PartialEq for AttributeValues {
 
     ghost eq = { on (λ values. values_octets values) bytes_eq };
 
-    ghost laws = { on_per (λ values. values_octets values) (partial_equiv_from_equiv nat_list_eq_equiv) };
+    ghost laws = { on_per (λ values. values_octets values)
+        (partial_equiv_from_equiv nat_list_eq_equiv) };
 
     fn eq(&self, other: &AttributeValues) -> bool
         ensures told { result ≡ bytes_eq (values_octets self.now) (values_octets other.now) }

@@ -13,8 +13,8 @@ use asn1_types::BitString;
 use der_core::tag::{BIT_STRING, SEQUENCE};
 use der_core::{Elem, expect, leaf_at, three_kids};
 
-/// The parts of a certificate, each any element, but of the bits of the signature the count of unused
-/// ones and the octets.
+/// The parts of a certificate, each any element, but of the bits of the signature the count of
+/// unused ones and the octets.
 #[derive(Clone, Copy)]
 pub(crate) struct CertParts<'a> {
     pub tbs: Elem<'a>,

@@ -39,8 +39,8 @@ impl<'a> CertView<'a> {
         Some(CertView { parts })
     }
 
-    /// The certificate that an element spells, where it is known to spell one. Heads alone are read,
-    /// and no shape is tested again.
+    /// The certificate that an element spells, where it is known to spell one. Heads alone are
+    /// read, and no shape is tested again.
     pub fn of_known(elem: Elem<'a>) -> CertView<'a>
         requires { ∥ Fits IsCertificate elem.is.0 ∥₁ }
         ensures { IsKnownView elem.entry.is.0 result }
@@ -86,15 +86,16 @@ impl<'a> CertView<'a> {
         self.parts.fields.version
     }
 
-    /// The encoding of the AlgorithmIdentifier of the signature that stands in what is signed (RFC 5280
-    /// 4.1.2.3).
+    /// The encoding of the AlgorithmIdentifier of the signature that stands in what is signed (RFC
+    /// 5280 4.1.2.3).
     pub fn inner_algorithm(&self) -> &'a [u8]
         ensures { result.now ≡ encoding (view_elements self.now).tbs.signature }
     {
         self.parts.fields.signature.whole
     }
 
-    /// The element of the Validity, the times between which the certificate is valid (RFC 5280 4.1.2.5).
+    /// The element of the Validity, the times between which the certificate is valid (RFC 5280
+    /// 4.1.2.5).
     pub fn validity(&self) -> Elem<'a>
         ensures { result.is.0 ≡ (view_elements self.now).tbs.validity }
     {
@@ -130,7 +131,8 @@ impl<'a> CertView<'a> {
 
     /// The encoding of the AlgorithmIdentifier of the key (RFC 5280 4.1.2.7).
     pub fn key_algorithm(&self) -> &'a [u8]
-        ensures { option_map encoding (key_algorithm_of (view_elements self.now)) ≡ Some result.now }
+        ensures { option_map encoding (key_algorithm_of (view_elements self.now))
+            ≡ Some result.now }
     {
         match key_parts(self.parts.fields.subject_public_key_info) {
             Some((algorithm, _octets)) => algorithm.whole,
@@ -148,40 +150,40 @@ impl<'a> CertView<'a> {
         }
     }
 
-    /// The contents octets of the unique identifier of the issuer, a BIT STRING, where it is given (RFC
-    /// 5280 4.1.2.8).
+    /// The contents octets of the unique identifier of the issuer, a BIT STRING, where it is given
+    /// (RFC 5280 4.1.2.8).
     pub fn issuer_unique_id(&self) -> Option<&'a [u8]>
         ensures { option_copied result ≡ (view_elements self.now).tbs.issuer_unique_id }
     {
         self.parts.fields.issuer_unique_id
     }
 
-    /// The contents octets of the unique identifier of the subject, a BIT STRING, where it is given (RFC
-    /// 5280 4.1.2.8).
+    /// The contents octets of the unique identifier of the subject, a BIT STRING, where it is given
+    /// (RFC 5280 4.1.2.8).
     pub fn subject_unique_id(&self) -> Option<&'a [u8]>
         ensures { option_copied result ≡ (view_elements self.now).tbs.subject_unique_id }
     {
         self.parts.fields.subject_unique_id
     }
 
-    /// The element of the Extensions, without the explicit tag around it, where they are given (RFC 5280
-    /// 4.1.2.9).
+    /// The element of the Extensions, without the explicit tag around it, where they are given (RFC
+    /// 5280 4.1.2.9).
     pub fn extensions(&self) -> Option<Elem<'a>>
         ensures { at_option result ≡ (view_elements self.now).tbs.extensions }
     {
         self.parts.fields.extensions
     }
 
-    /// The encoding of the AlgorithmIdentifier of the signature that stands beside what is signed (RFC
-    /// 5280 4.1.1.2).
+    /// The encoding of the AlgorithmIdentifier of the signature that stands beside what is signed
+    /// (RFC 5280 4.1.1.2).
     pub fn algorithm(&self) -> &'a [u8]
         ensures { result.now ≡ encoding (view_elements self.now).algorithm }
     {
         self.parts.algorithm.whole
     }
 
-    /// The octets that hold the bits of the signature (RFC 5280 4.1.1.3), without the octet that counts
-    /// unused bits.
+    /// The octets that hold the bits of the signature (RFC 5280 4.1.1.3), without the octet that
+    /// counts unused bits.
     pub fn signature(&self) -> &'a [u8]
         ensures { result.now ≡ (view_elements self.now).signature }
     {

@@ -10,9 +10,9 @@ use der_core::tag::SEQUENCE;
 use der_core::{DerError, Elem, NewKids, Structure, Tree, three_kids};
 use std::alloc::{AllocError, Global};
 
-/// A certificate: what is signed, the algorithm of the signature, and the signature (RFC 5280 4.1.1).
-/// The algorithm stands a second time in what is signed; that both are the same isn't asked of what
-/// is read.
+/// A certificate: what is signed, the algorithm of the signature, and the signature (RFC 5280
+/// 4.1.1). The algorithm stands a second time in what is signed; that both are the same isn't asked
+/// of what is read.
 #[derive(Debug, Drop)]
 pub struct Certificate {
     pub tbs_certificate: TbsCertificate,
@@ -68,8 +68,8 @@ impl Structure for Certificate {
     ghost grammar = { certificates };
 }
 
-/// Certificates are equal exactly where the kinds of the values of their extensions are, and the octets that
-/// are written for them; the octets alone decide where they can be written.
+/// Certificates are equal exactly where the kinds of the values of their extensions are, and the
+/// octets that are written for them; the octets alone decide where they can be written.
 impl PartialEq for Certificate {
     ghost use Rattle.std.specs.Ordering.{on};
     ghost use Rattle.std.specs.Cmp.Lexicographic.{nat_list_eq_equiv};
@@ -81,11 +81,14 @@ impl PartialEq for Certificate {
 
     ghost eq = { on (λ value. certificate_octets value) bytes_eq };
 
-    ghost laws = { on_per (λ value. certificate_octets value) (partial_equiv_from_equiv nat_list_eq_equiv) };
+    ghost laws = { on_per (λ value. certificate_octets value)
+        (partial_equiv_from_equiv nat_list_eq_equiv) };
 
     fn eq(&self, other: &Certificate) -> bool
-        ensures octets { AreDer (inner_certificate self.now) → AreDer (inner_certificate other.now) → result ≡ same_octets certificate self.now other.now }
-        ensures told { result ≡ bytes_eq (certificate_octets self.now) (certificate_octets other.now) }
+        ensures octets { AreDer (inner_certificate self.now) → AreDer (inner_certificate other.now)
+            → result ≡ same_octets certificate self.now other.now }
+        ensures told { result ≡ bytes_eq (certificate_octets self.now)
+            (certificate_octets other.now) }
         ensures same { IsTrue result ↔ (self.now ≡ other.now) }
     {
         self.tbs_certificate == other.tbs_certificate

@@ -26,9 +26,9 @@ use x509_values::{AuthorityKeyIdentifier, BasicConstraints, ExtendedKeyUsage, Ke
 /// Extensions in order (RFC 5280 4.1).
 pub type Extensions = ListOf<Extension>;
 
-/// An extension: its identifier, whether it is critical, and its value, which is of the kind that the
-/// identifier names (RFC 5280 4.1, 4.2). An extension of a known kind whose value doesn't read is
-/// none: it is `Shape`. Alternative names alone are kept as octets where they don't read.
+/// An extension: its identifier, whether it is critical, and its value, which is of the kind that
+/// the identifier names (RFC 5280 4.1, 4.2). An extension of a known kind whose value doesn't read
+/// is none: it is `Shape`. Alternative names alone are kept as octets where they don't read.
 #[derive(Debug, Drop)]
 pub struct Extension {
     extn_id: ObjectIdentifier,
@@ -53,7 +53,8 @@ impl Extension {
         pathlen: Option<u8>,
     ) -> Result<Extension, DerError>
         ensures { MatchResult result
-            (λ e. IsPlainExtension e CE_BASIC_CONSTRAINTS.now (views.BasicConstraints (constraints_with (Some ca) pathlen)))
+            (λ e. IsPlainExtension e CE_BASIC_CONSTRAINTS.now
+            (views.BasicConstraints (constraints_with (Some ca) pathlen)))
             (λ e. e ≡ errors.Memory) }
     {
         let constraints = BasicConstraints::new(Some(ca), pathlen);
@@ -110,7 +111,8 @@ impl Extension {
     /// The identifier of the key (RFC 5280 4.2.1.2).
     pub fn new_subject_key_identifier(alloc: Global, key: &[u8]) -> Result<Extension, DerError>
         ensures { MatchResult result
-            (λ e. IsPlainExtension e CE_SUBJECT_KEY_IDENTIFIER.now (views.SubjectKeyIdentifier key.now))
+            (λ e. IsPlainExtension e CE_SUBJECT_KEY_IDENTIFIER.now
+            (views.SubjectKeyIdentifier key.now))
             (λ e. e ≡ errors.Memory) }
     {
         let value = ExtensionView::SubjectKeyIdentifier(Octets::from_slice(alloc, key)?);
@@ -120,7 +122,8 @@ impl Extension {
     /// Which key the authority signs with, by its identifier (RFC 5280 4.2.1.1).
     pub fn new_authority_key_identifier(alloc: Global, key: &[u8]) -> Result<Extension, DerError>
         ensures { MatchResult result
-            (λ e. IsPlainExtension e CE_AUTHORITY_KEY_IDENTIFIER.now (views.AuthorityKeyIdentifier (key_of_identifier key.now)))
+            (λ e. IsPlainExtension e CE_AUTHORITY_KEY_IDENTIFIER.now
+            (views.AuthorityKeyIdentifier (key_of_identifier key.now)))
             (λ e. e ≡ errors.Memory) }
     {
         let identifier = AuthorityKeyIdentifier::from_key_identifier(alloc, key)?;
@@ -141,9 +144,9 @@ impl Extension {
         })
     }
 
-    /// The extension of an identifier whose OCTET STRING holds these octets, not critical. The octets
-    /// are read where the identifier names a known kind, and `Shape` exactly where they have to read
-    /// and don't; alternative names that don't read are kept.
+    /// The extension of an identifier whose OCTET STRING holds these octets, not critical. The
+    /// octets are read where the identifier names a known kind, and `Shape` exactly where they have
+    /// to read and don't; alternative names that don't read are kept.
     pub fn new_raw(
         alloc: Global,
         oid: ObjectIdentifier,
@@ -153,7 +156,8 @@ impl Extension {
             (λ e. IsRawExtension e oid value.now)
             (RefusesShape (IsNamedValue oid value.now)) }
         // Whatever memory there is.
-        ensures shapeless { ((view : ExtensionView) → IsNamedValue oid value.now view → ⊥) → result ≡ Err errors.Shape }
+        ensures shapeless { ((view : ExtensionView) → IsNamedValue oid value.now view → ⊥)
+            → result ≡ Err errors.Shape }
     {
         let kind = ExtensionKind::named(oid.as_bytes());
         if !ExtensionView::has_value(kind, value) {
@@ -169,14 +173,16 @@ impl Extension {
 
     /// Whether the identifiers and the flags are the same.
     fn has_same_id_and_flag(&self, other: &Extension) -> bool
-        ensures { IsTrue result ↔ ((self.now.extn_id ≡ other.now.extn_id) × (self.now.critical ≡ other.now.critical)) }
+        ensures { IsTrue result
+            ↔ ((self.now.extn_id ≡ other.now.extn_id) × (self.now.critical ≡ other.now.critical)) }
     {
         self.extn_id == other.extn_id && self.critical == other.critical
     }
 
     /// The extension, critical: who doesn't know it must not accept the certificate (RFC 5280 4.2).
     pub fn into_critical(self) -> Extension
-        ensures { (result.extn_id ≡ self.extn_id) × (result.critical ≡ true) × (result.extn_value ≡ self.extn_value) }
+        ensures { (result.extn_id ≡ self.extn_id) × (result.critical ≡ true)
+            × (result.extn_value ≡ self.extn_value) }
     {
         let Extension {
             extn_id,
@@ -192,7 +198,8 @@ impl Extension {
 
     /// The extension, not critical.
     pub fn into_non_critical(self) -> Extension
-        ensures { (result.extn_id ≡ self.extn_id) × (result.critical ≡ false) × (result.extn_value ≡ self.extn_value) }
+        ensures { (result.extn_id ≡ self.extn_id) × (result.critical ≡ false)
+            × (result.extn_value ≡ self.extn_value) }
     {
         let Extension {
             extn_id,
@@ -285,8 +292,8 @@ impl Structure for Extension {
     ghost grammar = { all_extensions };
 }
 
-/// Extensions are equal exactly where the kinds of their values are, and the octets that are written
-/// for them; the octets alone decide where they can be written.
+/// Extensions are equal exactly where the kinds of their values are, and the octets that are
+/// written for them; the octets alone decide where they can be written.
 impl PartialEq for Extension {
     ghost use Rattle.std.specs.Ordering.{on};
     ghost use Rattle.std.specs.Cmp.Lexicographic.{nat_list_eq_equiv};
@@ -302,7 +309,9 @@ impl PartialEq for Extension {
     ghost laws = { on_per (λ e. extension_octets e) (partial_equiv_from_equiv nat_list_eq_equiv) };
 
     fn eq(&self, other: &Extension) -> bool
-        ensures octets { AreDer (inner_value self.now.extn_value) → AreDer (inner_value other.now.extn_value) → result ≡ same_octets extension self.now other.now }
+        ensures octets { AreDer (inner_value self.now.extn_value)
+            → AreDer (inner_value other.now.extn_value)
+            → result ≡ same_octets extension self.now other.now }
         ensures told { result ≡ bytes_eq (extension_octets self.now) (extension_octets other.now) }
         ensures same { IsTrue result ↔ (self.now ≡ other.now) }
     {

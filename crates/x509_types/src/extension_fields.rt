@@ -13,7 +13,8 @@ use asn1_types::ObjectIdentifier;
 use der_core::tag::{OBJECT_IDENTIFIER, OCTET_STRING, SEQUENCE};
 use der_core::{Elem, Kids, leaf_at};
 
-/// The fields of an Extension: its identifier as any element, its flag, and the octets of its value.
+/// The fields of an Extension: its identifier as any element, its flag, and the octets of its
+/// value.
 #[derive(Clone, Copy)]
 pub(crate) struct ExtensionFields<'a> {
     pub oid: Elem<'a>,
@@ -25,8 +26,10 @@ impl<'a> ExtensionFields<'a> {
     /// The fields of the element.
     pub fn of(elem: Elem<'a>) -> Option<ExtensionFields<'a>>
         ensures { MatchOption result
-            ((oid : DerElement) (critical : Bool) (octets : List ℕ) → IsExtensionOf elem.entry.is.0 oid critical octets → ⊥)
-            (λ fields. IsExtensionOf elem.entry.is.0 fields.oid.is.0 fields.critical fields.value.now) }
+            ((oid : DerElement) (critical : Bool) (octets : List ℕ)
+            → IsExtensionOf elem.entry.is.0 oid critical octets → ⊥)
+            (λ fields. IsExtensionOf elem.entry.is.0 fields.oid.is.0 fields.critical
+            fields.value.now) }
     {
         let mut kids = Kids::of(elem, SEQUENCE)?;
         let oid = kids.next()?;
@@ -43,9 +46,9 @@ impl<'a> ExtensionFields<'a> {
 
 /// The kind of extensions that the element of an identifier names.
 pub(crate) fn kind_at(oid: Elem<'_>) -> Option<ExtensionKind>
-    ensures { MatchOption result
-        ((id : ObjectIdentifier) → oid.entry.is.0 ≢ object_identifier id)
-        (λ kind. (id : ObjectIdentifier) × (oid.entry.is.0 ≡ object_identifier id) × (kind ≡ named_kind (identifier_contents id))) }
+    ensures { MatchOption result ((id : ObjectIdentifier) → oid.entry.is.0 ≢ object_identifier id)
+        (λ kind. (id : ObjectIdentifier) × (oid.entry.is.0 ≡ object_identifier id)
+        × (kind ≡ named_kind (identifier_contents id))) }
 {
     let contents = leaf_at(oid, OBJECT_IDENTIFIER)?;
     if ObjectIdentifier::is_content(contents) {

@@ -56,7 +56,8 @@ impl ExtensionView {
     /// Whether octets hold a value of the kind, all of them. Any do where others are kept.
     pub(crate) fn has_value(kind: ExtensionKind, octets: &[u8]) -> bool
         ensures fits { IsTrue result → (view : ExtensionView) × IsValueOf kind octets.now view }
-        ensures unfit { result ≡ false → (view : ExtensionView) → IsValueOf kind octets.now view → ⊥ }
+        ensures unfit { result ≡ false → (view : ExtensionView) → IsValueOf kind octets.now view
+            → ⊥ }
     {
         match kind {
             ExtensionKind::SubjectKeyIdentifier => has_within::<Octets>(octets),
@@ -79,7 +80,8 @@ impl ExtensionView {
         kind: ExtensionKind,
         octets: &[u8],
     ) -> Result<ExtensionView, DerError>
-        ensures { MatchResult result (IsValueOf kind octets.now) (RefusesShape (IsValueOf kind octets.now)) }
+        ensures { MatchResult result (IsValueOf kind octets.now)
+            (RefusesShape (IsValueOf kind octets.now)) }
     {
         match kind {
             ExtensionKind::SubjectKeyIdentifier => Ok(ExtensionView::SubjectKeyIdentifier(
@@ -177,7 +179,8 @@ impl PartialEq for ExtensionView {
 
     ghost eq = { on (λ value. view_octets value) bytes_eq };
 
-    ghost laws = { on_per (λ value. view_octets value) (partial_equiv_from_equiv nat_list_eq_equiv) };
+    ghost laws = { on_per (λ value. view_octets value)
+        (partial_equiv_from_equiv nat_list_eq_equiv) };
 
     fn eq(&self, other: &ExtensionView) -> bool
         ensures octets { result ≡ bytes_eq (view_octets self.now) (view_octets other.now) }

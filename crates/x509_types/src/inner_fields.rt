@@ -52,7 +52,8 @@ fn time_at(elem: Elem<'_>) -> Option<Time>
 pub(crate) fn key_parts<'a>(elem: Elem<'a>) -> Option<(Elem<'a>, &'a [u8])>
     ensures { MatchOption result
         ((info : SubjectPublicKeyInfo) → IsPublicKeyInfo elem.entry.is.0 info → ⊥)
-        (λ parts. (kid 0 elem.entry.is.0 ≡ Some parts.0.is.0) × (bits_of (kid 1 elem.entry.is.0) ≡ Some parts.1.now)) }
+        (λ parts. (kid 0 elem.entry.is.0 ≡ Some parts.0.is.0)
+        × (bits_of (kid 1 elem.entry.is.0) ≡ Some parts.1.now)) }
 {
     let (algorithm, key) = two_kids(elem, SEQUENCE)?;
     let contents = leaf_at(key, BIT_STRING)?;

@@ -14,8 +14,8 @@ use der_core::{
 };
 use std::alloc::{AllocError, Global};
 
-/// What is signed of a certificate (RFC 5280 4.1.2). A version that is left out, which means V1, and
-/// one that is given are told apart. The unique identifiers are kept as contents octets.
+/// What is signed of a certificate (RFC 5280 4.1.2). A version that is left out, which means V1,
+/// and one that is given are told apart. The unique identifiers are kept as contents octets.
 #[derive(Debug, Drop)]
 pub struct TbsCertificate {
     pub version: Option<Version>,
@@ -114,8 +114,8 @@ impl Structure for TbsCertificate {
     ghost grammar = { tbs_certificates };
 }
 
-/// TBSCertificates are equal exactly where the kinds of the values of their extensions are, and the octets that
-/// are written for them; the octets alone decide where they can be written.
+/// TBSCertificates are equal exactly where the kinds of the values of their extensions are, and the
+/// octets that are written for them; the octets alone decide where they can be written.
 impl PartialEq for TbsCertificate {
     ghost use Rattle.std.specs.Ordering.{on};
     ghost use Rattle.std.specs.Cmp.Lexicographic.{nat_list_eq_equiv};
@@ -126,10 +126,12 @@ impl PartialEq for TbsCertificate {
 
     ghost eq = { on (λ value. tbs_octets value) bytes_eq };
 
-    ghost laws = { on_per (λ value. tbs_octets value) (partial_equiv_from_equiv nat_list_eq_equiv) };
+    ghost laws = { on_per (λ value. tbs_octets value)
+        (partial_equiv_from_equiv nat_list_eq_equiv) };
 
     fn eq(&self, other: &TbsCertificate) -> bool
-        ensures octets { AreDer (inner_tbs self.now) → AreDer (inner_tbs other.now) → result ≡ same_octets tbs_certificate self.now other.now }
+        ensures octets { AreDer (inner_tbs self.now) → AreDer (inner_tbs other.now)
+            → result ≡ same_octets tbs_certificate self.now other.now }
         ensures told { result ≡ bytes_eq (tbs_octets self.now) (tbs_octets other.now) }
         ensures same { IsTrue result ↔ (self.now ≡ other.now) }
     {

@@ -17,8 +17,8 @@ use asn1_types::oids::{
 use der_core::tag::OCTET_STRING;
 use der_core::{Elem, Kids, leaf_at, whole_element};
 
-/// Of several extensions of one identifier the first counts, but for the purposes that are named, which
-/// every extended key usage may hold.
+/// Of several extensions of one identifier the first counts, but for the purposes that are named,
+/// which every extended key usage may hold.
 impl<'a> CertView<'a> {
     /// Whether the key is that of an authority (RFC 5280 4.2.1.9), None where there are no basic
     /// constraints or their flag is left out, which means FALSE.

@@ -1,5 +1,6 @@
--- BasicConstraints ::= SEQUENCE { cA BOOLEAN DEFAULT FALSE, pathLenConstraint INTEGER (0..MAX) OPTIONAL } (RFC 5280 4.2.1.9).
--- That the flag stands, also as FALSE, is kept. A path length is at most 255 here.
+-- BasicConstraints ::= SEQUENCE { cA BOOLEAN DEFAULT FALSE, pathLenConstraint INTEGER (0..MAX)
+-- OPTIONAL } (RFC 5280 4.2.1.9). That the flag stands, also as FALSE, is kept. A path length is at
+-- most 255 here.
 use Rattle.std.specs.Prelude.{◌≡◌, ◌≢◌, ℕ, nat_lt, Bool, true, if◌then◌else◌, List, [], ◌∷◌, ◌++◌, Option, Some, None}
 use Rattle.asn1_types.specs.Elements.{integer_of}
 use Rattle.der_core.specs.DerElement.{DerElement, Primitive}
@@ -7,8 +8,8 @@ use Rattle.der_core.specs.Elements.{sequence}
 use Rattle.x509_values.specs.Boolean.{optional_boolean, IsOptionalBoolean}
 use Rattle.x509_values.specs.declared.basic_constraints.BasicConstraints.{BasicConstraints}
 
--- INTEGER of a number below 256 in its shortest contents: the first bit is the sign, so a zero stands before an octet of 80 or more
--- (X.690 8.3.2, 8.3.3)
+-- INTEGER of a number below 256 in its shortest contents: the first bit is the sign, so a zero
+-- stands before an octet of 80 or more (X.690 8.3.2, 8.3.3)
 abbrev pub small_integer : ℕ → DerElement
 small_integer number = integer_of (if nat_lt number 128 then number ∷ [] else 0 ∷ number ∷ [])
 
@@ -47,7 +48,8 @@ pub record HasBadLength (all : List DerElement) : Type 0 where
   pub none : (number : ℕ) → kid ≢ small_integer number
 
 -- The INTEGER was taken off the front of the elements, or there are none.
-pub record TakesLength (all : List DerElement) (number : Option ℕ) (rest : List DerElement) : Type 0 where
+pub record TakesLength (all : List DerElement) (number : Option ℕ)
+    (rest : List DerElement) : Type 0 where
   pub are : all ≡ optional_integer number ++ rest
   pub last : number ≡ None → rest ≡ []
 

@@ -15,7 +15,8 @@ IsOptionalBoolean flag None = flag ≡ []
 IsOptionalBoolean flag (Some b) = (kid : DerElement) × (flag ≡ kid ∷ []) × IsBoolean kid b
 
 -- The flag that may be left out was taken off the front of the elements.
-pub record TakesBoolean (all : List DerElement) (b : Option Bool) (rest : List DerElement) : Type 0 where
+pub record TakesBoolean (all : List DerElement) (b : Option Bool)
+    (rest : List DerElement) : Type 0 where
   pub flag : List DerElement
   pub is : IsOptionalBoolean flag b
   pub are : all ≡ flag ++ rest

@@ -1,5 +1,5 @@
--- ExtKeyUsageSyntax ::= SEQUENCE SIZE (1..MAX) OF KeyPurposeId, KeyPurposeId ::= OBJECT IDENTIFIER (RFC 5280 4.2.1.12); an empty
--- one is read, too
+-- ExtKeyUsageSyntax ::= SEQUENCE SIZE (1..MAX) OF KeyPurposeId, KeyPurposeId ::= OBJECT IDENTIFIER
+-- (RFC 5280 4.2.1.12); an empty one is read, too
 use Rattle.der_core.specs.DerElement.{DerElement}
 use Rattle.der_core.specs.Each.{list_element}
 use Rattle.asn1_types.specs.Elements.{object_identifier}

@@ -1,5 +1,6 @@
--- KeyUsage ::= BIT STRING { digitalSignature (0), nonRepudiation (1), keyEncipherment (2), dataEncipherment (3), keyAgreement (4),
--- keyCertSign (5), cRLSign (6), encipherOnly (7), decipherOnly (8) } (RFC 5280 4.2.1.3)
+-- KeyUsage ::= BIT STRING { digitalSignature (0), nonRepudiation (1), keyEncipherment (2),
+-- dataEncipherment (3), keyAgreement (4), keyCertSign (5), cRLSign (6), encipherOnly (7),
+-- decipherOnly (8) } (RFC 5280 4.2.1.3)
 use Rattle.std.specs.Prelude.{◌≡◌, ◌↔◌, ℕ, ◌+◌, ◌-◌, ◌*◌, ◌/◌, ◌%◌, ◌^◌, ◌<◌, ◌≤◌, List, length, slice_index}
 use Rattle.der_core.specs.DerElement.{DerElement}
 use Rattle.asn1_types.specs.Elements.{bit_string}
@@ -26,9 +27,11 @@ pub record IsUsageOf (flags : ℕ) (bits : BitString) : Type 0 where
   -- there are no others
   pub only : (number : ℕ) → HasBit bits number → number ≤ 8
   -- the last bit of the string is 1 (X.690 11.2.2)
-  pub last : (number : ℕ) → number + unused_of bits + 1 ≡ 8 * length (payload_of bits) → HasBit bits number
+  pub last : (number : ℕ) → number + unused_of bits + 1 ≡ 8 * length (payload_of bits)
+      → HasBit bits number
   -- the bits that aren't used are 0 (X.690 11.2.1)
-  pub padded : (number : ℕ) → number < 8 * length (payload_of bits) → octet_bit (payload_of bits) number ≡ 1 → HasBit bits number
+  pub padded : (number : ℕ) → number < 8 * length (payload_of bits)
+      → octet_bit (payload_of bits) number ≡ 1 → HasBit bits number
 
 -- the bits of a usage
 abbrev pub usage_bits : KeyUsage → BitString

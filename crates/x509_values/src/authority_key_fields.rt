@@ -30,8 +30,10 @@ impl<'a> AuthorityKeyFields<'a> {
     /// The fields of the element.
     pub fn of(elem: Elem<'a>) -> Option<AuthorityKeyFields<'a>>
         ensures { MatchOption result
-            ((key serial : Option (List ℕ)) (issuer : Option DerElement) → IsAuthorityKeyOf elem.entry.is.0 key issuer serial → ⊥)
-            (λ f. IsAuthorityKeyOf elem.entry.is.0 (option_copied f.key_identifier) (at_option f.issuer) (option_copied f.serial_number)) }
+            ((key serial : Option (List ℕ)) (issuer : Option DerElement)
+            → IsAuthorityKeyOf elem.entry.is.0 key issuer serial → ⊥)
+            (λ f. IsAuthorityKeyOf elem.entry.is.0 (option_copied f.key_identifier)
+            (at_option f.issuer) (option_copied f.serial_number)) }
     {
         let mut kids = Kids::of(elem, SEQUENCE)?;
         let key_identifier = kids.next_leaf(KEY_IDENTIFIER);

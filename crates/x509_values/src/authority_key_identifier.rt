@@ -14,8 +14,8 @@ use der_core::{
 use std::alloc::{AllocError, Global};
 
 /// Which key an authority signs with: by an identifier, or by the names of the issuer of its
-/// certificate and the serial number (RFC 5280 4.2.1.1). The names are kept as an element of the tag
-/// [1], the number as contents octets of any length.
+/// certificate and the serial number (RFC 5280 4.2.1.1). The names are kept as an element of the
+/// tag [1], the number as contents octets of any length.
 #[derive(Debug, Drop)]
 pub struct AuthorityKeyIdentifier {
     key_identifier: Option<Octets>,

@@ -14,7 +14,8 @@ use std::alloc::{AllocError, Global};
 /// Identifiers in order.
 pub type OidList = ListOf<ObjectIdentifier>;
 
-/// What a key is for, an identifier a purpose (RFC 5280 4.2.1.12). No purposes at all are read, too.
+/// What a key is for, an identifier a purpose (RFC 5280 4.2.1.12). No purposes at all are read,
+/// too.
 #[derive(Debug, Drop)]
 pub struct ExtendedKeyUsage {
     purposes: OidList,
@@ -37,7 +38,8 @@ impl ExtendedKeyUsage {
 
     /// Whether an identifier is among the purposes, by its contents octets.
     pub fn contains(&self, oid: &[u8]) -> bool
-        ensures { result ≡ list_any (λ purpose. bytes_eq (identifier_contents purpose) oid.now) self.now.purposes }
+        ensures { result ≡ list_any (λ purpose. bytes_eq (identifier_contents purpose) oid.now)
+            self.now.purposes }
     {
         self.as_slice()
             .iter()

@@ -14,9 +14,9 @@ pub struct KeyUsage {
 }
 
 impl KeyUsage {
-    /// The usage of flags: the purpose of number i stands for `1 << i`, i at most 8. Other flags are
-    /// passed over. The string ends with its last bit that is 1 (X.690 11.2.2), so it is empty where
-    /// there is none.
+    /// The usage of flags: the purpose of number i stands for `1 << i`, i at most 8. Other flags
+    /// are passed over. The string ends with its last bit that is 1 (X.690 11.2.2), so it is empty
+    /// where there is none.
     pub fn new(alloc: Global, flags: u16) -> Result<KeyUsage, AllocError>
         ensures { IfOk result (λ usage. IsUsageOf flags usage.bits) }
     {
@@ -47,8 +47,8 @@ impl KeyUsage {
         self.has_bit(0)
     }
 
-    /// Whether the key is for signatures that their signer cannot deny: `nonRepudiation`, also called
-    /// `contentCommitment`.
+    /// Whether the key is for signatures that their signer cannot deny: `nonRepudiation`, also
+    /// called `contentCommitment`.
     pub fn non_repudiation(&self) -> bool
         ensures { IsTrue result ↔ HasBit self.now.bits 1 }
     {

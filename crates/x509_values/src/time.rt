@@ -6,8 +6,8 @@ use asn1_types::{GeneralizedTime, UTCTime};
 use der_core::{DerError, Elem, Structure, Tree};
 use std::alloc::{AllocError, Global};
 
-/// A time in one of its two forms (RFC 5280 4.1.2.5). Which form belongs to which years is not asked
-/// of what is read.
+/// A time in one of its two forms (RFC 5280 4.1.2.5). Which form belongs to which years is not
+/// asked of what is read.
 #[derive(Debug, Drop)]
 pub enum Time {
     /// A UTCTime, of the years 1950 to 2049 (RFC 5280 4.1.2.5.1).

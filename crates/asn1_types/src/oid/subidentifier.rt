@@ -36,7 +36,8 @@ pub fn split_subidentifier(octets: &[u8]) -> Option<(u128, &[u8])>
 /// The octets after the subidentifier that begins the octets.
 #[inline(always)]
 pub fn after_subidentifier(octets: &[u8]) -> Option<&[u8]>
-    ensures { MatchOption result (BeginsWithNoSubidentifier octets.now) (λ after. BeginsWithSubidentifier octets.now after.now) }
+    ensures { MatchOption result (BeginsWithNoSubidentifier octets.now)
+        (λ after. BeginsWithSubidentifier octets.now after.now) }
 {
     match octets {
         // Most are of one to three octets, and their number isn't asked for.

@@ -23,7 +23,8 @@ impl fmt::Display for ObjectIdentifier {
 impl PartialEq for ObjectIdentifier {
     ghost eq = { λ a b. bytes_eq a.contents b.contents };
 
-    ghost laws = { on_per (λ identifier. identifier.contents) (partial_equiv_from_equiv nat_list_eq_equiv) };
+    ghost laws = { on_per (λ identifier. identifier.contents)
+        (partial_equiv_from_equiv nat_list_eq_equiv) };
 
     fn eq(&self, other: &ObjectIdentifier) -> bool
         ensures value { result ≡ bytes_eq self.now.contents other.now.contents }

@@ -58,13 +58,13 @@ struct Parts<'b> {
 }
 
 impl AuthenticodeSignatureBuilder<'_> {
-    /// The signature. It carries the certificates as they are, but for those of roots. It is refused by
-    /// the first of these: `MissingDigestAlgorithm`; `UnsupportedHashAlgorithmError` for SHA-224;
-    /// `MissingContentInfo`; `MissingSigningKey`; `MissingIssuerAndSerialNumber`;
+    /// The signature. It carries the certificates as they are, but for those of roots. It is
+    /// refused by the first of these: `MissingDigestAlgorithm`; `UnsupportedHashAlgorithmError` for
+    /// SHA-224; `MissingContentInfo`; `MissingSigningKey`; `MissingIssuerAndSerialNumber`;
     /// `MissingCertificatesRequired`, each where it isn't given;
     /// `NoCertificatesAssociatedWithIssuerAndSerialNumber` where none of the certificates is named;
-    /// `NoEKUCodeSigning` where one of the issuer walk of the first that is named has an extended key
-    /// usage, and that first doesn't name code signing; `Asn1DerError` where the content or the
+    /// `NoEKUCodeSigning` where one of the issuer walk of the first that is named has an extended
+    /// key usage, and that first doesn't name code signing; `Asn1DerError` where the content or the
     /// attributes can't be written; `SignatureError` where the key doesn't sign.
     pub fn build<S: Scheme>(
         self,
@@ -72,10 +72,13 @@ impl AuthenticodeSignatureBuilder<'_> {
         scheme: &S,
     ) -> Result<AuthenticodeSignature, AuthenticodeSignatureBuilderError>
         ensures answer { MatchResult result
-            (λ s. IsBuiltSignature (arithmetic (S.judge scheme.now) (S.signs scheme.now) (S.pair scheme.now)) self.entry (fields_of s.0))
+            (λ s. IsBuiltSignature
+            (arithmetic (S.judge scheme.now) (S.signs scheme.now) (S.pair scheme.now))
+            self.entry (fields_of s.0))
             (RefusesBySteps errors.Memory (building_steps (S.signs scheme.now) self.entry)) }
         // What isn't given, and SHA-224, is told whatever memory there is.
-        ensures refused { (e : AuthenticodeSignatureBuilderError) → IsFirstUntaken (part_steps self.entry) e → result ≡ Err e }
+        ensures refused { (e : AuthenticodeSignatureBuilderError)
+            → IsFirstUntaken (part_steps self.entry) e → result ≡ Err e }
     {
         self.signature(alloc, scheme)
     }
@@ -87,9 +90,12 @@ impl AuthenticodeSignatureBuilder<'_> {
         scheme: &S,
     ) -> Result<AuthenticodeSignature, AuthenticodeSignatureBuilderError>
         ensures answer { MatchResult result
-            (λ s. IsBuiltSignature (arithmetic (S.judge scheme.now) (S.signs scheme.now) (S.pair scheme.now)) self.now (fields_of s.0))
+            (λ s. IsBuiltSignature
+            (arithmetic (S.judge scheme.now) (S.signs scheme.now) (S.pair scheme.now)) self.now
+            (fields_of s.0))
             (RefusesBySteps errors.Memory (building_steps (S.signs scheme.now) self.now)) }
-        ensures refused { (e : AuthenticodeSignatureBuilderError) → IsFirstUntaken (part_steps self.now) e → result ≡ Err e }
+        ensures refused { (e : AuthenticodeSignatureBuilderError)
+            → IsFirstUntaken (part_steps self.now) e → result ≡ Err e }
     {
         let given = self.given()?;
         let built = self.built(alloc, &given, scheme)?;
@@ -99,7 +105,8 @@ impl AuthenticodeSignatureBuilder<'_> {
     /// What has to be given.
     fn given(&self) -> Result<Parts<'_>, AuthenticodeSignatureBuilderError>
         ensures { MatchResult result
-            (λ parts. HasGiven self.now (given_of parts) × AreTaken (part_steps self.now) × (hash_of parts.hash ≡ parts.algorithm))
+            (λ parts. HasGiven self.now (given_of parts) × AreTaken (part_steps self.now)
+            × (hash_of parts.hash ≡ parts.algorithm))
             (IsFirstUntaken (part_steps self.now)) }
     {
         let (hash, algorithm) = self.supported()?;
@@ -127,8 +134,11 @@ impl AuthenticodeSignatureBuilder<'_> {
 
     /// The digest algorithm, which isn't SHA-224, with its variant.
     fn supported(&self) -> Result<(ShaVariant, HashAlgorithm), AuthenticodeSignatureBuilderError>
-        ensures { let steps = part_step errors.MissingDigestAlgorithm self.now.digest_algorithm ∷ supported_step self.now.digest_algorithm ∷ [] in MatchResult result
-            (λ known. (self.now.digest_algorithm ≡ Some known.1) × (hash_of known.0 ≡ known.1) × AreTaken steps)
+        ensures { let steps = part_step errors.MissingDigestAlgorithm self.now.digest_algorithm ∷
+            supported_step self.now.digest_algorithm ∷ [] in
+            MatchResult result
+            (λ known. (self.now.digest_algorithm ≡ Some known.1) × (hash_of known.0 ≡ known.1)
+            × AreTaken steps)
             (IsFirstUntaken steps) }
     {
         let Some(algorithm) = self.digest_algorithm else {
@@ -150,8 +160,12 @@ impl AuthenticodeSignatureBuilder<'_> {
         scheme: &S,
     ) -> Result<Pkcs7, AuthenticodeSignatureBuilderError>
         requires { hash_of given.now.hash ≡ given.now.algorithm }
-        ensures { let g = given_of given.now in MatchResult result
-            (λ built. IsBuiltOf (arithmetic (S.judge scheme.now) (S.signs scheme.now) (S.pair scheme.now)) self.now g (fields_of built) × AreTaken (steps_of (S.signs scheme.now) self.now g))
+        ensures { let g = given_of given.now in
+            MatchResult result
+            (λ built. IsBuiltOf
+            (arithmetic (S.judge scheme.now) (S.signs scheme.now) (S.pair scheme.now)) self.now
+            g (fields_of built)
+            × AreTaken (steps_of (S.signs scheme.now) self.now g))
             (RefusesBySteps errors.Memory (steps_of (S.signs scheme.now) self.now g)) }
     {
         expect_signer(alloc, given)?;
@@ -171,9 +185,16 @@ impl AuthenticodeSignatureBuilder<'_> {
         attributes: &SignedAttributes,
         scheme: &S,
     ) -> Result<Octets, AuthenticodeSignatureBuilderError>
-        ensures { (members : List DerElement) → signed_attributes attributes.now ≡ attributes_element members → MatchResult result
-            (IsSignature (arithmetic (S.judge scheme.now) (S.signs scheme.now) (S.pair scheme.now)) (RsaPkcs1v15 given.now.algorithm) given.now.key.now (message_in self.now.authenticated_attributes content.items members))
-            (RefusesBySteps errors.Memory (key_step (S.signs scheme.now) (RsaPkcs1v15 given.now.algorithm) given.now.key.now (message_in self.now.authenticated_attributes content.items members) ∷ [])) }
+        ensures { (members : List DerElement)
+            → signed_attributes attributes.now ≡ attributes_element members
+            → MatchResult result
+            (IsSignature
+            (arithmetic (S.judge scheme.now) (S.signs scheme.now) (S.pair scheme.now))
+            (RsaPkcs1v15 given.now.algorithm) given.now.key.now
+            (message_in self.now.authenticated_attributes content.items members))
+            (RefusesBySteps errors.Memory
+            (key_step (S.signs scheme.now) (RsaPkcs1v15 given.now.algorithm) given.now.key.now
+            (message_in self.now.authenticated_attributes content.items members) ∷ [])) }
     {
         let message = self.message(alloc, content, attributes)?;
         match signature_of(alloc, given.algorithm, &message, given.key, scheme) {
@@ -191,8 +212,10 @@ impl AuthenticodeSignatureBuilder<'_> {
         content: Vec<u8>,
         attributes: &SignedAttributes,
     ) -> Result<Vec<u8>, AllocError>
-        ensures { (members : List DerElement) → signed_attributes attributes.now ≡ attributes_element members
-            → IfOk result (λ octets. octets.items ≡ message_in self.now.authenticated_attributes content.items members) }
+        ensures { (members : List DerElement)
+            → signed_attributes attributes.now ≡ attributes_element members
+            → IfOk result (λ octets. octets.items ≡ message_in self.now.authenticated_attributes
+            content.items members) }
     {
         match &self.authenticated_attributes {
             Some(_) => message_of(alloc, attributes),
@@ -208,8 +231,11 @@ impl AuthenticodeSignatureBuilder<'_> {
         attributes: SignedAttributes,
         signature: Octets,
     ) -> Result<Pkcs7, AllocError>
-        ensures { let g = given_of given.now in IfOk result (λ built. (carried : List CertificateElements) × AreWithoutRoots g.bag carried
-            × (fields_of built ≡ signature_made (record (parts_by self.now g carried signature) { attributes = signed_attributes attributes }))) }
+        ensures { let g = given_of given.now in
+            IfOk result
+            (λ built. (carried : List CertificateElements) × AreWithoutRoots g.bag carried
+            × (fields_of built ≡ signature_made (record (parts_by self.now g carried signature)
+            { attributes = signed_attributes attributes }))) }
     {
         let sid = SignerIdentifier::IssuerAndSerialNumber(given.named.try_clone(alloc)?);
         let unsigned = self.unsigned(alloc)?;
@@ -224,7 +250,9 @@ impl AuthenticodeSignatureBuilder<'_> {
 
     /// The attributes that aren't signed, None where there are none of them.
     fn unsigned(&self, alloc: Global) -> Result<Option<UnsignedAttributeList>, AllocError>
-        ensures { IfOk result (λ attributes. option_map (list_element 0xA1 unsigned_attribute) attributes ≡ unsigned_in self.now.unsigned_attributes) }
+        ensures { IfOk result
+            (λ attributes. option_map (list_element 0xA1 unsigned_attribute) attributes
+            ≡ unsigned_in self.now.unsigned_attributes) }
     {
         match &self.unsigned_attributes {
             Some(attributes) if !attributes.is_empty() => Ok(Some(attributes.try_clone(alloc)?)),
@@ -285,8 +313,10 @@ fn attributes_for(
     alloc: Global,
     given: &Option<AttributeList>,
 ) -> Result<SignedAttributes, AuthenticodeSignatureBuilderError>
-    ensures { let list = attributes_in given.now in MatchResult result
-        (λ kept. (signed_attributes kept ≡ attributes_element (map attribute list)) × AreDer (attributes_by list))
+    ensures { let list = attributes_in given.now in
+        MatchResult result
+        (λ kept. (signed_attributes kept ≡ attributes_element (map attribute list))
+        × AreDer (attributes_by list))
         (RefusesBySteps errors.Memory (element_step (attributes_by list) ∷ [])) }
 {
     match given {
@@ -311,7 +341,8 @@ fn kept_attributes(
     list: &AttributeList,
 ) -> Result<SignedAttributes, AuthenticodeSignatureBuilderError>
     ensures { MatchResult result
-        (λ kept. (signed_attributes kept ≡ attributes_element (map attribute list.now)) × AreDer (attributes_by list.now))
+        (λ kept. (signed_attributes kept ≡ attributes_element (map attribute list.now))
+        × AreDer (attributes_by list.now))
         (RefusesBySteps errors.Memory (element_step (attributes_by list.now) ∷ [])) }
 {
     match keep_attributes(alloc, list) {

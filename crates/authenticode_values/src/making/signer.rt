@@ -27,8 +27,8 @@ pub(super) fn first_signer(bag: &[Cert]) -> Result<&Cert, AuthenticodeError>
     }
 }
 
-/// Whether a certificate names code signing, where one of its issuer walk among others has an extended
-/// key usage (RFC 5280 4.2.1.12).
+/// Whether a certificate names code signing, where one of its issuer walk among others has an
+/// extended key usage (RFC 5280 4.2.1.12).
 pub(crate) fn may_sign_code(signer: &Cert, certificates: &[Cert]) -> bool
     ensures { IsTrue result ↔ IsForCodeSigning (elements_of certificates.now) signer.now.elements }
 {

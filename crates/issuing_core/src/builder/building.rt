@@ -46,27 +46,38 @@ struct IssuedBy {
 
 impl<'a> CertificateBuilder<'a> {
     /// The certificate, with a number of the random word where none is given. It is refused by the
-    /// first of these: `MissingBuilderArgument` where the first moment, the last, or the issuer isn't
-    /// given; `PrivateKeyToPublicKey` where the issuer is the subject and its key has no public half;
-    /// where it isn't, `MissingBuilderArgument` where the identifier of its key, or the subject, isn't
-    /// given, and `InvalidCsr` where the request of the subject isn't signed by its own key;
-    /// `CertGeneration` with `KeyIdGen` where the subject's key has no identifier; `Signature` where
-    /// the algorithm has none; `CertGeneration` with `Asn1Serialization` where what is signed can't be
-    /// written, and with `Signature` where it isn't signed; `Asn1Serialization` where the whole can't
-    /// be written.
+    /// first of these: `MissingBuilderArgument` where the first moment, the last, or the issuer
+    /// isn't given; `PrivateKeyToPublicKey` where the issuer is the subject and its key has no
+    /// public half; where it isn't, `MissingBuilderArgument` where the identifier of its key, or
+    /// the subject, isn't given, and `InvalidCsr` where the request of the subject isn't signed by
+    /// its own key; `CertGeneration` with `KeyIdGen` where the subject's key has no identifier;
+    /// `Signature`
+    /// where the algorithm has none; `CertGeneration` with `Asn1Serialization` where what is signed
+    /// can't be written, and with `Signature` where it isn't signed; `Asn1Serialization` where the
+    /// whole can't be written.
     pub fn build<S: Scheme>(self, alloc: Global, word: u32, scheme: &S) -> Result<Cert, CertError>
         ensures answer { MatchResult result
-            (IsBuilt (arithmetic (S.judge scheme.now) (S.signs scheme.now) (S.pair scheme.now)) self.entry word)
-            (RefusesBySteps errors.Memory (build_steps (arithmetic (S.judge scheme.now) (S.signs scheme.now) (S.pair scheme.now)) self.entry word)) }
+            (IsBuilt (arithmetic (S.judge scheme.now) (S.signs scheme.now) (S.pair scheme.now))
+            self.entry word)
+            (RefusesBySteps errors.Memory (build_steps
+            (arithmetic (S.judge scheme.now) (S.signs scheme.now) (S.pair scheme.now))
+            self.entry word)) }
         // What isn't given is told whatever memory there is.
-        ensures refused { (e : CertError) → IsFirstUntaken (argument_steps self.entry) e → result ≡ Err e }
+        ensures refused { (e : CertError) → IsFirstUntaken (argument_steps self.entry) e
+            → result ≡ Err e }
         // Its signature is one by each certificate whose key pairs with the issuer's.
-        ensures linked { IfOk result (λ cert. (issuer : IssuerInfos) (parent : KeptCertificate) → self.entry.issuer_infos ≡ Some issuer
-            → IsKeyPair (S.pair scheme.now) issuer.key.now parent.certificate.tbs_certificate.subject_public_key_info → IsSignedBy (S.judge scheme.now) parent.elements cert.elements) }
+        ensures linked { IfOk result (λ cert. (issuer : IssuerInfos) (parent : KeptCertificate)
+            → self.entry.issuer_infos ≡ Some issuer
+            → IsKeyPair (S.pair scheme.now) issuer.key.now
+            parent.certificate.tbs_certificate.subject_public_key_info
+            → IsSignedBy (S.judge scheme.now) parent.elements cert.elements) }
         // No two extensions have one identifier, whatever a request asks for.
-        ensures distinct { IfOk result (λ cert. AreDistinct (extensions_in cert.certificate.tbs_certificate.extensions)) }
+        ensures distinct { IfOk result
+            (λ cert. AreDistinct (extensions_in cert.certificate.tbs_certificate.extensions)) }
         // The flag and the path length are the builder's, whatever a request asks for.
-        ensures constrained { IfOk result (λ cert. HasFirst CE_BASIC_CONSTRAINTS.now (extensions_in cert.certificate.tbs_certificate.extensions) (constraints_of self.entry)) }
+        ensures constrained { IfOk result (λ cert. HasFirst CE_BASIC_CONSTRAINTS.now
+            (extensions_in cert.certificate.tbs_certificate.extensions)
+            (constraints_of self.entry)) }
     {
         self.built(alloc, word, scheme)
     }
@@ -74,9 +85,13 @@ impl<'a> CertificateBuilder<'a> {
     /// The certificate.
     fn built<S: Scheme>(&self, alloc: Global, word: u32, scheme: &S) -> Result<Cert, CertError>
         ensures answer { MatchResult result
-            (IsBuilt (arithmetic (S.judge scheme.now) (S.signs scheme.now) (S.pair scheme.now)) self.now word)
-            (RefusesBySteps errors.Memory (build_steps (arithmetic (S.judge scheme.now) (S.signs scheme.now) (S.pair scheme.now)) self.now word)) }
-        ensures refused { (e : CertError) → IsFirstUntaken (argument_steps self.now) e → result ≡ Err e }
+            (IsBuilt (arithmetic (S.judge scheme.now) (S.signs scheme.now) (S.pair scheme.now))
+            self.now word)
+            (RefusesBySteps errors.Memory (build_steps
+            (arithmetic (S.judge scheme.now) (S.signs scheme.now) (S.pair scheme.now))
+            self.now word)) }
+        ensures refused { (e : CertError) → IsFirstUntaken (argument_steps self.now) e
+            → result ≡ Err e }
     {
         let (valid_from, valid_to, issuer) = self.given()?;
         let subject = self.identified(alloc, issuer, scheme)?;
@@ -91,7 +106,8 @@ impl<'a> CertificateBuilder<'a> {
     /// The first moment, the last, and the issuer.
     fn given(&self) -> Result<(UtcDate, UtcDate, &IssuerInfos<'a>), CertError>
         ensures { MatchResult result
-            (λ given. (self.now.valid_from ≡ Some given.0) × (self.now.valid_to ≡ Some given.1) × (self.now.issuer_infos ≡ Some given.2.now))
+            (λ given. (self.now.valid_from ≡ Some given.0) × (self.now.valid_to ≡ Some given.1)
+            × (self.now.issuer_infos ≡ Some given.2.now))
             (IsFirstUntaken (given_steps self.now)) }
     {
         let Some(valid_from) = self.valid_from else {
@@ -117,7 +133,8 @@ impl<'a> CertificateBuilder<'a> {
     ) -> Result<TbsCertificate, CertError>
         ensures { MatchResult result
             (λ tbs. IsTbsBy self.now issuer.now word subject.own.items tbs
-            × (tbs.validity ≡ validity) × (tbs.subject ≡ sets_of subject.name) × (tbs.subject_public_key_info ≡ info_of subject.key))
+            × (tbs.validity ≡ validity) × (tbs.subject ≡ sets_of subject.name)
+            × (tbs.subject_public_key_info ≡ info_of subject.key))
             (RefusesBySteps errors.Memory (algorithm_step self.now ∷ [])) }
     {
         let by = self.issued_by(alloc, word, issuer)?;
@@ -133,7 +150,8 @@ impl<'a> CertificateBuilder<'a> {
         issuer: &IssuerInfos<'_>,
     ) -> Result<IssuedBy, CertError>
         ensures { MatchResult result
-            (λ by. IsBuiltBy self.now issuer.now word by.serial_number by.signature (sets_of by.name))
+            (λ by. IsBuiltBy self.now issuer.now word by.serial_number by.signature
+            (sets_of by.name))
             (RefusesBySteps errors.Memory (algorithm_step self.now ∷ [])) }
     {
         let signature = identifier_of(alloc, self.signature_hash_type)?;
@@ -148,7 +166,8 @@ impl<'a> CertificateBuilder<'a> {
 
     /// The serial number: the one that is given, or the random word, 1 for 0.
     fn serial(&self, alloc: Global, word: u32) -> Result<IntegerAsn1, AllocError>
-        ensures { IfOk result (λ serial. IsUnsignedInteger (serial_of self.now.serial_number word) (integer_contents serial)) }
+        ensures { IfOk result (λ serial. IsUnsignedInteger (serial_of self.now.serial_number word)
+            (integer_contents serial)) }
     {
         match &self.serial_number {
             Some(octets) => IntegerAsn1::from_bytes_be_unsigned(alloc, octets.as_slice()),
@@ -169,7 +188,8 @@ fn identifier_of(
     alloc: Global,
     algorithm: SignatureAlgorithm,
 ) -> Result<AlgorithmIdentifier, CertError>
-    ensures { MatchResult result (IsWrittenAlgorithm algorithm) (Tells algorithm_refusal (IsUnwritable algorithm)) }
+    ensures { MatchResult result (IsWrittenAlgorithm algorithm)
+        (Tells algorithm_refusal (IsUnwritable algorithm)) }
 {
     match algorithm.to_algorithm_identifier(alloc) {
         Ok(id) => Ok(id),

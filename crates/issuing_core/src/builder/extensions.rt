@@ -17,14 +17,16 @@ use std::alloc::{AllocError, Global};
 use x509_types::{Extension, Extensions, RawGeneralNames};
 
 impl CertificateBuilder<'_> {
-    /// The extensions: those that are made, and the inherited ones whose identifier isn't there yet.
+    /// The extensions: those that are made, and the inherited ones whose identifier isn't there
+    /// yet.
     pub(super) fn extensions(
         &self,
         alloc: Global,
         issuer: &IssuerInfos<'_>,
         own: &[u8],
     ) -> Result<Extensions, AllocError>
-        ensures { IfOk result (AreBuilt self.now issuer.now own.now (authority_of issuer.now.self_signed self.now.authority_key_identifier own.now)) }
+        ensures { IfOk result (AreBuilt self.now issuer.now own.now
+            (authority_of issuer.now.self_signed self.now.authority_key_identifier own.now)) }
     {
         let mut extensions = self.uses(alloc)?;
         self.push_names(alloc, &mut extensions)?;
@@ -35,7 +37,8 @@ impl CertificateBuilder<'_> {
 
     /// How the key of the issuer is identified.
     fn authority<'x>(&'x self, issuer: &IssuerInfos<'_>, own: &'x [u8]) -> &'x [u8]
-        ensures { result.now ≡ authority_of issuer.now.self_signed self.now.authority_key_identifier own.now }
+        ensures { result.now ≡ authority_of issuer.now.self_signed self.now.authority_key_identifier
+            own.now }
     {
         if issuer.self_signed {
             return own;
@@ -79,7 +82,9 @@ impl CertificateBuilder<'_> {
 
     /// What the key is for, where it is given.
     fn usage(&self, alloc: Global) -> Result<Option<Extension>, AllocError>
-        ensures { IfOk result (λ made. AreWanted (where_given CE_KEY_USAGE.now true views.KeyUsage self.now.key_usage) (option_to_list made)) }
+        ensures { IfOk result
+            (λ made. AreWanted (where_given CE_KEY_USAGE.now true views.KeyUsage self.now.key_usage)
+            (option_to_list made)) }
     {
         let Some(usage) = &self.key_usage else {
             return Ok(None);
@@ -92,7 +97,10 @@ impl CertificateBuilder<'_> {
 
     /// What the key is for by identifiers, where they are given.
     fn purposes(&self, alloc: Global) -> Result<Option<Extension>, AllocError>
-        ensures { IfOk result (λ made. AreWanted (where_given CE_EXT_KEY_USAGE.now false views.ExtendedKeyUsage self.now.extended_key_usage) (option_to_list made)) }
+        ensures { IfOk result (λ made. AreWanted
+            (where_given CE_EXT_KEY_USAGE.now false views.ExtendedKeyUsage
+            self.now.extended_key_usage)
+            (option_to_list made)) }
     {
         let Some(usage) = &self.extended_key_usage else {
             return Ok(None);
@@ -105,7 +113,8 @@ impl CertificateBuilder<'_> {
 
     /// Appends further names of the subject and of the issuer, where they are given.
     fn push_names(&self, alloc: Global, extensions: &mut Extensions) -> Result<(), AllocError>
-        ensures { OnOk result ((made : List Extension) × AreWanted (wanted_names self.now) made × (extensions.new ≡ extensions.old ++ made)) }
+        ensures { OnOk result ((made : List Extension) × AreWanted (wanted_names self.now) made
+            × (extensions.new ≡ extensions.old ++ made)) }
     {
         push_option(extensions, self.subject_names(alloc)?)?;
         push_option(extensions, self.issuer_names(alloc)?)
@@ -113,7 +122,10 @@ impl CertificateBuilder<'_> {
 
     /// Further names of the subject, where they are given.
     fn subject_names(&self, alloc: Global) -> Result<Option<Extension>, AllocError>
-        ensures { IfOk result (λ made. AreWanted (where_given CE_SUBJECT_ALT_NAME.now false views.SubjectAltName self.now.subject_alt_name) (option_to_list made)) }
+        ensures { IfOk result (λ made. AreWanted
+            (where_given CE_SUBJECT_ALT_NAME.now false views.SubjectAltName
+            self.now.subject_alt_name)
+            (option_to_list made)) }
     {
         let Some(names) = &self.subject_alt_name else {
             return Ok(None);
@@ -126,7 +138,10 @@ impl CertificateBuilder<'_> {
 
     /// Further names of the issuer, where they are given.
     fn issuer_names(&self, alloc: Global) -> Result<Option<Extension>, AllocError>
-        ensures { IfOk result (λ made. AreWanted (where_given CE_ISSUER_ALT_NAME.now false views.IssuerAltName self.now.issuer_alt_name) (option_to_list made)) }
+        ensures { IfOk result (λ made. AreWanted
+            (where_given CE_ISSUER_ALT_NAME.now false views.IssuerAltName
+            self.now.issuer_alt_name)
+            (option_to_list made)) }
     {
         let Some(names) = &self.issuer_alt_name else {
             return Ok(None);
@@ -147,7 +162,8 @@ fn copied(alloc: Global, names: &GeneralNames) -> Result<RawGeneralNames, AllocE
 
 /// The extension, critical or not.
 fn flagged(extension: Extension, critical: bool) -> Extension
-    ensures { (extension_id result ≡ extension_id extension) × (is_critical result ≡ critical) × (extension_value result ≡ extension_value extension) }
+    ensures { (extension_id result ≡ extension_id extension) × (is_critical result ≡ critical)
+        × (extension_value result ≡ extension_value extension) }
 {
     if critical {
         extension.into_critical()
@@ -173,7 +189,9 @@ fn push_keys(
     own: &[u8],
     authority: &[u8],
 ) -> Result<(), AllocError>
-    ensures { OnOk result ((made : List Extension) × AreWanted (wanted_keys own.now authority.now) made × (extensions.new ≡ extensions.old ++ made)) }
+    ensures { OnOk result
+        ((made : List Extension) × AreWanted (wanted_keys own.now authority.now) made
+        × (extensions.new ≡ extensions.old ++ made)) }
 {
     extensions.push(key_identifier(alloc, own)?)?;
     extensions.push(authority_key_identifier(alloc, authority)?)
@@ -181,7 +199,8 @@ fn push_keys(
 
 /// The identifier of the key.
 fn key_identifier(alloc: Global, key: &[u8]) -> Result<Extension, AllocError>
-    ensures { IfOk result (λ e. IsPlainExtension e CE_SUBJECT_KEY_IDENTIFIER.now (views.SubjectKeyIdentifier key.now)) }
+    ensures { IfOk result (λ e. IsPlainExtension e CE_SUBJECT_KEY_IDENTIFIER.now
+        (views.SubjectKeyIdentifier key.now)) }
 {
     match Extension::new_subject_key_identifier(alloc, key) {
         Ok(extension) => Ok(extension),
@@ -191,7 +210,8 @@ fn key_identifier(alloc: Global, key: &[u8]) -> Result<Extension, AllocError>
 
 /// The identifier of the issuer's key.
 fn authority_key_identifier(alloc: Global, key: &[u8]) -> Result<Extension, AllocError>
-    ensures { IfOk result (λ e. IsPlainExtension e CE_AUTHORITY_KEY_IDENTIFIER.now (views.AuthorityKeyIdentifier (key_of_identifier key.now))) }
+    ensures { IfOk result (λ e. IsPlainExtension e CE_AUTHORITY_KEY_IDENTIFIER.now
+        (views.AuthorityKeyIdentifier (key_of_identifier key.now))) }
 {
     match Extension::new_authority_key_identifier(alloc, key) {
         Ok(extension) => Ok(extension),

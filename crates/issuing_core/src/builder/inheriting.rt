@@ -12,10 +12,11 @@ use std::alloc::{AllocError, Global};
 use x509_types::{Extension, Extensions};
 
 impl CertificateBuilder<'_> {
-    /// The extensions that are inherited: those that the request of the subject asks for, where that is
-    /// set and the issuer isn't the subject.
+    /// The extensions that are inherited: those that the request of the subject asks for, where
+    /// that is set and the issuer isn't the subject.
     pub(super) fn inherited(&self, issuer: &IssuerInfos<'_>) -> &[Extension]
-        ensures { result.now ≡ inherited issuer.now.self_signed self.now.inherits self.now.subject_infos }
+        ensures { result.now ≡ inherited issuer.now.self_signed self.now.inherits
+            self.now.subject_infos }
     {
         if issuer.self_signed {
             return &[];

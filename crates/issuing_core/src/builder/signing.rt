@@ -34,8 +34,11 @@ pub(super) fn signed<S: Scheme>(
     scheme: &S,
 ) -> Result<Cert, CertError>
     ensures { MatchResult result
-        (IsMade (arithmetic (S.judge scheme.now) (S.signs scheme.now) (S.pair scheme.now)) algorithm private_key.now (λ t. t ≡ tbs))
-        (RefusesBySteps errors.Memory (signing_steps (arithmetic (S.judge scheme.now) (S.signs scheme.now) (S.pair scheme.now)) algorithm private_key.now (λ t. t ≡ tbs))) }
+        (IsMade (arithmetic (S.judge scheme.now) (S.signs scheme.now) (S.pair scheme.now)) algorithm
+        private_key.now (λ t. t ≡ tbs))
+        (RefusesBySteps errors.Memory (signing_steps
+        (arithmetic (S.judge scheme.now) (S.signs scheme.now) (S.pair scheme.now)) algorithm
+        private_key.now (λ t. t ≡ tbs))) }
 {
     let signature_value = signature_of(alloc, &tbs, private_key, algorithm, scheme)?;
     let signature_algorithm = tbs.signature.try_clone(alloc)?;
@@ -58,11 +61,16 @@ fn signature_of<S: Scheme>(
     scheme: &S,
 ) -> Result<BitString, CertError>
     ensures answer { MatchResult result
-        (λ bits. (unused_of bits ≡ 0) × IsDer (tbs_certificate tbs.now) × AreDer (inner_tbs tbs.now) × IsTbsSigned (S.signs scheme.now) algorithm private_key.now tbs.now)
-        (λ e. (e ≡ errors.Memory) ⊎ (Tells octets_refusal (RefusesInner (tbs_written tbs.now)) e
+        (λ bits. (unused_of bits ≡ 0) × IsDer (tbs_certificate tbs.now) × AreDer (inner_tbs tbs.now)
+        × IsTbsSigned (S.signs scheme.now) algorithm private_key.now tbs.now)
+        (λ e. (e ≡ errors.Memory)
+        ⊎ (Tells octets_refusal (RefusesInner (tbs_written tbs.now)) e
         ⊎ (IsDer (tbs_certificate tbs.now) × AreDer (inner_tbs tbs.now)
-        × Tells signature_refusal (RefusesSignatureBy (sign_rules (S.signs scheme.now) algorithm private_key.now (message_of tbs.now))) e))) }
-    ensures accepted { IfOk result (λ bits. (public : SubjectPublicKeyInfo) → IsKeyPair (S.pair scheme.now) private_key.now public
+        × Tells signature_refusal
+        (RefusesSignatureBy (sign_rules (S.signs scheme.now) algorithm private_key.now
+        (message_of tbs.now))) e))) }
+    ensures accepted { IfOk result (λ bits. (public : SubjectPublicKeyInfo)
+        → IsKeyPair (S.pair scheme.now) private_key.now public
         → Accepts (S.judge scheme.now) algorithm public (message_of tbs.now) (payload_of bits)) }
 {
     let message = match tbs.to_der(alloc) {

@@ -40,9 +40,14 @@ impl CertificateBuilder<'_> {
         scheme: &S,
     ) -> Result<Subject, CertError>
         ensures answer { MatchResult result
-            (λ subject. IsBuiltFor (S.judge scheme.now) self.now issuer.now subject.own.items (sets_of subject.name) (info_of subject.key))
-            (RefusesBySteps errors.Memory (subject_steps (S.judge scheme.now) issuer.now.self_signed self.now issuer.now ++ identifier_step (S.judge scheme.now) self.now issuer.now ∷ [])) }
-        ensures refused { (e : CertError) → IsFirstUntaken (subject_arguments issuer.now.self_signed self.now) e → result ≡ Err e }
+            (λ subject. IsBuiltFor (S.judge scheme.now) self.now issuer.now subject.own.items
+            (sets_of subject.name) (info_of subject.key))
+            (RefusesBySteps errors.Memory
+            (subject_steps (S.judge scheme.now) issuer.now.self_signed self.now issuer.now
+            ++ identifier_step (S.judge scheme.now) self.now issuer.now ∷ [])) }
+        ensures refused { (e : CertError)
+            → IsFirstUntaken (subject_arguments issuer.now.self_signed self.now) e
+            → result ≡ Err e }
     {
         let (name, key) = self.subject_of(alloc, issuer, scheme)?;
         match self.key_id_gen_method.generate_from(alloc, &key) {
@@ -59,9 +64,13 @@ impl CertificateBuilder<'_> {
         scheme: &S,
     ) -> Result<(DirectoryName, PublicKey), CertError>
         ensures answer { MatchResult result
-            (λ subject. IsSubject (S.judge scheme.now) self.now issuer.now (sets_of subject.0) (info_of subject.1))
-            (RefusesBySteps errors.Memory (subject_steps (S.judge scheme.now) issuer.now.self_signed self.now issuer.now)) }
-        ensures refused { (e : CertError) → IsFirstUntaken (subject_arguments issuer.now.self_signed self.now) e → result ≡ Err e }
+            (λ subject. IsSubject (S.judge scheme.now) self.now issuer.now (sets_of subject.0)
+            (info_of subject.1))
+            (RefusesBySteps errors.Memory
+            (subject_steps (S.judge scheme.now) issuer.now.self_signed self.now issuer.now)) }
+        ensures refused { (e : CertError)
+            → IsFirstUntaken (subject_arguments issuer.now.self_signed self.now) e
+            → result ≡ Err e }
     {
         if issuer.self_signed {
             own_subject(alloc, issuer)
@@ -77,9 +86,12 @@ impl CertificateBuilder<'_> {
         scheme: &S,
     ) -> Result<(DirectoryName, PublicKey), CertError>
         ensures answer { MatchResult result
-            (λ subject. IsSome self.now.authority_key_identifier × IsGivenSubject (S.judge scheme.now) self.now.subject_infos (sets_of subject.0) (info_of subject.1))
+            (λ subject. IsSome self.now.authority_key_identifier
+            × IsGivenSubject (S.judge scheme.now) self.now.subject_infos (sets_of subject.0)
+            (info_of subject.1))
             (RefusesBySteps errors.Memory (other_steps (S.judge scheme.now) self.now)) }
-        ensures refused { (e : CertError) → IsFirstUntaken (subject_arguments false self.now) e → result ≡ Err e }
+        ensures refused { (e : CertError) → IsFirstUntaken (subject_arguments false self.now) e
+            → result ≡ Err e }
     {
         if self.authority_key_identifier.is_none() {
             return Err(missing(Arg::AuthorityKeyIdentifier));
@@ -98,7 +110,8 @@ fn own_subject(
     issuer: &IssuerInfos<'_>,
 ) -> Result<(DirectoryName, PublicKey), CertError>
     ensures { MatchResult result
-        (λ subject. (sets_of subject.0 ≡ sets_of issuer.now.name) × IsHalfOf issuer.now.key.now (info_of subject.1))
+        (λ subject. (sets_of subject.0 ≡ sets_of issuer.now.name)
+        × IsHalfOf issuer.now.key.now (info_of subject.1))
         (RefusesBySteps errors.Memory (half_step issuer.now.key.now ∷ [])) }
 {
     let name = issuer.name.try_clone(alloc)?;
@@ -129,8 +142,10 @@ fn requested<S: Scheme>(
     ensures { MatchResult result
         (λ subject. IsSelfSigned (S.judge scheme.now) csr.now
         × (sets_of subject.0 ≡ csr.now.request.certification_request_info.subject)
-        × (info_of subject.1 ≡ csr.now.request.certification_request_info.subject_public_key_info))
-        (OrMemory errors.Memory (Tells request_refusal (IsUnsigned (RefusesSelfSigned (S.judge scheme.now) csr.now)))) }
+        × (info_of subject.1
+        ≡ csr.now.request.certification_request_info.subject_public_key_info))
+        (OrMemory errors.Memory
+        (Tells request_refusal (IsUnsigned (RefusesSelfSigned (S.judge scheme.now) csr.now)))) }
 {
     match csr.verify(alloc, scheme) {
         Ok(()) => Ok(asked(alloc, csr)?),
@@ -140,9 +155,10 @@ fn requested<S: Scheme>(
 
 /// The name and the key of a request.
 fn asked(alloc: Global, csr: &Csr) -> Result<(DirectoryName, PublicKey), AllocError>
-    ensures { IfOk result (λ subject.
-        (sets_of subject.0 ≡ csr.now.request.certification_request_info.subject)
-        × (info_of subject.1 ≡ csr.now.request.certification_request_info.subject_public_key_info)) }
+    ensures { IfOk result
+        (λ subject. (sets_of subject.0 ≡ csr.now.request.certification_request_info.subject)
+        × (info_of subject.1
+        ≡ csr.now.request.certification_request_info.subject_public_key_info)) }
 {
     let name = csr.subject_name(alloc)?;
     Ok((name, csr.public_key().try_clone(alloc)?))

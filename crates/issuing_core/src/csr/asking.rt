@@ -35,7 +35,8 @@ fn asked_first(attributes: &[Attribute]) -> &[Extension]
 
 /// The first value of an attribute that asks for extensions.
 fn asked_by(values: &AttributeValues) -> Option<&Extensions>
-    ensures { MatchOption result (asked_by values.now ≡ None) (λ extensions. asked_by values.now ≡ Some extensions.now) }
+    ensures { MatchOption result (asked_by values.now ≡ None)
+        (λ extensions. asked_by values.now ≡ Some extensions.now) }
 {
     match values {
         AttributeValues::Extensions(requests) => requests.as_slice().first(),

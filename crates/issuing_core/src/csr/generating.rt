@@ -38,11 +38,16 @@ impl Csr {
     ) -> Result<Csr, CsrError>
         ensures answer { MatchResult result
             (IsGenerated (S.signs scheme.now) subject private_key.now signature_hash_type [])
-            (RefusesToGenerate (arithmetic (S.judge scheme.now) (S.signs scheme.now) (S.pair scheme.now)) subject private_key.now signature_hash_type []) }
+            (RefusesToGenerate
+            (arithmetic (S.judge scheme.now) (S.signs scheme.now) (S.pair scheme.now)) subject
+            private_key.now signature_hash_type []) }
         // A public key that is missing is told whatever memory there is.
-        ensures missing { (e : KeyError) → point_beside private_key.now ≡ None → IsMissingHalf (container_of private_key.now).private_key e → result ≡ Err (keyless e) }
+        ensures missing { (e : KeyError) → point_beside private_key.now ≡ None
+            → IsMissingHalf (container_of private_key.now).private_key e
+            → result ≡ Err (keyless e) }
         // It is accepted under a key that pairs with its public one.
-        ensures verifies { IfOk result (λ csr. IsKeyPair (S.pair scheme.now) private_key.now csr.request.certification_request_info.subject_public_key_info
+        ensures verifies { IfOk result (λ csr. IsKeyPair (S.pair scheme.now) private_key.now
+            csr.request.certification_request_info.subject_public_key_info
             → IsSelfSigned (S.judge scheme.now) csr) }
     {
         let attributes = AttributeList::new(alloc);
@@ -57,10 +62,10 @@ impl Csr {
     }
 
     /// A request for this name, the public key of the private one and these attributes, which the
-    /// private key signs (RFC 2986 4.2). It is refused by the first of these: `PrivateKeyToPublicKey`
-    /// where there is no public key, `Asn1Serialization` of what is signed, `Signature` where it
-    /// can't be signed, and then where the algorithm has no identifier, `Asn1Serialization` of the
-    /// request.
+    /// private key signs (RFC 2986 4.2). It is refused by the first of these:
+    /// `PrivateKeyToPublicKey` where there is no public key, `Asn1Serialization` of what is signed,
+    /// `Signature` where it can't be signed, and then where the algorithm has no identifier,
+    /// `Asn1Serialization` of the request.
     pub fn generate_with_attributes<S: Scheme>(
         alloc: Global,
         subject: DirectoryName,
@@ -70,12 +75,18 @@ impl Csr {
         scheme: &S,
     ) -> Result<Csr, CsrError>
         ensures answer { MatchResult result
-            (IsGenerated (S.signs scheme.now) subject private_key.now signature_hash_type attributes)
-            (RefusesToGenerate (arithmetic (S.judge scheme.now) (S.signs scheme.now) (S.pair scheme.now)) subject private_key.now signature_hash_type attributes) }
+            (IsGenerated (S.signs scheme.now) subject private_key.now signature_hash_type
+            attributes)
+            (RefusesToGenerate
+            (arithmetic (S.judge scheme.now) (S.signs scheme.now) (S.pair scheme.now)) subject
+            private_key.now signature_hash_type attributes) }
         // A public key that is missing is told whatever memory there is.
-        ensures missing { (e : KeyError) → point_beside private_key.now ≡ None → IsMissingHalf (container_of private_key.now).private_key e → result ≡ Err (keyless e) }
+        ensures missing { (e : KeyError) → point_beside private_key.now ≡ None
+            → IsMissingHalf (container_of private_key.now).private_key e
+            → result ≡ Err (keyless e) }
         // It is accepted under a key that pairs with its public one.
-        ensures verifies { IfOk result (λ csr. IsKeyPair (S.pair scheme.now) private_key.now csr.request.certification_request_info.subject_public_key_info
+        ensures verifies { IfOk result (λ csr. IsKeyPair (S.pair scheme.now) private_key.now
+            csr.request.certification_request_info.subject_public_key_info
             → IsSelfSigned (S.judge scheme.now) csr) }
     {
         match info_for(alloc, subject, private_key, attributes) {
@@ -92,8 +103,10 @@ fn info_for(
     private_key: &PrivateKey,
     attributes: AttributeList,
 ) -> Result<CertificationRequestInfo, CsrError>
-    ensures answer { MatchResult result (IsInfoFor subject private_key.now attributes) (HasNoHalf private_key.now) }
-    ensures missing { (e : KeyError) → point_beside private_key.now ≡ None → IsMissingHalf (container_of private_key.now).private_key e → result ≡ Err (keyless e) }
+    ensures answer { MatchResult result (IsInfoFor subject private_key.now attributes)
+        (HasNoHalf private_key.now) }
+    ensures missing { (e : KeyError) → point_beside private_key.now ≡ None
+        → IsMissingHalf (container_of private_key.now).private_key e → result ≡ Err (keyless e) }
 {
     match private_key.to_public_key(alloc) {
         Ok(public_key) => Ok(CertificationRequestInfo {
@@ -114,10 +127,14 @@ fn signed<S: Scheme>(
     scheme: &S,
 ) -> Result<Csr, CsrError>
     ensures answer { MatchResult result
-        (λ csr. IsRequestFor algorithm info csr × IsInfoSigned (S.signs scheme.now) private_key.now algorithm info)
-        (RefusesToMake (arithmetic (S.judge scheme.now) (S.signs scheme.now) (S.pair scheme.now)) private_key.now algorithm info) }
-    ensures verifies { IfOk result (λ csr. (key : SubjectPublicKeyInfo) → IsKeyPair (S.pair scheme.now) private_key.now key
-        → Accepts (S.judge scheme.now) algorithm key (encoding csr.info) (payload_of csr.request.signature)) }
+        (λ csr. IsRequestFor algorithm info csr
+        × IsInfoSigned (S.signs scheme.now) private_key.now algorithm info)
+        (RefusesToMake (arithmetic (S.judge scheme.now) (S.signs scheme.now) (S.pair scheme.now))
+        private_key.now algorithm info) }
+    ensures verifies { IfOk result
+        (λ csr. (key : SubjectPublicKeyInfo) → IsKeyPair (S.pair scheme.now) private_key.now key
+        → Accepts (S.judge scheme.now) algorithm key (encoding csr.info)
+        (payload_of csr.request.signature)) }
 {
     let signature = signature_of(alloc, &info, private_key, algorithm, scheme)?;
     let signature_algorithm = identifier_of(alloc, algorithm)?;
@@ -138,10 +155,15 @@ fn signature_of<S: Scheme>(
     scheme: &S,
 ) -> Result<BitString, CsrError>
     ensures answer { MatchResult result
-        (λ bits. (unused_of bits ≡ 0) × IsInfoWritten info.now × IsInfoSigned (S.signs scheme.now) private_key.now algorithm info.now)
-        (λ e. InfoUnwritten info.now e ⊎ (IsInfoWritten info.now × InfoUnsigned (S.signs scheme.now) private_key.now algorithm info.now e)) }
-    ensures verifies { IfOk result (λ bits. (key : SubjectPublicKeyInfo) → IsKeyPair (S.pair scheme.now) private_key.now key
-        → Accepts (S.judge scheme.now) algorithm key (encoding (request_info info.now)) (payload_of bits)) }
+        (λ bits. (unused_of bits ≡ 0) × IsInfoWritten info.now
+        × IsInfoSigned (S.signs scheme.now) private_key.now algorithm info.now)
+        (λ e. InfoUnwritten info.now e
+        ⊎ (IsInfoWritten info.now
+        × InfoUnsigned (S.signs scheme.now) private_key.now algorithm info.now e)) }
+    ensures verifies { IfOk result
+        (λ bits. (key : SubjectPublicKeyInfo) → IsKeyPair (S.pair scheme.now) private_key.now key
+        → Accepts (S.judge scheme.now) algorithm key (encoding (request_info info.now))
+        (payload_of bits)) }
 {
     let message = match info.to_der(alloc) {
         Ok(message) => message,
@@ -158,7 +180,8 @@ fn identifier_of(
     alloc: Global,
     algorithm: SignatureAlgorithm,
 ) -> Result<AlgorithmIdentifier, CsrError>
-    ensures { MatchResult result (IsWrittenAlgorithm algorithm) (IsUnsigned (IsUnwritable algorithm)) }
+    ensures { MatchResult result (IsWrittenAlgorithm algorithm)
+        (IsUnsigned (IsUnwritable algorithm)) }
 {
     match algorithm.to_algorithm_identifier(alloc) {
         Ok(id) => Ok(id),

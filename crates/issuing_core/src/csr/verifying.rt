@@ -25,8 +25,12 @@ impl Csr {
             (λ _. IsSelfSigned (S.judge scheme.now) self.now)
             (IsUnsigned (RefusesSelfSigned (S.judge scheme.now) self.now)) }
         // A key that the algorithm isn't for is refused whatever memory there is.
-        ensures refused { (algorithm : SignatureAlgorithm) (e : SignatureError) → NamesSignature self.now.request.signature_algorithm algorithm
-            → IsFirstBroken (key_rules algorithm self.now.request.certification_request_info.subject_public_key_info) e → result ≡ Err (unsigned e) }
+        ensures refused { (algorithm : SignatureAlgorithm) (e : SignatureError)
+            → NamesSignature self.now.request.signature_algorithm algorithm
+            → IsFirstBroken
+            (key_rules algorithm
+            self.now.request.certification_request_info.subject_public_key_info) e
+            → result ≡ Err (unsigned e) }
     {
         match self.judged(alloc, scheme) {
             Ok(()) => Ok(()),
@@ -39,8 +43,12 @@ impl Csr {
         ensures answer { MatchResult result
             (λ _. IsSelfSigned (S.judge scheme.now) self.now)
             (RefusesSelfSigned (S.judge scheme.now) self.now) }
-        ensures refused { (algorithm : SignatureAlgorithm) (e : SignatureError) → NamesSignature self.now.request.signature_algorithm algorithm
-            → IsFirstBroken (key_rules algorithm self.now.request.certification_request_info.subject_public_key_info) e → result ≡ Err e }
+        ensures refused { (algorithm : SignatureAlgorithm) (e : SignatureError)
+            → NamesSignature self.now.request.signature_algorithm algorithm
+            → IsFirstBroken
+            (key_rules algorithm
+            self.now.request.certification_request_info.subject_public_key_info) e
+            → result ≡ Err e }
     {
         let named = &self.signature_algorithm;
         let algorithm = SignatureAlgorithm::from_algorithm_identifier(alloc, named)?;

@@ -27,9 +27,9 @@ use std::alloc::{AllocError, Global};
 
 impl PrivateKey {
     /// The key of this secret and of the point of these coordinates on the curve, each the most
-    /// significant octet first. It is `EC` with `CoordinateSize` exactly where a coordinate hasn't as many octets as the
-    /// field of the curve. Neither the length of the secret is asked, nor whether the two belong
-    /// together.
+    /// significant octet first. It is `EC` with `CoordinateSize` exactly where a coordinate hasn't
+    /// as many octets as the field of the curve. Neither the length of the secret is asked, nor
+    /// whether the two belong together.
     pub fn from_ec_components(
         alloc: Global,
         curve: EcCurve,
@@ -41,7 +41,8 @@ impl PrivateKey {
             (IsGivenPointKey curve secret.now point_x.now point_y.now)
             (RefusesCoordinates curve point_x.now point_y.now) }
         // Coordinates of another length are refused, whatever memory there is.
-        ensures refused { (AreCoordinates curve point_x.now point_y.now → ⊥) → result ≡ Err (errors.EC contexts.CoordinateSize) }
+        ensures refused { (AreCoordinates curve point_x.now point_y.now → ⊥)
+            → result ≡ Err (errors.EC contexts.CoordinateSize) }
     {
         if !are_coordinates(curve, point_x, point_y) {
             return Err(KeyError::EC {
@@ -73,8 +74,9 @@ impl PrivateKey {
     }
 
     /// The key of this secret and of the public key of these octets, where one is given, on the
-    /// curve 25519 or 448 that the identifier names, which has to be that of Ed25519, X25519, Ed448 or
-    /// X448 (RFC 8410 3). How many octets there are isn't asked, nor whether the two belong together.
+    /// curve 25519 or 448 that the identifier names, which has to be that of Ed25519, X25519, Ed448
+    /// or X448 (RFC 8410 3). How many octets there are isn't asked, nor whether the two belong
+    /// together.
     pub fn from_ed_encoded_components(
         alloc: Global,
         algorithm_oid: ObjectIdentifier,
@@ -82,7 +84,8 @@ impl PrivateKey {
         public_key: Option<&[u8]>,
     ) -> Result<PrivateKey, AllocError>
         requires { NamesEd algorithm_oid }
-        ensures { IfOk result (IsGivenEdKey algorithm_oid secret.now (option_copied public_key.entry)) }
+        ensures { IfOk result
+            (IsGivenEdKey algorithm_oid secret.now (option_copied public_key.entry)) }
     {
         let version = version_beside(public_key);
         let public_key = bits_of(alloc, public_key)?;
@@ -120,7 +123,8 @@ fn given_key(
 
 /// The bits of octets, where there are any.
 fn bits_of(alloc: Global, octets: Option<&[u8]>) -> Result<Option<BitString>, AllocError>
-    ensures { IfOk result (λ bits. option_map bit_string_contents bits ≡ option_map whole_bits (option_copied octets.entry)) }
+    ensures { IfOk result (λ bits. option_map bit_string_contents bits
+        ≡ option_map whole_bits (option_copied octets.entry)) }
 {
     match octets {
         Some(octets) => Ok(Some(BitString::with_bytes(alloc, octets)?)),

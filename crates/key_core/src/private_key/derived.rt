@@ -25,7 +25,8 @@ pub(super) fn point_of<S: Scheme>(
 ) -> Result<Option<BitString>, KeyError>
     ensures { MatchResult result
         (IsPointOf (S.derives scheme.now) known key.now.private_key key.now.public_key)
-        (IsEcRefusal (RefusesPoint (S.derives scheme.now) known key.now.private_key key.now.public_key)) }
+        (IsEcRefusal
+        (RefusesPoint (S.derives scheme.now) known key.now.private_key key.now.public_key)) }
 {
     match (&key.public_key, known) {
         (Some(point), _) => Ok(Some(point.try_clone(alloc)?)),
@@ -62,8 +63,10 @@ fn derived_point<S: Scheme>(
     scheme: &S,
 ) -> Result<BitString, KeyError>
     ensures { MatchResult result
-        (λ point. IsDerived (S.derives scheme.now) (curve_kind curve) (field_size curve) secret.now (Some point))
-        (IsEcRefusal (RefusesDerived (S.derives scheme.now) (curve_kind curve) (field_size curve) secret.now)) }
+        (λ point. IsDerived (S.derives scheme.now) (curve_kind curve) (field_size curve) secret.now
+        (Some point))
+        (IsEcRefusal (RefusesDerived (S.derives scheme.now) (curve_kind curve) (field_size curve)
+        secret.now)) }
 {
     if secret.len() != curve.field_size() {
         return Err(KeyError::EC {

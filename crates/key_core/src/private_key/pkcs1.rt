@@ -32,17 +32,19 @@ use std::alloc::{AllocError, Global};
 
 impl PrivateKey {
     /// The key of RSA in octets, which are the encoding of an RSAPrivateKey of two primes (RFC 8017
-    /// A.1.2). The parameters of its algorithm are NULL. Octets that are no element, or one of another
-    /// structure, are refused as `Asn1Deserialization` without memory.
+    /// A.1.2). The parameters of its algorithm are NULL. Octets that are no element, or one of
+    /// another structure, are refused as `Asn1Deserialization` without memory.
     pub fn from_pkcs1(alloc: Global, der: &[u8]) -> Result<PrivateKey, KeyError>
         ensures answer { MatchResult result
             (IsPrivatePkcs1 der.now)
             (IsUnreadKey elements.RsaPrivateKey (RefusesOctets IsRsaPrivateKey der.now)) }
         // Octets with a fault are refused with it, whatever memory there is.
         ensures faulty { (at : ℕ) (fault : DerFault) → IsExactFault der.now at fault
-            → result ≡ Err (errors.Asn1Deserialization elements.RsaPrivateKey (der_errors.Malformed (record { at = at; fault = fault }))) }
+            → result ≡ Err (errors.Asn1Deserialization elements.RsaPrivateKey
+            (der_errors.Malformed (record { at = at; fault = fault }))) }
         // An element that is that of no key is refused as such, whatever memory there is.
-        ensures shapeless { (element : DerElement) → IsDer element → der.now ≡ encoding element → ((key : RsaPrivateKey) → IsRsaPrivateKey element key → ⊥)
+        ensures shapeless { (element : DerElement) → IsDer element → der.now ≡ encoding element
+            → ((key : RsaPrivateKey) → IsRsaPrivateKey element key → ⊥)
             → result ≡ Err (errors.Asn1Deserialization elements.RsaPrivateKey der_errors.Shape) }
     {
         match RsaPrivateKey::from_der(alloc, der) {
@@ -61,7 +63,8 @@ impl PrivateKey {
             (λ octets. IsPkcs1OfPrivate self.now.info.private_key octets.items)
             (RefusesPrivatePkcs1 self.now.info.private_key) }
         // A key of another kind is refused, whatever memory there is.
-        ensures refused { private_kind self.now.info.private_key ≢ kinds.Rsa → result ≡ Err (errors.Rsa contexts.NotRsa) }
+        ensures refused { private_kind self.now.info.private_key ≢ kinds.Rsa
+            → result ≡ Err (errors.Rsa contexts.NotRsa) }
     {
         match &self.info.private_key {
             PrivateKeyValue::Rsa(key) => written(alloc, key),
@@ -89,7 +92,8 @@ fn rsa_container(alloc: Global, key: RsaPrivateKey) -> Result<PrivateKeyInfo, Al
 /// The encoding of the key.
 fn written(alloc: Global, key: &RsaPrivateKey) -> Result<Vec<u8>, KeyError>
     ensures { MatchResult result
-        (λ octets. (octets.items ≡ encoding (rsa_private_key key.now)) × IsDer (rsa_private_key key.now))
+        (λ octets. (octets.items ≡ encoding (rsa_private_key key.now))
+        × IsDer (rsa_private_key key.now))
         (IsUnwrittenKey elements.RsaPrivateKey (RefusesInner (rsa_private_key key.now ∷ []))) }
 {
     match key.to_der(alloc) {

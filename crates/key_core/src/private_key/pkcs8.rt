@@ -39,25 +39,29 @@ use sig_core::Scheme;
 use std::alloc::Global;
 
 impl PrivateKey {
-    /// The key in octets, which are the encoding of a PrivateKeyInfo (RFC 5208 5, RFC 5958 2). One of
-    /// RSA or of a curve 25519 or 448 is kept as it was read. The public key of Ed25519 and X25519
-    /// is what the scheme derives, whatever stands beside the private one; the key is refused as
-    /// `ED` where the secret hasn't 32 octets or the scheme derives none. That of Ed448 and X448 is
-    /// missing. A key of an elliptic curve is written anew on the curve that the parameters name, and
-    /// refused as `EC` where they name none; its point is had as by `from_ec_der_with_curve_oid`.
-    /// Octets that are no element, or one of another structure, are refused as `Asn1Deserialization`,
-    /// whatever memory there is.
+    /// The key in octets, which are the encoding of a PrivateKeyInfo (RFC 5208 5, RFC 5958 2). One
+    /// of RSA or of a curve 25519 or 448 is kept as it was read. The public key of Ed25519 and
+    /// X25519 is what the scheme derives, whatever stands beside the private one; the key is
+    /// refused as `ED` where the secret hasn't 32 octets or the scheme derives none. That of Ed448
+    /// and X448 is
+    /// missing. A key of an elliptic curve is written anew on the curve that the parameters name,
+    /// and refused as `EC` where they name none; its point is had as by
+    /// `from_ec_der_with_curve_oid`. Octets that are no element, or one of another structure, are
+    /// refused as `Asn1Deserialization`, whatever memory there is.
     pub fn from_pkcs8<S: Scheme>(
         alloc: Global,
         der: &[u8],
         scheme: &S,
     ) -> Result<PrivateKey, KeyError>
-        ensures answer { MatchResult result (IsPkcs8Key (S.derives scheme.now) der.now) (RefusesPkcs8 (S.derives scheme.now) der.now) }
+        ensures answer { MatchResult result (IsPkcs8Key (S.derives scheme.now) der.now)
+            (RefusesPkcs8 (S.derives scheme.now) der.now) }
         // Octets with a fault are refused with it, whatever memory there is.
         ensures faulty { (at : ℕ) (fault : DerFault) → IsExactFault der.now at fault
-            → result ≡ Err (errors.Asn1Deserialization elements.PrivateKeyInfo (der_errors.Malformed (record { at = at; fault = fault }))) }
+            → result ≡ Err (errors.Asn1Deserialization elements.PrivateKeyInfo
+            (der_errors.Malformed (record { at = at; fault = fault }))) }
         // An element that is that of no key is refused as such, whatever memory there is.
-        ensures shapeless { (element : DerElement) → IsDer element → der.now ≡ encoding element → ((info : PrivateKeyInfo) → IsPrivateKeyInfo element info → ⊥)
+        ensures shapeless { (element : DerElement) → IsDer element → der.now ≡ encoding element
+            → ((info : PrivateKeyInfo) → IsPrivateKeyInfo element info → ⊥)
             → result ≡ Err (errors.Asn1Deserialization elements.PrivateKeyInfo der_errors.Shape) }
     {
         match PrivateKeyInfo::from_der(alloc, der) {
@@ -98,8 +102,11 @@ fn kept_ec<S: Scheme>(
     scheme: &S,
 ) -> Result<PrivateKey, KeyError>
     ensures { MatchResult result
-        (λ made. (curve : ObjectIdentifier) × (kept_option (parameters_of algorithm.now) ≡ Some (object_identifier curve)) × IsCurveKey (S.derives scheme.now) curve key.now made)
-        (IsEcRefusal (RefusesEcInfo (S.derives scheme.now) key.now (kept_option (parameters_of algorithm.now)))) }
+        (λ made. (curve : ObjectIdentifier)
+        × (kept_option (parameters_of algorithm.now) ≡ Some (object_identifier curve))
+        × IsCurveKey (S.derives scheme.now) curve key.now made)
+        (IsEcRefusal (RefusesEcInfo (S.derives scheme.now) key.now
+        (kept_option (parameters_of algorithm.now)))) }
 {
     match curve_octets(algorithm) {
         Some(octets) => {
@@ -117,8 +124,11 @@ fn kept_ec<S: Scheme>(
 /// The contents octets of the identifier that the parameters of an algorithm are.
 pub(crate) fn curve_octets(algorithm: &AlgorithmIdentifier) -> Option<&[u8]>
     ensures { MatchOption result
-        ((curve : ObjectIdentifier) → kept_option (parameters_of algorithm.now) ≢ Some (object_identifier curve))
-        (λ octets. (curve : ObjectIdentifier) × (kept_option (parameters_of algorithm.now) ≡ Some (object_identifier curve)) × (identifier_contents curve ≡ octets.now)) }
+        ((curve : ObjectIdentifier)
+        → kept_option (parameters_of algorithm.now) ≢ Some (object_identifier curve))
+        (λ octets. (curve : ObjectIdentifier)
+        × (kept_option (parameters_of algorithm.now) ≡ Some (object_identifier curve))
+        × (identifier_contents curve ≡ octets.now)) }
 {
     match algorithm.parameters() {
         Some(parameters) => identifier_at(parameters.elem()),
@@ -130,7 +140,9 @@ pub(crate) fn curve_octets(algorithm: &AlgorithmIdentifier) -> Option<&[u8]>
 fn identifier_at<'a>(elem: Elem<'a>) -> Option<&'a [u8]>
     ensures { MatchOption result
         ((identifier : ObjectIdentifier) → elem.entry.is.0 ≢ object_identifier identifier)
-        (λ octets. (identifier : ObjectIdentifier) × (elem.entry.is.0 ≡ object_identifier identifier) × (identifier_contents identifier ≡ octets.now)) }
+        (λ octets. (identifier : ObjectIdentifier)
+        × (elem.entry.is.0 ≡ object_identifier identifier)
+        × (identifier_contents identifier ≡ octets.now)) }
 {
     if !ObjectIdentifier::has_shape(elem) {
         return None;
@@ -149,8 +161,11 @@ fn ed_key<S: Scheme>(
     scheme: &S,
 ) -> Result<Option<BitString>, KeyError>
     ensures { MatchResult result
-        (λ public_key. (known : Option EdAlgorithm) × IsEdOf (identifier_contents algorithm.now) known × IsEdKeyOf (S.derives scheme.now) known secret.now public_key)
-        (IsEdRefusal (RefusesEdInfo (S.derives scheme.now) secret.now (identifier_contents algorithm.now))) }
+        (λ public_key. (known : Option EdAlgorithm)
+        × IsEdOf (identifier_contents algorithm.now) known
+        × IsEdKeyOf (S.derives scheme.now) known secret.now public_key)
+        (IsEdRefusal
+        (RefusesEdInfo (S.derives scheme.now) secret.now (identifier_contents algorithm.now))) }
 {
     match ed_key_of(alloc, known_algorithm(algorithm), secret, scheme) {
         Ok(public_key) => Ok(public_key),

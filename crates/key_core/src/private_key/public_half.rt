@@ -19,10 +19,12 @@ impl PrivateKey {
     /// or derived. It is `EC` or `ED` with `PublicKeyMissing` exactly where there is none.
     pub fn to_public_key(&self, alloc: Global) -> Result<PublicKey, KeyError>
         ensures answer { MatchResult result
-            (λ key. IsPublicHalf self.now.info.private_key self.now.info.private_key_algorithm self.now.public_key key.info)
+            (λ key. IsPublicHalf self.now.info.private_key self.now.info.private_key_algorithm
+            self.now.public_key key.info)
             (RefusesPublicHalf self.now.info.private_key self.now.public_key) }
         // A public key that is missing is told, whatever memory there is.
-        ensures missing { (e : KeyError) → self.now.public_key ≡ None → IsMissingHalf self.now.info.private_key e → result ≡ Err e }
+        ensures missing { (e : KeyError) → self.now.public_key ≡ None
+            → IsMissingHalf self.now.info.private_key e → result ≡ Err e }
     {
         let algorithm = &self.info.private_key_algorithm;
         match (&self.info.private_key, &self.public_key) {

@@ -33,23 +33,25 @@ use std::alloc::Global;
 impl PrivateKey {
     /// The key of an elliptic curve in octets, which are the encoding of an ECPrivateKey (RFC 5915
     /// 3), on the curve that stands in it; it is refused as `EC` where none does. Where no point
-    /// stands in it and the curve is known, the scheme derives one; the key is refused as `EC` where
-    /// the secret hasn't as many octets as the field then, or the scheme derives none. Where the curve
-    /// isn't known the point stays missing. Octets that are no element, or one of another structure,
-    /// are refused as `Asn1Deserialization`, whatever memory there is.
+    /// stands in it and the curve is known, the scheme derives one; the key is refused as `EC`
+    /// where the secret hasn't as many octets as the field then, or the scheme derives none. Where
+    /// the curve isn't known the point stays missing. Octets that are no element, or one of another
+    /// structure, are refused as `Asn1Deserialization`, whatever memory there is.
     pub fn from_ec_der<S: Scheme>(
         alloc: Global,
         der: &[u8],
         scheme: &S,
     ) -> Result<PrivateKey, KeyError>
-        ensures answer { MatchResult result
-            (IsSec1Key (S.derives scheme.now) der.now)
-            (RefusesSec1 (λ read. RefusesOwnCurve (S.derives scheme.now) read.parameters read) der.now) }
+        ensures answer { MatchResult result (IsSec1Key (S.derives scheme.now) der.now)
+            (RefusesSec1 (λ read. RefusesOwnCurve (S.derives scheme.now) read.parameters read)
+            der.now) }
         // Octets with a fault are refused with it, whatever memory there is.
         ensures faulty { (at : ℕ) (fault : DerFault) → IsExactFault der.now at fault
-            → result ≡ Err (errors.Asn1Deserialization elements.EcPrivateKey (der_errors.Malformed (record { at = at; fault = fault }))) }
+            → result ≡ Err (errors.Asn1Deserialization elements.EcPrivateKey
+            (der_errors.Malformed (record { at = at; fault = fault }))) }
         // An element that is that of no key is refused as such, whatever memory there is.
-        ensures shapeless { (element : DerElement) → IsDer element → der.now ≡ encoding element → ((key : ECPrivateKey) → IsECPrivateKey element key → ⊥)
+        ensures shapeless { (element : DerElement) → IsDer element → der.now ≡ encoding element
+            → ((key : ECPrivateKey) → IsECPrivateKey element key → ⊥)
             → result ≡ Err (errors.Asn1Deserialization elements.EcPrivateKey der_errors.Shape) }
     {
         match read(alloc, der) {
@@ -70,9 +72,11 @@ impl PrivateKey {
             (RefusesSec1 (RefusesKnownCurve (S.derives scheme.now) curve) der.now) }
         // Octets with a fault are refused with it, whatever memory there is.
         ensures faulty { (at : ℕ) (fault : DerFault) → IsExactFault der.now at fault
-            → result ≡ Err (errors.Asn1Deserialization elements.EcPrivateKey (der_errors.Malformed (record { at = at; fault = fault }))) }
+            → result ≡ Err (errors.Asn1Deserialization elements.EcPrivateKey
+            (der_errors.Malformed (record { at = at; fault = fault }))) }
         // An element that is that of no key is refused as such, whatever memory there is.
-        ensures shapeless { (element : DerElement) → IsDer element → der.now ≡ encoding element → ((key : ECPrivateKey) → IsECPrivateKey element key → ⊥)
+        ensures shapeless { (element : DerElement) → IsDer element → der.now ≡ encoding element
+            → ((key : ECPrivateKey) → IsECPrivateKey element key → ⊥)
             → result ≡ Err (errors.Asn1Deserialization elements.EcPrivateKey der_errors.Shape) }
     {
         match read(alloc, der) {
@@ -94,9 +98,11 @@ impl PrivateKey {
             (RefusesSec1 (RefusesCurveKey (S.derives scheme.now) curve_oid) der.now) }
         // Octets with a fault are refused with it, whatever memory there is.
         ensures faulty { (at : ℕ) (fault : DerFault) → IsExactFault der.now at fault
-            → result ≡ Err (errors.Asn1Deserialization elements.EcPrivateKey (der_errors.Malformed (record { at = at; fault = fault }))) }
+            → result ≡ Err (errors.Asn1Deserialization elements.EcPrivateKey
+            (der_errors.Malformed (record { at = at; fault = fault }))) }
         // An element that is that of no key is refused as such, whatever memory there is.
-        ensures shapeless { (element : DerElement) → IsDer element → der.now ≡ encoding element → ((key : ECPrivateKey) → IsECPrivateKey element key → ⊥)
+        ensures shapeless { (element : DerElement) → IsDer element → der.now ≡ encoding element
+            → ((key : ECPrivateKey) → IsECPrivateKey element key → ⊥)
             → result ≡ Err (errors.Asn1Deserialization elements.EcPrivateKey der_errors.Shape) }
     {
         match read(alloc, der) {
@@ -112,8 +118,10 @@ fn read(alloc: Global, der: &[u8]) -> Result<ECPrivateKey, KeyError>
         (IsWithin IsECPrivateKey der.now)
         (IsUnreadKey elements.EcPrivateKey (RefusesOctets IsECPrivateKey der.now)) }
     ensures faulty { (at : ℕ) (fault : DerFault) → IsExactFault der.now at fault
-        → result ≡ Err (errors.Asn1Deserialization elements.EcPrivateKey (der_errors.Malformed (record { at = at; fault = fault }))) }
-    ensures shapeless { (element : DerElement) → IsDer element → der.now ≡ encoding element → ((key : ECPrivateKey) → IsECPrivateKey element key → ⊥)
+        → result ≡ Err (errors.Asn1Deserialization elements.EcPrivateKey
+        (der_errors.Malformed (record { at = at; fault = fault }))) }
+    ensures shapeless { (element : DerElement) → IsDer element → der.now ≡ encoding element
+        → ((key : ECPrivateKey) → IsECPrivateKey element key → ⊥)
         → result ≡ Err (errors.Asn1Deserialization elements.EcPrivateKey der_errors.Shape) }
 {
     match ECPrivateKey::from_der(alloc, der) {
@@ -129,7 +137,8 @@ fn own_curve_key<S: Scheme>(
     scheme: &S,
 ) -> Result<PrivateKey, KeyError>
     ensures { MatchResult result
-        (λ key. (curve : ObjectIdentifier) × (read.now.parameters ≡ Some curve) × IsCurveKey (S.derives scheme.now) curve read.now key)
+        (λ key. (curve : ObjectIdentifier) × (read.now.parameters ≡ Some curve)
+        × IsCurveKey (S.derives scheme.now) curve read.now key)
         (IsEcRefusal (RefusesOwnCurve (S.derives scheme.now) read.now.parameters read.now)) }
 {
     match &read.parameters {
@@ -148,7 +157,8 @@ fn known_curve_key<S: Scheme>(
     scheme: &S,
 ) -> Result<PrivateKey, KeyError>
     ensures { MatchResult result
-        (λ key. (oid : ObjectIdentifier) × (identifier_contents oid ≡ curve_identifier curve) × IsCurveKey (S.derives scheme.now) oid read.now key)
+        (λ key. (oid : ObjectIdentifier) × (identifier_contents oid ≡ curve_identifier curve)
+        × IsCurveKey (S.derives scheme.now) oid read.now key)
         (IsEcRefusal (RefusesKnownCurve (S.derives scheme.now) curve read.now)) }
 {
     let oid = curve.to_oid(alloc)?;

@@ -15,8 +15,8 @@ const UNCOMPRESSED: u8 = 4;
 
 impl PublicKey {
     /// The point of these coordinates on the curve, each the most significant octet first. It is
-    /// `EC` exactly where one hasn't as many octets as the field of the curve. Whether the point lies
-    /// on the curve isn't asked.
+    /// `EC` exactly where one hasn't as many octets as the field of the curve. Whether the point
+    /// lies on the curve isn't asked.
     pub fn from_ec_components(
         alloc: Global,
         curve: EcCurve,
@@ -27,7 +27,8 @@ impl PublicKey {
             (λ key. IsPointKey curve x.now y.now key.info)
             (RefusesCoordinates curve x.now y.now) }
         // Coordinates of another length are refused, whatever memory there is.
-        ensures refused { (AreCoordinates curve x.now y.now → ⊥) → result ≡ Err (errors.EC contexts.CoordinateSize) }
+        ensures refused { (AreCoordinates curve x.now y.now → ⊥)
+            → result ≡ Err (errors.EC contexts.CoordinateSize) }
     {
         if !are_coordinates(curve, x, y) {
             return Err(KeyError::EC {

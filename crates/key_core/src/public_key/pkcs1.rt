@@ -26,17 +26,19 @@ use std::alloc::Global;
 
 impl PublicKey {
     /// The key of RSA in octets, which are the encoding of an RSAPublicKey (RFC 8017 A.1.1). The
-    /// parameters of its algorithm are NULL. Octets that are no element, or one of another structure,
-    /// are refused as `Asn1Deserialization` without memory.
+    /// parameters of its algorithm are NULL. Octets that are no element, or one of another
+    /// structure, are refused as `Asn1Deserialization` without memory.
     pub fn from_pkcs1(alloc: Global, der: &[u8]) -> Result<PublicKey, KeyError>
         ensures answer { MatchResult result
             (λ key. IsPkcs1Key der.now key.info)
             (IsUnreadKey elements.RsaPublicKey (RefusesOctets IsRsaPublicKey der.now)) }
         // Octets with a fault are refused with it, whatever memory there is.
         ensures faulty { (at : ℕ) (fault : DerFault) → IsExactFault der.now at fault
-            → result ≡ Err (errors.Asn1Deserialization elements.RsaPublicKey (der_errors.Malformed (record { at = at; fault = fault }))) }
+            → result ≡ Err (errors.Asn1Deserialization elements.RsaPublicKey
+            (der_errors.Malformed (record { at = at; fault = fault }))) }
         // An element that is that of no key is refused as such, whatever memory there is.
-        ensures shapeless { (element : DerElement) → IsDer element → der.now ≡ encoding element → ((key : RsaPublicKey) → IsRsaPublicKey element key → ⊥)
+        ensures shapeless { (element : DerElement) → IsDer element → der.now ≡ encoding element
+            → ((key : RsaPublicKey) → IsRsaPublicKey element key → ⊥)
             → result ≡ Err (errors.Asn1Deserialization elements.RsaPublicKey der_errors.Shape) }
     {
         match RsaPublicKey::from_der(alloc, der) {
@@ -54,7 +56,8 @@ impl PublicKey {
             (λ octets. IsPkcs1Of self.now.info.subject_public_key octets.items)
             (RefusesPkcs1 self.now.info.subject_public_key) }
         // A key of another kind is refused, whatever memory there is.
-        ensures refused { kind_of_key self.now.info.subject_public_key ≢ kinds.Rsa → result ≡ Err (errors.Rsa contexts.NotRsa) }
+        ensures refused { kind_of_key self.now.info.subject_public_key ≢ kinds.Rsa
+            → result ≡ Err (errors.Rsa contexts.NotRsa) }
     {
         match &self.info.subject_public_key {
             SubjectKey::Rsa(key) => written(alloc, key),
@@ -68,7 +71,8 @@ impl PublicKey {
 /// The encoding of the key.
 fn written(alloc: Global, key: &RsaPublicKey) -> Result<Vec<u8>, KeyError>
     ensures { MatchResult result
-        (λ octets. (octets.items ≡ encoding (rsa_public_key key.now)) × IsDer (rsa_public_key key.now))
+        (λ octets. (octets.items ≡ encoding (rsa_public_key key.now))
+        × IsDer (rsa_public_key key.now))
         (IsUnwrittenKey elements.RsaPublicKey (RefusesInner (rsa_public_key key.now ∷ []))) }
 {
     match key.to_der(alloc) {

@@ -33,8 +33,8 @@ use std::alloc::Global;
 impl SignatureAlgorithm {
     /// A signature of the message by the key, as the scheme makes it. The key has to be one for the
     /// algorithm: of its kind, for ECDSA on P-256 with SHA-256, on P-384 with SHA-384, or on P-521
-    /// with SHA-512, with a secret of the field's size; for Ed25519 with a public key, and 32 octets
-    /// in both.
+    /// with SHA-512, with a secret of the field's size; for Ed25519 with a public key, and 32
+    /// octets in both.
     pub fn sign<S: Scheme>(
         self,
         alloc: Global,
@@ -46,10 +46,12 @@ impl SignatureAlgorithm {
             (λ _. IsAsked (S.signs scheme.now) self private_key.now msg.now true)
             (RefusesSignatureBy (sign_rules (S.signs scheme.now) self private_key.now msg.now)) }
         // What is made is accepted under each public key of the pair.
-        ensures accepted { IfOk result (λ sig. (info : SubjectPublicKeyInfo) → IsKeyPair (S.pair scheme.now) private_key.now info
+        ensures accepted { IfOk result (λ sig. (info : SubjectPublicKeyInfo)
+            → IsKeyPair (S.pair scheme.now) private_key.now info
             → Accepts (S.judge scheme.now) self info msg.now sig.items) }
         // A key that isn't one for the algorithm is refused, whatever memory there is.
-        ensures refused { (e : SignatureError) → IsFirstBroken (secret_rules self private_key.now) e → result ≡ Err e }
+        ensures refused { (e : SignatureError) → IsFirstBroken (secret_rules self private_key.now) e
+            → result ≡ Err e }
     {
         match self {
             SignatureAlgorithm::RsaPkcs1v15(hash) => {
@@ -79,10 +81,11 @@ impl SignatureAlgorithm {
         msg: &[u8],
         scheme: &S,
     ) -> Result<Vec<u8>, SignatureError>
-        ensures signed { MatchResult result
-            (λ _. S.signs scheme.now alg secret.now msg.now ≡ true)
-            (OrMemory errors.Memory (λ e. (S.signs scheme.now alg secret.now msg.now ≡ false) × (e ≡ scheme_refused self))) }
-        ensures accepted { IfOk result (λ sig. (key : List ℕ) → S.pair scheme.now (kind_of_algorithm alg) key secret.now
+        ensures signed { MatchResult result (λ _. S.signs scheme.now alg secret.now msg.now ≡ true)
+            (OrMemory errors.Memory (λ e. (S.signs scheme.now alg secret.now msg.now ≡ false)
+            × (e ≡ scheme_refused self))) }
+        ensures accepted { IfOk result
+            (λ sig. (key : List ℕ) → S.pair scheme.now (kind_of_algorithm alg) key secret.now
             → S.judge scheme.now alg key msg.now sig.items ≡ verdicts.Accept) }
     {
         match scheme.sign(alloc, alg, secret, msg) {
@@ -109,7 +112,8 @@ impl SignatureAlgorithm {
 fn rsa_secret(alloc: Global, private_key: &PrivateKey) -> Result<Vec<u8>, SignatureError>
     ensures answer { MatchResult result
         (λ secret. IsPkcs1OfPrivate private_key.now.info.private_key secret.items)
-        (RefusesSignatureBy (NotRsaSecret private_key.now ∷ UnwritableSecret private_key.now ∷ [])) }
+        (RefusesSignatureBy
+        (NotRsaSecret private_key.now ∷ UnwritableSecret private_key.now ∷ [])) }
     ensures refused { (e : SignatureError) → NotRsaSecret private_key.now e → result ≡ Err e }
 {
     Ok(private_key.to_pkcs1(alloc)?)
@@ -148,7 +152,8 @@ fn secret_on(
 fn signing_curve(private_key: &PrivateKey, hash: HashAlgorithm) -> Result<EcCurve, SignatureError>
     ensures { MatchResult result
         (λ curve. HasCurveOf private_key.now curve × (curve_for hash ≡ Some curve))
-        (IsFirstBroken (UnknownCurveOf private_key.now ∷ UnpairedSecret private_key.now hash ∷ [])) }
+        (IsFirstBroken
+        (UnknownCurveOf private_key.now ∷ UnpairedSecret private_key.now hash ∷ [])) }
 {
     let Some(curve) = curve_of(&private_key.info.private_key_algorithm) else {
         return Err(SignatureError::Key {
@@ -201,8 +206,10 @@ fn ed25519_secret(private_key: &PrivateKey) -> Result<&[u8], SignatureError>
 /// The secret, where it and the public key have as many octets as those of Ed25519.
 fn sized_secret<'a>(secret: &'a [u8], bits: &BitString) -> Result<&'a [u8], SignatureError>
     ensures { MatchResult result
-        (λ octets. (octets.now ≡ secret.now) × (length (payload_of bits.now) ≡ 32) × (length secret.now ≡ 32))
-        (λ e. ((length (payload_of bits.now) ≡ 32) × (length secret.now ≡ 32) → ⊥) × (e ≡ errors.Ed contexts.KeySize)) }
+        (λ octets. (octets.now ≡ secret.now) × (length (payload_of bits.now) ≡ 32)
+        × (length secret.now ≡ 32))
+        (λ e. ((length (payload_of bits.now) ≡ 32) × (length secret.now ≡ 32) → ⊥)
+        × (e ≡ errors.Ed contexts.KeySize)) }
 {
     if bits.payload_view().len() != ED25519_LEN || secret.len() != ED25519_LEN {
         return Err(SignatureError::Ed {

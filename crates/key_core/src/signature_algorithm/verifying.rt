@@ -49,17 +49,19 @@ impl SignatureAlgorithm {
     ) -> Result<(), SignatureError>
         ensures answer { MatchResult result
             (λ _. Accepts (S.judge scheme.now) self public_key.now.info msg.now signature.now)
-            (RefusesSignatureBy (verify_rules (S.judge scheme.now) self public_key.now.info msg.now signature.now)) }
+            (RefusesSignatureBy (verify_rules (S.judge scheme.now) self public_key.now.info msg.now
+            signature.now)) }
         // A key that isn't one for the algorithm is refused, whatever memory there is.
-        ensures refused { (e : SignatureError) → IsFirstBroken (key_rules self public_key.now.info) e → result ≡ Err e }
+        ensures refused { (e : SignatureError)
+            → IsFirstBroken (key_rules self public_key.now.info) e → result ≡ Err e }
     {
         let verdict = self.verdict(alloc, public_key, msg, signature, scheme)?;
         self.told(verdict)
     }
 
-    /// The same, where the caller has the octets of a key of RSA, those that `to_pkcs1` gives: they are
-    /// lent to the scheme, so of no key an encoding is made. Of a key of another kind they aren't
-    /// looked at.
+    /// The same, where the caller has the octets of a key of RSA, those that `to_pkcs1` gives: they
+    /// are lent to the scheme, so of no key an encoding is made. Of a key of another kind they
+    /// aren't looked at.
     pub fn verify_by<S: Scheme>(
         self,
         alloc: Global,
@@ -69,11 +71,14 @@ impl SignatureAlgorithm {
         signature: &[u8],
         scheme: &S,
     ) -> Result<(), SignatureError>
-        requires { (key : RsaPublicKey) → public_key.now.info.subject_public_key ≡ keys.Rsa key → IsPkcs1Of (keys.Rsa key) octets.now }
+        requires { (key : RsaPublicKey) → public_key.now.info.subject_public_key ≡ keys.Rsa key
+            → IsPkcs1Of (keys.Rsa key) octets.now }
         ensures answer { MatchResult result
             (λ _. Accepts (S.judge scheme.now) self public_key.now.info msg.now signature.now)
-            (RefusesSignatureBy (verify_rules (S.judge scheme.now) self public_key.now.info msg.now signature.now)) }
-        ensures refused { (e : SignatureError) → IsFirstBroken (key_rules self public_key.now.info) e → result ≡ Err e }
+            (RefusesSignatureBy (verify_rules (S.judge scheme.now) self public_key.now.info msg.now
+            signature.now)) }
+        ensures refused { (e : SignatureError)
+            → IsFirstBroken (key_rules self public_key.now.info) e → result ≡ Err e }
     {
         let verdict = self.verdict_by(alloc, public_key, octets, msg, signature, scheme)?;
         self.told(verdict)
@@ -89,11 +94,14 @@ impl SignatureAlgorithm {
         signature: &[u8],
         scheme: &S,
     ) -> Result<Verdict, SignatureError>
-        requires { (key : RsaPublicKey) → public_key.now.info.subject_public_key ≡ keys.Rsa key → IsPkcs1Of (keys.Rsa key) octets.now }
+        requires { (key : RsaPublicKey) → public_key.now.info.subject_public_key ≡ keys.Rsa key
+            → IsPkcs1Of (keys.Rsa key) octets.now }
         ensures answer { MatchResult result
             (IsJudged (S.judge scheme.now) self public_key.now.info msg.now signature.now)
-            (RefusesSignatureBy (key_rules self public_key.now.info ++ Unwritable public_key.now.info ∷ [])) }
-        ensures refused { (e : SignatureError) → IsFirstBroken (key_rules self public_key.now.info) e → result ≡ Err e }
+            (RefusesSignatureBy
+            (key_rules self public_key.now.info ++ Unwritable public_key.now.info ∷ [])) }
+        ensures refused { (e : SignatureError)
+            → IsFirstBroken (key_rules self public_key.now.info) e → result ≡ Err e }
     {
         let SignatureAlgorithm::RsaPkcs1v15(hash) = self else {
             return self.verdict(alloc, public_key, msg, signature, scheme);
@@ -113,8 +121,10 @@ impl SignatureAlgorithm {
     ) -> Result<Verdict, SignatureError>
         ensures answer { MatchResult result
             (IsJudged (S.judge scheme.now) self public_key.now.info msg.now signature.now)
-            (RefusesSignatureBy (key_rules self public_key.now.info ++ Unwritable public_key.now.info ∷ [])) }
-        ensures refused { (e : SignatureError) → IsFirstBroken (key_rules self public_key.now.info) e → result ≡ Err e }
+            (RefusesSignatureBy
+            (key_rules self public_key.now.info ++ Unwritable public_key.now.info ∷ [])) }
+        ensures refused { (e : SignatureError)
+            → IsFirstBroken (key_rules self public_key.now.info) e → result ≡ Err e }
     {
         match self {
             SignatureAlgorithm::RsaPkcs1v15(hash) => {
@@ -134,8 +144,9 @@ impl SignatureAlgorithm {
 
     /// What is told of a verdict.
     fn told(self, verdict: Verdict) -> Result<(), SignatureError>
-        ensures { (judge : Judge) (info : SubjectPublicKeyInfo) (msg sig : List ℕ) → IsJudged judge self info msg sig verdict → MatchResult result
-            (λ _. Accepts judge self info msg sig)
+        ensures { (judge : Judge) (info : SubjectPublicKeyInfo) (msg sig : List ℕ)
+            → IsJudged judge self info msg sig verdict
+            → MatchResult result (λ _. Accepts judge self info msg sig)
             (RefusesSignatureBy (verify_rules judge self info msg sig)) }
     {
         match verdict {
@@ -205,7 +216,8 @@ fn point_of(public_key: &PublicKey, hash: HashAlgorithm) -> Result<(SigAlg, &[u8
 /// What a scheme calls ECDSA with the digest by keys on the curve of the key.
 fn paired(info: &SubjectPublicKeyInfo, hash: HashAlgorithm) -> Result<SigAlg, SignatureError>
     ensures { MatchResult result
-        (λ alg. (curve : EcCurve) × (curve_for hash ≡ Some curve) × (alg ≡ ecdsa_alg curve) × IsOnCurve info.now curve)
+        (λ alg. (curve : EcCurve) × (curve_for hash ≡ Some curve) × (alg ≡ ecdsa_alg curve)
+        × IsOnCurve info.now curve)
         (IsFirstBroken (UnknownCurve info.now ∷ UnknownHash hash ∷ Unpaired info.now hash ∷ [])) }
 {
     let Some(curve) = curve_of(&info.algorithm) else {
