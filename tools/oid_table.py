@@ -268,8 +268,9 @@ def listed():
 
 
 def stands_in(lines, file):
-    """Whether the lines stand in the file as they are here."""
-    return "\n".join(lines).strip() in (CRATE / file).read_text(encoding="utf-8")
+    """Whether the words of the lines stand in the file, wherever it breaks them."""
+    text = (CRATE / file).read_text(encoding="utf-8")
+    return " ".join(" ".join(lines).split()) in " ".join(text.split())
 
 
 # Who prints the lines of a file, and the file.
