@@ -22,6 +22,10 @@ integer value = Primitive 0x02 (integer_contents value)
 abbrev pub bit_string : BitString → DerElement
 bit_string value = Primitive 0x03 (bit_string_contents value)
 
+-- an OBJECT IDENTIFIER of these contents octets (X.690 8.19)
+abbrev pub object_identifier_of : List ℕ → DerElement
+object_identifier_of contents = Primitive 0x06 contents
+
 -- OBJECT IDENTIFIER (X.690 8.19)
 abbrev pub object_identifier : ObjectIdentifier → DerElement
 object_identifier value = Primitive 0x06 (identifier_contents value)

@@ -11,7 +11,6 @@ use Rattle.sig_core.specs.declared.sha_variant.ShaVariant.{ShaVariant}
 use Rattle.authenticode_core.specs.SigningRules.{NamesDigest}
 use Rattle.authenticode_core.specs.SigningSteps.{IsOfIdentifier}
 
--- octets are kept for one element
 pub kept_once : (octets : List ℕ) (a b : DerElement) → IsKept octets a → IsKept octets b → a ≡ b
 kept_once octets a b p q = formed_encoding_once a b p.0.formed q.0.formed (sym p.1 ∙ q.1)
 

@@ -116,7 +116,6 @@ digest_or_none now None g kids values others first are is values_are none = λ d
     none digest same
 digest_or_none now (Some k) g kids values others first are is values_are first_is = has_digest g kids values others first (now k) are is values_are first_is
 
--- ---- the attributes of a signer
 
 none_listed : (element : DerElement) → kids_of element ≡ None → members_of (Some element) ≡ []
 none_listed (Primitive tag content) e = refl

@@ -25,12 +25,12 @@ use Rattle.content_types.specs.declared.content_kind.ContentKind.{ContentKind}
 use Rattle.content_types.specs.declared.content_kind.ContentKind.TheVariants as kinds
 use Rattle.content_types.specs.declared.content_value.ContentValue.{ContentValue}
 use Rattle.content_types.specs.declared.content_value.ContentValue.TheVariants as contents
+use Rattle.der_core.specs.Optional.{members_of}
 use Rattle.der_core.specs.DerElement.{DerElement, Primitive, Constructed, row}
 use Rattle.der_core.specs.Elements.{sequence}
 use Rattle.der_core.specs.Facts.Rows.{listed-row}
 use Rattle.key_types.specs.AlgorithmIdentifier.{algorithm_identifier}
 use Rattle.content_types.specs.SpcAttribute.{spc_attribute}
-use Rattle.authenticode_core.specs.CertificateBag.{members_of}
 use Rattle.authenticode_core.specs.Form.{AreSpelled}
 use Rattle.authenticode_core.specs.SignedFields.{HasVersion, HasSignedContent, HasIndirectData, IndirectData, IsFirstAlgorithm, IsFirstSigner, indirect_kids, signers_of}
 

@@ -16,12 +16,12 @@ use Rattle.cms_types.specs.declared.signer_view.SignerView.{SignerView}
 use Rattle.content_types.specs.ContentInfoElements.{content_info_of}
 use Rattle.content_types.specs.ContentValue.{content_value}
 use Rattle.content_types.specs.Facts.ContentInfos.{fields_once}
+use Rattle.der_core.specs.Optional.{members_of}
 use Rattle.der_core.specs.DerElement.{DerElement, Primitive, Constructed, row, listed, kids_of}
 use Rattle.der_core.specs.Elements.{sequence, explicit, octet_string}
 use Rattle.der_core.specs.Encoding.{encoding}
 use Rattle.der_core.specs.Facts.Rows.{listed-row}
 use Rattle.key_core.specs.Rules.{IsFirstBroken}
-use Rattle.authenticode_core.specs.CertificateBag.{members_of}
 use Rattle.authenticode_core.specs.Form.{AreSpelled, IsIndirectContent}
 use Rattle.authenticode_core.specs.FormRules.{HasForm, IsOfOtherVersion, HasOtherSigners, HasOtherAlgorithms, LacksContent, HasOtherContent, form_rules}
 use Rattle.authenticode_core.specs.SameElements.{IsSameElement}

@@ -1,12 +1,12 @@
 -- The expiry of a signer's certificate is excused for one reason, or not, or for a bad stamp that is told once.
 use Rattle.std.proofs.Common.{◌≡◌, ℕ, List, inl, inr, refl, sym, ap, subst, ◌∙◌}
 use Rattle.cms_types.specs.SignedDataElements.{SignedDataElements}
+use Rattle.der_core.specs.Optional.{members_of}
 use Rattle.key_core.specs.Verifying.{Judge}
 use Rattle.x509_core.specs.KeptCertificate.{KeptCertificate}
 use Rattle.x509_core.specs.declared.error.CertError.{CertError}
 use Rattle.x509_types.specs.CertificateElements.{CertificateElements}
 use Rattle.std.specs.Prelude.{length}
-use Rattle.authenticode_core.specs.CertificateBag.{members_of}
 use Rattle.authenticode_core.specs.Excuses.{AreOthersThan, HasBadStamp, HasNoExcuse, HasToken, IsExcused, IsForStamping, IsLinkedToken, IsUnlinkedToken, any_time, places_from}
 use Rattle.authenticode_core.specs.LinkedPath.{IsUnlinkedAt}
 use Rattle.authenticode_core.specs.SigningRules.{IsBagOf}

@@ -8,6 +8,7 @@ use Rattle.cms_types.specs.SignedDataElements.{SignedDataElements}
 use Rattle.cms_types.specs.SignerElements.{SignerElements}
 use Rattle.cms_types.specs.SignerIdentifier.{issuer_and_serial_number, signer_identifier}
 use Rattle.cms_types.specs.SignerInfo.{signer_elements, signer_info}
+use Rattle.der_core.specs.Optional.{members_of}
 use Rattle.der_core.specs.DerElement.{DerElement, Primitive}
 use Rattle.der_core.specs.Elements.{sequence}
 use Rattle.key_core.proofs.Verifications.{verify_one, accepted_is_met}
@@ -27,7 +28,6 @@ use Rattle.x509_core.proofs.SignedParts.{one_key}
 use Rattle.x509_types.specs.CertificateElements.{CertificateElements}
 use Rattle.x509_types.specs.Purposes.{NamesPurpose}
 use Rattle.authenticode_core.specs.BagSigner.{IsNamedByFirst}
-use Rattle.authenticode_core.specs.CertificateBag.{members_of}
 use Rattle.authenticode_core.specs.SignedFields.{HasMessageDigest, IndirectData, IsFirstSigner, signed_message, signers_of}
 use Rattle.authenticode_core.specs.SigningRules.{AsksForPurposes, DigestDiffers, HasNoCertificate, HasNoMessageDigest, HasUnknownDigest, IsBadlySigned, IsBagOf, IsForCodeSigning, IsNamedByKey, IsNotForCodeSigning, IsRefusedUnder, IsSigned, HasSignatureBy, IsSignerCertificate, IsUnsupportedDigest, NamesDigest, digested_octets, signing_rules}
 use Rattle.authenticode_core.specs.declared.error.AuthenticodeError.{AuthenticodeError}

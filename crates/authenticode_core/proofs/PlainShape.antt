@@ -1,5 +1,6 @@
 -- Signed data of the plain form has the shape, and its fields are those of the form.
 use Rattle.std.proofs.Common.{◌≡◌, ◌≢◌, ℕ, List, [], ◌∷◌, Some, true, refl, sym, ap, subst, ◌∙◌}
+use Rattle.asn1_types.specs.Elements.{object_identifier_of}
 use Rattle.asn1_types.proofs.KnownTable.{known_is}
 use Rattle.asn1_types.specs.KnownIdentifiers.{is_known}
 use Rattle.asn1_types.specs.declared.oid.ObjectIdentifier.{ObjectIdentifier}
@@ -28,7 +29,7 @@ use Rattle.x501_types.specs.declared.attribute_value.AttributeValue.TheVariants 
 use Rattle.x501_types.specs.declared.directory_string.DirectoryString.TheVariants as directory_strings
 use Rattle.x509_types.specs.declared.attribute_values.AttributeValues.TheVariants as values
 use Rattle.x509_types.specs.Attribute.{IsAttribute, AreAttributes}
-use Rattle.authenticode_core.specs.Asn1.{context, object_identifier_of}
+use Rattle.authenticode_core.specs.Asn1.{context}
 use Rattle.authenticode_core.specs.Basic.{HasSignedData}
 use Rattle.authenticode_core.specs.PlainForm.{PlainParts, SignerParts, IsPlain, IsPlainForm, algorithm, plain_attribute, plain_attributes, plain_certificate, plain_content_info, plain_digest_info, empty_link, image_data, indirect_data, plain_issuer_and_serial_number, no_program_name, signed_content, plain_signed_data, signed_data_fields, signer_fields, plain_signer_info}
 use Rattle.authenticode_core.specs.PlainFields.{HasPlainFields, plain_data, plain_elements, plain_signer}

@@ -3,6 +3,7 @@ use Rattle.std.proofs.Common.{◌≡◌, ℕ, List, [], ◌∷◌, ◌++◌, Opt
 use mathlib.Core.Logic.{∥∥₁_elim}
 use Rattle.std.proofs.Props.{props}
 use Rattle.cms_types.specs.Levels.{AreSignerFields, OfOption}
+use Rattle.der_core.specs.Optional.{members_of}
 use Rattle.x509_types.specs.Attribute.{AreAttributes}
 use Rattle.cms_types.specs.SignerElements.{SignerElements, signer_of}
 use Rattle.cms_types.specs.Signers.{IsSignerInfo}
@@ -11,7 +12,6 @@ use Rattle.der_core.specs.Elements.{set}
 use Rattle.der_core.specs.Encoding.{encoding, encodings, framed, form_bit, length_octets, IsWellFormed}
 use Rattle.der_core.specs.Facts.Rows.{row-listed}
 use Rattle.der_core.specs.Structure.{Fits}
-use Rattle.authenticode_core.specs.CertificateBag.{members_of}
 use Rattle.authenticode_core.specs.SignedFields.{signed_message}
 
 -- an empty SET

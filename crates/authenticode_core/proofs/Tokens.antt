@@ -11,10 +11,10 @@ use Rattle.cms_types.specs.declared.pkcs7.Pkcs7Certificate.{Pkcs7Certificate}
 use Rattle.cms_types.specs.declared.signed_view.SignedView.{SignedView}
 use Rattle.cms_types.specs.declared.signer_info.SignerInfo.{SignerInfo}
 use Rattle.cms_types.specs.declared.signer_view.SignerView.{SignerView}
+use Rattle.der_core.specs.Optional.{members_of}
 use Rattle.der_core.specs.DerElement.{DerElement}
 use Rattle.der_core.specs.Lent.{at_option}
 use Rattle.der_core.specs.declared.elem.Elem.{Elem}
-use Rattle.authenticode_core.specs.CertificateBag.{members_of}
 use Rattle.authenticode_core.specs.Excuses.{HasToken}
 use Rattle.authenticode_core.specs.SignedFields.{IsAttributeOf, IsFirstSigner, signers_of}
 use Rattle.authenticode_core.proofs.FirstAttributes.{attribute_once}
@@ -46,18 +46,18 @@ first_lent (Some first) lent elem given e is found = (found.0, ap members_of (sy
 
 -- ---- the token in it
 
-unsigned_of : (f t : SignedDataElements) (g : SignerElements) → (has : HasToken f t) → IsFirstSigner f g → members_of g.unsigned_attrs ≡ has.attribute ∷ has.attributes
-unsigned_of f t g has first = ap (λ (x : SignerElements). members_of x.unsigned_attrs) (signer_once f g has.g first has.signer) ∙ has.unsigned
+unsigned_are : (f t : SignedDataElements) (g : SignerElements) → (has : HasToken f t) → IsFirstSigner f g → members_of g.unsigned_attrs ≡ has.attribute ∷ has.attributes
+unsigned_are f t g has first = ap (λ (x : SignerElements). members_of x.unsigned_attrs) (signer_once f g has.g first has.signer) ∙ has.unsigned
 
 pub no_attribute : (f t : SignedDataElements) (g : SignerElements) → IsFirstSigner f g → members_of g.unsigned_attrs ≡ [] → HasToken f t → ⊥
 no_attribute f t g first none has =
-    let both : [] ≡ has.attribute ∷ has.attributes = sym none ∙ unsigned_of f t g has first in
+    let both : [] ≡ has.attribute ∷ has.attributes = sym none ∙ unsigned_are f t g has first in
     absurd cc
 
 module _ (f t : SignedDataElements) (g : SignerElements) (attribute : DerElement) (attributes : List DerElement) (first : IsFirstSigner f g) (unsigned : members_of g.unsigned_attrs ≡ attribute ∷ attributes) where
   stamps_of : (has : HasToken f t) → IsAttributeOf RFC3161_COUNTER_SIGN.now attribute (has.token ∷ has.tokens)
   stamps_of has =
-      subst (λ (x : DerElement). IsAttributeOf RFC3161_COUNTER_SIGN.now x (has.token ∷ has.tokens)) (heads has.attribute attribute has.attributes attributes (sym (unsigned_of f t g has first) ∙ unsigned)) has.stamps
+      subst (λ (x : DerElement). IsAttributeOf RFC3161_COUNTER_SIGN.now x (has.token ∷ has.tokens)) (heads has.attribute attribute has.attributes attributes (sym (unsigned_are f t g has first) ∙ unsigned)) has.stamps
 
   pub no_stamps : ((values : List DerElement) → IsAttributeOf RFC3161_COUNTER_SIGN.now attribute values → ⊥) → HasToken f t → ⊥
   no_stamps none has = none (has.token ∷ has.tokens) (stamps_of has)

@@ -7,10 +7,6 @@ use Rattle.der_core.specs.DerElement.{DerElement, Primitive, Constructed, row}
 abbrev pub context : ℕ → List DerElement → DerElement
 context number kids = Constructed (0xA0 + number) (row kids)
 
--- an OBJECT IDENTIFIER (X.690 8.19)
-abbrev pub object_identifier_of : List ℕ → DerElement
-object_identifier_of contents = Primitive 0x06 contents
-
 -- a UTF8String (X.690 8.23), of any octets
 abbrev pub utf8_string_of : List ℕ → DerElement
 utf8_string_of text = Primitive 0x0C text

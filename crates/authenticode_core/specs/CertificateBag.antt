@@ -1,14 +1,8 @@
 -- The certificates that signed data carries (RFC 5652 5.1, 10.2.3).
-use Rattle.std.specs.Prelude.{◌≡◌, ◌⊎◌, List, [], ◌∷◌, Option, Some, None}
-use Rattle.der_core.specs.DerElement.{DerElement, Primitive, Constructed, listed}
+use Rattle.std.specs.Prelude.{◌≡◌, ◌⊎◌, List, [], ◌∷◌}
+use Rattle.der_core.specs.DerElement.{DerElement}
 use Rattle.der_core.specs.Structure.{Fits}
 use Rattle.x509_types.specs.CertificateElements.{CertificateElements, certificate_of, AreCertificateFields}
-
--- the elements in a field, none where it is left out
-abbrev pub members_of : Option DerElement → List DerElement
-members_of None = []
-members_of (Some (Primitive tag content)) = []
-members_of (Some (Constructed tag members)) = listed members
 
 -- The member is the certificate of these elements, a SEQUENCE (RFC 5280 4.1).
 pub record IsMember (member : DerElement) (c : CertificateElements) : Type 0 where

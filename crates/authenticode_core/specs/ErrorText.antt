@@ -37,8 +37,6 @@ unnamed_text issuer serial_number =
     codes "the signed data has no certificate of the issuer '" ++ name_text (sets_of issuer)
     ++ codes "' with the serial number " ++ encode_lower serial_number
 
--- what is told of signed data that isn't read or written. Of an element that isn't no contract says
--- what is told
 abbrev pub pkcs7_error_text : Pkcs7Error → Option (List ℕ)
 pkcs7_error_text (pkcs7.Cert e) = cert_error_text e
 pkcs7_error_text pkcs7.Memory = Some (codes "out of memory")
@@ -51,8 +49,6 @@ timestamp_error_text stamps.TimestampTokenEmpty =
     Some (codes "the token or the signed data has no signer")
 timestamp_error_text stamps.Memory = Some (codes "out of memory")
 
--- what is told of signed data that is refused. Of an element that isn't read or written, and of a
--- key that can't be written, no contract says what is told
 abbrev pub content_error_text : AuthenticodeError → Option (List ℕ)
 content_error_text (contents.CertError e) = cert_error_text e
 content_error_text (contents.IncorrectVersion expected got) =

@@ -8,6 +8,7 @@ use Rattle.cms_types.specs.SignedData.{signed_data_elements}
 use Rattle.cms_types.specs.SignedDataElements.{SignedDataElements}
 use Rattle.cms_types.specs.SignerElements.{SignerElements}
 use Rattle.cms_types.specs.declared.pkcs7.Pkcs7Certificate.{Pkcs7Certificate}
+use Rattle.der_core.specs.Optional.{members_of}
 use Rattle.der_core.specs.DerElement.{DerElement}
 use Rattle.key_core.specs.Verifying.{Judge}
 use Rattle.x509_core.specs.KeptCertificate.{KeptCertificate}
@@ -16,7 +17,6 @@ use Rattle.x509_core.specs.declared.window.DateCheck.TheVariants as dates
 use Rattle.x509_core.specs.declared.window.Window.{Window}
 use Rattle.x509_types.specs.CertificateElements.{CertificateElements}
 use Rattle.x509_types.specs.Purposes.{NamesPurpose}
-use Rattle.authenticode_core.specs.CertificateBag.{members_of}
 use Rattle.authenticode_core.specs.IssuerWalk.{AreOthers}
 use Rattle.authenticode_core.specs.LinkedPath.{AreLinkedAt, IsUnlinkedAt}
 use Rattle.authenticode_core.specs.Places.{StandsAt}

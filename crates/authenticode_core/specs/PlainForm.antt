@@ -2,13 +2,14 @@
 -- signed attributes. Identifiers are the constants of `asn1_types::oids`, which
 -- `asn1_types.specs.NamedIdentifiers` lists by name.
 use Rattle.std.specs.Prelude.{◌≡◌, ◌≢◌, ℕ, ◌≤◌, List, [], ◌∷◌, codes, Ok}
-use Rattle.asn1_types.specs.Elements.{integer_of}
+use Rattle.asn1_types.specs.Elements.{integer_of, object_identifier_of}
+use Rattle.cms_types.specs.AttributeElement.{attribute_of}
 use Rattle.sha2.specs.Sha256.{sha256}
 use Rattle.der_core.specs.DerElement.{DerElement, Primitive, row}
 use Rattle.der_core.specs.Encoding.{encoding, encodings, IsDer, IsPaddedEncoding}
 use Rattle.wincert_core.specs.Refusal.{contents_in}
 use Rattle.der_core.specs.Elements.{sequence, set, null, bit_octets, octet_string}
-use Rattle.authenticode_core.specs.Asn1.{context, object_identifier_of, utf8_string_of, utc_time_of}
+use Rattle.authenticode_core.specs.Asn1.{context, utf8_string_of, utc_time_of}
 use Rattle.asn1_types.specs.declared.oids.TheConstants as identifiers
 
 -- an AlgorithmIdentifier with NULL parameters (RFC 5280 4.1.1.2)
@@ -56,7 +57,7 @@ tbs_fields c =
     ∷ plain_public_key_info c.key
     ∷ []
 
--- these fields in order
+-- a TBSCertificate of these fields
 abbrev pub plain_tbs_certificate : TbsParts → DerElement
 plain_tbs_certificate c =
     sequence (tbs_fields c)
@@ -99,7 +100,7 @@ plain_content_info file_hash =
 
 -- an Attribute of one value (RFC 5652 5.3)
 abbrev pub plain_attribute : List ℕ → DerElement → DerElement
-plain_attribute oid value = sequence (object_identifier_of oid ∷ set (value ∷ []) ∷ [])
+plain_attribute oid value = attribute_of oid (value ∷ [])
 
 -- an SpcSpOpusInfo without a program's name, and with an address of no octets (Authenticode)
 abbrev pub no_program_name : DerElement
@@ -136,7 +137,7 @@ signer_fields s =
     ∷ octet_string s.signature
     ∷ []
 
--- these fields in order
+-- a SignerInfo of these fields
 abbrev pub plain_signer_info : SignerParts → DerElement
 plain_signer_info s = sequence (signer_fields s)
 
@@ -158,7 +159,7 @@ signed_data_fields p =
     ∷ set (plain_signer_info p.signer ∷ [])
     ∷ []
 
--- these fields in order
+-- a SignedData of these fields
 abbrev pub plain_signed_data : PlainParts → DerElement
 plain_signed_data p = sequence (signed_data_fields p)
 

@@ -1,17 +1,18 @@
 -- The fields of signed data that a check asks for, by the elements that stand for them (RFC 2315
 -- 9.1, 9.2; Windows Authenticode Portable Executable Signature Format).
 use Rattle.std.specs.Prelude.{◌≡◌, ⊤, ℕ, List, [], ◌∷◌, ◌++◌, Option, Some}
-use Rattle.asn1_types.specs.Elements.{integer_of}
+use Rattle.asn1_types.specs.Elements.{integer_of, object_identifier_of}
 use Rattle.asn1_types.specs.declared.oids.TheConstants.{MESSAGE_DIGEST, SPC_INDIRECT_DATA}
+use Rattle.cms_types.specs.AttributeElement.{attribute_of}
 use Rattle.cms_types.specs.SignedDataElements.{SignedDataElements}
 use Rattle.cms_types.specs.SignerElements.{SignerElements}
 use Rattle.cms_types.specs.SignerInfo.{signer_info, signer_elements}
 use Rattle.cms_types.specs.declared.signer_info.SignerInfo.{SignerInfo}
 use Rattle.content_types.specs.ContentInfoElements.{content_info_of}
-use Rattle.der_core.specs.DerElement.{DerElement, Primitive}
+use Rattle.der_core.specs.Optional.{members_of}
+use Rattle.der_core.specs.DerElement.{DerElement}
 use Rattle.der_core.specs.Elements.{sequence, set, octet_string}
 use Rattle.der_core.specs.Encoding.{encoding}
-use Rattle.authenticode_core.specs.CertificateBag.{members_of}
 
 -- the number of the version
 abbrev pub HasVersion : SignedDataElements → ℕ → Type 0
@@ -33,7 +34,7 @@ IsFirstAlgorithm f algorithm =
 -- the content, where it isn't left out, with the contents octets of the identifier of its type
 abbrev pub HasSignedContent : SignedDataElements → List ℕ → Option DerElement → Type 0
 HasSignedContent f content_type content =
-    f.content_info ≡ content_info_of (Primitive 0x06 content_type) content
+    f.content_info ≡ content_info_of (object_identifier_of content_type) content
 
 -- What varies in an SpcIndirectDataContent: what kind of file it is, the algorithm of the digest,
 -- and the digest of the file.
@@ -67,7 +68,7 @@ signed_message g = encoding (set (signed_attributes_of g))
 
 -- an attribute of this identifier, by its contents octets, with these values (RFC 5652 5.3)
 abbrev pub IsAttributeOf : List ℕ → DerElement → List DerElement → Type 0
-IsAttributeOf oid element values = element ≡ sequence (Primitive 0x06 oid ∷ set values ∷ [])
+IsAttributeOf oid element values = element ≡ attribute_of oid values
 
 -- none of the elements is an attribute of this identifier
 abbrev pub NoneIsOf : List ℕ → List DerElement → Type 0

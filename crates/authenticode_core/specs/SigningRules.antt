@@ -1,13 +1,14 @@
 -- What the signature of the first signer has to be, rule by rule, in their order (RFC 2315 9.3,
 -- 9.4; Windows Authenticode Portable Executable Signature Format).
 use Rattle.std.specs.Prelude.{◌≡◌, ◌≢◌, ℕ, List, [], ◌∷◌, Contains}
-use Rattle.asn1_types.specs.Elements.{integer}
+use Rattle.asn1_types.specs.Elements.{integer, object_identifier_of}
 use Rattle.asn1_types.specs.declared.integer.IntegerAsn1.{IntegerAsn1}
 use Rattle.asn1_types.specs.declared.oids.TheConstants.{KP_CODE_SIGNING}
 use Rattle.cms_types.specs.SignedDataElements.{SignedDataElements}
 use Rattle.cms_types.specs.SignerElements.{SignerElements}
+use Rattle.der_core.specs.Optional.{members_of}
 use Rattle.der_core.specs.DerElement.{DerElement, Primitive}
-use Rattle.der_core.specs.Elements.{sequence}
+use Rattle.der_core.specs.Elements.{sequence, octet_string}
 use Rattle.der_core.specs.Encoding.{encodings}
 use Rattle.der_core.specs.DerElement.{row}
 use Rattle.key_core.specs.Rules.{Rule, IsFirstBroken, RefusesByRules}
@@ -28,7 +29,7 @@ use Rattle.x509_core.specs.Link.{HasKey}
 use Rattle.x509_types.specs.CertificateElements.{CertificateElements}
 use Rattle.x509_types.specs.Purposes.{HasPurposes, NamesPurpose}
 use Rattle.authenticode_core.specs.BagSigner.{IsSignerPlace, HasNoSigner}
-use Rattle.authenticode_core.specs.CertificateBag.{IsBag, members_of}
+use Rattle.authenticode_core.specs.CertificateBag.{IsBag}
 use Rattle.authenticode_core.specs.IssuerWalk.{IsIssuerWalk}
 use Rattle.authenticode_core.specs.Places.{StandsAt}
 use Rattle.authenticode_core.specs.SignedFields.{HasMessageDigest, IndirectData, indirect_kids, signed_message, signers_of}
@@ -48,7 +49,7 @@ IsSignerCertificate f bag place c = IsSignerPlace (signers_of f) bag place c
 pub record NamesDigest (algorithm : DerElement) (hash : HashAlgorithm) : Type 0 where
   pub variant : ShaVariant
   pub parameters : List DerElement
-  pub is : algorithm ≡ sequence (Primitive 0x06 (digest_identifier variant) ∷ parameters)
+  pub is : algorithm ≡ sequence (object_identifier_of (digest_identifier variant) ∷ parameters)
   pub named : hash ≡ hash_of variant
 
 -- what is digested of indirect data: its contents octets
@@ -62,7 +63,7 @@ pub record HasSignatureBy (judge : Judge) (g : SignerElements) (hash : HashAlgor
   pub info : SubjectPublicKeyInfo
   pub key : HasKey c info
   pub signature : List ℕ
-  pub octets : g.signature ≡ Primitive 0x04 signature
+  pub octets : g.signature ≡ octet_string signature
   pub accepted : Accepts judge (RsaPkcs1v15 hash) info (signed_message g) signature
 
 -- some certificate of the issuer walk of the signer's has an extended key usage
@@ -127,7 +128,7 @@ pub record IsRefusedUnder (judge : Judge) (g : SignerElements) (hash : HashAlgor
   pub info : SubjectPublicKeyInfo
   pub key : HasKey c info
   pub signature : List ℕ
-  pub octets : g.signature ≡ Primitive 0x04 signature
+  pub octets : g.signature ≡ octet_string signature
   pub source : SignatureError
   pub refused : IsFirstBroken
       (verify_rules judge (RsaPkcs1v15 hash) info (signed_message g) signature) source

@@ -1,15 +1,14 @@
 -- What the steps of the signing rules answer, each by itself.
 use Rattle.std.specs.Prelude.{◌≡◌, ◌≢◌, ◌↔◌, ℕ, List, [], ◌∷◌, IsTrue}
+use Rattle.asn1_types.specs.Elements.{object_identifier_of}
 use Rattle.asn1_types.specs.Values.{integer_contents}
 use Rattle.asn1_types.specs.declared.integer.IntegerAsn1.{IntegerAsn1}
 use Rattle.asn1_types.specs.declared.oids.TheConstants.{KP_CODE_SIGNING}
 use Rattle.cms_types.specs.SignedDataElements.{SignedDataElements}
 use Rattle.cms_types.specs.SignerElements.{SignerElements}
-use Rattle.der_core.specs.DerElement.{DerElement, Primitive}
+use Rattle.der_core.specs.DerElement.{DerElement}
 use Rattle.der_core.specs.Elements.{sequence}
 use Rattle.der_core.specs.Encoding.{encoding}
-use Rattle.key_core.specs.declared.signature_error.SignatureError.{SignatureError}
-use Rattle.key_core.specs.declared.signature_error.SignatureError.TheVariants as signature_errors
 use Rattle.names_core.specs.Names.{sets_of}
 use Rattle.names_core.specs.declared.name.DirectoryName.{DirectoryName}
 use Rattle.sig_core.specs.Digest.{digest_of}
@@ -45,7 +44,6 @@ pub record TellsName (issuer serial_number : List ℕ) (e : AuthenticodeError) :
   pub number_is : integer_contents number ≡ serial_number
   pub told : e ≡ errors.NoCertificatesAssociatedWithIssuerAndSerialNumber made number
 
--- an error of a signature as one of a signer: want of memory is told as such
 abbrev pub signer_refusal : SignatureError → AuthenticodeError
 signer_refusal signature_errors.Memory = errors.Memory
 signer_refusal source = errors.SignatureError source
@@ -53,7 +51,7 @@ signer_refusal source = errors.SignatureError source
 -- an AlgorithmIdentifier has an identifier of these contents octets
 abbrev pub IsOfIdentifier : DerElement → List ℕ → Type 0
 IsOfIdentifier element oid =
-    (parameters : List DerElement) × (element ≡ sequence (Primitive 0x06 oid ∷ parameters))
+    (parameters : List DerElement) × (element ≡ sequence (object_identifier_of oid ∷ parameters))
 
 -- the attributes hold the digest of the indirect data, by an algorithm that isn't SHA-224
 abbrev pub IsBoundBy : IndirectData → SignerElements → HashAlgorithm → Type 0

@@ -4,8 +4,8 @@ ghost use Rattle.std.specs.Prelude.{◌≡◌, [], List, ℕ, IfOk, MatchOption}
 ghost use Rattle.der_core.specs.DerElement.{DerElement, tag_of};
 ghost use Rattle.der_core.specs.Encoding.{encoding, form_bit};
 ghost use Rattle.der_core.specs.Elements.{set};
+ghost use Rattle.der_core.specs.Optional.{members_of};
 ghost use Rattle.cms_types.specs.SignerView.{signer_elements_at};
-ghost use Rattle.authenticode_core.specs.CertificateBag.{members_of};
 ghost use Rattle.authenticode_core.specs.SignedFields.{HasMessageDigest, IsAttributeOf, IsFirstAttribute, signed_attributes_of, signed_message};
 
 use asn1_types::oids::MESSAGE_DIGEST;

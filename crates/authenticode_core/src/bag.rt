@@ -4,9 +4,10 @@ ghost use Rattle.std.specs.Prelude.{◌≡◌, ℕ, suc, ◌+◌, ◌<◌, ◌^�
 ghost use Rattle.std.specs.Coded.{Coded-set};
 ghost use Rattle.der_core.specs.Facts.Codes.{coded_element};
 ghost use Rattle.der_core.specs.Lent.{at_option};
+ghost use Rattle.der_core.specs.Optional.{members_of};
 ghost use Rattle.x509_types.specs.CertificateElements.{CertificateElements, certificate_of};
 ghost use Rattle.x509_types.specs.CertificateView.{IsCertView, view_elements};
-ghost use Rattle.authenticode_core.specs.CertificateBag.{IsBag, members_of};
+ghost use Rattle.authenticode_core.specs.CertificateBag.{IsBag};
 ghost use Rattle.authenticode_core.specs.LeftMembers.{left_members, BeginsBag};
 ghost use Rattle.authenticode_core.specs.Places.{StandsAt, HasNoPlace, IsLeastPlace};
 ghost use Rattle.authenticode_core.specs.Wanted.{IsWanted};
@@ -21,7 +22,7 @@ pub struct BagCertificate<'a> {
     pub place: usize,
     pub elem: Elem<'a>,
     pub certificate: CertView<'a>,
-    ghost is: { elem.is.0 ≡ certificate_of (view_elements certificate) } by { Coded-set coded_element elem.is.0 (certificate_of (view_elements certificate)) },
+    pub ghost is: { elem.is.0 ≡ certificate_of (view_elements certificate) } by { Coded-set coded_element elem.is.0 (certificate_of (view_elements certificate)) },
 }
 
 /// The certificates among the members of a field, one after another where their octets lie (RFC

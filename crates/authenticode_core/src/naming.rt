@@ -5,9 +5,10 @@ ghost use Rattle.std.specs.Prelude.{◌≡◌, List, IsTrue, IfSome, MatchOption
 ghost use Rattle.cms_types.specs.SignedView.{data_elements};
 ghost use Rattle.der_core.specs.Encoding.{encoding};
 ghost use Rattle.der_core.specs.Lent.{at_option};
+ghost use Rattle.der_core.specs.Optional.{members_of};
 ghost use Rattle.x509_types.specs.CertificateElements.{CertificateElements, certificate_of};
 ghost use Rattle.x509_types.specs.CertificateView.{view_elements};
-ghost use Rattle.authenticode_core.specs.CertificateBag.{IsBag, IsMember, members_of};
+ghost use Rattle.authenticode_core.specs.CertificateBag.{IsBag, IsMember};
 ghost use Rattle.authenticode_core.specs.Naming.{IsFirstOfName, IsNamedAt};
 ghost use Rattle.authenticode_core.specs.Places.{HasNoPlace};
 ghost use Rattle.authenticode_core.specs.SigningRules.{IsBagOf};

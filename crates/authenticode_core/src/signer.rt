@@ -2,12 +2,13 @@
 
 ghost use Rattle.std.specs.Prelude.{◌≡◌, ◌↔◌, List, Some, MatchOption};
 ghost use Rattle.der_core.specs.DerElement.{DerElement};
+ghost use Rattle.der_core.specs.Optional.{members_of};
 ghost use Rattle.cms_types.specs.SignedView.{data_elements};
 ghost use Rattle.x509_types.specs.CertificateElements.{CertificateElements};
 ghost use Rattle.x509_types.specs.CertificateView.{view_elements};
 ghost use Rattle.authenticode_core.specs.BagCursor.{StandsIn};
 ghost use Rattle.authenticode_core.specs.BagSigner.{IsNamedByFirst, IsSignerPlace, HasNoSigner};
-ghost use Rattle.authenticode_core.specs.CertificateBag.{IsBag, members_of};
+ghost use Rattle.authenticode_core.specs.CertificateBag.{IsBag};
 ghost use Rattle.authenticode_core.specs.LeftMembers.{left_members};
 ghost use Rattle.authenticode_core.specs.WalkCursor.{LooksFrom};
 ghost use Rattle.authenticode_core.specs.Wanted.{IsNamedBy};

@@ -7,7 +7,7 @@ ghost use Rattle.cms_types.specs.SignedView.{data_elements};
 ghost use Rattle.cms_types.specs.SignerElements.{SignerElements};
 ghost use Rattle.cms_types.specs.SignerView.{signer_elements_at};
 ghost use Rattle.der_core.specs.DerElement.{DerElement};
-ghost use Rattle.authenticode_core.specs.CertificateBag.{members_of};
+ghost use Rattle.der_core.specs.Optional.{members_of};
 ghost use Rattle.authenticode_core.specs.Excuses.{HasToken};
 ghost use Rattle.authenticode_core.specs.SignedFields.{IsFirstSigner};
 

@@ -19,6 +19,7 @@ use Rattle.cms_types.specs.declared.pkcs7.Pkcs7Certificate.{Pkcs7Certificate}
 use Rattle.cms_types.specs.declared.signer_identifier.SignerIdentifier.{SignerIdentifier}
 use Rattle.cms_types.specs.declared.signer_identifier.SignerIdentifier.TheVariants as named
 use Rattle.cms_types.specs.declared.signer_info.SignerInfo.{SignerInfo}
+use Rattle.der_core.specs.Optional.{members_of}
 use Rattle.der_core.specs.DerElement.{DerElement, Primitive}
 use Rattle.der_core.specs.Elements.{null, sequence, octet_string}
 use Rattle.der_core.specs.Encoding.{encoding, IsDer, IsPaddedEncoding}
@@ -35,7 +36,7 @@ use Rattle.x501_types.specs.Name.{name}
 use Rattle.x509_types.specs.CertificateElements.{CertificateElements, certificate_of}
 use Rattle.authenticode_core.specs.BagSigner.{IsNamedByFirst}
 use Rattle.authenticode_core.specs.Basic.{VouchesFor}
-use Rattle.authenticode_core.specs.CertificateBag.{IsBag, members_of}
+use Rattle.authenticode_core.specs.CertificateBag.{IsBag}
 use Rattle.authenticode_core.specs.FormRules.{HasForm}
 use Rattle.authenticode_core.specs.SignedFields.{HasMessageDigest, IndirectData, IsAttributeOf, signers_of}
 use Rattle.authenticode_core.specs.SigningRules.{IsSigned, digested_octets}

@@ -1,7 +1,8 @@
 -- The certificates of signed data, member by member.
-use Rattle.std.proofs.Common.{◌≡◌, length, arith, List, [], ◌∷◌, ◌++◌, map, Option, Some, None, MatchOption, refl, sym, ap, subst, ◌∙◌, inl, inr, append_assoc, append-nil}
+use Rattle.std.proofs.Common.{◌≡◌, length, arith, List, [], ◌∷◌, ◌++◌, map, Option, Some, refl, sym, ap, subst, ◌∙◌, inl, inr, append_assoc, append-nil}
 use Rattle.std.specs.Option.{option_map}
 use Rattle.std.proofs.lemmas.List.{map-append}
+use Rattle.der_core.specs.Optional.{members_of}
 use Rattle.der_core.specs.DerElement.{DerElement}
 use Rattle.der_core.specs.Each.{list_element}
 use Rattle.der_core.specs.Encoding.{encoding, IsDer}
@@ -18,7 +19,7 @@ use Rattle.x509_types.specs.CertificateView.{IsCertView, view_elements}
 use Rattle.x509_types.specs.declared.cert_view.CertView.{CertView}
 use Rattle.x509_types.specs.declared.certificate.Certificate.{Certificate}
 use Rattle.making_core.specs.Carried.{elements_of}
-use Rattle.authenticode_core.specs.CertificateBag.{IsBag, IsMember, members_of}
+use Rattle.authenticode_core.specs.CertificateBag.{IsBag, IsMember}
 
 -- ---- one member
 
@@ -30,12 +31,6 @@ is_member element lent view kept der e is octets =
 
 pub no_member : (element lent : DerElement) → lent ≡ element → ((c : Certificate) → IsCertificate lent c → ⊥) → (f : CertificateElements) → IsMember element f → ⊥
 no_member element lent e none f m = none m.fits.0 (subst (λ (x : DerElement). IsCertificate x m.fits.0) (sym (e ∙ m.is)) (spelled_by f m.fits.0 m.fits.1))
-
-pub given : {X : Type 0} (o : Option X) (x : X) (N : Type 0) (P : X → Type 0) → o ≡ Some x → MatchOption o N P → P x
-given None x N P e m = absurd (cc e)
-given (Some y) x N P e m =
-    let same : y ≡ x = cc e in
-    subst P same m
 
 -- ---- several
 

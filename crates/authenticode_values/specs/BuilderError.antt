@@ -18,7 +18,6 @@ abbrev pub unwritten_in_builder : DerError → AuthenticodeSignatureBuilderError
 unwritten_in_builder der.Memory = errors.Memory
 unwritten_in_builder e = errors.Asn1DerError e
 
--- what is told. Of an element that isn't written no contract says what is told
 abbrev pub builder_error_text : AuthenticodeSignatureBuilderError → Option (List ℕ)
 builder_error_text errors.MissingDigestAlgorithm = Some (codes "no digest algorithm is given")
 builder_error_text errors.MissingContentInfo = Some (codes "no content is given")

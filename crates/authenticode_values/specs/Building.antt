@@ -20,6 +20,7 @@ use Rattle.key_core.specs.Signing.{Signs, KeyArithmetic, IsAsked, sign_rules}
 use Rattle.key_core.specs.declared.private_key.PrivateKey.{PrivateKey}
 use Rattle.key_core.specs.declared.signature_algorithm.SignatureAlgorithm.{SignatureAlgorithm}
 use Rattle.key_core.specs.declared.signature_algorithm.SignatureAlgorithm.TheVariants.{RsaPkcs1v15}
+use Rattle.names_core.specs.Names.{name_of_sets}
 use Rattle.sig_core.specs.ShaVariant.{RefusesHash, hash_of}
 use Rattle.sig_core.specs.declared.hash.HashAlgorithm.{HashAlgorithm}
 use Rattle.sig_core.specs.declared.hash.HashAlgorithm.TheVariants.{SHA2_224}
@@ -152,7 +153,7 @@ named_step g = record {
   taken = (c : CertificateElements) × IsNamedFirst g c;
   refused = λ e. HasNoPlace g.bag (HasIssuerAndSerial g.named) 0
       × (e ≡ errors.AuthenticodeError (signatures.NoCertificatesAssociatedWithIssuerAndSerialNumber
-      (record { name = g.named.issuer }) g.named.serial_number));
+      (name_of_sets g.named.issuer) g.named.serial_number));
 }
 
 -- the first of them may sign code

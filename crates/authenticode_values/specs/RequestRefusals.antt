@@ -20,7 +20,6 @@ IsRefusedToken Refuses e = (source : Pkcs7Error) × (e ≡ token_refusal source)
 abbrev pub IsRefusedRequest : (CertError → Type 0) → TimestampError → Type 0
 IsRefusedRequest = Tells stamp_refusal
 
--- no memory was left, or the error tells that contents of a request pass 4,294,967,295 octets
 abbrev pub IsTooLong : DerElement → TimestampError → Type 0
 IsTooLong request e =
     (e ≡ errors.Memory)

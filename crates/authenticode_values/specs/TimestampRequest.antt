@@ -1,7 +1,8 @@
 -- What is kept of a request for a timestamp (Windows Authenticode Portable Executable Signature
 -- Format; RFC 5652 4, 5.2).
 use Rattle.std.specs.Prelude.{◌≡◌, ℕ, List, [], ◌∷◌, Option, Some, None}
-use Rattle.der_core.specs.DerElement.{DerElement, Primitive}
+use Rattle.asn1_types.specs.Elements.{object_identifier_of}
+use Rattle.der_core.specs.DerElement.{DerElement}
 use Rattle.der_core.specs.Elements.{octet_string, sequence}
 use Rattle.asn1_types.specs.declared.oids.TheConstants.{DATA, SPC_TIME_STAMP_REQUEST}
 use Rattle.content_types.specs.ContentInfoElements.{content_info_of}
@@ -22,8 +23,8 @@ requested r = timestamp_request r.request
 -- the request for octets: their type is data
 abbrev pub asking_for : List ℕ → DerElement
 asking_for octets =
-    sequence (Primitive 0x06 SPC_TIME_STAMP_REQUEST.now ∷
-    content_info_of (Primitive 0x06 DATA.now) (Some (octet_string octets)) ∷ [])
+    sequence (object_identifier_of SPC_TIME_STAMP_REQUEST.now ∷
+    content_info_of (object_identifier_of DATA.now) (Some (octet_string octets)) ∷ [])
 
 -- the octets of a content of type data
 abbrev pub data_of : ContentValue → Option (List ℕ)

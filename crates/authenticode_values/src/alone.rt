@@ -1,11 +1,11 @@
 //! Certificates alone, as signed data that signs nothing.
 
 ghost use Rattle.std.specs.Prelude.{◌≡◌, None, IfOk, map};
+ghost use Rattle.asn1_types.specs.Elements.{object_identifier_of};
 ghost use Rattle.asn1_types.specs.declared.oids.TheConstants.{DATA};
 ghost use Rattle.cms_types.specs.SignedData.{signed_data_elements};
 ghost use Rattle.content_types.specs.ContentInfo.{content_info};
 ghost use Rattle.content_types.specs.ContentInfoElements.{content_info_of};
-ghost use Rattle.der_core.specs.DerElement.{Primitive};
 ghost use Rattle.x509_types.specs.CertificateElements.{certificate_of};
 ghost use Rattle.making_core.specs.Carried.{elements_of};
 ghost use Rattle.authenticode_values.specs.CertificatesAlone.{certificates_alone};
@@ -43,7 +43,7 @@ pub(crate) fn without_signers(
 /// A content of the type of data that is left out (RFC 2315 8).
 fn no_content(alloc: Global) -> Result<EncapsulatedContentInfo, AllocError>
     ensures { IfOk result
-        (λ info. content_info info ≡ content_info_of (Primitive 0x06 DATA.now) None) }
+        (λ info. content_info info ≡ content_info_of (object_identifier_of DATA.now) None) }
 {
     let content_type = ObjectIdentifier::from_known(alloc, DATA)?;
     Ok(EncapsulatedContentInfo {

@@ -3,6 +3,7 @@
 ghost use Rattle.std.specs.Prelude.{◌≡◌, ◌≢◌, ◌∷◌, [], ℕ, IfOk, Err, MatchResult, map};
 ghost use Rattle.der_core.specs.DerElement.{DerElement};
 ghost use Rattle.der_core.specs.Encoding.{encoding, IsDer};
+ghost use Rattle.der_core.specs.Optional.{members_of};
 ghost use Rattle.der_core.specs.Reading.{IsExactFault};
 ghost use Rattle.der_core.specs.Refusals.{RefusesInner, RefusesOctets};
 ghost use Rattle.der_core.specs.Structure.{IsWithin};
@@ -12,7 +13,7 @@ ghost use Rattle.cms_types.specs.Pkcs7.{pkcs7};
 ghost use Rattle.cms_types.specs.declared.pkcs7.Pkcs7Certificate.{Pkcs7Certificate};
 ghost use Rattle.x509_types.specs.CertificateElements.{certificate_of};
 ghost use Rattle.making_core.specs.Carried.{elements_of};
-ghost use Rattle.authenticode_core.specs.CertificateBag.{IsBag, members_of};
+ghost use Rattle.authenticode_core.specs.CertificateBag.{IsBag};
 ghost use Rattle.authenticode_core.specs.declared.pkcs7_error.Pkcs7Error.TheVariants as errors;
 ghost use Rattle.authenticode_values.specs.CertificatesAlone.{certificates_alone};
 ghost use Rattle.authenticode_values.specs.Pkcs7.{IsPkcs7Of, fields_of, written};

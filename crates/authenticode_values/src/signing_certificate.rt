@@ -3,6 +3,7 @@
 ghost use Rattle.std.specs.Prelude.{◌≡◌, ◌↔◌, Some, Err, IfOk, IsTrue, MatchOption, MatchResult, slice_get, ℕ};
 ghost use Rattle.cms_types.specs.declared.signer_identifier.SignerIdentifier.TheVariants as named;
 ghost use Rattle.making_core.specs.Carried.{elements_of};
+ghost use Rattle.names_core.specs.Names.{name_of_sets};
 ghost use Rattle.authenticode_core.specs.Places.{HasNoPlace, IsLeastPlace};
 ghost use Rattle.authenticode_core.specs.BagSigner.{HasIssuerAndSerial};
 ghost use Rattle.authenticode_values.specs.SigningCertificate.{HasNoSigningCertificate, FirstNames, IsNamedOtherwise, IsSigningCertificate};
@@ -98,7 +99,7 @@ pub(crate) fn none_named(
     named: &IssuerAndSerialNumber,
 ) -> Result<AuthenticodeError, AllocError>
     ensures { IfOk result (λ e. e ≡ errors.NoCertificatesAssociatedWithIssuerAndSerialNumber
-        (record { name = named.now.issuer }) named.now.serial_number) }
+        (name_of_sets named.now.issuer) named.now.serial_number) }
 {
     let issuer = DirectoryName::from(named.issuer.try_clone(alloc)?);
     let serial_number = named.serial_number.try_clone(alloc)?;

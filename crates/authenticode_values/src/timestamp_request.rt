@@ -2,7 +2,8 @@
 
 ghost use Rattle.std.specs.Prelude.{◌≡◌, ◌≢◌, ◌↔◌, ◌∷◌, [], ℕ, Some, IfOk, IsTrue, Err, MatchResult};
 ghost use Rattle.std.specs.Option.{option_copied};
-ghost use Rattle.der_core.specs.DerElement.{DerElement, Primitive};
+ghost use Rattle.asn1_types.specs.Elements.{object_identifier_of};
+ghost use Rattle.der_core.specs.DerElement.{DerElement};
 ghost use Rattle.der_core.specs.Elements.{octet_string};
 ghost use Rattle.der_core.specs.Encoding.{encoding, IsDer};
 ghost use Rattle.der_core.specs.Reading.{IsExactFault};
@@ -119,8 +120,8 @@ impl TimestampRequest {
 
 /// The content of type data that has these octets (RFC 5652 4).
 fn data_content(alloc: Global, octets: &[u8]) -> Result<EncapsulatedContentInfo, AllocError>
-    ensures { IfOk result (λ info. content_info info ≡ content_info_of (Primitive 0x06 DATA.now)
-        (Some (octet_string octets.now))) }
+    ensures { IfOk result (λ info. content_info info ≡ content_info_of
+        (object_identifier_of DATA.now) (Some (octet_string octets.now))) }
 {
     Ok(EncapsulatedContentInfo {
         content_type: ObjectIdentifier::from_known(alloc, DATA)?,

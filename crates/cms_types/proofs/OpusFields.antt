@@ -2,10 +2,10 @@
 use Rattle.std.proofs.Common.{◌≡◌, ◌↔◌, IsTrue, Bool, false, Option, refl, sym, ap, ◌∙◌}
 use Rattle.std.specs.Prelude.{bytes_eq}
 use Rattle.std.specs.Option.{option_map, option_eq}
+use Rattle.der_core.specs.Each.{Prints}
 use Rattle.der_core.specs.DerElement.{DerElement}
 use Rattle.der_core.specs.Encoding.{encoding}
 use Rattle.der_core.specs.Facts.Equality.{options_same, octets_same}
-use Rattle.der_core.specs.Facts.Lists.{prints}
 use Rattle.der_core.specs.Facts.Optional.{printed_option, option_printed}
 use Rattle.cms_types.specs.SpcString.{spc_string}
 use Rattle.cms_types.specs.SpcLink.{spc_link}
@@ -20,8 +20,8 @@ use Rattle.cms_types.specs.declared.opus_info.SpcSpOpusInfo.{SpcSpOpusInfo}
 
 -- an element of these fields is one of a value exactly where they are those of its fields
 pub of_parts : (t : DerElement) (n i : Option DerElement) → t ≡ opus_info_of n i
-    → (name : Option SpcString) → SpellsOption (prints spc_string) n name
-    → (link : Option SpcLink) → SpellsOption (prints spc_link) i link
+    → (name : Option SpcString) → SpellsOption (Prints spc_string) n name
+    → (link : Option SpcLink) → SpellsOption (Prints spc_link) i link
     → (info : SpcSpOpusInfo) × (t ≡ opus_info info)
 of_parts t n i is name program_name link more_info = (
   record { program_name = name; more_info = link },
@@ -31,7 +31,7 @@ of_parts t n i is name program_name link more_info = (
 )
 
 pub parts_of : (t : DerElement) (n i : Option DerElement) → t ≡ opus_info_of n i → (info : SpcSpOpusInfo) → t ≡ opus_info info
-    → SpellsOption (prints spc_string) n info.program_name × SpellsOption (prints spc_link) i info.more_info
+    → SpellsOption (Prints spc_string) n info.program_name × SpellsOption (Prints spc_link) i info.more_info
 parts_of t n i is info spells =
     let parts = fields_once n (option_map spc_string info.program_name) i (option_map spc_link info.more_info) (sym is ∙ spells) in
     (option_printed spc_string n info.program_name parts.0, option_printed spc_link i info.more_info parts.1)

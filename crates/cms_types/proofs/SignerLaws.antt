@@ -30,7 +30,7 @@ use Rattle.x509_types.specs.Attribute.{AreAttributes}
 use Rattle.cms_types.specs.SignedAttributesElement.{signed_attributes}
 use Rattle.cms_types.specs.Members.{element_of_kept, elements_of_kept}
 use Rattle.cms_types.specs.UnsignedKind.{named_unsigned}
-use Rattle.cms_types.specs.UnsignedElement.{unsigned_of}
+use Rattle.cms_types.specs.AttributeElement.{attribute_of}
 use Rattle.cms_types.specs.UnsignedAttribute.{unsigned_attribute}
 use Rattle.cms_types.specs.SignerElements.{SignerElements, signer_of}
 use Rattle.cms_types.specs.SignedDataElements.{SignedDataElements, signed_data_of}
@@ -101,21 +101,21 @@ ms_counter_is = refl
 -- ---- unsigned attributes
 
 -- an attribute of this identifier and these values
-unsigned_with : (ty : ObjectIdentifier) (oid : List ℕ) (kind : UnsignedKind) (e : DerElement) (values : List DerElement) → identifier_contents ty ≡ oid → kind ≡ named_unsigned oid → e ≡ unsigned_of oid values → IsUnsignedOf e kind values
-unsigned_with ty oid kind e values same named is = record { ty = ty; is = is ∙ ap (λ o. unsigned_of o values) (sym same); named = named ∙ ap named_unsigned (sym same) }
+unsigned_with : (ty : ObjectIdentifier) (oid : List ℕ) (kind : UnsignedKind) (e : DerElement) (values : List DerElement) → identifier_contents ty ≡ oid → kind ≡ named_unsigned oid → e ≡ attribute_of oid values → IsUnsignedOf e kind values
+unsigned_with ty oid kind e values same named is = record { ty = ty; is = is ∙ ap (λ o. attribute_of o values) (sym same); named = named ∙ ap named_unsigned (sym same) }
 
-pub counter_of : (e : DerElement) (values : List DerElement) → e ≡ unsigned_of COUNTERSIGNATURE.now values → IsUnsignedOf e kinds.CounterSign values
+pub counter_of : (e : DerElement) (values : List DerElement) → e ≡ attribute_of COUNTERSIGNATURE.now values → IsUnsignedOf e kinds.CounterSign values
 counter_of e values is = unsigned_with counter COUNTERSIGNATURE.now kinds.CounterSign e values counter_is refl is
 
-pub ms_counter_of : (e : DerElement) (values : List DerElement) → e ≡ unsigned_of RFC3161_COUNTER_SIGN.now values → IsUnsignedOf e kinds.MsCounterSign values
+pub ms_counter_of : (e : DerElement) (values : List DerElement) → e ≡ attribute_of RFC3161_COUNTER_SIGN.now values → IsUnsignedOf e kinds.MsCounterSign values
 ms_counter_of e values is = unsigned_with ms_counter RFC3161_COUNTER_SIGN.now kinds.MsCounterSign e values ms_counter_is refl is
 
 -- and the other way around
-pub of_counter : (e : DerElement) (values : List DerElement) → IsUnsignedOf e kinds.CounterSign values → e ≡ unsigned_of COUNTERSIGNATURE.now values
-of_counter e values of = of.is ∙ ap (λ o. unsigned_of o values) (counter_oid (identifier_contents of.ty) of.named)
+pub of_counter : (e : DerElement) (values : List DerElement) → IsUnsignedOf e kinds.CounterSign values → e ≡ attribute_of COUNTERSIGNATURE.now values
+of_counter e values of = of.is ∙ ap (λ o. attribute_of o values) (counter_oid (identifier_contents of.ty) of.named)
 
-pub of_ms_counter : (e : DerElement) (values : List DerElement) → IsUnsignedOf e kinds.MsCounterSign values → e ≡ unsigned_of RFC3161_COUNTER_SIGN.now values
-of_ms_counter e values of = of.is ∙ ap (λ o. unsigned_of o values) (ms_counter_oid (identifier_contents of.ty) of.named)
+pub of_ms_counter : (e : DerElement) (values : List DerElement) → IsUnsignedOf e kinds.MsCounterSign values → e ≡ attribute_of RFC3161_COUNTER_SIGN.now values
+of_ms_counter e values of = of.is ∙ ap (λ o. attribute_of o values) (ms_counter_oid (identifier_contents of.ty) of.named)
 
 two_in : (s t e : DerElement) → IsDer e → e ≡ sequence (s ∷ t ∷ []) → IsDer t
 two_in s t e der is = (inside 0x30 e (s ∷ t ∷ []) der is).1.0
@@ -126,13 +126,13 @@ unsigned_values e kind values der of = keep_all values (inside 0x31 (set values)
 pub value_of_unsigned : (e : DerElement) → IsDer e → IsUnsignedAttribute e → (a : UnsignedAttribute) × (e ≡ unsigned_attribute a)
 value_of_unsigned e der (Counter {values = v} of each) =
     let kept = unsigned_values e kinds.CounterSign v der of in
-    (attributes.CounterSign (record { items = kept.0; all = ∣ subst AreSignerInfos kept.1 each ∣₁ }), of_counter e v of ∙ ap (unsigned_of COUNTERSIGNATURE.now) kept.1)
+    (attributes.CounterSign (record { items = kept.0; all = ∣ subst AreSignerInfos kept.1 each ∣₁ }), of_counter e v of ∙ ap (attribute_of COUNTERSIGNATURE.now) kept.1)
 value_of_unsigned e der (MsCounter {values = v} of each) =
     let kept = unsigned_values e kinds.MsCounterSign v der of in
-    (attributes.MsCounterSign (record { items = kept.0; all = ∣ subst ArePkcs7s kept.1 each ∣₁ }), of_ms_counter e v of ∙ ap (unsigned_of RFC3161_COUNTER_SIGN.now) kept.1)
+    (attributes.MsCounterSign (record { items = kept.0; all = ∣ subst ArePkcs7s kept.1 each ∣₁ }), of_ms_counter e v of ∙ ap (attribute_of RFC3161_COUNTER_SIGN.now) kept.1)
 value_of_unsigned e der (Any {values = v} of) =
     let kept = unsigned_values e kinds.Other v der of in
-    (attributes.Raw (record { ty = of.ty; values = kept.0; other = sym of.named }), of.is ∙ ap (unsigned_of (identifier_contents of.ty)) kept.1)
+    (attributes.Raw (record { ty = of.ty; values = kept.0; other = sym of.named }), of.is ∙ ap (attribute_of (identifier_contents of.ty)) kept.1)
 
 pub unsigned_of_value : (e : DerElement) (a : UnsignedAttribute) → e ≡ unsigned_attribute a → ∥ IsUnsignedAttribute e ∥₁
 unsigned_of_value e (attributes.CounterSign v) is = ∥∥₁_map v.all (λ each. Counter (counter_of e (elements_of_kept v.items) is) each)

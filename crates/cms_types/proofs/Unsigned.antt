@@ -17,7 +17,7 @@ use Rattle.cms_types.specs.Members.{element_of_kept, elements_of_kept}
 use Rattle.cms_types.specs.Signers.{AreSignerInfos, ArePkcs7s}
 use Rattle.x509_types.specs.Attribute.{AreAttributes}
 use Rattle.cms_types.specs.SignedAttributesElement.{signed_attributes}
-use Rattle.cms_types.specs.UnsignedElement.{unsigned_of}
+use Rattle.cms_types.specs.AttributeElement.{attribute_of}
 use Rattle.cms_types.specs.UnsignedAttribute.{unsigned_attribute}
 use Rattle.cms_types.specs.declared.signed_attributes.SignedAttributes.{SignedAttributes}
 use Rattle.cms_types.specs.declared.unsigned_attribute.UnsignedAttribute.{UnsignedAttribute}
@@ -51,17 +51,17 @@ no_ms_counter e kind values a is named of none = no_value (unsigned_of_value e a
 
 -- ---- what is read
 
-pub counter_read : (e : DerElement) (kind : UnsignedKind) (values : List DerElement) (kept : List KeptElement) → kind ≡ kinds.CounterSign → IsUnsignedOf e kind values → AreEach is_kept values kept → e ≡ unsigned_of COUNTERSIGNATURE.now (elements_of_kept kept)
+pub counter_read : (e : DerElement) (kind : UnsignedKind) (values : List DerElement) (kept : List KeptElement) → kind ≡ kinds.CounterSign → IsUnsignedOf e kind values → AreEach is_kept values kept → e ≡ attribute_of COUNTERSIGNATURE.now (elements_of_kept kept)
 counter_read e kind values kept named of each =
-    of_counter e values (subst (λ (k : UnsignedKind). IsUnsignedOf e k values) named of) ∙ ap (unsigned_of COUNTERSIGNATURE.now) (kept_are values kept each)
+    of_counter e values (subst (λ (k : UnsignedKind). IsUnsignedOf e k values) named of) ∙ ap (attribute_of COUNTERSIGNATURE.now) (kept_are values kept each)
 
-pub ms_counter_read : (e : DerElement) (kind : UnsignedKind) (values : List DerElement) (kept : List KeptElement) → kind ≡ kinds.MsCounterSign → IsUnsignedOf e kind values → AreEach is_kept values kept → e ≡ unsigned_of RFC3161_COUNTER_SIGN.now (elements_of_kept kept)
+pub ms_counter_read : (e : DerElement) (kind : UnsignedKind) (values : List DerElement) (kept : List KeptElement) → kind ≡ kinds.MsCounterSign → IsUnsignedOf e kind values → AreEach is_kept values kept → e ≡ attribute_of RFC3161_COUNTER_SIGN.now (elements_of_kept kept)
 ms_counter_read e kind values kept named of each =
-    of_ms_counter e values (subst (λ (k : UnsignedKind). IsUnsignedOf e k values) named of) ∙ ap (unsigned_of RFC3161_COUNTER_SIGN.now) (kept_are values kept each)
+    of_ms_counter e values (subst (λ (k : UnsignedKind). IsUnsignedOf e k values) named of) ∙ ap (attribute_of RFC3161_COUNTER_SIGN.now) (kept_are values kept each)
 
-pub other_read : (e ty : DerElement) (values : List DerElement) (id : ObjectIdentifier) (kept : List KeptElement) → e ≡ sequence (ty ∷ set values ∷ []) → ty ≡ object_identifier id → AreEach is_kept values kept → e ≡ unsigned_of (identifier_contents id) (elements_of_kept kept)
+pub other_read : (e ty : DerElement) (values : List DerElement) (id : ObjectIdentifier) (kept : List KeptElement) → e ≡ sequence (ty ∷ set values ∷ []) → ty ≡ object_identifier id → AreEach is_kept values kept → e ≡ attribute_of (identifier_contents id) (elements_of_kept kept)
 other_read e ty values id kept is spelled each =
-    is ∙ ap (λ (t : DerElement). sequence (t ∷ set values ∷ [])) spelled ∙ ap (unsigned_of (identifier_contents id)) (kept_are values kept each)
+    is ∙ ap (λ (t : DerElement). sequence (t ∷ set values ∷ [])) spelled ∙ ap (attribute_of (identifier_contents id)) (kept_are values kept each)
 
 -- ---- signed attributes
 

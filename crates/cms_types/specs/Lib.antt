@@ -17,7 +17,7 @@ pub mod Signers
 pub mod SignerSet
 pub mod Lent
 pub mod Members
-pub mod UnsignedElement
+pub mod AttributeElement
 pub mod UnsignedAttribute
 pub mod SignerInfo
 pub mod SignerParts

@@ -2,7 +2,7 @@
 use Rattle.std.specs.Prelude.{◌≡◌}
 use Rattle.std.specs.Option.{option_map}
 use Rattle.der_core.specs.DerElement.{DerElement}
-use Rattle.der_core.specs.Each.{IsListOf, list_element}
+use Rattle.der_core.specs.Each.{IsListOf, list_element, Prints}
 use Rattle.der_core.specs.Kept.{KeptElement}
 use Rattle.key_types.specs.AlgorithmIdentifier.{algorithm_identifier}
 use Rattle.content_types.specs.ContentInfo.{content_info}
@@ -13,9 +13,7 @@ use Rattle.cms_types.specs.CertificateChoices.{certificate_choice}
 use Rattle.cms_types.specs.Members.{element_of_kept}
 use Rattle.cms_types.specs.SignedDataElements.{SignedDataElements, signed_data_of}
 use Rattle.cms_types.specs.SignerInfo.{signer_info}
-use Rattle.cms_types.specs.declared.certificate_choices.CertificateChoices.{CertificateChoices}
 use Rattle.cms_types.specs.declared.signed_data.SignedData.{SignedData}
-use Rattle.cms_types.specs.declared.signer_info.SignerInfo.{SignerInfo}
 
 -- the elements that are written for the fields
 abbrev pub signed_data_elements : SignedData → SignedDataElements
@@ -37,13 +35,9 @@ pub record AreDataFields (f : SignedDataElements) (value : SignedData) : Type 0 
   pub version : IsCmsVersion f.version value.version
   pub digest_algorithms : IsListOf 0x31 IsAlgorithm f.digest_algorithms value.digest_algorithms
   pub content_info : IsContentInfo f.content_info value.content_info
-  pub certificates : SpellsOption
-      (IsListOf 0xA0 (λ (element : DerElement) (choice : CertificateChoices). element
-      ≡ certificate_choice choice))
-      f.certificates value.certificates
+  pub certificates : SpellsOption (IsListOf 0xA0 (Prints certificate_choice)) f.certificates
+      value.certificates
   pub crls : SpellsOption
       (IsListOf 0xA1 (λ (element : DerElement) (kept : KeptElement). element ≡ kept.element)) f.crls
       value.crls
-  pub signers_infos : IsListOf 0x31
-      (λ (element : DerElement) (signer : SignerInfo). element ≡ signer_info signer) f.signers_infos
-      value.signers_infos
+  pub signers_infos : IsListOf 0x31 (Prints signer_info) f.signers_infos value.signers_infos

@@ -2,34 +2,28 @@
 -- 5.1).
 use Rattle.std.specs.Prelude.{◌≡◌}
 use Rattle.der_core.specs.DerElement.{DerElement}
-use Rattle.der_core.specs.Each.{IsListOf}
+use Rattle.der_core.specs.Each.{IsListOf, Prints}
 use Rattle.der_core.specs.Kept.{KeptElement}
 use Rattle.der_core.specs.Optional.{SpellsOption}
 use Rattle.cms_types.specs.CertificateChoices.{certificate_choice}
 use Rattle.cms_types.specs.Levels.{IsAlgorithm, IsContentInfo}
 use Rattle.cms_types.specs.SignedDataElements.{SignedDataElements}
 use Rattle.cms_types.specs.SignerInfo.{signer_info}
-use Rattle.cms_types.specs.declared.certificate_choices.CertificateChoices.{CertificateChoices}
 use Rattle.cms_types.specs.declared.signed_data.SignedData.{SignedData}
 use Rattle.cms_types.specs.declared.signed_data_parts.CarriedPart.{CarriedPart}
 use Rattle.cms_types.specs.declared.signed_data_parts.SignedPart.{SignedPart}
-use Rattle.cms_types.specs.declared.signer_info.SignerInfo.{SignerInfo}
 use Rattle.cms_types.specs.declared.version.CmsVersion.{CmsVersion}
 
 -- Each element spells the field of the first part.
 pub record AreSigned (f : SignedDataElements) (part : SignedPart) : Type 0 where
   pub digest_algorithms : IsListOf 0x31 IsAlgorithm f.digest_algorithms part.digest_algorithms
   pub content_info : IsContentInfo f.content_info part.content_info
-  pub signers_infos : IsListOf 0x31
-      (λ (element : DerElement) (signer : SignerInfo). element ≡ signer_info signer) f.signers_infos
-      part.signers_infos
+  pub signers_infos : IsListOf 0x31 (Prints signer_info) f.signers_infos part.signers_infos
 
 -- Each element spells the field of the second part.
 pub record AreCarriedFields (f : SignedDataElements) (part : CarriedPart) : Type 0 where
-  pub certificates : SpellsOption
-      (IsListOf 0xA0 (λ (element : DerElement) (choice : CertificateChoices). element
-      ≡ certificate_choice choice))
-      f.certificates part.certificates
+  pub certificates : SpellsOption (IsListOf 0xA0 (Prints certificate_choice)) f.certificates
+      part.certificates
   pub crls : SpellsOption
       (IsListOf 0xA1 (λ (element : DerElement) (kept : KeptElement). element ≡ kept.element)) f.crls
       part.crls

@@ -1,8 +1,7 @@
 -- The element that is written for a signer (RFC 5652 5.3).
-use Rattle.std.specs.Prelude.{◌≡◌}
 use Rattle.std.specs.Option.{option_map}
 use Rattle.der_core.specs.DerElement.{DerElement}
-use Rattle.der_core.specs.Each.{IsListOf, list_element}
+use Rattle.der_core.specs.Each.{IsListOf, list_element, Prints}
 use Rattle.der_core.specs.Elements.{octet_string}
 use Rattle.key_types.specs.AlgorithmIdentifier.{algorithm_identifier}
 use Rattle.cms_types.specs.CmsVersion.{cms_version}
@@ -12,9 +11,7 @@ use Rattle.cms_types.specs.SignerIdentifier.{signer_identifier}
 use Rattle.cms_types.specs.SignedAttributesElement.{signed_attributes}
 use Rattle.cms_types.specs.SignerElements.{SignerElements, signer_of}
 use Rattle.cms_types.specs.UnsignedAttribute.{unsigned_attribute}
-use Rattle.cms_types.specs.declared.signed_attributes.SignedAttributes.{SignedAttributes}
 use Rattle.cms_types.specs.declared.signer_info.SignerInfo.{SignerInfo}
-use Rattle.cms_types.specs.declared.unsigned_attribute.UnsignedAttribute.{UnsignedAttribute}
 
 -- the elements that are written for the fields
 abbrev pub signer_elements : SignerInfo → SignerElements
@@ -37,12 +34,8 @@ pub record AreFieldsOf (f : SignerElements) (signer : SignerInfo) : Type 0 where
   pub version : IsCmsVersion f.version signer.version
   pub sid : IsSignerIdentifier f.sid signer.sid
   pub digest_algorithm : IsAlgorithm f.digest_algorithm signer.digest_algorithm
-  pub signed_attrs : SpellsOption
-      (λ (element : DerElement) (value : SignedAttributes). element ≡ signed_attributes value)
-      f.signed_attrs signer.signed_attrs
+  pub signed_attrs : SpellsOption (Prints signed_attributes) f.signed_attrs signer.signed_attrs
   pub signature_algorithm : IsAlgorithm f.signature_algorithm signer.signature_algorithm
   pub signature : IsOctetString f.signature signer.signature
-  pub unsigned_attrs : SpellsOption
-      (IsListOf 0xA1 (λ (element : DerElement) (value : UnsignedAttribute). element
-      ≡ unsigned_attribute value))
-      f.unsigned_attrs signer.unsigned_attrs
+  pub unsigned_attrs : SpellsOption (IsListOf 0xA1 (Prints unsigned_attribute)) f.unsigned_attrs
+      signer.unsigned_attrs

@@ -1,17 +1,13 @@
 -- The fields of a signer in two parts, which are read and copied one after another (RFC 5652 5.3).
-use Rattle.std.specs.Prelude.{◌≡◌}
-use Rattle.der_core.specs.DerElement.{DerElement}
-use Rattle.der_core.specs.Each.{IsListOf}
+use Rattle.der_core.specs.Each.{IsListOf, Prints}
 use Rattle.der_core.specs.Optional.{SpellsOption}
 use Rattle.cms_types.specs.Levels.{IsSignerIdentifier, IsAlgorithm, IsOctetString}
 use Rattle.cms_types.specs.SignedAttributesElement.{signed_attributes}
 use Rattle.cms_types.specs.SignerElements.{SignerElements}
 use Rattle.cms_types.specs.UnsignedAttribute.{unsigned_attribute}
-use Rattle.cms_types.specs.declared.signed_attributes.SignedAttributes.{SignedAttributes}
 use Rattle.cms_types.specs.declared.signer_info.SignerInfo.{SignerInfo}
 use Rattle.cms_types.specs.declared.signer_parts.SignatureFields.{SignatureFields}
 use Rattle.cms_types.specs.declared.signer_parts.SignedBy.{SignedBy}
-use Rattle.cms_types.specs.declared.unsigned_attribute.UnsignedAttribute.{UnsignedAttribute}
 use Rattle.cms_types.specs.declared.version.CmsVersion.{CmsVersion}
 
 -- Each element spells the field of the first part.
@@ -22,14 +18,10 @@ pub record AreSignedByFields (f : SignerElements) (part : SignedBy) : Type 0 whe
 
 -- Each element spells the field of the second part.
 pub record AreSignatureFields (f : SignerElements) (part : SignatureFields) : Type 0 where
-  pub signed_attrs : SpellsOption
-      (λ (element : DerElement) (value : SignedAttributes). element ≡ signed_attributes value)
-      f.signed_attrs part.signed_attrs
+  pub signed_attrs : SpellsOption (Prints signed_attributes) f.signed_attrs part.signed_attrs
   pub signature : IsOctetString f.signature part.signature
-  pub unsigned_attrs : SpellsOption
-      (IsListOf 0xA1 (λ (element : DerElement) (value : UnsignedAttribute). element
-      ≡ unsigned_attribute value))
-      f.unsigned_attrs part.unsigned_attrs
+  pub unsigned_attrs : SpellsOption (IsListOf 0xA1 (Prints unsigned_attribute)) f.unsigned_attrs
+      part.unsigned_attrs
 
 -- the first part of a signer
 abbrev pub signed_by : SignerInfo → SignedBy

@@ -4,7 +4,7 @@ use Rattle.der_core.specs.DerElement.{DerElement}
 use Rattle.asn1_types.specs.Values.{identifier_contents}
 use Rattle.asn1_types.specs.declared.oids.TheConstants.{COUNTERSIGNATURE, RFC3161_COUNTER_SIGN}
 use Rattle.cms_types.specs.Members.{elements_of_kept}
-use Rattle.cms_types.specs.UnsignedElement.{unsigned_of}
+use Rattle.cms_types.specs.AttributeElement.{attribute_of}
 use Rattle.cms_types.specs.declared.signer_values.SignerValues.{SignerValues}
 use Rattle.cms_types.specs.declared.unsigned_attribute.UnsignedAttribute.{UnsignedAttribute}
 use Rattle.cms_types.specs.declared.unsigned_attribute.UnsignedAttribute.TheVariants as attributes
@@ -12,11 +12,11 @@ use Rattle.cms_types.specs.declared.unsigned_attribute.UnsignedAttribute.TheVari
 -- the values of an attribute are written as they are kept
 abbrev pub unsigned_attribute : UnsignedAttribute → DerElement
 unsigned_attribute (attributes.CounterSign values) =
-    unsigned_of COUNTERSIGNATURE.now (elements_of_kept values.items)
+    attribute_of COUNTERSIGNATURE.now (elements_of_kept values.items)
 unsigned_attribute (attributes.MsCounterSign values) =
-    unsigned_of RFC3161_COUNTER_SIGN.now (elements_of_kept values.items)
+    attribute_of RFC3161_COUNTER_SIGN.now (elements_of_kept values.items)
 unsigned_attribute (attributes.Raw attribute) =
-    unsigned_of (identifier_contents attribute.ty) (elements_of_kept attribute.values)
+    attribute_of (identifier_contents attribute.ty) (elements_of_kept attribute.values)
 
 -- the elements of signers that are kept as values
 abbrev pub signer_values : SignerValues → List DerElement

@@ -5,7 +5,7 @@ ghost use Rattle.der_core.specs.Encoding.{IsWellFormed};
 ghost use Rattle.der_core.specs.Refusals.{RefusesInner};
 ghost use Rattle.asn1_types.specs.Values.{identifier_contents};
 ghost use Rattle.cms_types.specs.Members.{elements_of_kept};
-ghost use Rattle.cms_types.specs.UnsignedElement.{unsigned_of};
+ghost use Rattle.cms_types.specs.AttributeElement.{attribute_of};
 ghost use Rattle.cms_types.specs.UnsignedKind.{named_unsigned};
 ghost use Rattle.cms_types.specs.Facts.UnsignedKinds.{same_unsigned_kinds};
 ghost use Rattle.cms_types.specs.declared.unsigned_kind.UnsignedKind.TheVariants as kinds;
@@ -71,7 +71,7 @@ pub(crate) fn are_same_elements(a: &RawList, b: &RawList) -> bool
 /// The element of an attribute of this identifier, by its contents octets, and these values.
 pub(crate) fn write_attribute(alloc: Global, ty: &[u8], values: &RawList) -> Result<Tree, DerError>
     ensures { MatchResult result
-        (λ tree. (tree ≡ unsigned_of ty.now (elements_of_kept values.now)) × IsWellFormed tree)
+        (λ tree. (tree ≡ attribute_of ty.now (elements_of_kept values.now)) × IsWellFormed tree)
         (RefusesInner []) }
 {
     let mut kids = NewKids::new(alloc);

@@ -1,6 +1,7 @@
 //! The signed attributes of a signer, kept as they are.
 
 ghost use Rattle.std.specs.Prelude.{◌≡◌};
+ghost use Rattle.der_core.specs.Each.{Prints};
 ghost use Rattle.x509_types.specs.Attribute.{AreAttributes};
 
 use der_core::{DerError, Elem, Raw, Structure, Tree, has_list, read_list};
@@ -40,7 +41,7 @@ impl Structure for SignedAttributes {
 
     ghost written = { signed_attributes };
 
-    ghost spells = { λ element value. element ≡ signed_attributes value };
+    ghost spells = { Prints signed_attributes };
 
     fn has_shape(elem: Elem<'_>) -> bool {
         has_list::<Attribute>(elem, SIGNED_ATTRIBUTES)

@@ -1,5 +1,6 @@
 //! Signed data, where its octets lie.
 
+ghost use Rattle.asn1_types.specs.Elements.{object_identifier_of};
 ghost use Rattle.cms_types.specs.Lent.{signed_data_at};
 ghost use Rattle.cms_types.specs.Levels.{AreSignedDataFields};
 ghost use Rattle.cms_types.specs.SignedDataElements.{signed_data_of};
@@ -69,7 +70,7 @@ impl<'a> SignedView<'a> {
     pub fn content_type(&self) -> &'a [u8]
         ensures { (content : Option DerElement)
             × ((data_elements self.now).content_info
-            ≡ content_info_of (Primitive 0x06 result.now) content) }
+            ≡ content_info_of (object_identifier_of result.now) content) }
     {
         ContentView::of_known(self.fields.content_info).content_type()
     }

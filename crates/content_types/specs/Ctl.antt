@@ -1,13 +1,11 @@
 -- What a trust list is.
-use Rattle.std.specs.Prelude.{◌≡◌, ◌≤◌, ⊤, ℕ, List, [], ◌∷◌}
+use Rattle.std.specs.Prelude.{◌≡◌, ◌≤◌, ⊤, List, [], ◌∷◌}
 use Rattle.der_core.specs.DerElement.{DerElement, tag_of}
-use Rattle.der_core.specs.Each.{IsListOf}
+use Rattle.der_core.specs.Each.{IsListOf, Prints}
 use Rattle.der_core.specs.Elements.{sequence, octet_string}
 use Rattle.der_core.specs.Structure.{Fits}
 use Rattle.asn1_types.specs.Elements.{integer}
-use Rattle.asn1_types.specs.declared.integer.IntegerAsn1.{IntegerAsn1}
 use Rattle.key_types.specs.AlgorithmIdentifier.{algorithm_identifier}
-use Rattle.key_types.specs.declared.algorithm.AlgorithmIdentifier.{AlgorithmIdentifier}
 use Rattle.content_types.specs.CtlEntry.{ctl_entry}
 use Rattle.content_types.specs.HeldPurposes.{ArePurposes}
 use Rattle.content_types.specs.declared.ctl_entry.CTLEntry.{CTLEntry}
@@ -40,11 +38,11 @@ IsNothing all = all ≡ []
 
 -- an INTEGER, in one octet at least (X.690 8.3.1)
 abbrev pub IsIntegerElement : DerElement → Type 0
-IsIntegerElement = Fits (λ (element : DerElement) (value : IntegerAsn1). element ≡ integer value)
+IsIntegerElement = Fits (Prints integer)
 
 -- an OCTET STRING
 abbrev pub IsString : DerElement → Type 0
-IsString = Fits (λ (element : DerElement) (octets : List ℕ). element ≡ octet_string octets)
+IsString = Fits (Prints octet_string)
 
 -- a SEQUENCE of purposes
 abbrev pub IsPurposeList : DerElement → Type 0
@@ -56,13 +54,11 @@ IsTime element = (0x17 ≤ tag_of element) × (tag_of element ≤ 0x18)
 
 -- an AlgorithmIdentifier
 abbrev pub IsAlgorithmElement : DerElement → Type 0
-IsAlgorithmElement =
-    Fits
-    (λ (element : DerElement) (value : AlgorithmIdentifier). element ≡ algorithm_identifier value)
+IsAlgorithmElement = Fits (Prints algorithm_identifier)
 
 -- The element holds the entries, in order.
 abbrev pub AreEntries : DerElement → List CTLEntry → Type 0
-AreEntries = IsListOf 0x30 (λ (element : DerElement) (entry : CTLEntry). element ≡ ctl_entry entry)
+AreEntries = IsListOf 0x30 (Prints ctl_entry)
 
 -- any elements under the tag
 abbrev pub AreExtensions : DerElement → Type 0

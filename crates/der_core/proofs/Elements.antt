@@ -1,6 +1,7 @@
 -- The steps of a reader of trees: a leaf, a branch, one more kid, and why there is none.
 use Rattle.std.proofs.Common.{◌≡◌, ℕ, ◌-◌, ◌<◌, List, [], ◌∷◌, ◌++◌, length, drop, Ok, Err, refl, sym, ap, subst, ◌∙◌, append_assoc, arith}
 use Rattle.std.proofs.lemmas.List.{append-nil, length-append, take_at, take-append-drop}
+use Rattle.der_core.specs.Placed.{contents_octets}
 use Rattle.der_core.specs.declared.fault.DerFault.{DerFault}
 use Rattle.der_core.specs.DerElement.{DerElement, Primitive, Constructed, DerElements, Nil, Cons, row, tag_of}
 use Rattle.der_core.specs.Encoding.{encoding, encodings, form_bit, IsDerWithin}
@@ -8,7 +9,7 @@ use Rattle.der_core.specs.Facts.Fronts.{ok_is, some_octets, fronts}
 use Rattle.der_core.specs.Head.{head_at, HasHead}
 use Rattle.der_core.specs.Reading.{AreDerWithin, HasElements, IsFirst}
 use Rattle.der_core.proofs.Begins.{HasElement}
-use Rattle.der_core.proofs.Heads.{contents_of, head_again}
+use Rattle.der_core.proofs.Heads.{head_again}
 
 -- ---- what is read
 
@@ -38,17 +39,17 @@ encodings_push (first ∷ kids) kid = ap (λ (o : List ℕ). encoding first ++ o
 
 pub no_head : (levels : ℕ) (octets : List ℕ) (fault : DerFault) → head_at levels octets ≡ Err fault → HasElement levels octets → ⊥
 no_head levels octets fault failed has =
-    let again : head_at levels octets ≡ Ok (tag_of has.0, contents_of has.0, has.1) = ap (head_at levels) has.3 ∙ head_again levels has.0 has.1 has.2 in
+    let again : head_at levels octets ≡ Ok (tag_of has.0, contents_octets has.0, has.1) = ap (head_at levels) has.3 ∙ head_again levels has.0 has.1 has.2 in
     absurd cc
 
-inner : (levels tag : ℕ) (contents : List ℕ) (a : DerElement) → IsDerWithin levels a → form_bit tag ≡ 1 → tag ≡ tag_of a → contents ≡ contents_of a → HasElements (levels - 1) contents
+inner : (levels tag : ℕ) (contents : List ℕ) (a : DerElement) → IsDerWithin levels a → form_bit tag ≡ 1 → tag ≡ tag_of a → contents ≡ contents_octets a → HasElements (levels - 1) contents
 inner levels tag contents (Primitive t content) der bit same_tag same = absurd (omega (arith, ap form_bit same_tag, der.formed.1))
 inner levels tag contents (Constructed t kids) der bit same_tag same = (kids, record { formed = der.formed.2; nested = omega (arith, der.nested); short = der.short.1 }, same)
 
 pub no_kids : (levels tag : ℕ) (octets contents rest : List ℕ) → head_at levels octets ≡ Ok (tag, contents, rest) → form_bit tag ≡ 1 → (HasElements (levels - 1) contents → ⊥) → HasElement levels octets → ⊥
 no_kids levels tag octets contents rest head bit none has =
     let found : ℕ × List ℕ × List ℕ = (tag, contents, rest) in
-    let again : ℕ × List ℕ × List ℕ = (tag_of has.0, contents_of has.0, has.1) in
+    let again : ℕ × List ℕ × List ℕ = (tag_of has.0, contents_octets has.0, has.1) in
     let same : found ≡ again = ok_is found again (sym head ∙ ap (head_at levels) has.3 ∙ head_again levels has.0 has.1 has.2) in
     none (inner levels tag contents has.0 has.2 bit (ap (λ (p : ℕ × List ℕ × List ℕ). p.0) same) (ap (λ (p : ℕ × List ℕ × List ℕ). p.1) same))
 

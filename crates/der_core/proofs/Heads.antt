@@ -2,6 +2,7 @@
 use Rattle.std.proofs.Common.{◌≡◌, ℕ, suc, ◌%◌, ◌^◌, ◌<◌, ◌≤◌, false, cond, ltb, eqb, List, [], ◌∷◌, ◌++◌, length, take, drop, Result, Ok, Err, refl, sym, ap, subst, ◌∙◌, append_assoc, arith}
 use Rattle.std.proofs.lemmas.Bool.{ltb-false, le-ltb, eqb-false, ne_eqb}
 use Rattle.std.proofs.lemmas.List.{take_at, drop_at, take-append-drop, length-append, length-take-le}
+use Rattle.der_core.specs.Placed.{contents_octets}
 use Rattle.der_core.specs.declared.fault.DerFault.{DerFault}
 use Rattle.der_core.specs.declared.fault.DerFault.TheVariants.{Truncated, ReservedTag, HighTag, TooDeep}
 use Rattle.der_core.specs.DerElement.{DerElement, Primitive, Constructed, tag_of}
@@ -27,12 +28,7 @@ framed_again levels tag contents rest some is_tag short =
     let not_deep : eqb levels 0 ≡ false = ne_eqb _ _ (λ e. omega arith) in
     rw (not_zero, not_high, not_deep, contents_again (past_bound levels) contents rest short) refl
 
--- the contents of an element as octets
-abbrev pub contents_of : DerElement → List ℕ
-contents_of (Primitive tag content) = content
-contents_of (Constructed tag kids) = encodings kids
-
-pub head_again : (levels : ℕ) (a : DerElement) (rest : List ℕ) → IsDerWithin levels a → head_at levels (encoding a ++ rest) ≡ Ok (tag_of a, contents_of a, rest)
+pub head_again : (levels : ℕ) (a : DerElement) (rest : List ℕ) → IsDerWithin levels a → head_at levels (encoding a ++ rest) ≡ Ok (tag_of a, contents_octets a, rest)
 head_again levels (Primitive tag content) rest der = framed_again levels tag content rest der.nested der.formed.0 der.short
 head_again levels (Constructed tag kids) rest der = framed_again levels tag (encodings kids) rest (omega (arith, der.nested)) der.formed.0 der.short.0
 

@@ -10,9 +10,9 @@ use Rattle.der_core.specs.Head.{head_at, BeginsWithHead}
 use Rattle.der_core.specs.Placed.{contents_octets, IsElem, HasElem, AreElems, HasElems}
 use Rattle.der_core.specs.Facts.Placed.{HasElem-prop, HasElems-prop, same_elements, kids_in_bounds}
 use Rattle.der_core.specs.Kept.{IsKept, Kept}
-use Rattle.der_core.proofs.Heads.{contents_of, head_again}
+use Rattle.der_core.proofs.Heads.{head_again}
 
-contents_same : (a : DerElement) → contents_of a ≡ contents_octets a
+contents_same : (a : DerElement) → contents_octets a ≡ contents_octets a
 contents_same (Primitive tag content) = refl
 contents_same (Constructed tag kids) = refl
 
@@ -54,7 +54,7 @@ head_left' : (octets : List ℕ) (elements : List DerElement) → AreElems octet
 head_left' octets [] are some = absurd (some refl)
 head_left' octets (a ∷ elements) are some =
     let rest = encodings (row elements) in
-    (tag_of a, contents_of a, rest, ap (head_at 64) are.1 ∙ head_again 64 a rest are.0.0)
+    (tag_of a, contents_octets a, rest, ap (head_at 64) are.1 ∙ head_again 64 a rest are.0.0)
 
 pub head_left : (octets : List ℕ) (k : HasElems octets) → (k.0 ≡ [] → ⊥) → BeginsWithHead octets
 head_left octets k some = head_left' octets k.0 k.1 some
@@ -79,7 +79,7 @@ first_of' octets [] tag contents after are head =
 first_of' octets (a ∷ elements) tag contents after are head =
     let rest = encodings (row elements) in
     let found : ℕ × List ℕ × List ℕ = (tag, contents, after) in
-    let again : ℕ × List ℕ × List ℕ = (tag_of a, contents_of a, rest) in
+    let again : ℕ × List ℕ × List ℕ = (tag_of a, contents_octets a, rest) in
     let same : found ≡ again = ok_is found again (sym head ∙ ap (head_at 64) are.1 ∙ head_again 64 a rest are.0.0) in
     let same_after : after ≡ rest = ap (λ (p : ℕ × List ℕ × List ℕ). p.2) same in
     let many : length (encoding a) ≡ length octets - length after = omega (arith, ap length are.1, length-append (encoding a) rest, ap length same_after) in

@@ -4,6 +4,10 @@ use Rattle.der_core.specs.DerElement.{DerElement, Constructed, row}
 use Rattle.der_core.specs.Encoding.{IsWellFormed}
 use Rattle.der_core.specs.Placed.{AreDer}
 
+-- the element is the one that is written for the value
+abbrev pub Prints : {X : Type 0} → (X → DerElement) → DerElement → X → Type 0
+Prints written element value = element ≡ written value
+
 -- each element spells the value at its place, and there are as many of them
 abbrev pub AreEach : {X : Type 0} → (DerElement → X → Type 0) → List DerElement → List X → Type 0
 AreEach spells [] [] = ⊤

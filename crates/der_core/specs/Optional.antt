@@ -1,7 +1,7 @@
 -- Fields that may be left out: values of them, and elements at the front of others, told by their
 -- tags.
 use Rattle.std.specs.Prelude.{◌≡◌, ◌≢◌, ⊤, ℕ, List, [], ◌∷◌, ◌++◌, Option, Some, None}
-use Rattle.der_core.specs.DerElement.{DerElement, tag_of}
+use Rattle.der_core.specs.DerElement.{DerElement, Primitive, Constructed, tag_of, listed}
 use Rattle.der_core.specs.Elements.{explicit, optional_explicit}
 use Rattle.der_core.specs.Structure.{BeginsOtherwise}
 
@@ -31,3 +31,9 @@ pub record HasBadTagging (tag : ℕ) (all : List DerElement) : Type 0 where
   pub are : all ≡ kid ∷ rest
   pub tagged : tag_of kid ≡ tag
   pub none : (inner : DerElement) → kid ≢ explicit tag inner
+
+-- the elements in one that may be left out: none in a primitive one
+abbrev pub members_of : Option DerElement → List DerElement
+members_of None = []
+members_of (Some (Primitive tag content)) = []
+members_of (Some (Constructed tag members)) = listed members

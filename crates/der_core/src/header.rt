@@ -168,7 +168,7 @@ fn tested_head(octets: &[u8], levels: u8) -> Result<Head<'_>, DerFault>
     if levels == 0 {
         return Err(DerFault::TooDeep);
     }
-    let (contents, rest) = contents_of(octets, past)?;
+    let (contents, rest) = contents_within(octets, past)?;
     Ok(Head {
         tag,
         contents,
@@ -191,7 +191,7 @@ fn past_bound_of(levels: u8) -> DerFault
 /// The length that octets begin with, contents of that length, and the octets after them.
 #[tactic(auto, unfolding(crate::specs::Head::contents_at))]
 #[inline(always)]
-fn contents_of(octets: &[u8], past: DerFault) -> Result<(&[u8], &[u8]), DerFault>
+fn contents_within(octets: &[u8], past: DerFault) -> Result<(&[u8], &[u8]), DerFault>
     ensures { MatchResult result
         (λ c. contents_at past octets.now ≡ Ok (c.0.now, c.1.now))
         (λ fault. contents_at past octets.now ≡ Err fault) }

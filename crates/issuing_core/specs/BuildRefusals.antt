@@ -14,33 +14,26 @@ use Rattle.x509_core.specs.declared.error.CertCause.TheVariants as causes
 use Rattle.x509_core.specs.declared.error.CertError.{CertError}
 use Rattle.x509_core.specs.declared.error.CertError.TheVariants as errors
 
--- Want of memory is told as such, any other cause by what is made: the public half of a private
--- key,
 abbrev pub no_half : KeyError → CertError
 no_half key.Memory = errors.Memory
 no_half source = errors.PrivateKeyToPublicKey source
 
--- the verdict on a request,
 abbrev pub no_request : CsrError → CertError
 no_request csr.Memory = errors.Memory
 no_request source = errors.InvalidCsr source
 
--- the identifier of a key,
 abbrev pub no_key_id : KeyIdGenError → CertError
 no_key_id key_id.Memory = errors.Memory
 no_key_id source = errors.CertGeneration (causes.KeyIdGen source)
 
--- the identifier of the algorithm,
 abbrev pub no_algorithm : SignatureError → CertError
 no_algorithm signature.Memory = errors.Memory
 no_algorithm source = errors.Signature source
 
--- what is signed,
 abbrev pub no_octets : DerError → CertError
 no_octets der.Memory = errors.Memory
 no_octets source = errors.CertGeneration (causes.Asn1Serialization elements.TbsCertificate source)
 
--- the signature.
 abbrev pub no_signature : SignatureError → CertError
 no_signature signature.Memory = errors.Memory
 no_signature source = errors.CertGeneration (causes.Signature source)

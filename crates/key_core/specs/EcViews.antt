@@ -1,7 +1,7 @@
 -- Views of keys of elliptic curves.
 use Rattle.std.specs.Prelude.{◌≡◌, ◌≢◌, Some, None, Result, MatchResult}
 use Rattle.std.specs.Option.{option_copied}
-use Rattle.der_core.specs.DerElement.{Primitive}
+use Rattle.asn1_types.specs.Elements.{object_identifier_of}
 use Rattle.der_core.specs.Lent.{kept_option}
 use Rattle.asn1_types.specs.Values.{lent_contents, payload_of}
 use Rattle.asn1_types.specs.declared.bit_string.BitString.{BitString}
@@ -27,7 +27,7 @@ pub record IsEcKeypairOf (key : PrivateKey) (keypair : EcdsaKeypair) : Type 0 wh
   pub is : key.info.private_key ≡ values.Ec read
   pub secret_is : keypair.secret.now ≡ read.private_key
   pub curve_is : kept_option (parameters_of key.info.private_key_algorithm)
-      ≡ Some (Primitive 0x06 (lent_contents keypair.curve))
+      ≡ Some (object_identifier_of (lent_contents keypair.curve))
   pub public_is : option_copied keypair.point ≡ key.public_key
 
 -- the view of a private key, or that the key is of another kind
@@ -42,7 +42,7 @@ pub record IsEcPublicOf (info : SubjectPublicKeyInfo) (view : EcdsaPublicKey) : 
   pub is : info.subject_public_key ≡ keys.Ec bits
   pub point_is : view.point.now ≡ payload_of bits
   pub curve_is : kept_option (parameters_of info.algorithm)
-      ≡ Some (Primitive 0x06 (lent_contents view.curve))
+      ≡ Some (object_identifier_of (lent_contents view.curve))
 
 -- the view of a public key, or that the key is of another kind
 abbrev pub GivesEcPublic : SubjectPublicKeyInfo → Result EcdsaPublicKey KeyError → Type 0

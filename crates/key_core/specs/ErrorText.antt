@@ -46,8 +46,6 @@ kind_text kinds.Ec = codes "EC"
 kind_text kinds.Ed = codes "ED"
 kind_text kinds.Mldsa = codes "ML-DSA"
 
--- What is told of a key that isn't read, made or written. Of an element that isn't read or written
--- no contract says what is told.
 abbrev pub key_error_text : KeyError → Option (List ℕ)
 key_error_text (errors.Asn1Serialization element source) = None
 key_error_text (errors.Asn1Deserialization element source) = None

@@ -30,8 +30,6 @@ unsupported_text (unsupported.Hash hash) = digest_name hash
 unsupported_text (unsupported.Pairing curve hash) =
     curve_text curve ++ codes " with " ++ digest_name hash
 
--- What is told of a signature that isn't made or accepted. Of a key that can't be written no
--- contract says what is told.
 abbrev pub signature_error_text : SignatureError → Option (List ℕ)
 signature_error_text (errors.Key source) =
     option_map (λ text. codes "Key error: " ++ text) (key_error_text source)
@@ -43,7 +41,6 @@ signature_error_text (errors.UnsupportedAlgorithm algorithm) =
     Some (codes "unsupported algorithm: " ++ unsupported_text algorithm)
 signature_error_text errors.Memory = Some (codes "out of memory")
 
--- what is told of a key that has no identifier, but for an element that can't be written
 abbrev pub key_id_error_text : KeyIdGenError → Option (List ℕ)
 key_id_error_text (id_errors.InvalidKey source) =
     option_map (λ text. codes "invalid key: " ++ text) (key_error_text source)

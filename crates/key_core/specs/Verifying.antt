@@ -1,6 +1,6 @@
 -- When a scheme accepts a signature by a key, and why it doesn't.
 use Rattle.std.specs.Prelude.{◌≡◌, ◌≢◌, ℕ, List, [], ◌∷◌, ◌++◌, length, Some, None}
-use Rattle.der_core.specs.DerElement.{Primitive}
+use Rattle.asn1_types.specs.Elements.{object_identifier_of}
 use Rattle.der_core.specs.Lent.{kept_option}
 use Rattle.der_core.specs.declared.error.DerError.{DerError}
 use Rattle.asn1_types.specs.Values.{identifier_contents, payload_of}
@@ -44,7 +44,7 @@ Judge = SigAlg → List ℕ → List ℕ → List ℕ → Verdict
 -- the algorithm has the identifier of this curve as its parameters (RFC 5480 2.1.1)
 abbrev pub NamesCurve : AlgorithmIdentifier → EcCurve → Type 0
 NamesCurve algorithm curve =
-    kept_option (parameters_of algorithm) ≡ Some (Primitive 0x06 (curve_identifier curve))
+    kept_option (parameters_of algorithm) ≡ Some (object_identifier_of (curve_identifier curve))
 
 -- the algorithm of the key names this curve
 abbrev pub IsOnCurve : SubjectPublicKeyInfo → EcCurve → Type 0

@@ -1,7 +1,7 @@
 //! Views of keys of elliptic curves, which lend from a key and take no memory.
 
 ghost use Rattle.std.specs.Prelude.{◌≡◌, Some};
-ghost use Rattle.der_core.specs.DerElement.{Primitive};
+ghost use Rattle.asn1_types.specs.Elements.{object_identifier_of};
 ghost use Rattle.der_core.specs.Lent.{kept_option};
 ghost use Rattle.asn1_types.specs.ObjectIdentifier.{IsIdentifier};
 ghost use Rattle.asn1_types.specs.Values.{lent_contents};
@@ -71,7 +71,7 @@ impl<'a> EcdsaPublicKey<'a> {
 fn curve_of<'a>(algorithm: &'a AlgorithmIdentifier) -> LentIdentifier<'a>
     requires { MayHave kinds.Ec (kept_option (parameters_of algorithm.now)) }
     ensures { kept_option (parameters_of algorithm.now)
-        ≡ Some (Primitive 0x06 (lent_contents result)) }
+        ≡ Some (object_identifier_of (lent_contents result)) }
 {
     match curve_octets(algorithm) {
         Some(octets) => identifier_of(octets),

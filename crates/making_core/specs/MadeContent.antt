@@ -2,7 +2,9 @@
 -- Authenticode Portable Executable Signature Format).
 use Rattle.std.specs.Prelude.{ℕ, List, [], ◌∷◌, Option, Some}
 use Rattle.std.specs.Option.{option_map}
+use Rattle.asn1_types.specs.Elements.{object_identifier_of}
 use Rattle.asn1_types.specs.declared.oids.TheConstants.{CONTENT_TYPE, MESSAGE_DIGEST, SPC_INDIRECT_DATA, SPC_PE_IMAGE_DATA, SPC_SP_OPUS_INFO}
+use Rattle.cms_types.specs.AttributeElement.{attribute_of}
 use Rattle.cms_types.specs.DigestAlgorithm.{digest_algorithm}
 use Rattle.cms_types.specs.OpusInfo.{opus_info_of}
 use Rattle.cms_types.specs.Units.{text_units}
@@ -22,7 +24,7 @@ image_value =
 
 -- the kind of file
 abbrev pub image_element : DerElement
-image_element = sequence (Primitive 0x06 SPC_PE_IMAGE_DATA.now ∷ image_value ∷ [])
+image_element = sequence (object_identifier_of SPC_PE_IMAGE_DATA.now ∷ image_value ∷ [])
 
 -- the digest of the file by the algorithm, beside the kind of file
 abbrev pub data_kids : ShaVariant → List ℕ → List DerElement
@@ -36,7 +38,8 @@ data_element hash file_hash = sequence (data_kids hash file_hash)
 -- the content with its type
 abbrev pub program_content : ShaVariant → List ℕ → DerElement
 program_content hash file_hash =
-    content_info_of (Primitive 0x06 SPC_INDIRECT_DATA.now) (Some (data_element hash file_hash))
+    content_info_of (object_identifier_of SPC_INDIRECT_DATA.now)
+    (Some (data_element hash file_hash))
 
 -- the digest of the content: of its contents octets (RFC 2315 9.3)
 abbrev pub content_digest : ShaVariant → List ℕ → List ℕ
@@ -51,12 +54,12 @@ opus_element name =
 
 -- an attribute of one value (RFC 5652 5.3)
 abbrev pub attribute_by : (oid : List ℕ) → DerElement → DerElement
-attribute_by oid value = sequence (Primitive 0x06 oid ∷ set (value ∷ []) ∷ [])
+attribute_by oid value = attribute_of oid (value ∷ [])
 
 -- the attributes: what the content is, what is said of the program, the digest of the content
 abbrev pub program_attributes : (opus : DerElement) → (digest : List ℕ) → List DerElement
 program_attributes opus digest =
-    attribute_by CONTENT_TYPE.now (Primitive 0x06 SPC_INDIRECT_DATA.now) ∷
+    attribute_by CONTENT_TYPE.now (object_identifier_of SPC_INDIRECT_DATA.now) ∷
     attribute_by SPC_SP_OPUS_INFO.now opus ∷
     attribute_by MESSAGE_DIGEST.now (octet_string digest) ∷ []
 

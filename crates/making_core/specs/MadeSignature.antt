@@ -1,11 +1,11 @@
 -- The signature that is made, field by field (RFC 2315 9.1, 9.2; Windows Authenticode Portable
 -- Executable Signature Format).
 use Rattle.std.specs.Prelude.{ℕ, List, [], ◌∷◌, Option, Some}
-use Rattle.asn1_types.specs.Elements.{integer_of}
+use Rattle.asn1_types.specs.Elements.{integer_of, object_identifier_of}
 use Rattle.asn1_types.specs.declared.oids.TheConstants.{RSA_ENCRYPTION}
 use Rattle.cms_types.specs.SignedDataElements.{SignedDataElements}
 use Rattle.cms_types.specs.SignerElements.{SignerElements, signer_of}
-use Rattle.der_core.specs.DerElement.{DerElement, Primitive, Constructed, row}
+use Rattle.der_core.specs.DerElement.{DerElement, Constructed, row}
 use Rattle.der_core.specs.Elements.{set, octet_string, null}
 use Rattle.key_types.specs.AlgorithmIdentifier.{algorithm_of}
 
@@ -26,7 +26,7 @@ version_one = integer_of (1 ∷ [])
 
 -- rsaEncryption, with NULL (RFC 8017 C)
 abbrev pub rsa_encryption : DerElement
-rsa_encryption = algorithm_of (Primitive 0x06 RSA_ENCRYPTION.now) (Some null)
+rsa_encryption = algorithm_of (object_identifier_of RSA_ENCRYPTION.now) (Some null)
 
 -- signed attributes under their tag
 abbrev pub attributes_element : List DerElement → DerElement

@@ -2,11 +2,12 @@
 
 ghost use Rattle.std.specs.Prelude.{◌≡◌, ◌∷◌, ◌++◌, [], List, Err, None, IfOk, IsOk, MatchResult, map};
 ghost use Rattle.std.specs.Option.{option_copied};
+ghost use Rattle.asn1_types.specs.Elements.{object_identifier_of};
 ghost use Rattle.asn1_types.specs.Ia5String.{RefusesCharSet};
 ghost use Rattle.asn1_types.specs.declared.oids.TheConstants.{CONTENT_TYPE, MESSAGE_DIGEST, SPC_INDIRECT_DATA, SPC_SP_OPUS_INFO};
 ghost use Rattle.cms_types.specs.OpusInfo.{opus_info};
 ghost use Rattle.cms_types.specs.SignedAttributesElement.{signed_attributes};
-ghost use Rattle.der_core.specs.DerElement.{DerElement, Primitive};
+ghost use Rattle.der_core.specs.DerElement.{DerElement};
 ghost use Rattle.der_core.specs.Elements.{octet_string};
 ghost use Rattle.der_core.specs.Encoding.{IsDer};
 ghost use Rattle.der_core.specs.Placed.{AreDer};
@@ -52,8 +53,8 @@ pub fn opus_of(alloc: Global, name: Option<&str>) -> Result<SpcSpOpusInfo, CharS
 
 /// The attribute that tells what the content is: indirect data (RFC 2985 5.3.1).
 fn content_type(alloc: Global) -> Result<Attribute, AllocError>
-    ensures { IfOk result
-        (λ a. (attribute a ≡ attribute_by CONTENT_TYPE.now (Primitive 0x06 SPC_INDIRECT_DATA.now))
+    ensures { IfOk result (λ a. (attribute a ≡ attribute_by CONTENT_TYPE.now
+        (object_identifier_of SPC_INDIRECT_DATA.now))
         × (inner_values a.value ≡ [])) }
 {
     let ty = ObjectIdentifier::from_known(alloc, CONTENT_TYPE)?;

@@ -1,12 +1,12 @@
 //! What is signed in the place of a program.
 
 ghost use Rattle.std.specs.Prelude.{◌≡◌, ◌∷◌, [], Some, IfOk, MatchResult};
+ghost use Rattle.asn1_types.specs.Elements.{object_identifier_of};
 ghost use Rattle.asn1_types.specs.declared.oids.TheConstants.{SPC_INDIRECT_DATA};
 ghost use Rattle.content_types.specs.ContentInfo.{content_info};
 ghost use Rattle.content_types.specs.ContentInfoElements.{content_info_of};
 ghost use Rattle.content_types.specs.IndirectData.{indirect_data_content};
 ghost use Rattle.content_types.specs.SpcAttribute.{spc_attribute};
-ghost use Rattle.der_core.specs.DerElement.{Primitive};
 ghost use Rattle.der_core.specs.Encoding.{IsDer};
 ghost use Rattle.der_core.specs.Placed.{contents_octets};
 ghost use Rattle.der_core.specs.Refusals.{RefusesInner};
@@ -102,7 +102,7 @@ pub fn content_of(
     indirect: SpcIndirectDataContent,
 ) -> Result<EncapsulatedContentInfo, AllocError>
     ensures { IfOk result (λ content. content_info content ≡ content_info_of
-        (Primitive 0x06 SPC_INDIRECT_DATA.now) (Some (indirect_data_content indirect))) }
+        (object_identifier_of SPC_INDIRECT_DATA.now) (Some (indirect_data_content indirect))) }
 {
     let content_type = ObjectIdentifier::from_known(alloc, SPC_INDIRECT_DATA)?;
     let content = Some(ContentValue::SpcIndirectDataContent(indirect));

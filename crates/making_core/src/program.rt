@@ -1,13 +1,13 @@
 //! The signature of a program.
 
 ghost use Rattle.std.specs.Prelude.{◌≡◌, List, Some, None, IfOk, map};
+ghost use Rattle.asn1_types.specs.Elements.{object_identifier_of};
 ghost use Rattle.asn1_types.specs.declared.oids.TheConstants.{SPC_INDIRECT_DATA};
 ghost use Rattle.cms_types.specs.DigestAlgorithm.{digest_algorithm};
 ghost use Rattle.cms_types.specs.SignedAttributesElement.{signed_attributes};
 ghost use Rattle.cms_types.specs.SignedData.{signed_data_elements};
 ghost use Rattle.content_types.specs.ContentInfoElements.{content_info_of};
 ghost use Rattle.content_types.specs.IndirectData.{indirect_data_content};
-ghost use Rattle.der_core.specs.DerElement.{Primitive};
 ghost use Rattle.x509_types.specs.CertificateElements.{CertificateElements, certificate_of};
 ghost use Rattle.making_core.specs.Carried.{AreCarried, elements_of};
 ghost use Rattle.making_core.specs.MadeSignature.{signature_made};
@@ -38,7 +38,7 @@ pub fn program_signature(
         × (signed_data_elements made.signed_data
         ≡ signature_made (record {
           algorithm = digest_algorithm hash;
-          content_info = content_info_of (Primitive 0x06 SPC_INDIRECT_DATA.now)
+          content_info = content_info_of (object_identifier_of SPC_INDIRECT_DATA.now)
               (Some (indirect_data_content indirect));
           certificates = map certificate_of carried;
           named = issuer_and_serial_of first.now.elements;

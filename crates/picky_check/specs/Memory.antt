@@ -51,7 +51,6 @@ pub record IsNextCall (before after : MemShelf) : Type 0 where
 abbrev pub is_quiet_from_now : Calls → Type 0
 is_quiet_from_now calls = All (λ call. call < calls.count) calls.failing.items
 
--- the same, of a shelf
 abbrev pub shelf_is_quiet : MemShelf → Type 0
 shelf_is_quiet shelf = is_quiet_from_now shelf.calls
 

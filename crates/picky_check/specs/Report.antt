@@ -6,6 +6,7 @@ use Rattle.authenticode_core.specs.declared.accepted.Excuse.TheVariants as excus
 use Rattle.authenticode_core.specs.declared.error.CheckError.{CheckError}
 use Rattle.authenticode_core.specs.declared.error.CheckError.TheVariants as check
 use Rattle.authenticode_core.specs.RefusalName.{refusal_name}
+use Rattle.sig_core.specs.VerdictTable.{newline}
 use Rattle.x509_core.specs.ErrorName.{cert_error_name}
 use Rattle.x509_core.specs.declared.error.CertError.{CertError}
 use Rattle.x509_core.specs.declared.error.CertError.TheVariants as cert
@@ -34,6 +35,10 @@ abbrev pub place_text : Option ℕ → List ℕ
 place_text (Some place) = decimal place
 place_text None = []
 
+-- what stands between places
+abbrev comma : ℕ
+comma = 0x2C
+
 -- places with commas between
 abbrev pub places_text : List ℕ → List ℕ
 places_text [] = []
@@ -54,7 +59,6 @@ parents_line count = codes "accepted parents=" ++ decimal count ++ 10 ∷ []
 abbrev pub refused_line : CheckError → List ℕ
 refused_line e = codes "refused " ++ refusal_name e ++ 10 ∷ []
 
--- and for a chain
 abbrev pub refused_chain_line : CertError → List ℕ
 refused_chain_line e = codes "refused " ++ cert_error_name e ++ 10 ∷ []
 

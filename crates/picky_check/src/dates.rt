@@ -16,14 +16,14 @@ pub(crate) fn date_of(word: &str) -> Option<UtcDate>
         (IsDateWord word.now) }
     ensures only { (t : GeneralizedTime) → IsDateWord word.now t → result ≡ Some t }
 {
-    let contents = contents_of(word.as_bytes())?;
+    let contents = date_contents(word.as_bytes())?;
     let time = GeneralizedTime::from_content(&contents)?;
     Some(UtcDate::from(time))
 }
 
 /// The octets that spell the date of a word as a time of certificates (RFC 5280 4.1.2.5.2), where
 /// the word has a form of dates.
-fn contents_of(word: &[u8]) -> Option<[u8; 15]>
+fn date_contents(word: &[u8]) -> Option<[u8; 15]>
     ensures { MatchOption result
         ((t : GeneralizedTime) → IsDateWord word.now t → ⊥)
         (λ contents. (t : GeneralizedTime)
@@ -35,7 +35,7 @@ fn contents_of(word: &[u8]) -> Option<[u8; 15]>
     }
 }
 
-/// The same for a day.
+/// The contents octets of the first moment of a day, where the word is one.
 fn day_contents(word: &[u8]) -> Option<[u8; 15]>
     ensures { MatchOption result
         ((t : GeneralizedTime) → word.now ≢ day_text t)
@@ -51,7 +51,7 @@ fn day_contents(word: &[u8]) -> Option<[u8; 15]>
     ])
 }
 
-/// The same for a moment.
+/// The contents octets of a moment, where the word is one.
 fn moment_contents(word: &[u8]) -> Option<[u8; 15]>
     ensures { MatchOption result
         ((t : GeneralizedTime) → word.now ≢ moment_text t)

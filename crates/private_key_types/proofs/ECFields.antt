@@ -5,10 +5,10 @@ use Rattle.std.specs.Option.{option_map, option_eq}
 use Rattle.std.proofs.lemmas.Slice.Eq.{bytes_eq-Decides}
 use Rattle.std.proofs.lemmas.Bool.{and_parts, and_from}
 use Rattle.std.proofs.lemmas.Bool.Decides.{Decides-eqb}
+use Rattle.der_core.specs.Each.{Prints}
 use Rattle.der_core.specs.DerElement.{DerElement}
 use Rattle.der_core.specs.Elements.{octet_string}
 use Rattle.der_core.specs.Facts.Equality.{options_same}
-use Rattle.der_core.specs.Facts.Lists.{prints}
 use Rattle.der_core.specs.Facts.Optional.{printed_option, option_printed}
 use Rattle.asn1_types.specs.Elements.{object_identifier, bit_string}
 use Rattle.asn1_types.specs.Facts.Elements.{same_oid, same_bits}
@@ -22,8 +22,8 @@ use Rattle.private_key_types.specs.declared.ec_private_key.ECPrivateKey.{ECPriva
 -- an element of these fields is one of a key exactly where they are those of its values
 pub of_parts : (t k : DerElement) (p b : Option DerElement) → t ≡ ec_private_key_of k p b
     → (octets : List ℕ) → k ≡ octet_string octets
-    → (curve : Option ObjectIdentifier) → SpellsOption (prints object_identifier) p curve
-    → (bits : Option BitString) → SpellsOption (prints bit_string) b bits
+    → (curve : Option ObjectIdentifier) → SpellsOption (Prints object_identifier) p curve
+    → (bits : Option BitString) → SpellsOption (Prints bit_string) b bits
     → (key : ECPrivateKey) × (t ≡ ec_private_key key)
 of_parts t k p b is octets key curve parameters bits public_key = (
   record { private_key = octets; parameters = curve; public_key = bits },
@@ -34,7 +34,7 @@ of_parts t k p b is octets key curve parameters bits public_key = (
 )
 
 pub parts_of : (t k : DerElement) (p b : Option DerElement) → t ≡ ec_private_key_of k p b → (key : ECPrivateKey) → t ≡ ec_private_key key
-    → (k ≡ octet_string key.private_key) × SpellsOption (prints object_identifier) p key.parameters × SpellsOption (prints bit_string) b key.public_key
+    → (k ≡ octet_string key.private_key) × SpellsOption (Prints object_identifier) p key.parameters × SpellsOption (Prints bit_string) b key.public_key
 parts_of t k p b is key spells =
     let parts = fields_once k (octet_string key.private_key) p (option_map object_identifier key.parameters) b (option_map bit_string key.public_key) (sym is ∙ spells) in
     (parts.0, option_printed object_identifier p key.parameters parts.1, option_printed bit_string b key.public_key parts.2)

@@ -6,8 +6,6 @@ use Rattle.key_core.specs.SignatureErrorText.{signature_error_text}
 use Rattle.x509_core.specs.declared.csr_error.CsrError.{CsrError}
 use Rattle.x509_core.specs.declared.csr_error.CsrError.TheVariants as errors
 
--- What is told of a request. Of an element that isn't read or written no contract says what is
--- told.
 abbrev pub csr_error_text : CsrError → Option (List ℕ)
 csr_error_text (errors.Asn1Serialization element source) = None
 csr_error_text (errors.Asn1Deserialization element source) = None

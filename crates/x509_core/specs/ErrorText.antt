@@ -51,12 +51,10 @@ expired_text not_after now =
     codes "certificate expired (not after: " ++ time_text not_after ++ codes ", now: "
     ++ time_text now ++ codes ")"
 
--- a signature that isn't accepted, where its error has a text
 abbrev pub bad_signature_text : SignatureError → Option (List ℕ)
 bad_signature_text source =
     option_map (λ text. codes "signature error: " ++ text) (signature_error_text source)
 
--- a key without an identifier, likewise
 abbrev pub key_id_text : KeyIdGenError → Option (List ℕ)
 key_id_text source =
     option_map (λ text. codes "key id generation error: " ++ text) (key_id_error_text source)
@@ -91,8 +89,6 @@ cause_text (causes.ExtensionNotFound name) =
 cause_text (causes.CertificateNotYetValid not_before now) = Some (not_yet_valid_text not_before now)
 cause_text (causes.CertificateExpired not_after now) = Some (expired_text not_after now)
 
--- What is told of a certificate. Of an element that isn't read or written no contract says what is
--- told.
 abbrev pub cert_error_text : CertError → Option (List ℕ)
 cert_error_text (errors.CertGeneration source) =
     option_map (λ text. codes "couldn't generate certificate: " ++ text) (cause_text source)

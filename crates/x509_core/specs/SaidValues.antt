@@ -33,7 +33,6 @@ pub record HasLength (extensions : List Extension) (number : ℕ) : Type 0 where
   pub first : HasFirst CE_BASIC_CONSTRAINTS.now extensions (views.BasicConstraints value)
   pub limited : pathlen_of value ≡ Some number
 
--- Each says the same.
 pub record SayTheSame (f : CertificateElements) (c : Certificate) : Type 0 where
   pub subject_key : (key : List ℕ)
       → HasSubjectKey f key

@@ -34,7 +34,6 @@ pub record IsTimeAt (element : Option DerElement) (moment : GeneralizedTime) : T
 abbrev pub IsNotBefore : CertificateElements → GeneralizedTime → Type 0
 IsNotBefore f = IsTimeAt (not_before_of f)
 
--- and ends with this one
 abbrev pub IsNotAfter : CertificateElements → GeneralizedTime → Type 0
 IsNotAfter f = IsTimeAt (not_after_of f)
 
@@ -44,7 +43,6 @@ earliest dates.Absent = None
 earliest (dates.Exact date) = Some date
 earliest (dates.Interval lower upper) = Some lower
 
--- and the last
 abbrev pub latest : DateCheck → Option GeneralizedTime
 latest dates.Absent = None
 latest (dates.Exact date) = Some date

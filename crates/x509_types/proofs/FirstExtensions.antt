@@ -1,32 +1,33 @@
 -- The first extension of an identifier: found here, found later, and found once.
 use Rattle.std.proofs.Common.{◌≡◌, ◌↔◌, IsTrue, Bool, ℕ, List, [], ◌∷◌, ◌++◌, Option, Some, None, MatchOption, refl, sym, ap, subst, ◌∙◌}
 use Rattle.std.specs.Option.{is_some}
+use Rattle.der_core.specs.Optional.{members_of}
 use Rattle.der_core.specs.DerElement.{DerElement, Primitive, Constructed, kids_of}
 use Rattle.der_core.specs.Kept.{IsKept}
 use Rattle.der_core.specs.Lent.{at_option}
 use Rattle.der_core.specs.Facts.Fronts.{formed_encoding_once}
 use Rattle.der_core.specs.declared.elem.Elem.{Elem}
 use Rattle.x509_types.specs.CertificateElements.{CertificateElements}
-use Rattle.x509_types.specs.FirstExtension.{listed_at, extensions_of, IsNamed, NoneIsNamed, IsFirstNamed, IsFirstValue, Says}
+use Rattle.x509_types.specs.FirstExtension.{extensions_of, IsNamed, NoneIsNamed, IsFirstNamed, IsFirstValue, Says}
 use Rattle.x509_types.specs.Facts.Extensions.{fields_once}
 
 -- ---- the elements in the list of extensions
 
-none_listed : (element : DerElement) → kids_of element ≡ None → listed_at (Some element) ≡ []
+none_listed : (element : DerElement) → kids_of element ≡ None → members_of (Some element) ≡ []
 none_listed (Primitive tag content) e = refl
 none_listed (Constructed tag kids) e = absurd cc
 
-listed_of : (element : DerElement) (kids : List DerElement) → kids_of element ≡ Some kids → listed_at (Some element) ≡ kids
+listed_of : (element : DerElement) (kids : List DerElement) → kids_of element ≡ Some kids → members_of (Some element) ≡ kids
 listed_of (Primitive tag content) kids e = absurd cc
 listed_of (Constructed tag ks) kids e = cc
 
-pub none_lent : (lent : Option Elem) (given : Option DerElement) → at_option lent ≡ given → lent ≡ None → listed_at given ≡ []
-none_lent lent given e none = ap listed_at (sym e ∙ ap at_option none)
+pub none_lent : (lent : Option Elem) (given : Option DerElement) → at_option lent ≡ given → lent ≡ None → members_of given ≡ []
+none_lent lent given e none = ap members_of (sym e ∙ ap at_option none)
 
 pub lent_kids : {K : Type 0} (now : K → List DerElement) (r : Option K) (lent : Option Elem) (elem : Elem) (given : Option DerElement) → at_option lent ≡ given → lent ≡ Some elem
-    → MatchOption r (kids_of elem.is.0 ≡ None) (λ k. kids_of elem.is.0 ≡ Some (now k)) → MatchOption r (listed_at given ≡ []) (λ k. listed_at given ≡ now k)
-lent_kids now None lent elem given e is none = ap listed_at (sym e ∙ ap at_option is) ∙ none_listed elem.is.0 none
-lent_kids now (Some k) lent elem given e is kids = ap listed_at (sym e ∙ ap at_option is) ∙ listed_of elem.is.0 (now k) kids
+    → MatchOption r (kids_of elem.is.0 ≡ None) (λ k. kids_of elem.is.0 ≡ Some (now k)) → MatchOption r (members_of given ≡ []) (λ k. members_of given ≡ now k)
+lent_kids now None lent elem given e is none = ap members_of (sym e ∙ ap at_option is) ∙ none_listed elem.is.0 none
+lent_kids now (Some k) lent elem given e is kids = ap members_of (sym e ∙ ap at_option is) ∙ listed_of elem.is.0 (now k) kids
 
 -- ---- the first of an identifier
 

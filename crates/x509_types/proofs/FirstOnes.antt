@@ -9,8 +9,8 @@ use Rattle.x509_types.specs.ExtensionFields.{IsExtensionOf}
 use Rattle.x509_types.specs.ExtensionView.{IsValueIn}
 use Rattle.x509_types.specs.Extension.{IsExtension}
 use Rattle.x509_types.specs.TbsCertificate.{IsExtensions}
-use Rattle.der_core.specs.Optional.{SpellsOption}
-use Rattle.x509_types.specs.FirstExtension.{listed_at, IsNamed, NoneIsNamed, IsFirstNamed}
+use Rattle.der_core.specs.Optional.{SpellsOption, members_of}
+use Rattle.x509_types.specs.FirstExtension.{IsNamed, NoneIsNamed, IsFirstNamed}
 use Rattle.x509_types.specs.FirstOfValue.{extensions_in, NoneHas, IsFirstWith, HoldFirst}
 use Rattle.x509_types.specs.Facts.Extensions.{fields_once}
 use Rattle.x509_types.specs.declared.extension.Extension.{Extension}
@@ -77,12 +77,12 @@ lies_in oid (k ∷ elements) (b ∷ before) e after each first named =
     )
 
 -- the elements in the list spell the extensions
-pub listed_each : (given : Option DerElement) (extensions : Option (List Extension)) → SpellsOption IsExtensions given extensions → AreEach IsExtension (listed_at given) (extensions_in extensions)
+pub listed_each : (given : Option DerElement) (extensions : Option (List Extension)) → SpellsOption IsExtensions given extensions → AreEach IsExtension (members_of given) (extensions_in extensions)
 listed_each None None is = tt
 listed_each None (Some extensions) is = absurd is
 listed_each (Some element) None is = absurd is
 listed_each (Some element) (Some extensions) is =
-    subst (λ (ks : List DerElement). AreEach IsExtension ks extensions) (sym (ap (λ (e : DerElement). listed_at (Some e)) is.holds ∙ listed-row is.kids)) is.each
+    subst (λ (ks : List DerElement). AreEach IsExtension ks extensions) (sym (ap (λ (e : DerElement). members_of (Some e)) is.holds ∙ listed-row is.kids)) is.each
 
 pub had : (oid : List ℕ) (elements : List DerElement) (extensions : List Extension) (octets : List ℕ) → AreEach IsExtension elements extensions → IsFirstNamed oid elements octets → HoldFirst oid extensions octets
 had oid elements extensions octets each f =

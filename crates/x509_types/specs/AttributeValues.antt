@@ -6,10 +6,9 @@ use Rattle.std.specs.Prelude.{◌≡◌, ℕ, List, [], ◌∷◌, ◌++◌, fla
 use Rattle.der_core.specs.DerElement.{DerElement}
 use Rattle.der_core.specs.Elements.{octet_string}
 use Rattle.der_core.specs.Encoding.{encoding}
-use Rattle.der_core.specs.Each.{IsListOf, list_element}
+use Rattle.der_core.specs.Each.{IsListOf, list_element, Prints}
 use Rattle.der_core.specs.Kept.{KeptElement}
 use Rattle.asn1_types.specs.Elements.{object_identifier}
-use Rattle.asn1_types.specs.declared.oid.ObjectIdentifier.{ObjectIdentifier}
 use Rattle.x509_types.specs.Extension.{value_kinds}
 use Rattle.x509_types.specs.TbsCertificate.{IsExtensions, extensions, inner_extensions}
 use Rattle.x509_types.specs.AttributeKind.{attribute_number}
@@ -35,11 +34,9 @@ attribute_values (values.Raw kept) = list_element 0x31 (λ (k : KeptElement). k.
 -- The element is a SET OF whose members spell the values, each its own.
 abbrev pub AreAttributeValues : DerElement → AttributeValues → Type 0
 AreAttributeValues element (values.ContentType types) =
-    IsListOf 0x31 (λ (kid : DerElement) (id : ObjectIdentifier). kid ≡ object_identifier id) element
-    types
+    IsListOf 0x31 (Prints object_identifier) element types
 AreAttributeValues element (values.MessageDigest digests) =
-    IsListOf 0x31 (λ (kid : DerElement) (digest : List ℕ). kid ≡ octet_string digest) element
-    digests
+    IsListOf 0x31 (Prints octet_string) element digests
 AreAttributeValues element (values.Extensions requests) =
     IsListOf 0x31 IsExtensions element requests
 AreAttributeValues element (values.Raw kept) =

@@ -1,8 +1,8 @@
 -- Extension ::= SEQUENCE { extnID OBJECT IDENTIFIER, critical BOOLEAN DEFAULT FALSE, extnValue
 -- OCTET STRING } (RFC 5280 4.1, 4.1.2.9)
 use Rattle.std.specs.Prelude.{◌≡◌, ℕ, Bool, false, List, [], ◌∷◌, ◌++◌, map, Option, Some, None}
-use Rattle.der_core.specs.DerElement.{DerElement, Primitive}
-use Rattle.der_core.specs.Elements.{sequence}
+use Rattle.der_core.specs.DerElement.{DerElement}
+use Rattle.der_core.specs.Elements.{sequence, octet_string}
 use Rattle.der_core.specs.Encoding.{encoding}
 use Rattle.asn1_types.specs.Values.{identifier_contents}
 use Rattle.asn1_types.specs.Elements.{object_identifier}
@@ -18,7 +18,7 @@ use Rattle.x509_types.specs.declared.extension_view.ExtensionView.{ExtensionView
 abbrev pub extension : Extension → DerElement
 extension e =
     sequence (object_identifier e.extn_id ∷
-    (default_false e.critical ++ Primitive 0x04 (value_octets e.extn_value) ∷ []))
+    (default_false e.critical ++ octet_string (value_octets e.extn_value) ∷ []))
 
 -- the kind of the value, and the octets that are written
 abbrev pub extension_octets : Extension → List ℕ

@@ -3,7 +3,7 @@
 use Rattle.std.specs.Prelude.{◌≡◌, ◌≢◌, ◌⊎◌, ℕ, ◌==◌, Bool, not, List, [], ◌∷◌}
 use Rattle.der_core.specs.DerElement.{DerElement, Primitive}
 use Rattle.der_core.specs.Encoding.{encoding}
-use Rattle.der_core.specs.Elements.{sequence}
+use Rattle.der_core.specs.Elements.{sequence, octet_string}
 use Rattle.der_core.specs.Default.{default_false}
 use Rattle.asn1_types.specs.Elements.{object_identifier}
 use Rattle.x509_values.specs.BasicConstraints.{HasOtherTrue}
@@ -21,7 +21,7 @@ pub record HasOtherFlag (element oid : DerElement) (critical : Bool)
   pub octet : ℕ
   pub other : octet ≢ 0xFF
   pub flagged : critical ≡ not (octet == 0)
-  pub is : element ≡ sequence (oid ∷ Primitive 0x01 (octet ∷ []) ∷ Primitive 0x04 octets ∷ [])
+  pub is : element ≡ sequence (oid ∷ Primitive 0x01 (octet ∷ []) ∷ octet_string octets ∷ [])
 
 -- The octets hold basic constraints whose TRUE stands in another octet than FF, against X.690 11.1.
 pub record HasOtherConstraints (octets : List ℕ) (view : ExtensionView) : Type 0 where

@@ -1,5 +1,6 @@
 -- The values of extensions, which an OCTET STRING holds (RFC 5280 4.1, 4.2.1).
 use Rattle.std.specs.Prelude.{◌≡◌, ⊤, ℕ, List, [], ◌∷◌}
+use Rattle.der_core.specs.Each.{Prints}
 use Rattle.der_core.specs.DerElement.{DerElement}
 use Rattle.der_core.specs.Elements.{octet_string}
 use Rattle.der_core.specs.Encoding.{encoding}
@@ -61,21 +62,15 @@ inner_value (views.Raw octets) = []
 -- The octets hold the value: the encoding of one element that spells it, and nothing more, or the
 -- octets that are kept.
 abbrev pub IsValueIn : List ℕ → ExtensionView → Type 0
-IsValueIn octets (views.SubjectKeyIdentifier key) =
-    IsWithin (λ (element : DerElement) (k : List ℕ). element ≡ key_identifier k) octets key
-IsValueIn octets (views.KeyUsage usage) =
-    IsWithin (λ (element : DerElement) (u : KeyUsage). element ≡ key_usage u) octets usage
+IsValueIn octets (views.SubjectKeyIdentifier key) = IsWithin (Prints key_identifier) octets key
+IsValueIn octets (views.KeyUsage usage) = IsWithin (Prints key_usage) octets usage
 IsValueIn octets (views.SubjectAltName names) = IsWithin AreGeneralNames octets names
 IsValueIn octets (views.IssuerAltName names) = IsWithin AreGeneralNames octets names
 IsValueIn octets (views.BasicConstraints constraints) =
     IsWithin IsBasicConstraints octets constraints
 IsValueIn octets (views.AuthorityKeyIdentifier key) =
-    IsWithin
-    (λ (element : DerElement) (a : AuthorityKeyIdentifier). element ≡ authority_key_identifier a)
-    octets key
-IsValueIn octets (views.ExtendedKeyUsage usage) =
-    IsWithin (λ (element : DerElement) (u : ExtendedKeyUsage). element ≡ extended_key_usage u)
-    octets usage
+    IsWithin (Prints authority_key_identifier) octets key
+IsValueIn octets (views.ExtendedKeyUsage usage) = IsWithin (Prints extended_key_usage) octets usage
 IsValueIn octets (views.Raw kept) = octets ≡ kept
 
 -- the octets hold no general names

@@ -1,24 +1,20 @@
 -- The first extension of an identifier in a certificate (RFC 5280 4.2).
-use Rattle.std.specs.Prelude.{◌≡◌, ⊤, ℕ, Bool, List, [], ◌∷◌, ◌++◌, Option, Some, None}
-use Rattle.der_core.specs.DerElement.{DerElement, Primitive, Constructed, listed}
+use Rattle.std.specs.Prelude.{◌≡◌, ⊤, ℕ, Bool, List, [], ◌∷◌, ◌++◌}
+use Rattle.asn1_types.specs.Elements.{object_identifier_of}
+use Rattle.der_core.specs.Optional.{members_of}
+use Rattle.der_core.specs.DerElement.{DerElement}
 use Rattle.der_core.specs.Kept.{IsKept}
 use Rattle.x509_types.specs.ExtensionFields.{IsExtensionOf}
 use Rattle.x509_types.specs.CertificateElements.{CertificateElements}
 
--- the elements in the list of extensions, none where it is left out
-abbrev pub listed_at : Option DerElement → List DerElement
-listed_at None = []
-listed_at (Some (Primitive tag content)) = []
-listed_at (Some (Constructed tag kids)) = listed kids
-
 -- the extensions, in order
 abbrev pub extensions_of : CertificateElements → List DerElement
-extensions_of f = listed_at f.tbs.extensions
+extensions_of f = members_of f.tbs.extensions
 
 -- An extension of this identifier, by its contents octets, whose OCTET STRING holds these octets.
 abbrev pub IsNamed : List ℕ → DerElement → List ℕ → Type 0
 IsNamed oid extension octets =
-    (critical : Bool) × IsExtensionOf extension (Primitive 0x06 oid) critical octets
+    (critical : Bool) × IsExtensionOf extension (object_identifier_of oid) critical octets
 
 -- none of the elements is an extension of this identifier
 abbrev pub NoneIsNamed : List ℕ → List DerElement → Type 0

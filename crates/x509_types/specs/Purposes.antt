@@ -1,6 +1,7 @@
 -- The purposes that the extended key usages of a certificate hold (RFC 5280 4.2.1.12).
 use Rattle.std.specs.Prelude.{◌≡◌, ℕ, List, ◌∷◌, ◌++◌}
-use Rattle.der_core.specs.DerElement.{DerElement, Primitive}
+use Rattle.asn1_types.specs.Elements.{object_identifier_of}
+use Rattle.der_core.specs.DerElement.{DerElement}
 use Rattle.der_core.specs.Elements.{sequence}
 use Rattle.der_core.specs.Kept.{IsKept}
 use Rattle.asn1_types.specs.declared.oids.TheConstants.{CE_EXT_KEY_USAGE}
@@ -17,7 +18,7 @@ pub record HasSome (Is : DerElement → Type 0) (elements : List DerElement) : T
 
 -- the OBJECT IDENTIFIER of a purpose, by its contents octets
 abbrev pub IsPurpose : List ℕ → DerElement → Type 0
-IsPurpose oid element = element ≡ Primitive 0x06 oid
+IsPurpose oid element = element ≡ object_identifier_of oid
 
 -- ExtKeyUsageSyntax ::= SEQUENCE SIZE (1..MAX) OF KeyPurposeId: the purpose is one of them
 abbrev pub HoldsPurpose : List ℕ → DerElement → Type 0

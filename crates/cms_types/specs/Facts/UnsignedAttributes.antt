@@ -16,7 +16,7 @@ use Rattle.asn1_types.specs.declared.oids.TheConstants.{COUNTERSIGNATURE, RFC316
 use Rattle.cms_types.specs.Members.{element_of_kept, elements_of_kept}
 use Rattle.cms_types.specs.Signers.{AreSignerInfos, ArePkcs7s}
 use Rattle.cms_types.specs.UnsignedKind.{named_unsigned}
-use Rattle.cms_types.specs.UnsignedElement.{unsigned_of}
+use Rattle.cms_types.specs.AttributeElement.{attribute_of}
 use Rattle.cms_types.specs.UnsignedAttribute.{unsigned_attribute}
 use Rattle.cms_types.specs.Facts.UnsignedKinds.{same_unsigned_kinds}
 use Rattle.cms_types.specs.declared.raw_unsigned.RawUnsignedAttribute.{RawUnsignedAttribute}
@@ -64,7 +64,7 @@ same_raw a b ty values =
 
 -- ---- by their elements
 
-same_kids : (i j : List ℕ) (xs ys : List DerElement) → unsigned_of i xs ≡ unsigned_of j ys → (i ≡ j) × (set xs ≡ set ys)
+same_kids : (i j : List ℕ) (xs ys : List DerElement) → attribute_of i xs ≡ attribute_of j ys → (i ≡ j) × (set xs ≡ set ys)
 same_kids i j xs ys e = (cc, cc)
 
 same_values : (xs ys : List KeptElement) → set (elements_of_kept xs) ≡ set (elements_of_kept ys) → xs ≡ ys
@@ -104,7 +104,7 @@ attributes_once (attributes.Raw x) (attributes.MsCounterSign y) e =
     let parts = same_kids (identifier_contents x.ty) RFC3161_COUNTER_SIGN.now (elements_of_kept x.values) (elements_of_kept y.items) e in
     unlike (identifier_contents x.ty) RFC3161_COUNTER_SIGN.now parts.0 (λ same. let is = sym x.other ∙ same in absurd cc)
 
-unsigned_formed : (oid : List ℕ) (values : List KeptElement) → IsWellFormed (unsigned_of oid (elements_of_kept values))
+unsigned_formed : (oid : List ℕ) (values : List KeptElement) → IsWellFormed (attribute_of oid (elements_of_kept values))
 unsigned_formed oid values =
     let inside : IsWellFormed (set (elements_of_kept values)) = ((omega arith, omega arith, omega arith), refl, each_formed element_of_kept (λ k. k.der.formed) values) in
     ((omega arith, omega arith, omega arith), refl, (((omega arith, omega arith, omega arith), refl), (inside, tt)))

@@ -3,31 +3,28 @@ use Rattle.std.proofs.Common.{◌≡◌, ◌↔◌, IsTrue, Bool, ℕ, Result, O
 use Rattle.std.specs.Cmp.Lexicographic.{pointwise}
 use Rattle.der_core.specs.DerElement.{DerElement, Constructed, row}
 use Rattle.der_core.specs.Encoding.{IsWellFormed}
-use Rattle.der_core.specs.Each.{AreEach, IsListOf, IsWrittenList, list_element}
+use Rattle.der_core.specs.Each.{AreEach, IsListOf, IsWrittenList, list_element, Prints}
 use Rattle.der_core.specs.Placed.{AreDer}
 use Rattle.der_core.specs.Facts.Equality.{pointwise_same}
 use Rattle.der_core.specs.Refusals.{RefusesShape, RefusesInner}
 use Rattle.der_core.specs.declared.error.DerError.{DerError}
 use Rattle.der_core.specs.declared.error.DerError.TheVariants as errors
 
-abbrev pub prints : {X : Type 0} → (X → DerElement) → DerElement → X → Type 0
-prints written element value = element ≡ written value
-
-pub each_written : {X : Type 0} (written : X → DerElement) (elements : List DerElement) (values : List X) → AreEach (prints written) elements values → elements ≡ map written values
+pub each_written : {X : Type 0} (written : X → DerElement) (elements : List DerElement) (values : List X) → AreEach (Prints written) elements values → elements ≡ map written values
 each_written written [] [] each = refl
 each_written written [] (v ∷ values) each = absurd each
 each_written written (e ∷ elements) [] each = absurd each
 each_written written (e ∷ elements) (v ∷ values) each = ap (λ x. x ∷ elements) each.0 ∙ ap (λ xs. written v ∷ xs) (each_written written elements values each.1)
 
-pub written_each : {X : Type 0} (written : X → DerElement) (values : List X) → AreEach (prints written) (map written values) values
+pub written_each : {X : Type 0} (written : X → DerElement) (values : List X) → AreEach (Prints written) (map written values) values
 written_each written [] = tt
 written_each written (v ∷ values) = (refl, written_each written values)
 
 -- the element around them is the one that is written for the list
-pub printed_list : {X : Type 0} (written : X → DerElement) (tag : ℕ) (t : DerElement) (values : List X) → IsListOf tag (prints written) t values → t ≡ list_element tag written values
+pub printed_list : {X : Type 0} (written : X → DerElement) (tag : ℕ) (t : DerElement) (values : List X) → IsListOf tag (Prints written) t values → t ≡ list_element tag written values
 printed_list written tag t values list = list.holds ∙ ap (λ kids. Constructed tag (row kids)) (each_written written list.kids values list.each)
 
-pub list_printed : {X : Type 0} (written : X → DerElement) (tag : ℕ) (t : DerElement) (values : List X) → t ≡ list_element tag written values → IsListOf tag (prints written) t values
+pub list_printed : {X : Type 0} (written : X → DerElement) (tag : ℕ) (t : DerElement) (values : List X) → t ≡ list_element tag written values → IsListOf tag (Prints written) t values
 list_printed written tag t values is = record { kids = map written values; holds = is; each = written_each written values }
 
 -- what refuses the list refuses the value around it

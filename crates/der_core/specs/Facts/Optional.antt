@@ -2,6 +2,7 @@
 use Rattle.std.specs.Prelude.{◌≡◌, ⊤, ℕ, List, [], ◌++◌, Option, Some, None, refl, option_to_list}
 use Rattle.std.proofs.Common.{ap, sym, subst}
 use Rattle.std.specs.Option.{option_map}
+use Rattle.der_core.specs.Each.{Prints}
 use Rattle.der_core.specs.DerElement.{DerElement, row}
 use Rattle.der_core.specs.Elements.{optional_explicit, optional_leaf}
 use Rattle.der_core.specs.Encoding.{IsTag, IsWellFormed, AreWellFormed, form_bit}
@@ -9,7 +10,6 @@ use Rattle.der_core.specs.Optional.{SpellsOption, inner_option}
 use Rattle.der_core.specs.Placed.{AreDer}
 use Rattle.der_core.specs.Structure.{BeginsOtherwise}
 use Rattle.der_core.specs.Facts.Fields.{IsField, split}
-use Rattle.der_core.specs.Facts.Lists.{prints}
 
 -- ---- values
 
@@ -41,13 +41,13 @@ options_once written one (Some x) None e = absurd cc
 options_once written one (Some x) (Some y) e = let same : written x ≡ written y = cc in ap Some (one x y same)
 
 -- such a value is spelled by what is written for it
-pub printed_option : {X : Type 0} (written : X → DerElement) (e : Option DerElement) (v : Option X) → SpellsOption (prints written) e v → e ≡ option_map written v
+pub printed_option : {X : Type 0} (written : X → DerElement) (e : Option DerElement) (v : Option X) → SpellsOption (Prints written) e v → e ≡ option_map written v
 printed_option written None None s = refl
 printed_option written None (Some v) s = absurd s
 printed_option written (Some e) None s = absurd s
 printed_option written (Some e) (Some v) s = ap Some s
 
-pub option_printed : {X : Type 0} (written : X → DerElement) (e : Option DerElement) (v : Option X) → e ≡ option_map written v → SpellsOption (prints written) e v
+pub option_printed : {X : Type 0} (written : X → DerElement) (e : Option DerElement) (v : Option X) → e ≡ option_map written v → SpellsOption (Prints written) e v
 option_printed written None None e = tt
 option_printed written None (Some v) e = absurd cc
 option_printed written (Some x) None e = absurd cc

@@ -1,6 +1,7 @@
 -- Values within strings: octets hold at most one, and what is written for a value holds it.
 use Rattle.std.specs.Prelude.{◌≡◌, ℕ, List, [], ◌∷◌, refl}
 use Rattle.std.proofs.Common.{sym, subst, ◌∙◌}
+use Rattle.der_core.specs.Each.{Prints}
 use Rattle.der_core.specs.DerElement.{DerElement}
 use Rattle.der_core.specs.Encoding.{encoding, IsDer, IsWellFormed}
 use Rattle.der_core.specs.Placed.{AreDer}
@@ -18,7 +19,7 @@ pub within_written : {X : Type 0} (spells : DerElement → X → Type 0) (writte
 within_written spells written grammar value der = record { element = written value; der = der.0; encoded = refl; spelled = grammar.spelled value tt }
 
 -- a value that is written in one way is in bounds where it was read
-pub within_bounds : {X : Type 0} (written : X → DerElement) (octets : List ℕ) (value : X) → IsWithin (λ (element : DerElement) (x : X). element ≡ written x) octets value → AreDer (written value ∷ [])
+pub within_bounds : {X : Type 0} (written : X → DerElement) (octets : List ℕ) (value : X) → IsWithin (Prints written) octets value → AreDer (written value ∷ [])
 within_bounds written octets value p = (subst IsDer p.spelled p.der, tt)
 
 -- values with one encoding are the same

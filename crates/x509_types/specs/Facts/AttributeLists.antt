@@ -3,7 +3,7 @@ use Rattle.std.proofs.Common.{◌≡◌, ℕ, List, [], ◌∷◌, ◌++◌, fla
 use Rattle.der_core.specs.DerElement.{DerElement}
 use Rattle.der_core.specs.Elements.{octet_string}
 use Rattle.der_core.specs.Encoding.{encoding, IsWellFormed}
-use Rattle.der_core.specs.Each.{IsListOf, list_element}
+use Rattle.der_core.specs.Each.{IsListOf, list_element, Prints}
 use Rattle.der_core.specs.Kept.{KeptElement}
 use Rattle.der_core.specs.Placed.{AreDer}
 use Rattle.der_core.specs.Structure.{IsGrammar}
@@ -40,17 +40,17 @@ kept_element k = k.element
 kept_elements : IsGrammar (λ element k. element ≡ kept_element k) kept_element (λ k. [])
 kept_elements = printed kept_element same_kept (λ k. k.der.formed)
 
-type_sets : IsGrammar (IsListOf 0x31 (λ (kid : DerElement) (id : ObjectIdentifier). kid ≡ object_identifier id)) (list_element 0x31 object_identifier) (flat_map (λ (id : ObjectIdentifier). no_element))
-type_sets = sets (λ (kid : DerElement) (id : ObjectIdentifier). kid ≡ object_identifier id) object_identifier (λ id. no_element) identifiers
+type_sets : IsGrammar (IsListOf 0x31 (Prints object_identifier)) (list_element 0x31 object_identifier) (flat_map (λ (id : ObjectIdentifier). no_element))
+type_sets = sets (Prints object_identifier) object_identifier (λ id. no_element) identifiers
 
-digest_sets : IsGrammar (IsListOf 0x31 (λ (kid : DerElement) (digest : List ℕ). kid ≡ octet_string digest)) (list_element 0x31 octet_string) (flat_map (λ (digest : List ℕ). no_element))
-digest_sets = sets (λ (kid : DerElement) (digest : List ℕ). kid ≡ octet_string digest) octet_string (λ digest. no_element) octet_strings
+digest_sets : IsGrammar (IsListOf 0x31 (Prints octet_string)) (list_element 0x31 octet_string) (flat_map (λ (digest : List ℕ). no_element))
+digest_sets = sets (Prints octet_string) octet_string (λ digest. no_element) octet_strings
 
 request_sets : IsGrammar (IsListOf 0x31 IsExtensions) (list_element 0x31 extensions) (flat_map inner_extensions)
 request_sets = sets IsExtensions extensions inner_extensions extension_lists
 
-kept_sets : IsGrammar (IsListOf 0x31 (λ (kid : DerElement) (k : KeptElement). kid ≡ kept_element k)) (list_element 0x31 kept_element) (flat_map (λ (k : KeptElement). no_element))
-kept_sets = sets (λ (kid : DerElement) (k : KeptElement). kid ≡ kept_element k) kept_element (λ k. no_element) kept_elements
+kept_sets : IsGrammar (IsListOf 0x31 (Prints kept_element)) (list_element 0x31 kept_element) (flat_map (λ (k : KeptElement). no_element))
+kept_sets = sets (Prints kept_element) kept_element (λ k. no_element) kept_elements
 
 -- ---- values of one kind
 

@@ -1,6 +1,7 @@
 -- Values of extensions: octets hold at most one of a kind, and what is written for it holds it.
 use Rattle.std.proofs.Common.{◌≡◌, ◌⊎◌, inl, inr, ℕ, List, [], refl, ap, sym, subst, ◌∙◌}
 use Rattle.std.proofs.Props.{props}
+use Rattle.der_core.specs.Each.{Prints}
 use Rattle.der_core.specs.DerElement.{DerElement}
 use Rattle.der_core.specs.Encoding.{encoding}
 use Rattle.der_core.specs.Placed.{AreDer}
@@ -30,7 +31,7 @@ use Rattle.x509_types.specs.declared.extension_view.ExtensionView.TheVariants as
 
 -- ---- values within octets
 
-printed_once : {X : Type 0} (written : X → DerElement) → IsGrammar (λ (element : DerElement) (x : X). element ≡ written x) written (λ x. []) → (a b : X) → encoding (written a) ≡ encoding (written b) → a ≡ b
+printed_once : {X : Type 0} (written : X → DerElement) → IsGrammar (Prints written) written (λ x. []) → (a b : X) → encoding (written a) ≡ encoding (written b) → a ≡ b
 printed_once written grammar = encoded_once written (λ a b e. grammar.once (written a) a b refl e) grammar.formed
 
 -- ---- values are of their kinds for one reason
@@ -67,13 +68,13 @@ AreNames named octets view = IsHeld named (IsWithin AreGeneralNames) octets view
 
 -- what octets hold of each kind
 abbrev pub HoldsOf : ExtensionKind → List ℕ → ExtensionView → Type 0
-HoldsOf kinds.SubjectKeyIdentifier octets view = IsHeld views.SubjectKeyIdentifier (IsWithin (λ (element : DerElement) (k : List ℕ). element ≡ key_identifier k)) octets view
-HoldsOf kinds.KeyUsage octets view = IsHeld views.KeyUsage (IsWithin (λ (element : DerElement) (u : KeyUsage). element ≡ key_usage u)) octets view
+HoldsOf kinds.SubjectKeyIdentifier octets view = IsHeld views.SubjectKeyIdentifier (IsWithin (Prints key_identifier)) octets view
+HoldsOf kinds.KeyUsage octets view = IsHeld views.KeyUsage (IsWithin (Prints key_usage)) octets view
 HoldsOf kinds.SubjectAltName octets view = AreNames views.SubjectAltName octets view
 HoldsOf kinds.IssuerAltName octets view = AreNames views.IssuerAltName octets view
 HoldsOf kinds.BasicConstraints octets view = IsHeld views.BasicConstraints (IsWithin IsBasicConstraints) octets view
-HoldsOf kinds.AuthorityKeyIdentifier octets view = IsHeld views.AuthorityKeyIdentifier (IsWithin (λ (element : DerElement) (a : AuthorityKeyIdentifier). element ≡ authority_key_identifier a)) octets view
-HoldsOf kinds.ExtendedKeyUsage octets view = IsHeld views.ExtendedKeyUsage (IsWithin (λ (element : DerElement) (u : ExtendedKeyUsage). element ≡ extended_key_usage u)) octets view
+HoldsOf kinds.AuthorityKeyIdentifier octets view = IsHeld views.AuthorityKeyIdentifier (IsWithin (Prints authority_key_identifier)) octets view
+HoldsOf kinds.ExtendedKeyUsage octets view = IsHeld views.ExtendedKeyUsage (IsWithin (Prints extended_key_usage)) octets view
 HoldsOf kinds.Other octets view = view ≡ views.Raw octets
 
 kept_of : (kind : ExtensionKind) (octets kept : List ℕ) → MayBeKept kind kept → octets ≡ kept → HoldsOf kind octets (views.Raw kept)
@@ -103,13 +104,13 @@ names_once named octets a b (inr p) (inl q) = absurd (p.1 q.0 q.2)
 names_once named octets a b (inr p) (inr q) = p.0 ∙ sym q.0
 
 holds_once : (kind : ExtensionKind) (octets : List ℕ) (a b : ExtensionView) → HoldsOf kind octets a → HoldsOf kind octets b → a ≡ b
-holds_once kinds.SubjectKeyIdentifier octets a b p q = p.1 ∙ ap views.SubjectKeyIdentifier (within_once (λ (element : DerElement) (k : List ℕ). element ≡ key_identifier k) octet_strings.once octets p.0 q.0 p.2 q.2) ∙ sym q.1
-holds_once kinds.KeyUsage octets a b p q = p.1 ∙ ap views.KeyUsage (within_once (λ (element : DerElement) (u : KeyUsage). element ≡ key_usage u) key_usages.once octets p.0 q.0 p.2 q.2) ∙ sym q.1
+holds_once kinds.SubjectKeyIdentifier octets a b p q = p.1 ∙ ap views.SubjectKeyIdentifier (within_once (Prints key_identifier) octet_strings.once octets p.0 q.0 p.2 q.2) ∙ sym q.1
+holds_once kinds.KeyUsage octets a b p q = p.1 ∙ ap views.KeyUsage (within_once (Prints key_usage) key_usages.once octets p.0 q.0 p.2 q.2) ∙ sym q.1
 holds_once kinds.SubjectAltName octets a b p q = names_once views.SubjectAltName octets a b p q
 holds_once kinds.IssuerAltName octets a b p q = names_once views.IssuerAltName octets a b p q
 holds_once kinds.BasicConstraints octets a b p q = p.1 ∙ ap views.BasicConstraints (within_once IsBasicConstraints all_basic_constraints.once octets p.0 q.0 p.2 q.2) ∙ sym q.1
-holds_once kinds.AuthorityKeyIdentifier octets a b p q = p.1 ∙ ap views.AuthorityKeyIdentifier (within_once (λ (element : DerElement) (a : AuthorityKeyIdentifier). element ≡ authority_key_identifier a) authority_key_identifiers.once octets p.0 q.0 p.2 q.2) ∙ sym q.1
-holds_once kinds.ExtendedKeyUsage octets a b p q = p.1 ∙ ap views.ExtendedKeyUsage (within_once (λ (element : DerElement) (u : ExtendedKeyUsage). element ≡ extended_key_usage u) extended_key_usages.once octets p.0 q.0 p.2 q.2) ∙ sym q.1
+holds_once kinds.AuthorityKeyIdentifier octets a b p q = p.1 ∙ ap views.AuthorityKeyIdentifier (within_once (Prints authority_key_identifier) authority_key_identifiers.once octets p.0 q.0 p.2 q.2) ∙ sym q.1
+holds_once kinds.ExtendedKeyUsage octets a b p q = p.1 ∙ ap views.ExtendedKeyUsage (within_once (Prints extended_key_usage) extended_key_usages.once octets p.0 q.0 p.2 q.2) ∙ sym q.1
 holds_once kinds.Other octets a b p q = p ∙ sym q
 
 pub values_once : (kind : ExtensionKind) (octets : List ℕ) (a b : ExtensionView) → IsValueOf kind octets a → IsValueOf kind octets b → a ≡ b
@@ -175,11 +176,11 @@ values_bounded (views.ExtendedKeyUsage x) octets p = within_bounds extended_key_
 values_bounded (views.Raw x) octets p = tt
 
 pub values_written : (view : ExtensionView) → AreDer (inner_value view) → IsValueIn (value_octets view) view
-values_written (views.SubjectKeyIdentifier x) der = within_written (λ (element : DerElement) (k : List ℕ). element ≡ key_identifier k) key_identifier octet_strings x der
-values_written (views.KeyUsage x) der = within_written (λ (element : DerElement) (u : KeyUsage). element ≡ key_usage u) key_usage key_usages x der
+values_written (views.SubjectKeyIdentifier x) der = within_written (Prints key_identifier) key_identifier octet_strings x der
+values_written (views.KeyUsage x) der = within_written (Prints key_usage) key_usage key_usages x der
 values_written (views.SubjectAltName x) der = within_written AreGeneralNames general_names general_name_lists x der
 values_written (views.IssuerAltName x) der = within_written AreGeneralNames general_names general_name_lists x der
 values_written (views.BasicConstraints x) der = within_written IsBasicConstraints basic_constraints all_basic_constraints x der
-values_written (views.AuthorityKeyIdentifier x) der = within_written (λ (element : DerElement) (a : AuthorityKeyIdentifier). element ≡ authority_key_identifier a) authority_key_identifier authority_key_identifiers x der
-values_written (views.ExtendedKeyUsage x) der = within_written (λ (element : DerElement) (u : ExtendedKeyUsage). element ≡ extended_key_usage u) extended_key_usage extended_key_usages x der
+values_written (views.AuthorityKeyIdentifier x) der = within_written (Prints authority_key_identifier) authority_key_identifier authority_key_identifiers x der
+values_written (views.ExtendedKeyUsage x) der = within_written (Prints extended_key_usage) extended_key_usage extended_key_usages x der
 values_written (views.Raw x) der = refl

@@ -1,6 +1,6 @@
 use Rattle.std.proofs.Common.{◌≡◌, ◌+◌, ◌<◌, ◌^◌, Some, length}
-use Rattle.authenticode_core.specs.CertificateBag.{members_of}
 use Rattle.authenticode_core.proofs.form.count_within.Given as goal
+use Rattle.der_core.specs.Optional.{members_of}
 
 -- those that were counted and those that are left are all
 abbrev pub invariant-loop-kid : goal.invariant-loop-kid

@@ -1,8 +1,9 @@
 use Rattle.std.proofs.Common.{Option, sym, subst}
 use Rattle.cms_types.specs.SignedView.{data_elements}
+use Rattle.der_core.specs.Optional.{members_of}
 use Rattle.der_core.specs.DerElement.{DerElement}
 use Rattle.x509_types.specs.CertificateView.{view_elements}
-use Rattle.authenticode_core.specs.CertificateBag.{IsBag, members_of}
+use Rattle.authenticode_core.specs.CertificateBag.{IsBag}
 use Rattle.authenticode_core.proofs.NamedCertificates.{bag_of}
 use Rattle.authenticode_core.proofs.NamedMembers.{named_where}
 use Rattle.authenticode_core.proofs.naming.named_certificate.Goals as goal

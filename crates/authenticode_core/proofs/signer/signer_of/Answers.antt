@@ -1,8 +1,8 @@
 use Rattle.std.proofs.Common.{◌≡◌, ◌↔◌, suc, sym, subst, Some}
+use Rattle.der_core.specs.Optional.{members_of}
 use Rattle.der_core.specs.DerElement.{DerElement}
 use Rattle.x509_types.specs.CertificateElements.{CertificateElements}
 use Rattle.authenticode_core.specs.BagSigner.{IsNamedByFirst}
-use Rattle.authenticode_core.specs.CertificateBag.{members_of}
 use Rattle.authenticode_core.specs.Wanted.{IsNamedBy}
 use Rattle.authenticode_core.specs.declared.bag.BagCertificate.{BagCertificate}
 use Rattle.authenticode_core.proofs.SignerSteps.{least_named}

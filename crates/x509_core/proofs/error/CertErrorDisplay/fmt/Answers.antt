@@ -7,7 +7,6 @@ use Rattle.x509_core.specs.ErrorText.{cause_text}
 use Rattle.x509_core.proofs.Chains.{assoc}
 use Rattle.x509_core.proofs.error.CertErrorDisplay.fmt.Goals as goal
 
--- a text behind three others, where it is one
 same_text : (a b c : List ℕ) (x : Option (List ℕ)) → Some a ++? (Some b ++? (Some c ++? x)) ≡ option_map (λ text. ((a ++ b) ++ c) ++ text) x
 same_text a b c None = refl
 same_text a b c (Some text) = ap Some (sym (assoc (a ++ b) c text ∙ assoc a b (c ++ text)))
