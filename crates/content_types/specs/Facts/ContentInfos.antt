@@ -34,18 +34,7 @@ values_once (contents.SpcIndirectDataContent x) (contents.SpcIndirectDataContent
 values_once (contents.CertificateTrustList x) (contents.CertificateTrustList y) kind e = ap contents.CertificateTrustList (ctls_once x y e)
 values_once (contents.Data x) (contents.Data y) kind e = ap contents.Data (octet_strings.once (octet_string x) x y refl e)
 values_once (contents.Other x) (contents.Other y) kind e = ap contents.Other (same_kept x y e)
-values_once (contents.SpcIndirectDataContent x) (contents.CertificateTrustList y) kind e = absurd cc
-values_once (contents.SpcIndirectDataContent x) (contents.Data y) kind e = absurd cc
-values_once (contents.SpcIndirectDataContent x) (contents.Other y) kind e = absurd cc
-values_once (contents.CertificateTrustList x) (contents.SpcIndirectDataContent y) kind e = absurd cc
-values_once (contents.CertificateTrustList x) (contents.Data y) kind e = absurd cc
-values_once (contents.CertificateTrustList x) (contents.Other y) kind e = absurd cc
-values_once (contents.Data x) (contents.SpcIndirectDataContent y) kind e = absurd cc
-values_once (contents.Data x) (contents.CertificateTrustList y) kind e = absurd cc
-values_once (contents.Data x) (contents.Other y) kind e = absurd cc
-values_once (contents.Other x) (contents.SpcIndirectDataContent y) kind e = absurd cc
-values_once (contents.Other x) (contents.CertificateTrustList y) kind e = absurd cc
-values_once (contents.Other x) (contents.Data y) kind e = absurd cc
+values_once a b kind e = absurd cc
 
 value_formed : (value : ContentValue) → IsWellFormed (content_value value)
 value_formed (contents.SpcIndirectDataContent x) = indirect_data_contents.formed x

@@ -26,26 +26,7 @@ ctl_values_once (values.CertDisallowedFileTimePropId x) (values.CertDisallowedFi
 ctl_values_once (values.UnknownReservedPropId126 x) (values.UnknownReservedPropId126 y) kind e = ap values.UnknownReservedPropId126 (list_once 0x31 octet_string same_string x y e)
 ctl_values_once (values.UnknownReservedPropId127 x) (values.UnknownReservedPropId127 y) kind e = ap values.UnknownReservedPropId127 (list_once 0x31 held_purposes helds_once x y e)
 ctl_values_once (values.Other x) (values.Other y) kind e = ap values.Other (list_once 0x31 kept_element same_kept x y e)
-ctl_values_once (values.CertSubjectNameMd5HashPropId x) (values.CertDisallowedFileTimePropId y) kind e = absurd cc
-ctl_values_once (values.CertSubjectNameMd5HashPropId x) (values.UnknownReservedPropId126 y) kind e = absurd cc
-ctl_values_once (values.CertSubjectNameMd5HashPropId x) (values.UnknownReservedPropId127 y) kind e = absurd cc
-ctl_values_once (values.CertSubjectNameMd5HashPropId x) (values.Other y) kind e = absurd cc
-ctl_values_once (values.CertDisallowedFileTimePropId x) (values.CertSubjectNameMd5HashPropId y) kind e = absurd cc
-ctl_values_once (values.CertDisallowedFileTimePropId x) (values.UnknownReservedPropId126 y) kind e = absurd cc
-ctl_values_once (values.CertDisallowedFileTimePropId x) (values.UnknownReservedPropId127 y) kind e = absurd cc
-ctl_values_once (values.CertDisallowedFileTimePropId x) (values.Other y) kind e = absurd cc
-ctl_values_once (values.UnknownReservedPropId126 x) (values.CertSubjectNameMd5HashPropId y) kind e = absurd cc
-ctl_values_once (values.UnknownReservedPropId126 x) (values.CertDisallowedFileTimePropId y) kind e = absurd cc
-ctl_values_once (values.UnknownReservedPropId126 x) (values.UnknownReservedPropId127 y) kind e = absurd cc
-ctl_values_once (values.UnknownReservedPropId126 x) (values.Other y) kind e = absurd cc
-ctl_values_once (values.UnknownReservedPropId127 x) (values.CertSubjectNameMd5HashPropId y) kind e = absurd cc
-ctl_values_once (values.UnknownReservedPropId127 x) (values.CertDisallowedFileTimePropId y) kind e = absurd cc
-ctl_values_once (values.UnknownReservedPropId127 x) (values.UnknownReservedPropId126 y) kind e = absurd cc
-ctl_values_once (values.UnknownReservedPropId127 x) (values.Other y) kind e = absurd cc
-ctl_values_once (values.Other x) (values.CertSubjectNameMd5HashPropId y) kind e = absurd cc
-ctl_values_once (values.Other x) (values.CertDisallowedFileTimePropId y) kind e = absurd cc
-ctl_values_once (values.Other x) (values.UnknownReservedPropId126 y) kind e = absurd cc
-ctl_values_once (values.Other x) (values.UnknownReservedPropId127 y) kind e = absurd cc
+ctl_values_once a b kind e = absurd cc
 
 set_formed : {X : Type 0} (written : X → DerElement) → ((value : X) → IsWellFormed (written value)) → (values : List X) → IsWellFormed (list_element 0x31 written values)
 set_formed written formed values = ((omega arith, omega arith, omega arith), refl, each_formed written formed values)

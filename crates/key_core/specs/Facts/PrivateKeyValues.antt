@@ -23,12 +23,7 @@ pub keys_once : (x y : PrivateKeyValue) → private_kind x ≡ private_kind y �
 keys_once (values.Rsa x) (values.Rsa y) kind e = ap values.Rsa (rsa_private_keys.once (rsa_private_key x) x y refl e)
 keys_once (values.Ec x) (values.Ec y) kind e = ap values.Ec (ec_private_keys.once (ec_private_key x) x y refl e)
 keys_once (values.Ed x) (values.Ed y) kind e = ap values.Ed (octet_strings.once (octet_string x) x y refl e)
-keys_once (values.Rsa x) (values.Ec y) kind e = absurd cc
-keys_once (values.Rsa x) (values.Ed y) kind e = absurd cc
-keys_once (values.Ec x) (values.Rsa y) kind e = absurd cc
-keys_once (values.Ec x) (values.Ed y) kind e = absurd cc
-keys_once (values.Ed x) (values.Rsa y) kind e = absurd cc
-keys_once (values.Ed x) (values.Ec y) kind e = absurd cc
+keys_once x y kind e = absurd cc
 
 -- or by its kind and the octets of its element
 pub keys_by_encoding : (x y : PrivateKeyValue) → private_kind x ≡ private_kind y → encoding (private_key x) ≡ encoding (private_key y) → x ≡ y
@@ -38,12 +33,7 @@ one_number : (x y : PrivateKeyValue) → key_kind_number (private_kind x) ≡ ke
 one_number (values.Rsa x) (values.Rsa y) e = refl
 one_number (values.Ec x) (values.Ec y) e = refl
 one_number (values.Ed x) (values.Ed y) e = refl
-one_number (values.Rsa x) (values.Ec y) e = absurd cc
-one_number (values.Rsa x) (values.Ed y) e = absurd cc
-one_number (values.Ec x) (values.Rsa y) e = absurd cc
-one_number (values.Ec x) (values.Ed y) e = absurd cc
-one_number (values.Ed x) (values.Rsa y) e = absurd cc
-one_number (values.Ed x) (values.Ec y) e = absurd cc
+one_number x y e = absurd cc
 
 pub keys_by_octets : (a b : PrivateKeyValue) → private_key_octets a ≡ private_key_octets b → a ≡ b
 keys_by_octets a b e =

@@ -33,18 +33,7 @@ keys_once (keys.Rsa x) (keys.Rsa y) kind e =
 keys_once (keys.Ec x) (keys.Ec y) kind e = ap keys.Ec (bits_once x y e)
 keys_once (keys.Ed x) (keys.Ed y) kind e = ap keys.Ed (bits_once x y e)
 keys_once (keys.Mldsa x) (keys.Mldsa y) kind e = ap keys.Mldsa (bits_once x y e)
-keys_once (keys.Rsa x) (keys.Ec y) kind e = absurd cc
-keys_once (keys.Rsa x) (keys.Ed y) kind e = absurd cc
-keys_once (keys.Rsa x) (keys.Mldsa y) kind e = absurd cc
-keys_once (keys.Ec x) (keys.Rsa y) kind e = absurd cc
-keys_once (keys.Ec x) (keys.Ed y) kind e = absurd cc
-keys_once (keys.Ec x) (keys.Mldsa y) kind e = absurd cc
-keys_once (keys.Ed x) (keys.Rsa y) kind e = absurd cc
-keys_once (keys.Ed x) (keys.Ec y) kind e = absurd cc
-keys_once (keys.Ed x) (keys.Mldsa y) kind e = absurd cc
-keys_once (keys.Mldsa x) (keys.Rsa y) kind e = absurd cc
-keys_once (keys.Mldsa x) (keys.Ec y) kind e = absurd cc
-keys_once (keys.Mldsa x) (keys.Ed y) kind e = absurd cc
+keys_once x y kind e = absurd cc
 
 pub keys_formed : (key : SubjectKey) → IsWellFormed (subject_public_key key)
 keys_formed (keys.Rsa key) = ((omega arith, omega arith, omega arith), refl)

@@ -1,6 +1,6 @@
 -- An algorithm is for keys of a kind for one reason, and an identifier names one kind.
-use Rattle.std.proofs.Common.{◌≡◌, IsTrue, ℕ, List, Option, Some, None, refl, sym, subst, inl, inr}
-use Rattle.std.specs.Prelude.{Bool, bytes_eq}
+use Rattle.std.proofs.Common.{◌≡◌, ◌∙◌, IsTrue, ℕ, List, Option, Some, None, refl, sym, subst, inl, inr}
+use Rattle.std.specs.Prelude.{Bool, if◌then◌else◌, bytes_eq}
 use Rattle.std.specs.Coded.{×_prop, Unit-prop, Coded-set, coded_ℕ, coded_bool}
 use Rattle.std.proofs.lemmas.Bool.{or_cases}
 use Rattle.std.proofs.lemmas.Slice.Eq.{bytes_eq-Decides}
@@ -53,21 +53,19 @@ named_ed P a0 a1 a2 a3 oid named = elim (or_cases _ _ named) [ inl l3 ↦ elim (
 named_mldsa : (P : List ℕ → Type 0) → P ML_DSA_44.now → P ML_DSA_65.now → P ML_DSA_87.now → (oid : List ℕ) → IsTrue (names_kind kinds.Mldsa oid) → P oid
 named_mldsa P a0 a1 a2 oid named = elim (or_cases _ _ named) [ inl l2 ↦ elim (or_cases _ _ l2) [ inl l1 ↦ at_same P oid ML_DSA_44.now l1 a0 | inr r1 ↦ at_same P oid ML_DSA_65.now r1 a1 ] | inr r2 ↦ at_same P oid ML_DSA_87.now r2 a2 ]
 
+-- the kind that an identifier names, where it names one
+abbrev kind_of : List ℕ → KeyKind
+kind_of oid =
+    if names_kind kinds.Rsa oid then kinds.Rsa
+    else (if names_kind kinds.Ec oid then kinds.Ec
+    else (if names_kind kinds.Ed oid then kinds.Ed else kinds.Mldsa))
+
+told : (k : KeyKind) (oid : List ℕ) → IsTrue (names_kind k oid) → kind_of oid ≡ k
+told kinds.Rsa oid named = named_rsa (λ o. kind_of o ≡ kinds.Rsa) refl oid named
+told kinds.Ec oid named = named_ec (λ o. kind_of o ≡ kinds.Ec) refl oid named
+told kinds.Ed oid named = named_ed (λ o. kind_of o ≡ kinds.Ed) refl refl refl refl oid named
+told kinds.Mldsa oid named = named_mldsa (λ o. kind_of o ≡ kinds.Mldsa) refl refl refl oid named
+
 -- an identifier names one kind
 pub one_kind : (k l : KeyKind) (oid : List ℕ) → IsTrue (names_kind k oid) → IsTrue (names_kind l oid) → k ≡ l
-one_kind kinds.Rsa kinds.Rsa oid p q = refl
-one_kind kinds.Rsa kinds.Ec oid p q = named_rsa (λ o. IsTrue (names_kind kinds.Ec o) → kinds.Rsa ≡ kinds.Ec) (λ n. absurd cc) oid p q
-one_kind kinds.Rsa kinds.Ed oid p q = named_rsa (λ o. IsTrue (names_kind kinds.Ed o) → kinds.Rsa ≡ kinds.Ed) (λ n. absurd cc) oid p q
-one_kind kinds.Rsa kinds.Mldsa oid p q = named_rsa (λ o. IsTrue (names_kind kinds.Mldsa o) → kinds.Rsa ≡ kinds.Mldsa) (λ n. absurd cc) oid p q
-one_kind kinds.Ec kinds.Rsa oid p q = named_ec (λ o. IsTrue (names_kind kinds.Rsa o) → kinds.Ec ≡ kinds.Rsa) (λ n. absurd cc) oid p q
-one_kind kinds.Ec kinds.Ec oid p q = refl
-one_kind kinds.Ec kinds.Ed oid p q = named_ec (λ o. IsTrue (names_kind kinds.Ed o) → kinds.Ec ≡ kinds.Ed) (λ n. absurd cc) oid p q
-one_kind kinds.Ec kinds.Mldsa oid p q = named_ec (λ o. IsTrue (names_kind kinds.Mldsa o) → kinds.Ec ≡ kinds.Mldsa) (λ n. absurd cc) oid p q
-one_kind kinds.Ed kinds.Rsa oid p q = named_ed (λ o. IsTrue (names_kind kinds.Rsa o) → kinds.Ed ≡ kinds.Rsa) (λ n. absurd cc) (λ n. absurd cc) (λ n. absurd cc) (λ n. absurd cc) oid p q
-one_kind kinds.Ed kinds.Ec oid p q = named_ed (λ o. IsTrue (names_kind kinds.Ec o) → kinds.Ed ≡ kinds.Ec) (λ n. absurd cc) (λ n. absurd cc) (λ n. absurd cc) (λ n. absurd cc) oid p q
-one_kind kinds.Ed kinds.Ed oid p q = refl
-one_kind kinds.Ed kinds.Mldsa oid p q = named_ed (λ o. IsTrue (names_kind kinds.Mldsa o) → kinds.Ed ≡ kinds.Mldsa) (λ n. absurd cc) (λ n. absurd cc) (λ n. absurd cc) (λ n. absurd cc) oid p q
-one_kind kinds.Mldsa kinds.Rsa oid p q = named_mldsa (λ o. IsTrue (names_kind kinds.Rsa o) → kinds.Mldsa ≡ kinds.Rsa) (λ n. absurd cc) (λ n. absurd cc) (λ n. absurd cc) oid p q
-one_kind kinds.Mldsa kinds.Ec oid p q = named_mldsa (λ o. IsTrue (names_kind kinds.Ec o) → kinds.Mldsa ≡ kinds.Ec) (λ n. absurd cc) (λ n. absurd cc) (λ n. absurd cc) oid p q
-one_kind kinds.Mldsa kinds.Ed oid p q = named_mldsa (λ o. IsTrue (names_kind kinds.Ed o) → kinds.Mldsa ≡ kinds.Ed) (λ n. absurd cc) (λ n. absurd cc) (λ n. absurd cc) oid p q
-one_kind kinds.Mldsa kinds.Mldsa oid p q = refl
+one_kind k l oid p q = sym (told k oid p) ∙ told l oid q

@@ -35,18 +35,7 @@ split_asked (values.ContentType x) (values.ContentType y) r s kind w e = (refl, 
 split_asked (values.MessageDigest x) (values.MessageDigest y) r s kind w e = (refl, e)
 split_asked (values.Extensions x) (values.Extensions y) r s kind w e = split_requests x y r s (same_members (map extensions x) (map extensions y) w) e
 split_asked (values.Raw x) (values.Raw y) r s kind w e = (refl, e)
-split_asked (values.ContentType x) (values.MessageDigest y) r s kind w e = absurd cc
-split_asked (values.ContentType x) (values.Extensions y) r s kind w e = absurd cc
-split_asked (values.ContentType x) (values.Raw y) r s kind w e = absurd cc
-split_asked (values.MessageDigest x) (values.ContentType y) r s kind w e = absurd cc
-split_asked (values.MessageDigest x) (values.Extensions y) r s kind w e = absurd cc
-split_asked (values.MessageDigest x) (values.Raw y) r s kind w e = absurd cc
-split_asked (values.Extensions x) (values.ContentType y) r s kind w e = absurd cc
-split_asked (values.Extensions x) (values.MessageDigest y) r s kind w e = absurd cc
-split_asked (values.Extensions x) (values.Raw y) r s kind w e = absurd cc
-split_asked (values.Raw x) (values.ContentType y) r s kind w e = absurd cc
-split_asked (values.Raw x) (values.MessageDigest y) r s kind w e = absurd cc
-split_asked (values.Raw x) (values.Extensions y) r s kind w e = absurd cc
+split_asked u v r s kind w e = absurd cc
 
 abbrev asked_in : List Attribute → List ℕ
 asked_in attributes = flat_map (λ (a : Attribute). asked_kinds a.value) attributes

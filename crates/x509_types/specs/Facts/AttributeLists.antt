@@ -59,18 +59,7 @@ values_once element (values.ContentType x) (values.ContentType y) kind p q = ap 
 values_once element (values.MessageDigest x) (values.MessageDigest y) kind p q = ap values.MessageDigest (digest_sets.once element x y p q)
 values_once element (values.Extensions x) (values.Extensions y) kind p q = ap values.Extensions (request_sets.once element x y p q)
 values_once element (values.Raw x) (values.Raw y) kind p q = ap values.Raw (kept_sets.once element x y p q)
-values_once element (values.ContentType x) (values.MessageDigest y) kind p q = absurd cc
-values_once element (values.ContentType x) (values.Extensions y) kind p q = absurd cc
-values_once element (values.ContentType x) (values.Raw y) kind p q = absurd cc
-values_once element (values.MessageDigest x) (values.ContentType y) kind p q = absurd cc
-values_once element (values.MessageDigest x) (values.Extensions y) kind p q = absurd cc
-values_once element (values.MessageDigest x) (values.Raw y) kind p q = absurd cc
-values_once element (values.Extensions x) (values.ContentType y) kind p q = absurd cc
-values_once element (values.Extensions x) (values.MessageDigest y) kind p q = absurd cc
-values_once element (values.Extensions x) (values.Raw y) kind p q = absurd cc
-values_once element (values.Raw x) (values.ContentType y) kind p q = absurd cc
-values_once element (values.Raw x) (values.MessageDigest y) kind p q = absurd cc
-values_once element (values.Raw x) (values.Extensions y) kind p q = absurd cc
+values_once element a b kind p q = absurd cc
 
 pub values_bounded : (element : DerElement) (vs : AttributeValues) → AreAttributeValues element vs → AreDer (inner_values vs)
 values_bounded element (values.ContentType x) p = tt
@@ -103,18 +92,7 @@ values_told (values.ContentType x) (values.ContentType y) kind asked e = ap valu
 values_told (values.MessageDigest x) (values.MessageDigest y) kind asked e = ap values.MessageDigest (list_once 0x31 octet_string same_digest x y e)
 values_told (values.Extensions x) (values.Extensions y) kind asked e = ap values.Extensions (requests_told x y asked e)
 values_told (values.Raw x) (values.Raw y) kind asked e = ap values.Raw (list_once 0x31 kept_element same_kept x y e)
-values_told (values.ContentType x) (values.MessageDigest y) kind asked e = absurd cc
-values_told (values.ContentType x) (values.Extensions y) kind asked e = absurd cc
-values_told (values.ContentType x) (values.Raw y) kind asked e = absurd cc
-values_told (values.MessageDigest x) (values.ContentType y) kind asked e = absurd cc
-values_told (values.MessageDigest x) (values.Extensions y) kind asked e = absurd cc
-values_told (values.MessageDigest x) (values.Raw y) kind asked e = absurd cc
-values_told (values.Extensions x) (values.ContentType y) kind asked e = absurd cc
-values_told (values.Extensions x) (values.MessageDigest y) kind asked e = absurd cc
-values_told (values.Extensions x) (values.Raw y) kind asked e = absurd cc
-values_told (values.Raw x) (values.ContentType y) kind asked e = absurd cc
-values_told (values.Raw x) (values.MessageDigest y) kind asked e = absurd cc
-values_told (values.Raw x) (values.Extensions y) kind asked e = absurd cc
+values_told a b kind asked e = absurd cc
 
 pub small_asked : (vs : AttributeValues) → AreSmall (asked_kinds vs)
 small_asked (values.ContentType x) = tt
