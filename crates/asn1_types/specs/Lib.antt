@@ -10,4 +10,5 @@ pub mod Time
 pub mod Elements
 pub mod KnownIdentifiers
 pub mod NamedIdentifiers
+pub mod ErrorText
 pub mod Facts

@@ -1,20 +1,20 @@
 //! Why a text is not a value.
 
-ghost use Rattle.std.specs.Prelude.{◌≡◌};
+ghost use Rattle.std.specs.Prelude.{◌≡◌, Some};
+ghost use Rattle.asn1_types.specs.ErrorText.{char_set_error_text, text_error_text};
 ghost use Rattle.asn1_types.specs.declared.error.TextError.TheVariants as text;
 ghost use Rattle.asn1_types.specs.declared.error.CharSetError.TheVariants as char_set;
 
 use std::alloc::{AllocError, AllocFailed};
+use std::fmt;
 use thiserror::Error;
 
 /// Why a text is no object identifier.
 #[derive(Clone, Copy, Debug, PartialEq, Eq, Error)]
 pub enum TextError {
     /// The text is not the dotted decimal form of an identifier.
-    #[error("the text is not an object identifier in dotted decimal form")]
     BadText,
     /// There was no memory left.
-    #[error("out of memory")]
     Memory,
 }
 
@@ -22,11 +22,37 @@ pub enum TextError {
 #[derive(Clone, Copy, Debug, PartialEq, Eq, Error)]
 pub enum CharSetError {
     /// A character is outside the character set.
-    #[error("a character is outside the character set of the string")]
     CharSet,
     /// There was no memory left.
-    #[error("out of memory")]
     Memory,
+}
+
+impl fmt::Display for TextError {
+    ghost output = { λ error. Some (text_error_text error) };
+
+    fn fmt<W: fmt::Write>(&self, f: &mut fmt::Formatter<W>) -> fmt::Result {
+        match self {
+            TextError::BadText => write!(
+                f,
+                "the text is not an object identifier in dotted decimal form"
+            ),
+            TextError::Memory => write!(f, "out of memory"),
+        }
+    }
+}
+
+impl fmt::Display for CharSetError {
+    ghost output = { λ error. Some (char_set_error_text error) };
+
+    fn fmt<W: fmt::Write>(&self, f: &mut fmt::Formatter<W>) -> fmt::Result {
+        match self {
+            CharSetError::CharSet => write!(
+                f,
+                "a character is outside the character set of the string"
+            ),
+            CharSetError::Memory => write!(f, "out of memory"),
+        }
+    }
 }
 
 impl From<AllocError> for TextError {

@@ -1,7 +1,7 @@
 -- The texts of errors.
-use Rattle.std.specs.Prelude.{ℕ, List, ◌++◌, codes, decimal, Option, Some, None}
-use Rattle.std.specs.Option.{option_map}
+use Rattle.std.specs.Prelude.{ℕ, List, ◌++◌, codes, decimal}
 use Rattle.asn1_types.specs.Values.{integer_contents}
+use Rattle.der_core.specs.ErrorText.{der_error_text}
 use Rattle.hex.specs.Hex.{encode_lower}
 use Rattle.key_core.specs.SignatureErrorText.{signature_error_text}
 use Rattle.names_core.specs.Names.{sets_of}
@@ -37,60 +37,58 @@ unnamed_text issuer serial_number =
     codes "the signed data has no certificate of the issuer '" ++ name_text (sets_of issuer)
     ++ codes "' with the serial number " ++ encode_lower serial_number
 
-abbrev pub pkcs7_error_text : Pkcs7Error → Option (List ℕ)
+-- what is told of signed data that isn't read or written
+abbrev pub pkcs7_error_text : Pkcs7Error → List ℕ
 pkcs7_error_text (pkcs7.Cert e) = cert_error_text e
-pkcs7_error_text pkcs7.Memory = Some (codes "out of memory")
+pkcs7_error_text pkcs7.Memory = codes "out of memory"
 
 -- what is told of a time stamp that isn't given or put in
-abbrev pub timestamp_error_text : TimestampError → Option (List ℕ)
+abbrev pub timestamp_error_text : TimestampError → List ℕ
 timestamp_error_text (stamps.Pkcs7Error e) = pkcs7_error_text e
 timestamp_error_text (stamps.Asn1DerError e) = cert_error_text e
-timestamp_error_text stamps.TimestampTokenEmpty =
-    Some (codes "the token or the signed data has no signer")
-timestamp_error_text stamps.Memory = Some (codes "out of memory")
+timestamp_error_text stamps.TimestampTokenEmpty = codes "the token or the signed data has no signer"
+timestamp_error_text stamps.Memory = codes "out of memory"
 
-abbrev pub content_error_text : AuthenticodeError → Option (List ℕ)
+-- what is told of signed data that is refused
+abbrev pub content_error_text : AuthenticodeError → List ℕ
 content_error_text (contents.CertError e) = cert_error_text e
 content_error_text (contents.IncorrectVersion expected got) =
-    Some (codes "the version of the signed data is " ++ decimal got ++ codes ", and not "
-    ++ decimal expected)
+    codes "the version of the signed data is " ++ decimal got
+    ++ codes ", and not " ++ decimal expected
 content_error_text (contents.MultipleSignerInfo count) =
-    Some (codes "the signed data has " ++ decimal count ++ codes " signers, and not one")
+    codes "the signed data has " ++ decimal count ++ codes " signers, and not one"
 content_error_text (contents.IncorrectDigestAlgorithmsCount count) =
-    Some (codes "the signed data has " ++ decimal count ++ codes " digest algorithms, and not one")
-content_error_text contents.NoEncapsulatedContentInfo =
-    Some (codes "the signed data has no content")
+    codes "the signed data has " ++ decimal count ++ codes " digest algorithms, and not one"
+content_error_text contents.NoEncapsulatedContentInfo = codes "the signed data has no content"
 content_error_text contents.NoSpcIndirectDataContent =
-    Some (codes "what is signed does not stand for a file")
+    codes "what is signed does not stand for a file"
 content_error_text contents.DigestAlgorithmMismatch =
-    Some (codes "the signed data names several digest algorithms")
-content_error_text (contents.FileHashMismatch actual expected) =
-    Some (file_mismatch_text actual expected)
+    codes "the signed data names several digest algorithms"
+content_error_text (contents.FileHashMismatch actual expected) = file_mismatch_text actual expected
 content_error_text contents.IncorrectSignerIdentifier =
-    Some (codes "the signer is named by the identifier of a key, and not by issuer and serial number")
-content_error_text (contents.NoCertificatesAssociatedWithIssuerAndSerialNumber issuer serial_number) =
-    Some (unnamed_text issuer (integer_contents serial_number))
-content_error_text (contents.UnsupportedAlgorithmError e) = Some unsupported_algorithm_text
-content_error_text (contents.SignatureError e) =
-    option_map (λ text. codes "signature error: " ++ text) (signature_error_text e)
+    codes "the signer is named by the identifier of a key, and not by issuer and serial number"
+content_error_text (contents.NoCertificatesAssociatedWithIssuerAndSerialNumber issuer number) =
+    unnamed_text issuer (integer_contents number)
+content_error_text (contents.UnsupportedAlgorithmError e) = unsupported_algorithm_text
+content_error_text (contents.SignatureError e) = codes "signature error: " ++ signature_error_text e
 content_error_text contents.NoMessageDigest =
-    Some (codes "no message digest is among the signed attributes")
-content_error_text (contents.UnsupportedHashAlgorithmError e) = Some (unsupported_hash_text e)
-content_error_text (contents.HashMismatch actual expected) = Some (mismatch_text actual expected)
+    codes "no message digest is among the signed attributes"
+content_error_text (contents.UnsupportedHashAlgorithmError e) = unsupported_hash_text e
+content_error_text (contents.HashMismatch actual expected) = mismatch_text actual expected
 content_error_text contents.NoEKUCodeSigning =
-    Some (codes "the certificate of the signer is not one for code signing")
-content_error_text contents.MissingExpectedFileHash = Some (codes "no digest of the file is given")
+    codes "the certificate of the signer is not one for code signing"
+content_error_text contents.MissingExpectedFileHash = codes "no digest of the file is given"
 content_error_text (contents.InvalidTimestampCert e) =
-    option_map (λ text. codes "certificate of the time stamp: " ++ text) (cert_error_text e)
+    codes "certificate of the time stamp: " ++ cert_error_text e
 content_error_text contents.ProgramNameCharSet =
-    Some (codes "the name of the program has a character past U+FFFF")
-content_error_text contents.NoCertificates = Some (codes "the signed data has no certificates")
-content_error_text (contents.Asn1DerError e) = None
+    codes "the name of the program has a character past U+FFFF"
+content_error_text contents.NoCertificates = codes "the signed data has no certificates"
+content_error_text (contents.Asn1DerError e) = der_error_text e
 content_error_text (contents.TimestampError e) = timestamp_error_text e
-content_error_text contents.Memory = Some (codes "out of memory")
+content_error_text contents.Memory = codes "out of memory"
 
 -- what is told of a signature file that is refused
-abbrev pub check_error_text : CheckError → Option (List ℕ)
-check_error_text (check.Win e) = Some (error_text e)
+abbrev pub check_error_text : CheckError → List ℕ
+check_error_text (check.Win e) = error_text e
 check_error_text (check.Authenticode e) = content_error_text e
-check_error_text check.Memory = Some (codes "out of memory")
+check_error_text check.Memory = codes "out of memory"

@@ -1,6 +1,6 @@
 //! Why a signature is refused.
 
-ghost use Rattle.std.specs.Prelude.{◌≡◌, IfOk, string_bytes};
+ghost use Rattle.std.specs.Prelude.{◌≡◌, IfOk, string_bytes, Some};
 ghost use Rattle.std.specs.Fmt.{WritesOnOk};
 ghost use Rattle.authenticode_core.specs.ErrorText.{check_error_text, content_error_text, file_mismatch_text, mismatch_text, unnamed_text};
 ghost use Rattle.authenticode_core.specs.ContentRefusal.{of_certificates, of_char_set, of_der, of_signatures, told_of_content, told_of_header};
@@ -186,7 +186,7 @@ impl AuthenticodeError {
 }
 
 impl fmt::Display for AuthenticodeError {
-    ghost output = { content_error_text };
+    ghost output = { λ error. Some (content_error_text error) };
 
     fn fmt<W: fmt::Write>(&self, f: &mut fmt::Formatter<W>) -> fmt::Result {
         match self {
@@ -342,7 +342,7 @@ fn header_refusal_name(error: &WinCertificateError) -> &'static str
 }
 
 impl fmt::Display for CheckError {
-    ghost output = { check_error_text };
+    ghost output = { λ error. Some (check_error_text error) };
 
     fn fmt<W: fmt::Write>(&self, f: &mut fmt::Formatter<W>) -> fmt::Result {
         match self {

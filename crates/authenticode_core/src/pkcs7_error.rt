@@ -1,6 +1,6 @@
 //! Why signed data isn't read or written.
 
-ghost use Rattle.std.specs.Prelude.{◌≡◌};
+ghost use Rattle.std.specs.Prelude.{◌≡◌, Some};
 ghost use Rattle.authenticode_core.specs.ErrorText.{pkcs7_error_text};
 ghost use Rattle.authenticode_core.specs.StampRefusal.{signed_data_refusal};
 ghost use Rattle.authenticode_core.specs.declared.pkcs7_error.Pkcs7Error.TheVariants.{Memory};
@@ -21,7 +21,7 @@ pub enum Pkcs7Error {
 }
 
 impl fmt::Display for Pkcs7Error {
-    ghost output = { pkcs7_error_text };
+    ghost output = { λ error. Some (pkcs7_error_text error) };
 
     fn fmt<W: fmt::Write>(&self, f: &mut fmt::Formatter<W>) -> fmt::Result {
         match self {

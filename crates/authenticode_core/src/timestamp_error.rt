@@ -1,6 +1,6 @@
 //! Why a signature isn't stamped.
 
-ghost use Rattle.std.specs.Prelude.{◌≡◌};
+ghost use Rattle.std.specs.Prelude.{◌≡◌, Some};
 ghost use Rattle.authenticode_core.specs.ErrorText.{timestamp_error_text};
 ghost use Rattle.authenticode_core.specs.StampRefusal.{stamp_refusal, token_refusal};
 ghost use Rattle.authenticode_core.specs.declared.timestamp_error.TimestampError.TheVariants.{Memory};
@@ -25,7 +25,7 @@ pub enum TimestampError {
 }
 
 impl fmt::Display for TimestampError {
-    ghost output = { timestamp_error_text };
+    ghost output = { λ error. Some (timestamp_error_text error) };
 
     fn fmt<W: fmt::Write>(&self, f: &mut fmt::Formatter<W>) -> fmt::Result {
         match self {

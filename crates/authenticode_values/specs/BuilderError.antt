@@ -1,5 +1,6 @@
 -- The errors of builders of signatures, and their texts.
-use Rattle.std.specs.Prelude.{ℕ, List, codes, Option, Some, None}
+use Rattle.std.specs.Prelude.{ℕ, List, codes}
+use Rattle.der_core.specs.ErrorText.{der_error_text}
 use Rattle.der_core.specs.declared.error.DerError.{DerError}
 use Rattle.der_core.specs.declared.error.DerError.TheVariants as der
 use Rattle.authenticode_core.specs.ErrorText.{content_error_text}
@@ -18,13 +19,14 @@ abbrev pub unwritten_in_builder : DerError → AuthenticodeSignatureBuilderError
 unwritten_in_builder der.Memory = errors.Memory
 unwritten_in_builder e = errors.Asn1DerError e
 
-abbrev pub builder_error_text : AuthenticodeSignatureBuilderError → Option (List ℕ)
-builder_error_text errors.MissingDigestAlgorithm = Some (codes "no digest algorithm is given")
-builder_error_text errors.MissingContentInfo = Some (codes "no content is given")
-builder_error_text errors.MissingSigningKey = Some (codes "no private key is given")
+-- what is told of a signature that isn't built
+abbrev pub builder_error_text : AuthenticodeSignatureBuilderError → List ℕ
+builder_error_text errors.MissingDigestAlgorithm = codes "no digest algorithm is given"
+builder_error_text errors.MissingContentInfo = codes "no content is given"
+builder_error_text errors.MissingSigningKey = codes "no private key is given"
 builder_error_text errors.MissingIssuerAndSerialNumber =
-    Some (codes "no issuer and no serial number are given")
-builder_error_text errors.MissingCertificatesRequired = Some (codes "no certificates are given")
+    codes "no issuer and no serial number are given"
+builder_error_text errors.MissingCertificatesRequired = codes "no certificates are given"
 builder_error_text (errors.AuthenticodeError e) = content_error_text e
-builder_error_text (errors.Asn1DerError e) = None
-builder_error_text errors.Memory = Some (codes "out of memory")
+builder_error_text (errors.Asn1DerError e) = der_error_text e
+builder_error_text errors.Memory = codes "out of memory"

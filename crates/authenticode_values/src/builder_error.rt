@@ -1,6 +1,6 @@
 //! Why a signature isn't built.
 
-ghost use Rattle.std.specs.Prelude.{◌≡◌};
+ghost use Rattle.std.specs.Prelude.{◌≡◌, Some};
 ghost use Rattle.authenticode_values.specs.BuilderError.{builder_error_text, builder_refusal, unwritten_in_builder};
 ghost use Rattle.authenticode_values.specs.declared.builder_error.AuthenticodeSignatureBuilderError.TheVariants as builder_errors;
 
@@ -34,7 +34,7 @@ pub enum AuthenticodeSignatureBuilderError {
 }
 
 impl fmt::Display for AuthenticodeSignatureBuilderError {
-    ghost output = { builder_error_text };
+    ghost output = { λ error. Some (builder_error_text error) };
 
     fn fmt<W: fmt::Write>(&self, f: &mut fmt::Formatter<W>) -> fmt::Result {
         match self {

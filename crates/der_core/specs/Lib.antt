@@ -5,6 +5,7 @@ pub mod Head
 pub mod Fault
 pub mod Causes
 pub mod Reading
+pub mod ErrorText
 pub mod Writing
 pub mod Kept
 pub mod Placed

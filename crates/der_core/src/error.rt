@@ -1,29 +1,50 @@
 //! Why octets are not read, or a tree is not written.
 
-ghost use Rattle.std.specs.Prelude.{◌≡◌};
+ghost use Rattle.std.specs.Prelude.{◌≡◌, Some};
+ghost use Rattle.der_core.specs.ErrorText.{der_error_text};
 ghost use Rattle.der_core.specs.declared.error.DerError.TheVariants as errors;
 
 use crate::fault::Malformed;
 use std::alloc::{AllocError, AllocFailed};
+use std::fmt;
 use thiserror::Error;
 
+/// Why octets are not read, or a tree is not written.
 #[derive(Clone, Copy, Debug, PartialEq, Eq, Error)]
 pub enum DerError {
     /// The octets are no element of the distinguished encoding rules.
-    #[error("malformed DER: {0}")]
     Malformed(Malformed),
     /// The element is not of the structure that is read.
-    #[error("the element has another structure than the one that is read")]
     Shape,
     /// The tree to be written has more than 64 levels.
-    #[error("the tree is nested deeper than 64 levels and cannot be written")]
     TooDeep,
     /// Some contents of the tree to be written pass 4,294,967,295 octets.
-    #[error("some contents of the tree pass 4294967295 octets and cannot be written")]
     TooLong,
     /// There was no memory left.
-    #[error("out of memory")]
     Memory,
+}
+
+impl fmt::Display for DerError {
+    ghost output = { λ error. Some (der_error_text error) };
+
+    fn fmt<W: fmt::Write>(&self, f: &mut fmt::Formatter<W>) -> fmt::Result {
+        match self {
+            DerError::Malformed(malformed) => write!(f, "malformed DER: {malformed}"),
+            DerError::Shape => write!(
+                f,
+                "the element has another structure than the one that is read"
+            ),
+            DerError::TooDeep => write!(
+                f,
+                "the tree is nested deeper than 64 levels and cannot be written"
+            ),
+            DerError::TooLong => write!(
+                f,
+                "some contents of the tree pass 4294967295 octets and cannot be written"
+            ),
+            DerError::Memory => write!(f, "out of memory"),
+        }
+    }
 }
 
 impl From<Malformed> for DerError {

@@ -1,5 +1,7 @@
 -- The texts of errors.
-use Rattle.std.specs.Prelude.{ℕ, List, ◌++◌, codes, Option, Some, None}
+use Rattle.std.specs.Prelude.{ℕ, List, ◌++◌, codes}
+use Rattle.der_core.specs.declared.error.DerError.{DerError}
+use Rattle.der_core.specs.ErrorText.{der_error_text}
 use Rattle.key_types.specs.declared.key_kind.KeyKind.{KeyKind}
 use Rattle.key_types.specs.declared.key_kind.KeyKind.TheVariants as kinds
 use Rattle.key_core.specs.declared.element.Element.{Element}
@@ -46,12 +48,20 @@ kind_text kinds.Ec = codes "EC"
 kind_text kinds.Ed = codes "ED"
 kind_text kinds.Mldsa = codes "ML-DSA"
 
-abbrev pub key_error_text : KeyError → Option (List ℕ)
-key_error_text (errors.Asn1Serialization element source) = None
-key_error_text (errors.Asn1Deserialization element source) = None
-key_error_text (errors.Rsa context) = Some (codes "RSA error: " ++ context_text context)
-key_error_text (errors.EC context) = Some (codes "EC error: " ++ context_text context)
-key_error_text (errors.ED context) = Some (codes "ED error: " ++ context_text context)
+-- what is told of an element that isn't read or written: which one, and why
+abbrev pub element_error_text : (head : List ℕ) → Element → DerError → List ℕ
+element_error_text head element source =
+    head ++ element_text element ++ codes ": " ++ der_error_text source
+
+-- what is told of a key that isn't read, made or written
+abbrev pub key_error_text : KeyError → List ℕ
+key_error_text (errors.Asn1Serialization element source) =
+    element_error_text (codes "(ASN1) couldn't serialize ") element source
+key_error_text (errors.Asn1Deserialization element source) =
+    element_error_text (codes "(ASN1) couldn't deserialize ") element source
+key_error_text (errors.Rsa context) = codes "RSA error: " ++ context_text context
+key_error_text (errors.EC context) = codes "EC error: " ++ context_text context
+key_error_text (errors.ED context) = codes "ED error: " ++ context_text context
 key_error_text (errors.UnsupportedAlgorithm algorithm) =
-    Some (codes "unsupported algorithm: " ++ kind_text algorithm)
-key_error_text errors.Memory = Some (codes "out of memory")
+    codes "unsupported algorithm: " ++ kind_text algorithm
+key_error_text errors.Memory = codes "out of memory"

@@ -1,11 +1,10 @@
 -- The texts of errors of signatures and of identifiers of keys.
-use Rattle.std.specs.Prelude.{ℕ, List, ◌++◌, codes, Option, Some, None}
-use Rattle.std.specs.Option.{option_map}
+use Rattle.std.specs.Prelude.{ℕ, List, ◌++◌, codes}
 use Rattle.asn1_types.specs.ObjectIdentifier.{dotted}
 use Rattle.asn1_types.specs.Values.{arcs_of}
 use Rattle.sig_core.specs.Digest.{digest_name}
 use Rattle.key_core.specs.EcCurve.{curve_text}
-use Rattle.key_core.specs.ErrorText.{key_error_text}
+use Rattle.key_core.specs.ErrorText.{element_error_text, key_error_text}
 use Rattle.key_core.specs.declared.key_id.KeyIdGenError.{KeyIdGenError}
 use Rattle.key_core.specs.declared.key_id.KeyIdGenError.TheVariants as id_errors
 use Rattle.key_core.specs.declared.signature_error.SigContext.{SigContext}
@@ -30,19 +29,20 @@ unsupported_text (unsupported.Hash hash) = digest_name hash
 unsupported_text (unsupported.Pairing curve hash) =
     curve_text curve ++ codes " with " ++ digest_name hash
 
-abbrev pub signature_error_text : SignatureError → Option (List ℕ)
-signature_error_text (errors.Key source) =
-    option_map (λ text. codes "Key error: " ++ text) (key_error_text source)
-signature_error_text (errors.Rsa context) = Some (codes "RSA error: " ++ sig_context_text context)
-signature_error_text (errors.Ec context) = Some (codes "EC error: " ++ sig_context_text context)
-signature_error_text (errors.Ed context) = Some (codes "ED error: " ++ sig_context_text context)
-signature_error_text errors.BadSignature = Some (codes "invalid signature")
+-- what is told of a signature that isn't made or accepted
+abbrev pub signature_error_text : SignatureError → List ℕ
+signature_error_text (errors.Key source) = codes "Key error: " ++ key_error_text source
+signature_error_text (errors.Rsa context) = codes "RSA error: " ++ sig_context_text context
+signature_error_text (errors.Ec context) = codes "EC error: " ++ sig_context_text context
+signature_error_text (errors.Ed context) = codes "ED error: " ++ sig_context_text context
+signature_error_text errors.BadSignature = codes "invalid signature"
 signature_error_text (errors.UnsupportedAlgorithm algorithm) =
-    Some (codes "unsupported algorithm: " ++ unsupported_text algorithm)
-signature_error_text errors.Memory = Some (codes "out of memory")
+    codes "unsupported algorithm: " ++ unsupported_text algorithm
+signature_error_text errors.Memory = codes "out of memory"
 
-abbrev pub key_id_error_text : KeyIdGenError → Option (List ℕ)
-key_id_error_text (id_errors.InvalidKey source) =
-    option_map (λ text. codes "invalid key: " ++ text) (key_error_text source)
-key_id_error_text (id_errors.Asn1Serialization element source) = None
-key_id_error_text id_errors.Memory = Some (codes "out of memory")
+-- what is told of a key that has no identifier
+abbrev pub key_id_error_text : KeyIdGenError → List ℕ
+key_id_error_text (id_errors.InvalidKey source) = codes "invalid key: " ++ key_error_text source
+key_id_error_text (id_errors.Asn1Serialization element source) =
+    element_error_text (codes "(asn1) couldn't serialize ") element source
+key_id_error_text id_errors.Memory = codes "out of memory"

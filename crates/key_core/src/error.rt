@@ -2,7 +2,7 @@
 
 ghost use Rattle.std.specs.Prelude.{◌≡◌, ◌++◌, Some};
 ghost use Rattle.std.specs.Fmt.{WritesOnOk};
-ghost use Rattle.key_core.specs.ErrorText.{context_text, kind_text, key_error_text};
+ghost use Rattle.key_core.specs.ErrorText.{element_error_text, context_text, kind_text, key_error_text};
 ghost use Rattle.key_core.specs.KeyRefusals.{unread, unwritten};
 ghost use Rattle.key_core.specs.declared.error.KeyError.TheVariants.{Memory};
 
@@ -145,20 +145,23 @@ pub(crate) fn write_element<W: fmt::Write>(
     element: Element,
     source: &DerError,
     f: &mut fmt::Formatter<W>,
-) -> fmt::Result {
-    write!(f, "{head} {element}: {source}")
+) -> fmt::Result
+    ensures { WritesOnOk W.write_str_gives f.old result
+        (element_error_text head.now element source.now) f.new }
+{
+    write!(f, "{head}{element}: {source}")
 }
 
 impl fmt::Display for KeyError {
-    ghost output = { key_error_text };
+    ghost output = { λ error. Some (key_error_text error) };
 
     fn fmt<W: fmt::Write>(&self, f: &mut fmt::Formatter<W>) -> fmt::Result {
         match self {
             KeyError::Asn1Serialization { element, source } => {
-                write_element("(ASN1) couldn't serialize", *element, source, f)
+                write_element("(ASN1) couldn't serialize ", *element, source, f)
             }
             KeyError::Asn1Deserialization { element, source } => {
-                write_element("(ASN1) couldn't deserialize", *element, source, f)
+                write_element("(ASN1) couldn't deserialize ", *element, source, f)
             }
             KeyError::Rsa { context } => write_parts("RSA error: ", context.text(), f),
             KeyError::EC { context } => write_parts("EC error: ", context.text(), f),

@@ -1,6 +1,6 @@
 //! Identifiers of keys.
 
-ghost use Rattle.std.specs.Prelude.{◌≡◌, ◌≢◌, ℕ, List, Err, IfOk, MatchResult, vec_len};
+ghost use Rattle.std.specs.Prelude.{◌≡◌, ◌≢◌, ℕ, List, Err, IfOk, MatchResult, vec_len, Some};
 ghost use Rattle.sig_core.specs.Digest.{digest_of, digest_size};
 ghost use Rattle.sig_core.specs.declared.hash.HashAlgorithm.{HashAlgorithm};
 ghost use Rattle.sig_core.specs.declared.hash.HashAlgorithm.TheVariants.{MD5};
@@ -153,13 +153,13 @@ fn unwritten(source: DerError) -> KeyIdGenError
 }
 
 impl fmt::Display for KeyIdGenError {
-    ghost output = { key_id_error_text };
+    ghost output = { λ error. Some (key_id_error_text error) };
 
     fn fmt<W: fmt::Write>(&self, f: &mut fmt::Formatter<W>) -> fmt::Result {
         match self {
             KeyIdGenError::InvalidKey { source } => write!(f, "invalid key: {source}"),
             KeyIdGenError::Asn1Serialization { element, source } => {
-                write_element("(asn1) couldn't serialize", *element, source, f)
+                write_element("(asn1) couldn't serialize ", *element, source, f)
             }
             KeyIdGenError::Memory => f.write_str("out of memory"),
         }

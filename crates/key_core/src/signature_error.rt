@@ -94,7 +94,7 @@ impl fmt::Display for Unsupported {
 }
 
 impl fmt::Display for SignatureError {
-    ghost output = { signature_error_text };
+    ghost output = { λ error. Some (signature_error_text error) };
 
     fn fmt<W: fmt::Write>(&self, f: &mut fmt::Formatter<W>) -> fmt::Result {
         match self {

@@ -2,6 +2,7 @@ pub mod Counts
 pub mod Shelf
 pub mod Sink
 pub mod Limits
+pub mod ErrorText
 pub mod Unread
 pub mod Stored
 pub mod Memory
@@ -19,3 +20,4 @@ pub mod Inquiry
 pub mod Run
 pub mod Headline
 pub mod ChainHeadline
+pub mod Vouched

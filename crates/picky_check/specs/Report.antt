@@ -42,25 +42,26 @@ comma = 0x2C
 -- places with commas between
 abbrev pub places_text : List ℕ → List ℕ
 places_text [] = []
-places_text (first ∷ others) = decimal first ++ flat_map (λ place. 44 ∷ decimal place) others
+places_text (first ∷ others) = decimal first ++ flat_map (λ place. comma ∷ decimal place) others
 
 -- accepted signer=S path=P,P excuse=E
 abbrev pub accepted_line : Accepted → List ℕ
 accepted_line accepted =
     codes "accepted signer=" ++ place_text accepted.signer
     ++ codes " path=" ++ places_text accepted.path
-    ++ codes " excuse=" ++ excuse_word accepted.excuse ++ 10 ∷ []
+    ++ codes " excuse=" ++ excuse_word accepted.excuse ++ newline ∷ []
 
 -- accepted parents=K
 abbrev pub parents_line : ℕ → List ℕ
-parents_line count = codes "accepted parents=" ++ decimal count ++ 10 ∷ []
+parents_line count = codes "accepted parents=" ++ decimal count ++ newline ∷ []
 
 -- refused NAME
 abbrev pub refused_line : CheckError → List ℕ
-refused_line e = codes "refused " ++ refusal_name e ++ 10 ∷ []
+refused_line e = codes "refused " ++ refusal_name e ++ newline ∷ []
 
+-- refused NAME, of a chain
 abbrev pub refused_chain_line : CertError → List ℕ
-refused_chain_line e = codes "refused " ++ cert_error_name e ++ 10 ∷ []
+refused_chain_line e = codes "refused " ++ cert_error_name e ++ newline ∷ []
 
 -- the line that reports an answer
 abbrev pub report_line : Answer → List ℕ

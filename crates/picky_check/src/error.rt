@@ -1,23 +1,35 @@
 //! Why a file wasn't read.
 
-ghost use Rattle.std.specs.Prelude.{◌≡◌};
+ghost use Rattle.std.specs.Prelude.{◌≡◌, Some};
+ghost use Rattle.picky_check.specs.ErrorText.{file_error_text};
 ghost use Rattle.picky_check.specs.declared.error.FileError.TheVariants.{Fault, Memory};
 
 use crate::Failed;
 use std::alloc::{AllocError, AllocFailed};
+use std::fmt;
 use thiserror::Error;
 
 /// Why a file wasn't read.
 #[derive(Clone, Copy, Debug, PartialEq, Eq, Error)]
 pub enum FileError {
     /// The shelf failed, or has no file of this name.
-    #[error("the file can't be read")]
     Fault,
     /// The file has more than 16,777,216 octets.
-    #[error("the file has more than 16777216 octets")]
     TooLong,
-    #[error("out of memory")]
+    /// No memory was left.
     Memory,
+}
+
+impl fmt::Display for FileError {
+    ghost output = { λ error. Some (file_error_text error) };
+
+    fn fmt<W: fmt::Write>(&self, f: &mut fmt::Formatter<W>) -> fmt::Result {
+        match self {
+            FileError::Fault => write!(f, "the file can't be read"),
+            FileError::TooLong => write!(f, "the file has more than 16777216 octets"),
+            FileError::Memory => write!(f, "out of memory"),
+        }
+    }
 }
 
 impl From<Failed> for FileError {

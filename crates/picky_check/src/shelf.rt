@@ -3,14 +3,23 @@
 ghost use Rattle.std.specs.Prelude.{◌≡◌, ◌≤◌, ℕ, List, Some, length, IfOk, OnOk, OnErr, IsOk, IsErr, IsSome};
 ghost use Rattle.authenticode_core.specs.Counts.{GoesOn, HasRisen};
 ghost use Rattle.picky_check.specs.Counts.{FailsOnce, RisesBy};
+ghost use Rattle.picky_check.specs.ErrorText.{failed_text};
 ghost use Rattle.picky_check.specs.Shelf.{ShelfState, file_of, IsPicked, Moves};
 
+use std::fmt;
 use thiserror::Error;
 
 /// The outside failed.
 #[derive(Clone, Copy, Debug, PartialEq, Eq, Error)]
-#[error("the outside failed")]
 pub struct Failed;
+
+impl fmt::Display for Failed {
+    ghost output = { λ failed. Some failed_text };
+
+    fn fmt<W: fmt::Write>(&self, f: &mut fmt::Formatter<W>) -> fmt::Result {
+        write!(f, "the outside failed")
+    }
+}
 
 /// Files that are picked by name and read piece by piece. A call that fails counts one fault, and
 /// no other call counts any.

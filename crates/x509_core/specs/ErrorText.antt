@@ -1,11 +1,10 @@
 -- The texts of errors.
-use Rattle.std.specs.Prelude.{ℕ, List, ◌++◌, codes, Option, Some, None}
-use Rattle.std.specs.Option.{option_map}
+use Rattle.std.specs.Prelude.{ℕ, List, ◌++◌, codes}
 use Rattle.std.specs.Fmt.{decimal}
 use Rattle.hex.specs.Hex.{encode_lower}
 use Rattle.asn1_types.specs.Time.{time_text}
 use Rattle.asn1_types.specs.declared.generalized_time.GeneralizedTime.{GeneralizedTime}
-use Rattle.key_core.specs.ErrorText.{key_error_text}
+use Rattle.key_core.specs.ErrorText.{element_error_text, key_error_text}
 use Rattle.key_core.specs.SignatureErrorText.{signature_error_text, key_id_error_text}
 use Rattle.key_core.specs.declared.key_id.KeyIdGenError.{KeyIdGenError}
 use Rattle.key_core.specs.declared.signature_error.SignatureError.{SignatureError}
@@ -51,13 +50,13 @@ expired_text not_after now =
     codes "certificate expired (not after: " ++ time_text not_after ++ codes ", now: "
     ++ time_text now ++ codes ")"
 
-abbrev pub bad_signature_text : SignatureError → Option (List ℕ)
-bad_signature_text source =
-    option_map (λ text. codes "signature error: " ++ text) (signature_error_text source)
+-- a signature that isn't accepted
+abbrev pub bad_signature_text : SignatureError → List ℕ
+bad_signature_text source = codes "signature error: " ++ signature_error_text source
 
-abbrev pub key_id_text : KeyIdGenError → Option (List ℕ)
-key_id_text source =
-    option_map (λ text. codes "key id generation error: " ++ text) (key_id_error_text source)
+-- a key without an identifier
+abbrev pub key_id_text : KeyIdGenError → List ℕ
+key_id_text source = codes "key id generation error: " ++ key_id_error_text source
 
 -- the key that is named and the one that stands there, in hexadecimal digits
 abbrev pub key_mismatch_text : List ℕ → List ℕ → List ℕ
@@ -79,39 +78,36 @@ chain_error_text (chain.IssuerNameMismatch expected actual) =
     ++ name_text (sets_of actual) ++ codes ")"
 
 -- a cause has the text of the error of its name
-abbrev pub cause_text : CertCause → Option (List ℕ)
-cause_text (causes.Asn1Serialization element source) = None
+abbrev pub cause_text : CertCause → List ℕ
+cause_text (causes.Asn1Serialization element source) =
+    element_error_text (codes "(ASN1) couldn't serialize ") element source
 cause_text (causes.Signature source) = bad_signature_text source
 cause_text (causes.KeyIdGen source) = key_id_text source
-cause_text (causes.InvalidChain source) = Some (codes "CA chain error: " ++ chain_error_text source)
-cause_text (causes.ExtensionNotFound name) =
-    Some (codes "extension not found: " ++ extension_text name)
-cause_text (causes.CertificateNotYetValid not_before now) = Some (not_yet_valid_text not_before now)
-cause_text (causes.CertificateExpired not_after now) = Some (expired_text not_after now)
+cause_text (causes.InvalidChain source) = codes "CA chain error: " ++ chain_error_text source
+cause_text (causes.ExtensionNotFound name) = codes "extension not found: " ++ extension_text name
+cause_text (causes.CertificateNotYetValid not_before now) = not_yet_valid_text not_before now
+cause_text (causes.CertificateExpired not_after now) = expired_text not_after now
 
-abbrev pub cert_error_text : CertError → Option (List ℕ)
+-- what is told of a certificate
+abbrev pub cert_error_text : CertError → List ℕ
 cert_error_text (errors.CertGeneration source) =
-    option_map (λ text. codes "couldn't generate certificate: " ++ text) (cause_text source)
+    codes "couldn't generate certificate: " ++ cause_text source
 cert_error_text (errors.InvalidCertificate id source) =
-    option_map
-    (λ text. codes "invalid certificate '" ++ name_text (sets_of id) ++ codes "': " ++ text)
-    (cause_text source)
-cert_error_text (errors.Asn1Serialization element source) = None
-cert_error_text (errors.Asn1Deserialization element source) = None
+    codes "invalid certificate '" ++ name_text (sets_of id) ++ codes "': " ++ cause_text source
+cert_error_text (errors.Asn1Serialization element source) =
+    element_error_text (codes "(ASN1) couldn't serialize ") element source
+cert_error_text (errors.Asn1Deserialization element source) =
+    element_error_text (codes "(ASN1) couldn't deserialize ") element source
 cert_error_text (errors.Signature source) = bad_signature_text source
 cert_error_text (errors.KeyIdGen source) = key_id_text source
-cert_error_text (errors.InvalidChain source) =
-    Some (codes "CA chain error: " ++ chain_error_text source)
-cert_error_text (errors.InvalidCsr source) =
-    option_map (λ text. codes "CSR error: " ++ text) (csr_error_text source)
+cert_error_text (errors.InvalidChain source) = codes "CA chain error: " ++ chain_error_text source
+cert_error_text (errors.InvalidCsr source) = codes "CSR error: " ++ csr_error_text source
 cert_error_text (errors.ExtensionNotFound name) =
-    Some (codes "extension not found: " ++ extension_text name)
+    codes "extension not found: " ++ extension_text name
 cert_error_text (errors.MissingBuilderArgument argument) =
-    Some (codes "missing required builder argument `" ++ argument_text argument ++ codes "`")
-cert_error_text (errors.CertificateNotYetValid not_before now) =
-    Some (not_yet_valid_text not_before now)
-cert_error_text (errors.CertificateExpired not_after now) = Some (expired_text not_after now)
+    codes "missing required builder argument `" ++ argument_text argument ++ codes "`"
+cert_error_text (errors.CertificateNotYetValid not_before now) = not_yet_valid_text not_before now
+cert_error_text (errors.CertificateExpired not_after now) = expired_text not_after now
 cert_error_text (errors.PrivateKeyToPublicKey source) =
-    option_map (λ text. codes "failed to get public key from private key: " ++ text)
-    (key_error_text source)
-cert_error_text errors.Memory = Some (codes "out of memory")
+    codes "failed to get public key from private key: " ++ key_error_text source
+cert_error_text errors.Memory = codes "out of memory"

@@ -1,6 +1,6 @@
 //! Why a request isn't read, written, accepted or made.
 
-ghost use Rattle.std.specs.Prelude.{◌≡◌};
+ghost use Rattle.std.specs.Prelude.{◌≡◌, Some};
 ghost use Rattle.x509_core.specs.CsrErrorText.{csr_error_text};
 ghost use Rattle.x509_core.specs.declared.csr_error.CsrError.TheVariants.{Memory};
 
@@ -26,7 +26,7 @@ pub enum CsrError {
 }
 
 impl fmt::Display for CsrError {
-    ghost output = { csr_error_text };
+    ghost output = { λ error. Some (csr_error_text error) };
 
     fn fmt<W: fmt::Write>(&self, f: &mut fmt::Formatter<W>) -> fmt::Result {
         match self {

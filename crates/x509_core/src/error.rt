@@ -334,7 +334,7 @@ fn write_expired<W: fmt::Write>(
 }
 
 impl fmt::Display for CertCause {
-    ghost output = { cause_text };
+    ghost output = { λ error. Some (cause_text error) };
 
     fn fmt<W: fmt::Write>(&self, f: &mut fmt::Formatter<W>) -> fmt::Result {
         match self {
@@ -355,7 +355,7 @@ impl fmt::Display for CertCause {
 }
 
 impl fmt::Display for CertError {
-    ghost output = { cert_error_text };
+    ghost output = { λ error. Some (cert_error_text error) };
 
     fn fmt<W: fmt::Write>(&self, f: &mut fmt::Formatter<W>) -> fmt::Result {
         match self {
