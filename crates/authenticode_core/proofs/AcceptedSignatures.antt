@@ -13,9 +13,9 @@ use Rattle.key_types.specs.declared.key_info.SubjectPublicKeyInfo.{SubjectPublic
 use Rattle.sig_core.specs.declared.hash.HashAlgorithm.{HashAlgorithm}
 use Rattle.x509_core.specs.Link.{HasKey}
 use Rattle.x509_types.specs.CertificateElements.{CertificateElements}
+use Rattle.authenticode_core.specs.ContentRefusal.{of_signatures}
 use Rattle.authenticode_core.specs.SignedFields.{signed_message}
 use Rattle.authenticode_core.specs.SigningRules.{IsRefusedUnder, HasSignatureBy, RefusesAuthenticodeBy}
-use Rattle.authenticode_core.specs.SigningSteps.{signer_refusal}
 use Rattle.authenticode_core.specs.declared.error.AuthenticodeError.{AuthenticodeError}
 use Rattle.authenticode_core.specs.declared.error.AuthenticodeError.TheVariants as errors
 
@@ -46,7 +46,7 @@ module _ (judge : Judge) (g : SignerElements) (hash : HashAlgorithm) (c : Certif
       }))
 
   broken_by : (source : SignatureError) (e : AuthenticodeError) → HasKey c info → msg ≡ signed_message g → g.signature ≡ Primitive 0x04 sig
-      → e ≡ signer_refusal source → IsFirstBroken (verify_rules judge (RsaPkcs1v15 hash) info msg sig) source → RefusesAuthenticodeBy (IsRefusedUnder judge g hash c ∷ []) e
+      → e ≡ of_signatures source → IsFirstBroken (verify_rules judge (RsaPkcs1v15 hash) info msg sig) source → RefusesAuthenticodeBy (IsRefusedUnder judge g hash c ∷ []) e
   broken_by (signature_errors.Key x) e key message signature is broken = told (signature_errors.Key x) e key message signature is broken
   broken_by (signature_errors.Rsa x) e key message signature is broken = told (signature_errors.Rsa x) e key message signature is broken
   broken_by (signature_errors.Ec x) e key message signature is broken = told (signature_errors.Ec x) e key message signature is broken
@@ -56,6 +56,6 @@ module _ (judge : Judge) (g : SignerElements) (hash : HashAlgorithm) (c : Certif
   broken_by signature_errors.Memory e key message signature is broken = inr is
 
   pub refused_under : (source : SignatureError) (e : AuthenticodeError) → HasKey c info → msg ≡ signed_message g → g.signature ≡ Primitive 0x04 sig
-      → e ≡ signer_refusal source → RefusesSignatureBy (verify_rules judge (RsaPkcs1v15 hash) info msg sig) source → RefusesAuthenticodeBy (IsRefusedUnder judge g hash c ∷ []) e
+      → e ≡ of_signatures source → RefusesSignatureBy (verify_rules judge (RsaPkcs1v15 hash) info msg sig) source → RefusesAuthenticodeBy (IsRefusedUnder judge g hash c ∷ []) e
   refused_under source e key message signature is (inl broken) = broken_by source e key message signature is broken
-  refused_under source e key message signature is (inr memory) = inr (is ∙ ap signer_refusal memory)
+  refused_under source e key message signature is (inr memory) = inr (is ∙ ap of_signatures memory)

@@ -44,10 +44,6 @@ pub record TellsName (issuer serial_number : List ℕ) (e : AuthenticodeError) :
   pub number_is : integer_contents number ≡ serial_number
   pub told : e ≡ errors.NoCertificatesAssociatedWithIssuerAndSerialNumber made number
 
-abbrev pub signer_refusal : SignatureError → AuthenticodeError
-signer_refusal signature_errors.Memory = errors.Memory
-signer_refusal source = errors.SignatureError source
-
 -- an AlgorithmIdentifier has an identifier of these contents octets
 abbrev pub IsOfIdentifier : DerElement → List ℕ → Type 0
 IsOfIdentifier element oid =

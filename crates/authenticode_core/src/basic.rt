@@ -1,10 +1,10 @@
 //! Basic validation: the form of the signed data, the digest of the file, and the signature.
 
-ghost use Rattle.std.specs.Prelude.{◌≡◌, ◌⊎◌, Err, MatchResult};
+ghost use Rattle.std.specs.Prelude.{◌≡◌, Err, MatchResult};
 ghost use Rattle.cms_types.specs.Pkcs7Elements.{pkcs7_of};
 ghost use Rattle.cms_types.specs.SignedDataElements.{signed_data_of};
 ghost use Rattle.cms_types.specs.SignedView.{data_elements};
-ghost use Rattle.key_core.specs.Rules.{IsFirstBroken};
+ghost use Rattle.key_core.specs.Rules.{IsFirstBroken, OrMemory};
 ghost use Rattle.authenticode_core.specs.Basic.{IsRefusedPart, VouchesFor};
 ghost use Rattle.authenticode_core.specs.Form.{AreSpelled, IsFormOf};
 ghost use Rattle.authenticode_core.specs.PolicySteps.{IsVouchedAt};
@@ -60,8 +60,8 @@ fn expect_vouched<'a, S: Scheme>(
     requires { IsFormOf (data_elements signed_data.now) form.now }
     ensures { MatchResult result
         (VouchesFor (S.judge scheme.now) (data_elements signed_data.now) file_hash.now)
-        (λ e. IsRefusedPart (S.judge scheme.now) (data_elements signed_data.now) file_hash.now e
-        ⊎ (e ≡ AuthenticodeError.Memory)) }
+        (OrMemory AuthenticodeError.Memory
+        (IsRefusedPart (S.judge scheme.now) (data_elements signed_data.now) file_hash.now)) }
 {
     if !is_same(form.content.digest, file_hash) {
         return Err(file_mismatch(alloc, form.content.digest, file_hash));
@@ -71,8 +71,8 @@ fn expect_vouched<'a, S: Scheme>(
 
 /// The digest of the file is another one than is asked for.
 fn file_mismatch(alloc: Global, actual: &[u8], expected: &[u8]) -> AuthenticodeError
-    ensures { (result ≡ AuthenticodeError.FileHashMismatch actual.now expected.now)
-        ⊎ (result ≡ AuthenticodeError.Memory) }
+    ensures { OrMemory AuthenticodeError.Memory
+        (λ e. e ≡ AuthenticodeError.FileHashMismatch actual.now expected.now) result }
 {
     let Ok(actual) = Octets::from_slice(alloc, actual) else {
         return AuthenticodeError::Memory;

@@ -1,9 +1,10 @@
 //! Whether the certificate of the first signer is vouched for, or its expiry excused, step by step
 //! (RFC 5280 6.1; Windows Authenticode Portable Executable Signature Format).
 
-ghost use Rattle.std.specs.Prelude.{◌≡◌, ◌⊎◌, ◌↔◌, ℕ, List, Some, IsTrue, MatchResult};
+ghost use Rattle.std.specs.Prelude.{◌≡◌, ◌↔◌, ℕ, List, Some, IsTrue, MatchResult};
 ghost use Rattle.cms_types.specs.SignedView.{data_elements};
 ghost use Rattle.cms_types.specs.SignerView.{signer_elements_at};
+ghost use Rattle.key_core.specs.Rules.{OrMemory};
 ghost use Rattle.x509_core.specs.KeptCertificate.{KeptCertificate};
 ghost use Rattle.x509_core.specs.Link.{IsOutside};
 ghost use Rattle.x509_core.specs.Rules.{Breaks};
@@ -129,9 +130,8 @@ fn asked_path<S: Scheme>(
     ensures { (bag : List CertificateElements) → IsBagOf (data_elements signed_data.now) bag
         → MatchResult result
         (IsPathAsked policy.now.chain (S.judge scheme.now) (window_of policy.now) bag signer)
-        (λ e. (IsTrue policy.now.chain
-        × IsUnlinkedPath (S.judge scheme.now) (window_of policy.now) bag signer e)
-        ⊎ (e ≡ cert_errors.Memory)) }
+        (OrMemory cert_errors.Memory (λ e. IsTrue policy.now.chain
+        × IsUnlinkedPath (S.judge scheme.now) (window_of policy.now) bag signer e)) }
 {
     if !policy.chain {
         return Ok(Places::new(alloc));

@@ -1,18 +1,19 @@
 //! Whether the signature of the first signer is good, step by step (RFC 2315 9.3, 9.4; Windows
 //! Authenticode Portable Executable Signature Format).
 
-ghost use Rattle.std.specs.Prelude.{◌≡◌, ◌⊎◌, [], ◌∷◌, IfOk, MatchResult};
+ghost use Rattle.std.specs.Prelude.{◌≡◌, [], ◌∷◌, IfOk, MatchResult};
 ghost use Rattle.cms_types.specs.SignedView.{data_elements};
 ghost use Rattle.cms_types.specs.SignerView.{signer_elements_at};
 ghost use Rattle.der_core.specs.Elements.{sequence};
 ghost use Rattle.der_core.specs.Placed.{AreDer};
 ghost use Rattle.key_types.specs.PublicKeyInfo.{inner_key};
 ghost use Rattle.key_core.specs.Keys.{info_of};
+ghost use Rattle.key_core.specs.Rules.{OrMemory};
 ghost use Rattle.x509_core.specs.Link.{HasKey};
 ghost use Rattle.x509_types.specs.CertificateView.{view_elements};
 ghost use Rattle.authenticode_core.specs.SignedFields.{IndirectData, IsFirstSigner, indirect_kids};
 ghost use Rattle.authenticode_core.specs.SigningRules.{HasNoCertificate, HasUnknownDigest, IsNamedByKey, IsRefusedUnder, IsSigned, HasSignatureBy, NamesDigest, RefusesAuthenticodeBy, digested_octets, signing_rules};
-ghost use Rattle.authenticode_core.specs.SigningSteps.{IsBoundBy, NamesSigner, TellsName, digest_rules, signer_refusal};
+ghost use Rattle.authenticode_core.specs.SigningSteps.{IsBoundBy, NamesSigner, TellsName, digest_rules};
 ghost use Rattle.authenticode_core.specs.declared.error.AuthenticodeError.TheVariants as errors;
 
 use crate::attributes::{message_digest_of, signed_message_of};
@@ -23,7 +24,7 @@ use crate::naming::{Named, named_certificate};
 use asn1_types::IntegerAsn1;
 use cms_types::{SignedView, SignerView};
 use der_core::{Elem, Octets, Structure, is_same};
-use key_core::{PublicKey, SignatureAlgorithm, SignatureError};
+use key_core::{PublicKey, SignatureAlgorithm};
 use key_types::SubjectPublicKeyInfo;
 use names_core::DirectoryName;
 use sig_core::{HashAlgorithm, Scheme, UnsupportedAlgorithmError, UnsupportedHashAlgorithmError};
@@ -82,7 +83,7 @@ pub(crate) fn expect_certificate<'a>(
 
 /// No certificate has this issuer, by its octets, and this serial number, by its contents octets.
 fn no_certificate(alloc: Global, issuer: &[u8], serial_number: &[u8]) -> AuthenticodeError
-    ensures { TellsName issuer.now serial_number.now result ⊎ (result ≡ errors.Memory) }
+    ensures { OrMemory errors.Memory (TellsName issuer.now serial_number.now) result }
 {
     let Ok(issuer) = DirectoryName::from_der(alloc, issuer) else {
         return AuthenticodeError::Memory;
@@ -137,7 +138,7 @@ fn expect_signature<S: Scheme>(
         scheme,
     ) {
         Ok(()) => Ok(()),
-        Err(source) => Err(signer_refusal(source)),
+        Err(source) => Err(AuthenticodeError::from(source)),
     }
 }
 
@@ -149,16 +150,6 @@ fn key_of(alloc: Global, certificate: &CertView<'_>) -> Result<PublicKey, AllocE
     match SubjectPublicKeyInfo::read_at(alloc, certificate.subject_public_key_info()) {
         Ok(info) => Ok(PublicKey::from(info)),
         Err(_) => Err(AllocError),
-    }
-}
-
-/// Why a signature isn't accepted: want of memory is told as such.
-fn signer_refusal(source: SignatureError) -> AuthenticodeError
-    ensures { result ≡ signer_refusal source }
-{
-    match source {
-        SignatureError::Memory => AuthenticodeError::Memory,
-        source => AuthenticodeError::SignatureError(source),
     }
 }
 
@@ -192,7 +183,8 @@ fn expect_message_digest(
 
 /// The message digest is another one than the digest.
 fn hash_mismatch(alloc: Global, actual: &[u8], expected: Vec<u8>) -> AuthenticodeError
-    ensures { (result ≡ errors.HashMismatch actual.now expected.items) ⊎ (result ≡ errors.Memory) }
+    ensures { OrMemory errors.Memory (λ e. e ≡ errors.HashMismatch actual.now expected.items)
+        result }
 {
     match Octets::from_slice(alloc, actual) {
         Ok(actual) => AuthenticodeError::HashMismatch {

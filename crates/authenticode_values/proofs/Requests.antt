@@ -39,8 +39,8 @@ unwritten_request digest e (der.Malformed m, is, refused) = absurd refused
 unwritten_request digest e (der.Shape, is, refused) = absurd refused
 unwritten_request digest e (der.TooDeep, is, refused) =
     let deep = first_alone (asking_for digest) der.TooDeep refused in absurd (omega (arith, deep))
-unwritten_request digest e (der.TooLong, is, refused) = inr (ap stamp_refusal is, (first_alone (asking_for digest) der.TooLong refused).1)
-unwritten_request digest e (der.Memory, is, refused) = inl (ap stamp_refusal is)
+unwritten_request digest e (der.TooLong, is, refused) = inl (ap stamp_refusal is, (first_alone (asking_for digest) der.TooLong refused).1)
+unwritten_request digest e (der.Memory, is, refused) = inr (ap stamp_refusal is)
 
 pub request_refused : (digest : List ℕ) (element : DerElement) (e : TimestampError) → element ≡ asking_for digest
     → IsRefusedRequest (IsUnwrittenCert elements.TimestampRequest (RefusesInner (element ∷ []))) e → IsTooLong (asking_for digest) e

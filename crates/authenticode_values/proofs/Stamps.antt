@@ -1,10 +1,11 @@
 -- Signed data that is stamped, and why it isn't.
-use Rattle.std.proofs.Common.{◌≡◌, ◌⊎◌, List, [], ◌∷◌, ◌++◌, ℕ, map, take, Some, refl, sym, ap, subst, ◌∙◌, inl, inr}
+use Rattle.std.proofs.Common.{◌≡◌, List, [], ◌∷◌, ◌++◌, ℕ, map, take, Some, refl, sym, ap, subst, ◌∙◌, inl, inr}
 use Rattle.std.specs.Prelude.{slice_get}
 use Rattle.der_core.specs.Refusals.{RefusesInner}
 use Rattle.der_core.specs.Writing.{RefusesToWrite}
 use Rattle.der_core.specs.declared.error.DerError.{DerError}
 use Rattle.der_core.specs.declared.error.DerError.TheVariants as der
+use Rattle.key_core.specs.Rules.{OrMemory}
 use Rattle.key_core.specs.declared.element.Element.TheVariants as structures
 use Rattle.x509_core.specs.CertRefusals.{unwritten}
 use Rattle.sig_core.specs.declared.hash.HashAlgorithm.{HashAlgorithm}
@@ -40,18 +41,18 @@ token_for gives hash signed token lent octets same first given =
 
 -- ---- refusals
 
-unstamped : (gives : Giving) (modifies : Modification) (risen : Type 0) (hash : HashAlgorithm) (before : SignedData) (e : TimestampError) → (e ≡ errors.Memory) ⊎ IsRefusedStamp gives modifies hash before e
+unstamped : (gives : Giving) (modifies : Modification) (risen : Type 0) (hash : HashAlgorithm) (before : SignedData) (e : TimestampError) → OrMemory errors.Memory (IsRefusedStamp gives modifies hash before) e
     → RefusesStamp gives modifies risen hash before (of_timestamp e)
 unstamped gives modifies risen hash before errors.Memory cause = tt
-unstamped gives modifies risen hash before (errors.Pkcs7Error e) (inl memory) = absurd (cc memory)
-unstamped gives modifies risen hash before (errors.Pkcs7Error e) (inr refused) = (λ same. cc, inr refused)
-unstamped gives modifies risen hash before (errors.Asn1DerError e) (inl memory) = absurd (cc memory)
-unstamped gives modifies risen hash before (errors.Asn1DerError e) (inr refused) = (λ same. cc, inr refused)
-unstamped gives modifies risen hash before errors.TimestampTokenEmpty (inl memory) = absurd (cc memory)
-unstamped gives modifies risen hash before errors.TimestampTokenEmpty (inr refused) = (λ same. cc, inr refused)
+unstamped gives modifies risen hash before (errors.Pkcs7Error e) (inr memory) = absurd (cc memory)
+unstamped gives modifies risen hash before (errors.Pkcs7Error e) (inl refused) = (λ same. cc, inr refused)
+unstamped gives modifies risen hash before (errors.Asn1DerError e) (inr memory) = absurd (cc memory)
+unstamped gives modifies risen hash before (errors.Asn1DerError e) (inl refused) = (λ same. cc, inr refused)
+unstamped gives modifies risen hash before errors.TimestampTokenEmpty (inr memory) = absurd (cc memory)
+unstamped gives modifies risen hash before errors.TimestampTokenEmpty (inl refused) = (λ same. cc, inr refused)
 
 pub refused_stamp : (gives : Giving) (modifies : Modification) (risen : Type 0) (hash : HashAlgorithm) (before : SignedData) (e : TimestampError) (told : AuthenticodeError) → told ≡ of_timestamp e
-    → (e ≡ errors.Memory) ⊎ IsRefusedStamp gives modifies hash before e → RefusesStamp gives modifies risen hash before told
+    → OrMemory errors.Memory (IsRefusedStamp gives modifies hash before) e → RefusesStamp gives modifies risen hash before told
 refused_stamp gives modifies risen hash before e told is cause =
     subst (RefusesStamp gives modifies risen hash before) (sym is) (unstamped gives modifies risen hash before e cause)
 
@@ -63,18 +64,18 @@ countersigned signers others first values e held =
     record { signer = first; others = others; first = e; values = values; is = refl; held = held ∙ ap (λ (ss : List SignerInfo). map signer_info (take 1 ss)) e }
 
 unwritten_first : (signers others : List SignerInfo) (first : SignerInfo) (source : DerError) → signers ≡ first ∷ others → RefusesToWrite (signer_info first) source
-    → (stamp_refusal (unwritten structures.Pkcs7 source) ≡ errors.Memory) ⊎ RefusesCountersigner signers (stamp_refusal (unwritten structures.Pkcs7 source))
+    → OrMemory errors.Memory (RefusesCountersigner signers) (stamp_refusal (unwritten structures.Pkcs7 source))
 unwritten_first signers others first (der.Malformed m) e refused = absurd refused
 unwritten_first signers others first der.Shape e refused = absurd refused
-unwritten_first signers others first der.TooDeep e refused = inr (der.TooDeep, λ same. cc, refl, record { signer = first; others = others; first = e; refused = refused })
-unwritten_first signers others first der.TooLong e refused = inr (der.TooLong, λ same. cc, refl, record { signer = first; others = others; first = e; refused = refused })
-unwritten_first signers others first der.Memory e refused = inl refl
+unwritten_first signers others first der.TooDeep e refused = inl (der.TooDeep, λ same. cc, refl, record { signer = first; others = others; first = e; refused = refused })
+unwritten_first signers others first der.TooLong e refused = inl (der.TooLong, λ same. cc, refl, record { signer = first; others = others; first = e; refused = refused })
+unwritten_first signers others first der.Memory e refused = inr refl
 
 pub not_countersigned : (signers others : List SignerInfo) (first : SignerInfo) (source : DerError) (told : TimestampError) → signers ≡ first ∷ others → RefusesInner (map signer_info (take 1 signers)) source
-    → told ≡ stamp_refusal (unwritten structures.Pkcs7 source) → (told ≡ errors.Memory) ⊎ RefusesCountersigner signers told
+    → told ≡ stamp_refusal (unwritten structures.Pkcs7 source) → OrMemory errors.Memory (RefusesCountersigner signers) told
 not_countersigned signers others first source told e refused is =
     let alone : RefusesInner (signer_info first ∷ []) source = subst (λ (ss : List SignerInfo). RefusesInner (map signer_info (take 1 ss)) source) e refused in
-    subst (λ (t : TimestampError). (t ≡ errors.Memory) ⊎ RefusesCountersigner signers t) (sym is) (unwritten_first signers others first source e (refused_alone (signer_info first) source alone))
+    subst (OrMemory errors.Memory (RefusesCountersigner signers)) (sym is) (unwritten_first signers others first source e (refused_alone (signer_info first) source alone))
 
 -- ---- the signers
 

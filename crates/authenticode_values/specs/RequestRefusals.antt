@@ -1,9 +1,10 @@
 -- Why a token isn't read, and why a request isn't written, as errors of timestamps.
-use Rattle.std.specs.Prelude.{◌≡◌, ◌⊎◌}
+use Rattle.std.specs.Prelude.{◌≡◌}
 use Rattle.der_core.specs.DerElement.{DerElement}
 use Rattle.der_core.specs.Encoding.{IsShort}
 use Rattle.der_core.specs.declared.error.DerError.TheVariants as der
 use Rattle.der_core.specs.Refusals.{Tells}
+use Rattle.key_core.specs.Rules.{OrMemory}
 use Rattle.key_core.specs.declared.element.Element.TheVariants as structures
 use Rattle.x509_core.specs.declared.error.CertError.{CertError}
 use Rattle.x509_core.specs.declared.error.CertError.TheVariants as certs
@@ -20,8 +21,9 @@ IsRefusedToken Refuses e = (source : Pkcs7Error) × (e ≡ token_refusal source)
 abbrev pub IsRefusedRequest : (CertError → Type 0) → TimestampError → Type 0
 IsRefusedRequest = Tells stamp_refusal
 
+-- the error tells that contents of a request pass 4,294,967,295 octets, or no memory was left
 abbrev pub IsTooLong : DerElement → TimestampError → Type 0
-IsTooLong request e =
-    (e ≡ errors.Memory)
-    ⊎ ((e ≡ errors.Asn1DerError (certs.Asn1Serialization structures.TimestampRequest der.TooLong))
+IsTooLong request =
+    OrMemory errors.Memory (λ e.
+    (e ≡ errors.Asn1DerError (certs.Asn1Serialization structures.TimestampRequest der.TooLong))
     × (IsShort request → ⊥))

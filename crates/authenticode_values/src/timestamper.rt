@@ -1,6 +1,7 @@
 //! Where timestamps come from.
 
-ghost use Rattle.std.specs.Prelude.{◌≡◌, ◌⊎◌, ℕ, Ok, Err, IfOk, OnOk, OnErr, IfErr, Result};
+ghost use Rattle.std.specs.Prelude.{◌≡◌, ℕ, Ok, Err, IfOk, OnOk, OnErr, IfErr, Result};
+ghost use Rattle.key_core.specs.Rules.{OrMemory};
 ghost use Rattle.cms_types.specs.declared.signed_data.SignedData.{SignedData};
 ghost use Rattle.authenticode_core.specs.declared.timestamp_error.TimestampError.{TimestampError};
 ghost use Rattle.authenticode_core.specs.declared.timestamp_error.TimestampError.TheVariants as errors;
@@ -37,7 +38,7 @@ pub trait Timestamper {
     ) -> Result<Pkcs7, TimestampError>
         ensures given { IfOk result (λ token. gives self.old digest.now hash_algo token) }
         ensures cause { IfErr result
-            (λ e. (e ≡ errors.Memory) ⊎ HasRisen (faults self.old) (faults self.new)) }
+            (OrMemory errors.Memory (λ _. HasRisen (faults self.old) (faults self.new))) }
         ensures counted { GoesOn (faults self.old) (faults self.new) }
         ensures same_tokens { GiveAlike (gives self.old) (gives self.new) }
         ensures same_modification { ModifyAlike (modifies self.old) (modifies self.new) };
@@ -52,7 +53,7 @@ pub trait Timestamper {
         ensures modified { OnOk result
             (modifies self.now token signed_data.old (Ok signed_data.new)) }
         ensures refused { IfErr result
-            (λ e. (e ≡ errors.Memory) ⊎ modifies self.now token signed_data.old (Err e)) }
+            (OrMemory errors.Memory (λ e. modifies self.now token signed_data.old (Err e))) }
         ensures unchanged { OnErr result (signed_data.new ≡ signed_data.old) };
 
     // Where a modification comes to an error it comes to nothing else.

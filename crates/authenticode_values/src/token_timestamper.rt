@@ -8,6 +8,7 @@ ghost use Rattle.der_core.specs.Refusals.{RefusesInner, RefusesOctets};
 ghost use Rattle.der_core.specs.Structure.{IsWithin};
 ghost use Rattle.der_core.specs.declared.error.DerError.TheVariants as der_errors;
 ghost use Rattle.der_core.specs.declared.fault.DerFault.{DerFault};
+ghost use Rattle.key_core.specs.Rules.{OrMemory};
 ghost use Rattle.key_core.specs.declared.element.Element.TheVariants as elements;
 ghost use Rattle.x509_core.specs.CertRefusals.{IsUnwrittenCert};
 ghost use Rattle.cms_types.specs.Pkcs7.{pkcs7};
@@ -128,7 +129,7 @@ impl Timestamper for TokenTimestamper {
     ) -> Result<(), TimestampError>
         ensures modified { OnOk result (token_modifies token signed_data.old (Ok signed_data.new)) }
         ensures refused { IfErr result
-            (λ e. (e ≡ errors.Memory) ⊎ token_modifies token signed_data.old (Err e)) }
+            (OrMemory errors.Memory (λ e. token_modifies token signed_data.old (Err e))) }
         ensures unchanged { OnErr result (signed_data.new ≡ signed_data.old) }
         // Where there is no signer on either side, that is told whatever memory there is.
         ensures empty { (signed_data.old.signers_infos ≡ []) ⊎ (signer_infos_of token ≡ [])
@@ -153,7 +154,7 @@ fn stamped_signers(
 ) -> Result<SignersInfos, TimestampError>
     ensures stamped { MatchResult result
         (AreStamped countersigners.now signers.now)
-        (λ e. (e ≡ errors.Memory) ⊎ RefusesTokenStamp countersigners.now signers.now e) }
+        (OrMemory errors.Memory (RefusesTokenStamp countersigners.now signers.now)) }
     ensures empty { (signers.now ≡ []) ⊎ (countersigners.now ≡ [])
         → result ≡ Err errors.TimestampTokenEmpty }
 {
@@ -173,7 +174,7 @@ fn countersignature(
 ) -> Result<UnsignedAttribute, TimestampError>
     ensures made { MatchResult result
         (CountersignsBy signers.now)
-        (λ e. (e ≡ errors.Memory) ⊎ RefusesCountersigner signers.now e) }
+        (OrMemory errors.Memory (RefusesCountersigner signers.now)) }
     ensures empty { signers.now ≡ [] → result ≡ Err errors.TimestampTokenEmpty }
 {
     let Some((_first, _others)) = signers.split_first() else {

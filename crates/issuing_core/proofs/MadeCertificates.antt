@@ -5,6 +5,7 @@ use Rattle.der_core.specs.Facts.Fronts.{formed_encoding_once}
 use Rattle.der_core.specs.Placed.{AreDer}
 use Rattle.der_core.specs.Refusals.{RefusesInner}
 use Rattle.key_types.specs.declared.key_info.SubjectPublicKeyInfo.{SubjectPublicKeyInfo}
+use Rattle.key_core.specs.Rules.{OrMemory}
 use Rattle.key_core.specs.SignatureRules.{RefusesSignatureBy}
 use Rattle.key_core.specs.Signing.{Signs, Pair, IsKeyPair, arithmetic, sign_rules}
 use Rattle.key_core.specs.Verifying.{Judge, Accepts}
@@ -80,9 +81,9 @@ module _ (judge : Judge) (signs : Signs) (pair : Pair) (algorithm : SignatureAlg
 
 -- what is signed can't be written, or isn't signed
 pub not_made : (judge : Judge) (signs : Signs) (pair : Pair) (algorithm : SignatureAlgorithm) (key : PrivateKey) (tbs : TbsCertificate) (e : CertError)
-    → (e ≡ errors.Memory) ⊎ (Tells no_octets (RefusesInner (tbs_written tbs)) e
-    ⊎ (IsDer (tbs_certificate tbs) × AreDer (inner_tbs tbs) × Tells no_signature (RefusesSignatureBy (sign_rules signs algorithm key (message_of tbs))) e))
+    → OrMemory errors.Memory (λ (e : CertError). Tells no_octets (RefusesInner (tbs_written tbs)) e
+    ⊎ (IsDer (tbs_certificate tbs) × AreDer (inner_tbs tbs) × Tells no_signature (RefusesSignatureBy (sign_rules signs algorithm key (message_of tbs))) e)) e
     → RefusesBySteps errors.Memory (signing_steps (arithmetic judge signs pair) algorithm key (λ t. t ≡ tbs)) e
-not_made judge signs pair algorithm key tbs e (inl memory) = inr memory
-not_made judge signs pair algorithm key tbs e (inr (inl told)) = inl (inl (tbs, refl, told))
-not_made judge signs pair algorithm key tbs e (inr (inr (der, inner, told))) = inl (inr ((tbs, refl, der, inner), inl (tbs, refl, told)))
+not_made judge signs pair algorithm key tbs e (inr memory) = inr memory
+not_made judge signs pair algorithm key tbs e (inl (inl told)) = inl (inl (tbs, refl, told))
+not_made judge signs pair algorithm key tbs e (inl (inr (der, inner, told))) = inl (inr ((tbs, refl, der, inner), inl (tbs, refl, told)))

@@ -24,13 +24,14 @@ use Rattle.x509_types.specs.declared.certificate.Certificate.{Certificate}
 use Rattle.x509_types.specs.declared.tbs_certificate.TbsCertificate.{TbsCertificate}
 use Rattle.x509_core.specs.CertRefusals.{IsUnwrittenCert}
 use Rattle.x509_core.specs.KeptCertificate.{KeptCertificate, written_elements}
+use Rattle.x509_core.specs.Link.{signature_refusal}
 use Rattle.x509_core.specs.Steps.{Step}
 use Rattle.x509_core.specs.declared.error.Arg.{Arg}
 use Rattle.x509_core.specs.declared.error.Arg.TheVariants as arguments
 use Rattle.x509_core.specs.declared.error.CertError.{CertError}
 use Rattle.x509_core.specs.declared.error.CertError.TheVariants as errors
 use Rattle.der_core.specs.Refusals.{Tells}
-use Rattle.issuing_core.specs.BuildRefusals.{no_half, no_request, no_key_id, no_algorithm, no_octets, no_signature}
+use Rattle.issuing_core.specs.BuildRefusals.{no_half, no_request, no_key_id, no_octets, no_signature}
 use Rattle.issuing_core.specs.BuiltCertificate.{IsHalfOf, NameSets, IsSubject, IsBuiltFor, IsTbsFor}
 use Rattle.issuing_core.specs.CsrRefusals.{IsUnsigned}
 use Rattle.issuing_core.specs.KeptRequest.{KeptRequest}
@@ -126,7 +127,7 @@ identifier_step judge b issuer = record {
 abbrev pub algorithm_step : CertificateBuilder → Step CertError
 algorithm_step b = record {
   taken = (id : AlgorithmIdentifier) × IsWrittenAlgorithm b.signature_hash_type id;
-  refused = Tells no_algorithm (IsUnwritable b.signature_hash_type);
+  refused = Tells signature_refusal (IsUnwritable b.signature_hash_type);
 }
 
 -- all elements that are written for what is signed, those within strings first
@@ -188,6 +189,7 @@ subject_arguments false b =
     given_step arguments.AuthorityKeyIdentifier b.authority_key_identifier ∷
     given_step arguments.SubjectInfos b.subject_infos ∷ []
 
+-- what has to be given besides, where the issuer is given
 abbrev pub arguments_by : CertificateBuilder → Option IssuerInfos → List (Step CertError)
 arguments_by b None = []
 arguments_by b (Some issuer) = subject_arguments issuer.self_signed b

@@ -1,5 +1,6 @@
 -- What is found out about the files of a job, before anything is written.
 use Rattle.std.specs.Prelude.{◌≡◌, ◌⊎◌, ℕ, List, ◌∷◌, ◌++◌, IsSome, Result, Err, IfOk, IfErr, MatchResult, string_bytes}
+use Rattle.key_core.specs.Rules.{OrMemory}
 use Rattle.sig_core.specs.VerdictTable.{IsFirstBadLine}
 use Rattle.picky_check.specs.declared.stop.Stop.{Stop}
 use Rattle.picky_check.specs.declared.stop.Stop.TheVariants.{Usage, BadTable, Shelf, TooLong, Memory}
@@ -36,7 +37,7 @@ pub record Reports (IsAnswer : Answer → Type 0) (result : Result Report Stop) 
 
 -- The result is this stop, unless memory ran out.
 abbrev pub GivesStop : Stop → Result Report Stop → Type 0
-GivesStop stop result = (result ≡ Err stop) ⊎ (result ≡ Err Memory)
+GivesStop stop = OrMemory (Err Memory) (λ (result : Result Report Stop). result ≡ Err stop)
 
 -- Why the text of a table and other files have no report.
 abbrev pub StopsForText : List ℕ → Stop → Type 0

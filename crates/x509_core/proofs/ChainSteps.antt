@@ -1,12 +1,12 @@
 -- One more certificate of a chain.
-use Rattle.std.proofs.Common.{◌≡◌, ◌⊎◌, ℕ, ◌+◌, ◌-◌, ◌^◌, List, [], ◌∷◌, ◌++◌, map, length, inl, inr, sym, ap, subst, ◌∙◌, arith}
+use Rattle.std.proofs.Common.{◌≡◌, ℕ, ◌+◌, ◌-◌, ◌^◌, List, [], ◌∷◌, ◌++◌, map, length, inl, inr, sym, ap, subst, ◌∙◌, arith}
 use Rattle.std.specs.Prelude.{min}
 use Rattle.std.specs.Borrow.{Bor}
 use Rattle.key_core.specs.Verifying.{Judge}
 use Rattle.x509_core.specs.Chain.{IsLinkedChain, IsFirstUnlinked, last_of, lent}
 use Rattle.x509_core.specs.KeptCertificate.{KeptCertificate}
 use Rattle.x509_core.specs.Link.{IsLink, IsStandingFor, link_rules}
-use Rattle.key_core.specs.Rules.{IsFirstBroken}
+use Rattle.key_core.specs.Rules.{OrMemory, IsFirstBroken}
 use Rattle.x509_core.specs.Rules.{RefusesCertBy}
 use Rattle.x509_core.specs.declared.error.CertError.{CertError}
 use Rattle.x509_core.specs.declared.error.CertError.TheVariants as errors
@@ -37,8 +37,8 @@ grown_count xs x n m so_far more =
 
 pub unlinked : (judge : Judge) (w : Window) (checked : KeptCertificate) (xs : List (Bor KeptCertificate)) (x : Bor KeptCertificate) (child : KeptCertificate) (e : CertError)
     → IsLinkedChain judge w checked (map lent xs) → child ≡ last_of checked (map lent xs)
-    → RefusesCertBy (link_rules judge w (length (map lent xs)) x.now child) e → (e ≡ errors.Memory) ⊎ IsFirstUnlinked judge w checked (map lent (xs ++ x ∷ [])) e
-unlinked judge w checked xs x child e linked at (inl broken) = inr (record {
+    → RefusesCertBy (link_rules judge w (length (map lent xs)) x.now child) e → OrMemory errors.Memory (IsFirstUnlinked judge w checked (map lent (xs ++ x ∷ []))) e
+unlinked judge w checked xs x child e linked at (inl broken) = inl (record {
   before = map lent xs;
   parent = x.now;
   after = [];
@@ -46,4 +46,4 @@ unlinked judge w checked xs x child e linked at (inl broken) = inr (record {
   linked = linked;
   broken = subst (λ (c : KeptCertificate). IsFirstBroken (link_rules judge w (length (map lent xs)) x.now c) e) at broken;
 })
-unlinked judge w checked xs x child e linked at (inr memory) = inl memory
+unlinked judge w checked xs x child e linked at (inr memory) = inr memory

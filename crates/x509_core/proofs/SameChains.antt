@@ -1,8 +1,9 @@
 -- What is known over a certificate is known over one that is the same.
-use Rattle.std.proofs.Common.{◌≡◌, ◌⊎◌, List, map, subst}
+use Rattle.std.proofs.Common.{◌≡◌, List, map, subst}
 use Rattle.std.specs.Borrow.{Bor}
 use Rattle.std.specs.Prelude.{Option}
 use Rattle.std.specs.Iterator.{Yields}
+use Rattle.key_core.specs.Rules.{OrMemory}
 use Rattle.key_core.specs.Verifying.{Judge}
 use Rattle.x509_core.specs.CertType.{IsOfType}
 use Rattle.x509_core.specs.Chain.{IsLinkedChain, IsFirstUnlinked, last_of, lent}
@@ -19,7 +20,7 @@ same_valid w a b same valid = subst (λ (kept : KeptCertificate). IsWithinWindow
 -- the refusal of a parent, or want of memory, where the iterator gave these certificates
 abbrev IsRefusal : {S : Type 0} → Judge → (S → Option (Bor KeptCertificate) → S → Type 0) → Window → S → CertError → KeptCertificate → Type 0
 IsRefusal {S} judge steps w chain e checked =
-    (e ≡ errors.Memory) ⊎ ((xs : List (Bor KeptCertificate)) × (rest : S) × Yields steps chain xs rest × IsFirstUnlinked judge w checked (map lent xs) e)
+    OrMemory errors.Memory (λ (e : CertError). (xs : List (Bor KeptCertificate)) × (rest : S) × Yields steps chain xs rest × IsFirstUnlinked judge w checked (map lent xs) e) e
 
 pub same_refusal : {S : Type 0} (judge : Judge) (steps : S → Option (Bor KeptCertificate) → S → Type 0) (w : Window) (a b : KeptCertificate) (chain : S) (e : CertError) → a ≡ b
     → IsRefusal judge steps w chain e a → IsRefusal judge steps w chain e b

@@ -1,5 +1,5 @@
 -- What is answered of a certificate over its parents, rule by rule, by what their iterator gave.
-use Rattle.std.proofs.Common.{◌≡◌, ◌≢◌, ◌⊎◌, IsTrue, false, List, ◌∷◌, ◌++◌, map, Option, Some, None, Result, Ok, Err, MatchResult, inl, inr, refl, sym, ap, subst, ◌∙◌}
+use Rattle.std.proofs.Common.{◌≡◌, ◌≢◌, IsTrue, false, List, ◌∷◌, ◌++◌, map, Option, Some, None, Result, Ok, Err, MatchResult, inl, inr, refl, sym, ap, subst, ◌∙◌}
 use Rattle.std.proofs.lemmas.Bool.{false≢true}
 use Rattle.std.specs.Borrow.{Bor}
 use Rattle.std.specs.Iterator.{AlwaysYields, Yields, Drains}
@@ -8,7 +8,7 @@ use Rattle.x509_core.specs.CertType.{IsOfType}
 use Rattle.x509_core.specs.Chain.{YieldsParents, IsDated, IsLinkedChain, IsFirstUnlinked, IsUnlinked, LacksDate, LacksChain, LacksRoot, IsAccepted, IsRooted, chain_rules, last_of, lent}
 use Rattle.x509_core.specs.KeptCertificate.{KeptCertificate}
 use Rattle.x509_core.specs.Link.{IsOutside}
-use Rattle.key_core.specs.Rules.{IsMet, IsFirstBroken}
+use Rattle.key_core.specs.Rules.{OrMemory, IsMet, IsFirstBroken}
 use Rattle.x509_core.specs.Rules.{Breaks, RefusesCertBy}
 use Rattle.x509_core.specs.Window.{IsWithinWindow}
 use Rattle.x509_core.specs.declared.cert_type.CertType.{CertType}
@@ -140,9 +140,9 @@ module _ (judge : Judge) (checks : ChainChecks) (checked : KeptCertificate) (giv
             broken = first.broken;
           }))
 
-      pub refused_chain : (e : CertError) → (e ≡ errors.Memory) ⊎ ((xs : List (Bor KeptCertificate)) × (rest : S) × Yields steps chain xs rest × IsFirstUnlinked judge checks.window checked (map lent xs) e) → Refuses e
-      refused_chain e (inl memory) = inr memory
-      refused_chain e (inr (xs, rest, ran, first)) = unlinked_by e rest xs ran first
+      pub refused_chain : (e : CertError) → OrMemory errors.Memory (λ (e : CertError). (xs : List (Bor KeptCertificate)) × (rest : S) × Yields steps chain xs rest × IsFirstUnlinked judge checks.window checked (map lent xs) e) e → Refuses e
+      refused_chain e (inl (xs, rest, ran, first)) = unlinked_by e rest xs ran first
+      refused_chain e (inr memory) = inr memory
 
       module _ (xs : List (Bor KeptCertificate)) (ran : Drains steps chain xs) (linked : IsLinkedChain judge checks.window checked (map lent xs)) where
         is_all : given ≡ Some (map lent xs)

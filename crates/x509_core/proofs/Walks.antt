@@ -1,5 +1,5 @@
 -- What is answered of a certificate over its parents, by what their iterator gave in that call.
-use Rattle.std.proofs.Common.{◌≡◌, ◌≢◌, ◌⊎◌, IsTrue, false, List, [], map, Option, Some, None, Result, Ok, Err, MatchResult, inl, inr, refl, sym, subst, ◌∙◌}
+use Rattle.std.proofs.Common.{◌≡◌, ◌≢◌, IsTrue, false, List, [], map, Option, Some, None, Result, Ok, Err, MatchResult, inl, inr, refl, sym, subst, ◌∙◌}
 use Rattle.std.proofs.lemmas.Bool.{false≢true}
 use Rattle.std.specs.Borrow.{Bor}
 use Rattle.std.specs.Prelude.{IfErr}
@@ -10,7 +10,7 @@ use Rattle.x509_core.specs.Chain.{GaveSoFar, IsWalked, WasAccepted, WasRefused, 
 use Rattle.x509_core.specs.KeptCertificate.{KeptCertificate}
 use Rattle.x509_core.specs.Link.{IsOutside, link_rules}
 use Rattle.x509_core.specs.Parent.{RefusesParent}
-use Rattle.key_core.specs.Rules.{IsFirstBroken}
+use Rattle.key_core.specs.Rules.{OrMemory, IsFirstBroken}
 use Rattle.x509_core.specs.Rules.{Breaks}
 use Rattle.x509_core.specs.Window.{IsWithinWindow}
 use Rattle.x509_core.specs.declared.cert_type.CertType.{CertType}
@@ -57,7 +57,7 @@ no_link_lacks_root judge w count parent child e no_root (inr (a, inr (b, inr (c,
 
 module _ {S : Type 0} (judge : Judge) (steps : S → Option (Bor KeptCertificate) → S → Type 0) (checks : ChainChecks) (checked : KeptCertificate) where
   abbrev Refused : Option S → CertError → Type 0
-  Refused chain e = WasRefused judge steps checks checked chain e ⊎ (e ≡ errors.Memory)
+  Refused chain e = OrMemory errors.Memory (WasRefused judge steps checks checked chain) e
 
   -- nothing was asked of the iterator
   unstarted : (chain : Option S) → (given : Option (List KeptCertificate)) × GaveSoFar steps chain given
@@ -106,10 +106,10 @@ module _ {S : Type 0} (judge : Judge) (steps : S → Option (Bor KeptCertificate
           broken = unlinked_over judge checks checked (Some (map lent xs)) dated valid asked (map lent xs) refl e first;
         }
 
-        pub refused_walk : (e : CertError) → (e ≡ errors.Memory) ⊎ ((xs : List (Bor KeptCertificate)) × (rest : S) × Yields steps iterator xs rest × IsFirstUnlinked judge checks.window checked (map lent xs) e)
+        pub refused_walk : (e : CertError) → OrMemory errors.Memory (λ (e : CertError). (xs : List (Bor KeptCertificate)) × (rest : S) × Yields steps iterator xs rest × IsFirstUnlinked judge checks.window checked (map lent xs) e) e
             → Refused chain e
-        refused_walk e (inl memory) = inr memory
-        refused_walk e (inr (xs, rest, ran, first)) = inl (unlinked_walk e xs rest ran first)
+        refused_walk e (inl (xs, rest, ran, first)) = inl (unlinked_walk e xs rest ran first)
+        refused_walk e (inr memory) = inr memory
 
         module _ (xs : List (Bor KeptCertificate)) (ran : Drains steps iterator xs) where
           all_came : IsWalked steps chain (Some (map lent xs))

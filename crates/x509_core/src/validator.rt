@@ -1,6 +1,6 @@
 //! Whether a certificate is accepted over its parents.
 
-ghost use Rattle.std.specs.Prelude.{◌≡◌, ◌≢◌, ◌↔◌, ◌⊎◌, ℕ, List, Option, Some, None, true, false, IsTrue, IfSome, IfErr, map, MatchResult};
+ghost use Rattle.std.specs.Prelude.{◌≡◌, ◌≢◌, ◌↔◌, ℕ, List, Option, Some, None, true, false, IsTrue, IfSome, IfErr, map, MatchResult};
 ghost use Rattle.std.specs.Borrow.{Bor};
 ghost use Rattle.std.specs.Iterator.{IsFinite, Drains, Yields};
 ghost use Rattle.key_core.specs.Rules.{OrMemory};
@@ -315,8 +315,7 @@ fn last_type<'b, Chain: Iterator<Item = &'b Cert> + Drop, S: Scheme>(
         (λ last. (xs : List (Bor KeptCertificate)) × Drains Chain.next_gives chain xs
         × IsLinkedChain (S.judge scheme.now) window.now checked.entry.cert.now (map lent xs)
         × IsOfType (last_of checked.entry.cert.now (map lent xs)).elements last)
-        (λ e. (e ≡ errors.Memory)
-        ⊎ ((xs : List (Bor KeptCertificate)) × (rest : Chain)
+        (OrMemory errors.Memory (λ e. (xs : List (Bor KeptCertificate)) × (rest : Chain)
         × Yields Chain.next_gives chain xs rest
         × IsFirstUnlinked (S.judge scheme.now) window.now checked.entry.cert.now
         (map lent xs) e)) }

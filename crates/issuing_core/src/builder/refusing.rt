@@ -1,7 +1,8 @@
 //! What is told of a certificate that isn't built, by what refuses the step.
 
 ghost use Rattle.std.specs.Prelude.{◌≡◌};
-ghost use Rattle.issuing_core.specs.BuildRefusals.{no_half as half_refusal, no_request as request_refusal, no_key_id as key_id_refusal, no_algorithm as algorithm_refusal, no_octets as octets_refusal, no_signature as signature_refusal};
+ghost use Rattle.issuing_core.specs.BuildRefusals.{no_half as half_refusal, no_request as request_refusal, no_key_id as key_id_refusal, no_octets as octets_refusal, no_signature as signing_refusal};
+ghost use Rattle.x509_core.specs.Link.{signature_refusal as algorithm_refusal};
 ghost use Rattle.x509_core.specs.declared.error.CertError.TheVariants as errors;
 
 use der_core::DerError;
@@ -74,7 +75,7 @@ pub(super) fn no_octets(source: DerError) -> CertError
 
 /// The issuer's key doesn't sign.
 pub(super) fn no_signature(source: SignatureError) -> CertError
-    ensures { result ≡ signature_refusal source }
+    ensures { result ≡ signing_refusal source }
 {
     match source {
         SignatureError::Memory => CertError::Memory,

@@ -3,15 +3,15 @@
 ghost use Rattle.std.specs.Prelude.{◌≡◌, ◌⊎◌, IfOk, MatchResult};
 ghost use Rattle.der_core.specs.Encoding.{IsDer};
 ghost use Rattle.der_core.specs.Placed.{AreDer};
-ghost use Rattle.der_core.specs.Refusals.{RefusesInner};
+ghost use Rattle.der_core.specs.Refusals.{RefusesInner, Tells};
 ghost use Rattle.asn1_types.specs.Values.{payload_of, unused_of};
 ghost use Rattle.key_types.specs.declared.key_info.SubjectPublicKeyInfo.{SubjectPublicKeyInfo};
+ghost use Rattle.key_core.specs.Rules.{OrMemory};
 ghost use Rattle.key_core.specs.SignatureRules.{RefusesSignatureBy};
 ghost use Rattle.key_core.specs.Signing.{IsKeyPair, arithmetic, sign_rules};
 ghost use Rattle.key_core.specs.Verifying.{Accepts};
 ghost use Rattle.x509_types.specs.TbsCertificate.{tbs_certificate, inner_tbs};
-ghost use Rattle.der_core.specs.Refusals.{Tells};
-ghost use Rattle.issuing_core.specs.BuildRefusals.{no_octets as octets_refusal, no_signature as signature_refusal};
+ghost use Rattle.issuing_core.specs.BuildRefusals.{no_octets as octets_refusal, no_signature as signing_refusal};
 ghost use Rattle.issuing_core.specs.Building.{IsMade, IsTbsSigned, message_of, signing_steps, tbs_written};
 ghost use Rattle.x509_core.specs.Steps.{RefusesBySteps};
 ghost use Rattle.x509_core.specs.declared.error.CertError.TheVariants as errors;
@@ -63,10 +63,9 @@ fn signature_of<S: Scheme>(
     ensures answer { MatchResult result
         (λ bits. (unused_of bits ≡ 0) × IsDer (tbs_certificate tbs.now) × AreDer (inner_tbs tbs.now)
         × IsTbsSigned (S.signs scheme.now) algorithm private_key.now tbs.now)
-        (λ e. (e ≡ errors.Memory)
-        ⊎ (Tells octets_refusal (RefusesInner (tbs_written tbs.now)) e
+        (OrMemory errors.Memory (λ e. Tells octets_refusal (RefusesInner (tbs_written tbs.now)) e
         ⊎ (IsDer (tbs_certificate tbs.now) × AreDer (inner_tbs tbs.now)
-        × Tells signature_refusal
+        × Tells signing_refusal
         (RefusesSignatureBy (sign_rules (S.signs scheme.now) algorithm private_key.now
         (message_of tbs.now))) e))) }
     ensures accepted { IfOk result (λ bits. (public : SubjectPublicKeyInfo)

@@ -14,5 +14,5 @@ returns-in-Ok g c =
 
 pub returns : goal.returns
 returns g c =
-    refused_under (g.S.Scheme.judge c.args.scheme.now) _ c.args.hash _ c.in_ok-key.key.info c.deref.result.now c.signature.result.now c.in-Err.source c.signer_refusal.result
-    c.in_ok-key.ensures.0 (c.deref.ensures.value ∙ c.in_ok-message.ensures) c.signature.ensures c.signer_refusal.ensures c.in-Err.ensures.answer
+    refused_under (g.S.Scheme.judge c.args.scheme.now) _ c.args.hash _ c.in_ok-key.key.info c.deref.result.now c.signature.result.now c.in-Err.source c.from.result
+    c.in_ok-key.ensures.0 (c.deref.ensures.value ∙ c.in_ok-message.ensures) c.signature.ensures c.from.ensures c.in-Err.ensures.answer

@@ -11,9 +11,9 @@ use Rattle.x509_core.specs.Rules.{RefusesCertBy}
 use Rattle.x509_core.proofs.ChainSteps.{linked_none_of, grown_chain, grown_place, grown_count, unlinked}
 use Rattle.x509_core.proofs.validator.last_type.Goals as goal
 
-with_run : {A B C : Type 0} {P : B → C → Type 0} {Q : B → Type 0} (xs : B) (rest : C) → P xs rest → A ⊎ Q xs → A ⊎ ((xs : B) × (rest : C) × P xs rest × Q xs)
-with_run xs rest run (inl memory) = inl memory
-with_run xs rest run (inr first) = inr (xs, rest, run, first)
+with_run : {A B C : Type 0} {P : B → C → Type 0} {Q : B → Type 0} (xs : B) (rest : C) → P xs rest → Q xs ⊎ A → ((xs : B) × (rest : C) × P xs rest × Q xs) ⊎ A
+with_run xs rest run (inl first) = inl (xs, rest, run, first)
+with_run xs rest run (inr memory) = inr memory
 
 -- the first of those that were given
 one_given : {S : Type 0} (steps : S → Option (Bor KeptCertificate) → S → Type 0) (s : S) (xs : List (Bor KeptCertificate)) (x : Bor KeptCertificate) (t : S) → Yields steps s (xs ++ x ∷ []) t → GivesParent steps s

@@ -14,8 +14,8 @@ pub returns-in-Err-modify_signed_data-clause-refused : goal.returns-in-Err-modif
 returns-in-Err-modify_signed_data-clause-refused g c =
     refused_stamp _ _ _ _ _ c.in-Err-modify_signed_data.error _ c.of_timestamp-in-Err-modify_signed_data.ensures
     (elim c.in-Err-modify_signed_data.ensures.refused [
-      | inl memory ↦ inl memory
-      | inr refused ↦ inr (record {
+      | inr memory ↦ inr memory
+      | inl refused ↦ inl (record {
         token = c.in-Ok.token;
         given = token_for _ _ _ _ _ _ c.signer_infos.ensures c.in-Some.ensures c.in-Ok.ensures.given;
         refused = (c.in-Ok.ensures.same_modification _ _ _).1 refused;

@@ -1,4 +1,4 @@
-use Rattle.std.proofs.Common.{◌∙◌, ℕ, List, inr, subst}
+use Rattle.std.proofs.Common.{◌∙◌, ℕ, List, inl, inr, subst}
 use Rattle.key_core.specs.SignatureRules.{RefusesSignatureBy}
 use Rattle.key_core.specs.Signing.{sign_rules}
 use Rattle.der_core.specs.Refusals.{Tells}
@@ -11,7 +11,7 @@ returns-in-Ok-sign-clause-accepted g c = λ public paired.
     accepted_of (g.S.Scheme.judge c.args.scheme.now) c.args.algorithm public _ _ _ _ (c.deref.ensures.value ∙ c.in-Ok.ensures.0) (c.in_ok-with_bytes-in-Ok-sign.ensures.1 ∙ c.deref-in-Ok-sign.ensures.value) (c.in-Ok-sign.ensures.accepted public paired)
 
 pub returns-clause-answer : goal.returns-clause-answer
-returns-clause-answer g c = inr (inr (
+returns-clause-answer g c = inl (inr (
   c.in-Ok.ensures.1,
   c.in-Ok.ensures.2,
   subst (λ (m : List ℕ). Tells no_signature (RefusesSignatureBy (sign_rules (g.S.Scheme.signs c.args.scheme.now) c.args.algorithm c.args.private_key.now m)) c.no_signature.result)
