@@ -33,9 +33,6 @@ pub reported_is : (Is : Answer → Type 0) (answer : Answer) (result : Result Re
 reported_is Is answer (Ok report) is h only = record { reported = (answer, is, h); stopped = tt; only = only }
 reported_is Is answer (Err s) is h only = record { reported = tt; stopped = h; only = only }
 
-pub Reports-memory : (Is : Answer → Type 0) → Reports Is (Err stop.Memory)
-Reports-memory Is = record { reported = tt; stopped = refl; only = λ answer is. GivesReport-memory answer }
-
 -- ---- of a signature file
 
 same_or_memory : (a b : Result Accepted CheckError) → AreOneUnlessMemory check.Memory a b → WantsMemory (OfSignature a) ⊎ (WantsMemory (OfSignature b) ⊎ (a ≡ b))

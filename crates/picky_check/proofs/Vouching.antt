@@ -1,5 +1,5 @@
 -- What is accepted is vouched for.
-use Rattle.std.proofs.Common.{◌≡◌, ◌⊎◌, List, [], ◌∷◌, ℕ, Option, Result, Ok, Err, inl, inr, arith}
+use Rattle.std.proofs.Common.{◌≡◌, List, [], ◌∷◌, ℕ, Option, Result, Ok, Err, inl, inr, arith}
 use Rattle.asn1_types.specs.declared.generalized_time.GeneralizedTime.{GeneralizedTime}
 use Rattle.cms_types.specs.SignedDataElements.{SignedDataElements}
 use Rattle.sig_core.specs.declared.verdict_row.VerdictRow.{VerdictRow}
@@ -17,16 +17,13 @@ use Rattle.picky_check.specs.Report.{Answer, OfSignature, OfChain, accepted_line
 use Rattle.picky_check.specs.Run.{Answers}
 use Rattle.picky_check.specs.Shelf.{Files}
 use Rattle.picky_check.specs.Sink.{Appends}
+use Rattle.picky_check.specs.Vouched.{IsVouched}
 use Rattle.picky_check.specs.Words.{Job, Basic, Check, Chain, AsksFor, files_of}
 use Rattle.picky_check.proofs.VouchedChains.{vouched_chain}
 use Rattle.picky_check.proofs.VouchedSignatures.{vouched_basic, vouched_check}
 
 module _ (one_signed_data : (octets : List ℕ) (f g : SignedDataElements) → HasSignedData octets f → HasSignedData octets g → f ≡ g)
     (words : List (List ℕ)) (files : Option Files) (held held_now : Option (List ℕ)) where
-  -- one of the commands vouches for what it accepted
-  abbrev IsVouched : Type 0
-  IsVouched = IsVouchedFor words files held held_now ⊎ (IsVouchedSignature words files held held_now ⊎ IsVouchedChain words files held held_now)
-
   of_basic : (signature table hash : List ℕ) (contents : List (List ℕ)) (rows : List VerdictRow) (a : Accepted)
       → AsksFor words (Basic signature table hash) → AreWholeFiles files (files_of (Basic signature table hash)) contents
       → IsTable (table_in (Basic signature table hash) contents) rows
@@ -75,7 +72,7 @@ module _ (one_signed_data : (octets : List ℕ) (f g : SignedDataElements) → H
   no_signature_for_chain table date names (text ∷ octets) rows given is_answer = is_answer
 
   vouched_for_job : (job : Job) (answer : Answer) → AsksFor words job → IsAnswered files job answer → status_of answer ≡ 0
-      → Appends held (report_line answer) held_now → IsVouched
+      → Appends held (report_line answer) held_now → IsVouched words files held held_now
   vouched_for_job (Basic signature table hash) (OfSignature (Ok a)) asked h zero written =
       inl (of_basic signature table hash h.contents h.rows a asked h.are_files h.is_table h.is_answer written)
   vouched_for_job (Basic signature table hash) (OfSignature (Err e)) asked h zero written = absurd (omega arith)
@@ -92,5 +89,5 @@ module _ (one_signed_data : (octets : List ℕ) (f g : SignedDataElements) → H
       absurd (no_signature_for_chain table date names h.contents h.rows given h.is_answer)
 
   pub vouched_for : (answer : Answer) → Answers words files answer → status_of answer ≡ 0 → Appends held (report_line answer) held_now
-      → IsVouchedFor words files held held_now ⊎ (IsVouchedSignature words files held held_now ⊎ IsVouchedChain words files held held_now)
+      → IsVouched words files held held_now
   vouched_for answer h zero written = vouched_for_job h.job answer h.asked h.is_answered zero written

@@ -7,14 +7,12 @@ ghost use Rattle.picky_check.specs.Answer.{IsAnswerTo, IsCertificateAnswer, IsSi
 ghost use Rattle.picky_check.specs.Counts.{FailsOnce};
 ghost use Rattle.picky_check.specs.Inquiry.{IsReportOf, GivesReport, GivesStop, StopsForText, IsInquiry, Inquires, Reports};
 ghost use Rattle.picky_check.specs.Jobs.{contents_held, job_held};
-ghost use Rattle.picky_check.specs.Policies.{basic_policy, check_policy};
 ghost use Rattle.picky_check.specs.Report.{Answer};
 ghost use Rattle.picky_check.specs.Words.{AsksFor, AsksForNothing, Job as AskedJob};
 
 use crate::Shelf;
 use crate::chain::check_chain;
 use crate::files::{Contents, read_files};
-use crate::options::CheckOptions;
 use crate::policies::{basic_policy, check_policy};
 use crate::report::{Report, chain_report_of, report_of};
 use crate::stop::Stop;
@@ -98,46 +96,21 @@ fn judge_by<S: Scheme>(
         (IsAnswerTo (S.judge scheme.now) (job_held asked.now) (contents_held read.now)) result }
 {
     match asked {
-        Job::Basic { hash, .. } => judge_basic(alloc, &read.first, hash, scheme),
+        Job::Basic { hash, .. } => {
+            let policy = basic_policy(alloc, hash)?;
+            judge_signature(alloc, &read.first, &policy, scheme)
+        }
         Job::Check {
             hash,
             date,
             options,
             ..
-        } => judge_signer(alloc, &read.first, hash, *date, *options, scheme),
+        } => {
+            let policy = check_policy(alloc, hash, *date, *options)?;
+            judge_signature(alloc, &read.first, &policy, scheme)
+        }
         Job::Chain { date, .. } => judge_chain(alloc, &read.second, &read.others, date, scheme),
     }
-}
-
-/// The report of the octets of a signature file, judged by a scheme as `basic` asks.
-fn judge_basic<S: Scheme>(
-    alloc: Global,
-    octets: &[u8],
-    hash: &[u8],
-    scheme: &S,
-) -> Result<Report, Stop>
-    ensures { Reports (IsSignatureAnswer (S.judge scheme.now) (basic_policy hash.now) octets.now)
-        result }
-{
-    let policy = basic_policy(alloc, hash)?;
-    judge_signature(alloc, octets, &policy, scheme)
-}
-
-/// The same as `check` asks.
-fn judge_signer<S: Scheme>(
-    alloc: Global,
-    octets: &[u8],
-    hash: &[u8],
-    date: UtcDate,
-    options: CheckOptions,
-    scheme: &S,
-) -> Result<Report, Stop>
-    ensures { Reports
-        (IsSignatureAnswer (S.judge scheme.now) (check_policy hash.now date options) octets.now)
-        result }
-{
-    let policy = check_policy(alloc, hash, date, options)?;
-    judge_signature(alloc, octets, &policy, scheme)
 }
 
 /// The report of the octets of a signature file, judged by a scheme under a policy.
@@ -164,6 +137,7 @@ fn judge_chain<S: Scheme>(
     ensures { Reports (IsCertificateAnswer (S.judge scheme.now) date.now
         (checked.now ∷ map (λ octets. octets.items) parents.now)) result }
 {
+    // laws that the proof rests on; the calls do nothing
     chains_break_no_rule();
     chains_have_one_answer();
     let answer = check_chain(alloc, checked, parents, date, scheme);

@@ -3,11 +3,10 @@
 ghost use Rattle.std.specs.Prelude.{◌≡◌, ◌⊎◌, map, string_bytes};
 ghost use Rattle.std.specs.IoError.{error_kind};
 ghost use Rattle.authenticode_core.specs.Counts.{HasRisen};
-ghost use Rattle.picky_check.specs.ChainHeadline.{IsVouchedChain};
 ghost use Rattle.picky_check.specs.Counts.{FailsOnce};
-ghost use Rattle.picky_check.specs.Headline.{IsVouchedFor, IsVouchedSignature};
 ghost use Rattle.picky_check.specs.Run.{IsRun};
 ghost use Rattle.picky_check.specs.Sink.{Appends, IsCutShort};
+ghost use Rattle.picky_check.specs.Vouched.{IsVouched};
 
 use crate::inquiry::inquire;
 use crate::report::Report;
@@ -22,12 +21,8 @@ use std::io::{Error, ErrorKind};
 pub fn run<F: Shelf, O: Sink>(alloc: Global, words: &[String], shelf: &mut F, out: &mut O) -> u8
     // Acceptance means vouched for.
     ensures vouched_for { result ≡ 0
-        → IsVouchedFor (map string_bytes words.now) (F.state shelf.old).files
-        (O.state out.old).held (O.state out.new).held
-        ⊎ (IsVouchedSignature (map string_bytes words.now) (F.state shelf.old).files
-        (O.state out.old).held (O.state out.new).held
-        ⊎ IsVouchedChain (map string_bytes words.now) (F.state shelf.old).files
-        (O.state out.old).held (O.state out.new).held) }
+        → IsVouched (map string_bytes words.now) (F.state shelf.old).files (O.state out.old).held
+        (O.state out.new).held }
     // A call of the shelf or of the sink that failed is the last, and the status tells it.
     ensures shelf_once { FailsOnce (result ≡ 4) (F.state shelf.old).faults
         (F.state shelf.new).faults }
@@ -36,6 +31,7 @@ pub fn run<F: Shelf, O: Sink>(alloc: Global, words: &[String], shelf: &mut F, ou
     ensures ends { IsRun (map string_bytes words.now) (F.state shelf.old) (F.state shelf.new)
         (O.state out.old) (O.state out.new) result }
 {
+    // a law that the proof rests on; the call does nothing
     one_signed_data();
     match inquire(alloc, words, shelf) {
         Ok(report) => deliver(out, &report),
