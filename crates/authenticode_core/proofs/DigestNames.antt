@@ -3,16 +3,13 @@ use Rattle.std.proofs.Common.{◌≡◌, ◌≢◌, ℕ, List, ◌∷◌, Option
 use Rattle.der_core.specs.DerElement.{DerElement, Primitive}
 use Rattle.der_core.specs.Elements.{sequence}
 use Rattle.der_core.specs.Kept.{IsKept}
-use Rattle.der_core.specs.Facts.Fronts.{formed_encoding_once}
 use Rattle.sig_core.proofs.Variants.{identifier_same}
 use Rattle.sig_core.specs.ShaVariant.{digest_identifier, hash_of}
 use Rattle.sig_core.specs.declared.hash.HashAlgorithm.{HashAlgorithm}
 use Rattle.sig_core.specs.declared.sha_variant.ShaVariant.{ShaVariant}
 use Rattle.authenticode_core.specs.SigningRules.{NamesDigest}
 use Rattle.authenticode_core.specs.SigningSteps.{IsOfIdentifier}
-
-pub kept_once : (octets : List ℕ) (a b : DerElement) → IsKept octets a → IsKept octets b → a ≡ b
-kept_once octets a b p q = formed_encoding_once a b p.0.formed q.0.formed (sym p.1 ∙ q.1)
+use Rattle.x509_types.proofs.FirstExtensions.{kept_once}
 
 identifiers : (s t : List ℕ) (x y : List DerElement) → sequence (Primitive 0x06 s ∷ x) ≡ sequence (Primitive 0x06 t ∷ y) → s ≡ t
 identifiers s t x y e = cc

@@ -2,12 +2,9 @@
 use Rattle.std.proofs.Common.{◌≡◌, ℕ, List, [], ◌∷◌, ◌++◌, Option, Some, None, MatchOption, refl, sym, ap, subst, ◌∙◌}
 use Rattle.asn1_types.specs.declared.oids.TheConstants.{MESSAGE_DIGEST}
 use Rattle.cms_types.specs.SignerElements.{SignerElements}
-use Rattle.der_core.specs.DerElement.{DerElement, Primitive, Constructed, row, listed, kids_of}
+use Rattle.der_core.specs.DerElement.{DerElement, Primitive, row, listed}
 use Rattle.der_core.specs.Elements.{sequence, set, octet_string}
 use Rattle.der_core.specs.Facts.Rows.{listed-row}
-use Rattle.der_core.specs.Lent.{at_option}
-use Rattle.der_core.specs.declared.elem.Elem.{Elem}
-use Rattle.authenticode_core.specs.CertificateBag.{members_of}
 use Rattle.authenticode_core.specs.SignedFields.{HasMessageDigest, IsAttributeOf, IsFirstAttribute, NoneIsOf, signed_attributes_of}
 
 -- ---- an attribute
@@ -115,20 +112,3 @@ digest_or_none now None g kids values others first are is values_are none = λ d
     let same : first ≡ octet_string digest = cc in
     none digest same
 digest_or_none now (Some k) g kids values others first are is values_are first_is = has_digest g kids values others first (now k) are is values_are first_is
-
-
-none_listed : (element : DerElement) → kids_of element ≡ None → members_of (Some element) ≡ []
-none_listed (Primitive tag content) e = refl
-none_listed (Constructed tag kids) e = absurd cc
-
-listed_of : (element : DerElement) (kids : List DerElement) → kids_of element ≡ Some kids → members_of (Some element) ≡ kids
-listed_of (Primitive tag content) kids e = absurd cc
-listed_of (Constructed tag ks) kids e = cc
-
-pub none_lent : (lent : Option Elem) (given : Option DerElement) → at_option lent ≡ given → lent ≡ None → members_of given ≡ []
-none_lent lent given e none = ap members_of (sym e ∙ ap at_option none)
-
-pub lent_members : {K : Type 0} (now : K → List DerElement) (r : Option K) (lent : Option Elem) (elem : Elem) (given : Option DerElement) → at_option lent ≡ given → lent ≡ Some elem
-    → MatchOption r (kids_of elem.is.0 ≡ None) (λ k. kids_of elem.is.0 ≡ Some (now k)) → MatchOption r (members_of given ≡ []) (λ k. members_of given ≡ now k)
-lent_members now None lent elem given e is none = ap members_of (sym e ∙ ap at_option is) ∙ none_listed elem.is.0 none
-lent_members now (Some k) lent elem given e is kids = ap members_of (sym e ∙ ap at_option is) ∙ listed_of elem.is.0 (now k) kids

@@ -10,11 +10,13 @@ use x509_core::{ChainChecks, DateCheck, Window};
 /// What is asked of a signature file.
 #[derive(Debug, Drop)]
 pub struct Policy {
-    /// Whether the form of the signed data, the digest of the file and the signature are.
+    /// Whether basic validation is asked for: the form of the signed data, the digest of the file
+    /// and the signature.
     pub basic: bool,
-    /// The digest of the file.
+    /// The digest that the file is to have.
     pub file_hash: Option<Octets>,
-    /// Whether the certificate of the signer is, or why its expiry is excused.
+    /// Whether the certificate of the signer has to be valid, or its expiry excused. The next four
+    /// say what that takes.
     pub signing: bool,
     /// Whether certificates have to be valid already.
     pub not_before: bool,

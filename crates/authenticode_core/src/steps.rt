@@ -18,7 +18,7 @@ use crate::basic::expect_basic;
 use crate::error::{AuthenticodeError, CheckError};
 use crate::policy::Policy;
 use crate::signer_check::expect_signer;
-use crate::value::signed_data_of;
+use crate::value::read_signed_data;
 use cms_types::SignedView;
 use der_core::{Elem, one_first_fault};
 use sig_core::Scheme;
@@ -42,8 +42,9 @@ pub fn check_wincert<S: Scheme>(
         → IsAnswer (S.judge scheme.now) policy.now bytes.now other
         → AreOneUnlessMemory CheckError.Memory result other }
 {
+    // a law that the proof rests on; the call does nothing
     one_first_fault();
-    let (elem, signed_data) = signed_data_of(bytes)?;
+    let (elem, signed_data) = read_signed_data(bytes)?;
     let accepted = check_signed_data(alloc, elem, &signed_data, policy, scheme)?;
     Ok(accepted)
 }

@@ -18,7 +18,9 @@ use x509_core::CertError;
 const MOST_PADDING: usize = 7;
 
 /// The signed data in a WIN_CERTIFICATE, and its element. It takes no memory.
-pub(crate) fn signed_data_of<'a>(bytes: &'a [u8]) -> Result<(Elem<'a>, SignedView<'a>), CheckError>
+pub(crate) fn read_signed_data<'a>(
+    bytes: &'a [u8],
+) -> Result<(Elem<'a>, SignedView<'a>), CheckError>
     ensures { MatchResult result
         (λ found. LiesIn bytes.now found.0.is.0 found.1)
         (RefusesValue bytes.now) }

@@ -1,5 +1,5 @@
 -- Values that are written and kept, one after another.
-use Rattle.std.proofs.Common.{◌≡◌, List, [], ◌∷◌, ◌++◌, map, flat_map, Option, Some, None, refl, sym, ap, subst, ◌∙◌, append_assoc, append-nil}
+use Rattle.std.proofs.Common.{◌≡◌, List, [], ◌∷◌, ◌++◌, map, Option, Some, None, refl, sym, ap, subst, ◌∙◌, append_assoc, append-nil}
 use Rattle.std.proofs.lemmas.List.{map-append}
 use Rattle.std.proofs.lemmas.Grind.{flat_map-append}
 use Rattle.der_core.specs.DerElement.{DerElement}
@@ -74,9 +74,6 @@ alone_refused written values e refused = subst (λ inner. RefusesInner inner e) 
 
 abbrev no_inner : List DerElement
 no_inner = []
-
-pub none_refused : {X : Type 0} (values : List X) (e : DerError) → RefusesInner (flat_map (λ (value : X). no_inner) values) e → RefusesInner [] e
-none_refused values e refused = subst (λ inner. RefusesInner inner e) (none_inner values) refused
 
 none_list : {X : Type 0} (values : Option (List X)) → inner_list (λ (value : X). no_inner) values ≡ []
 none_list None = refl

@@ -14,26 +14,29 @@ use Rattle.x509_core.specs.declared.error.CertCause.TheVariants as causes
 use Rattle.x509_core.specs.declared.error.CertError.{CertError}
 use Rattle.x509_core.specs.declared.error.CertError.TheVariants as errors
 
+-- Want of memory is told as such, any other cause by what was to be made.
+
+-- why a private key gives no public key
 abbrev pub no_half : KeyError → CertError
 no_half key.Memory = errors.Memory
 no_half source = errors.PrivateKeyToPublicKey source
 
+-- why a request isn't taken
 abbrev pub no_request : CsrError → CertError
 no_request csr.Memory = errors.Memory
 no_request source = errors.InvalidCsr source
 
+-- why a key has no identifier
 abbrev pub no_key_id : KeyIdGenError → CertError
 no_key_id key_id.Memory = errors.Memory
 no_key_id source = errors.CertGeneration (causes.KeyIdGen source)
 
-abbrev pub no_algorithm : SignatureError → CertError
-no_algorithm signature.Memory = errors.Memory
-no_algorithm source = errors.Signature source
-
+-- why what is signed isn't written
 abbrev pub no_octets : DerError → CertError
 no_octets der.Memory = errors.Memory
 no_octets source = errors.CertGeneration (causes.Asn1Serialization elements.TbsCertificate source)
 
+-- why there is no signature
 abbrev pub no_signature : SignatureError → CertError
 no_signature signature.Memory = errors.Memory
 no_signature source = errors.CertGeneration (causes.Signature source)

@@ -51,6 +51,7 @@ pub record IsNextCall (before after : MemShelf) : Type 0 where
 abbrev pub is_quiet_from_now : Calls → Type 0
 is_quiet_from_now calls = All (λ call. call < calls.count) calls.failing.items
 
+-- no call of the shelf from the next one on is set to fail
 abbrev pub shelf_is_quiet : MemShelf → Type 0
 shelf_is_quiet shelf = is_quiet_from_now shelf.calls
 

@@ -22,9 +22,11 @@ AreWordsOf (option ∷ others) words =
 
 -- ---- which options stand there
 
+-- no option stands there
 abbrev pub no_options : CheckOptions
 no_options = record { until = None; no_before = false; no_after = false; no_chain = false }
 
+-- one more option stands there
 abbrev pub with_option : CheckOption → CheckOptions → CheckOptions
 with_option (Until date) o = record {
   until = Some date;
@@ -39,10 +41,12 @@ with_option NoAfter o =
 with_option NoChain o =
     record { until = o.until; no_before = o.no_before; no_after = o.no_after; no_chain = true }
 
+-- these options stand there, in whatever order
 abbrev pub standing : List CheckOption → CheckOptions
 standing [] = no_options
 standing (option ∷ others) = with_option option (standing others)
 
+-- the option doesn't stand there, at whatever date
 abbrev pub IsAbsent : CheckOption → CheckOptions → Type 0
 IsAbsent (Until date) o = o.until ≡ None
 IsAbsent NoBefore o = o.no_before ≡ false

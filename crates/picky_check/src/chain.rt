@@ -28,7 +28,7 @@ pub(crate) fn check_chain<S: Scheme>(
     check_over(alloc, &checked, parents, date, scheme)
 }
 
-/// The same for a certificate that was read.
+/// The number of parents over which a certificate that was read is accepted.
 fn check_over<S: Scheme>(
     alloc: Global,
     checked: &Cert,

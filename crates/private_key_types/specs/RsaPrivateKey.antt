@@ -22,6 +22,7 @@ pub record RsaElements : Type 0 where
   pub dq : DerElement
   pub qinv : DerElement
 
+-- the element of two primes, by those of its fields
 abbrev pub rsa_private_key_of : RsaElements → DerElement
 rsa_private_key_of f =
     sequence (two_prime ∷ f.n ∷ f.e ∷ f.d ∷ f.p ∷ f.q ∷ f.dp ∷ f.dq ∷ f.qinv ∷ [])

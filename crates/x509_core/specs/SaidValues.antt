@@ -33,6 +33,7 @@ pub record HasLength (extensions : List Extension) (number : ℕ) : Type 0 where
   pub first : HasFirst CE_BASIC_CONSTRAINTS.now extensions (views.BasicConstraints value)
   pub limited : pathlen_of value ≡ Some number
 
+-- What the elements say and what the value says is the same.
 pub record SayTheSame (f : CertificateElements) (c : Certificate) : Type 0 where
   pub subject_key : (key : List ℕ)
       → HasSubjectKey f key

@@ -34,6 +34,7 @@ pub record IsTimeAt (element : Option DerElement) (moment : GeneralizedTime) : T
 abbrev pub IsNotBefore : CertificateElements → GeneralizedTime → Type 0
 IsNotBefore f = IsTimeAt (not_before_of f)
 
+-- the validity of a certificate ends with this moment
 abbrev pub IsNotAfter : CertificateElements → GeneralizedTime → Type 0
 IsNotAfter f = IsTimeAt (not_after_of f)
 
@@ -43,6 +44,7 @@ earliest dates.Absent = None
 earliest (dates.Exact date) = Some date
 earliest (dates.Interval lower upper) = Some lower
 
+-- the last of the moments that are asked for, where a date or an interval is
 abbrev pub latest : DateCheck → Option GeneralizedTime
 latest dates.Absent = None
 latest (dates.Exact date) = Some date

@@ -1,6 +1,7 @@
 -- The fields of signers and of signed data: unlike ones have unlike elements, and the element around well-formed ones is well formed.
 use Rattle.std.proofs.Common.{◌≡◌, ◌≢◌, ℕ, List, [], ◌∷◌, ◌++◌, Option, Some, None, refl, ap, arith}
 use Rattle.std.specs.Prelude.{option_to_list}
+use Rattle.der_core.specs.Facts.Optional.{kept_once}
 use Rattle.der_core.specs.DerElement.{DerElement, row, tag_of}
 use Rattle.der_core.specs.Encoding.{IsWellFormed, AreWellFormed}
 use Rattle.der_core.specs.Structure.{Fits, BeginsOtherwise}
@@ -12,12 +13,6 @@ use Rattle.cms_types.specs.SignedDataElements.{SignedDataElements, signed_data_o
 use Rattle.cms_types.specs.Levels.{OfOption, IsConstructed, IsAlgorithm, AreSignerFields, AreSignedDataFields}
 
 -- ---- elements that may be left out
-
-pub option_once : (a b : Option DerElement) → option_to_list a ≡ option_to_list b → a ≡ b
-option_once None None e = refl
-option_once None (Some y) e = absurd cc
-option_once (Some x) None e = absurd cc
-option_once (Some x) (Some y) e = let same : x ≡ y = cc in ap Some same
 
 none_of : (a : Option DerElement) → option_to_list a ≡ [] → a ≡ None
 none_of None e = refl
@@ -32,7 +27,7 @@ pub options_split : (tag : ℕ) (a b : Option DerElement) (xs ys : List DerEleme
     → (a ≡ None → BeginsOtherwise tag xs) → (b ≡ None → BeginsOtherwise tag ys) → option_to_list a ++ xs ≡ option_to_list b ++ ys → (a ≡ b) × (xs ≡ ys)
 options_split tag a b xs ys p q f g e =
     let parts = split tag (option_to_list a) (option_to_list b) xs ys (tagged_field tag a p) (tagged_field tag b q) (λ none. f (none_of a none)) (λ none. g (none_of b none)) e in
-    (option_once a b parts.0, parts.1)
+    (kept_once a b parts.0, parts.1)
 
 -- ---- signers
 
@@ -70,7 +65,7 @@ same_signer f g told told' e =
     let signature_algorithm : f.signature_algorithm ≡ g.signature_algorithm = cc in
     let signature : f.signature ≡ g.signature = cc in
     let last : option_to_list f.unsigned_attrs ≡ option_to_list g.unsigned_attrs = cc in
-    let unsigned_attrs = option_once f.unsigned_attrs g.unsigned_attrs last in
+    let unsigned_attrs = kept_once f.unsigned_attrs g.unsigned_attrs last in
     λ i. record {
       version = version i;
       sid = sid i;

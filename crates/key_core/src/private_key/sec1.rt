@@ -60,7 +60,8 @@ impl PrivateKey {
         }
     }
 
-    /// The same on this curve, whatever curve stands in the octets.
+    /// The key of an elliptic curve in octets as `from_ec_der` reads it, but on this curve, whatever
+    /// curve stands in the octets.
     pub fn from_ec_der_with_curve<S: Scheme>(
         alloc: Global,
         der: &[u8],
@@ -85,8 +86,9 @@ impl PrivateKey {
         }
     }
 
-    /// The same on the curve of this identifier, whatever curve stands in the octets. An identifier
-    /// of more than 4,294,967,295 octets is told as want of memory.
+    /// The key of an elliptic curve in octets as `from_ec_der` reads it, but on the curve of this
+    /// identifier, whatever curve stands in the octets. An identifier of more than 4,294,967,295
+    /// octets is told as want of memory.
     pub fn from_ec_der_with_curve_oid<S: Scheme>(
         alloc: Global,
         der: &[u8],

@@ -1,4 +1,4 @@
-use Rattle.authenticode_core.proofs.FirstAttributes.{none_lent}
+use Rattle.x509_types.proofs.FirstExtensions.{none_lent}
 use Rattle.authenticode_core.proofs.Tokens.{first_lent}
 use Rattle.authenticode_core.proofs.token.first_unsigned_of.Goals as goal
 

@@ -1,4 +1,5 @@
-use Rattle.authenticode_values.proofs.Members.{all_read, given, one_read}
+use Rattle.authenticode_core.proofs.SignerOrder.{given}
+use Rattle.authenticode_values.proofs.Members.{all_read, one_read}
 use Rattle.authenticode_values.proofs.bag.certificates_of.Goals as goal
 
 pub loop-member-preserved-in_ok-push : goal.loop-member-preserved-in_ok-push

@@ -1,6 +1,6 @@
 use Rattle.std.proofs.Common.{Err, ap}
 use Rattle.std.proofs.lemmas.Result.{err_from_is_err_and}
-use Rattle.authenticode_values.proofs.Members.{given}
+use Rattle.authenticode_core.proofs.SignerOrder.{given}
 use Rattle.authenticode_values.proofs.Namings.{is_signing, not_otherwise, one_otherwise}
 use Rattle.authenticode_values.proofs.signing_certificate.signing_certificate_of.Goals as goal
 

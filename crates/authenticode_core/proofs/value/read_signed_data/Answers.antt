@@ -1,5 +1,5 @@
 use Rattle.authenticode_core.proofs.ValueSteps.{refuses_shape, refuses_unread}
-use Rattle.authenticode_core.proofs.value.signed_data_of.Goals as goal
+use Rattle.authenticode_core.proofs.value.read_signed_data.Goals as goal
 
 pub returns-in-Err-padded_element : goal.returns-in-Err-padded_element
 returns-in-Err-padded_element c =
