@@ -9,7 +9,7 @@ use Rattle.sig_core.specs.declared.hash.HashAlgorithm.{HashAlgorithm}
 use Rattle.sig_core.specs.declared.sha_variant.ShaVariant.{ShaVariant}
 use Rattle.authenticode_core.specs.SigningRules.{NamesDigest}
 use Rattle.authenticode_core.specs.SigningSteps.{IsOfIdentifier}
-use Rattle.x509_types.proofs.FirstExtensions.{kept_once}
+use Rattle.der_core.specs.Facts.Kept.{one_kept}
 
 identifiers : (s t : List ℕ) (x y : List DerElement) → sequence (Primitive 0x06 s ∷ x) ≡ sequence (Primitive 0x06 t ∷ y) → s ≡ t
 identifiers s t x y e = cc
@@ -33,7 +33,7 @@ pub of_element : {K : Type 0} (now : K → List ℕ) (r : Option K) (octets : Li
     → MatchOption r ((oid : List ℕ) → IsOfIdentifier read oid → ⊥) (λ k. IsOfIdentifier read (now k))
     → MatchOption r ((oid : List ℕ) → IsOfIdentifier element oid → ⊥) (λ k. IsOfIdentifier element (now k))
 of_element now r octets read element p q =
-    subst (λ (x : DerElement). MatchOption r ((oid : List ℕ) → IsOfIdentifier x oid → ⊥) (λ k. IsOfIdentifier x (now k))) (kept_once octets read element p q)
+    subst (λ (x : DerElement). MatchOption r ((oid : List ℕ) → IsOfIdentifier x oid → ⊥) (λ k. IsOfIdentifier x (now k))) (one_kept octets read element p q)
 
 pub unidentified : (element : DerElement) → ((oid : List ℕ) → IsOfIdentifier element oid → ⊥) → (hash : HashAlgorithm) → NamesDigest element hash → ⊥
 unidentified element none hash n = none (digest_identifier n.variant) (of_identifier element hash n)

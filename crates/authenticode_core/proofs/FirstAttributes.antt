@@ -1,5 +1,5 @@
 -- The first attribute of an identifier: found here, found later, and found once.
-use Rattle.std.proofs.Common.{◌≡◌, ℕ, List, [], ◌∷◌, ◌++◌, Option, Some, None, MatchOption, refl, sym, ap, subst, ◌∙◌}
+use Rattle.std.proofs.Common.{◌≡◌, ℕ, List, [], ◌∷◌, ◌++◌, Option, Some, None, MatchOption, sym, ap, subst, ◌∙◌}
 use Rattle.asn1_types.specs.declared.oids.TheConstants.{MESSAGE_DIGEST}
 use Rattle.cms_types.specs.SignerElements.{SignerElements}
 use Rattle.der_core.specs.DerElement.{DerElement, Primitive, row, listed}

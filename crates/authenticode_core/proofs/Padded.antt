@@ -3,7 +3,7 @@ use Rattle.std.proofs.Common.{◌≡◌, ℕ, List, [], length, take, refl, ◌�
 use Rattle.std.specs.Prelude.{replicate}
 use Rattle.std.proofs.lemmas.List.{take_at}
 use Rattle.der_core.specs.DerElement.{DerElement}
-use Rattle.der_core.specs.Encoding.{encoding, IsPaddedEncoding}
+use Rattle.der_core.specs.Encoding.{encoding, IsPaddedEncoding, most_levels}
 use Rattle.der_core.specs.Reading.{IsFirst}
 use Rattle.der_core.specs.Head.{head_at}
 use Rattle.der_core.specs.Fault.{IsFirstFault, Outermost}
@@ -21,7 +21,7 @@ pub no_octets : {octets : List ℕ} → octets ≡ [] → IsFirstFault octets 0 
 unfolding head_at
 no_octets {octets} none = rw none (record {
   octets = [];
-  levels = 64;
+  levels = most_levels;
   start = Outermost;
   fails = refl;
 })

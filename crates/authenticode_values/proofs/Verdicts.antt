@@ -5,7 +5,7 @@ use Rattle.cms_types.specs.SignedView.{IsSignedView, data_elements}
 use Rattle.cms_types.specs.declared.signed_view.SignedView.{SignedView}
 use Rattle.der_core.specs.DerElement.{DerElement}
 use Rattle.der_core.specs.Encoding.{IsDer}
-use Rattle.der_core.specs.Facts.Kept.{same_encoded}
+use Rattle.der_core.specs.Facts.Kept.{one_kept}
 use Rattle.der_core.specs.Kept.{IsKept}
 use Rattle.der_core.specs.Refusals.{RefusesInner}
 use Rattle.der_core.specs.declared.error.DerError.{DerError}
@@ -29,12 +29,9 @@ use Rattle.authenticode_values.specs.declared.pkcs7.Pkcs7.{Pkcs7}
 
 -- ---- the element and the fields of the octets are those of the value
 
-kept_once : (octets : List ℕ) (a b : DerElement) → IsKept octets a → IsKept octets b → a ≡ b
-kept_once octets a b p q = same_encoded a b p.0 q.0 (sym p.1 ∙ q.1)
-
 -- a view can be had of the octets
 pub lies_there : (octets : List ℕ) (element : DerElement) (signed : Pkcs7) → IsKept octets element → IsKept octets (written signed) → element ≡ written signed
-lies_there octets element signed there kept = kept_once octets element (written signed) there kept
+lies_there octets element signed there kept = one_kept octets element (written signed) there kept
 
 module _ (octets : List ℕ) (element : DerElement) (view : SignedView) (signed : Pkcs7) (there : IsKept octets element) (is : IsSignedView element view) (kept : IsKept octets (written signed)) where
   same_fields : data_elements view ≡ fields_of signed

@@ -39,7 +39,8 @@ IsNamedOtherwise signers _ = ⊥
 -- serial number, or none of them has these.
 abbrev pub HasNoSigningCertificate : List SignerInfo → List KeptCertificate → AuthenticodeError
     → Type 0
-HasNoSigningCertificate signers certificates (errors.NoCertificatesAssociatedWithIssuerAndSerialNumber issuer serial_number) =
+HasNoSigningCertificate signers certificates
+    (errors.NoCertificatesAssociatedWithIssuerAndSerialNumber issuer serial_number) =
     FirstNames signers (named.IssuerAndSerialNumber
     (record { issuer = sets_of issuer; serial_number = serial_number }))
     × HasNoSigner (map signer_info signers) (elements_of certificates)

@@ -15,7 +15,7 @@ ghost use Rattle.sig_core.specs.ShaVariant.{hash_of};
 ghost use Rattle.sig_core.specs.declared.hash.HashAlgorithm.TheVariants.{SHA2_224};
 ghost use Rattle.wincert_core.specs.declared.kinds.CertificateType.{CertificateType};
 ghost use Rattle.x509_core.specs.Link.{HasKey};
-ghost use Rattle.x509_core.specs.Steps.{AreTaken, RefusesBySteps};
+ghost use Rattle.x509_core.specs.Steps.{AreTaken, IsFirstUntaken, RefusesBySteps};
 ghost use Rattle.authenticode_core.specs.declared.error.AuthenticodeError.TheVariants as errors;
 ghost use Rattle.making_core.specs.Carried.{IsRootCertificate, elements_of};
 ghost use Rattle.making_core.specs.MadeContent.{attributes_message, content_digest, data_element, opus_element, program_attributes};
@@ -168,7 +168,7 @@ fn opus_for(alloc: Global, name: Option<&str>) -> Result<SpcSpOpusInfo, Authenti
 fn algorithm_of(hash: ShaVariant) -> Result<HashAlgorithm, AuthenticodeError>
     ensures answer { MatchResult result
         (λ algorithm. (algorithm ≡ hash_of hash) × (hash_of hash ≢ SHA2_224))
-        (RefusesBySteps errors.Memory (hash_step (hash_of hash) ∷ [])) }
+        (IsFirstUntaken (hash_step (hash_of hash) ∷ [])) }
     ensures told { IfErr result
         (λ e. e ≡ errors.UnsupportedHashAlgorithmError (record { algorithm = SHA2_224 })) }
 {

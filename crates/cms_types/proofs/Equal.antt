@@ -7,10 +7,7 @@ use Rattle.der_core.specs.Equality.{same_octets}
 use Rattle.der_core.specs.Kept.{KeptElement}
 use Rattle.der_core.specs.Structure.{IsGrammar}
 use Rattle.der_core.specs.Facts.Kept.{same_kept}
-use Rattle.der_core.specs.Facts.Equality.{octets_decide, octets_same, options_same, pointwise_same, kept_same}
-
-by_test : (t u : Bool) (P : Type 0) → t ≡ u → (IsTrue u ↔ P) → IsTrue t ↔ P
-by_test t u P test same = (λ w. same.0 (sym test ∙ w), λ p. test ∙ same.1 p)
+use Rattle.der_core.specs.Facts.Equality.{by_test, octets_decide, octets_same, options_same, pointwise_same, kept_same}
 
 -- values are told by the octets that are written for them
 one_same : {X : Type 0} (written : X → DerElement) → IsGrammar (λ element value. element ≡ written value) written (λ value. []) → (a b : X) → IsTrue (same_octets written a b) ↔ (a ≡ b)

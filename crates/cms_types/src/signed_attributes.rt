@@ -8,7 +8,8 @@ use der_core::{DerError, Elem, Raw, Structure, Tree, has_list, read_list};
 use std::alloc::{AllocError, Global};
 use x509_types::{Attribute, AttributeList};
 
-pub(crate) const SIGNED_ATTRIBUTES: u8 = 0xA0;
+/// The tag of signed attributes in a SignerInfo (RFC 5652 5.3).
+pub const SIGNED_ATTRIBUTES: u8 = 0xA0;
 
 /// The attributes that a signer signs, with the element that they were read from (RFC 5652 5.3):
 /// what is signed of them are its octets. A set of none is read, too.

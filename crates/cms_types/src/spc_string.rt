@@ -10,7 +10,9 @@ use asn1_types::CharSetError;
 use der_core::{DerError, Elem, Octets, Structure, Tree, leaf, leaf_at};
 use std::alloc::{AllocError, Global};
 
-const UNICODE: u8 = 0x80;
+/// The tag of a text of two octets a unit (Windows Authenticode Portable Executable Signature
+/// Format, SpcString).
+pub const UNICODE: u8 = 0x80;
 
 /// A text in units of 16 bits, each in two octets, the higher first: an SpcString of the form
 /// `unicode`, which is a BMPString (Windows Authenticode Portable Executable Signature Format,

@@ -84,9 +84,3 @@ no_purposes e octets v at is none =
 
 pub second_kid : (e s t x y : DerElement) → e ≡ sequence (s ∷ t ∷ []) → e ≡ sequence (x ∷ y ∷ []) → t ≡ y
 second_kid e s t x y is is' = let same : sequence (s ∷ t ∷ []) ≡ sequence (x ∷ y ∷ []) = sym is ∙ is' in cc
-
-abbrev no_inner : List DerElement
-no_inner = []
-
-pub none_refused : {X : Type 0} (values : List X) (e : DerError) → RefusesInner (flat_map (λ (value : X). no_inner) values) e → RefusesInner [] e
-none_refused values e refused = subst (λ inner. RefusesInner inner e) (none_inner values) refused

@@ -16,7 +16,8 @@ use der_core::tag::SEQUENCE;
 use der_core::{DerError, Elem, Kids, NewKids, Structure, Tree, explicit};
 use std::alloc::{AllocError, Global};
 
-const CONTENT: u8 = 0xA0;
+/// The tag around a content (RFC 5652 3, 5.2).
+pub const CONTENT: u8 = 0xA0;
 
 /// A content with its type, or a type whose content is left out (RFC 5652 5.2; RFC 2315 7). The
 /// content is of the kind that the type names. One of a known kind that doesn't read is none: it is

@@ -19,7 +19,7 @@ mod indirect_data;
 mod spc_attribute;
 mod timestamp_request;
 
-pub use content_info::EncapsulatedContentInfo;
+pub use content_info::{CONTENT, EncapsulatedContentInfo};
 pub use content_kind::ContentKind;
 pub use content_value::ContentValue;
 pub use content_view::ContentView;

@@ -7,7 +7,7 @@ use Rattle.der_core.specs.Encoding.{encoding, encodings, nesting, IsDer}
 use Rattle.der_core.specs.Facts.Fronts.{some_octets, fronts, same_kids}
 use Rattle.der_core.specs.Placed.{AreDer, IsElem, AreElems, HasElems}
 use Rattle.der_core.specs.Facts.Placed.{all_formed, all_short}
-use Rattle.der_core.specs.Reading.{AreDerWithin, HasElements, IsFirst}
+use Rattle.der_core.specs.Reading.{AreDerWithin, HasElementsWithin, IsFirst}
 use Rattle.der_core.specs.Cursor.{BeginsAt, WereTested}
 
 pub first_length : (octets : List ℕ) (a : DerElement) (n : ℕ) → IsFirst octets a n → n ≤ length octets
@@ -44,7 +44,7 @@ begins_there level octets whole tag content elements element others k e inner lo
       nested = omega (arith, deep);
     }
 
-after_first : (elements : DerElements) (element : DerElement) (octets rest : List ℕ) → AreDerWithin 63 elements → octets ≡ encodings elements → IsDer element → octets ≡ encoding element ++ rest → HasElements 63 rest
+after_first : (elements : DerElements) (element : DerElement) (octets rest : List ℕ) → AreDerWithin 63 elements → octets ≡ encodings elements → IsDer element → octets ≡ encoding element ++ rest → HasElementsWithin 63 rest
 after_first Nil element octets rest are spelled der parts = absurd (omega (arith, some_octets element, length-append (encoding element) rest, ap length parts, ap length spelled))
 after_first (Cons kid kids) element octets rest are spelled der parts =
     let f = fronts kid element (encodings kids) rest are.formed.0 der.formed are.short.0 der.short (sym spelled ∙ parts) in

@@ -9,7 +9,7 @@ use Rattle.der_core.specs.Fault.{header_length, IsFirstFault}
 use Rattle.der_core.specs.Facts.Fronts.{some_octets}
 use Rattle.der_core.specs.Head.{IsOctets, head_at, HasHead}
 use Rattle.der_core.specs.Facts.InnerFault.{ElementFault, KidsFault, Here, Inside, First, Next}
-use Rattle.der_core.specs.Reading.{AreDerWithin, HasElements, HasNoFirst}
+use Rattle.der_core.specs.Reading.{AreDerWithin, HasElementsWithin, HasNoFirst}
 use Rattle.der_core.proofs.Begins.{HasElement}
 use Rattle.der_core.proofs.Lengths.{IsOctets-front}
 use Rattle.der_core.proofs.Heads.{head_taken}
@@ -28,12 +28,12 @@ IsOctets-back [] b fits = fits
 IsOctets-back (x ∷ a) b fits = IsOctets-back a b (λ i. fits (suc i))
 
 -- one more before elements, or before a fault
-one_more : (levels : ℕ) (octets : List ℕ) (has : HasElement levels octets) → HasElements levels has.1 ⊎ SomeKidsFault levels has.1 → HasElements levels octets ⊎ SomeKidsFault levels octets
+one_more : (levels : ℕ) (octets : List ℕ) (has : HasElement levels octets) → HasElementsWithin levels has.1 ⊎ SomeKidsFault levels has.1 → HasElementsWithin levels octets ⊎ SomeKidsFault levels octets
 one_more levels octets has (inl kids) =
     inl (Cons has.0 kids.0, record { formed = (has.2.formed, kids.1.formed); nested = omega (arith, has.2.nested, kids.1.nested); short = (has.2.short, kids.1.short) }, has.3 ∙ ap (λ (o : List ℕ). encoding has.0 ++ o) kids.2)
 one_more levels octets has (inr fault) = inr (length (encoding has.0) + fault.0, fault.1, Next has.2 has.3 fault.2 refl)
 
-kids_decided : (levels fuel : ℕ) (octets : List ℕ) → ((o : List ℕ) → IsOctets o → HasElement levels o ⊎ SomeFault levels o) → length octets ≤ fuel → IsOctets octets → HasElements levels octets ⊎ SomeKidsFault levels octets
+kids_decided : (levels fuel : ℕ) (octets : List ℕ) → ((o : List ℕ) → IsOctets o → HasElement levels o ⊎ SomeFault levels o) → length octets ≤ fuel → IsOctets octets → HasElementsWithin levels octets ⊎ SomeKidsFault levels octets
 kids_decided levels fuel [] decide enough fits = inl (Nil, record { formed = tt; nested = omega arith; short = tt }, refl)
 kids_decided levels zero (octet ∷ octets) decide enough fits = absurd (omega arith)
 kids_decided levels (suc fuel) (octet ∷ octets) decide enough fits =
@@ -48,7 +48,7 @@ contents_fit : (levels tag : ℕ) (octets contents rest : List ℕ) → HasHead 
 contents_fit levels tag octets contents rest head fits =
     IsOctets-back (tag ∷ length_octets (length contents)) contents (IsOctets-front (framed tag contents) rest (subst IsOctets head.parts fits))
 
-branch_decided : (l tag : ℕ) (octets contents rest : List ℕ) → head_at (suc l) octets ≡ Ok (tag, contents, rest) → HasHead (suc l) octets tag contents rest → form_bit tag ≡ 1 → HasElements l contents ⊎ SomeKidsFault l contents → HasElement (suc l) octets ⊎ SomeFault (suc l) octets
+branch_decided : (l tag : ℕ) (octets contents rest : List ℕ) → head_at (suc l) octets ≡ Ok (tag, contents, rest) → HasHead (suc l) octets tag contents rest → form_bit tag ≡ 1 → HasElementsWithin l contents ⊎ SomeKidsFault l contents → HasElement (suc l) octets ⊎ SomeFault (suc l) octets
 branch_decided l tag octets contents rest found head bit (inl kids) =
     let same : l ≡ suc l - 1 = omega arith in
     let read = branch_read kids.0 head bit (subst (λ (m : ℕ). AreDerWithin m kids.0) same kids.1) kids.2 in

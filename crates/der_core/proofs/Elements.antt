@@ -7,7 +7,7 @@ use Rattle.der_core.specs.DerElement.{DerElement, Primitive, Constructed, DerEle
 use Rattle.der_core.specs.Encoding.{encoding, encodings, form_bit, IsDerWithin}
 use Rattle.der_core.specs.Facts.Fronts.{ok_is, some_octets, fronts}
 use Rattle.der_core.specs.Head.{head_at, HasHead}
-use Rattle.der_core.specs.Reading.{AreDerWithin, HasElements, IsFirst}
+use Rattle.der_core.specs.Reading.{AreDerWithin, HasElementsWithin, IsFirst}
 use Rattle.der_core.proofs.Begins.{HasElement}
 use Rattle.der_core.proofs.Heads.{head_again}
 
@@ -42,11 +42,11 @@ no_head levels octets fault failed has =
     let again : head_at levels octets ≡ Ok (tag_of has.0, contents_octets has.0, has.1) = ap (head_at levels) has.3 ∙ head_again levels has.0 has.1 has.2 in
     absurd cc
 
-inner : (levels tag : ℕ) (contents : List ℕ) (a : DerElement) → IsDerWithin levels a → form_bit tag ≡ 1 → tag ≡ tag_of a → contents ≡ contents_octets a → HasElements (levels - 1) contents
+inner : (levels tag : ℕ) (contents : List ℕ) (a : DerElement) → IsDerWithin levels a → form_bit tag ≡ 1 → tag ≡ tag_of a → contents ≡ contents_octets a → HasElementsWithin (levels - 1) contents
 inner levels tag contents (Primitive t content) der bit same_tag same = absurd (omega (arith, ap form_bit same_tag, der.formed.1))
 inner levels tag contents (Constructed t kids) der bit same_tag same = (kids, record { formed = der.formed.2; nested = omega (arith, der.nested); short = der.short.1 }, same)
 
-pub no_kids : (levels tag : ℕ) (octets contents rest : List ℕ) → head_at levels octets ≡ Ok (tag, contents, rest) → form_bit tag ≡ 1 → (HasElements (levels - 1) contents → ⊥) → HasElement levels octets → ⊥
+pub no_kids : (levels tag : ℕ) (octets contents rest : List ℕ) → head_at levels octets ≡ Ok (tag, contents, rest) → form_bit tag ≡ 1 → (HasElementsWithin (levels - 1) contents → ⊥) → HasElement levels octets → ⊥
 no_kids levels tag octets contents rest head bit none has =
     let found : ℕ × List ℕ × List ℕ = (tag, contents, rest) in
     let again : ℕ × List ℕ × List ℕ = (tag_of has.0, contents_octets has.0, has.1) in
@@ -57,16 +57,16 @@ first_and_others : (levels : ℕ) (octets : List ℕ) (elements : DerElements) �
 first_and_others levels octets Nil some der same = absurd (omega (arith, ap length same))
 first_and_others levels octets (Cons a elements) some der same = (a, encodings elements, record { formed = der.formed.0; nested = omega (arith, der.nested); short = der.short.0 }, same)
 
-pub no_first : (levels : ℕ) (octets : List ℕ) → 0 < length octets → (HasElement levels octets → ⊥) → HasElements levels octets → ⊥
+pub no_first : (levels : ℕ) (octets : List ℕ) → 0 < length octets → (HasElement levels octets → ⊥) → HasElementsWithin levels octets → ⊥
 no_first levels octets some none has = none (first_and_others levels octets has.0 some has.1 has.2)
 
-others : (levels : ℕ) (octets after : List ℕ) (kid : DerElement) (elements : DerElements) → IsDerWithin levels kid → octets ≡ encoding kid ++ after → AreDerWithin levels elements → octets ≡ encodings elements → HasElements levels after
+others : (levels : ℕ) (octets after : List ℕ) (kid : DerElement) (elements : DerElements) → IsDerWithin levels kid → octets ≡ encoding kid ++ after → AreDerWithin levels elements → octets ≡ encodings elements → HasElementsWithin levels after
 others levels octets after kid Nil der parts all same = absurd (omega (arith, some_octets kid, length-append (encoding kid) after, ap length parts, ap length same))
 others levels octets after kid (Cons a elements) der parts all same =
     let f = fronts kid a after (encodings elements) der.formed all.formed.0 der.short all.short.0 (sym parts ∙ same) in
     (elements, record { formed = all.formed.1; nested = omega (arith, all.nested); short = all.short.1 }, f.1)
 
-pub rest_goes_on : (levels : ℕ) (octets after : List ℕ) (kid : DerElement) → IsDerWithin levels kid → octets ≡ encoding kid ++ after → HasElements levels octets → HasElements levels after
+pub rest_goes_on : (levels : ℕ) (octets after : List ℕ) (kid : DerElement) → IsDerWithin levels kid → octets ≡ encoding kid ++ after → HasElementsWithin levels octets → HasElementsWithin levels after
 rest_goes_on levels octets after kid der parts has = others levels octets after kid has.0 der parts has.1 has.2
 
 -- ---- the first element of octets

@@ -9,23 +9,23 @@ use Rattle.der_core.specs.Fault.{header_length, IsStart, Outermost, Within, Afte
 use Rattle.der_core.specs.Facts.InnerFault.{ElementFault, KidsFault, Here, Inside, First, Next}
 use Rattle.der_core.specs.Facts.Fronts.{ok_is, some_octets, fronts}
 use Rattle.der_core.specs.Head.{head_at, HasHead}
-use Rattle.der_core.specs.Reading.{HasElements, IsFaultFrom}
+use Rattle.der_core.specs.Reading.{HasElementsWithin, IsFaultFrom}
 use Rattle.der_core.proofs.Begins.{HasElement}
 use Rattle.der_core.proofs.Elements.{no_head, no_kids, no_first, rest_goes_on}
 
 -- ---- there is no element where there is a fault
 
-one_less : (levels : ℕ) (octets : List ℕ) → HasElements (suc levels - 1) octets → HasElements levels octets
+one_less : (levels : ℕ) (octets : List ℕ) → HasElementsWithin (suc levels - 1) octets → HasElementsWithin levels octets
 one_less levels octets has =
     let same : suc levels - 1 ≡ levels = omega arith in
-    subst (λ (l : ℕ). HasElements l octets) same has
+    subst (λ (l : ℕ). HasElementsWithin l octets) same has
 
 mutual
   pub no_element : {levels n : ℕ} {octets : List ℕ} {fault : DerFault} → ElementFault levels octets n fault → HasElement levels octets → ⊥
   no_element {levels} {octets = octets} {fault = f} (Here e) has = no_head levels octets f e has
   no_element (Inside {levels = l} {tag = tag} {octets = octets} {contents = contents} {rest = rest} head bit kids n) has = no_kids (suc l) tag octets contents rest head bit (λ inner. no_elements kids (one_less l contents inner)) has
 
-  pub no_elements : {levels n : ℕ} {octets : List ℕ} {fault : DerFault} → KidsFault levels octets n fault → HasElements levels octets → ⊥
+  pub no_elements : {levels n : ℕ} {octets : List ℕ} {fault : DerFault} → KidsFault levels octets n fault → HasElementsWithin levels octets → ⊥
   no_elements {levels} {octets = octets} (First some fault) has = no_first levels octets some (no_element fault) has
   no_elements {levels} {octets = octets} (Next {rest = rest} {element = a} der parts fault n) has = no_elements fault (rest_goes_on levels octets rest a der parts has)
 

@@ -5,16 +5,12 @@ use Rattle.der_core.specs.DerElement.{DerElement, Primitive, Constructed, Nil, C
 use Rattle.der_core.specs.Facts.Rows.{row-listed}
 use Rattle.der_core.specs.Encoding.{encoding, encodings, form_bit, IsDer, IsDerWithin}
 use Rattle.der_core.specs.Facts.Fronts.{ok_is, some_octets}
-use Rattle.der_core.specs.Reading.{HasElements, IsFirst}
+use Rattle.der_core.specs.Reading.{HasElementsWithin, IsFirst}
 use Rattle.der_core.specs.Head.{head_at, BeginsWithHead}
 use Rattle.der_core.specs.Placed.{contents_octets, IsElem, HasElem, AreElems, HasElems}
 use Rattle.der_core.specs.Facts.Placed.{HasElem-prop, HasElems-prop, same_elements, kids_in_bounds}
 use Rattle.der_core.specs.Kept.{IsKept, Kept}
 use Rattle.der_core.proofs.Heads.{head_again}
-
-contents_same : (a : DerElement) → contents_octets a ≡ contents_octets a
-contents_same (Primitive tag content) = refl
-contents_same (Constructed tag kids) = refl
 
 -- ---- the kids of an element
 
@@ -87,7 +83,7 @@ first_of' octets (a ∷ elements) tag contents after are head =
       element = a;
       others = elements;
       are = refl;
-      is = (are.0.0, ap (take (length octets - length after)) are.1 ∙ take_at (encoding a) rest (length octets - length after) many, ap (λ (p : ℕ × List ℕ × List ℕ). p.0) same, ap (λ (p : ℕ × List ℕ × List ℕ). p.1) same ∙ contents_same a);
+      is = (are.0.0, ap (take (length octets - length after)) are.1 ∙ take_at (encoding a) rest (length octets - length after) many, ap (λ (p : ℕ × List ℕ × List ℕ). p.0) same, ap (λ (p : ℕ × List ℕ × List ℕ). p.1) same);
       left = (are.0.1, same_after);
     }
 
@@ -110,11 +106,11 @@ no_length (o ∷ octets) e = absurd (omega (arith, e))
 
 -- ---- tests of octets
 
-pub one_more_first : (levels : ℕ) (octets after : List ℕ) (a : DerElement) → IsDerWithin levels a → octets ≡ encoding a ++ after → HasElements levels after → HasElements levels octets
+pub one_more_first : (levels : ℕ) (octets after : List ℕ) (a : DerElement) → IsDerWithin levels a → octets ≡ encoding a ++ after → HasElementsWithin levels after → HasElementsWithin levels octets
 one_more_first levels octets after a der parts has =
     (Cons a has.0, record { formed = (der.formed, has.1.formed); nested = omega (arith, der.nested, has.1.nested); short = (der.short, has.1.short) }, parts ∙ ap (λ (o : List ℕ). encoding a ++ o) has.2)
 
-pub no_elements : (levels : ℕ) (octets : List ℕ) → octets ≡ [] → HasElements levels octets
+pub no_elements : (levels : ℕ) (octets : List ℕ) → octets ≡ [] → HasElementsWithin levels octets
 no_elements levels octets none = (Nil, record { formed = tt; nested = omega arith; short = tt }, none)
 
 -- ---- the first element of octets that were tested

@@ -4,7 +4,7 @@ use Rattle.std.proofs.lemmas.List.{length-append, length-set, take_at, drop_at, 
 use Rattle.der_core.specs.DerElement.{Primitive, Constructed}
 use Rattle.der_core.specs.Encoding.{length_octets, form_bit}
 use Rattle.der_core.specs.Head.{HasHead}
-use Rattle.der_core.specs.Reading.{HasElements}
+use Rattle.der_core.specs.Reading.{HasElementsWithin}
 use Rattle.der_core.proofs.Elements.{at_level, leaf_read, branch_read}
 use Rattle.der_core.proofs.Faults.{head_lengths}
 use Rattle.der_core.proofs.InOctets.{no_length, one_more_first, no_elements}
@@ -22,7 +22,7 @@ AreLengths lengths n (after ∷ others) = (0 < n) × (get_or lengths (n - 1) 0 �
 -- Each are elements, the innermost of so many levels, and each next of one more.
 abbrev pub AreOutward : ℕ → List (List ℕ) → Type 0
 AreOutward levels [] = Unit {0}
-AreOutward levels (after ∷ others) = HasElements levels after × AreOutward (levels + 1) others
+AreOutward levels (after ∷ others) = HasElementsWithin levels after × AreOutward (levels + 1) others
 
 -- Within n elements stand the current octets, of which so many are left. Where they are elements, and those after each of the n, all octets are.
 pub record GoesOn (octets rest : List ℕ) (left : ℕ) (lengths : List ℕ) (n : ℕ) : Type 0 where
@@ -33,21 +33,21 @@ pub record GoesOn (octets rest : List ℕ) (left : ℕ) (lengths : List ℕ) (n 
   pub kept : AreLengths lengths n outer
   pub few : n ≤ 62
   pub room : length lengths ≡ 62
-  pub elements : HasElements (63 - n) current → AreOutward (64 - n) outer → HasElements 63 octets
+  pub elements : HasElementsWithin (63 - n) current → AreOutward (64 - n) outer → HasElementsWithin 63 octets
 
 -- ---- nothing is left
 
-no_more : (octets current lengths : List ℕ) (outer : List (List ℕ)) → length current ≡ 0 → AreLengths lengths 0 outer → (HasElements 63 current → AreOutward 64 outer → HasElements 63 octets) → HasElements 63 octets
+no_more : (octets current lengths : List ℕ) (outer : List (List ℕ)) → length current ≡ 0 → AreLengths lengths 0 outer → (HasElementsWithin 63 current → AreOutward 64 outer → HasElementsWithin 63 octets) → HasElementsWithin 63 octets
 no_more octets current lengths [] none kept elements = elements (no_elements 63 current (no_length current none)) tt
 no_more octets current lengths (after ∷ others) none kept elements = absurd (omega (arith, kept.0))
 
-pub ended : {octets rest lengths : List ℕ} {left n : ℕ} → GoesOn octets rest left lengths n → left ≡ 0 → n ≡ 0 → HasElements 63 octets
+pub ended : {octets rest lengths : List ℕ} {left n : ℕ} → GoesOn octets rest left lengths n → left ≡ 0 → n ≡ 0 → HasElementsWithin 63 octets
 ended {octets} {rest} {lengths} {left} {n} on none outermost =
     let g = subst (λ (m : ℕ). GoesOn octets rest left lengths m) outermost on in
     no_more octets g.current lengths g.outer (g.many ∙ none) g.kept g.elements
 
 outward : (octets rest current lengths : List ℕ) (n : ℕ) (outer : List (List ℕ)) → rest ≡ current ++ joined outer → length current ≡ 0 → AreLengths lengths n outer → 0 < n → n ≤ 62 → length lengths ≡ 62
-    → (HasElements (63 - n) current → AreOutward (64 - n) outer → HasElements 63 octets) → GoesOn octets rest (get_or lengths (n - 1) 0) lengths (n - 1)
+    → (HasElementsWithin (63 - n) current → AreOutward (64 - n) outer → HasElementsWithin 63 octets) → GoesOn octets rest (get_or lengths (n - 1) 0) lengths (n - 1)
 outward octets rest current lengths n [] parts none kept some few room elements = absurd (omega (arith, kept, some))
 outward octets rest current lengths n (after ∷ others) parts none kept some few room elements =
     let empty : current ≡ [] = no_length current none in
@@ -61,7 +61,7 @@ outward octets rest current lengths n (after ∷ others) parts none kept some fe
       kept = kept.2;
       few = omega arith;
       room = room;
-      elements = λ has are. elements (no_elements (63 - n) current empty) (subst (λ (l : ℕ). HasElements l after) same has, subst (λ (l : ℕ). AreOutward l others) more are);
+      elements = λ has are. elements (no_elements (63 - n) current empty) (subst (λ (l : ℕ). HasElementsWithin l after) same has, subst (λ (l : ℕ). AreOutward l others) more are);
     }
 
 pub after_last : {octets rest lengths : List ℕ} {left n : ℕ} → GoesOn octets rest left lengths n → left ≡ 0 → 0 < n → GoesOn octets rest (get_or lengths (n - 1) 0) lengths (n - 1)
@@ -141,7 +141,7 @@ into_branch {lengths = lengths} {n = n} {tag = tag} {contents = contents} {other
       few = omega arith;
       room = length-set lengths n (length others) ∙ on.room;
       elements = λ has are.
-          let kids = subst (λ (l : ℕ). HasElements l contents) kids_levels has in
+          let kids = subst (λ (l : ℕ). HasElementsWithin l contents) kids_levels has in
           let read = branch_read kids.0 (at_level (63 - n) (omega (arith, on.few)) head) bit kids.1 kids.2 in
-          on.elements (one_more_first (63 - n) on.current others (Constructed tag kids.0) read.0 read.1 (subst (λ (l : ℕ). HasElements l others) others_levels are.0)) (subst (λ (l : ℕ). AreOutward l on.outer) outer_levels are.1);
+          on.elements (one_more_first (63 - n) on.current others (Constructed tag kids.0) read.0 read.1 (subst (λ (l : ℕ). HasElementsWithin l others) others_levels are.0)) (subst (λ (l : ℕ). AreOutward l on.outer) outer_levels are.1);
     }

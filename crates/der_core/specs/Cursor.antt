@@ -2,7 +2,7 @@
 use Rattle.std.specs.Prelude.{◌≡◌, ℕ, ◌+◌, ◌-◌, ◌≤◌, ◌<◌, List, ◌++◌, length}
 use Rattle.der_core.specs.DerElement.{DerElement}
 use Rattle.der_core.specs.Encoding.{nesting, most_levels}
-use Rattle.der_core.specs.Reading.{IsFirst, HasElements}
+use Rattle.der_core.specs.Reading.{IsFirst, HasElementsWithin}
 
 -- The first n octets are the encoding of an element that is read at this level: all levels around
 -- it and in it together are at most `most_levels`.
@@ -18,4 +18,4 @@ pub record MovesPast (whole rest rest_now : List ℕ) (place place_now : ℕ) : 
 -- Octets past the first level were tested as the contents of an element: they are elements of one
 -- level less than the most.
 abbrev pub WereTested : ℕ → List ℕ → Type 0
-WereTested level octets = 1 < level → HasElements (most_levels - 1) octets
+WereTested level octets = 1 < level → HasElementsWithin (most_levels - 1) octets

@@ -16,8 +16,8 @@ pub record AreDerWithin (levels : ℕ) (elements : DerElements) : Type 0 where
   pub short : AreShort elements
 
 -- Octets are elements of at most so many levels.
-abbrev pub HasElements : ℕ → List ℕ → Type 0
-HasElements levels octets =
+abbrev pub HasElementsWithin : ℕ → List ℕ → Type 0
+HasElementsWithin levels octets =
     (elements : DerElements) × AreDerWithin levels elements × (octets ≡ encodings elements)
 
 -- The first n octets are the encoding of an element that is read.

@@ -6,7 +6,7 @@ ghost use Rattle.der_core.specs.Encoding.{encoding, IsDer, IsDerWithin, most_lev
 ghost use Rattle.der_core.specs.Fault.{IsFirstFault};
 ghost use Rattle.der_core.specs.Kept.{IsKept};
 ghost use Rattle.der_core.specs.Facts.InnerFault.{ElementFault, KidsFault};
-ghost use Rattle.der_core.specs.Reading.{HasElements, IsFirst, IsExactFault, IsFaultFrom};
+ghost use Rattle.der_core.specs.Reading.{HasElementsWithin, IsFirst, IsExactFault, IsFaultFrom};
 
 use crate::elem::Elem;
 use crate::fault::{DerFault, Malformed};
@@ -106,7 +106,7 @@ const MOST_OUTER: usize = 62;
 /// Of a constructed element within so many others it says no even where it is empty: octets of
 /// which it says no are looked at again, for their first fault.
 fn are_elements(octets: &[u8]) -> bool
-    ensures { IsTrue result → HasElements (most_levels - 1) octets.now }
+    ensures { IsTrue result → HasElementsWithin (most_levels - 1) octets.now }
 {
     // How many octets stand after each element that is gone through, in the one that holds it.
     let mut after = [0; MOST_OUTER];
@@ -165,7 +165,7 @@ fn after_element(octets: &[u8], at: usize, levels: u8) -> Result<&[u8], Malforme
 fn test_elements(octets: &[u8], at: usize, levels: u8) -> Result<(), Malformed>
     requires { at + length octets.now < 2 ^ 64 }
     ensures { MatchResult result
-        (λ _. HasElements levels octets.now)
+        (λ _. HasElementsWithin levels octets.now)
         (IsFaultFrom at (KidsFault levels octets.now)) }
 {
     let mut rest = octets;

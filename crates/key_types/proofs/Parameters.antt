@@ -1,5 +1,6 @@
 -- Parameters of algorithms by their octets.
-use Rattle.std.proofs.Common.{◌≡◌, IsTrue, [], ◌∷◌, ◌++◌, Option, Some, None, refl, sym, ◌∙◌, ap, subst, arith, ℕ, List, Bool, true, false}
+use Rattle.der_core.specs.Facts.Optional.{kept_once}
+use Rattle.std.proofs.Common.{◌≡◌, IsTrue, [], ◌∷◌, ◌++◌, Option, refl, sym, ◌∙◌, ap, subst, arith, ℕ, List, Bool, true, false}
 use Rattle.der_core.specs.DerElement.{DerElement, Primitive, Constructed}
 use Rattle.der_core.specs.Encoding.{encoding, IsWellFormed, IsDer, length_octets}
 use Rattle.der_core.specs.Facts.Fronts.{fronts}
@@ -40,12 +41,6 @@ pub decided : (b : Bool) → (b ≡ false → ⊥) → IsTrue b
 decided true none = refl
 decided false none = absurd (none refl)
 
-option_once : (a b : Option DerElement) → option_to_list a ≡ option_to_list b → a ≡ b
-option_once None None e = refl
-option_once None (Some y) e = absurd cc
-option_once (Some x) None e = absurd cc
-option_once (Some x) (Some y) e = let same : x ≡ y = cc in ap Some same
-
 -- an algorithm is for keys of a kind where the fields of its element say so
 pub of_fields : (element oid : DerElement) (parameters : Option DerElement) (contents : List ℕ) (a : AlgorithmIdentifier) (kind : KeyKind)
     → element ≡ algorithm_of oid parameters → oid ≡ Primitive 0x06 contents → element ≡ algorithm_identifier a → IsAlgorithmWith kind contents parameters → IsAlgorithmOf kind a
@@ -54,7 +49,7 @@ of_fields element oid parameters contents a kind fields leaf is with =
     let first : oid ≡ object_identifier a.oid = cc in
     let others : option_to_list parameters ≡ option_to_list (kept_option a.parameters) = cc in
     let same : contents ≡ identifier_contents a.oid = leaf_once contents (identifier_contents a.oid) (sym leaf ∙ first) in
-    subst (λ (o : List ℕ). IsAlgorithmWith kind o (kept_option a.parameters)) same (subst (λ (p : Option DerElement). IsAlgorithmWith kind contents p) (option_once parameters (kept_option a.parameters) others) with)
+    subst (λ (o : List ℕ). IsAlgorithmWith kind o (kept_option a.parameters)) same (subst (λ (p : Option DerElement). IsAlgorithmWith kind contents p) (kept_once parameters (kept_option a.parameters) others) with)
   where
     leaf_once : (x y : List ℕ) → Primitive 0x06 x ≡ Primitive 0x06 y → x ≡ y
     leaf_once x y e = cc

@@ -132,7 +132,8 @@ fn write_rsa_key(alloc: Global, key: &RsaPublicKey) -> Result<Tree, DerError>
         (RefusesInner (inner_key (Rsa key.now))) }
 {
     let payload = write_within(alloc, key)?;
-    let mut content = Vec::from_slice(alloc, &[0])?;
+    let mut content = Vec::with_capacity(alloc, payload.len().saturating_add(1))?;
+    content.push(0)?;
     content.extend_from_slice(&payload)?;
     Ok(Tree::leaf(BIT_STRING, Octets::from(content)))
 }

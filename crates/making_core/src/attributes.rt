@@ -20,13 +20,11 @@ ghost use Rattle.making_core.specs.SignedProgram.{IsBasicName};
 
 use asn1_types::oids::{CONTENT_TYPE, MESSAGE_DIGEST, SPC_INDIRECT_DATA, SPC_SP_OPUS_INFO};
 use asn1_types::{CharSetError, ObjectIdentifier};
-use cms_types::{SignedAttributes, SpcLink, SpcSpOpusInfo, SpcString};
+use cms_types::{SIGNED_ATTRIBUTES, SignedAttributes, SpcLink, SpcSpOpusInfo, SpcString};
 use der_core::tag::SET;
 use der_core::{DerError, ListOf, Octets, Raw, Structure, write_list};
 use std::alloc::{AllocError, Global};
 use x509_types::{Attribute, AttributeList, AttributeValues};
-
-const SIGNED_ATTRIBUTES: u8 = 0xA0;
 
 /// What is said of the program: its name, where it has one, and an empty link to more.
 pub fn opus_of(alloc: Global, name: Option<&str>) -> Result<SpcSpOpusInfo, CharSetError>

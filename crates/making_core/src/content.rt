@@ -17,7 +17,7 @@ use asn1_types::ObjectIdentifier;
 use asn1_types::oids::{SPC_INDIRECT_DATA, SPC_PE_IMAGE_DATA};
 use cms_types::{
     ContentValue, DigestInfo, EncapsulatedContentInfo, SpcAttributeTypeAndOptionalValue,
-    SpcIndirectDataContent, new_sha,
+    SpcIndirectDataContent, UNICODE, new_sha,
 };
 use der_core::tag::{BIT_STRING, SEQUENCE};
 use der_core::{DerError, NewKids, Octets, Raw, Structure, explicit, leaf, whole_element};
@@ -29,8 +29,6 @@ use std::alloc::{AllocError, Global};
 const FILE: u8 = 0xA0;
 
 const FILE_LINK: u8 = 0xA2;
-
-const UNICODE: u8 = 0x80;
 
 /// The digest of a file, which is a PE image.
 pub fn indirect_of(

@@ -7,7 +7,7 @@ use Rattle.std.proofs.lemmas.Slice.Eq.{bytes_eq-Decides}
 use Rattle.der_core.specs.DerElement.{DerElement}
 use Rattle.der_core.specs.Elements.{sequence}
 use Rattle.der_core.specs.Structure.{Fits}
-use Rattle.der_core.specs.Facts.Equality.{options_same, pointwise_same}
+use Rattle.der_core.specs.Facts.Equality.{by_test, options_same, pointwise_same}
 use Rattle.asn1_types.specs.Elements.{bit_string}
 use Rattle.asn1_types.specs.declared.bit_string.BitString.{BitString}
 use Rattle.x501_types.specs.Name.{name, IsName}
@@ -60,9 +60,6 @@ of_parts element info algorithm value is fit a b = (
     spelled = fit.1;
   },
 )
-
-by_test : (t u : Bool) (P : Type 0) → t ≡ u → (IsTrue u ↔ P) → IsTrue t ↔ P
-by_test t u P test same = (λ w. same.0 (sym test ∙ w), λ p. test ∙ same.1 p)
 
 abbrev told : Attribute → Attribute → Bool
 told a b = bytes_eq (attribute_octets a) (attribute_octets b)

@@ -1,4 +1,4 @@
--- The attribute types of names that have a word of their own.
+-- The attribute types of names that have a descriptor (RFC 4514 3).
 use Rattle.std.specs.Prelude.{ℕ, Option, List, [], ◌∷◌, find, bytes_eq, codes}
 use Rattle.x501_types.specs.declared.name_attr.NameAttr.{NameAttr}
 use Rattle.x501_types.specs.declared.name_attr.NameAttr.TheVariants as attributes
@@ -20,18 +20,18 @@ attribute_arc attributes.GivenName = 42
 abbrev pub attribute_arcs : NameAttr → List ℕ
 attribute_arcs attr = 2 ∷ 5 ∷ 4 ∷ attribute_arc attr ∷ []
 
--- the word that is printed for the type
-abbrev pub attribute_word : NameAttr → List ℕ
-attribute_word attributes.CommonName = codes "CN"
-attribute_word attributes.Surname = codes "SN"
-attribute_word attributes.SerialNumber = codes "SERIALNUMBER"
-attribute_word attributes.CountryName = codes "C"
-attribute_word attributes.LocalityName = codes "L"
-attribute_word attributes.StateOrProvinceName = codes "ST"
-attribute_word attributes.StreetName = codes "STREET"
-attribute_word attributes.OrganizationName = codes "O"
-attribute_word attributes.OrganizationalUnitName = codes "OU"
-attribute_word attributes.GivenName = codes "GN"
+-- the descriptor that is printed for the type
+abbrev pub attribute_descriptor : NameAttr → List ℕ
+attribute_descriptor attributes.CommonName = codes "CN"
+attribute_descriptor attributes.Surname = codes "SN"
+attribute_descriptor attributes.SerialNumber = codes "SERIALNUMBER"
+attribute_descriptor attributes.CountryName = codes "C"
+attribute_descriptor attributes.LocalityName = codes "L"
+attribute_descriptor attributes.StateOrProvinceName = codes "ST"
+attribute_descriptor attributes.StreetName = codes "STREET"
+attribute_descriptor attributes.OrganizationName = codes "O"
+attribute_descriptor attributes.OrganizationalUnitName = codes "OU"
+attribute_descriptor attributes.GivenName = codes "GN"
 
 -- every attribute type
 abbrev pub attribute_types : List NameAttr

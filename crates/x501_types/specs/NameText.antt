@@ -6,7 +6,7 @@ use Rattle.der_core.specs.Encoding.{encoding}
 use Rattle.asn1_types.specs.ObjectIdentifier.{dotted}
 use Rattle.asn1_types.specs.Values.{arcs_of, ia5_contents}
 use Rattle.x501_types.specs.Text.{text_of}
-use Rattle.x501_types.specs.NameAttr.{attribute_type, attribute_word}
+use Rattle.x501_types.specs.NameAttr.{attribute_type, attribute_descriptor}
 use Rattle.x501_types.specs.declared.name_attr.NameAttr.{NameAttr}
 use Rattle.x501_types.specs.declared.attribute_value.AttributeValue.{AttributeValue}
 use Rattle.x501_types.specs.declared.attribute_value.AttributeValue.TheVariants as values
@@ -16,14 +16,14 @@ use Rattle.x501_types.specs.declared.attribute.AttributeTypeAndValue.{AttributeT
 abbrev pub email_address : List ℕ
 email_address = 1 ∷ 2 ∷ 840 ∷ 113549 ∷ 1 ∷ 9 ∷ 1 ∷ []
 
--- the word of a type that has one, else `EMAIL` or the dotted text
-abbrev pub word_or_dotted : Option NameAttr → List ℕ → List ℕ
-word_or_dotted (Some attr) arcs = attribute_word attr
-word_or_dotted None arcs = if bytes_eq arcs email_address then codes "EMAIL" else dotted arcs
+-- the descriptor of a type that has one, else `EMAIL` or the dotted text
+abbrev pub descriptor_or_dotted : Option NameAttr → List ℕ → List ℕ
+descriptor_or_dotted (Some attr) arcs = attribute_descriptor attr
+descriptor_or_dotted None arcs = if bytes_eq arcs email_address then codes "EMAIL" else dotted arcs
 
--- the word of the attribute type with these arcs, or their dotted text
+-- the descriptor of the attribute type with these arcs, or their dotted text
 abbrev pub type_word : List ℕ → List ℕ
-type_word arcs = word_or_dotted (attribute_type arcs) arcs
+type_word arcs = descriptor_or_dotted (attribute_type arcs) arcs
 
 -- a string's text, or the octets of another element after `#`
 abbrev pub value_text : AttributeValue → List ℕ

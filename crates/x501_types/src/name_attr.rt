@@ -5,7 +5,7 @@ ghost use Rattle.asn1_types.specs.ObjectIdentifier.{contents_of};
 ghost use Rattle.asn1_types.specs.Values.{arcs_of};
 ghost use Rattle.x501_types.specs.declared.name_attr.NameAttr.{NameAttr};
 ghost use Rattle.x501_types.specs.declared.name_attr.TheConstants.NameAttr as attributes;
-ghost use Rattle.x501_types.specs.NameAttr.{attribute_arc, attribute_arcs, attribute_word};
+ghost use Rattle.x501_types.specs.NameAttr.{attribute_arc, attribute_arcs, attribute_descriptor};
 
 use asn1_types::{ObjectIdentifier, oids};
 use der_core::is_same;
@@ -69,17 +69,17 @@ impl NameAttr {
         self.row().0
     }
 
-    /// The word that is printed for the type.
+    /// The descriptor that is printed for the type (RFC 4514 3).
     pub fn descriptor(self) -> &'static str
-        ensures { result.now ≡ attribute_word self }
+        ensures { result.now ≡ attribute_descriptor self }
     {
         self.row().1
     }
 
-    /// The contents octets of the identifier, and the word.
+    /// The contents octets of the identifier, and the descriptor.
     fn row(self) -> (&'static [u8], &'static str)
         ensures octets { result.0.now ≡ 0x55 ∷ 0x04 ∷ attribute_arc self ∷ [] }
-        ensures word { result.1.now ≡ attribute_word self }
+        ensures word { result.1.now ≡ attribute_descriptor self }
     {
         match self {
             NameAttr::CommonName => (oids::AT_COMMON_NAME, "CN"),

@@ -3,7 +3,7 @@
 ghost use Rattle.std.specs.Prelude.{◌≡◌, ◌≢◌, false, IsTrue, MatchResult};
 ghost use Rattle.der_core.specs.DerElement.{Primitive};
 ghost use Rattle.der_core.specs.Refusals.{RefusesShape};
-ghost use Rattle.asn1_types.specs.Values.{ia5_contents};
+ghost use Rattle.asn1_types.specs.Values.{ia5_contents, identifier_contents};
 ghost use Rattle.asn1_types.specs.declared.oid.ObjectIdentifier.{ObjectIdentifier};
 ghost use Rattle.asn1_types.specs.declared.ia5_string.Ia5String.{Ia5String};
 
@@ -39,9 +39,9 @@ pub(crate) fn read_text(alloc: Global, elem: Elem<'_>, tag: u8) -> Result<Ia5Str
 /// Whether the element is an OBJECT IDENTIFIER under this tag in place of its own.
 pub(crate) fn has_identifier(elem: Elem<'_>, tag: u8) -> bool
     ensures fits { IsTrue result
-        → (id : ObjectIdentifier) × (elem.entry.is.0 ≡ Primitive tag id.contents) }
+        → (id : ObjectIdentifier) × (elem.entry.is.0 ≡ Primitive tag (identifier_contents id)) }
     ensures unfit { result ≡ false → (id : ObjectIdentifier)
-        → elem.entry.is.0 ≢ Primitive tag id.contents }
+        → elem.entry.is.0 ≢ Primitive tag (identifier_contents id) }
 {
     match leaf_at(elem, tag) {
         Some(content) => ObjectIdentifier::is_content(content),
@@ -56,8 +56,8 @@ pub(crate) fn read_identifier(
     tag: u8,
 ) -> Result<ObjectIdentifier, DerError>
     ensures { MatchResult result
-        (λ id. elem.entry.is.0 ≡ Primitive tag id.contents)
-        (RefusesShape (λ (id : ObjectIdentifier). elem.entry.is.0 ≡ Primitive tag id.contents)) }
+        (λ id. elem.entry.is.0 ≡ Primitive tag (identifier_contents id))
+        (RefusesShape (λ (id : ObjectIdentifier). elem.entry.is.0 ≡ Primitive tag (identifier_contents id))) }
 {
     match leaf_at(elem, tag) {
         Some(content) => ObjectIdentifier::from_content(alloc, content),

@@ -22,7 +22,7 @@ use Rattle.x509_types.specs.declared.extension_kind.ExtensionKind.{ExtensionKind
 use Rattle.x509_types.specs.declared.extension_kind.ExtensionKind.TheVariants as kinds
 use Rattle.x509_types.specs.declared.extension_view.ExtensionView.{ExtensionView}
 use Rattle.x509_types.specs.declared.extension_view.ExtensionView.TheVariants as views
-use Rattle.x509_types.proofs.FirstExtensions.{kept_once}
+use Rattle.der_core.specs.Facts.Kept.{one_kept}
 use Rattle.x509_types.proofs.FirstOnes.{listed_each, had, lies}
 use Rattle.x509_core.specs.FirstValue.{HasFirst}
 use Rattle.x509_core.specs.SaidValues.{NamesKey, HasFlag, HasLength, SayTheSame}
@@ -94,7 +94,7 @@ authority_had : (f : CertificateElements) (c : Certificate) (key : List ℕ) →
 authority_had f c key are says =
     let h = held CE_AUTHORITY_KEY_IDENTIFIER.now f c says.0 are says.1 in
     let v = key_in says.1.octets h.extension.extn_value h.of_kind h.value in
-    let same = kept_once says.1.octets says.0 v.2.element says.1.holds (v.2.der, v.2.encoded) in
+    let same = one_kept says.1.octets says.0 v.2.element says.1.holds (v.2.der, v.2.encoded) in
     record {
       value = v.0;
       first = record { extension = h.extension; first = h.first; valued = v.1 };
@@ -129,7 +129,7 @@ had_constraints : (f : CertificateElements) (c : Certificate) (element : DerElem
 had_constraints f c element are v =
     let h = held CE_BASIC_CONSTRAINTS.now f c element are v in
     let b = constraints_in v.octets h.extension.extn_value h.of_kind h.value in
-    let same = kept_once v.octets element b.2.element v.holds (b.2.der, b.2.encoded) in
+    let same = one_kept v.octets element b.2.element v.holds (b.2.der, b.2.encoded) in
     record {
       value = b.0;
       first = record { extension = h.extension; first = h.first; valued = b.1 };

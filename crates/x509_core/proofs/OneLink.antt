@@ -16,8 +16,8 @@ use Rattle.key_core.proofs.SignatureIdentifiers.{same_algorithm}
 use Rattle.key_core.proofs.Verifications.{verify_one}
 use Rattle.key_types.specs.declared.algorithm.AlgorithmIdentifier.{AlgorithmIdentifier}
 use Rattle.key_types.specs.declared.key_info.SubjectPublicKeyInfo.{SubjectPublicKeyInfo}
+use Rattle.names_core.specs.Names.{name_of_sets}
 use Rattle.names_core.specs.declared.name.DirectoryName.{DirectoryName}
-use Rattle.x501_types.specs.declared.attribute.AttributeTypeAndValue.{AttributeTypeAndValue}
 use Rattle.x509_types.specs.CertificateElements.{CertificateElements}
 use Rattle.x509_core.specs.KeptCertificate.{KeptCertificate}
 use Rattle.x509_core.specs.Link.{IsToldOf, IsNoAuthority, IsTooDeep, IsNoParent, IsUnsupported, IsBadlySignedLink, signed_octets, link_rules}
@@ -58,12 +58,8 @@ window_once w f = λ a b p q. one_broken (window_rules w f) (early_once w f, (ov
 
 -- ---- names
 
-named : List (List AttributeTypeAndValue) → DirectoryName
-named sets = record { name = sets }
-
 same_name : (a b : DirectoryName) → a.name ≡ b.name → a ≡ b
-unfolding named
-same_name a b e = ap named e
+same_name a b e = ap name_of_sets e
 
 one_name : (kept : KeptCertificate) (a b : DirectoryName) → IsNameOf kept a → IsNameOf kept b → a ≡ b
 one_name kept a b p q = same_name a b (p ∙ sym q)

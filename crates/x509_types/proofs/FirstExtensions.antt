@@ -5,7 +5,7 @@ use Rattle.der_core.specs.Optional.{members_of}
 use Rattle.der_core.specs.DerElement.{DerElement, Primitive, Constructed, kids_of}
 use Rattle.der_core.specs.Kept.{IsKept}
 use Rattle.der_core.specs.Lent.{at_option}
-use Rattle.der_core.specs.Facts.Fronts.{formed_encoding_once}
+use Rattle.der_core.specs.Facts.Kept.{one_kept}
 use Rattle.der_core.specs.declared.elem.Elem.{Elem}
 use Rattle.x509_types.specs.CertificateElements.{CertificateElements}
 use Rattle.x509_types.specs.FirstExtension.{extensions_of, IsNamed, NoneIsNamed, IsFirstNamed, IsFirstValue, Says}
@@ -85,12 +85,9 @@ once_in oid (k ∷ before) (l ∷ before') after after' x y v w e f g p q =
 pub first_once : (oid : List ℕ) (elements : List DerElement) (v w : List ℕ) → IsFirstNamed oid elements v → IsFirstNamed oid elements w → v ≡ w
 first_once oid elements v w p q = once_in oid p.before q.before p.after q.after p.extension q.extension v w (sym p.are ∙ q.are) p.first q.first p.named q.named
 
-pub kept_once : (octets : List ℕ) (a b : DerElement) → IsKept octets a → IsKept octets b → a ≡ b
-kept_once octets a b p q = formed_encoding_once a b p.0.formed q.0.formed (sym p.1 ∙ q.1)
-
 pub value_once : (f : CertificateElements) (oid : List ℕ) (a b : DerElement) → IsFirstValue f oid a → IsFirstValue f oid b → a ≡ b
 value_once f oid a b p q =
-    kept_once q.octets a b (subst (λ (o : List ℕ). IsKept o a) (first_once oid (extensions_of f) p.octets q.octets p.first q.first) p.holds) q.holds
+    one_kept q.octets a b (subst (λ (o : List ℕ). IsKept o a) (first_once oid (extensions_of f) p.octets q.octets p.first q.first) p.holds) q.holds
 
 -- ---- values
 

@@ -7,7 +7,8 @@ use Rattle.der_core.specs.Facts.Grammars.{same_fields}
 use Rattle.asn1_types.specs.declared.oids.TheConstants.{CE_EXT_KEY_USAGE}
 use Rattle.x509_types.specs.FirstExtension.{IsNamed}
 use Rattle.x509_types.specs.Purposes.{HasSome, IsPurpose, HoldsPurpose, IsUsage, IsUsageFor}
-use Rattle.x509_types.proofs.FirstExtensions.{named_once, kept_once}
+use Rattle.der_core.specs.Facts.Kept.{one_kept}
+use Rattle.x509_types.proofs.FirstExtensions.{named_once}
 
 -- the element in the octets of an extended key usage is the one that it holds
 pub usage_held : {R : Type 0} (now : R → DerElement) (extension : DerElement) (octets : List ℕ) (r : Option R) → IsNamed CE_EXT_KEY_USAGE.now extension octets
@@ -16,7 +17,7 @@ usage_held now extension octets None named none = λ element usage. none element
 usage_held now extension octets (Some e) named holds = (octets, named, holds)
 
 usage_once : (extension a b : DerElement) → IsUsage extension a → IsUsage extension b → a ≡ b
-usage_once extension a b p q = kept_once q.0 a b (subst (λ (o : List ℕ). IsKept o a) (named_once CE_EXT_KEY_USAGE.now extension p.0 q.0 p.1 q.1) p.2) q.2
+usage_once extension a b p q = one_kept q.0 a b (subst (λ (o : List ℕ). IsKept o a) (named_once CE_EXT_KEY_USAGE.now extension p.0 q.0 p.1 q.1) p.2) q.2
 
 -- the purposes of the element that it holds are its own
 pub usage_holds : (oid : List ℕ) (extension element : DerElement) (t : Bool) → IsUsage extension element → (IsTrue t ↔ HoldsPurpose oid element) → IsTrue t ↔ IsUsageFor oid extension

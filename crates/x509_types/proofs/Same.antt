@@ -1,20 +1,17 @@
 -- Fields that may be left out are compared.
-use Rattle.std.proofs.Common.{◌≡◌, ◌↔◌, IsTrue, Bool, ℕ, List, Option, sym, ap, ◌∙◌}
+use Rattle.std.proofs.Common.{◌≡◌, ◌↔◌, IsTrue, Bool, ℕ, List, Option, ap}
 use Rattle.std.specs.Prelude.{bytes_eq}
 use Rattle.std.specs.Cmp.Lexicographic.{pointwise}
 use Rattle.std.specs.Option.{option_eq}
 use Rattle.std.proofs.lemmas.Slice.Eq.{bytes_eq-Decides}
 use Rattle.der_core.specs.Equality.{same_octets}
-use Rattle.der_core.specs.Facts.Equality.{octets_same, options_same, pointwise_same}
+use Rattle.der_core.specs.Facts.Equality.{by_test, octets_same, options_same, pointwise_same}
 use Rattle.x509_types.specs.Version.{version}
 use Rattle.x509_types.specs.Extension.{extension_octets}
 use Rattle.x509_types.specs.Facts.Extensions.{extensions_by_octets}
 use Rattle.x509_types.specs.Facts.Versions.{versions, versions_once}
 use Rattle.x509_types.specs.declared.extension.Extension.{Extension}
 use Rattle.x509_types.specs.declared.version.Version.{Version}
-
-by_test : (t u : Bool) (P : Type 0) → t ≡ u → (IsTrue u ↔ P) → IsTrue t ↔ P
-by_test t u P test same = (λ w. same.0 (sym test ∙ w), λ p. test ∙ same.1 p)
 
 pub same_versions : (a b : Option Version) (t : Bool) → t ≡ option_eq (same_octets version) a b → IsTrue t ↔ (a ≡ b)
 same_versions a b t test = by_test t _ (a ≡ b) test (options_same (same_octets version) (octets_same version versions_once versions.formed) a b)

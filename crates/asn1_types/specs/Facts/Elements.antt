@@ -63,6 +63,9 @@ leaf_once tag a b e = cc
 pub identifiers : IsGrammar (λ element value. element ≡ object_identifier value) object_identifier (λ value. [])
 identifiers = printed object_identifier (λ a b e. same_oid a b (leaf_once 0x06 _ _ e)) (λ value. ((omega arith, omega arith, omega arith), refl))
 
+pub same_identifier : (a b : ObjectIdentifier) → object_identifier a ≡ object_identifier b → a ≡ b
+same_identifier a b e = identifiers.once (object_identifier a) a b refl e
+
 pub integers : IsGrammar (λ element value. element ≡ integer value) integer (λ value. [])
 integers = printed integer (λ a b e. same_integer a b (leaf_once 0x02 _ _ e)) (λ value. ((omega arith, omega arith, omega arith), refl))
 

@@ -6,7 +6,7 @@ use Rattle.der_core.specs.Encoding.{IsWellFormed}
 use Rattle.der_core.specs.Each.{list_element}
 use Rattle.der_core.specs.Kept.{KeptElement}
 use Rattle.der_core.specs.Structure.{IsGrammar}
-use Rattle.der_core.specs.Facts.Grammars.{printed, list_once, each_formed}
+use Rattle.der_core.specs.Facts.Grammars.{printed, list_once, each_formed, set_formed}
 use Rattle.der_core.specs.Facts.Kept.{same_kept}
 use Rattle.key_types.specs.AlgorithmIdentifier.{algorithm_identifier}
 use Rattle.key_types.specs.Facts.Algorithms.{algorithms}
@@ -70,9 +70,6 @@ data_once a b same =
 
 datas_once : (a b : SignedData) → signed_data a ≡ signed_data b → a ≡ b
 datas_once a b e = data_once a b (same_data (signed_data_elements a) (signed_data_elements b) (told_value a) (told_value b) e)
-
-set_formed : {X : Type 0} (written : X → DerElement) → ((value : X) → IsWellFormed (written value)) → (values : List X) → IsWellFormed (list_element 0x31 written values)
-set_formed written formed values = ((omega arith, omega arith, omega arith), refl, each_formed written formed values)
 
 certificates_formed : (values : List CertificateChoices) → IsWellFormed (list_element 0xA0 certificate_choice values)
 certificates_formed values = ((omega arith, omega arith, omega arith), refl, each_formed certificate_choice certificate_choices.formed values)

@@ -1,11 +1,10 @@
 -- Values of attributes of entries: unlike ones of a kind have unlike elements, each well formed.
-use Rattle.std.proofs.Common.{◌≡◌, ℕ, List, refl, ap, arith}
+use Rattle.std.proofs.Common.{◌≡◌, ℕ, List, ap}
 use Rattle.der_core.specs.DerElement.{DerElement}
-use Rattle.der_core.specs.Each.{list_element}
 use Rattle.der_core.specs.Elements.{octet_string}
 use Rattle.der_core.specs.Encoding.{IsWellFormed}
 use Rattle.der_core.specs.Kept.{KeptElement}
-use Rattle.der_core.specs.Facts.Grammars.{each_formed, list_once}
+use Rattle.der_core.specs.Facts.Grammars.{list_once, set_formed}
 use Rattle.der_core.specs.Facts.Kept.{same_kept}
 use Rattle.der_core.specs.Facts.OctetStrings.{octet_strings}
 use Rattle.content_types.specs.HeldPurposesElement.{held_purposes}
@@ -27,9 +26,6 @@ ctl_values_once (values.UnknownReservedPropId126 x) (values.UnknownReservedPropI
 ctl_values_once (values.UnknownReservedPropId127 x) (values.UnknownReservedPropId127 y) kind e = ap values.UnknownReservedPropId127 (list_once 0x31 held_purposes helds_once x y e)
 ctl_values_once (values.Other x) (values.Other y) kind e = ap values.Other (list_once 0x31 kept_element same_kept x y e)
 ctl_values_once a b kind e = absurd cc
-
-set_formed : {X : Type 0} (written : X → DerElement) → ((value : X) → IsWellFormed (written value)) → (values : List X) → IsWellFormed (list_element 0x31 written values)
-set_formed written formed values = ((omega arith, omega arith, omega arith), refl, each_formed written formed values)
 
 pub ctl_values_formed : (vs : CTLEntryAttributeValues) → IsWellFormed (ctl_values vs)
 ctl_values_formed (values.CertSubjectNameMd5HashPropId x) = set_formed octet_string octet_strings.formed x

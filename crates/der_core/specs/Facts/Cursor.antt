@@ -7,7 +7,7 @@ use Rattle.der_core.specs.DerElement.{DerElements}
 use Rattle.der_core.specs.Encoding.{encodings, most_levels}
 use Rattle.der_core.specs.Facts.Fronts.{same_kids}
 use Rattle.der_core.specs.Facts.InBounds.{octets-set, AreWellFormed-prop, AreShort-prop}
-use Rattle.der_core.specs.Reading.{AreDerWithin, HasElements}
+use Rattle.der_core.specs.Reading.{AreDerWithin, HasElementsWithin}
 use Rattle.der_core.specs.Cursor.{WereTested}
 
 AreDerWithin-prop : (levels : ℕ) (elements : DerElements) → IsProp (AreDerWithin levels elements)
@@ -17,16 +17,16 @@ AreDerWithin-prop levels elements = hlevel (le_prop, AreWellFormed-prop elements
 abbrev Nested : List ℕ → Type 0
 Nested octets = (elements : DerElements) × (AreDerWithin (most_levels - 1) elements × (octets ≡ encodings elements))
 
-abbrev nested : (octets : List ℕ) → HasElements (most_levels - 1) octets → Nested octets
+abbrev nested : (octets : List ℕ) → HasElementsWithin (most_levels - 1) octets → Nested octets
 nested octets has = (has.0, (has.1, has.2))
 
-abbrev flat : (octets : List ℕ) → Nested octets → HasElements (most_levels - 1) octets
+abbrev flat : (octets : List ℕ) → Nested octets → HasElementsWithin (most_levels - 1) octets
 flat octets has = (has.0, has.1.0, has.1.1)
 
 are_prop : (octets : List ℕ) (elements : DerElements) → IsProp (AreDerWithin (most_levels - 1) elements × (octets ≡ encodings elements))
 are_prop octets elements = ×_prop (AreDerWithin-prop (most_levels - 1) elements) (octets-set octets (encodings elements))
 
-inner_once : (octets : List ℕ) → IsProp (HasElements (most_levels - 1) octets)
+inner_once : (octets : List ℕ) → IsProp (HasElementsWithin (most_levels - 1) octets)
 inner_once octets a b =
     let same : nested octets a ≡ nested octets b = Σ_prop_path (are_prop octets) (same_kids a.0 b.0 a.1.formed b.1.formed a.1.short b.1.short (sym a.2 ∙ b.2)) in
     ap (flat octets) same

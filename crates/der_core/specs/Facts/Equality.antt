@@ -20,6 +20,9 @@ same_tests true false p q = absurd (let no : IsTrue false = q.1 (p.0 refl) in cc
 same_tests false true p q = absurd (let no : IsTrue false = p.1 (q.0 refl) in cc)
 same_tests false false p q = refl
 
+pub by_test : (t u : Bool) (P : Type 0) → t ≡ u → (IsTrue u ↔ P) → IsTrue t ↔ P
+by_test t u P test same = (λ w. same.0 (sym test ∙ w), λ p. test ∙ same.1 p)
+
 -- A test that holds exactly where two values are the same is that of their octets.
 pub octets_decide : {X : Type 0} (written : X → DerElement) → ((a b : X) → written a ≡ written b → a ≡ b) → ((value : X) → IsWellFormed (written value))
     → (a b : X) (test : Bool) → (IsTrue test ↔ (a ≡ b)) → test ≡ bytes_eq (encoding (written a)) (encoding (written b))

@@ -58,6 +58,9 @@ pub each_formed : {X : Type 0} (written : X → DerElement) → ((value : X) →
 each_formed written formed [] = tt
 each_formed written formed (v ∷ values) = (formed v, each_formed written formed values)
 
+pub set_formed : {X : Type 0} (written : X → DerElement) → ((value : X) → IsWellFormed (written value)) → (values : List X) → IsWellFormed (list_element 0x31 written values)
+set_formed written formed values = ((omega arith, omega arith, omega arith), refl, each_formed written formed values)
+
 same_list : (t : DerElement) (tag : ℕ) (kids kids' : List DerElement) → t ≡ Constructed tag (row kids) → t ≡ Constructed tag (row kids') → kids ≡ kids'
 same_list t tag kids kids' is is' =
     let same : row kids ≡ row kids' = cc in

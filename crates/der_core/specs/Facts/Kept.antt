@@ -27,5 +27,9 @@ kept_of element der = record { element = element; der = der }
 pub same_kept : (a b : KeptElement) → a.element ≡ b.element → a ≡ b
 same_kept a b e = subst (λ (x : DerElement). (h : IsDer x) → a ≡ kept_of x h) e (λ h. ap (kept_of a.element) (IsDerWithin-prop most_levels a.element a.der h)) b.der
 
+-- octets are kept as one element
+pub one_kept : (octets : List ℕ) (a b : DerElement) → IsKept octets a → IsKept octets b → a ≡ b
+one_kept octets a b p q = same_encoded a b p.0 q.0 (sym p.1 ∙ q.1)
+
 abbrev pub coded_kept : Coded KeptElement
 coded_kept = record { code = λ kept. stored kept.element; inj = λ a b e. same_kept a b (stored_inj a.element b.element e) }

@@ -42,6 +42,9 @@ pub none_inner : {X : Type 0} (values : List X) → flat_map (λ (value : X). no
 none_inner [] = refl
 none_inner (v ∷ values) = none_inner values
 
+pub none_refused : {X : Type 0} (values : List X) (e : DerError) → RefusesInner (flat_map (λ (value : X). no_element) values) e → RefusesInner [] e
+none_refused values e refused = subst (λ inner. RefusesInner inner e) (none_inner values) refused
+
 -- a list of values without inner elements is written as it is
 pub plain_list : {X : Type 0} (written : X → DerElement) (tag : ℕ) (values whole : List X) → values ≡ whole
     → (r : Result DerElement DerError) → MatchResult r (IsWrittenList tag written (λ value. no_element) values) (RefusesInner (flat_map (λ value. no_element) values))

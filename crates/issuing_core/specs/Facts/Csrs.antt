@@ -5,7 +5,7 @@ use Rattle.std.proofs.Common.{ap, sym, subst, refl, ◌∙◌}
 use Rattle.std.proofs.Math.Logic.{∥∥₁_elim}
 use mathlib.Core.HLevel.{Σ_prop_path}
 use Rattle.der_core.specs.DerElement.{DerElement}
-use Rattle.der_core.specs.Encoding.{IsDer}
+use Rattle.der_core.specs.Encoding.{IsDer, most_levels}
 use Rattle.der_core.specs.Facts.Codes.{stored, stored_inj, coded_element, octets_code}
 use Rattle.der_core.specs.Facts.InBounds.{IsDerWithin-prop}
 use Rattle.asn1_types.specs.Elements.{bit_string}
@@ -24,7 +24,7 @@ spelled-prop : (info : DerElement) (r : CertificationRequest) → IsProp (∥ Is
 spelled-prop info r x y = squash₁ x y
 
 IsAroundInfo-prop : (element : DerElement) (r : CertificationRequest) (info : DerElement) → IsProp (IsAroundInfo element r info)
-IsAroundInfo-prop element r info = hlevel (same_element element (request_of info r), IsDerWithin-prop 64 (request_of info r), spelled-prop info r)
+IsAroundInfo-prop element r info = hlevel (same_element element (request_of info r), IsDerWithin-prop most_levels (request_of info r), spelled-prop info r)
 
 -- an element is around one that is signed
 pub info_once : (a b : DerElement) (r s : CertificationRequest) → request_of a r ≡ request_of b s → a ≡ b
@@ -53,7 +53,7 @@ kept_of info r der spelled = record { info = info; request = r; der = der; spell
 
 same_facts : (a : KeptRequest) (der : IsDer (kept_request a)) (spelled : ∥ IsRequestInfo a.info a.request.certification_request_info ∥₁) → a ≡ kept_of a.info a.request der spelled
 same_facts a der spelled =
-    ap (λ (d : IsDer (kept_request a)). kept_of a.info a.request d a.spelled) (IsDerWithin-prop 64 (kept_request a) a.der der)
+    ap (λ (d : IsDer (kept_request a)). kept_of a.info a.request d a.spelled) (IsDerWithin-prop most_levels (kept_request a) a.der der)
     ∙ ap (λ (s : ∥ IsRequestInfo a.info a.request.certification_request_info ∥₁). kept_of a.info a.request der s) (squash₁ a.spelled spelled)
 
 same_value : (a : KeptRequest) (r : CertificationRequest) → a.request ≡ r → (der : IsDer (request_of a.info r)) (spelled : ∥ IsRequestInfo a.info r.certification_request_info ∥₁) → a ≡ kept_of a.info r der spelled

@@ -60,8 +60,8 @@ impl PrivateKey {
         }
     }
 
-    /// The key of an elliptic curve in octets as `from_ec_der` reads it, but on this curve, whatever
-    /// curve stands in the octets.
+    /// The key of an elliptic curve in octets as `from_ec_der` reads it, but on this curve,
+    /// whatever curve stands in the octets.
     pub fn from_ec_der_with_curve<S: Scheme>(
         alloc: Global,
         der: &[u8],

@@ -7,7 +7,7 @@ use Rattle.der_core.specs.Kept.{KeptElement}
 use Rattle.der_core.specs.Lent.{kept_option}
 use Rattle.der_core.specs.Structure.{IsGrammar}
 use Rattle.der_core.specs.Facts.Grammars.{printed, same_fields}
-use Rattle.der_core.specs.Facts.Kept.{same_kept}
+use Rattle.der_core.specs.Facts.Lent.{kept_option_once}
 use Rattle.asn1_types.specs.Elements.{object_identifier, integer}
 use Rattle.asn1_types.specs.Facts.Elements.{identifiers, integers}
 use Rattle.asn1_types.specs.declared.oid.ObjectIdentifier.{ObjectIdentifier}
@@ -17,19 +17,13 @@ use Rattle.key_types.specs.RsaPublicKey.{rsa_public_key}
 use Rattle.key_types.specs.declared.algorithm.AlgorithmIdentifier.{AlgorithmIdentifier}
 use Rattle.key_types.specs.declared.public_key.RsaPublicKey.{RsaPublicKey}
 
-pub option_once : (a b : Option KeptElement) → option_to_list (kept_option a) ≡ option_to_list (kept_option b) → a ≡ b
-option_once None None e = refl
-option_once None (Some y) e = absurd cc
-option_once (Some x) None e = absurd cc
-option_once (Some x) (Some y) e = let same : x.element ≡ y.element = cc in ap Some (same_kept x y same)
-
 algorithms_once : (a b : AlgorithmIdentifier) → algorithm_identifier a ≡ algorithm_identifier b → a ≡ b
 algorithms_once a b e =
     let kids = same_fields (object_identifier a.oid ∷ option_to_list (kept_option a.parameters)) (object_identifier b.oid ∷ option_to_list (kept_option b.parameters)) e in
     let first : object_identifier a.oid ≡ object_identifier b.oid = cc in
     let others : option_to_list (kept_option a.parameters) ≡ option_to_list (kept_option b.parameters) = cc in
     ap (λ (o : ObjectIdentifier). record { oid = o; parameters = a.parameters }) (identifiers.once (object_identifier a.oid) a.oid b.oid refl first)
-    ∙ ap (λ (p : Option KeptElement). record { oid = b.oid; parameters = p }) (option_once a.parameters b.parameters others)
+    ∙ ap (λ (p : Option KeptElement). record { oid = b.oid; parameters = p }) (kept_option_once a.parameters b.parameters others)
 
 pub option_formed : (a : Option KeptElement) → AreWellFormed (row (option_to_list (kept_option a)))
 option_formed None = tt

@@ -12,7 +12,8 @@ use Rattle.request_types.specs.RequestInfo.{asked_of}
 use Rattle.x509_types.specs.Facts.ToldExtensions.{number_of, AreSmall}
 use Rattle.x509_types.specs.Facts.ToldRequests.{kinds_of, split_kinds, same_members, small_append}
 use Rattle.x509_types.specs.Facts.AttributeLists.{small_asked}
-use Rattle.x509_types.specs.Facts.Attributes.{same_two, same_id, same_kind, attributes_told}
+use Rattle.asn1_types.specs.Facts.Elements.{same_identifier}
+use Rattle.x509_types.specs.Facts.Attributes.{same_two, same_kind, attributes_told}
 use Rattle.x509_types.specs.declared.attribute.Attribute.{Attribute}
 use Rattle.x509_types.specs.declared.attribute_values.AttributeValues.{AttributeValues}
 use Rattle.x509_types.specs.declared.attribute_values.AttributeValues.TheVariants as values
@@ -48,7 +49,7 @@ lists_told (x ∷ a) (y ∷ b) k e =
     let first : attribute x ≡ attribute y = cc in
     let others : map attribute a ≡ map attribute b = cc in
     let parts = same_two _ _ _ _ first in
-    let kinds = split_asked x.value y.value (asked_in a) (asked_in b) (same_kind x y (same_id x.ty y.ty parts.0)) parts.1 k in
+    let kinds = split_asked x.value y.value (asked_in a) (asked_in b) (same_kind x y (same_identifier x.ty y.ty parts.0)) parts.1 k in
     ap (λ v. v ∷ a) (attributes_told x y kinds.0 first) ∙ ap (λ vs. y ∷ vs) (lists_told a b kinds.1 others)
 
 -- an element of the tag has its members once

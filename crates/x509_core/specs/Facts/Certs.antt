@@ -4,7 +4,7 @@ use Rattle.std.specs.Coded.{Coded, Coded-set}
 use Rattle.std.proofs.Common.{ap, sym, subst, ◌∙◌}
 use mathlib.Core.HLevel.{Σ_prop_path}
 use Rattle.der_core.specs.DerElement.{DerElement}
-use Rattle.der_core.specs.Encoding.{IsDer}
+use Rattle.der_core.specs.Encoding.{IsDer, most_levels}
 use Rattle.der_core.specs.Facts.Codes.{stored, stored_inj, coded_element}
 use Rattle.der_core.specs.Facts.InBounds.{IsDerWithin-prop}
 use Rattle.x509_types.specs.CertificateElements.{CertificateElements, certificate_of, AreCertificateFields}
@@ -19,7 +19,7 @@ same_element : (a b : DerElement) → IsProp (a ≡ b)
 same_element a b = Coded-set coded_element a b
 
 IsAround-prop : (element : DerElement) (c : Certificate) (f : CertificateElements) → IsProp (IsAround element c f)
-IsAround-prop element c f = hlevel (same_element element (certificate_of f), IsDerWithin-prop 64 (certificate_of f), spelled-prop f c)
+IsAround-prop element c f = hlevel (same_element element (certificate_of f), IsDerWithin-prop most_levels (certificate_of f), spelled-prop f c)
 
 pub HasFields-prop : (element : DerElement) (c : Certificate) → IsProp (HasFields element c)
 HasFields-prop element c a b = Σ_prop_path (IsAround-prop element c) (parts_once a.0 b.0 (sym a.1.0 ∙ b.1.0))
@@ -29,7 +29,7 @@ kept_of f c der spelled = record { elements = f; certificate = c; der = der; spe
 
 same_facts : (a : KeptCertificate) (der : IsDer (certificate_of a.elements)) (spelled : ∥ AreCertificateFields a.elements a.certificate ∥₁) → a ≡ kept_of a.elements a.certificate der spelled
 same_facts a der spelled =
-    ap (λ (d : IsDer (certificate_of a.elements)). kept_of a.elements a.certificate d a.spelled) (IsDerWithin-prop 64 (certificate_of a.elements) a.der der)
+    ap (λ (d : IsDer (certificate_of a.elements)). kept_of a.elements a.certificate d a.spelled) (IsDerWithin-prop most_levels (certificate_of a.elements) a.der der)
     ∙ ap (λ (s : ∥ AreCertificateFields a.elements a.certificate ∥₁). kept_of a.elements a.certificate der s) (squash₁ a.spelled spelled)
 
 same_value : (a : KeptCertificate) (c : Certificate) (der : IsDer (certificate_of a.elements)) (spelled : ∥ AreCertificateFields a.elements c ∥₁) → a ≡ kept_of a.elements c der spelled

@@ -13,7 +13,7 @@ use Rattle.der_core.specs.Facts.Kept.{same_kept}
 use Rattle.der_core.specs.Facts.Lists.{list_printed}
 use Rattle.der_core.specs.Facts.OctetStrings.{octet_strings}
 use Rattle.asn1_types.specs.Elements.{object_identifier}
-use Rattle.asn1_types.specs.Facts.Elements.{identifiers}
+use Rattle.asn1_types.specs.Facts.Elements.{identifiers, same_identifier}
 use Rattle.asn1_types.specs.declared.oid.ObjectIdentifier.{ObjectIdentifier}
 use Rattle.x509_types.specs.TbsCertificate.{IsExtensions, extensions, inner_extensions}
 use Rattle.x509_types.specs.AttributeKind.{attribute_number}
@@ -81,14 +81,11 @@ values_formed (values.Raw x) = kept_sets.formed x
 
 -- ---- values by what is written for them
 
-same_id : (a b : ObjectIdentifier) → object_identifier a ≡ object_identifier b → a ≡ b
-same_id a b e = identifiers.once (object_identifier a) a b refl e
-
 same_digest : (a b : List ℕ) → octet_string a ≡ octet_string b → a ≡ b
 same_digest a b e = cc
 
 pub values_told : (a b : AttributeValues) → kind_of_values a ≡ kind_of_values b → asked_kinds a ≡ asked_kinds b → attribute_values a ≡ attribute_values b → a ≡ b
-values_told (values.ContentType x) (values.ContentType y) kind asked e = ap values.ContentType (list_once 0x31 object_identifier same_id x y e)
+values_told (values.ContentType x) (values.ContentType y) kind asked e = ap values.ContentType (list_once 0x31 object_identifier same_identifier x y e)
 values_told (values.MessageDigest x) (values.MessageDigest y) kind asked e = ap values.MessageDigest (list_once 0x31 octet_string same_digest x y e)
 values_told (values.Extensions x) (values.Extensions y) kind asked e = ap values.Extensions (requests_told x y asked e)
 values_told (values.Raw x) (values.Raw y) kind asked e = ap values.Raw (list_once 0x31 kept_element same_kept x y e)

@@ -8,7 +8,7 @@ use Rattle.der_core.specs.Facts.Fronts.{formed_encoding_once}
 use Rattle.der_core.specs.Facts.Grammars.{lists}
 use Rattle.asn1_types.specs.Values.{identifier_contents}
 use Rattle.asn1_types.specs.Elements.{object_identifier}
-use Rattle.asn1_types.specs.Facts.Elements.{identifiers}
+use Rattle.asn1_types.specs.Facts.Elements.{identifiers, same_identifier}
 use Rattle.asn1_types.specs.declared.oid.ObjectIdentifier.{ObjectIdentifier}
 use Rattle.x509_types.specs.AttributeKind.{named_attribute}
 use Rattle.x509_types.specs.AttributeValues.{kind_of_values, attribute_values, AreAttributeValues, inner_values, asked_kinds}
@@ -29,9 +29,6 @@ same_attribute a b ty value =
     (λ h. ap (attribute_with a.ty a.value) (same_attribute_kinds (kind_of_values a.value) (named_attribute (identifier_contents a.ty)) a.fits h)) in
     subst (λ (i : ObjectIdentifier). (h : kind_of_values b.value ≡ named_attribute (identifier_contents i)) → a ≡ attribute_with i b.value h) ty with_value b.fits
 
-pub same_id : (a b : ObjectIdentifier) → object_identifier a ≡ object_identifier b → a ≡ b
-same_id a b e = identifiers.once (object_identifier a) a b refl e
-
 -- attributes of one identifier have values of one kind
 pub same_kind : (a b : Attribute) → a.ty ≡ b.ty → kind_of_values a.value ≡ kind_of_values b.value
 same_kind a b ty = a.fits ∙ ap (λ (i : ObjectIdentifier). named_attribute (identifier_contents i)) ty ∙ sym b.fits
@@ -43,13 +40,13 @@ same_two s t x y e = (cc, cc)
 attributes_once : (element : DerElement) (a b : Attribute) → IsAttribute element a → IsAttribute element b → a ≡ b
 attributes_once element a b p q =
     let same = same_two (object_identifier a.ty) p.values (object_identifier b.ty) q.values (sym p.is ∙ q.is) in
-    let ty = same_id a.ty b.ty same.0 in
+    let ty = same_identifier a.ty b.ty same.0 in
     same_attribute a b ty (values_once q.values a.value b.value (same_kind a b ty) (subst (λ (v : DerElement). AreAttributeValues v a.value) same.1 p.spelled) q.spelled)
 
 pub attributes_told : (a b : Attribute) → asked_kinds a.value ≡ asked_kinds b.value → attribute a ≡ attribute b → a ≡ b
 attributes_told a b asked e =
     let same = same_two (object_identifier a.ty) (attribute_values a.value) (object_identifier b.ty) (attribute_values b.value) e in
-    let ty = same_id a.ty b.ty same.0 in
+    let ty = same_identifier a.ty b.ty same.0 in
     same_attribute a b ty (values_told a.value b.value (same_kind a b ty) asked same.1)
 
 pub attributes_formed : (a : Attribute) → IsWellFormed (attribute a)

@@ -11,7 +11,7 @@ use Rattle.der_core.specs.Default.{IsDefaultFalse}
 use Rattle.der_core.specs.Structure.{IsGrammar}
 use Rattle.asn1_types.specs.Values.{identifier_contents}
 use Rattle.asn1_types.specs.Elements.{object_identifier}
-use Rattle.asn1_types.specs.Facts.Elements.{identifiers}
+use Rattle.asn1_types.specs.Facts.Elements.{identifiers, same_identifier}
 use Rattle.asn1_types.specs.declared.oid.ObjectIdentifier.{ObjectIdentifier}
 use Rattle.der_core.specs.Default.{default_false}
 use Rattle.x509_types.specs.ExtensionFields.{IsExtensionOf}
@@ -50,13 +50,10 @@ same_extension a b id critical view =
     ∙ ap (extension_of a.extn_id b.critical a.extn_value) (IsOfKind-prop (named_kind (identifier_contents a.extn_id)) a.extn_value a.agrees h)) in
     subst (λ (i : ObjectIdentifier). (h : IsOfKind (named_kind (identifier_contents i)) b.extn_value) → a ≡ extension_of i b.critical b.extn_value h) id with_view b.agrees
 
-same_id : (a b : ObjectIdentifier) → object_identifier a ≡ object_identifier b → a ≡ b
-same_id a b e = identifiers.once (object_identifier a) a b refl e
-
 extensions_once : (element : DerElement) (a b : Extension) → IsExtension element a → IsExtension element b → a ≡ b
 extensions_once element a b p q =
     let fields = fields_once element (object_identifier a.extn_id) (object_identifier b.extn_id) a.critical b.critical p.octets q.octets p.fields q.fields in
-    let id = same_id a.extn_id b.extn_id fields.0 in
+    let id = same_identifier a.extn_id b.extn_id fields.0 in
     let kind = named_kind (identifier_contents b.extn_id) in
     let agrees : IsOfKind kind a.extn_value = subst (λ (i : ObjectIdentifier). IsOfKind (named_kind (identifier_contents i)) a.extn_value) id a.agrees in
     same_extension a b id fields.1 (values_once kind q.octets a.extn_value b.extn_value (agrees, subst (λ (o : List ℕ). IsValueIn o a.extn_value) fields.2 p.value) (b.agrees, q.value))
@@ -70,7 +67,7 @@ pub extensions_told : (a b : Extension) → kind_of_view a.extn_value ≡ kind_o
 extensions_told a b kind e =
     let fields = fields_once (extension b) (object_identifier a.extn_id) (object_identifier b.extn_id) a.critical b.critical (value_octets a.extn_value) (value_octets b.extn_value)
     (subst (λ (x : DerElement). IsExtensionOf x (object_identifier a.extn_id) a.critical (value_octets a.extn_value)) e (written_fields a)) (written_fields b) in
-    same_extension a b (same_id a.extn_id b.extn_id fields.0) fields.1 (values_by_octets a.extn_value b.extn_value kind fields.2)
+    same_extension a b (same_identifier a.extn_id b.extn_id fields.0) fields.1 (values_by_octets a.extn_value b.extn_value kind fields.2)
 
 flag_formed : (critical : Bool) (octets : List ℕ) → AreWellFormed (row (default_false critical ++ Primitive 0x04 octets ∷ []))
 flag_formed true octets = (((omega arith, omega arith, omega arith), refl), (((omega arith, omega arith, omega arith), refl), tt))

@@ -8,7 +8,7 @@ use Rattle.der_core.specs.Kept.{KeptElement}
 use Rattle.der_core.specs.Lent.{kept_option}
 use Rattle.der_core.specs.Structure.{IsGrammar, BeginsOtherwise}
 use Rattle.der_core.specs.Facts.Grammars.{printed, same_fields}
-use Rattle.der_core.specs.Facts.Kept.{same_kept}
+use Rattle.der_core.specs.Facts.Lent.{kept_option_once}
 use Rattle.x509_values.specs.AuthorityIssuer.{HasIssuerTag}
 use Rattle.der_core.specs.Elements.{optional_leaf}
 use Rattle.x509_values.specs.AuthorityKeyIdentifier.{authority_key_identifier}
@@ -30,12 +30,6 @@ no_key None None tagged = tt
 no_key None (Some content) tagged = λ e. omega (arith, e)
 no_key (Some issuer) serial tagged = λ e. omega (arith, e, tagged)
 
-issuers_once : (a b : Option KeptElement) → option_to_list (kept_option a) ≡ option_to_list (kept_option b) → a ≡ b
-issuers_once None None e = refl
-issuers_once None (Some y) e = absurd cc
-issuers_once (Some x) None e = absurd cc
-issuers_once (Some x) (Some y) e = let same : x.element ≡ y.element = cc in ap Some (same_kept x y same)
-
 abbrev authority_with : (key : Option (List ℕ)) (issuer : Option KeptElement) (serial : Option (List ℕ)) → HasIssuerTag (kept_option issuer) → AuthorityKeyIdentifier
 authority_with key issuer serial tagged = record { key_identifier = key; issuer = issuer; serial_number = serial; tagged = tagged }
 
@@ -55,7 +49,7 @@ authorities_once a b e =
     let kids = same_fields (optional_leaf 0x80 a.key_identifier ++ (i ++ s)) (optional_leaf 0x80 b.key_identifier ++ (j ++ t)) e in
     let keys = leaf_split 0x80 a.key_identifier b.key_identifier (i ++ s) (j ++ t) (λ none. no_key (kept_option a.issuer) a.serial_number a.tagged) (λ none. no_key (kept_option b.issuer) b.serial_number b.tagged) kids in
     let issuers = split 0xA1 i j s t (issuer_field (kept_option a.issuer) a.tagged) (issuer_field (kept_option b.issuer) b.tagged) (λ none. no_issuer a.serial_number) (λ none. no_issuer b.serial_number) keys.1 in
-    same_authority a b keys.0 (issuers_once a.issuer b.issuer issuers.0) (leaf_once 0x82 a.serial_number b.serial_number issuers.1)
+    same_authority a b keys.0 (kept_option_once a.issuer b.issuer issuers.0) (leaf_once 0x82 a.serial_number b.serial_number issuers.1)
 
 serial_formed : (serial : Option (List ℕ)) → AreWellFormed (row (optional_leaf 0x82 serial))
 serial_formed None = tt

@@ -3,7 +3,7 @@ use Rattle.std.proofs.Common.{◌≡◌, List, [], refl, ap, arith}
 use Rattle.der_core.specs.Structure.{IsGrammar}
 use Rattle.der_core.specs.Facts.Grammars.{printed, list_once, each_formed}
 use Rattle.asn1_types.specs.Elements.{bit_string, object_identifier}
-use Rattle.asn1_types.specs.Facts.Elements.{bit_strings, identifiers}
+use Rattle.asn1_types.specs.Facts.Elements.{bit_strings, identifiers, same_identifier}
 use Rattle.asn1_types.specs.declared.bit_string.BitString.{BitString}
 use Rattle.asn1_types.specs.declared.oid.ObjectIdentifier.{ObjectIdentifier}
 use Rattle.x509_values.specs.KeyUsage.{key_usage}
@@ -17,11 +17,8 @@ usages_once a b e = ap (λ (x : BitString). record { bits = x }) (bit_strings.on
 pub key_usages : IsGrammar (λ element usage. element ≡ key_usage usage) key_usage (λ usage. [])
 key_usages = printed key_usage usages_once (λ usage. bit_strings.formed usage.bits)
 
-identifiers_once : (a b : ObjectIdentifier) → object_identifier a ≡ object_identifier b → a ≡ b
-identifiers_once a b e = identifiers.once (object_identifier a) a b refl e
-
 extended_once : (a b : ExtendedKeyUsage) → extended_key_usage a ≡ extended_key_usage b → a ≡ b
-extended_once a b e = ap (λ (x : List ObjectIdentifier). record { purposes = x }) (list_once 0x30 object_identifier identifiers_once a.purposes b.purposes e)
+extended_once a b e = ap (λ (x : List ObjectIdentifier). record { purposes = x }) (list_once 0x30 object_identifier same_identifier a.purposes b.purposes e)
 
 pub extended_key_usages : IsGrammar (λ element usage. element ≡ extended_key_usage usage) extended_key_usage (λ usage. [])
 extended_key_usages = printed extended_key_usage extended_once (λ usage. ((omega arith, omega arith, omega arith), refl, each_formed object_identifier identifiers.formed usage.purposes))

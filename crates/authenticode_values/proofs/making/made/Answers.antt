@@ -1,4 +1,4 @@
-use Rattle.std.proofs.Common.{List, Err, sym, ap, subst, ◌∙◌}
+use Rattle.std.proofs.Common.{List, Err, inl, sym, ap, subst, ◌∙◌}
 use Rattle.std.proofs.lemmas.Result.{err_from_is_err_and}
 use Rattle.std.specs.Option.{option_copied}
 use Rattle.cms_types.specs.OpusInfo.{opus_info}
@@ -24,7 +24,7 @@ returns-in_err-algorithm-clause-answer g c =
     let p = err_from_is_err_and c.from_residual-in_err-algorithm.result c.from_residual-in_err-algorithm.ensures.1 in
     let name = option_copied c.args.program_name in
     rw (p.1, p.2) (no_hash (g.S.Scheme.signs c.args.scheme.now) (fields_of c.args.pkcs7.now) name (program_of c.args.hash_algo c.args.file_hash.now name) c.args.private_key.now c.in_err-algorithm.field-0.0
-    c.in_ok-opus.ensures.answer.1 c.in_err-algorithm.ensures.answer)
+    c.in_ok-opus.ensures.answer.1 (inl c.in_err-algorithm.ensures.answer))
 
 pub returns-in_err-first-clause-answer : goal.returns-in_err-first-clause-answer
 returns-in_err-first-clause-answer g c =

@@ -1,6 +1,6 @@
 use Rattle.std.proofs.lemmas.Result.{err_from_is_err_and}
 use Rattle.cms_types.proofs.raw_unsigned.write_attribute.Goals as goal
-use Rattle.content_types.proofs.CtlHeld.{none_refused}
+use Rattle.der_core.specs.Facts.Lists.{none_refused}
 
 pub returns-in_err-push_values : goal.returns-in_err-push_values
 returns-in_err-push_values c =

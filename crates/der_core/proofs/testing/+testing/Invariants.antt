@@ -1,5 +1,5 @@
 use Rattle.std.proofs.Common.{◌≡◌, ℕ, ◌+◌, ◌*◌, ◌≤◌, length}
-use Rattle.der_core.specs.Reading.{HasElements}
+use Rattle.der_core.specs.Reading.{HasElementsWithin}
 use Rattle.der_core.specs.declared.fault.DerFault.{DerFault}
 use Rattle.der_core.specs.Facts.InnerFault.{KidsFault}
 use Rattle.der_core.proofs.testing.+testing.Given as goal
@@ -14,7 +14,7 @@ decreases-test_elements l = 2 * l.levels + 1
 abbrev pub invariant-test_elements-loop-rest : goal.invariant-test_elements-loop-rest
 invariant-test_elements-loop-rest l = record {
   shorter : length l.rest ≤ length l.octets;
-  elements : HasElements l.levels l.rest → HasElements l.levels l.octets;
+  elements : HasElementsWithin l.levels l.rest → HasElementsWithin l.levels l.octets;
   goes_on : (k n : ℕ) (fault : DerFault) → n + length l.rest ≡ k + length l.octets → KidsFault l.levels l.rest k fault → KidsFault l.levels l.octets n fault;
 }
 

@@ -1,5 +1,5 @@
 use Rattle.std.proofs.lemmas.Result.{err_from_is_err_and}
-use Rattle.content_types.proofs.CtlHeld.{none_refused}
+use Rattle.der_core.specs.Facts.Lists.{none_refused}
 use Rattle.content_types.proofs.ctl_entry.CTLEntryStructure.write.Goals as goal
 
 pub returns-in_err-write_list : goal.returns-in_err-write_list
