@@ -81,11 +81,11 @@ pub fn print_certificate(alloc: Global, cert: &Cert, octets: &[u8], line: &mut L
     line.shown(&cert.extensions().len());
 }
 
-/// Whether a certificate and a copy of it are equal, and have these octets.
+/// Whether a certificate and a copy of it are equal, and have these octets and one key.
 fn is_copied(alloc: Global, cert: &Cert, octets: &[u8]) -> Result<bool, DerError> {
     let copy = cert.try_clone(alloc)?;
-    let has_octets = has_octets(alloc, &copy, octets);
-    Ok(equals(copy, cert) && has_octets)
+    let is_equal = copy == *cert && has_octets(alloc, &copy, octets);
+    Ok(equals(copy.into_public_key(), cert.public_key()) && is_equal)
 }
 
 /// Whether the octets that are written for the value are these, else why there are none.

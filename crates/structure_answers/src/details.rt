@@ -4,7 +4,7 @@ use asn1_types::{BitString, Ia5String, IntegerAsn1, ObjectIdentifier};
 use key_core::{PrivateKeyInfo, PrivateKeyValue};
 use names_core::DirectoryName;
 use private_key_types::{ECPrivateKey, RsaPrivateKey};
-use row_answers::Line;
+use row_answers::{Line, Unanswered};
 use std::alloc::Global;
 use x509_types::{
     AlgorithmIdentifier, AttributeTypeAndValue, AttributeValue, DirectoryString,
@@ -123,7 +123,7 @@ impl Details for SubjectPublicKeyInfo {
 }
 
 impl Details for DirectoryString {
-    fn print(&self, _alloc: Global, line: &mut Line) {
+    fn print(&self, alloc: Global, line: &mut Line) {
         let (name, octets) = match self {
             DirectoryString::PrintableString(octets) => ("PrintableString", octets),
             DirectoryString::Utf8String(octets) => ("Utf8String", octets),
@@ -132,7 +132,10 @@ impl Details for DirectoryString {
         };
         line.word(name);
         line.octets(octets.as_slice());
-        line.text(self);
+        match self.to_utf8_lossy(alloc) {
+            Ok(text) => line.octets(text.as_bytes()),
+            Err(_) => line.lose(Unanswered::Memory),
+        }
     }
 }
 
