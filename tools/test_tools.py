@@ -12,6 +12,7 @@ from pathlib import Path
 from shutil import which
 from struct import pack
 from tempfile import TemporaryDirectory
+from textwrap import dedent
 from unittest.mock import patch
 
 import certificate_parts
@@ -38,6 +39,7 @@ import reader_stand_in
 import run_program
 import signed_program
 import signed_programs
+import unused_calls
 import verdict_table
 import world_certificates
 import world_signatures
@@ -804,6 +806,68 @@ class SignedProgramTest(unittest.TestCase):
         for octets in b"", b"MZ", bytes(100), portable_executable(), self.program("program, RSA, sha1")[:-1]:
             with self.assertRaises(signed_program.NotSigned):
                 signed_program.signature(octets)
+
+
+class UnusedCallsTest(unittest.TestCase):
+
+    NAME = """
+        use std::alloc::Global;
+
+        pub struct Name { text: String }
+
+        impl Name {
+            // .to_text( in a comment is no call
+            pub fn new(alloc: Global) -> Name { "Name::new(".len(); made(alloc) }
+            pub fn to_text(&self, alloc: Global) -> String { self.text.copied(alloc) }
+            pub fn try_clone(&self, alloc: Global) -> Name { self.text.try_clone(alloc) }
+            pub fn into_text(mut self) -> String { self.text }
+            pub fn len(&self) -> usize { self.text.len() }
+        }
+
+        impl Structure for Name {
+            fn to_der(&self, alloc: Global) -> Vec<u8> { self.text.to_der(alloc) }
+        }
+
+        pub fn made(alloc: Global) -> Name { made(alloc) }
+        pub(crate) fn inner(alloc: Global) -> Name { Name { text: String::new(alloc) } }
+    """
+    NAMES = """
+        pub struct Names { all: Vec<Other> }
+
+        impl Names {
+            pub fn try_clone(&self, alloc: Global) -> Names { self.all.try_clone(alloc) }
+        }
+    """
+    OWN = ["Name::new", "Name::to_text", "Name::try_clone", "Name::into_text"]
+
+    def listed(self, *tests):
+        """What is listed of the library, where each test is a file of another crate."""
+        texts = {"names/src/lib.rt": "", "names/src/name.rt": self.NAME, "names/src/names.rt": self.NAMES}
+        texts |= {f"t{at}_tests/src/lib.rt": text for at, text in enumerate(tests)}
+        with TemporaryDirectory() as folder:
+            for path, text in texts.items():
+                Path(folder, path).parent.mkdir(parents=True, exist_ok=True)
+                Path(folder, path).write_text(dedent(text), encoding="utf-8")
+            return [str(call) for call in unused_calls.unused_calls(folder)]
+
+    def expect(self, listed, names):
+        self.assertEqual(listed, [f"names: {name}" for name in names])
+
+    def test_the_crates_here(self):
+        self.assertEqual(unused_calls.unused_calls(CRATES), [])
+
+    def test_nothing_is_called(self):
+        self.expect(self.listed(), [*self.OWN, "Names::try_clone"])
+
+    def test_calls(self):
+        calls = "fn one(name: Name) { Name::new(alloc).to_text(alloc); name.into_text(); }"
+        copies = "fn one(all: Names) { all.try_clone(alloc); }"
+        self.expect(self.listed(calls), ["Name::try_clone", "Names::try_clone"])
+        self.expect(self.listed(calls, copies), ["Name::try_clone"])
+
+    def test_no_calls(self):
+        words = "use names::Name;\n// Name::new(\nfn new(it: Text) { it.try_clone(alloc) }"
+        self.expect(self.listed(words), [*self.OWN, "Names::try_clone"])
 
 
 class RunsTest(unittest.TestCase):
