@@ -1,8 +1,17 @@
-//! What the library of the program does with words, and the lines of its reports, as tables.
-//! Shelves and sinks stand in `shelf_tests`, and what a whole run answers in `picky_vectors`.
+//! What the library of the program does, call by call, as tables: words, lines of reports, whole
+//! files, shelves and sinks in memory, over readers and writers and of the system, and the texts of
+//! errors. What a whole run answers stands in `picky_vectors`.
 #![tactic(auto)]
 
 #[cfg(test)]
+mod disk;
+#[cfg(test)]
+mod files;
+#[cfg(test)]
 mod lines;
+#[cfg(test)]
+mod streams;
+#[cfg(test)]
+mod texts;
 #[cfg(test)]
 mod words;

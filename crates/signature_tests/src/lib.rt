@@ -1,4 +1,5 @@
-//! Tests of the public calls of `sig_core`: digests, algorithms of signatures, schemes.
+//! Tests of the public calls of `sig_core`: digests, algorithms of signatures, schemes; and of what
+//! `key_core` signs and accepts under a scheme of the caller's own, and of its texts.
 #![tactic(auto)]
 
 #[cfg(test)]
@@ -12,7 +13,13 @@ mod digests;
 #[cfg(test)]
 mod rows;
 #[cfg(test)]
+mod scheme;
+#[cfg(test)]
+mod signing;
+#[cfg(test)]
 mod tables;
+#[cfg(test)]
+mod texts;
 #[cfg(test)]
 mod variants;
 #[cfg(test)]

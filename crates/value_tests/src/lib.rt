@@ -1,12 +1,29 @@
-//! Tests of what rows of data can't show: a hash, lists that grow, and values that callers make.
-//! The rows of `value_answers` and `structure_answers` are the others.
+//! Tests of what rows of data can't show, a hash, lists that grow and values that callers make; of
+//! the public calls of `der_core`, beside the rows of `der_answers`; and of those of
+//! `wincert_core`. The rows of `value_answers` and `structure_answers` are the others.
 #![tactic(auto)]
 
+#[cfg(test)]
+mod cursors;
+#[cfg(test)]
+mod decoding;
+#[cfg(test)]
+mod encoding;
+#[cfg(test)]
+mod errors;
 #[cfg(test)]
 mod general_names;
 #[cfg(test)]
 mod identifiers;
 #[cfg(test)]
+mod kinds;
+#[cfg(test)]
 mod lists;
 #[cfg(test)]
 mod other_values;
+#[cfg(test)]
+mod reading;
+#[cfg(test)]
+mod refusals;
+#[cfg(test)]
+mod values;
