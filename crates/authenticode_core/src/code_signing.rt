@@ -31,7 +31,7 @@ pub(crate) fn expect_code_signing(named: &Named<'_>) -> Result<(), AuthenticodeE
         (λ _. IsForCodeSigning bag (view_elements named.now.certificate.certificate))
         (MayNotSignCode bag (view_elements named.now.certificate.certificate)) }
 {
-    if named.certificate.certificate.names_purpose(KP_CODE_SIGNING) {
+    if named.certificate.certificate.names(KP_CODE_SIGNING) {
         return Ok(());
     }
     if named.asks_for_purposes {

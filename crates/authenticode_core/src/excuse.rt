@@ -42,7 +42,7 @@ pub(crate) fn excuse_of<S: Scheme>(
         (OrMemory errors.Memory (HasBadStamp (S.judge scheme.now) (data_elements signed_data.now)
         bag (view_elements signer.now))) }
 {
-    if signer.names_purpose(KP_LIFETIME_SIGNING) {
+    if signer.names(KP_LIFETIME_SIGNING) {
         return Ok(None);
     }
     if names_time_stamping(signed_data) {

@@ -27,7 +27,7 @@ impl<'a> Wanted<'a> {
                 is_same(certificate.issuer(), issuer)
                     && is_same(certificate.serial(), serial_number)
             }
-            Wanted::Purpose(oid) => certificate.names_purpose(oid),
+            Wanted::Purpose(oid) => certificate.names(oid),
         }
     }
 }

@@ -141,8 +141,8 @@ fn said(view: CertView<'_>) -> usize {
         view.subject_key_identifier().unwrap_or(&[]).len(),
         view.authority_key_identifier().unwrap_or(&[]).len(),
         usize::from(view.has_purposes()),
-        usize::from(view.names_purpose(KP_CODE_SIGNING)),
-        usize::from(view.names_purpose(KP_TIME_STAMPING)),
+        usize::from(view.names(KP_CODE_SIGNING)),
+        usize::from(view.names(KP_TIME_STAMPING)),
     ];
     let mut sum = 0usize;
     for number in numbers {

@@ -80,8 +80,8 @@ pub fn print_length(length: Option<u8>, line: &mut Line) {
 /// stamping.
 fn print_purposes(view: &CertView<'_>, line: &mut Line) {
     line.shown(&view.has_purposes());
-    line.shown(&view.names_purpose(KP_CODE_SIGNING));
-    line.shown(&view.names_purpose(KP_TIME_STAMPING));
+    line.shown(&view.names(KP_CODE_SIGNING));
+    line.shown(&view.names(KP_TIME_STAMPING));
 }
 
 /// The octets of an element, where it is given.

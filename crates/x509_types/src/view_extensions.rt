@@ -63,7 +63,7 @@ impl<'a> CertView<'a> {
     }
 
     /// Whether some extended key usage holds a purpose, by its contents octets (RFC 5280 4.2.1.12).
-    pub fn names_purpose(&self, oid: &[u8]) -> bool
+    pub fn names(&self, oid: &[u8]) -> bool
         ensures { IsTrue result ↔ NamesPurpose (view_elements self.now) oid.now }
     {
         match self.extension_kids() {

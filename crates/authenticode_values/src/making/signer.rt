@@ -32,7 +32,7 @@ pub(super) fn first_signer(bag: &[Cert]) -> Result<&Cert, AuthenticodeError>
 pub(crate) fn may_sign_code(signer: &Cert, certificates: &[Cert]) -> bool
     ensures { IsTrue result ↔ IsForCodeSigning (elements_of certificates.now) signer.now.elements }
 {
-    if signer.view().names_purpose(KP_CODE_SIGNING) {
+    if signer.view().names(KP_CODE_SIGNING) {
         return true;
     }
     !asks_for_purposes(SignatureCertificatesIterator::new(signer, certificates))

@@ -9,11 +9,11 @@ use Rattle.authenticode_core.proofs.StampSteps.{told_or_memory}
 use Rattle.authenticode_core.proofs.Tokens.{token_once}
 use Rattle.authenticode_core.proofs.excuse.excuse_of.Goals as goal
 
-pub returns-then-names_purpose : goal.returns-then-names_purpose
-returns-then-names_purpose g c = λ bag is. inl (c.names_purpose.ensures.0 c.if-names_purpose.true)
+pub returns-then-names : goal.returns-then-names
+returns-then-names g c = λ bag is. inl (c.names.ensures.0 c.if-names.true)
 
 pub returns-then-names_time_stamping : goal.returns-then-names_time_stamping
-returns-then-names_time_stamping g c = λ bag is. (iff_false c.names_purpose.ensures c.if-names_purpose.false, (c.names_time_stamping.ensures bag is).0 c.if-names_time_stamping.true)
+returns-then-names_time_stamping g c = λ bag is. (iff_false c.names.ensures c.if-names.false, (c.names_time_stamping.ensures bag is).0 c.if-names_time_stamping.true)
 
 pub returns-in_default : goal.returns-in_default
 returns-in_default g c = λ bag is. inr (iff_false (c.names_time_stamping.ensures bag is) c.if-names_time_stamping.false, λ t other has stamping. c.in_default.ensures t has)
@@ -30,12 +30,12 @@ returns-in_err-expect_linked g c = λ bag is.
     let p = err_from_is_err_and c.from_residual.result c.from_residual.ensures.1 in
     let leads = c.in-Some-first_of_stamping.ensures in
     rw (p.1, p.2) (told_or_memory (g.S.Scheme.judge c.args.scheme.now) (data_elements c.args.signed_data.now) (data_elements c.in-Some.token) bag (view_elements c.args.signer.now) _ c.in_err-expect_linked.field-0.0
-    (iff_false c.names_purpose.ensures c.if-names_purpose.false) (iff_false (c.names_time_stamping.ensures bag is) c.if-names_time_stamping.false) c.in-Some.ensures leads (c.in_err-expect_linked.ensures leads.bag leads.stamping.is_bag leads.stands))
+    (iff_false c.names.ensures c.if-names.false) (iff_false (c.names_time_stamping.ensures bag is) c.if-names_time_stamping.false) c.in-Some.ensures leads (c.in_err-expect_linked.ensures leads.bag leads.stamping.is_bag leads.stands))
 
 pub returns : goal.returns
 returns g c = λ bag is.
     let leads = c.in-Some-first_of_stamping.ensures in (
-      iff_false c.names_purpose.ensures c.if-names_purpose.false,
+      iff_false c.names.ensures c.if-names.false,
       iff_false (c.names_time_stamping.ensures bag is) c.if-names_time_stamping.false,
       record {
         t = data_elements c.in-Some.token;

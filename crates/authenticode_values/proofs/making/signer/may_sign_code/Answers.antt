@@ -10,4 +10,4 @@ use Rattle.authenticode_values.proofs.making.signer.may_sign_code.Goals as goal
 pub returns : goal.returns
 returns c =
     may_sign c.args.signer.now c.args.certificates.now (items_left c.new.result) c.asks_for_purposes.result c.new.ensures c.asks_for_purposes.ensures
-    (λ names. iff_false c.names_purpose.ensures c.if-names_purpose.false (subst (λ (f : CertificateElements). NamesPurpose f KP_CODE_SIGNING.now) (sym c.view.ensures.elements) names))
+    (λ names. iff_false c.names.ensures c.if-names.false (subst (λ (f : CertificateElements). NamesPurpose f KP_CODE_SIGNING.now) (sym c.view.ensures.elements) names))

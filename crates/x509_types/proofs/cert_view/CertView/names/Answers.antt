@@ -1,7 +1,7 @@
 use Rattle.std.proofs.Common.{sym, subst}
 use Rattle.x509_types.specs.Purposes.{HasSome, IsUsageFor}
 use Rattle.x509_types.proofs.Somewhere.{none_there}
-use Rattle.x509_types.proofs.cert_view.CertView.names_purpose.Goals as goal
+use Rattle.x509_types.proofs.cert_view.CertView.names.Goals as goal
 
 pub returns-in-Some : goal.returns-in-Some
 returns-in-Some c =
