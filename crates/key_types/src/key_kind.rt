@@ -91,10 +91,7 @@ impl KeyKind {
         }
         let fields = AlgorithmFields::of(elem)?;
         let oid = leaf_at(fields.oid, OBJECT_IDENTIFIER)?;
-        match KeyKind::with(oid, fields.parameters) {
-            Some(kind) => Some(kind),
-            None => None,
-        }
+        Some(KeyKind::with(oid, fields.parameters)?)
     }
 
     /// The kind of keys that an identifier names, by its contents octets, where this kind may have
