@@ -39,7 +39,10 @@ once a b e =
 
 optional_formed : (curve : Option ObjectIdentifier) (bits : Option BitString) → AreWellFormed (row (optional_explicit 0xA0 (option_map object_identifier curve) ++ optional_explicit 0xA1 (option_map bit_string bits)))
 optional_formed curve bits =
-    explicit_formed 0xA0 (option_map object_identifier curve) (optional_explicit 0xA1 (option_map bit_string bits)) (omega arith, omega arith, omega arith) refl (option_formed object_identifier identifiers.formed curve) (last_formed 0xA1 (option_map bit_string bits) (omega arith, omega arith, omega arith) refl (option_formed bit_string bit_strings.formed bits))
+    explicit_formed 0xA0 (option_map object_identifier curve) (optional_explicit 0xA1 (option_map bit_string bits))
+    (omega arith, omega arith, omega arith) refl (option_formed object_identifier identifiers.formed curve)
+    (last_formed 0xA1 (option_map bit_string bits) (omega arith, omega arith, omega arith) refl
+    (option_formed bit_string bit_strings.formed bits))
 
 pub ec_private_keys : IsGrammar (λ element key. element ≡ ec_private_key key) ec_private_key (λ key. [])
 ec_private_keys =
