@@ -1,8 +1,8 @@
 //! The digest algorithms by their identifiers.
 
-ghost use Rattle.std.specs.Prelude.{◌≡◌, ℕ, List, Ok, IfOk};
+ghost use Rattle.std.specs.Prelude.{◌≡◌, ◌≢◌, ℕ, List, Ok, IfOk, MatchOption};
 ghost use Rattle.asn1_types.specs.Values.{identifier_contents};
-ghost use Rattle.sig_core.specs.ShaVariant.{digest_identifier, GivesVariant, GivesHash};
+ghost use Rattle.sig_core.specs.ShaVariant.{digest_identifier, hash_of, GivesVariant, GivesHash};
 
 use crate::error::{UnsupportedAlgorithmError, UnsupportedHashAlgorithmError};
 use crate::hash::HashAlgorithm;
@@ -38,13 +38,38 @@ impl ShaVariant {
         ensures name { IfOk result
             (λ variant. digest_identifier variant ≡ identifier_contents oid.now) }
     {
-        let contents = oid.as_bytes();
+        match ShaVariant::named(oid.as_bytes()) {
+            Some(variant) => Ok(variant),
+            None => Err(UnsupportedAlgorithmError),
+        }
+    }
+
+    /// The variant whose identifier has these contents octets (RFC 8017 appendix B.1).
+    pub fn named(contents: &[u8]) -> Option<ShaVariant>
+        ensures { MatchOption result
+            ((variant : ShaVariant) → digest_identifier variant ≢ contents.now)
+            (λ variant. digest_identifier variant ≡ contents.now) }
+    {
         for variant in ShaVariant::ALL {
             if variant.oid_contents() == contents {
-                return Ok(variant);
+                return Some(variant);
             }
         }
-        Err(UnsupportedAlgorithmError)
+        None
+    }
+
+    /// The algorithm of the variant, SHA-224 too.
+    pub fn hash(self) -> HashAlgorithm
+        ensures { result ≡ hash_of self }
+    {
+        match self {
+            ShaVariant::MD5 => HashAlgorithm::MD5,
+            ShaVariant::SHA1 => HashAlgorithm::SHA1,
+            ShaVariant::SHA2_224 => HashAlgorithm::SHA2_224,
+            ShaVariant::SHA2_256 => HashAlgorithm::SHA2_256,
+            ShaVariant::SHA2_384 => HashAlgorithm::SHA2_384,
+            ShaVariant::SHA2_512 => HashAlgorithm::SHA2_512,
+        }
     }
 
     /// The identifier of the variant.
@@ -94,15 +119,11 @@ impl TryFrom<ShaVariant> for HashAlgorithm {
     ghost try_from_gives = { GivesHash };
 
     fn try_from(variant: ShaVariant) -> Result<HashAlgorithm, UnsupportedHashAlgorithmError> {
-        match variant {
-            ShaVariant::MD5 => Ok(HashAlgorithm::MD5),
-            ShaVariant::SHA1 => Ok(HashAlgorithm::SHA1),
-            ShaVariant::SHA2_224 => Err(UnsupportedHashAlgorithmError {
+        match variant.hash() {
+            HashAlgorithm::SHA2_224 => Err(UnsupportedHashAlgorithmError {
                 algorithm: HashAlgorithm::SHA2_224,
             }),
-            ShaVariant::SHA2_256 => Ok(HashAlgorithm::SHA2_256),
-            ShaVariant::SHA2_384 => Ok(HashAlgorithm::SHA2_384),
-            ShaVariant::SHA2_512 => Ok(HashAlgorithm::SHA2_512),
+            hash => Ok(hash),
         }
     }
 }

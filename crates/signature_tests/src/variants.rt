@@ -21,8 +21,9 @@ const VARIANTS: [(ShaVariant, HashAlgorithm, &str); 6] = [
 #[test]
 fn identifiers(rt: HostRuntime) -> Result<(), Fail> {
     assert!(rt; ShaVariant::ALL.len() == VARIANTS.len());
-    for (variant, _, text) in &VARIANTS {
+    for (variant, hash, text) in &VARIANTS {
         assert!(rt; ShaVariant::ALL.contains(variant), "{text}");
+        assert!(rt; variant.hash() == *hash, "{text}");
         assert!(rt; is_identified(rt.alloc(), *variant, text)?, "{text}");
     }
     Ok(())
@@ -31,7 +32,8 @@ fn identifiers(rt: HostRuntime) -> Result<(), Fail> {
 /// Whether the algorithm and the identifier of this text lead to each other.
 fn is_identified(alloc: Global, variant: ShaVariant, text: &str) -> Result<bool, AllocError> {
     let oid = variant.to_oid(alloc)?;
-    let is_found = ShaVariant::from_oid(&oid) == Ok(variant);
+    let is_found = ShaVariant::from_oid(&oid) == Ok(variant)
+        && ShaVariant::named(oid.as_bytes()) == Some(variant);
     let is_lent = variant.oid_contents() == oid.as_bytes();
     Ok(is_found && is_lent && oid.to_text(alloc)?.as_str() == text)
 }
@@ -53,6 +55,7 @@ fn other_identifiers(rt: HostRuntime) -> Result<(), Fail> {
             ShaVariant::from_oid(&oid) == Err(UnsupportedAlgorithmError),
             "{text}"
         );
+        assert!(rt; ShaVariant::named(oid.as_bytes()) == None, "{text}");
     }
     Ok(())
 }

@@ -1,7 +1,7 @@
 use Rattle.std.proofs.Common.{◌≢◌, ℕ, ◌<◌, get_or}
 use Rattle.sig_core.specs.declared.sha_variant.ShaVariant.{ShaVariant}
 use Rattle.sig_core.specs.ShaVariant.{digest_identifier}
-use Rattle.sig_core.proofs.sha_variant.ShaVariant.from_oid.Given as goal
+use Rattle.sig_core.proofs.sha_variant.ShaVariant.named.Given as goal
 
 -- no variant so far has the identifier
 abbrev pub invariant-loop-variant : goal.invariant-loop-variant
