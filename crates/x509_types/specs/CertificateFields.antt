@@ -14,6 +14,12 @@ abbrev pub kid : ℕ → DerElement → Option DerElement
 kid number (Primitive tag content) = None
 kid number (Constructed tag kids) = kid_at number kids
 
+-- the count of unused bits of a BIT STRING, its first contents octet (X.690 8.6.2)
+abbrev pub unused_bits : DerElement → ℕ
+unused_bits (Primitive tag []) = 0
+unused_bits (Primitive tag (unused ∷ octets)) = unused
+unused_bits (Constructed tag kids) = 0
+
 -- the octets that hold the bits of a BIT STRING, behind the count of unused bits (X.690 8.6.2)
 abbrev pub bits_of : Option DerElement → Option (List ℕ)
 bits_of None = None

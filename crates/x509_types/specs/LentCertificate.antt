@@ -1,5 +1,6 @@
 -- The fields of a Certificate where their octets lie.
 use Rattle.x509_types.specs.CertificateElements.{CertificateElements}
+use Rattle.x509_types.specs.CertificateFields.{unused_bits}
 use Rattle.x509_types.specs.LentTbs.{elements_at}
 use Rattle.x509_types.specs.declared.cert_parts.CertParts.{CertParts}
 
@@ -9,6 +10,6 @@ abbrev pub lent_elements : CertParts → CertificateElements
 lent_elements parts = record {
   tbs = elements_at parts.fields;
   algorithm = parts.algorithm.is.0;
-  unused = parts.unused;
+  unused = unused_bits parts.value.is.0;
   signature = parts.signature.now;
 }

@@ -4,6 +4,7 @@ ghost use Rattle.std.specs.Prelude.{◌≡◌, ◌∷◌};
 ghost use Rattle.std.specs.Coded.{Coded-set};
 ghost use Rattle.der_core.specs.DerElement.{Primitive};
 ghost use Rattle.der_core.specs.Facts.Codes.{coded_element};
+ghost use Rattle.x509_types.specs.CertificateFields.{unused_bits};
 ghost use Rattle.x509_types.specs.LentTbs.{elements_at};
 ghost use Rattle.x509_types.specs.TbsElements.{tbs_of};
 
@@ -13,18 +14,16 @@ use asn1_types::BitString;
 use der_core::tag::{BIT_STRING, SEQUENCE};
 use der_core::{Elem, expect, leaf_at, three_kids};
 
-/// The parts of a certificate, each any element, but of the bits of the signature the count of
-/// unused ones and the octets.
+/// The parts of a certificate, each any element, but of the signature the octets of the bits, too.
 #[derive(Clone, Copy)]
 pub(crate) struct CertParts<'a> {
     pub tbs: Elem<'a>,
     pub fields: TbsFields<'a>,
     pub algorithm: Elem<'a>,
     pub value: Elem<'a>,
-    pub unused: u8,
     pub signature: &'a [u8],
     pub ghost signed: { tbs.is.0 ≡ tbs_of (elements_at fields) } by { Coded-set coded_element tbs.is.0 (tbs_of (elements_at fields)) },
-    pub ghost bits: { value.is.0 ≡ Primitive 0x03 (unused ∷ signature.now) } by { Coded-set coded_element value.is.0 (Primitive 0x03 (unused ∷ signature.now)) },
+    pub ghost bits: { value.is.0 ≡ Primitive 0x03 (unused_bits value.is.0 ∷ signature.now) } by { Coded-set coded_element value.is.0 (Primitive 0x03 (unused_bits value.is.0 ∷ signature.now)) },
 }
 
 impl<'a> CertParts<'a> {
@@ -45,13 +44,12 @@ impl<'a> CertParts<'a> {
         };
         let fields = TbsFields::of(tbs)?;
         let contents = leaf_at(value, BIT_STRING)?;
-        let (unused, signature) = contents.split_first()?;
+        let (_unused, signature) = contents.split_first()?;
         Some(CertParts {
             tbs,
             fields,
             algorithm,
             value,
-            unused: *unused,
             signature,
         })
     }
