@@ -1,5 +1,5 @@
 -- When a scheme accepts a signature by a key, and why it doesn't.
-use Rattle.std.specs.Prelude.{◌≡◌, ◌≢◌, ℕ, List, [], ◌∷◌, ◌++◌, length, Some, None}
+use Rattle.std.specs.Prelude.{◌≡◌, ◌≢◌, ℕ, List, [], ◌∷◌, ◌++◌, length, Some, None, Result, Err, MatchResult}
 use Rattle.asn1_types.specs.Elements.{object_identifier_of}
 use Rattle.der_core.specs.Lent.{kept_option}
 use Rattle.der_core.specs.declared.error.DerError.{DerError}
@@ -23,7 +23,8 @@ use Rattle.key_core.specs.EdAlgorithm.{ed_identifier}
 use Rattle.key_core.specs.KeyRefusals.{CantBeWritten}
 use Rattle.key_core.specs.Pkcs1.{IsPkcs1Of}
 use Rattle.key_core.specs.SchemeNames.{rsa_alg, curve_for, ecdsa_alg}
-use Rattle.key_core.specs.Rules.{Rule}
+use Rattle.key_core.specs.SignatureRules.{RefusesSignatureBy}
+use Rattle.key_core.specs.Rules.{Rule, IsFirstBroken}
 use Rattle.key_core.specs.declared.ec_curve.EcCurve.{EcCurve}
 use Rattle.key_core.specs.declared.ed_algorithm.EdAlgorithm.{EdAlgorithm}
 use Rattle.key_core.specs.declared.ed_algorithm.EdAlgorithm.TheVariants as ed
@@ -182,3 +183,25 @@ abbrev pub verify_rules : Judge → SignatureAlgorithm → SubjectPublicKeyInfo 
 verify_rules judge algorithm info msg sig =
     key_rules algorithm info ++ Unwritable info ∷ Malformed judge algorithm info msg sig ∷
     Rejected judge algorithm info msg sig ∷ []
+
+-- ---- what a verification returns
+
+-- The scheme accepts the signature of the message by the key, else the first broken rule.
+abbrev pub IsVerified : {A : Type 0} → Judge → SignatureAlgorithm → SubjectPublicKeyInfo → List ℕ
+    → List ℕ → Result A SignatureError → Type 0
+IsVerified judge algorithm info msg sig result =
+    MatchResult result (λ _. Accepts judge algorithm info msg sig)
+    (RefusesSignatureBy (verify_rules judge algorithm info msg sig))
+
+-- The verdict of the scheme on them, else the first broken rule on the key and its writing.
+abbrev pub HasVerdict : Judge → SignatureAlgorithm → SubjectPublicKeyInfo → List ℕ → List ℕ
+    → Result Verdict SignatureError → Type 0
+HasVerdict judge algorithm info msg sig result =
+    MatchResult result (IsJudged judge algorithm info msg sig)
+    (RefusesSignatureBy (key_rules algorithm info ++ Unwritable info ∷ []))
+
+-- A key that isn't one for the algorithm is refused, whatever memory there is.
+abbrev pub RefusesKey : {A : Type 0} → SignatureAlgorithm → SubjectPublicKeyInfo
+    → Result A SignatureError → Type 0
+RefusesKey algorithm info result =
+    (e : SignatureError) → IsFirstBroken (key_rules algorithm info) e → result ≡ Err e

@@ -1,6 +1,6 @@
 //! Verification of signatures.
 
-ghost use Rattle.std.specs.Prelude.{◌≡◌, ◌≢◌, ℕ, List, [], ◌∷◌, ◌++◌, length, Some, Err, MatchOption, MatchResult};
+ghost use Rattle.std.specs.Prelude.{◌≡◌, ◌≢◌, ℕ, List, [], ◌∷◌, length, Some, Err, MatchOption, MatchResult};
 ghost use Rattle.asn1_types.specs.Values.{payload_of};
 ghost use Rattle.key_types.specs.SubjectKey.{kind_of_key};
 ghost use Rattle.key_types.specs.declared.key_info.SubjectPublicKeyInfo.{SubjectPublicKeyInfo};
@@ -11,7 +11,7 @@ ghost use Rattle.key_core.specs.Pkcs1.{IsPkcs1Of};
 ghost use Rattle.key_core.specs.SchemeNames.{curve_for, ecdsa_alg};
 ghost use Rattle.key_core.specs.Rules.{IsFirstBroken};
 ghost use Rattle.key_core.specs.SignatureRules.{RefusesSignatureBy};
-ghost use Rattle.key_core.specs.Verifying.{Accepts, Judge, FitsKey, IsJudged, NamesCurve, IsOnCurve, IsEd25519Key, NotRsa, Unwritable, UnknownCurve, UnknownHash, Unpaired, key_rules, verify_rules, malformed};
+ghost use Rattle.key_core.specs.Verifying.{Judge, FitsKey, IsJudged, NamesCurve, IsOnCurve, IsEd25519Key, NotRsa, Unwritable, UnknownCurve, UnknownHash, Unpaired, key_rules, malformed, IsVerified, HasVerdict, RefusesKey};
 ghost use Rattle.key_core.specs.declared.ec_curve.EcCurve.{EcCurve};
 ghost use Rattle.key_core.specs.declared.signature_algorithm.SignatureAlgorithm.TheVariants as algorithms;
 ghost use Rattle.key_core.specs.declared.signature_error.SigContext.TheVariants as contexts;
@@ -47,13 +47,9 @@ impl SignatureAlgorithm {
         signature: &[u8],
         scheme: &S,
     ) -> Result<(), SignatureError>
-        ensures answer { MatchResult result
-            (λ _. Accepts (S.judge scheme.now) self public_key.now.info msg.now signature.now)
-            (RefusesSignatureBy (verify_rules (S.judge scheme.now) self public_key.now.info msg.now
-            signature.now)) }
-        // A key that isn't one for the algorithm is refused, whatever memory there is.
-        ensures refused { (e : SignatureError)
-            → IsFirstBroken (key_rules self public_key.now.info) e → result ≡ Err e }
+        ensures answer { IsVerified (S.judge scheme.now) self public_key.now.info msg.now
+            signature.now result }
+        ensures refused { RefusesKey self public_key.now.info result }
     {
         let verdict = self.verdict(alloc, public_key, msg, signature, scheme)?;
         self.told(verdict)
@@ -73,12 +69,9 @@ impl SignatureAlgorithm {
     ) -> Result<(), SignatureError>
         requires { (key : RsaPublicKey) → public_key.now.info.subject_public_key ≡ keys.Rsa key
             → IsPkcs1Of (keys.Rsa key) octets.now }
-        ensures answer { MatchResult result
-            (λ _. Accepts (S.judge scheme.now) self public_key.now.info msg.now signature.now)
-            (RefusesSignatureBy (verify_rules (S.judge scheme.now) self public_key.now.info msg.now
-            signature.now)) }
-        ensures refused { (e : SignatureError)
-            → IsFirstBroken (key_rules self public_key.now.info) e → result ≡ Err e }
+        ensures answer { IsVerified (S.judge scheme.now) self public_key.now.info msg.now
+            signature.now result }
+        ensures refused { RefusesKey self public_key.now.info result }
     {
         let verdict = self.verdict_by(alloc, public_key, octets, msg, signature, scheme)?;
         self.told(verdict)
@@ -96,12 +89,9 @@ impl SignatureAlgorithm {
     ) -> Result<Verdict, SignatureError>
         requires { (key : RsaPublicKey) → public_key.now.info.subject_public_key ≡ keys.Rsa key
             → IsPkcs1Of (keys.Rsa key) octets.now }
-        ensures answer { MatchResult result
-            (IsJudged (S.judge scheme.now) self public_key.now.info msg.now signature.now)
-            (RefusesSignatureBy
-            (key_rules self public_key.now.info ++ Unwritable public_key.now.info ∷ [])) }
-        ensures refused { (e : SignatureError)
-            → IsFirstBroken (key_rules self public_key.now.info) e → result ≡ Err e }
+        ensures answer { HasVerdict (S.judge scheme.now) self public_key.now.info msg.now
+            signature.now result }
+        ensures refused { RefusesKey self public_key.now.info result }
     {
         let SignatureAlgorithm::RsaPkcs1v15(hash) = self else {
             return self.verdict(alloc, public_key, msg, signature, scheme);
@@ -119,12 +109,9 @@ impl SignatureAlgorithm {
         signature: &[u8],
         scheme: &S,
     ) -> Result<Verdict, SignatureError>
-        ensures answer { MatchResult result
-            (IsJudged (S.judge scheme.now) self public_key.now.info msg.now signature.now)
-            (RefusesSignatureBy
-            (key_rules self public_key.now.info ++ Unwritable public_key.now.info ∷ [])) }
-        ensures refused { (e : SignatureError)
-            → IsFirstBroken (key_rules self public_key.now.info) e → result ≡ Err e }
+        ensures answer { HasVerdict (S.judge scheme.now) self public_key.now.info msg.now
+            signature.now result }
+        ensures refused { RefusesKey self public_key.now.info result }
     {
         match self {
             SignatureAlgorithm::RsaPkcs1v15(hash) => {
@@ -146,8 +133,7 @@ impl SignatureAlgorithm {
     fn told(self, verdict: Verdict) -> Result<(), SignatureError>
         ensures { (judge : Judge) (info : SubjectPublicKeyInfo) (msg sig : List ℕ)
             → IsJudged judge self info msg sig verdict
-            → MatchResult result (λ _. Accepts judge self info msg sig)
-            (RefusesSignatureBy (verify_rules judge self info msg sig)) }
+            → IsVerified judge self info msg sig result }
     {
         match verdict {
             Verdict::Accept => Ok(()),
@@ -248,10 +234,7 @@ pub(super) fn curve_of(algorithm: &AlgorithmIdentifier) -> Option<EcCurve>
 {
     let parameters = algorithm.parameters()?;
     let oid = leaf_at(parameters.elem(), OBJECT_IDENTIFIER)?;
-    match EcCurve::named(oid) {
-        Some(curve) => Some(curve),
-        None => None,
-    }
+    Some(EcCurve::named(oid)?)
 }
 
 /// The octets of a key of Ed25519.
