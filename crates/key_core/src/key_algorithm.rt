@@ -22,8 +22,5 @@ pub(crate) fn kind_at(elem: Elem<'_>) -> Option<KeyKind>
     }
     let mut kids = Kids::of(elem, SEQUENCE)?;
     let oid = leaf_at(kids.next()?, OBJECT_IDENTIFIER)?;
-    match KeyKind::named(oid) {
-        Some(kind) => Some(kind),
-        None => None,
-    }
+    Some(KeyKind::named(oid)?)
 }
