@@ -44,8 +44,11 @@ identifier_lies t octets is fit = (fit.0, fit.1, leaf_once (identifier_contents 
 
 -- the identifier that an element is, where it is the parameters of an algorithm
 pub curve_of_parameters : {X : Type 0} (contents : X → List ℕ) (parameters : Option KeptElement) (raw : KeptElement) (t : DerElement) → Some raw ≡ parameters → t ≡ raw.element
-    → (r : Option X) → MatchOption r ((o : ObjectIdentifier) → t ≢ object_identifier o) (λ x. (o : ObjectIdentifier) × (t ≡ object_identifier o) × (identifier_contents o ≡ contents x))
-    → MatchOption r ((o : ObjectIdentifier) → kept_option parameters ≢ Some (object_identifier o)) (λ x. (o : ObjectIdentifier) × (kept_option parameters ≡ Some (object_identifier o)) × (identifier_contents o ≡ contents x))
+    → (r : Option X) → MatchOption r ((o : ObjectIdentifier) → t ≢ object_identifier o)
+    (λ x. (o : ObjectIdentifier) × (t ≡ object_identifier o) × (identifier_contents o ≡ contents x))
+    → MatchOption r ((o : ObjectIdentifier) → kept_option parameters ≢ Some (object_identifier o))
+    (λ x. (o : ObjectIdentifier) × (kept_option parameters ≡ Some
+    (object_identifier o)) × (identifier_contents o ≡ contents x))
 curve_of_parameters contents parameters raw t stands is None none = λ o e.
     let both : Some t ≡ Some (object_identifier o) = ap Some is ∙ ap kept_option stands ∙ e in
     let one : t ≡ object_identifier o = cc in
@@ -66,5 +69,6 @@ ec_may_have read (Some parameters) has = has
 pub may_have : (value : PrivateKeyValue) (read : ECPrivateKey) (parameters : Option DerElement) → value ≡ values.Ec read → HasCurve value parameters → MayHave kinds.Ec parameters
 may_have value read parameters is has = ec_may_have read parameters (subst (λ (v : PrivateKeyValue). HasCurve v parameters) is has)
 
-pub public_may_have : (key : SubjectKey) (bits : BitString) (parameters : Option DerElement) → key ≡ keys.Ec bits → MayHave (kind_of_key key) parameters → MayHave kinds.Ec parameters
+pub public_may_have : (key : SubjectKey) (bits : BitString) (parameters : Option DerElement)
+    → key ≡ keys.Ec bits → MayHave (kind_of_key key) parameters → MayHave kinds.Ec parameters
 public_may_have key bits parameters is may = subst (λ (k : SubjectKey). MayHave (kind_of_key k) parameters) is may

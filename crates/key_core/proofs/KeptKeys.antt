@@ -43,18 +43,23 @@ one_algorithm oid (Some c) (Some d) p q = ap Some (same_algorithm c d (p ∙ sym
 
 -- ---- one public key
 
-one_derived : (derives : Derivation) (kind : SchemeKind) (size : ℕ) (secret : List ℕ) (a b : Option BitString) → IsDerived derives kind size secret a → IsDerived derives kind size secret b → a ≡ b
+one_derived : (derives : Derivation) (kind : SchemeKind) (size : ℕ) (secret : List ℕ)
+    (a b : Option BitString) → IsDerived derives kind size secret a
+    → IsDerived derives kind size secret b → a ≡ b
 one_derived derives kind size secret a b p q =
     let keys : Some p.key ≡ Some q.key = sym p.derived ∙ q.derived in
     let key : p.key ≡ q.key = cc in
     bits_once a b (p.is ∙ ap (λ (k : List ℕ). Some (whole_bits k)) key ∙ sym q.is)
 
-one_point : (derives : Derivation) (known : Option EcCurve) (secret : List ℕ) (read a b : Option BitString) → IsPointOf derives known secret read a → IsPointOf derives known secret read b → a ≡ b
+one_point : (derives : Derivation) (known : Option EcCurve) (secret : List ℕ)
+    (read a b : Option BitString) → IsPointOf derives known secret read a
+    → IsPointOf derives known secret read b → a ≡ b
 one_point derives known secret (Some point) a b p q = p ∙ sym q
 one_point derives (Some curve) secret None a b p q = one_derived derives (curve_kind curve) (field_size curve) secret a b p q
 one_point derives None secret None a b p q = p ∙ sym q
 
-one_ed_key : (derives : Derivation) (known : Option EdAlgorithm) (secret : List ℕ) (a b : Option BitString) → IsEdKeyOf derives known secret a → IsEdKeyOf derives known secret b → a ≡ b
+one_ed_key : (derives : Derivation) (known : Option EdAlgorithm) (secret : List ℕ)
+    (a b : Option BitString) → IsEdKeyOf derives known secret a → IsEdKeyOf derives known secret b → a ≡ b
 one_ed_key derives (Some algorithm) secret a b p q = one_derived derives (ed_kind algorithm) 32 secret a b p q
 one_ed_key derives None secret a b p q = p ∙ sym q
 
@@ -65,18 +70,25 @@ same_oid a b e = identifiers.once (object_identifier a) a b refl (ap (Primitive 
 
 one_algorithm_identifier : (a b : AlgorithmIdentifier) → identifier_contents a.oid ≡ identifier_contents b.oid → kept_option a.parameters ≡ kept_option b.parameters → a ≡ b
 one_algorithm_identifier a b oid parameters =
-    algorithms.once (algorithm_identifier a) a b refl (ap (λ (o : ObjectIdentifier). algorithm_of (object_identifier o) (kept_option a.parameters)) (same_oid a.oid b.oid oid) ∙ ap (algorithm_of (object_identifier b.oid)) parameters)
+    algorithms.once (algorithm_identifier a) a b refl
+    (ap (λ (o : ObjectIdentifier). algorithm_of (object_identifier o) (kept_option a.parameters)) (same_oid a.oid b.oid oid) ∙ ap (algorithm_of (object_identifier b.oid)) parameters)
 
 one_container : (curve : ObjectIdentifier) (key : ECPrivateKey) (a b : PrivateKeyInfo) → IsEcContainer curve key a → IsEcContainer curve key b → a ≡ b
 one_container curve key a b p q =
-    same_info a b (p.version ∙ sym q.version) (one_algorithm_identifier a.private_key_algorithm b.private_key_algorithm (p.identifier ∙ sym q.identifier) (p.parameters ∙ sym q.parameters)) (p.is ∙ sym q.is) (p.attributes ∙ sym q.attributes) (p.public_key ∙ sym q.public_key)
+    same_info a b (p.version ∙ sym q.version)
+    (one_algorithm_identifier a.private_key_algorithm b.private_key_algorithm
+    (p.identifier ∙ sym q.identifier) (p.parameters ∙ sym q.parameters)) (p.is
+    ∙ sym q.is) (p.attributes ∙ sym q.attributes) (p.public_key ∙ sym q.public_key)
 
 -- ---- one key
 
-pub one_curve_key : (derives : Derivation) (curve : ObjectIdentifier) (read : ECPrivateKey) (a b : PrivateKey) → IsCurveKey derives curve read a → IsCurveKey derives curve read b → a ≡ b
+pub one_curve_key : (derives : Derivation) (curve : ObjectIdentifier) (read : ECPrivateKey)
+    (a b : PrivateKey) → IsCurveKey derives curve read a → IsCurveKey derives curve read b → a ≡ b
 one_curve_key derives curve read a b p q =
     let known = one_curve (identifier_contents curve) p.known q.known p.named q.named in
-    same_key a b (one_container curve (anew curve read) a.info b.info p.container q.container) (one_point derives q.known read.private_key read.public_key a.public_key b.public_key (subst (λ (k : Option EcCurve). IsPointOf derives k read.private_key read.public_key a.public_key) known p.point) q.point)
+    same_key a b (one_container curve (anew curve read) a.info b.info p.container q.container)
+    (one_point derives q.known read.private_key read.public_key a.public_key b.public_key
+    (subst (λ (k : Option EcCurve). IsPointOf derives k read.private_key read.public_key a.public_key) known p.point) q.point)
 
 one_kept_ec : (derives : Derivation) (read : ECPrivateKey) (info : PrivateKeyInfo) (a b : PrivateKey) → IsKeptEc derives read info a → IsKeptEc derives read info b → a ≡ b
 one_kept_ec derives read info a b p q =
@@ -88,7 +100,9 @@ one_kept_ec derives read info a b p q =
 one_kept_ed : (derives : Derivation) (secret : List ℕ) (info : PrivateKeyInfo) (a b : PrivateKey) → IsKeptEd derives secret info a → IsKeptEd derives secret info b → a ≡ b
 one_kept_ed derives secret info a b p q =
     let known = one_algorithm (identifier_contents info.private_key_algorithm.oid) p.known q.known p.named q.named in
-    same_key a b (p.as_read ∙ sym q.as_read) (one_ed_key derives q.known secret a.public_key b.public_key (subst (λ (k : Option EdAlgorithm). IsEdKeyOf derives k secret a.public_key) known p.derived) q.derived)
+    same_key a b (p.as_read ∙ sym q.as_read)
+    (one_ed_key derives q.known secret a.public_key b.public_key
+    (subst (λ (k : Option EdAlgorithm). IsEdKeyOf derives k secret a.public_key) known p.derived) q.derived)
 
 pub one_kept : (derives : Derivation) (value : PrivateKeyValue) (info : PrivateKeyInfo) (a b : PrivateKey) → IsKeptKey derives value info a → IsKeptKey derives value info b → a ≡ b
 one_kept derives (values.Rsa rsa) info a b p q = same_key a b (p.0 ∙ sym q.0) (p.1 ∙ sym q.1)
@@ -97,14 +111,19 @@ one_kept derives (values.Ed secret) info a b p q = one_kept_ed derives secret in
 
 -- ---- a key that was read is kept of its own container
 
-again_curve : (curve : ObjectIdentifier) (parameters : Option ObjectIdentifier) → option_map (λ (o : ObjectIdentifier). curve) (option_map (λ (o : ObjectIdentifier). curve) parameters) ≡ option_map (λ (o : ObjectIdentifier). curve) parameters
+again_curve : (curve : ObjectIdentifier) (parameters : Option ObjectIdentifier)
+    → option_map (λ (o : ObjectIdentifier). curve)
+    (option_map (λ (o : ObjectIdentifier). curve) parameters) ≡ option_map
+    (λ (o : ObjectIdentifier). curve) parameters
 again_curve curve None = refl
 again_curve curve (Some read) = refl
 
 anew_again : (curve : ObjectIdentifier) (read : ECPrivateKey) → anew curve read ≡ anew curve (anew curve read)
 anew_again curve read = λ i. record { private_key = read.private_key; parameters = sym (again_curve curve read.parameters) i; public_key = read.public_key }
 
-pub curve_key_again : (derives : Derivation) (curve : ObjectIdentifier) (read : ECPrivateKey) (key : PrivateKey) → IsCurveKey derives curve read key → IsKeptKey derives key.info.private_key key.info key
+pub curve_key_again : (derives : Derivation) (curve : ObjectIdentifier) (read : ECPrivateKey)
+    (key : PrivateKey) → IsCurveKey derives curve read key
+    → IsKeptKey derives key.info.private_key key.info key
 curve_key_again derives curve read key is =
     let again : IsCurveKey derives curve (anew curve read) key = record {
       known = is.known;
@@ -115,7 +134,9 @@ curve_key_again derives curve read key is =
     let kept : IsKeptKey derives (values.Ec (anew curve read)) key.info key = record { curve = curve; parameters = is.container.parameters; is = again } in
     subst (λ (v : PrivateKeyValue). IsKeptKey derives v key.info key) (sym is.container.is) kept
 
-pub kept_again : (derives : Derivation) (value : PrivateKeyValue) (info : PrivateKeyInfo) → info.private_key ≡ value → (key : PrivateKey) → IsKeptKey derives value info key → IsKeptKey derives key.info.private_key key.info key
+pub kept_again : (derives : Derivation) (value : PrivateKeyValue) (info : PrivateKeyInfo)
+    → info.private_key ≡ value → (key : PrivateKey) → IsKeptKey derives value info key
+    → IsKeptKey derives key.info.private_key key.info key
 kept_again derives (values.Rsa rsa) info is key kept =
     subst (λ (v : PrivateKeyValue). IsKeptKey derives v key.info key) (sym (ap (λ (i : PrivateKeyInfo). i.private_key) kept.0 ∙ is)) (refl, kept.1)
 kept_again derives (values.Ec read) info is key kept = curve_key_again derives kept.curve read key kept.is

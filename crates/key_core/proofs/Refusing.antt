@@ -43,7 +43,9 @@ pub on_known_curve : (derives : Derivation) (curve : EcCurve) (oid : ObjectIdent
     → (r : Result PrivateKey KeyError) → MatchResult r (IsCurveKey derives oid read) (IsEcRefusal (RefusesCurveKey derives oid read))
     → MatchResult r (λ key. (o : ObjectIdentifier) × (identifier_contents o ≡ curve_identifier curve) × IsCurveKey derives o read key) (IsEcRefusal (RefusesKnownCurve derives curve read))
 on_known_curve derives curve oid read named (Ok key) is = (oid, named, is)
-on_known_curve derives curve oid read named (Err e) r = ec_refusal (RefusesCurveKey derives oid read) (RefusesKnownCurve derives curve read) (known_refused derives curve oid read named) e r
+on_known_curve derives curve oid read named (Err e) r = ec_refusal
+    (RefusesCurveKey derives oid read) (RefusesKnownCurve derives curve read)
+    (known_refused derives curve oid read named) e r
 
 -- an answer on the curve that stands in a key
 pub on_own_curve : (derives : Derivation) (curve : ObjectIdentifier) (read : ECPrivateKey) → read.parameters ≡ Some curve
@@ -57,7 +59,9 @@ on_own_curve derives curve read stands (Err e) r =
 pub on_parameters : (derives : Derivation) (parameters : Option DerElement) (octets : List ℕ) (curve : ObjectIdentifier) (read : ECPrivateKey)
     → ((o : ObjectIdentifier) × (parameters ≡ Some (object_identifier o)) × (identifier_contents o ≡ octets)) → identifier_contents curve ≡ octets
     → (r : Result PrivateKey KeyError) → MatchResult r (IsCurveKey derives curve read) (IsEcRefusal (RefusesCurveKey derives curve read))
-    → MatchResult r (λ key. (o : ObjectIdentifier) × (parameters ≡ Some (object_identifier o)) × IsCurveKey derives o read key) (IsEcRefusal (RefusesEcInfo derives read parameters))
+    → MatchResult r (λ key. (o : ObjectIdentifier) × (parameters ≡ Some
+    (object_identifier o)) × IsCurveKey derives o read key) (IsEcRefusal (RefusesEcInfo derives
+    read parameters))
 on_parameters derives parameters octets curve read found is (Ok key) made =
     (curve, found.1 ∙ ap (λ (o : List ℕ). Some (Primitive 0x06 o)) (found.2 ∙ sym is), made)
 on_parameters derives parameters octets curve read found is (Err e) refused =
@@ -65,14 +69,16 @@ on_parameters derives parameters octets curve read found is (Err e) refused =
     ec_refusal (RefusesCurveKey derives curve read) (RefusesEcInfo derives read parameters) (λ context r. inr (curve, names, r)) e refused
 
 as_ec : (derives : Derivation) (info : PrivateKeyInfo) (read : ECPrivateKey)
-    → (r : Result PrivateKey KeyError) → MatchResult r (λ key. (o : ObjectIdentifier) × (kept_option info.private_key_algorithm.parameters ≡ Some (object_identifier o)) × IsCurveKey derives o read key) (IsEcRefusal (RefusesEcInfo derives read (kept_option info.private_key_algorithm.parameters)))
+    → (r : Result PrivateKey KeyError)
+    → MatchResult r (λ key. (o : ObjectIdentifier) × (kept_option info.private_key_algorithm.parameters ≡ Some (object_identifier o)) × IsCurveKey derives o read key) (IsEcRefusal (RefusesEcInfo derives read (kept_option info.private_key_algorithm.parameters)))
     → MatchResult r (IsKeptKey derives (values.Ec read) info) (RefusesKept derives (values.Ec read) info)
 as_ec derives info read (Ok key) made = record { curve = made.0; parameters = made.1; is = made.2 }
 as_ec derives info read (Err e) refused = refused
 
 -- a container with a key of an elliptic curve
 pub kept_as_ec : (derives : Derivation) (info : PrivateKeyInfo) (read : ECPrivateKey) → info.private_key ≡ values.Ec read
-    → (r : Result PrivateKey KeyError) → MatchResult r (λ key. (o : ObjectIdentifier) × (kept_option info.private_key_algorithm.parameters ≡ Some (object_identifier o)) × IsCurveKey derives o read key) (IsEcRefusal (RefusesEcInfo derives read (kept_option info.private_key_algorithm.parameters)))
+    → (r : Result PrivateKey KeyError)
+    → MatchResult r (λ key. (o : ObjectIdentifier) × (kept_option info.private_key_algorithm.parameters ≡ Some (object_identifier o)) × IsCurveKey derives o read key) (IsEcRefusal (RefusesEcInfo derives read (kept_option info.private_key_algorithm.parameters)))
     → MatchResult r (IsKeptKey derives info.private_key info) (RefusesKept derives info.private_key info)
 kept_as_ec derives info read is r answer =
     subst (λ (v : PrivateKeyValue). MatchResult r (IsKeptKey derives v info) (RefusesKept derives v info)) (sym is) (as_ec derives info read r answer)
@@ -96,13 +102,15 @@ refused_sec1 Refuses octets read within (errors.UnsupportedAlgorithm kind) r = a
 refused_sec1 Refuses octets read within errors.Memory r = tt
 
 pub sec1_own : (derives : Derivation) (octets : List ℕ) (read : ECPrivateKey) → IsWithin IsECPrivateKey octets read
-    → (r : Result PrivateKey KeyError) → MatchResult r (λ key. (curve : ObjectIdentifier) × (read.parameters ≡ Some curve) × IsCurveKey derives curve read key) (IsEcRefusal (RefusesOwnCurve derives read.parameters read))
+    → (r : Result PrivateKey KeyError)
+    → MatchResult r (λ key. (curve : ObjectIdentifier) × (read.parameters ≡ Some curve) × IsCurveKey derives curve read key) (IsEcRefusal (RefusesOwnCurve derives read.parameters read))
     → MatchResult r (IsSec1Key derives octets) (RefusesSec1 (λ x. RefusesOwnCurve derives x.parameters x) octets)
 sec1_own derives octets read within (Ok key) made = record { curve = made.0; read = read; within = within; stands = made.1; is = made.2 }
 sec1_own derives octets read within (Err e) refused = refused_sec1 (λ x. RefusesOwnCurve derives x.parameters x) octets read within e refused
 
 pub sec1_known : (derives : Derivation) (curve : EcCurve) (octets : List ℕ) (read : ECPrivateKey) → IsWithin IsECPrivateKey octets read
-    → (r : Result PrivateKey KeyError) → MatchResult r (λ key. (o : ObjectIdentifier) × (identifier_contents o ≡ curve_identifier curve) × IsCurveKey derives o read key) (IsEcRefusal (RefusesKnownCurve derives curve read))
+    → (r : Result PrivateKey KeyError)
+    → MatchResult r (λ key. (o : ObjectIdentifier) × (identifier_contents o ≡ curve_identifier curve) × IsCurveKey derives o read key) (IsEcRefusal (RefusesKnownCurve derives curve read))
     → MatchResult r (IsSec1KeyOnKnown derives curve octets) (RefusesSec1 (RefusesKnownCurve derives curve) octets)
 sec1_known derives curve octets read within (Ok key) made =
     record { oid = made.0; named = made.1; is = record { read = read; within = within; is = made.2 } }

@@ -35,7 +35,9 @@ broken_before (rule ∷ rules) others e (inl p) = inl p
 broken_before (rule ∷ rules) others e (inr p) = inr (p.0, broken_before rules others e p.1)
 
 -- more rules after the last change nothing of what is broken before them
-pub early_in : {E : Type 0} (rules : List (E → Type 0)) (last : E → Type 0) (more : List (E → Type 0)) (e : E) → IsFirstBroken (rules ++ last ∷ []) e → IsFirstBroken (rules ++ last ∷ more) e
+pub early_in : {E : Type 0} (rules : List (E → Type 0)) (last : E → Type 0)
+    (more : List (E → Type 0)) (e : E) → IsFirstBroken (rules ++ last ∷ []) e
+    → IsFirstBroken (rules ++ last ∷ more) e
 early_in [] last more e (inl broken) = inl broken
 early_in [] last more e (inr none) = absurd none.1
 early_in (rule ∷ rules) last more e (inl broken) = inl broken

@@ -108,7 +108,8 @@ key_met Ed25519 info alg bytes fits =
     (λ e broken. broken.0 (ap kind_of_key key.is), known)
 
 pub writable : (algorithm : SignatureAlgorithm) (info : SubjectPublicKeyInfo) (alg : SigAlg) (bytes : List ℕ) → FitsKey algorithm info alg bytes → IsMet (Unwritable info)
-writable (RsaPkcs1v15 hash) info alg bytes fits = λ e broken. written (rsa_public_key broken.key) broken.source (rsa_der info.subject_public_key bytes fits.1 broken.key broken.is) broken.cause
+writable (RsaPkcs1v15 hash) info alg bytes
+    fits = λ e broken. written (rsa_public_key broken.key) broken.source (rsa_der info.subject_public_key bytes fits.1 broken.key broken.is) broken.cause
 writable (Ecdsa hash) info alg bytes fits = λ e broken. ec_is_not_rsa fits.3.bits broken.key (sym fits.3.is ∙ broken.is)
 writable Ed25519 info alg bytes fits = λ e broken. ed_is_not_rsa fits.1.bits broken.key (sym fits.1.is ∙ broken.is)
 
@@ -218,9 +219,29 @@ rsa_unwritten : (info : SubjectPublicKeyInfo) (k : RsaPublicKey) → info.subjec
 rsa_unwritten info k is (der.Malformed m) source e refused = absurd refused
 rsa_unwritten info k is der.Shape source e refused = absurd refused
 rsa_unwritten info k is der.TooDeep source e refused =
-    inl (inr (λ other broken. broken.0 (ap kind_of_key is), inl (record { key = k; is = is; source = der.TooDeep; cause = alone (rsa_public_key k) der.TooDeep deep_is_not_memory refused; error = ap key_refusal e })))
+    inl (inr (
+      λ other broken. broken.0 (ap kind_of_key is),
+      inl (record {
+        key = k;
+        is = is;
+        source = der.TooDeep;
+        cause = alone
+            (rsa_public_key k) der.TooDeep deep_is_not_memory refused;
+        error = ap key_refusal e;
+      }),
+    ))
 rsa_unwritten info k is der.TooLong source e refused =
-    inl (inr (λ other broken. broken.0 (ap kind_of_key is), inl (record { key = k; is = is; source = der.TooLong; cause = alone (rsa_public_key k) der.TooLong long_is_not_memory refused; error = ap key_refusal e })))
+    inl (inr (
+      λ other broken. broken.0 (ap kind_of_key is),
+      inl (record {
+        key = k;
+        is = is;
+        source = der.TooLong;
+        cause = alone
+            (rsa_public_key k) der.TooLong long_is_not_memory refused;
+        error = ap key_refusal e;
+      }),
+    ))
 rsa_unwritten info k is der.Memory source e refused = inr (ap key_refusal e)
 
 rsa_refused_of : (info : SubjectPublicKeyInfo) (key : SubjectKey) (source : KeyError) → info.subject_public_key ≡ key → kind_of_key key ≡ kinds.Rsa
@@ -236,7 +257,9 @@ rsa_refused info source kind refused = rsa_refused_of info info.subject_public_k
 
 -- a key of Ed25519 that has 32 octets or another count
 pub ed_sized : {X : Type 0} (now : X → List ℕ) (info : SubjectPublicKeyInfo) (bits : BitString) → info.subject_public_key ≡ keys.Ed bits → IsOfEd info ed.Ed25519
-    → (r : Result X SignatureError) → MatchResult r (λ bytes. (now bytes ≡ bits.payload) × (length (now bytes) ≡ 32)) (λ e. (length bits.payload ≢ 32) × (e ≡ errors.Ed contexts.KeySize))
+    → (r : Result X SignatureError)
+    → MatchResult r (λ bytes. (now bytes ≡ bits.payload) × (length (now bytes) ≡ 32))
+    (λ e. (length bits.payload ≢ 32) × (e ≡ errors.Ed contexts.KeySize))
     → MatchResult r (λ bytes. IsEd25519Key info (now bytes)) (IsFirstBroken (key_rules Ed25519 info))
 ed_sized now info bits is of (Ok bytes) sized = record { bits = bits; is = is; of = of; payload = sized.0; size = sized.1 }
 ed_sized now info bits is of (Err e) sized =

@@ -26,44 +26,68 @@ held : (kind named : ExtensionKind) (octets : List ℕ) (view : ExtensionView) �
 held kind named octets view is of = subst (λ (k : ExtensionKind). HoldsOf k octets view) is (holds_of kind octets view of)
 
 -- a value of a kind is that of the kind's own structure
-pub subject_key_of : (kind : ExtensionKind) (octets : List ℕ) (view : ExtensionView) → kind ≡ kinds.SubjectKeyIdentifier → IsValueOf kind octets view → (value : List ℕ) × IsWithin (λ (element : DerElement) (k : List ℕ). element ≡ key_identifier k) octets value
+pub subject_key_of : (kind : ExtensionKind) (octets : List ℕ) (view : ExtensionView)
+    → kind ≡ kinds.SubjectKeyIdentifier → IsValueOf kind octets view
+    → (value : List ℕ) × IsWithin
+    (λ (element : DerElement) (k : List ℕ). element ≡ key_identifier k) octets value
 subject_key_of kind octets view is of = let h = held kind kinds.SubjectKeyIdentifier octets view is of in (h.0, h.2)
 
-pub usage_of : (kind : ExtensionKind) (octets : List ℕ) (view : ExtensionView) → kind ≡ kinds.KeyUsage → IsValueOf kind octets view → (value : KeyUsage) × IsWithin (λ (element : DerElement) (u : KeyUsage). element ≡ key_usage u) octets value
+pub usage_of : (kind : ExtensionKind) (octets : List ℕ) (view : ExtensionView)
+    → kind ≡ kinds.KeyUsage → IsValueOf kind octets view
+    → (value : KeyUsage) × IsWithin
+    (λ (element : DerElement) (u : KeyUsage). element ≡ key_usage u) octets value
 usage_of kind octets view is of = let h = held kind kinds.KeyUsage octets view is of in (h.0, h.2)
 
-pub constraints_of : (kind : ExtensionKind) (octets : List ℕ) (view : ExtensionView) → kind ≡ kinds.BasicConstraints → IsValueOf kind octets view → (value : BasicConstraints) × IsWithin IsBasicConstraints octets value
+pub constraints_of : (kind : ExtensionKind) (octets : List ℕ) (view : ExtensionView)
+    → kind ≡ kinds.BasicConstraints → IsValueOf kind octets view
+    → (value : BasicConstraints) × IsWithin IsBasicConstraints octets value
 constraints_of kind octets view is of = let h = held kind kinds.BasicConstraints octets view is of in (h.0, h.2)
 
-pub authority_key_of : (kind : ExtensionKind) (octets : List ℕ) (view : ExtensionView) → kind ≡ kinds.AuthorityKeyIdentifier → IsValueOf kind octets view → (value : AuthorityKeyIdentifier) × IsWithin (λ (element : DerElement) (a : AuthorityKeyIdentifier). element ≡ authority_key_identifier a) octets value
+pub authority_key_of : (kind : ExtensionKind) (octets : List ℕ) (view : ExtensionView)
+    → kind ≡ kinds.AuthorityKeyIdentifier → IsValueOf kind octets view
+    → (value : AuthorityKeyIdentifier) × IsWithin
+    (λ (element : DerElement) (a : AuthorityKeyIdentifier). element ≡ authority_key_identifier a)
+    octets value
 authority_key_of kind octets view is of = let h = held kind kinds.AuthorityKeyIdentifier octets view is of in (h.0, h.2)
 
-pub extended_usage_of : (kind : ExtensionKind) (octets : List ℕ) (view : ExtensionView) → kind ≡ kinds.ExtendedKeyUsage → IsValueOf kind octets view → (value : ExtendedKeyUsage) × IsWithin (λ (element : DerElement) (u : ExtendedKeyUsage). element ≡ extended_key_usage u) octets value
+pub extended_usage_of : (kind : ExtensionKind) (octets : List ℕ) (view : ExtensionView)
+    → kind ≡ kinds.ExtendedKeyUsage → IsValueOf kind octets view
+    → (value : ExtendedKeyUsage) × IsWithin
+    (λ (element : DerElement) (u : ExtendedKeyUsage). element ≡ extended_key_usage u) octets value
 extended_usage_of kind octets view is of = let h = held kind kinds.ExtendedKeyUsage octets view is of in (h.0, h.2)
 
-subject_names : (kind : ExtensionKind) (octets : List ℕ) (names : Bool) → kinds.SubjectAltName ≡ kind → (IsTrue names → FitsWithin AreGeneralNames octets) → (names ≡ false → HoldsNoNames octets)
+subject_names : (kind : ExtensionKind) (octets : List ℕ) (names : Bool)
+    → kinds.SubjectAltName ≡ kind → (IsTrue names → FitsWithin AreGeneralNames octets)
+    → (names ≡ false → HoldsNoNames octets)
     → (view : ExtensionView) × IsValueOf kind octets view
 subject_names kind octets true is fits unfit = let fit = fits refl in (views.SubjectAltName fit.0, (is, fit.1))
 subject_names kind octets false is fits unfit = (views.Raw octets, (subst (λ (k : ExtensionKind). MayBeKept k octets) is (unfit refl), refl))
 
-issuer_names : (kind : ExtensionKind) (octets : List ℕ) (names : Bool) → kinds.IssuerAltName ≡ kind → (IsTrue names → FitsWithin AreGeneralNames octets) → (names ≡ false → HoldsNoNames octets)
+issuer_names : (kind : ExtensionKind) (octets : List ℕ) (names : Bool) → kinds.IssuerAltName ≡ kind
+    → (IsTrue names → FitsWithin AreGeneralNames octets) → (names ≡ false → HoldsNoNames octets)
     → (view : ExtensionView) × IsValueOf kind octets view
 issuer_names kind octets true is fits unfit = let fit = fits refl in (views.IssuerAltName fit.0, (is, fit.1))
 issuer_names kind octets false is fits unfit = (views.Raw octets, (subst (λ (k : ExtensionKind). MayBeKept k octets) is (unfit refl), refl))
 
 -- under the two kinds any octets hold names, or are kept
-pub names_fit : (kind : ExtensionKind) (octets : List ℕ) (names : Bool) → (kind ≡ kinds.SubjectAltName) ⊎ (kind ≡ kinds.IssuerAltName) → (IsTrue names → FitsWithin AreGeneralNames octets) → (names ≡ false → HoldsNoNames octets)
+pub names_fit : (kind : ExtensionKind) (octets : List ℕ) (names : Bool)
+    → (kind ≡ kinds.SubjectAltName) ⊎ (kind ≡ kinds.IssuerAltName)
+    → (IsTrue names → FitsWithin AreGeneralNames octets) → (names ≡ false → HoldsNoNames octets)
     → (view : ExtensionView) × IsValueOf kind octets view
 names_fit kind octets names (inl is) fits unfit = subject_names kind octets names (sym is) fits unfit
 names_fit kind octets names (inr is) fits unfit = issuer_names kind octets names (sym is) fits unfit
 
 -- octets that hold no names are kept under their kind
-pub subject_kept : (kind : ExtensionKind) (octets kept : List ℕ) (names : Option (List RawGeneralName)) → kind ≡ kinds.SubjectAltName → names ≡ None → MatchOption names (HoldsNoNames octets) (IsWithin AreGeneralNames octets) → kept ≡ octets
+pub subject_kept : (kind : ExtensionKind) (octets kept : List ℕ)
+    (names : Option (List RawGeneralName)) → kind ≡ kinds.SubjectAltName → names ≡ None
+    → MatchOption names (HoldsNoNames octets) (IsWithin AreGeneralNames octets) → kept ≡ octets
     → MayBeKept kind kept × (octets ≡ kept)
 subject_kept kind octets kept None is none held same = (subst (λ (k : ExtensionKind). MayBeKept k kept) (sym is) (subst HoldsNoNames (sym same) held), sym same)
 subject_kept kind octets kept (Some names) is none held same = absurd cc
 
-pub issuer_kept : (kind : ExtensionKind) (octets kept : List ℕ) (names : Option (List RawGeneralName)) → kind ≡ kinds.IssuerAltName → names ≡ None → MatchOption names (HoldsNoNames octets) (IsWithin AreGeneralNames octets) → kept ≡ octets
+pub issuer_kept : (kind : ExtensionKind) (octets kept : List ℕ)
+    (names : Option (List RawGeneralName)) → kind ≡ kinds.IssuerAltName → names ≡ None
+    → MatchOption names (HoldsNoNames octets) (IsWithin AreGeneralNames octets) → kept ≡ octets
     → MayBeKept kind kept × (octets ≡ kept)
 issuer_kept kind octets kept None is none held same = (subst (λ (k : ExtensionKind). MayBeKept k kept) (sym is) (subst HoldsNoNames (sym same) held), sym same)
 issuer_kept kind octets kept (Some names) is none held same = absurd cc

@@ -34,7 +34,9 @@ lent_kids now (Some k) lent elem given e is kids = ap members_of (sym e ∙ ap a
 pub first_here : (oid : List ℕ) (all rest : List DerElement) (kid : DerElement) (octets : List ℕ) → all ≡ kid ∷ rest → IsNamed oid kid octets → IsFirstNamed oid all octets
 first_here oid all rest kid octets are named = record { before = []; extension = kid; after = rest; are = are; first = tt; named = named }
 
-pub first_later : (oid : List ℕ) (all rest : List DerElement) (kid : DerElement) → all ≡ kid ∷ rest → ((octets : List ℕ) → IsNamed oid kid octets → ⊥) → (octets : List ℕ) → IsFirstNamed oid rest octets → IsFirstNamed oid all octets
+pub first_later : (oid : List ℕ) (all rest : List DerElement) (kid : DerElement) → all ≡ kid ∷ rest
+    → ((octets : List ℕ) → IsNamed oid kid octets → ⊥) → (octets : List ℕ)
+    → IsFirstNamed oid rest octets → IsFirstNamed oid all octets
 first_later oid all rest kid are none octets f = record {
   before = kid ∷ f.before;
   extension = f.extension;
@@ -44,7 +46,9 @@ first_later oid all rest kid are none octets f = record {
   named = f.named;
 }
 
-passed_in : (oid : List ℕ) (rest before after : List DerElement) (kid x : DerElement) (octets : List ℕ) → kid ∷ rest ≡ before ++ x ∷ after → ((o : List ℕ) → IsNamed oid kid o → ⊥) → NoneIsNamed oid before → IsNamed oid x octets → IsFirstNamed oid rest octets
+passed_in : (oid : List ℕ) (rest before after : List DerElement) (kid x : DerElement)
+    (octets : List ℕ) → kid ∷ rest ≡ before ++ x ∷ after → ((o : List ℕ) → IsNamed oid kid o → ⊥)
+    → NoneIsNamed oid before → IsNamed oid x octets → IsFirstNamed oid rest octets
 passed_in oid rest [] after kid x octets e none first named =
     let same : x ≡ kid = cc in
     absurd (none octets (subst (λ (k : DerElement). IsNamed oid k octets) same named))
@@ -52,7 +56,9 @@ passed_in oid rest (b ∷ before) after kid x octets e none first named =
     let are : rest ≡ before ++ x ∷ after = cc in
     record { before = before; extension = x; after = after; are = are; first = first.1; named = named }
 
-pub first_passed : (oid : List ℕ) (all rest : List DerElement) (kid : DerElement) → all ≡ kid ∷ rest → ((octets : List ℕ) → IsNamed oid kid octets → ⊥) → (octets : List ℕ) → IsFirstNamed oid all octets → IsFirstNamed oid rest octets
+pub first_passed : (oid : List ℕ) (all rest : List DerElement) (kid : DerElement)
+    → all ≡ kid ∷ rest → ((octets : List ℕ) → IsNamed oid kid octets → ⊥) → (octets : List ℕ)
+    → IsFirstNamed oid all octets → IsFirstNamed oid rest octets
 first_passed oid all rest kid are none octets f = passed_in oid rest f.before f.after kid f.extension octets (sym are ∙ f.are) none f.first f.named
 
 none_in : (before after : List DerElement) (x : DerElement) → [] ≡ before ++ x ∷ after → ⊥
@@ -92,8 +98,12 @@ value_once f oid a b p q =
 -- ---- values
 
 -- the element in the first extension is that of the certificate
-pub held_first : {R : Type 0} (now : R → DerElement) (f : CertificateElements) (oid : List ℕ) (kids : List DerElement) (octets : List ℕ) (r : Option R) → extensions_of f ≡ kids → IsFirstNamed oid kids octets
-    → MatchOption r ((element : DerElement) → IsKept octets element → ⊥) (λ e. IsKept octets (now e)) → MatchOption r ((element : DerElement) → IsFirstValue f oid element → ⊥) (λ e. IsFirstValue f oid (now e))
+pub held_first : {R : Type 0} (now : R → DerElement) (f : CertificateElements) (oid : List ℕ)
+    (kids : List DerElement) (octets : List ℕ) (r : Option R) → extensions_of f ≡ kids
+    → IsFirstNamed oid kids octets
+    → MatchOption r ((element : DerElement) → IsKept octets element → ⊥)
+    (λ e. IsKept octets (now e)) → MatchOption r
+    ((element : DerElement) → IsFirstValue f oid element → ⊥) (λ e. IsFirstValue f oid (now e))
 held_first now f oid kids octets None are first none = λ element v.
     let there : IsFirstNamed oid (extensions_of f) octets = subst (λ (ks : List DerElement). IsFirstNamed oid ks octets) (sym are) first in
     none element (subst (λ (o : List ℕ). IsKept o element) (first_once oid (extensions_of f) v.octets octets v.first there) v.holds)
@@ -108,7 +118,9 @@ said now oid part f element (Some x) first says = (element, first, says)
 
 -- whether there is a first one
 pub some_first : {R : Type 0} (now : R → List ℕ) (oid : List ℕ) (elements kids : List DerElement) (r : Option R) (t : Bool) → elements ≡ kids
-    → MatchOption r ((octets : List ℕ) → IsFirstNamed oid kids octets → ⊥) (λ octets. IsFirstNamed oid kids (now octets)) → t ≡ is_some r → IsTrue t ↔ ((octets : List ℕ) × IsFirstNamed oid elements octets)
+    → MatchOption r ((octets : List ℕ) → IsFirstNamed oid kids octets → ⊥)
+    (λ octets. IsFirstNamed oid kids (now octets)) → t ≡ is_some r
+    → IsTrue t ↔ ((octets : List ℕ) × IsFirstNamed oid elements octets)
 some_first now oid elements kids None t are none test = (
   λ w. absurd cc,
   λ stands. absurd (none stands.0 (subst (λ (ks : List DerElement). IsFirstNamed oid ks stands.0) are stands.1)),

@@ -13,7 +13,9 @@ use Rattle.x509_types.specs.declared.certificate.Certificate.{Certificate}
 pub by_three : (element tbs algorithm value : DerElement) (c : Certificate) → element ≡ sequence (tbs ∷ algorithm ∷ value ∷ []) → IsCertificate element c
     → IsTbsCertificate tbs c.tbs_certificate × (algorithm ≡ algorithm_identifier c.signature_algorithm) × (value ≡ bit_string c.signature_value)
 by_three element tbs algorithm value c is spelled =
-    let same = same_three (tbs_of spelled.elements.tbs) (algorithm_identifier c.signature_algorithm) (bit_string c.signature_value) tbs algorithm value (sym (three_of element c spelled) ∙ is) in
+    let same = same_three (tbs_of spelled.elements.tbs)
+    (algorithm_identifier c.signature_algorithm)
+    (bit_string c.signature_value) tbs algorithm value (sym (three_of element c spelled) ∙ is) in
     (subst (λ (e : DerElement). IsTbsCertificate e c.tbs_certificate) same.0 (signed_in element c spelled), sym same.1, sym same.2)
 
 pub of_three : (element tbs algorithm value : DerElement) (c : Certificate) → element ≡ sequence (tbs ∷ algorithm ∷ value ∷ []) → IsTbsCertificate tbs c.tbs_certificate

@@ -38,8 +38,12 @@ read_of_fields element f (Ok tbs) is spelled = of_fields element f tbs is spelle
 read_of_fields element f (Err e) is refused = list_refused (AreTbsFields f) (IsTbsCertificate element) e (λ tbs p. (tbs, by_fields element f tbs is p)) refused
 
 -- what each element spells are the fields of one value
-pub all_fit : (f : TbsElements) → Fits (SpellsOption IsVersion) f.version → (value : IntegerAsn1) × (f.serial_number ≡ integer_contents value) → (a : AlgorithmIdentifier) × (f.signature ≡ algorithm_identifier a)
-    → Fits IsName f.issuer → (v : Validity) × (f.validity ≡ validity v) → Fits IsName f.subject → Fits IsPublicKeyInfo f.subject_public_key_info → Fits (SpellsOption IsExtensions) f.extensions → Fits AreTbsFields f
+pub all_fit : (f : TbsElements) → Fits (SpellsOption IsVersion) f.version
+    → (value : IntegerAsn1) × (f.serial_number ≡ integer_contents value)
+    → (a : AlgorithmIdentifier) × (f.signature ≡ algorithm_identifier a)
+    → Fits IsName f.issuer → (v : Validity) × (f.validity ≡ validity v) → Fits IsName f.subject
+    → Fits IsPublicKeyInfo f.subject_public_key_info
+    → Fits (SpellsOption IsExtensions) f.extensions → Fits AreTbsFields f
 all_fit f version serial signature issuer valid subject key extensions = (
   record {
     version = version.0;
@@ -68,7 +72,8 @@ all_fit f version serial signature issuer valid subject key extensions = (
 )
 
 -- what three parts of the fields spell is spelled by all
-pub parts_join : (f : TbsElements) (by : IssuedBy) (to : IssuedTo) (added : AddedFields) → IsIssuedBy f by → IsIssuedTo f to → AreAdded f added → AreTbsFields f (tbs_of_parts by to added)
+pub parts_join : (f : TbsElements) (by : IssuedBy) (to : IssuedTo) (added : AddedFields)
+    → IsIssuedBy f by → IsIssuedTo f to → AreAdded f added → AreTbsFields f (tbs_of_parts by to added)
 parts_join f by to added b t a = record {
   version = b.version;
   serial_number = b.serial_number;
@@ -84,10 +89,38 @@ parts_join f by to added b t a = record {
 
 -- where a part spells nothing, nothing is spelled by all
 pub no_issued_by : (f : TbsElements) (e : DerError) → RefusesShape (IsIssuedBy f) e → RefusesShape (AreTbsFields f) e
-no_issued_by f e = list_refused (IsIssuedBy f) (AreTbsFields f) e (λ tbs p. (issued_by tbs, record { version = p.version; serial_number = p.serial_number; signature = p.signature; issuer = p.issuer }))
+no_issued_by f e =
+    list_refused (IsIssuedBy f) (AreTbsFields f) e
+    (λ tbs p. (
+      issued_by tbs,
+      record {
+        version = p.version;
+        serial_number = p.serial_number;
+        signature = p.signature;
+        issuer = p.issuer;
+      },
+    ))
 
 pub no_issued_to : (f : TbsElements) (e : DerError) → RefusesShape (IsIssuedTo f) e → RefusesShape (AreTbsFields f) e
-no_issued_to f e = list_refused (IsIssuedTo f) (AreTbsFields f) e (λ tbs p. (issued_to tbs, record { validity = p.validity; subject = p.subject; subject_public_key_info = p.subject_public_key_info }))
+no_issued_to f e =
+    list_refused (IsIssuedTo f) (AreTbsFields f) e
+    (λ tbs p. (
+      issued_to tbs,
+      record {
+        validity = p.validity;
+        subject = p.subject;
+        subject_public_key_info = p.subject_public_key_info;
+      },
+    ))
 
 pub none_added : (f : TbsElements) (e : DerError) → RefusesShape (AreAdded f) e → RefusesShape (AreTbsFields f) e
-none_added f e = list_refused (AreAdded f) (AreTbsFields f) e (λ tbs p. (added_fields tbs, record { issuer_unique_id = p.issuer_unique_id; subject_unique_id = p.subject_unique_id; extensions = p.extensions }))
+none_added f e =
+    list_refused (AreAdded f) (AreTbsFields f) e
+    (λ tbs p. (
+      added_fields tbs,
+      record {
+        issuer_unique_id = p.issuer_unique_id;
+        subject_unique_id = p.subject_unique_id;
+        extensions = p.extensions;
+      },
+    ))

@@ -25,5 +25,7 @@ fields_once v w a b k l p q m n f g e =
     let algorithm : a ≡ b = cc in
     let key : k ≡ l = cc in
     let others : option_to_list p ++ optional_leaf 0x81 m ≡ option_to_list q ++ optional_leaf 0x81 n = cc in
-    let parts = split 0xA0 (option_to_list p) (option_to_list q) (optional_leaf 0x81 m) (optional_leaf 0x81 n) (attributes_field p f) (attributes_field q g) (λ none. other_tag m) (λ none. other_tag n) others in
+    let parts = split 0xA0 (option_to_list p) (option_to_list q) (optional_leaf 0x81 m)
+    (optional_leaf 0x81 n) (attributes_field p f) (attributes_field q g) (λ none. other_tag m)
+    (λ none. other_tag n) others in
     (version, algorithm, key, kept_once p q parts.0, leaf_once 0x81 m n parts.1)

@@ -58,12 +58,16 @@ bits_once (Some x) (Some y) e = let same : bit_string_contents x ≡ bit_string_
 
 -- ---- the whole
 
-abbrev info_of : (v : PrivateKeyVersion) (algorithm : AlgorithmIdentifier) (key : PrivateKeyValue) (attributes : Option KeptElement) (public_key : Option BitString) → Agree algorithm key attributes → PrivateKeyInfo
+abbrev info_of : (v : PrivateKeyVersion) (algorithm : AlgorithmIdentifier) (key : PrivateKeyValue)
+    (attributes : Option KeptElement) (public_key : Option BitString)
+    → Agree algorithm key attributes → PrivateKeyInfo
 info_of v algorithm key attributes public_key agree =
     record { version = v; private_key_algorithm = algorithm; private_key = key; attributes = attributes; public_key = public_key; agree = agree }
 
 -- values of the same fields are the same
-pub same_info : (a b : PrivateKeyInfo) → a.version ≡ b.version → a.private_key_algorithm ≡ b.private_key_algorithm → a.private_key ≡ b.private_key → a.attributes ≡ b.attributes → a.public_key ≡ b.public_key → a ≡ b
+pub same_info : (a b : PrivateKeyInfo) → a.version ≡ b.version
+    → a.private_key_algorithm ≡ b.private_key_algorithm → a.private_key ≡ b.private_key
+    → a.attributes ≡ b.attributes → a.public_key ≡ b.public_key → a ≡ b
 same_info a b v algorithm key attributes public_key =
     let alike : (h : Agree a.private_key_algorithm a.private_key a.attributes) → a ≡ info_of b.version a.private_key_algorithm a.private_key a.attributes b.public_key h =
     λ h i. info_of (v i) a.private_key_algorithm a.private_key a.attributes (public_key i) (Agree-prop a.private_key_algorithm a.private_key a.attributes a.agree h i) in
@@ -75,22 +79,44 @@ same_info a b v algorithm key attributes public_key =
 
 pub infos_once : (a b : PrivateKeyInfo) → private_key_info a ≡ private_key_info b → a ≡ b
 infos_once a b e =
-    let parts = fields_once (key_version a.version) (key_version b.version) (algorithm_identifier a.private_key_algorithm) (algorithm_identifier b.private_key_algorithm) (encoding (private_key a.private_key)) (encoding (private_key b.private_key)) (kept_option a.attributes) (kept_option b.attributes) (option_map bit_string_contents a.public_key) (option_map bit_string_contents b.public_key) a.agree.tagged b.agree.tagged e in
+    let parts = fields_once (key_version a.version) (key_version b.version)
+    (algorithm_identifier a.private_key_algorithm)
+    (algorithm_identifier b.private_key_algorithm) (encoding (private_key a.private_key))
+    (encoding (private_key b.private_key)) (kept_option a.attributes)
+    (kept_option b.attributes) (option_map bit_string_contents a.public_key)
+    (option_map bit_string_contents b.public_key) a.agree.tagged b.agree.tagged e in
     let algorithm = algorithms.once (algorithm_identifier a.private_key_algorithm) a.private_key_algorithm b.private_key_algorithm refl parts.1 in
     let named : Names b.private_key_algorithm (private_kind a.private_key) = subst (λ (x : AlgorithmIdentifier). Names x (private_kind a.private_key)) algorithm a.agree.named in
     let kind = one_kind (private_kind a.private_key) (private_kind b.private_key) (identifier_contents b.private_key_algorithm.oid) named b.agree.named in
-    same_info a b (versions_once a.version b.version parts.0) algorithm (keys_by_encoding a.private_key b.private_key kind parts.2) (kept_once a.attributes b.attributes parts.3) (bits_once a.public_key b.public_key parts.4)
+    same_info a b (versions_once a.version b.version parts.0) algorithm
+    (keys_by_encoding a.private_key b.private_key kind parts.2)
+    (kept_once a.attributes b.attributes parts.3) (bits_once a.public_key b.public_key parts.4)
 
 public_formed : (public_key : Option BitString) → AreWellFormed (row (optional_leaf 0x81 (option_map bit_string_contents public_key)))
 public_formed None = tt
 public_formed (Some bits) = (((omega arith, omega arith, omega arith), refl), tt)
 
-optional_formed : (attributes : Option KeptElement) (public_key : Option BitString) → AreWellFormed (row (option_to_list (kept_option attributes) ++ optional_leaf 0x81 (option_map bit_string_contents public_key)))
+optional_formed : (attributes : Option KeptElement) (public_key : Option BitString)
+    → AreWellFormed (row (option_to_list (kept_option attributes) ++ optional_leaf 0x81
+    (option_map bit_string_contents public_key)))
 optional_formed None public_key = public_formed public_key
 optional_formed (Some attributes) public_key = (attributes.der.formed, public_formed public_key)
 
 pub infos_formed : (info : PrivateKeyInfo) → IsWellFormed (private_key_info info)
-infos_formed info = ((omega arith, omega arith, omega arith), refl, (versions_formed info.version, (algorithms.formed info.private_key_algorithm, (((omega arith, omega arith, omega arith), refl), optional_formed info.attributes info.public_key))))
+infos_formed info = (
+  (omega arith, omega arith, omega arith),
+  refl,
+  (
+    versions_formed info.version,
+    (
+      algorithms.formed info.private_key_algorithm,
+      (
+        ((omega arith, omega arith, omega arith), refl),
+        optional_formed info.attributes info.public_key,
+      ),
+    ),
+  ),
+)
 
 pub private_key_infos : IsGrammar IsPrivateKeyInfo private_key_info inner_private_key
 private_key_infos = record {

@@ -38,7 +38,9 @@ leaves_once (Some x) (Some y) e = let same : bit_string_contents x ≡ bit_strin
 
 pub keys_once : (a b : PrivateKey) → kept_key a ≡ kept_key b → a ≡ b
 keys_once a b e =
-    let kids = same_fields (private_key_info a.info ∷ optional_leaf 0x03 (option_map bit_string_contents a.public_key)) (private_key_info b.info ∷ optional_leaf 0x03 (option_map bit_string_contents b.public_key)) e in
+    let kids = same_fields (private_key_info a.info ∷ optional_leaf 0x03
+    (option_map bit_string_contents a.public_key)) (private_key_info b.info ∷ optional_leaf
+    0x03 (option_map bit_string_contents b.public_key)) e in
     let info : private_key_info a.info ≡ private_key_info b.info = cc in
     let public_key : optional_leaf 0x03 (option_map bit_string_contents a.public_key) ≡ optional_leaf 0x03 (option_map bit_string_contents b.public_key) = cc in
     same_key a b (infos_once a.info b.info info) (leaves_once a.public_key b.public_key public_key)

@@ -36,7 +36,8 @@ pub same_three : (s t u x y z : DerElement) → sequence (s ∷ t ∷ u ∷ []) 
 same_three s t u x y z e = (cc, cc, cc)
 
 -- the three elements in one that spells a certificate
-pub three_of : (element : DerElement) (c : Certificate) (p : IsCertificate element c) → element ≡ sequence (tbs_of p.elements.tbs ∷ algorithm_identifier c.signature_algorithm ∷ bit_string c.signature_value ∷ [])
+pub three_of : (element : DerElement) (c : Certificate) (p : IsCertificate element c)
+    → element ≡ sequence (tbs_of p.elements.tbs ∷ algorithm_identifier c.signature_algorithm ∷ bit_string c.signature_value ∷ [])
 three_of element c p =
     let f = p.elements in
     p.is
@@ -49,14 +50,26 @@ signed_in element c p = record { elements = p.elements.tbs; is = refl; spelled =
 
 certificates_once : (element : DerElement) (a b : Certificate) → IsCertificate element a → IsCertificate element b → a ≡ b
 certificates_once element a b p q =
-    let same = same_three (tbs_of p.elements.tbs) (algorithm_identifier a.signature_algorithm) (bit_string a.signature_value) (tbs_of q.elements.tbs) (algorithm_identifier b.signature_algorithm) (bit_string b.signature_value) (sym (three_of element a p) ∙ three_of element b q) in
-    same_certificate a b (tbs_certificates.once (tbs_of q.elements.tbs) a.tbs_certificate b.tbs_certificate (subst (λ (e : DerElement). IsTbsCertificate e a.tbs_certificate) same.0 (signed_in element a p)) (signed_in element b q))
+    let same = same_three (tbs_of p.elements.tbs) (algorithm_identifier a.signature_algorithm)
+    (bit_string a.signature_value) (tbs_of q.elements.tbs)
+    (algorithm_identifier b.signature_algorithm) (bit_string b.signature_value)
+    (sym (three_of element a p) ∙ three_of element b q) in
+    same_certificate a b (tbs_certificates.once
+    (tbs_of q.elements.tbs) a.tbs_certificate b.tbs_certificate
+    (subst (λ (e : DerElement). IsTbsCertificate e a.tbs_certificate) same.0
+    (signed_in element a p)) (signed_in element b q))
     (same_algorithm a.signature_algorithm b.signature_algorithm same.1) (same_bits a.signature_value b.signature_value same.2)
 
 certificates_spelled : (c : Certificate) → AreDer (inner_certificate c) → IsCertificate (certificate c) c
 certificates_spelled c der =
     let tbs = tbs_certificates.spelled c.tbs_certificate der in
-    let f : CertificateElements = record { tbs = tbs.elements; algorithm = algorithm_identifier c.signature_algorithm; unused = unused_of c.signature_value; signature = payload_of c.signature_value } in
+    let f : CertificateElements = record {
+      tbs = tbs.elements;
+      algorithm = algorithm_identifier c.signature_algorithm;
+      unused = unused_of
+          c.signature_value;
+      signature = payload_of c.signature_value;
+    } in
     record {
       elements = f;
       is = ap (λ (x : DerElement). sequence (x ∷ algorithm_identifier c.signature_algorithm ∷ bit_string c.signature_value ∷ [])) tbs.is;
@@ -65,11 +78,23 @@ certificates_spelled c der =
 
 certificates_told : (a b : Certificate) → value_kinds a.tbs_certificate.extensions ≡ value_kinds b.tbs_certificate.extensions → certificate a ≡ certificate b → a ≡ b
 certificates_told a b kinds e =
-    let same = same_three (tbs_certificate a.tbs_certificate) (algorithm_identifier a.signature_algorithm) (bit_string a.signature_value) (tbs_certificate b.tbs_certificate) (algorithm_identifier b.signature_algorithm) (bit_string b.signature_value) e in
-    same_certificate a b (tbs_told a.tbs_certificate b.tbs_certificate kinds same.0) (same_algorithm a.signature_algorithm b.signature_algorithm same.1) (same_bits a.signature_value b.signature_value same.2)
+    let same = same_three (tbs_certificate a.tbs_certificate)
+    (algorithm_identifier a.signature_algorithm) (bit_string a.signature_value)
+    (tbs_certificate b.tbs_certificate) (algorithm_identifier b.signature_algorithm)
+    (bit_string b.signature_value) e in
+    same_certificate a b (tbs_told a.tbs_certificate b.tbs_certificate kinds same.0)
+    (same_algorithm a.signature_algorithm b.signature_algorithm same.1)
+    (same_bits a.signature_value b.signature_value same.2)
 
 pub certificates_formed : (c : Certificate) → IsWellFormed (certificate c)
-certificates_formed c = ((omega arith, omega arith, omega arith), refl, (tbs_certificates.formed c.tbs_certificate, (algorithms.formed c.signature_algorithm, (bit_strings.formed c.signature_value, tt))))
+certificates_formed c = (
+  (omega arith, omega arith, omega arith),
+  refl,
+  (
+    tbs_certificates.formed c.tbs_certificate,
+    (algorithms.formed c.signature_algorithm, (bit_strings.formed c.signature_value, tt)),
+  ),
+)
 
 pub certificates : IsGrammar IsCertificate certificate inner_certificate
 certificates = record {

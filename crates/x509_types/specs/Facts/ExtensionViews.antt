@@ -109,8 +109,12 @@ holds_once kinds.KeyUsage octets a b p q = p.1 ∙ ap views.KeyUsage (within_onc
 holds_once kinds.SubjectAltName octets a b p q = names_once views.SubjectAltName octets a b p q
 holds_once kinds.IssuerAltName octets a b p q = names_once views.IssuerAltName octets a b p q
 holds_once kinds.BasicConstraints octets a b p q = p.1 ∙ ap views.BasicConstraints (within_once IsBasicConstraints all_basic_constraints.once octets p.0 q.0 p.2 q.2) ∙ sym q.1
-holds_once kinds.AuthorityKeyIdentifier octets a b p q = p.1 ∙ ap views.AuthorityKeyIdentifier (within_once (Prints authority_key_identifier) authority_key_identifiers.once octets p.0 q.0 p.2 q.2) ∙ sym q.1
-holds_once kinds.ExtendedKeyUsage octets a b p q = p.1 ∙ ap views.ExtendedKeyUsage (within_once (Prints extended_key_usage) extended_key_usages.once octets p.0 q.0 p.2 q.2) ∙ sym q.1
+holds_once kinds.AuthorityKeyIdentifier octets a b p q =
+    p.1 ∙ ap views.AuthorityKeyIdentifier
+    (within_once (Prints authority_key_identifier) authority_key_identifiers.once octets p.0 q.0 p.2 q.2) ∙ sym q.1
+holds_once kinds.ExtendedKeyUsage octets a b p q =
+    p.1 ∙ ap views.ExtendedKeyUsage
+    (within_once (Prints extended_key_usage) extended_key_usages.once octets p.0 q.0 p.2 q.2) ∙ sym q.1
 holds_once kinds.Other octets a b p q = p ∙ sym q
 
 pub values_once : (kind : ExtensionKind) (octets : List ℕ) (a b : ExtensionView) → IsValueOf kind octets a → IsValueOf kind octets b → a ≡ b
@@ -147,8 +151,13 @@ written_once kinds.SubjectKeyIdentifier octets a b p q = p.1 ∙ ap views.Subjec
 written_once kinds.KeyUsage octets a b p q = p.1 ∙ ap views.KeyUsage (printed_once key_usage key_usages p.0 q.0 (sym p.2 ∙ q.2)) ∙ sym q.1
 written_once kinds.SubjectAltName octets a b p q = p.1 ∙ ap views.SubjectAltName (printed_once general_names general_name_lists p.0 q.0 (sym p.2 ∙ q.2)) ∙ sym q.1
 written_once kinds.IssuerAltName octets a b p q = p.1 ∙ ap views.IssuerAltName (printed_once general_names general_name_lists p.0 q.0 (sym p.2 ∙ q.2)) ∙ sym q.1
-written_once kinds.BasicConstraints octets a b p q = p.1 ∙ ap views.BasicConstraints (encoded_once basic_constraints constraints_printed all_basic_constraints.formed p.0 q.0 (sym p.2 ∙ q.2)) ∙ sym q.1
-written_once kinds.AuthorityKeyIdentifier octets a b p q = p.1 ∙ ap views.AuthorityKeyIdentifier (printed_once authority_key_identifier authority_key_identifiers p.0 q.0 (sym p.2 ∙ q.2)) ∙ sym q.1
+written_once kinds.BasicConstraints octets a b p q =
+    p.1 ∙ ap views.BasicConstraints
+    (encoded_once basic_constraints constraints_printed all_basic_constraints.formed p.0 q.0
+    (sym p.2 ∙ q.2)) ∙ sym q.1
+written_once kinds.AuthorityKeyIdentifier octets a b p q =
+    p.1 ∙ ap views.AuthorityKeyIdentifier
+    (printed_once authority_key_identifier authority_key_identifiers p.0 q.0 (sym p.2 ∙ q.2)) ∙ sym q.1
 written_once kinds.ExtendedKeyUsage octets a b p q = p.1 ∙ ap views.ExtendedKeyUsage (printed_once extended_key_usage extended_key_usages p.0 q.0 (sym p.2 ∙ q.2)) ∙ sym q.1
 written_once kinds.Other octets a b p q = p ∙ sym q
 

@@ -33,7 +33,9 @@ fields_once element oid oid' b c v w p q =
     same_fields (oid ∷ (p.flag ++ Primitive 0x04 v ∷ [])) (oid' ∷ (q.flag ++ Primitive 0x04 w ∷ [])) (sym p.is ∙ q.is) in
     let first : oid ≡ oid' = cc in
     let others : p.flag ++ Primitive 0x04 v ∷ [] ≡ q.flag ++ Primitive 0x04 w ∷ [] = cc in
-    let parts = split 0x01 p.flag q.flag (Primitive 0x04 v ∷ []) (Primitive 0x04 w ∷ []) (default_field p.flag b p.flagged) (default_field q.flag c q.flagged) (λ none e. omega (arith, e)) (λ none e. omega (arith, e)) others in
+    let parts = split 0x01 p.flag q.flag (Primitive 0x04 v ∷ []) (Primitive 0x04 w ∷ [])
+    (default_field p.flag b p.flagged) (default_field q.flag c q.flagged)
+    (λ none e. omega (arith, e)) (λ none e. omega (arith, e)) others in
     (first, default_once q.flag b c (subst (λ (f : List DerElement). IsDefaultFalse f b) parts.0 p.flagged) q.flagged, value_once v w parts.1)
   where
     value_once : (x y : List ℕ) → Primitive 0x04 x ∷ [] ≡ Primitive 0x04 y ∷ [] → x ≡ y
@@ -56,7 +58,9 @@ extensions_once element a b p q =
     let id = same_identifier a.extn_id b.extn_id fields.0 in
     let kind = named_kind (identifier_contents b.extn_id) in
     let agrees : IsOfKind kind a.extn_value = subst (λ (i : ObjectIdentifier). IsOfKind (named_kind (identifier_contents i)) a.extn_value) id a.agrees in
-    same_extension a b id fields.1 (values_once kind q.octets a.extn_value b.extn_value (agrees, subst (λ (o : List ℕ). IsValueIn o a.extn_value) fields.2 p.value) (b.agrees, q.value))
+    same_extension a b id fields.1
+    (values_once kind q.octets a.extn_value b.extn_value
+    (agrees, subst (λ (o : List ℕ). IsValueIn o a.extn_value) fields.2 p.value) (b.agrees, q.value))
 
 -- what is written has the fields of the extension
 pub written_fields : (e : Extension) → IsExtensionOf (extension e) (object_identifier e.extn_id) e.critical (value_octets e.extn_value)
@@ -88,7 +92,9 @@ pub extensions_by_octets : (a b : Extension) → extension_octets a ≡ extensio
 extensions_by_octets a b e =
     let numbers : extension_kind_number (kind_of_view a.extn_value) ≡ extension_kind_number (kind_of_view b.extn_value) = cc in
     let octets : encoding (extension a) ≡ encoding (extension b) = cc in
-    extensions_told a b (kinds_by_number (kind_of_view a.extn_value) (kind_of_view b.extn_value) numbers) (formed_encoding_once (extension a) (extension b) (extensions_formed a) (extensions_formed b) octets)
+    extensions_told a b (kinds_by_number (kind_of_view a.extn_value)
+    (kind_of_view b.extn_value) numbers) (formed_encoding_once (extension a) (extension b)
+    (extensions_formed a) (extensions_formed b) octets)
 
 -- A test that holds exactly where two values are the same is that of their octets, where these can be written.
 pub writable_decide : {X : Type 0} (spells : DerElement → X → Type 0) (written : X → DerElement) (inner : X → List DerElement) → IsGrammar spells written inner

@@ -31,8 +31,14 @@ same_tail f g e =
     let y = optional_explicit 0xA3 g.extensions in
     let s = optional_leaf 0x82 f.subject_unique_id in
     let t = optional_leaf 0x82 g.subject_unique_id in
-    let issuers = split 0x81 (optional_leaf 0x81 f.issuer_unique_id) (optional_leaf 0x81 g.issuer_unique_id) (s ++ x) (t ++ y) (leaf_field 0x81 f.issuer_unique_id) (leaf_field 0x81 g.issuer_unique_id) (λ none. no_issuer f.subject_unique_id f.extensions) (λ none. no_issuer g.subject_unique_id g.extensions) e in
-    let subjects = split 0x82 s t x y (leaf_field 0x82 f.subject_unique_id) (leaf_field 0x82 g.subject_unique_id) (λ none. no_subject f.extensions) (λ none. no_subject g.extensions) issuers.1 in
+    let issuers = split 0x81 (optional_leaf 0x81 f.issuer_unique_id)
+    (optional_leaf 0x81 g.issuer_unique_id) (s ++ x) (t ++ y)
+    (leaf_field 0x81 f.issuer_unique_id) (leaf_field 0x81 g.issuer_unique_id)
+    (λ none. no_issuer f.subject_unique_id f.extensions)
+    (λ none. no_issuer g.subject_unique_id g.extensions) e in
+    let subjects = split 0x82 s t x y (leaf_field 0x82 f.subject_unique_id)
+    (leaf_field 0x82 g.subject_unique_id) (λ none. no_subject f.extensions)
+    (λ none. no_subject g.extensions) issuers.1 in
     record {
       issuer = leaf_once 0x81 f.issuer_unique_id g.issuer_unique_id issuers.0;
       subject = leaf_once 0x82 f.subject_unique_id g.subject_unique_id subjects.0;
@@ -46,7 +52,9 @@ behind f = Primitive 0x02 f.serial_number ∷ f.signature ∷ f.issuer ∷ f.val
 -- an element has its fields once
 pub same_elements : (f g : TbsElements) → tbs_of f ≡ tbs_of g → f ≡ g
 same_elements f g e =
-    let versions = split 0xA0 (optional_explicit 0xA0 f.version) (optional_explicit 0xA0 g.version) (behind f) (behind g) (explicit_field 0xA0 f.version) (explicit_field 0xA0 g.version) (λ none t. omega (arith, t)) (λ none t. omega (arith, t))
+    let versions = split 0xA0 (optional_explicit 0xA0 f.version) (optional_explicit 0xA0 g.version)
+    (behind f) (behind g) (explicit_field 0xA0 f.version) (explicit_field 0xA0 g.version)
+    (λ none t. omega (arith, t)) (λ none t. omega (arith, t))
     (same_fields (optional_explicit 0xA0 f.version ++ behind f) (optional_explicit 0xA0 g.version ++ behind g) e) in
     let kids : behind f ≡ behind g = versions.1 in
     let version : f.version ≡ g.version = explicit_once 0xA0 f.version g.version versions.0 in
@@ -83,8 +91,12 @@ pub record AreFormed (f : TbsElements) : Type 0 where
 
 pub elements_formed : (f : TbsElements) → AreFormed f → IsWellFormed (tbs_of f)
 elements_formed f formed =
-    let subject = leaf_formed 0x82 f.subject_unique_id (optional_explicit 0xA3 f.extensions) (omega arith, omega arith, omega arith) refl (last_formed 0xA3 f.extensions (omega arith, omega arith, omega arith) refl formed.extensions) in
-    let tail = leaf_formed 0x81 f.issuer_unique_id (optional_leaf 0x82 f.subject_unique_id ++ optional_explicit 0xA3 f.extensions) (omega arith, omega arith, omega arith) refl subject in
+    let subject = leaf_formed 0x82 f.subject_unique_id (optional_explicit 0xA3 f.extensions)
+    (omega arith, omega arith, omega arith) refl
+    (last_formed 0xA3 f.extensions (omega arith, omega arith, omega arith) refl formed.extensions) in
+    let tail = leaf_formed 0x81 f.issuer_unique_id
+    (optional_leaf 0x82 f.subject_unique_id ++ optional_explicit 0xA3 f.extensions)
+    (omega arith, omega arith, omega arith) refl subject in
     let serial : IsWellFormed (Primitive 0x02 f.serial_number) = ((omega arith, omega arith, omega arith), refl) in (
       (omega arith, omega arith, omega arith),
       refl,

@@ -80,7 +80,8 @@ pub kinds_and_octets : (x y : Option (List Extension)) (ks ls : DerElements) →
 kinds_and_octets x y ks ls e = split_before 0x30 (omega arith) (value_kinds x) (value_kinds y) _ _ _ _ refl refl (small_kinds x) (small_kinds y) e
 
 -- A test that holds exactly where two values are the same is that of octets by which they are told.
-pub told_decide : {X : Type 0} (octets : X → List ℕ) → ((a b : X) → octets a ≡ octets b → a ≡ b) → (a b : X) (test : Bool) → (IsTrue test ↔ (a ≡ b)) → test ≡ bytes_eq (octets a) (octets b)
+pub told_decide : {X : Type 0} (octets : X → List ℕ) → ((a b : X) → octets a ≡ octets b → a ≡ b)
+    → (a b : X) (test : Bool) → (IsTrue test ↔ (a ≡ b)) → test ≡ bytes_eq (octets a) (octets b)
 told_decide {X} octets one a b test same =
     let decides = bytes_eq-Decides (octets a) (octets b) in
     same_tests test (bytes_eq (octets a) (octets b)) same (λ w. one a b (decides.0 w), λ e. decides.1 (ap (λ (v : X). octets v) e))

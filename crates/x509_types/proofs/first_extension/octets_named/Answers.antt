@@ -8,7 +8,9 @@ pub returns-in_err-first : goal.returns-in_err-first
 returns-in_err-first c = rw c.from_residual-in_err-first.ensures (λ octets named. some_fields _ _ _ _ octets c.in_ok-kids.ensures c.in_err-first.ensures.0 named.1)
 
 pub returns-in_err-expect_leaf : goal.returns-in_err-expect_leaf
-returns-in_err-expect_leaf c = rw c.from_residual-in_err-expect_leaf.ensures (λ octets named. c.in_err-expect_leaf.ensures (first_field _ _ _ _ _ _ octets c.in_ok-kids.ensures c.in_ok-first.ensures named.1))
+returns-in_err-expect_leaf c =
+    rw c.from_residual-in_err-expect_leaf.ensures
+    (λ octets named. c.in_err-expect_leaf.ensures (first_field _ _ _ _ _ _ octets c.in_ok-kids.ensures c.in_ok-first.ensures named.1))
 
 pub returns-in_err-fields : goal.returns-in_err-fields
 returns-in_err-fields c = rw c.from_residual-in_err-fields.ensures (λ octets named. c.in_err-fields.ensures _ named.0 octets named.1)

@@ -13,7 +13,9 @@ pub returns-in-Some-Ed25519 : goal.returns-in-Some-Ed25519
 returns-in-Some-Ed25519 c =
     let is = ap (λ (i : SubjectPublicKeyInfo). i.subject_public_key) (sym c.as_spki-info.ensures) ∙ c.in-Ed.is in
     let oid = c.as_bytes.ensures ∙ ap identifier_contents (c.oid.ensures ∙ ap (λ (i : SubjectPublicKeyInfo). i.algorithm.oid) c.as_spki-info.ensures) in
-    ed_sized (λ (bytes : Bor (List ℕ)). bytes.now) c.args.public_key.now.info c.in-Ed.bits is (sym oid ∙ sym c.in-Some-Ed25519.ensures.name ∙ ap ed_identifier c.in-Some-Ed25519.field-0-is) c.sized_key.result c.sized_key.ensures
+    ed_sized (λ (bytes : Bor (List ℕ)). bytes.now) c.args.public_key.now.info c.in-Ed.bits is
+    (sym oid ∙ sym c.in-Some-Ed25519.ensures.name
+    ∙ ap ed_identifier c.in-Some-Ed25519.field-0-is) c.sized_key.result c.sized_key.ensures
 
 pub returns-in-None : goal.returns-in-None
 returns-in-None c =

@@ -14,5 +14,11 @@ returns-in-Some-kind_at-clause-fits c = λ w.
     let fit = c.has_value.ensures.fits w in
     let fields = c.in-Some.fields in (
       record { extn_id = id.0; critical = fields.critical; extn_value = fit.0; agrees = subst (λ (k : ExtensionKind). IsOfKind k fit.0) id.2 fit.1.0 },
-      record { octets = fields.value.now; fields = subst (λ (o : DerElement). IsExtensionOf c.args.elem.is.0 o fields.critical fields.value.now) id.1 c.in-Some.ensures; value = fit.1.1 },
+      record {
+        octets = fields.value.now;
+        fields = subst
+            (λ (o : DerElement). IsExtensionOf c.args.elem.is.0 o fields.critical fields.value.now)
+            id.1 c.in-Some.ensures;
+        value = fit.1.1;
+      },
     )

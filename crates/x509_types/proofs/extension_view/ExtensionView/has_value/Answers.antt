@@ -24,19 +24,23 @@ pub returns-in-BasicConstraints-clause-fits : goal.returns-in-BasicConstraints-c
 returns-in-BasicConstraints-clause-fits c = λ w. let fit = c.has_within-in-BasicConstraints.ensures.fits w in (views.BasicConstraints fit.0, (sym c.in-BasicConstraints.is, fit.1))
 
 pub returns-in-BasicConstraints-clause-unfit : goal.returns-in-BasicConstraints-clause-unfit
-returns-in-BasicConstraints-clause-unfit c = λ no view of. let value = constraints_of _ _ view c.in-BasicConstraints.is of in c.has_within-in-BasicConstraints.ensures.unfit no value.0 value.1
+returns-in-BasicConstraints-clause-unfit c =
+    λ no view of. let value = constraints_of _ _ view c.in-BasicConstraints.is of in c.has_within-in-BasicConstraints.ensures.unfit no value.0 value.1
 
 pub returns-in-AuthorityKeyIdentifier-clause-fits : goal.returns-in-AuthorityKeyIdentifier-clause-fits
-returns-in-AuthorityKeyIdentifier-clause-fits c = λ w. let fit = c.has_within-in-AuthorityKeyIdentifier.ensures.fits w in (views.AuthorityKeyIdentifier fit.0, (sym c.in-AuthorityKeyIdentifier.is, fit.1))
+returns-in-AuthorityKeyIdentifier-clause-fits c =
+    λ w. let fit = c.has_within-in-AuthorityKeyIdentifier.ensures.fits w in (views.AuthorityKeyIdentifier fit.0, (sym c.in-AuthorityKeyIdentifier.is, fit.1))
 
 pub returns-in-AuthorityKeyIdentifier-clause-unfit : goal.returns-in-AuthorityKeyIdentifier-clause-unfit
-returns-in-AuthorityKeyIdentifier-clause-unfit c = λ no view of. let value = authority_key_of _ _ view c.in-AuthorityKeyIdentifier.is of in c.has_within-in-AuthorityKeyIdentifier.ensures.unfit no value.0 value.1
+returns-in-AuthorityKeyIdentifier-clause-unfit c =
+    λ no view of. let value = authority_key_of _ _ view c.in-AuthorityKeyIdentifier.is of in c.has_within-in-AuthorityKeyIdentifier.ensures.unfit no value.0 value.1
 
 pub returns-in-ExtendedKeyUsage-clause-fits : goal.returns-in-ExtendedKeyUsage-clause-fits
 returns-in-ExtendedKeyUsage-clause-fits c = λ w. let fit = c.has_within-in-ExtendedKeyUsage.ensures.fits w in (views.ExtendedKeyUsage fit.0, (sym c.in-ExtendedKeyUsage.is, fit.1))
 
 pub returns-in-ExtendedKeyUsage-clause-unfit : goal.returns-in-ExtendedKeyUsage-clause-unfit
-returns-in-ExtendedKeyUsage-clause-unfit c = λ no view of. let value = extended_usage_of _ _ view c.in-ExtendedKeyUsage.is of in c.has_within-in-ExtendedKeyUsage.ensures.unfit no value.0 value.1
+returns-in-ExtendedKeyUsage-clause-unfit c =
+    λ no view of. let value = extended_usage_of _ _ view c.in-ExtendedKeyUsage.is of in c.has_within-in-ExtendedKeyUsage.ensures.unfit no value.0 value.1
 
 pub returns-in-Other-clause-fits : goal.returns-in-Other-clause-fits
 returns-in-Other-clause-fits c = λ w. (views.Raw c.args.octets.now, (subst (λ (k : ExtensionKind). MayBeKept k c.args.octets.now) (sym c.in-Other.is) tt, refl))

@@ -7,4 +7,7 @@ returns-in_err-expect_integer c = rw c.from_residual-in_err-expect_integer.ensur
 
 pub returns : goal.returns
 returns c =
-    all_fit (elements_at c.args.self.now) c.in_ok-expect_option.ensures c.in_ok-expect_integer.ensures c.in_ok-expect.ensures c.in_ok-expect-2.ensures c.in_ok-expect-3.ensures c.in_ok-expect-4.ensures c.in_ok-expect-5.ensures c.in_ok-expect_option-2.ensures
+    all_fit (elements_at c.args.self.now) c.in_ok-expect_option.ensures
+    c.in_ok-expect_integer.ensures c.in_ok-expect.ensures c.in_ok-expect-2.ensures
+    c.in_ok-expect-3.ensures c.in_ok-expect-4.ensures c.in_ok-expect-5.ensures
+    c.in_ok-expect_option-2.ensures
