@@ -1,9 +1,12 @@
 -- Why a key isn't read or written, by why its element isn't.
-use Rattle.std.specs.Prelude.{◌≢◌}
+use Rattle.std.specs.Prelude.{◌≡◌, ◌≢◌, ℕ, List, Result, Err}
 use Rattle.der_core.specs.DerElement.{DerElement}
+use Rattle.der_core.specs.Encoding.{encoding, IsDer}
+use Rattle.der_core.specs.Reading.{IsExactFault}
 use Rattle.der_core.specs.Writing.{RefusesToWrite}
 use Rattle.der_core.specs.declared.error.DerError.{DerError}
 use Rattle.der_core.specs.declared.error.DerError.TheVariants as der
+use Rattle.der_core.specs.declared.fault.DerFault.{DerFault}
 use Rattle.der_core.specs.Refusals.{Tells}
 use Rattle.key_core.specs.declared.element.Element.{Element}
 use Rattle.key_core.specs.declared.error.KeyError.{KeyError}
@@ -22,6 +25,21 @@ unwritten element source = errors.Asn1Serialization element source
 -- The error tells of this structure, for a cause that refuses it.
 abbrev pub IsUnreadKey : Element → (DerError → Type 0) → KeyError → Type 0
 IsUnreadKey element = Tells (unread element)
+
+-- Octets with a fault are refused with it, whatever memory there is.
+abbrev pub RefusesFaults : {A : Type 0} → Element → List ℕ → Result A KeyError → Type 0
+RefusesFaults structure octets result =
+    (at : ℕ) (fault : DerFault) → IsExactFault octets at fault
+    → result ≡ Err (errors.Asn1Deserialization structure
+    (der.Malformed (record { at = at; fault = fault })))
+
+-- An element that spells no value is refused as such, whatever memory there is.
+abbrev pub RefusesOthers : {A X : Type 0} → (DerElement → X → Type 0) → Element → List ℕ
+    → Result A KeyError → Type 0
+RefusesOthers {A} {X} spells structure octets result =
+    (element : DerElement) → IsDer element → octets ≡ encoding element
+    → ((value : X) → spells element value → ⊥)
+    → result ≡ Err (errors.Asn1Deserialization structure der.Shape)
 
 -- The error tells of this structure, for a cause that refuses to write it.
 abbrev pub IsUnwrittenKey : Element → (DerError → Type 0) → KeyError → Type 0

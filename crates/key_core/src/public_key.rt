@@ -1,22 +1,16 @@
 //! Public keys.
 
-ghost use Rattle.std.specs.Prelude.{◌≡◌, ◌↔◌, ◌∷◌, ◌++◌, [], ℕ, Some, IsTrue, IfOk, Err, MatchResult};
-ghost use Rattle.der_core.specs.DerElement.{DerElement};
-ghost use Rattle.der_core.specs.Elements.{null};
+ghost use Rattle.std.specs.Prelude.{◌≡◌, ◌↔◌, ◌∷◌, ◌++◌, [], Some, IsTrue, IfOk, Err, MatchResult};
 ghost use Rattle.der_core.specs.Encoding.{encoding, IsDer};
-ghost use Rattle.der_core.specs.Lent.{kept_option};
 ghost use Rattle.der_core.specs.Placed.{AreDer};
-ghost use Rattle.der_core.specs.Reading.{IsExactFault};
 ghost use Rattle.der_core.specs.Refusals.{RefusesOctets, RefusesInner};
 ghost use Rattle.der_core.specs.Structure.{IsWithin};
 ghost use Rattle.der_core.specs.Writing.{RefusesToWrite};
 ghost use Rattle.asn1_types.specs.Elements.{object_identifier};
-ghost use Rattle.der_core.specs.declared.error.DerError.TheVariants as der_errors;
-ghost use Rattle.der_core.specs.declared.fault.DerFault.{DerFault};
 ghost use Rattle.key_types.specs.PublicKeyInfo.{public_key_info, inner_key, IsPublicKeyInfo};
 ghost use Rattle.key_types.specs.SubjectKey.{kind_of_key};
 ghost use Rattle.key_types.specs.declared.key_info.SubjectPublicKeyInfo.{SubjectPublicKeyInfo};
-ghost use Rattle.key_core.specs.KeyRefusals.{IsUnreadKey, IsUnwrittenKey};
+ghost use Rattle.key_core.specs.KeyRefusals.{RefusesFaults, RefusesOthers, IsUnreadKey, IsUnwrittenKey};
 ghost use Rattle.key_core.specs.MadeKeys.{IsRsaInfo, IsRsaKey, IsEcKey, IsEdKey, NamesEd, RefusesEd};
 ghost use Rattle.key_core.specs.declared.element.Element.TheVariants as elements;
 ghost use Rattle.key_core.specs.declared.error.KeyContext.TheVariants as contexts;
@@ -56,15 +50,9 @@ impl PublicKey {
         ensures answer { MatchResult result
             (λ key. IsWithin IsPublicKeyInfo der.now key.info)
             (IsUnreadKey elements.SubjectPublicKeyInfo (RefusesOctets IsPublicKeyInfo der.now)) }
-        // Octets with a fault are refused with it, whatever memory there is.
-        ensures faulty { (at : ℕ) (fault : DerFault) → IsExactFault der.now at fault
-            → result ≡ Err (errors.Asn1Deserialization elements.SubjectPublicKeyInfo
-            (der_errors.Malformed (record { at = at; fault = fault }))) }
-        // An element that is that of no key is refused as such, whatever memory there is.
-        ensures shapeless { (element : DerElement) → IsDer element → der.now ≡ encoding element
-            → ((info : SubjectPublicKeyInfo) → IsPublicKeyInfo element info → ⊥)
-            → result ≡ Err
-            (errors.Asn1Deserialization elements.SubjectPublicKeyInfo der_errors.Shape) }
+        ensures faulty { RefusesFaults elements.SubjectPublicKeyInfo der.now result }
+        ensures shapeless { RefusesOthers IsPublicKeyInfo elements.SubjectPublicKeyInfo der.now
+            result }
     {
         match SubjectPublicKeyInfo::from_der(alloc, der) {
             Ok(info) => Ok(PublicKey { info }),

@@ -1,16 +1,12 @@
 //! Private keys of RSA as PKCS #1 has them, without an algorithm.
 
-ghost use Rattle.std.specs.Prelude.{◌≡◌, ◌≢◌, ◌∷◌, [], ℕ, Err, IfOk, MatchResult};
-ghost use Rattle.der_core.specs.DerElement.{DerElement};
+ghost use Rattle.std.specs.Prelude.{◌≡◌, ◌≢◌, ◌∷◌, [], Err, IfOk, MatchResult};
 ghost use Rattle.der_core.specs.Encoding.{encoding, IsDer};
-ghost use Rattle.der_core.specs.Reading.{IsExactFault};
 ghost use Rattle.der_core.specs.Refusals.{RefusesOctets, RefusesInner};
-ghost use Rattle.der_core.specs.declared.error.DerError.TheVariants as der_errors;
-ghost use Rattle.der_core.specs.declared.fault.DerFault.{DerFault};
 ghost use Rattle.key_types.specs.declared.key_kind.KeyKind.TheVariants as kinds;
 ghost use Rattle.private_key_types.specs.RsaPrivateKey.{rsa_private_key};
 ghost use Rattle.private_key_types.specs.declared.rsa_private_key.RsaPrivateKey.{RsaPrivateKey};
-ghost use Rattle.key_core.specs.KeyRefusals.{IsUnreadKey, IsUnwrittenKey};
+ghost use Rattle.key_core.specs.KeyRefusals.{RefusesFaults, RefusesOthers, IsUnreadKey, IsUnwrittenKey};
 ghost use Rattle.key_core.specs.PrivateKeyValue.{private_kind};
 ghost use Rattle.key_core.specs.PrivatePkcs1.{IsRsaContainer, IsRsaPrivateKey, IsPrivatePkcs1, IsPkcs1OfPrivate, RefusesPrivatePkcs1};
 ghost use Rattle.key_core.specs.declared.element.Element.TheVariants as elements;
@@ -38,14 +34,8 @@ impl PrivateKey {
         ensures answer { MatchResult result
             (IsPrivatePkcs1 der.now)
             (IsUnreadKey elements.RsaPrivateKey (RefusesOctets IsRsaPrivateKey der.now)) }
-        // Octets with a fault are refused with it, whatever memory there is.
-        ensures faulty { (at : ℕ) (fault : DerFault) → IsExactFault der.now at fault
-            → result ≡ Err (errors.Asn1Deserialization elements.RsaPrivateKey
-            (der_errors.Malformed (record { at = at; fault = fault }))) }
-        // An element that is that of no key is refused as such, whatever memory there is.
-        ensures shapeless { (element : DerElement) → IsDer element → der.now ≡ encoding element
-            → ((key : RsaPrivateKey) → IsRsaPrivateKey element key → ⊥)
-            → result ≡ Err (errors.Asn1Deserialization elements.RsaPrivateKey der_errors.Shape) }
+        ensures faulty { RefusesFaults elements.RsaPrivateKey der.now result }
+        ensures shapeless { RefusesOthers IsRsaPrivateKey elements.RsaPrivateKey der.now result }
     {
         match RsaPrivateKey::from_der(alloc, der) {
             Ok(key) => Ok(PrivateKey {

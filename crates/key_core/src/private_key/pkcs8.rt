@@ -1,25 +1,19 @@
 //! Private keys with their algorithms as PKCS #8 has them.
 
-ghost use Rattle.std.specs.Prelude.{◌≡◌, ◌≢◌, ℕ, Option, Some, Err, MatchOption, MatchResult};
+ghost use Rattle.std.specs.Prelude.{◌≡◌, ◌≢◌, Option, Some, Err, MatchOption, MatchResult};
 ghost use Rattle.asn1_types.specs.Elements.{object_identifier};
 ghost use Rattle.asn1_types.specs.Values.{identifier_contents};
 ghost use Rattle.asn1_types.specs.declared.oid.ObjectIdentifier.{ObjectIdentifier};
-ghost use Rattle.der_core.specs.DerElement.{DerElement};
-ghost use Rattle.der_core.specs.Encoding.{encoding, IsDer};
+ghost use Rattle.der_core.specs.Encoding.{encoding};
 ghost use Rattle.der_core.specs.Lent.{kept_option};
-ghost use Rattle.der_core.specs.Reading.{IsExactFault};
-ghost use Rattle.der_core.specs.Refusals.{RefusesOctets};
-ghost use Rattle.der_core.specs.Structure.{IsWithin};
-ghost use Rattle.der_core.specs.declared.error.DerError.TheVariants as der_errors;
-ghost use Rattle.der_core.specs.declared.fault.DerFault.{DerFault};
 ghost use Rattle.key_types.specs.AlgorithmIdentifier.{parameters_of};
 ghost use Rattle.key_core.specs.CurveKeys.{IsCurveKey};
 ghost use Rattle.key_core.specs.DerivedKeys.{IsEdOf, IsEdKeyOf, IsEcRefusal, IsEdRefusal};
-ghost use Rattle.key_core.specs.Pkcs8.{IsKeptKey, IsKeptEc, RefusesEcInfo, RefusesEdInfo, RefusesKept, IsPkcs8Key, RefusesPkcs8};
+ghost use Rattle.key_core.specs.KeyRefusals.{RefusesFaults, RefusesOthers};
+ghost use Rattle.key_core.specs.Pkcs8.{IsKeptKey, RefusesEcInfo, RefusesEdInfo, RefusesKept, IsPkcs8Key, RefusesPkcs8};
 ghost use Rattle.key_core.specs.PrivateKeyInfo.{IsPrivateKeyInfo};
 ghost use Rattle.key_core.specs.declared.ed_algorithm.EdAlgorithm.{EdAlgorithm};
 ghost use Rattle.key_core.specs.declared.element.Element.TheVariants as elements;
-ghost use Rattle.key_core.specs.declared.error.KeyError.TheVariants as errors;
 ghost use Rattle.key_core.specs.declared.private_key_info.PrivateKeyInfo.{PrivateKeyInfo};
 
 use super::PrivateKey;
@@ -55,14 +49,8 @@ impl PrivateKey {
     ) -> Result<PrivateKey, KeyError>
         ensures answer { MatchResult result (IsPkcs8Key (S.derives scheme.now) der.now)
             (RefusesPkcs8 (S.derives scheme.now) der.now) }
-        // Octets with a fault are refused with it, whatever memory there is.
-        ensures faulty { (at : ℕ) (fault : DerFault) → IsExactFault der.now at fault
-            → result ≡ Err (errors.Asn1Deserialization elements.PrivateKeyInfo
-            (der_errors.Malformed (record { at = at; fault = fault }))) }
-        // An element that is that of no key is refused as such, whatever memory there is.
-        ensures shapeless { (element : DerElement) → IsDer element → der.now ≡ encoding element
-            → ((info : PrivateKeyInfo) → IsPrivateKeyInfo element info → ⊥)
-            → result ≡ Err (errors.Asn1Deserialization elements.PrivateKeyInfo der_errors.Shape) }
+        ensures faulty { RefusesFaults elements.PrivateKeyInfo der.now result }
+        ensures shapeless { RefusesOthers IsPrivateKeyInfo elements.PrivateKeyInfo der.now result }
     {
         match PrivateKeyInfo::from_der(alloc, der) {
             Ok(info) => kept(alloc, info, scheme),
@@ -147,10 +135,7 @@ fn identifier_at<'a>(elem: Elem<'a>) -> Option<&'a [u8]>
     if !ObjectIdentifier::has_shape(elem) {
         return None;
     }
-    match leaf_at(elem, OBJECT_IDENTIFIER) {
-        Some(octets) => Some(octets),
-        None => None,
-    }
+    Some(leaf_at(elem, OBJECT_IDENTIFIER)?)
 }
 
 /// The public key of a curve 25519 or 448.
@@ -167,10 +152,7 @@ fn ed_key<S: Scheme>(
         (IsEdRefusal
         (RefusesEdInfo (S.derives scheme.now) secret.now (identifier_contents algorithm.now))) }
 {
-    match ed_key_of(alloc, known_algorithm(algorithm), secret, scheme) {
-        Ok(public_key) => Ok(public_key),
-        Err(error) => Err(error),
-    }
+    ed_key_of(alloc, known_algorithm(algorithm), secret, scheme)
 }
 
 /// The known algorithm of the identifier.

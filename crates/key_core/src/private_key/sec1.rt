@@ -1,23 +1,17 @@
 //! Private keys of elliptic curves as SEC 1 has them, without an algorithm.
 
-ghost use Rattle.std.specs.Prelude.{◌≡◌, ℕ, Some, Err, MatchResult};
+ghost use Rattle.std.specs.Prelude.{◌≡◌, Some, Err, MatchResult};
 ghost use Rattle.asn1_types.specs.Values.{identifier_contents};
 ghost use Rattle.asn1_types.specs.declared.oid.ObjectIdentifier.{ObjectIdentifier};
 ghost use Rattle.key_core.specs.EcCurve.{curve_identifier};
-ghost use Rattle.der_core.specs.DerElement.{DerElement};
-ghost use Rattle.der_core.specs.Encoding.{encoding, IsDer};
-ghost use Rattle.der_core.specs.Reading.{IsExactFault};
+ghost use Rattle.der_core.specs.Encoding.{encoding};
 ghost use Rattle.der_core.specs.Refusals.{RefusesOctets};
 ghost use Rattle.der_core.specs.Structure.{IsWithin};
-ghost use Rattle.der_core.specs.declared.error.DerError.TheVariants as der_errors;
-ghost use Rattle.der_core.specs.declared.fault.DerFault.{DerFault};
 ghost use Rattle.private_key_types.specs.declared.ec_private_key.ECPrivateKey.{ECPrivateKey};
 ghost use Rattle.key_core.specs.CurveKeys.{IsECPrivateKey, IsCurveKey, RefusesCurveKey, IsSec1Key, IsSec1KeyOn, IsSec1KeyOnKnown, RefusesSec1, RefusesOwnCurve, RefusesKnownCurve};
 ghost use Rattle.key_core.specs.DerivedKeys.{IsEcRefusal};
-ghost use Rattle.key_core.specs.KeyRefusals.{IsUnreadKey};
+ghost use Rattle.key_core.specs.KeyRefusals.{RefusesFaults, RefusesOthers, IsUnreadKey};
 ghost use Rattle.key_core.specs.declared.element.Element.TheVariants as elements;
-ghost use Rattle.key_core.specs.declared.error.KeyContext.TheVariants as contexts;
-ghost use Rattle.key_core.specs.declared.error.KeyError.TheVariants as errors;
 
 use super::PrivateKey;
 use super::curve_key::curve_key;
@@ -45,14 +39,8 @@ impl PrivateKey {
         ensures answer { MatchResult result (IsSec1Key (S.derives scheme.now) der.now)
             (RefusesSec1 (λ read. RefusesOwnCurve (S.derives scheme.now) read.parameters read)
             der.now) }
-        // Octets with a fault are refused with it, whatever memory there is.
-        ensures faulty { (at : ℕ) (fault : DerFault) → IsExactFault der.now at fault
-            → result ≡ Err (errors.Asn1Deserialization elements.EcPrivateKey
-            (der_errors.Malformed (record { at = at; fault = fault }))) }
-        // An element that is that of no key is refused as such, whatever memory there is.
-        ensures shapeless { (element : DerElement) → IsDer element → der.now ≡ encoding element
-            → ((key : ECPrivateKey) → IsECPrivateKey element key → ⊥)
-            → result ≡ Err (errors.Asn1Deserialization elements.EcPrivateKey der_errors.Shape) }
+        ensures faulty { RefusesFaults elements.EcPrivateKey der.now result }
+        ensures shapeless { RefusesOthers IsECPrivateKey elements.EcPrivateKey der.now result }
     {
         match read(alloc, der) {
             Ok(key) => own_curve_key(alloc, &key, scheme),
@@ -71,14 +59,8 @@ impl PrivateKey {
         ensures answer { MatchResult result
             (IsSec1KeyOnKnown (S.derives scheme.now) curve der.now)
             (RefusesSec1 (RefusesKnownCurve (S.derives scheme.now) curve) der.now) }
-        // Octets with a fault are refused with it, whatever memory there is.
-        ensures faulty { (at : ℕ) (fault : DerFault) → IsExactFault der.now at fault
-            → result ≡ Err (errors.Asn1Deserialization elements.EcPrivateKey
-            (der_errors.Malformed (record { at = at; fault = fault }))) }
-        // An element that is that of no key is refused as such, whatever memory there is.
-        ensures shapeless { (element : DerElement) → IsDer element → der.now ≡ encoding element
-            → ((key : ECPrivateKey) → IsECPrivateKey element key → ⊥)
-            → result ≡ Err (errors.Asn1Deserialization elements.EcPrivateKey der_errors.Shape) }
+        ensures faulty { RefusesFaults elements.EcPrivateKey der.now result }
+        ensures shapeless { RefusesOthers IsECPrivateKey elements.EcPrivateKey der.now result }
     {
         match read(alloc, der) {
             Ok(key) => known_curve_key(alloc, curve, &key, scheme),
@@ -98,14 +80,8 @@ impl PrivateKey {
         ensures answer { MatchResult result
             (IsSec1KeyOn (S.derives scheme.now) curve_oid der.now)
             (RefusesSec1 (RefusesCurveKey (S.derives scheme.now) curve_oid) der.now) }
-        // Octets with a fault are refused with it, whatever memory there is.
-        ensures faulty { (at : ℕ) (fault : DerFault) → IsExactFault der.now at fault
-            → result ≡ Err (errors.Asn1Deserialization elements.EcPrivateKey
-            (der_errors.Malformed (record { at = at; fault = fault }))) }
-        // An element that is that of no key is refused as such, whatever memory there is.
-        ensures shapeless { (element : DerElement) → IsDer element → der.now ≡ encoding element
-            → ((key : ECPrivateKey) → IsECPrivateKey element key → ⊥)
-            → result ≡ Err (errors.Asn1Deserialization elements.EcPrivateKey der_errors.Shape) }
+        ensures faulty { RefusesFaults elements.EcPrivateKey der.now result }
+        ensures shapeless { RefusesOthers IsECPrivateKey elements.EcPrivateKey der.now result }
     {
         match read(alloc, der) {
             Ok(key) => curve_key(alloc, &curve_oid, &key, scheme),
@@ -119,12 +95,8 @@ fn read(alloc: Global, der: &[u8]) -> Result<ECPrivateKey, KeyError>
     ensures answer { MatchResult result
         (IsWithin IsECPrivateKey der.now)
         (IsUnreadKey elements.EcPrivateKey (RefusesOctets IsECPrivateKey der.now)) }
-    ensures faulty { (at : ℕ) (fault : DerFault) → IsExactFault der.now at fault
-        → result ≡ Err (errors.Asn1Deserialization elements.EcPrivateKey
-        (der_errors.Malformed (record { at = at; fault = fault }))) }
-    ensures shapeless { (element : DerElement) → IsDer element → der.now ≡ encoding element
-        → ((key : ECPrivateKey) → IsECPrivateKey element key → ⊥)
-        → result ≡ Err (errors.Asn1Deserialization elements.EcPrivateKey der_errors.Shape) }
+    ensures faulty { RefusesFaults elements.EcPrivateKey der.now result }
+    ensures shapeless { RefusesOthers IsECPrivateKey elements.EcPrivateKey der.now result }
 {
     match ECPrivateKey::from_der(alloc, der) {
         Ok(key) => Ok(key),

@@ -1,17 +1,13 @@
 //! Public keys of RSA as PKCS #1 has them, without an algorithm.
 
-ghost use Rattle.std.specs.Prelude.{◌≡◌, ◌≢◌, ◌∷◌, [], ℕ, Err, MatchResult};
-ghost use Rattle.der_core.specs.DerElement.{DerElement};
+ghost use Rattle.std.specs.Prelude.{◌≡◌, ◌≢◌, ◌∷◌, [], Err, MatchResult};
 ghost use Rattle.der_core.specs.Encoding.{encoding, IsDer};
-ghost use Rattle.der_core.specs.Reading.{IsExactFault};
 ghost use Rattle.der_core.specs.Refusals.{RefusesOctets, RefusesInner};
-ghost use Rattle.der_core.specs.declared.error.DerError.TheVariants as der_errors;
-ghost use Rattle.der_core.specs.declared.fault.DerFault.{DerFault};
 ghost use Rattle.key_types.specs.RsaPublicKey.{rsa_public_key};
 ghost use Rattle.key_types.specs.SubjectKey.{kind_of_key};
 ghost use Rattle.key_types.specs.declared.key_kind.KeyKind.TheVariants as kinds;
 ghost use Rattle.key_types.specs.declared.public_key.RsaPublicKey.{RsaPublicKey};
-ghost use Rattle.key_core.specs.KeyRefusals.{IsUnreadKey, IsUnwrittenKey};
+ghost use Rattle.key_core.specs.KeyRefusals.{RefusesFaults, RefusesOthers, IsUnreadKey, IsUnwrittenKey};
 ghost use Rattle.key_core.specs.Pkcs1.{IsRsaPublicKey, IsPkcs1Key, IsPkcs1Of, RefusesPkcs1};
 ghost use Rattle.key_core.specs.declared.element.Element.TheVariants as elements;
 ghost use Rattle.key_core.specs.declared.error.KeyContext.TheVariants as contexts;
@@ -32,14 +28,8 @@ impl PublicKey {
         ensures answer { MatchResult result
             (λ key. IsPkcs1Key der.now key.info)
             (IsUnreadKey elements.RsaPublicKey (RefusesOctets IsRsaPublicKey der.now)) }
-        // Octets with a fault are refused with it, whatever memory there is.
-        ensures faulty { (at : ℕ) (fault : DerFault) → IsExactFault der.now at fault
-            → result ≡ Err (errors.Asn1Deserialization elements.RsaPublicKey
-            (der_errors.Malformed (record { at = at; fault = fault }))) }
-        // An element that is that of no key is refused as such, whatever memory there is.
-        ensures shapeless { (element : DerElement) → IsDer element → der.now ≡ encoding element
-            → ((key : RsaPublicKey) → IsRsaPublicKey element key → ⊥)
-            → result ≡ Err (errors.Asn1Deserialization elements.RsaPublicKey der_errors.Shape) }
+        ensures faulty { RefusesFaults elements.RsaPublicKey der.now result }
+        ensures shapeless { RefusesOthers IsRsaPublicKey elements.RsaPublicKey der.now result }
     {
         match RsaPublicKey::from_der(alloc, der) {
             Ok(key) => Ok(PublicKey {
