@@ -27,7 +27,10 @@ pub returns-in_ok-rsa_info-in-Ok-clause-shapeless : goal.returns-in_ok-rsa_info-
 returns-in_ok-rsa_info-in-Ok-clause-shapeless c = λ element der is none. absurd (read_is_not_refused _ _ (c.in-Ok.ensures.shapeless element der is none))
 
 pub returns-in-Err-clause-shapeless : goal.returns-in-Err-clause-shapeless
-returns-in-Err-clause-shapeless c = λ element der is none. ap Err (c.unread.ensures ∙ ap (unread elements.RsaPublicKey) (source_is _ _ (c.in-Err.ensures.shapeless element der is none)))
+returns-in-Err-clause-shapeless c =
+    λ element der is none. ap Err (c.unread.ensures
+    ∙ ap (unread elements.RsaPublicKey)
+    (source_is _ _ (c.in-Err.ensures.shapeless element der is none)))
 
 pub returns-in-Err-clause-answer : goal.returns-in-Err-clause-answer
 returns-in-Err-clause-answer c = (_, c.unread.ensures, c.in-Err.ensures.answer)
