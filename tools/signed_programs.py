@@ -6,6 +6,7 @@ Usage:
     python3 tools/signed_programs.py --make
     python3 tools/signed_programs.py --check
     python3 tools/signed_programs.py --write LABEL FILE
+    python3 tools/signed_programs.py --sample FOLDER
 
 The first prints `tools/signed_programs.txt` anew: openssl (3.0 or later) makes the
 certificates of `KINDS`, and osslsigncode (2.6 or later) signs a program with each
@@ -19,7 +20,8 @@ The second compares the answer to each of `CASES`, by `check_judge`, with that o
 prints where they differ and why.
 
 The third writes to FILE the signed program of a label, or for the label `root` the
-root in PEM.
+root in PEM.  The last writes the signature of one of them, its certificates in order,
+and its table: the files beside the stored run of `picky`, for which `check` is asked first.
 """
 
 import subprocess
@@ -44,6 +46,7 @@ from check_judge import Policy, answer
 from check_making import File
 from order_bag import with_ordered_bag
 from signature_making import STAMP_FORM, portable_executable
+from stored_run import write_stored_run
 
 STORED = Path(__file__).resolve().parent / "signed_programs.txt"
 
@@ -278,7 +281,20 @@ def write_one(label, file):
     return 0
 
 
+def sample():
+    """The program whose signature and table lie beside the stored run of `picky`."""
+    return stored()["stamped"].in_order()
+
+
+def sample_files():
+    """The files of the sample by their paths in the crate `picky`."""
+    file = sample().file()
+    return {"data/signed.bin": file.octets, "data/signed_table.txt": file.table.encode("ascii")}
+
+
 def main(arguments):
+    if arguments[:1] == ["--sample"]:
+        return write_stored_run("signed_programs.py --sample", sample_files, arguments[1:])
     if len(arguments) == 3 and arguments[0] == "--write":
         return write_one(*arguments[1:])
     if arguments == ["--make"]:
@@ -287,7 +303,7 @@ def main(arguments):
         return 0
     if arguments == ["--check"]:
         return check()
-    print("usage: signed_programs.py --make | --check | --write LABEL FILE", file=sys.stderr)
+    print("usage: signed_programs.py --make | --check | --write LABEL FILE | --sample FOLDER", file=sys.stderr)
     return 2
 
 

@@ -268,6 +268,13 @@ class SignedProgramsTest(unittest.TestCase):
             lines, _ = verdict_table.table(program.file().octets)
             self.assertEqual(program.table.splitlines(), lines, label)
 
+    def test_sample(self):
+        for path, octets in signed_programs.sample_files().items():
+            self.assertEqual((CRATES / "picky" / path).read_bytes(), octets, path)
+        case = signed_programs.Case("stamped", "2023-06-15")
+        line = signed_programs.judged(case, signed_programs.sample())
+        self.assertEqual(line, "accepted signer=0 path=1,2 excuse=none")
+
     def test_certificates_in_order(self):
         for label, program in signed_programs.stored().items():
             ordered = program.in_order().file()
