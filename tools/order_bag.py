@@ -17,9 +17,9 @@ import sys
 from pathlib import Path
 
 from chain_reader import Read, Refused
-from der_reader import Constructed, Malformed, read_first, write
+from der_reader import Constructed, read_first, write
 from value_reader import dotted
-from verdict_table import MICROSOFT_COUNTERSIGNATURE, NotASignatureFile, signed_data_in
+from verdict_table import MICROSOFT_COUNTERSIGNATURE, UNFORMED, NotASignatureFile, signed_data_in
 
 CERTIFICATES, UNSIGNED = 0xA0, 0xA1
 
@@ -110,16 +110,22 @@ def with_ordered_bag(octets):
     """The octets of a signature file, in order."""
     signed_data_in(octets)
     element, length = read_first(octets[8:])
-    return octets[:8] + write(with_order(element)) + octets[8 + length:]
+    try:
+        return octets[:8] + write(with_order(element)) + octets[8 + length:]
+    except UNFORMED as error:
+        raise NotASignatureFile("its signer is none of signed data") from error
 
 
 def main(arguments):
+    if arguments[:1] in (["--help"], ["-h"]):
+        print(__doc__.strip())
+        return 0
     if len(arguments) != 2:
         print("usage: order_bag.py SIG OUT", file=sys.stderr)
         return 2
     try:
         Path(arguments[1]).write_bytes(with_ordered_bag(Path(arguments[0]).read_bytes()))
-    except (OSError, NotASignatureFile, Malformed, AttributeError, IndexError) as refusal:
+    except (OSError, NotASignatureFile) as refusal:
         print(f"order_bag.py: {arguments[0]}: {refusal}", file=sys.stderr)
         return 1
     return 0

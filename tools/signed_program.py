@@ -52,6 +52,8 @@ def image_digest(program, digest):
     optional, place, at, length = parts(program)
     end = at if length else len(program)
     hashed = new(digest)
+    if not hashed.digest_size:
+        raise ValueError(f"{digest} has digests of any length")
     hashed.update(program[:optional + CHECKSUM])
     hashed.update(program[optional + CHECKSUM + 4:optional + place])
     hashed.update(program[optional + place + 8:end])
@@ -60,6 +62,9 @@ def image_digest(program, digest):
 
 
 def main(arguments):
+    if arguments[:1] in (["--help"], ["-h"]):
+        print(__doc__.strip())
+        return 0
     if len(arguments) not in (2, 3):
         print("usage: signed_program.py PROGRAM SIG [DIGEST]", file=sys.stderr)
         return 2

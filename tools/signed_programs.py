@@ -293,6 +293,9 @@ def sample_files():
 
 
 def main(arguments):
+    if arguments[:1] in (["--help"], ["-h"]):
+        print(__doc__.strip())
+        return 0
     if arguments[:1] == ["--sample"]:
         return write_stored_run("signed_programs.py --sample", sample_files, arguments[1:])
     if len(arguments) == 3 and arguments[0] == "--write":

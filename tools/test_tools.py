@@ -7,6 +7,7 @@ import re
 import sys
 import unittest
 from hashlib import sha256
+from io import StringIO
 from itertools import permutations, product
 from pathlib import Path
 from shutil import which
@@ -668,6 +669,62 @@ class VerdictTableTest(unittest.TestCase):
         for octets in b"", b"\x09\0\0\0\0\2\2\0", b"\x0a\0\0\0\0\2\2\0\5\0", self.signed("cms, written in pieces"):
             with self.assertRaises(verdict_table.NotASignatureFile):
                 verdict_table.table(octets)
+
+
+class UsersToolsTest(unittest.TestCase):
+    """What the users' tools say of files that they can't read."""
+
+    @staticmethod
+    def said(tool, *words):
+        """The status and what is written to standard error; standard output isn't looked at."""
+        with patch("sys.stderr", StringIO()) as written, patch("sys.stdout", StringIO()):
+            status = tool.main([str(word) for word in words])
+        return status, written.getvalue().strip()
+
+    @classmethod
+    def of(cls, tool, octets, *words):
+        """The same of a file, whose name stands in its words as `{}`."""
+        with TemporaryDirectory() as folder:
+            file = Path(folder, "file")
+            file.write_bytes(octets)
+            status, said = cls.said(tool, *(file if word == "{}" else word for word in words))
+            return status, said.replace(str(file), "file")
+
+    def test_damaged_signers(self):
+        octets = signed_programs.stored()["stamped"].file().octets
+        at = octets.rindex(bytes.fromhex("06 0a 2b 06 01 04 01 82 37 03 03 01"))
+        signer, = verdict_table.signed_data_in(octets)[1]
+        named = octets.rindex(write(signer.kids[1]))
+        changes = [(at, 0x05), (at + 2, 0x80), (named, 0x04), (octets.rindex(write(signer)) + 4, 0x04)]
+        for place, octet in changes:
+            changed = octets[:place] + bytes([octet]) + octets[place + 1:]
+            for tool, words in (verdict_table, ["{}"]), (order_bag, ["{}", "/dev/null"]):
+                status, said = self.of(tool, changed, *words)
+                self.assertIn((status, said.startswith(f"{tool.__name__}.py: file: ")), [(1, True), (0, False)])
+
+    def test_other_files(self):
+        program = signed_programs.stored()["three"].octets
+        pem = openssl("x509", "-inform", "DER", given=signed_programs.root())
+        self.assertEqual(
+            self.of(verdict_table, program, "{}"),
+            (1, "verdict_table.py: file: it is a program, whose signature tools/signed_program.py takes out"),
+        )
+        self.assertEqual(
+            self.of(verdict_table, pem, "--chain", "{}"),
+            (1, "verdict_table.py: file: it is in PEM; openssl x509 -outform DER writes it in DER"),
+        )
+        self.assertEqual(
+            self.of(verdict_table, bytes.fromhex("3000"), "--chain", "{}"),
+            (1, "verdict_table.py: file: it isn't a certificate of a shape that is read here"),
+        )
+        self.assertEqual(
+            self.of(signed_program, program, "{}", "/dev/null", "shake_128"),
+            (1, "signed_program.py: file: shake_128 has digests of any length"),
+        )
+
+    def test_help(self):
+        for tool in verdict_table, order_bag, signed_program, signed_programs:
+            self.assertEqual(self.said(tool, "--help"), (0, ""))
 
 
 class ChainsTest(unittest.TestCase):

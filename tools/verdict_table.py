@@ -59,8 +59,16 @@ class NotASignatureFile(Exception):
     """The file isn't a WIN_CERTIFICATE with signed data."""
 
 
+# What a reader here meets where elements of DER are none of the structure that it walks through.
+UNFORMED = (AttributeError, IndexError, ValueError, Shape)
+
+
 class NotACertificate(Exception):
     """The file isn't one certificate."""
+
+
+class NotRead(Exception):
+    """A file by its path, and why no table is made for it."""
 
 
 class TooManyAsked(Exception):
@@ -145,6 +153,8 @@ class Asked(NamedTuple):
 
 def signed_data_in(octets):
     """The fields of the signed data in a WIN_CERTIFICATE."""
+    if octets.startswith(b"MZ"):
+        raise NotASignatureFile("it is a program, whose signature tools/signed_program.py takes out")
     if len(octets) < 8:
         raise NotASignatureFile("it has fewer than eight octets")
     length, = unpack_from("<I", octets)
@@ -163,7 +173,7 @@ def signed_fields(element):
         fields = element.kids[1].kids[0].kids
         held = [field for field in fields[3:-1] if field.tag == 0xA0]
         return bag(held[0].kids if held else ()), fields[-1].kids
-    except (AttributeError, IndexError) as error:
+    except UNFORMED as error:
         raise NotASignatureFile("its certificate isn't signed data") from error
 
 
@@ -220,21 +230,28 @@ def token_of(signer):
 def asked_of(octets):
     """Each signature that the check of the file may ask for."""
     certificates, signers = signed_data_in(octets)
-    if signers:
-        yield from of_signer(signers[0], certificates)
+    try:
+        signed = [*of_signer(signers[0], certificates)] if signers else []
+        token = token_of(signers[0]) if signers else None
+    except UNFORMED as error:
+        raise NotASignatureFile("its signer is none of signed data") from error
+    yield from signed
     yield from of_certificates(certificates, "the signed data")
-    token = token_of(signers[0]) if signers else None
     if token is not None:
         yield from of_certificates(signed_fields(token)[0], "the token")
 
 
 def certificate_in(octets):
     """The parts of the certificate that octets are."""
+    if octets.startswith(b"-----BEGIN"):
+        raise NotACertificate("it is in PEM; openssl x509 -outform DER writes it in DER")
     try:
         element = read_exact(octets)
         certificate(element)
-    except (Malformed, Shape) as refusal:
-        raise NotACertificate(f"it isn't one certificate in DER: {refusal}") from refusal
+    except Malformed as refusal:
+        raise NotACertificate(f"it isn't one element of DER: {refusal}") from refusal
+    except Shape as refusal:
+        raise NotACertificate("it isn't a certificate of a shape that is read here") from refusal
     return Certificate.of(element)
 
 
@@ -253,6 +270,20 @@ def table(octets):
 def chain_table(files):
     """The lines of the table for certificates, by their octets, and what has none."""
     return table_of(asked_of_chain([certificate_in(octets) for octets in files]))
+
+
+def table_for(paths, of_chain):
+    """The same for files by their paths: one signature file, or certificates."""
+    certificates = []
+    for path in paths:
+        try:
+            octets = Path(path).read_bytes()
+            if not of_chain:
+                return table(octets)
+            certificates.append(certificate_in(octets))
+        except (NotASignatureFile, NotACertificate, TooManyAsked) as refusal:
+            raise NotRead(f"{path}: {refusal}") from refusal
+    return table_of(asked_of_chain(certificates))
 
 
 def table_of(all_asked):
@@ -274,16 +305,16 @@ def table_of(all_asked):
 
 
 def main(arguments):
+    if arguments[:1] in (["--help"], ["-h"]):
+        print(__doc__.strip())
+        return 0
     of_chain = arguments[:1] == ["--chain"]
     if len(arguments) < 2 if of_chain else len(arguments) != 1:
         print("usage: verdict_table.py SIG | --chain CERT ..", file=sys.stderr)
         return 2
     try:
-        if of_chain:
-            lines, lacking = chain_table([Path(file).read_bytes() for file in arguments[1:]])
-        else:
-            lines, lacking = table(Path(arguments[0]).read_bytes())
-    except (OSError, NotASignatureFile, NotACertificate, TooManyAsked) as error:
+        lines, lacking = table_for(arguments[1:] if of_chain else arguments, of_chain)
+    except (OSError, NotRead, TooManyAsked) as error:
         print(f"verdict_table.py: {error}", file=sys.stderr)
         return 1
     for line in lines:
