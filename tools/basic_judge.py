@@ -46,6 +46,7 @@ from struct import unpack_from
 from cms_reader import pkcs7
 from der_reader import Constructed, Malformed, Primitive, read_first, write
 from value_reader import OTHER, Shape, certificate as read_certificate, dotted, name_text, shown_fault, word
+from verdict_rows import verdicts
 
 MOST_PADDING = 7
 INDIRECT_DATA = "1.3.6.1.4.1.311.2.1.4"
@@ -247,7 +248,9 @@ def check_signature(signer, one, table):
     refuse_unless(kind == RSA, "SignatureError", f"Key error: unsupported algorithm: {OTHER_KEYS.get(kind)}")
     parts = one.key_octets(), signer.message(), signer.signature
     row = " ".join((f"rsa-{digest}", *(sha256(part).hexdigest() for part in parts)))
-    refuse_unless(row in table.splitlines(), "SignatureError", "invalid signature")
+    verdict = verdicts(table).get(row, "reject")
+    refuse_unless(verdict != "malformed", "SignatureError", "RSA error: the signature is malformed")
+    refuse_unless(verdict == "accept", "SignatureError", "invalid signature")
     return digest
 
 

@@ -19,6 +19,10 @@ class Refused(Exception):
     """The name of the first rule that is broken."""
 
 
+class MalformedSignature(Refused):
+    """The signature of a certificate has no form that one of its algorithm could have."""
+
+
 class Limits(NamedTuple):
     """What basic constraints say (RFC 5280 4.2.1.9)."""
 
@@ -113,7 +117,12 @@ def expect_signed(parent, child, rows):
     octets = parent.parts.key_octets(), child.parts.tbs, child.parts.signature
     row = " ".join([name, *(sha256(part).hexdigest() for part in octets)])
     short = algorithm == ED25519 and len(parent.parts.key_octets()) != 32
-    if kind != algorithm or short or name not in NAMES or row not in rows:
+    if kind != algorithm or short or name not in NAMES:
+        raise Refused("InvalidCertificate:Signature")
+    verdict = rows.get(row, "reject")
+    if verdict == "malformed":
+        raise MalformedSignature("InvalidCertificate:Signature")
+    if verdict != "accept":
         raise Refused("InvalidCertificate:Signature")
 
 

@@ -28,6 +28,7 @@ from time import strptime
 import verdict_table
 from certificate_making import OpensslError, openssl
 from chain_reader import line
+from verdict_rows import verdicts
 
 FOLDER = Path(__file__).resolve().parent
 
@@ -319,7 +320,7 @@ def stored_table():
 
 def answer(case, certificates, table):
     """The status and the line for a case, by the reader here."""
-    return line([certificates[label] for label in case.labels], case.digits(), set(table.splitlines()))
+    return line([certificates[label] for label in case.labels], case.digits(), verdicts(table))
 
 
 # Beside openssl.

@@ -39,6 +39,7 @@ from basic_judge import (
 )
 from der_reader import read_exact, write
 from value_reader import dotted, name_text
+from verdict_rows import verdicts
 from verdict_table import EC, ED25519, MICROSOFT_COUNTERSIGNATURE, RSA, SIGNATURES
 
 TIME_STAMPING = "1.3.6.1.5.5.7.3.8"
@@ -165,7 +166,7 @@ def edwards_text(kind, octets):
     return "invalid signature" if len(octets) == 32 else "ED error: the key hasn't 32 octets"
 
 
-def link_text(name, parent, child):
+def link_text(name, parent, child, malformed):
     """The text of what one certificate over another is refused for."""
     match name.removeprefix("InvalidCertificate:"):
         case "InvalidChain:IssuerIsNotCA":
@@ -182,18 +183,21 @@ def link_text(name, parent, child):
             return invalid(child, f"CA chain error: issuer name doesn't match (expected: {child.issuer_name}, got: {parent.name})")
         case "Signature" if name == "Signature":
             return f"signature error: unsupported algorithm: {child.parts.algorithm}"
-    return invalid(child, f"signature error: {signature_text(parent.parts, child.parts)}")
+    kind = {RSA: "RSA", EC: "EC", ED25519: "ED"}.get(SIGNATURES[child.parts.algorithm][0])
+    said = f"{kind} error: the signature is malformed" if malformed else signature_text(parent.parts, child.parts)
+    return invalid(child, f"signature error: {said}")
 
 
 def expect_chain(checked, parents, window, table):
     """Each of the parents may have issued the one before it."""
-    child, rows = checked, set(table.splitlines())
+    child, rows = checked, verdicts(table)
     for number, parent in enumerate(parents):
         try:
             chain_reader.expect_link(parent, child, number, window, rows)
         except chain_reader.Refused as refusal:
             name = str(refusal)
-            raise Refused(name, link_text(name, parent, child)) from refusal
+            malformed = isinstance(refusal, chain_reader.MalformedSignature)
+            raise Refused(name, link_text(name, parent, child, malformed)) from refusal
         child = parent
 
 

@@ -22,9 +22,13 @@ from check_judge import Policy, answer
 from compare_basic import LONGEST, cases, changed, compare, digest_within, options
 from der_reader import Malformed, read_first
 from value_reader import Shape, word
+from verdict_rows import FIRST_LINE
 
 # Dates before, within and after most windows.
 DATES = ("20190601000000", "20200101000000", "20230601000000", "20250101000000", "20280601000000", "20300101000001", "20310101000000", "20410101000000")
+
+# What rows of version 2 say, most of them so that the steps behind are reached.
+VERDICTS = ("accept",) * 18 + ("reject", "malformed")
 
 
 def files():
@@ -47,13 +51,16 @@ def bases():
 
 
 def accepting_table(chance, file):
-    """Most of the rows of the signatures that a check of the file may ask for, whether they are good or not."""
+    """Most of the rows of the signatures that a check of the file may ask for, whether they are good or not, in either version."""
     try:
         asked = list(verdict_table.asked_of(file))
     except (verdict_table.NotASignatureFile, Shape, Malformed, AttributeError, IndexError, ValueError):
         return ""
     lines = dict.fromkeys(one.line() for one in asked if one.name())
-    return "".join(f"{line}\n" for line in lines if chance.random() < 0.95)
+    rows = [f"{line}\n" for line in lines if chance.random() < 0.95]
+    if chance.random() < 0.5:
+        return "".join(rows)
+    return f"{FIRST_LINE}\n" + "".join(f"{chance.choice(VERDICTS)} {row}" for row in rows * chance.choice((1, 2)))
 
 
 def policy_for(chance, file):

@@ -113,6 +113,7 @@ NOT_UTF_8 = b"s\xff"
 PIPE = "/dev/stdin"
 BAD_TABLE = b"rsa-sha256\n"
 OTHER_TABLE = TABLE.replace(b"rsa-sha256", b"rsa-sha1")
+VERSION_2 = b"picky-verdicts 2\n"
 # An empty SEQUENCE.
 EMPTY = b"\x30\x00"
 
@@ -123,6 +124,8 @@ ACCEPTED_ROWS = [
     Row("a signature from a pipe", ("basic", PIPE, "t", HASH), 0, ACCEPTED, given=SIGNATURE),
     Row("a table from a pipe", ("basic", "s", PIPE, HASH), 0, ACCEPTED, given=TABLE * 1000),
     by_table("a table of many rows", TABLE * 1000, 0, ACCEPTED),
+    by_table("version 2", VERSION_2 + b"accept " + TABLE, 0, ACCEPTED),
+    by_table("many rows of version 2", VERSION_2 + b"accept " + TABLE + (b"reject " + TABLE) * 1000, 0, ACCEPTED),
     accepted_by_name("a space inside", "a b", "c d", ["a", "b", "c", "d"]),
     accepted_by_name("a space in front", " s", " t", ["s", "t"]),
     accepted_by_name("a space at the end", "s ", "t ", ["s", "t"]),
@@ -138,6 +141,8 @@ REFUSED_ROWS = [
     Row("another hash", ("basic", "s", "t", OTHER_HASH), 1, refused("FileHashMismatch")),
     by_table("no row accepts", b"", 1, refused("SignatureError")),
     by_table("a row of another algorithm", OTHER_TABLE, 1, refused("SignatureError")),
+    by_table("version 2 without rows", VERSION_2, 1, refused("SignatureError")),
+    by_table("malformed before accept", VERSION_2 + b"malformed " + TABLE + b"accept " + TABLE, 1, refused("SignatureError")),
     judged("an element that is no signed data", header(10) + EMPTY, 1, refused("Asn1Deserialization")),
     judged("no element", header(8), 1, refused("Asn1Deserialization")),
     judged("no octets", b"", 1, refused("WrongLength")),
@@ -235,6 +240,10 @@ BAD_TABLE_ROWS = [
     by_table("a bad line", BAD_TABLE, 3),
     by_table("no last newline", TABLE.rstrip(), 3),
     by_table("a bad line after a good one", TABLE + BAD_TABLE, 3),
+    by_table("another verdict in version 2", VERSION_2 + b"yes " + TABLE, 3),
+    by_table("a row of version 1 in version 2", VERSION_2 + TABLE, 3),
+    by_table("a row of version 2 in version 1", b"accept " + TABLE, 3),
+    by_table("version 2 without its newline", VERSION_2.rstrip(), 3),
     Row("the files exchanged", ("basic", "t", "s", HASH), 3),
 ]
 

@@ -73,6 +73,7 @@ from signature_making import portable_executable
 from stored_answers import stored_files
 from value_answers import stored_files as stored_values
 from value_reader import WORDS, dotted, name_text, structure_line
+from verdict_rows import verdicts
 from world_check import Differs, Fields, openssl_check
 
 CRATES = Path(__file__).resolve().parent.parent / "crates"
@@ -654,6 +655,26 @@ class VerdictTableTest(unittest.TestCase):
         lines, lacking = verdict_table.table(changed)
         self.assertEqual([line.split()[0] for line in lines], ["rsa-sha256"])
         self.assertEqual(lacking, ["the signer: not accepted as rsa-sha256"])
+        rows, told = verdict_table.table(changed, 2)
+        self.assertEqual(rows[0], "picky-verdicts 2")
+        self.assertEqual([row.split()[:2] for row in rows[1:]], [["reject", "rsa-sha256"], ["accept", "rsa-sha256"]])
+        self.assertEqual(rows[2], f"accept {lines[0]}")
+        self.assertEqual(told, lacking)
+
+    def test_malformed(self):
+        # Of the wrong length, and no two numbers.
+        for label, last in (("program, RSA, sha256", b""), ("program, P-256, sha256", b"\0")):
+            one = list(verdict_table.asked_of(self.signed(label)))[-1]
+            self.assertEqual(one.verdict(), "accept", label)
+            self.assertEqual(one._replace(signature=one.signature[:-1] + last).verdict(), "reject" if last else "malformed", label)
+            self.assertEqual(one._replace(signature=one.signature[1:]).verdict(), "malformed", label)
+            self.assertEqual(one._replace(signature=b"").verdict(), "malformed", label)
+
+    def test_verdicts(self):
+        self.assertEqual(verdicts(""), {"": "accept"})
+        self.assertEqual(verdicts("a b\nc\n"), {"a b": "accept", "c": "accept"})
+        self.assertEqual(verdicts("picky-verdicts 2\n"), {})
+        self.assertEqual(verdicts("picky-verdicts 2\nmalformed a\naccept a\nreject b c\n"), {"a": "malformed", "b c": "reject"})
 
     def test_too_many(self):
         one = verdict_table.signed_data_in(self.signed("program, RSA, sha256"))[0][0]

@@ -1,11 +1,11 @@
 #!/usr/bin/env python3
 """Print the verdict table that real arithmetic gives for a signature file, or for certificates.
 
-    python3 tools/verdict_table.py SIG > TABLE
-    python3 tools/verdict_table.py --chain CERT .. > TABLE
+    python3 tools/verdict_table.py [--version-1] SIG > TABLE
+    python3 tools/verdict_table.py [--version-1] --chain CERT .. > TABLE
 
-SIG is a file with a WIN_CERTIFICATE.  Each line names one signature that openssl
-accepts, in the form that docs/FORMATS.md gives for verdict tables:
+SIG is a file with a WIN_CERTIFICATE.  Each line names one signature, in the form
+that docs/FORMATS.md gives for verdict tables of version 2:
 
   - that of the first signer over its attributes, by the key of its certificate;
   - of each certificate that stands in the signed data, that of whoever's subject is
@@ -15,11 +15,15 @@ accepts, in the form that docs/FORMATS.md gives for verdict tables:
 Each CERT is a file with one certificate in DER, the one that is checked first and
 its nearest parent next.  Each line names the signature of one by the key of the next.
 
-A signature that is asked for and that openssl doesn't accept, or whose algorithm
-has no name in a table, has a line on standard error, one for all places where it
-stands.  Nothing is said of whether a certificate may be believed: that is for who
-reads the table.  Many certificates of one name ask for each by each: a file that asks
-for more than 10,000 signatures has no table, and the status is 1.
+The line says `accept` of a signature that openssl verifies, `malformed` of another
+whose length or form no signature of the algorithm has, and `reject` of any other.
+Of version 1 are the lines of those that openssl verifies, without a verdict.
+
+A signature that openssl doesn't verify, or whose algorithm has no name in a table,
+has a line on standard error, one for all places where it stands.  Nothing is said of
+whether a certificate may be believed: that is for who reads the table.  Many
+certificates of one name ask for each by each: a file that asks for more than 10,000
+signatures has no table, and the status is 1.
 """
 
 import sys
@@ -32,6 +36,7 @@ from typing import NamedTuple
 from certificate_making import OpensslError, openssl
 from der_reader import Constructed, Malformed, read_exact, read_first, write
 from value_reader import Shape, certificate, dotted
+from verdict_rows import FIRST_LINE
 
 RSA = "1.2.840.113549.1.1.1"
 EC = "1.2.840.10045.2.1"
@@ -53,6 +58,7 @@ SIGNATURES = {
 NAMES = {f"rsa-{digest}" for digest in DIGESTS.values()} | {"p256-sha256", "p384-sha384", "p521-sha512", "ed25519"}
 MICROSOFT_COUNTERSIGNATURE = "1.3.6.1.4.1.311.3.3.1"
 MOST_ASKED = 10_000
+ED25519_LENGTH = 64
 
 
 class NotASignatureFile(Exception):
@@ -130,6 +136,25 @@ class Asked(NamedTuple):
     def line(self):
         parts = self.key.key_octets(), self.message, self.signature
         return " ".join([self.name(), *(sha256(part).hexdigest() for part in parts)])
+
+    def verdict(self):
+        """What a table says of the signature."""
+        if self.is_accepted():
+            return "accept"
+        return "reject" if self.has_form() else "malformed"
+
+    def has_form(self):
+        """Whether a signature of the algorithm may be these octets (RFC 8017 8.2.2, RFC 3279 2.2.3, RFC 8032 5.1.7)."""
+        try:
+            if self.algorithm == RSA:
+                modulus, _ = read_exact(self.key.key_octets()).kids
+                return len(self.signature) == len(modulus.contents.lstrip(b"\0"))
+            if self.algorithm == EC:
+                r, s = read_exact(self.signature).kids
+                return all(one.tag == 2 and 0 < int.from_bytes(one.contents, signed=True) for one in (r, s))
+        except (Malformed, AttributeError, ValueError):
+            return False
+        return len(self.signature) == ED25519_LENGTH
 
     def is_accepted(self):
         """Whether openssl accepts the signature."""
@@ -262,33 +287,33 @@ def asked_of_chain(certificates):
         yield Asked(f"certificate {place}", parent, algorithm, digest, child.tbs, child.signature)
 
 
-def table(octets):
-    """The lines of the table for a signature file, and what has none."""
-    return table_of(asked_of(octets))
+def table(octets, version=1):
+    """The lines of the table for a signature file, and what openssl doesn't verify."""
+    return table_of(asked_of(octets), version)
 
 
-def chain_table(files):
-    """The lines of the table for certificates, by their octets, and what has none."""
-    return table_of(asked_of_chain([certificate_in(octets) for octets in files]))
+def chain_table(files, version=1):
+    """The lines of the table for certificates, by their octets, and what openssl doesn't verify."""
+    return table_of(asked_of_chain([certificate_in(octets) for octets in files]), version)
 
 
-def table_for(paths, of_chain):
+def table_for(paths, of_chain, version=1):
     """The same for files by their paths: one signature file, or certificates."""
     certificates = []
     for path in paths:
         try:
             octets = Path(path).read_bytes()
             if not of_chain:
-                return table(octets)
+                return table(octets, version)
             certificates.append(certificate_in(octets))
         except (NotASignatureFile, NotACertificate, TooManyAsked) as refusal:
             raise NotRead(f"{path}: {refusal}") from refusal
-    return table_of(asked_of_chain(certificates))
+    return table_of(asked_of_chain(certificates), version)
 
 
-def table_of(all_asked):
-    """The lines for signatures that are asked for, and what has none."""
-    lines, lacking, seen = [], [], set()
+def table_of(all_asked, version=1):
+    """The lines for signatures that are asked for, and what openssl doesn't verify."""
+    verdicts, lacking, seen = {}, [], set()
     for asked in all_asked:
         if asked.parts() in seen:
             continue
@@ -297,23 +322,30 @@ def table_of(all_asked):
         seen.add(asked.parts())
         if asked.name() is None:
             lacking.append(f"{asked.what}: no name in a table")
-        elif not asked.is_accepted():
-            lacking.append(f"{asked.what}: not accepted as {asked.name()}")
-        else:
-            lines.append(asked.line())
-    return list(dict.fromkeys(lines)), lacking
+            continue
+        verdict, line = asked.verdict(), asked.line()
+        if verdict != "accept":
+            lacking.append(f"{asked.what}: {'malformed' if verdict == 'malformed' else 'not accepted'} as {asked.name()}")
+        # A key may stand in two encodings, of which openssl reads one.
+        if verdicts.get(line) != "accept":
+            verdicts[line] = verdict
+    if version == 1:
+        return [line for line, verdict in verdicts.items() if verdict == "accept"], lacking
+    return [FIRST_LINE, *(f"{verdict} {line}" for line, verdict in verdicts.items())], lacking
 
 
 def main(arguments):
     if arguments[:1] in (["--help"], ["-h"]):
         print(__doc__.strip())
         return 0
+    version = 1 if arguments[:1] == ["--version-1"] else 2
+    arguments = arguments[1:] if version == 1 else arguments
     of_chain = arguments[:1] == ["--chain"]
     if len(arguments) < 2 if of_chain else len(arguments) != 1:
-        print("usage: verdict_table.py SIG | --chain CERT ..", file=sys.stderr)
+        print("usage: verdict_table.py [--version-1] SIG | --chain CERT ..", file=sys.stderr)
         return 2
     try:
-        lines, lacking = table_for(arguments[1:] if of_chain else arguments, of_chain)
+        lines, lacking = table_for(arguments[1:] if of_chain else arguments, of_chain, version)
     except (OSError, NotRead, TooManyAsked) as error:
         print(f"verdict_table.py: {error}", file=sys.stderr)
         return 1

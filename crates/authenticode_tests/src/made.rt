@@ -27,6 +27,17 @@ pub(crate) fn table(alloc: Global, names: &[&str]) -> Result<VerdictTable, Fail>
     Ok(VerdictTable::parse(alloc, text.as_bytes())?)
 }
 
+/// A table of version 2 that says so of the file's signature by RSA with SHA-256, in this order.
+pub(crate) fn table_saying(alloc: Global, verdicts: &[&str]) -> Result<VerdictTable, Fail> {
+    let mut text = String::from_str(alloc, "picky-verdicts 2\n")?;
+    for verdict in verdicts {
+        text.push_str(verdict)?;
+        text.push_str(" rsa-sha256")?;
+        text.push_str(DIGESTS)?;
+    }
+    Ok(VerdictTable::parse(alloc, text.as_bytes())?)
+}
+
 /// Basic validation alone, for a file with this digest.
 pub(crate) fn basic_policy(alloc: Global, hash: &[u8]) -> Result<Policy, AllocError> {
     let mut policy = Policy::new(alloc);

@@ -1,7 +1,7 @@
 //! What is told of a refusal. The texts and the names of all have a clause, and `basic_answers`
 //! prints each that signature files can have.
 
-use crate::made::{FILE, FILE_HASH, basic_policy, table};
+use crate::made::{FILE, FILE_HASH, basic_policy, table, table_saying};
 use authenticode_core::{Accepted, AuthenticodeError, CheckError, check_wincert};
 use std::alloc::{AllocError, Global};
 use std::test::Fail;
@@ -53,5 +53,38 @@ fn mismatch(rt: HostRuntime) -> Result<(), Fail> {
     let file = hex::decode(rt.alloc(), FILE)?;
     let hash = hex::decode(rt.alloc(), FILE_HASH)?;
     assert!(rt; is_mismatch(rt.alloc(), &file, &hash)?);
+    Ok(())
+}
+
+/// What is told where a table says so of the file's signature, in this order.
+fn told(alloc: Global, file: &[u8], hash: &[u8], verdicts: &[&str]) -> Result<String, Fail> {
+    let table = table_saying(alloc, verdicts)?;
+    let policy = basic_policy(alloc, hash)?;
+    let answer = check_wincert(alloc, file, &policy, &table);
+    Ok(text_of(alloc, &answer)?)
+}
+
+/// Verdicts on the file's signature, and what is told of the file.
+const VERDICTS: [(&[&str], &str); 4] = [
+    (&["accept", "reject"], ""),
+    (&["reject", "accept"], "signature error: invalid signature"),
+    (
+        &["malformed", "accept"],
+        "signature error: RSA error: the signature is malformed",
+    ),
+    (&[], "signature error: invalid signature"),
+];
+
+/// A signature that is malformed by the first row is told so, and no other.
+#[test]
+fn verdicts(rt: HostRuntime) -> Result<(), Fail> {
+    let file = hex::decode(rt.alloc(), FILE)?;
+    let hash = hex::decode(rt.alloc(), FILE_HASH)?;
+    for (words, text) in &VERDICTS {
+        assert!(rt;
+            told(rt.alloc(), &file, &hash, words)?.as_str() == *text,
+            "{text}"
+        );
+    }
     Ok(())
 }

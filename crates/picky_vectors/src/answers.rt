@@ -56,6 +56,8 @@ const UPPER: &str = "BCEEF655B5A034911F1C3718CE056531B45EF03B4C7B1F15629E8672940
 
 const REJECTED: &str = "refused SignatureError\n";
 
+const VERSION_2: &str = "picky-verdicts 2\n";
+
 // Tables in pieces, the status and the line.
 #[rattlefmt::skip]
 const TABLES: &[(&str, &[&str], u8, &str)] = &[
@@ -76,6 +78,17 @@ const TABLES: &[(&str, &[&str], u8, &str)] = &[
     ("a bad line after others", &[ROW, "\n"],                                                3, ""),
     ("a digest of one octet",   &["rsa-sha256 00\n"],                                        3, ""),
     ("an empty line",           &["\n"],                                                     3, ""),
+    ("version 2 without rows",  &[VERSION_2],                                                1, REJECTED),
+    ("accept",                  &[VERSION_2, "accept ", ROW],                                0, ACCEPTED),
+    ("reject",                  &[VERSION_2, "reject ", ROW],                                1, REJECTED),
+    ("malformed before accept", &[VERSION_2, "malformed ", ROW, "accept ", ROW],             1, REJECTED),
+    ("accept before reject",    &[VERSION_2, "accept ", ROW, "reject ", ROW],                0, ACCEPTED),
+    ("another verdict",         &[VERSION_2, "yes ", ROW],                                   3, ""),
+    ("no verdict",              &[VERSION_2, ROW],                                           3, ""),
+    ("a verdict in version 1",  &["accept ", ROW],                                           3, ""),
+    ("no newline",              &["picky-verdicts 2"],                                       3, ""),
+    ("another version",         &["picky-verdicts 3\n", "accept ", ROW],                     3, ""),
+    ("the first line behind",   &[ROW, VERSION_2],                                           3, ""),
 ];
 
 const OTHER_HASH: &str = "ba7816bf8f01cfea414140de5dae2223b00361a396177a9cb410ff61f20015ac";

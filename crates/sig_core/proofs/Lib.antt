@@ -3,7 +3,7 @@ pub mod Variants
 pub mod SecretKids
 pub mod DemoKeys
 pub mod Lines
+pub mod Prefixes
 pub mod Rows
 pub mod Tables
 pub mod Verdicts
-pub mod RowIndexes

@@ -1,62 +1,80 @@
--- A table accepts exactly what a row names.
-use Rattle.std.proofs.Common.{◌≡◌, ℕ, Bool, true, false, List, refl, ap}
-use Rattle.std.specs.Prelude.{Contains, ◌↔◌, if◌then◌else◌}
-use Rattle.std.specs.Bool.{Decides}
-use Rattle.std.specs.List.{list_any}
+-- The first row decides, and a map keeps what it says.
+use Rattle.std.proofs.Common.{◌≡◌, ◌++◌, ◌∙◌, Bool, true, false, cond, List, [], ◌∷◌, Option, Some, None, refl, sym, ap, find, option_map}
+use Rattle.std.specs.Bool.{Decides, one_answer}
+use Rattle.std.specs.BTreeMap.{BTreeMap, get, is_at}
+use Rattle.std.specs.Cmp.{IsTotalOrder, Equal-is, tied_itself}
+use Rattle.std.specs.Option.{option_or, unwrap_or}
+use Rattle.std.specs.Ordering.{is_eq}
+use Rattle.std.specs.declared.cmp.Ordering.{Ordering}
+use Rattle.std.specs.declared.cmp.Ordering.TheVariants.{Equal}
 use Rattle.std.proofs.lemmas.Bool.Decides.{Decides-and, Decides-like}
-use Rattle.std.proofs.lemmas.List.Folds.{list_any-from_Any}
-use Rattle.std.proofs.lemmas.Map.Views.{Contains-from_any}
+use Rattle.std.proofs.lemmas.List.Folds.{find-append}
 use Rattle.std.proofs.lemmas.Slice.Eq.{bytes_eq-Decides}
-use Rattle.sig_core.specs.declared.algorithm.SigAlg.{SigAlg}
-use Rattle.sig_core.specs.declared.scheme.Verdict.TheVariants.{Accept, Reject}
+use Rattle.sig_core.specs.declared.scheme.Verdict.{Verdict}
+use Rattle.sig_core.specs.declared.verdict_row.SignatureDigests.{SignatureDigests}
 use Rattle.sig_core.specs.declared.verdict_row.VerdictRow.{VerdictRow}
 use Rattle.sig_core.specs.Algorithm.{name_of}
-use Rattle.sig_core.specs.VerdictTable.{is_same_row, row_of, verdict_of}
+use Rattle.sig_core.specs.VerdictTable.{is_same_signature, first_verdict, HasFirstVerdicts}
 use Rattle.sig_core.proofs.Names.{name_of_same}
 use Rattle.sig_core.proofs.Rows.{same_parts}
 
--- the test tells whether two rows are one
-pub is_same_row-Decides : (a b : VerdictRow) → Decides (is_same_row a b) (a ≡ b)
-is_same_row-Decides a b =
+-- the test tells whether two signatures are one
+pub is_same_signature-Decides : (a b : SignatureDigests) → Decides (is_same_signature a b) (a ≡ b)
+is_same_signature-Decides a b =
     let alg = bytes_eq-Decides (name_of a.alg) (name_of b.alg) in
     let key = bytes_eq-Decides a.key b.key in
     let msg = bytes_eq-Decides a.msg b.msg in
     let sig = bytes_eq-Decides a.sig b.sig in
-    Decides-like (is_same_row a b)
+    Decides-like (is_same_signature a b)
     (λ h. same_parts a b (name_of_same a.alg b.alg h.0.0.0) h.0.0.1 h.0.1 h.1)
     (λ e. (((ap (λ r. name_of r.alg) e, ap (λ r. r.key) e), ap (λ r. r.msg) e), ap (λ r. r.sig) e))
     (Decides-and _ _ (Decides-and _ _ (Decides-and _ _ alg key) msg) sig)
 
--- and whether a table has a row
-pub has_row-Decides : (rows : List VerdictRow) (row : VerdictRow) → Decides (list_any (is_same_row row) rows) (Contains rows row)
-has_row-Decides rows row = (
-  λ any. Contains-from_any (λ a b h. (is_same_row-Decides a b).0 h) row rows any,
-  λ has. list_any-from_Any (is_same_row row) rows (has.0, row, has.1, has.2, (is_same_row-Decides row row).1 refl),
-)
-
--- a row accepts what it names
-pub verdict_of-row : (rows : List VerdictRow) (alg : SigAlg) (key msg sig : List ℕ)
-    → Contains rows (row_of alg key msg sig) → verdict_of rows alg key msg sig ≡ Accept
-verdict_of-row rows alg key msg sig has = rw ((has_row-Decides rows (row_of alg key msg sig)).1 has) refl
-
--- what no row names is rejected
-pub verdict_of-no_row : (rows : List VerdictRow) (alg : SigAlg) (key msg sig : List ℕ)
-    → (Contains rows (row_of alg key msg sig) → ⊥) → verdict_of rows alg key msg sig ≡ Reject
-verdict_of-no_row rows alg key msg sig none =
-    rw (Bool-false _ (λ any. none ((has_row-Decides rows (row_of alg key msg sig)).0 any))) refl
+-- what a further row adds
+more : (rows : List VerdictRow) (row : VerdictRow) (q : SignatureDigests)
+    → first_verdict (rows ++ row ∷ []) q ≡ option_or (first_verdict rows q) (cond (is_same_signature q row.signature) (Some row.verdict) None)
+more rows row q =
+    ap (option_map (λ r. r.verdict)) (find-append (λ r. is_same_signature q r.signature) rows (row ∷ []))
+    ∙ mapped (find (λ r. is_same_signature q r.signature) rows) (is_same_signature q row.signature)
   where
-    Bool-false : (b : Bool) → (b ≡ true → ⊥) → b ≡ false
-    Bool-false true h = absurd (h refl)
-    Bool-false false h = refl
+    mapped : (found : Option VerdictRow) (b : Bool)
+        → option_map (λ r. r.verdict) (option_or found (cond b (Some row) None)) ≡ option_or (option_map (λ r. r.verdict) found) (cond b (Some row.verdict) None)
+    mapped None true = refl
+    mapped None false = refl
+    mapped (Some r) b = refl
 
--- a signature is accepted exactly where a row names it
-pub accepted_by_row : (rows : List VerdictRow) (alg : SigAlg) (key msg sig : List ℕ)
-    → (verdict_of rows alg key msg sig ≡ Accept) ↔ Contains rows (row_of alg key msg sig)
-accepted_by_row rows alg key msg sig = (
-  λ accept. at_test (list_any (is_same_row (row_of alg key msg sig)) rows) (has_row-Decides rows (row_of alg key msg sig)) accept,
-  verdict_of-row rows alg key msg sig,
-)
-  where
-    at_test : (b : Bool) {P : Type 0} → Decides b P → (if b then Accept else Reject) ≡ Accept → P
-    at_test true d e = d.0 refl
-    at_test false d e = cc
+kept_verdict : (found : Option Verdict) (v : Verdict) → Some (unwrap_or found v) ≡ option_or found (Some v)
+kept_verdict None v = refl
+kept_verdict (Some w) v = refl
+
+none_more : (found : Option Verdict) → found ≡ option_or found None
+none_more None = refl
+none_more (Some w) = refl
+
+module _ (cmp : SignatureDigests → SignatureDigests → Ordering) (order : IsTotalOrder cmp) (same : (a b : SignatureDigests) → cmp a b ≡ Equal → a ≡ b) where
+  -- the map compares as the test does
+  at_is_same : (a q : SignatureDigests) → is_at (cmp a) q ≡ is_same_signature q a
+  at_is_same a q =
+      one_answer (is_at (cmp a) q) (is_same_signature q a)
+      (λ t. sym (same a q ((Equal-is (cmp a q)).0 t)), λ e. ap (is_at (cmp a)) e ∙ ap is_eq (tied_itself order a))
+      (is_same_signature-Decides q a)
+
+  -- a row more, where its verdict is put unless the map has one
+  pub kept : (m n : BTreeMap SignatureDigests Verdict) (rows : List VerdictRow) (row : VerdictRow) (v : Verdict) → HasFirstVerdicts cmp rows m
+      → v ≡ unwrap_or (get cmp m row.signature) row.verdict
+      → ((q : SignatureDigests) → get cmp n q ≡ cond (is_at (cmp row.signature) q) (Some v) (get cmp m q))
+      → HasFirstVerdicts cmp (rows ++ row ∷ []) n
+  kept m n rows row v has is put q =
+      put q ∙ ap (λ b. cond b (Some v) (get cmp m q)) (at_is_same row.signature q) ∙ by (is_same_signature q row.signature) refl ∙ sym (more rows row q)
+    where
+      by : (b : Bool) → is_same_signature q row.signature ≡ b
+          → cond b (Some v) (get cmp m q) ≡ option_or (first_verdict rows q) (cond b (Some row.verdict) None)
+      by true e =
+          let one = (is_same_signature-Decides q row.signature).0 e in
+          ap Some (is ∙ ap (λ o. unwrap_or o row.verdict) (has row.signature ∙ ap (first_verdict rows) (sym one))) ∙ kept_verdict (first_verdict rows q) row.verdict
+      by false e = has q ∙ none_more (first_verdict rows q)
+
+-- what is compared as equal is the same, where a test that the comparison agrees with tells so
+pub one_of_equals : {X : Type 0} (test : X → X → Bool) (cmp : X → X → Ordering) → ((a b : X) → Decides (test a b) (a ≡ b))
+    → ((a b : X) → test a b ≡ is_eq (cmp a b)) → (a b : X) → cmp a b ≡ Equal → a ≡ b
+one_of_equals test cmp decides ties a b equal = (decides a b).0 (ties a b ∙ ap is_eq equal)

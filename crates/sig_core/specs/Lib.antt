@@ -1,7 +1,6 @@
 pub mod Digest
 pub mod ShaVariant
 pub mod Algorithm
-pub mod RowIndex
 pub mod VerdictTable
 pub mod RsaSecret
 pub mod DemoScheme

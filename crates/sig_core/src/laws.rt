@@ -5,7 +5,7 @@ ghost use Rattle.der_core.specs.Encoding.{encoding};
 ghost use Rattle.sig_core.specs.DemoScheme.{demo_key};
 ghost use Rattle.sig_core.specs.RsaSecret.{IsRsaSecret, rsa_public_element};
 ghost use Rattle.sig_core.specs.declared.algorithm.SchemeKind.TheVariants.{Rsa};
-ghost use Rattle.sig_core.specs.VerdictTable.{IsTable, IsFirstBadLine};
+ghost use Rattle.sig_core.specs.VerdictTable.{IsTable, IsFirstBadLine, text_of};
 ghost use Rattle.sig_core.specs.declared.algorithm.SigAlg.{SigAlg};
 ghost use Rattle.sig_core.specs.declared.algorithm.TheConstants.SigAlg as signatures;
 ghost use Rattle.sig_core.specs.declared.hash.HashAlgorithm.{HashAlgorithm};
@@ -16,7 +16,8 @@ ghost use Rattle.sig_core.specs.declared.verdict_row.VerdictRow.{VerdictRow};
 ghost use Rattle.sig_core.specs.ShaVariant.{digest_identifier};
 
 /// A text is the table of at most one list of rows, so there is the table that a text is. It has at
-/// most one first bad line, and none where it is a table.
+/// most one first bad line, and none where it is a table. The rows of a table of either version
+/// have a text of version 2, so a table of version 1 is carried over.
 pub fn one_table()
     ensures one_list { (text : List ℕ) (a b : List VerdictRow)
         → IsTable text a → IsTable text b → a ≡ b }
@@ -24,6 +25,8 @@ pub fn one_table()
         → IsFirstBadLine text m → IsFirstBadLine text n → m ≡ n }
     ensures not_both { (text : List ℕ) (rows : List VerdictRow) (number : ℕ)
         → IsTable text rows → IsFirstBadLine text number → ⊥ }
+    ensures carried { (text : List ℕ) (rows : List VerdictRow)
+        → IsTable text rows → IsTable (text_of rows) rows }
 {}
 
 /// The key that the demonstration scheme derives from a secret of RSA is the public key in it, and

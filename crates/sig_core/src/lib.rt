@@ -1,7 +1,7 @@
 //! Digests, the algorithms of signatures, and what it means for a signature to be accepted.
 //!
 //! Whether a signature belongs to a key and a message is never computed here: a `Scheme` says so.
-//! `VerdictTable` accepts exactly what the rows of a file name. `DemoScheme` makes signatures that
+//! `VerdictTable` says what the rows of a file say. `DemoScheme` makes signatures that
 //! anyone could make, for demonstrations and tests.
 #![tactic(auto)]
 

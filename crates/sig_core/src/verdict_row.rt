@@ -1,12 +1,15 @@
 //! One row of a verdict table, and the line that spells it.
 
-ghost use Rattle.std.specs.Prelude.{◌≡◌, ◌≢◌, ℕ, List, ◌∷◌, ◌++◌, ◌==◌, position, MatchOption};
+ghost use Rattle.std.specs.Prelude.{◌≡◌, ◌≢◌, ◌≤◌, ℕ, List, ◌∷◌, ◌++◌, ◌==◌, position, MatchOption, OnOk};
 ghost use Rattle.hex.specs.Hex.{encode_lower};
 ghost use Rattle.sig_core.specs.Algorithm.{name_of};
-ghost use Rattle.sig_core.specs.VerdictTable.{IsDigest, IsRow, line_of, space, BeginsWithNoLine};
+ghost use Rattle.sig_core.specs.VerdictTable.{IsDigest, IsSignature, IsOfVersion, IsRow, HasVerdict, signature_line, line_of, first_line, first_number, verdict_word, space, BeginsWithNoSignature, BeginsWithNoLine};
 ghost use Rattle.sig_core.specs.declared.algorithm.SigAlg.{SigAlg};
+ghost use Rattle.sig_core.specs.declared.scheme.Verdict.{Verdict};
 
 use crate::algorithm::SigAlg;
+use crate::scheme::Verdict;
+use std::alloc::{AllocError, Global};
 
 /// The octets of a digest in a row.
 const DIGEST_LEN: usize = 32;
@@ -14,28 +17,147 @@ const DIGEST_LEN: usize = 32;
 /// The digits that spell a digest in a line.
 const DIGITS_LEN: usize = 64;
 
-/// What a table accepts: an algorithm, and the SHA-256 of key bytes, of a message and of a
-/// signature.
+/// How a table of version 2 begins.
+pub const FIRST_LINE: &[u8] = b"picky-verdicts 2\n";
+
+/// Version 1 names what is accepted, version 2 says a verdict of each signature.
+#[derive(Clone, Copy, PartialEq, Eq, Debug)]
+pub enum TableVersion {
+    One,
+    Two,
+}
+
+impl TableVersion {
+    /// The version of a table, and the text behind the line that tells it.
+    pub fn split_from(text: &[u8]) -> (TableVersion, &[u8])
+        ensures version { IsOfVersion text.now result.0 }
+        ensures rest { text.now ≡ first_line result.0 ++ result.1.now }
+    {
+        match text.strip_prefix(FIRST_LINE) {
+            Some(rest) => (TableVersion::Two, rest),
+            None => (TableVersion::One, text),
+        }
+    }
+
+    /// The number of the line of the first row.
+    pub fn first_number(self) -> u64
+        ensures value { result ≡ first_number self }
+        ensures small { result ≤ 2 }
+    {
+        match self {
+            TableVersion::One => 1,
+            TableVersion::Two => 2,
+        }
+    }
+}
+
+/// A signature as a row names it: an algorithm, and the SHA-256 of key bytes, of a message and of
+/// a signature.
 #[derive(Clone, Copy, PartialEq, Eq, PartialOrd, Ord, Debug)]
-pub struct VerdictRow {
+pub struct SignatureDigests {
     pub alg: SigAlg,
     pub key: [u8; DIGEST_LEN],
     pub msg: [u8; DIGEST_LEN],
     pub sig: [u8; DIGEST_LEN],
 }
 
-impl VerdictRow {
-    /// The row whose line begins the text, and the text after that line.
-    pub fn split_first(text: &[u8]) -> Option<(VerdictRow, &[u8])>
-        ensures { MatchOption result (BeginsWithNoLine text.now)
-            (λ split. IsRow split.0 × (text.now ≡ line_of split.0 ++ split.1.now)) }
+impl SignatureDigests {
+    /// The signature whose line begins the text, and the text after that line.
+    fn split_first(text: &[u8]) -> Option<(SignatureDigests, &[u8])>
+        ensures { MatchOption result (BeginsWithNoSignature text.now)
+            (λ split. IsSignature split.0 × (text.now ≡ signature_line split.0 ++ split.1.now)) }
     {
         let (alg, text) = split_algorithm(text)?;
         let (key, text) = split_digest(text, b' ')?;
         let (msg, text) = split_digest(text, b' ')?;
         let (sig, text) = split_digest(text, b'\n')?;
-        Some((VerdictRow { alg, key, msg, sig }, text))
+        Some((SignatureDigests { alg, key, msg, sig }, text))
     }
+
+    /// Writes the line of the signature behind the text.
+    fn write(&self, alloc: Global, text: &mut Vec<u8>) -> Result<(), AllocError>
+        ensures { OnOk result (text.new.items ≡ text.old.items ++ signature_line self.now) }
+    {
+        text.extend_from_slice(self.alg.name().as_bytes())?;
+        write_digest(alloc, text, &self.key)?;
+        write_digest(alloc, text, &self.msg)?;
+        write_digest(alloc, text, &self.sig)?;
+        text.push(b'\n')?;
+        Ok(())
+    }
+}
+
+/// What a table says of a signature.
+#[derive(Clone, Copy, PartialEq, Eq, Debug)]
+pub struct VerdictRow {
+    pub verdict: Verdict,
+    pub signature: SignatureDigests,
+}
+
+impl VerdictRow {
+    /// The row whose line begins the text, and the text after that line.
+    pub fn split_first(version: TableVersion, text: &[u8]) -> Option<(VerdictRow, &[u8])>
+        ensures { MatchOption result (BeginsWithNoLine version text.now)
+            (λ split. IsRow version split.0
+            × (text.now ≡ line_of version split.0 ++ split.1.now)) }
+    {
+        let (verdict, text) = split_verdict(version, text)?;
+        let (signature, text) = SignatureDigests::split_first(text)?;
+        Some((VerdictRow { verdict, signature }, text))
+    }
+
+    /// Writes the line of the row in version 2 behind the text.
+    pub fn write(&self, alloc: Global, text: &mut Vec<u8>) -> Result<(), AllocError>
+        ensures { OnOk result
+            (text.new.items ≡ text.old.items ++ line_of TableVersion.Two self.now) }
+    {
+        text.extend_from_slice(word_of(self.verdict).as_bytes())?;
+        self.signature.write(alloc, text)
+    }
+}
+
+/// The verdicts, in the order of the enum.
+const VERDICTS: [Verdict; 3] = [Verdict::Accept, Verdict::Reject, Verdict::Malformed];
+
+/// How the line of a row of version 2 with this verdict begins.
+fn word_of(verdict: Verdict) -> &'static str
+    ensures { result.now ≡ verdict_word TableVersion.Two verdict }
+{
+    match verdict {
+        Verdict::Accept => "accept ",
+        Verdict::Reject => "reject ",
+        Verdict::Malformed => "malformed ",
+    }
+}
+
+/// The verdict whose word begins the text, and the text behind it. In version 1 no word stands
+/// there, and the verdict is acceptance.
+fn split_verdict(version: TableVersion, text: &[u8]) -> Option<(Verdict, &[u8])>
+    ensures { MatchOption result
+        ((verdict : Verdict) (after : List ℕ) → HasVerdict version verdict
+        → text.now ≢ verdict_word version verdict ++ after)
+        (λ split. HasVerdict version split.0
+        × (text.now ≡ verdict_word version split.0 ++ split.1.now)) }
+{
+    match version {
+        TableVersion::One => Some((Verdict::Accept, text)),
+        TableVersion::Two => split_word(text),
+    }
+}
+
+/// The same of version 2.
+fn split_word(text: &[u8]) -> Option<(Verdict, &[u8])>
+    ensures { MatchOption result
+        ((verdict : Verdict) (after : List ℕ)
+        → text.now ≢ verdict_word TableVersion.Two verdict ++ after)
+        (λ split. text.now ≡ verdict_word TableVersion.Two split.0 ++ split.1.now) }
+{
+    for verdict in VERDICTS {
+        if let Some(after) = text.strip_prefix(word_of(verdict).as_bytes()) {
+            return Some((verdict, after));
+        }
+    }
+    None
 }
 
 /// The algorithm whose name begins the text, and the text after the space behind it.
@@ -86,4 +208,17 @@ fn digest_of_digits(digits: &[u8]) -> Option<[u8; DIGEST_LEN]>
     } else {
         None
     }
+}
+
+/// Writes a space and the digits of the digest behind the text.
+fn write_digest(
+    alloc: Global,
+    text: &mut Vec<u8>,
+    digest: &[u8; DIGEST_LEN],
+) -> Result<(), AllocError>
+    ensures { OnOk result (text.new.items ≡ text.old.items ++ space ∷ encode_lower digest.now) }
+{
+    text.push(b' ')?;
+    text.extend_from_slice(hex::encode(alloc, digest.as_slice())?.as_bytes())?;
+    Ok(())
 }

@@ -1,20 +1,18 @@
-//! A signature scheme that is a list of what it accepts.
+//! A signature scheme that is a list of verdicts.
 
-ghost use Rattle.std.specs.Prelude.{◌≡◌, ◌⊎◌, ◌↔◌, ℕ, List, [], length, Err, Some, IfOk, IfErr, IsOk, IsTrue, MatchResult, Contains};
+ghost use Rattle.std.specs.Prelude.{◌≡◌, ◌⊎◌, ◌↔◌, ℕ, List, [], length, Err, Some, IfOk, IfErr, IsOk, IsTrue, MatchResult};
 ghost use Rattle.std.specs.Cmp.Lexicographic.{pointwise, lists_per, lists_equiv};
-ghost use Rattle.std.specs.Cmp.Rules.{comparing};
-ghost use Rattle.std.proofs.Common.{rules};
 ghost use Rattle.sig_core.specs.ErrorText.{table_error_text};
-ghost use Rattle.sig_core.specs.RowIndex.{IsIndex};
-ghost use Rattle.sig_core.specs.VerdictTable.{IsTable, IsFirstBadLine, IsCause, row_of, verdict_of, is_same_row};
+ghost use Rattle.sig_core.specs.VerdictTable.{IsTable, IsFirstBadLine, IsCause, HasFirstVerdicts, text_of, verdict_of};
 ghost use Rattle.sig_core.specs.declared.verdict_row.VerdictRow.{VerdictRow};
 ghost use Rattle.sig_core.specs.declared.verdict_table.TableError.TheVariants.{Memory};
 
 use crate::algorithm::{SchemeKind, SigAlg};
 use crate::scheme::{Scheme, SchemeError, Verdict};
-use crate::verdict_row::VerdictRow;
+use crate::verdict_row::{FIRST_LINE, SignatureDigests, TableVersion, VerdictRow};
 use sha2::{Digest, Sha256};
 use std::alloc::{AllocError, AllocFailed, Global};
+use std::collections::BTreeMap;
 use std::fmt;
 use std::marker::Model;
 use thiserror::Error;
@@ -58,30 +56,34 @@ impl<T: Drop> From<AllocFailed<T>> for TableError {
     }
 }
 
-/// A table of what is accepted, seen by contracts as the list of its rows. It keeps them in order a
-/// second time, so that one is found by halves.
+/// A table of verdicts, seen by contracts as the list of its rows. The first verdict on each
+/// signature is kept a second time, so that one is found without a walk of the rows.
 #[derive(Debug, Drop)]
 pub struct VerdictTable {
     rows: Vec<VerdictRow>,
-    sorted: Vec<VerdictRow>,
+    verdicts: BTreeMap<SignatureDigests, Verdict>,
 }
 
 impl Model for VerdictTable {
     ghost use Rattle.std.specs.Prelude.{List};
+    ghost use Rattle.std.specs.List.{AllByRecursion};
+    ghost use Rattle.sig_core.specs.VerdictTable.{IsRow, HasFirstVerdicts};
+    ghost use Rattle.sig_core.specs.declared.verdict_row.TableVersion.TheVariants.{Two};
     ghost use Rattle.sig_core.specs.declared.verdict_row.VerdictRow.{VerdictRow};
-    ghost use Rattle.sig_core.specs.RowIndex.{IsIndex};
 
     ghost Value = { List VerdictRow };
 
     ghost view = { λ table. table.rows.items };
 
-    ghost invariant = { λ table. IsIndex ⟦<VerdictRow as Ord>⟧.cmp table.rows.items
-        table.sorted.items };
+    ghost invariant = { λ table. AllByRecursion (IsRow Two) table.rows.items
+        × HasFirstVerdicts ⟦<SignatureDigests as Ord>⟧.cmp table.rows.items table.verdicts };
 }
 
 impl VerdictTable {
-    /// Reads a table. Each line is a row: the name of an algorithm, and the SHA-256 of key bytes,
-    /// of a message and of a signature in lower-case hexadecimal digits, with one space between.
+    /// Reads a table of either version. Each line of version 1 is a row: the name of an algorithm,
+    /// and the SHA-256 of key bytes, of a message and of a signature in lower-case hexadecimal
+    /// digits, with one space between. In version 2 the first line is `picky-verdicts 2`, and each
+    /// further one begins with `accept`, `reject` or `malformed` and a space.
     pub fn parse(alloc: Global, bytes: &[u8]) -> Result<VerdictTable, TableError>
         ensures table { IfOk result (λ table. IsTable bytes.now table) }
         // Want of memory is none where no row begins the text.
@@ -95,18 +97,30 @@ impl VerdictTable {
             (λ e. (e ≡ TableError.BadLine number) ⊎ (e ≡ TableError.Memory)) }
     {
         let rows = rows_of(alloc, bytes)?;
-        let sorted = sorted_copy(alloc, &rows)?;
-        Ok(VerdictTable { rows, sorted })
+        let verdicts = first_verdicts(alloc, &rows)?;
+        Ok(VerdictTable { rows, verdicts })
+    }
+
+    /// The table in version 2.
+    pub fn to_bytes(&self, alloc: Global) -> Result<Vec<u8>, AllocError>
+        ensures text { IfOk result (λ text. text.items ≡ text_of self.now) }
+        // It is a table of the same rows.
+        ensures table { IfOk result (λ text. IsTable text.items self.now) }
+    {
+        let mut text = Vec::from_slice(alloc, FIRST_LINE)?;
+        for row in &self.rows {
+            row.write(alloc, &mut text)?;
+        }
+        Ok(text)
     }
 
     /// A copy of the table.
     pub fn try_clone(&self, alloc: Global) -> Result<VerdictTable, AllocError>
         ensures { IfOk result (λ copy. copy ≡ self.now) }
     {
-        Ok(VerdictTable {
-            rows: Vec::from_slice(alloc, &self.rows)?,
-            sorted: Vec::from_slice(alloc, &self.sorted)?,
-        })
+        let rows = Vec::from_slice(alloc, &self.rows)?;
+        let verdicts = first_verdicts(alloc, &rows)?;
+        Ok(VerdictTable { rows, verdicts })
     }
 
     /// How many rows the table has.
@@ -116,29 +130,24 @@ impl VerdictTable {
         self.rows.len()
     }
 
-    /// Whether the table has no rows, so that it accepts nothing.
+    /// Whether the table has no rows, so that it rejects everything.
     pub fn is_empty(&self) -> bool
         ensures { IsTrue result ↔ (self.now ≡ []) }
     {
         self.rows.is_empty()
     }
-
-    // Whether a row of the table is this one.
-    fn contains(&self, row: &VerdictRow) -> bool
-        ensures { IsTrue result ↔ Contains self.now row.now }
-    {
-        self.sorted.binary_search(row).is_ok()
-    }
 }
 
 /// Tables are equal where they have the same rows in the same order.
 impl PartialEq for VerdictTable {
-    ghost eq = { pointwise is_same_row };
+    ghost eq = { pointwise ⟦<VerdictRow as PartialEq>⟧.eq };
 
-    ghost laws = { lists_per (Prim.search (comparing, rules)) };
+    ghost use Rattle.sig_core.specs.contracts.verdict_row.VerdictRowPartialEq.TheImpl.Laws.{laws-law};
+
+    ghost laws = { lists_per laws-law };
 
     fn eq(&self, other: &VerdictTable) -> bool
-        ensures value { result ≡ pointwise is_same_row self.now other.now }
+        ensures value { result ≡ pointwise ⟦<VerdictRow as PartialEq>⟧.eq self.now other.now }
         ensures same { IsTrue result ↔ (self.now ≡ other.now) }
     {
         self.rows == other.rows
@@ -146,7 +155,9 @@ impl PartialEq for VerdictTable {
 }
 
 impl Eq for VerdictTable {
-    ghost laws = { lists_equiv (Prim.search (comparing, rules)) };
+    ghost use Rattle.sig_core.specs.contracts.verdict_row.VerdictRowEq.TheImpl.Laws.{laws-law};
+
+    ghost laws = { lists_equiv laws-law };
 }
 
 /// The rows whose lines are the text.
@@ -154,12 +165,12 @@ fn rows_of(alloc: Global, text: &[u8]) -> Result<Vec<VerdictRow>, TableError>
     ensures table { IfOk result (λ rows. IsTable text.now rows.items) }
     ensures cause { IfErr result (IsCause text.now) }
 {
+    let (version, mut rest) = TableVersion::split_from(text);
     let mut rows = Vec::new(alloc);
-    let mut rest = text;
     while !rest.is_empty() {
-        let Some((row, after)) = VerdictRow::split_first(rest) else {
+        let Some((row, after)) = VerdictRow::split_first(version, rest) else {
             return Err(TableError::BadLine {
-                number: rows.len() as u64 + 1,
+                number: rows.len() as u64 + version.first_number(),
             });
         };
         rows.push(row)?;
@@ -168,19 +179,21 @@ fn rows_of(alloc: Global, text: &[u8]) -> Result<Vec<VerdictRow>, TableError>
     Ok(rows)
 }
 
-/// The rows in the order of their types, in which one is found by halves.
-fn sorted_copy(alloc: Global, rows: &[VerdictRow]) -> Result<Vec<VerdictRow>, AllocError>
-    ensures index { IfOk result
-        (λ sorted. IsIndex ⟦<VerdictRow as Ord>⟧.cmp rows.now sorted.items) }
+/// The verdict of the first row on each signature.
+fn first_verdicts(
+    alloc: Global,
+    rows: &[VerdictRow],
+) -> Result<BTreeMap<SignatureDigests, Verdict>, AllocError>
+    ensures first { IfOk result
+        (HasFirstVerdicts ⟦<SignatureDigests as Ord>⟧.cmp rows.now) }
     // Nothing is asked for where there are no rows.
     ensures none { rows.now ≡ [] → IsOk result }
 {
-    if rows.is_empty() {
-        return Ok(Vec::new(alloc));
+    let mut verdicts = BTreeMap::new(alloc);
+    for row in rows {
+        verdicts.entry(row.signature)?.or_insert(row.verdict);
     }
-    let mut sorted = Vec::from_slice(alloc, rows)?;
-    sorted.sort_unstable();
-    Ok(sorted)
+    Ok(verdicts)
 }
 
 impl Scheme for VerdictTable {
@@ -209,25 +222,21 @@ impl Scheme for VerdictTable {
     ) -> Result<Verdict, AllocError>
         ensures verdict { IfOk result (λ verdict.
             verdict ≡ verdict_of self.now alg key.now msg.now sig.now) }
-        // Accepted exactly where a row has the algorithm and the three digests, else rejected.
-        ensures accepted { IfOk result (λ verdict. (verdict ≡ Verdict.Accept)
-            ↔ Contains self.now (row_of alg key.now msg.now sig.now)) }
-        ensures rejected { IfOk result (λ verdict.
-            (verdict ≡ Verdict.Accept) ⊎ (verdict ≡ Verdict.Reject)) }
         // No memory is asked for.
         ensures never_memory { IsOk result }
     {
-        let row = VerdictRow {
+        let signature = SignatureDigests {
             alg,
             key: Sha256::digest(key),
             msg: Sha256::digest(msg),
             sig: Sha256::digest(sig),
         };
-        if self.contains(&row) {
-            Ok(Verdict::Accept)
-        } else {
-            Ok(Verdict::Reject)
-        }
+        Ok(
+            self.verdicts
+                .get(&signature)
+                .copied()
+                .unwrap_or(Verdict::Reject),
+        )
     }
 
     fn sign(

@@ -1,7 +1,8 @@
 //! What a verdict table says of signatures.
 
-use crate::rows::ROW;
-use sig_core::{Scheme as _, SchemeError, SchemeKind, SigAlg, Verdict, VerdictTable};
+use crate::rows::{KEY, MSG, ROW, SIG, VERSION_2};
+use sig_core::{Scheme as _, SchemeError, SchemeKind, SigAlg, TableError, Verdict, VerdictTable};
+use std::alloc::{AllocError, Global};
 use std::test::Fail;
 
 /// What the table of `ROW` says of signatures.
@@ -36,6 +37,64 @@ fn verdicts_of_a_copy(rt: HostRuntime) -> Result<(), Fail> {
             table.verify(rt.alloc(), *alg, key, msg, sig)? == *want,
             "{why}"
         );
+    }
+    Ok(())
+}
+
+/// Rows of version 2 on one signature, and what their table says of it.
+#[rattlefmt::skip]
+const FIRST: [(&[&str], Verdict); 9] = [
+    (&[], Verdict::Reject),
+    (&["accept "], Verdict::Accept),
+    (&["reject "], Verdict::Reject),
+    (&["malformed "], Verdict::Malformed),
+    (&["accept ", "reject "], Verdict::Accept),
+    (&["reject ", "accept "], Verdict::Reject),
+    (&["malformed ", "accept "], Verdict::Malformed),
+    (&["malformed ", "reject ", "accept "], Verdict::Malformed),
+    (&["accept ", "malformed ", "malformed "], Verdict::Accept),
+];
+
+#[test]
+fn first_rows(rt: HostRuntime) -> Result<(), Fail> {
+    for (words, want) in &FIRST {
+        for (before, behind) in &[("", ""), ("reject ", ""), ("", "malformed ")] {
+            assert!(rt;
+                verdict_among(rt.alloc(), words, before, behind)? == *want,
+                "{before} {words:?} {behind}"
+            );
+        }
+    }
+    Ok(())
+}
+
+/// What a table says whose rows on the signature have these words, a row on another one, if it has
+/// a word, before them and behind them.
+fn verdict_among(
+    alloc: Global,
+    words: &[&str],
+    before: &str,
+    behind: &str,
+) -> Result<Verdict, TableError> {
+    let mut text = String::from_str(alloc, VERSION_2)?;
+    push_other(&mut text, before)?;
+    for word in words {
+        text.push_str(word)?;
+        text.push_str(ROW)?;
+    }
+    push_other(&mut text, behind)?;
+    let table = VerdictTable::parse(alloc, text.as_bytes())?;
+    Ok(table.verify(alloc, SigAlg::RsaSha256, b"key", b"message", b"signature")?)
+}
+
+/// Adds a row of another algorithm with this word.
+fn push_other(text: &mut String, word: &str) -> Result<(), AllocError> {
+    if word.is_empty() {
+        return Ok(());
+    }
+    text.push_str(word)?;
+    for piece in &["rsa-sha1 ", KEY, " ", MSG, " ", SIG, "\n"] {
+        text.push_str(piece)?;
     }
     Ok(())
 }

@@ -1,12 +1,10 @@
-use Rattle.sig_core.proofs.Rows.{no_message, no_signature}
+use Rattle.sig_core.proofs.Rows.{no_verdict, no_named}
 use Rattle.sig_core.proofs.verdict_row.VerdictRow.split_first.Goals as goal
 
-pub returns-in_err-msg : goal.returns-in_err-msg
-returns-in_err-msg c =
-    rw c.from_residual-in_err-msg.ensures (no_message _ _ _ _ _ c.in_ok-alg.ensures c.in_ok-key.ensures.0
-    c.in_ok-key.ensures.1 c.in_err-msg.ensures)
+pub returns-in_err-verdict : goal.returns-in_err-verdict
+returns-in_err-verdict c = rw c.from_residual.ensures (no_verdict _ _ c.in_err-verdict.ensures)
 
-pub returns-in_err-sig : goal.returns-in_err-sig
-returns-in_err-sig c =
-    rw c.from_residual-in_err-sig.ensures (no_signature _ _ _ _ _ _ _ c.in_ok-alg.ensures c.in_ok-key.ensures.0
-    c.in_ok-key.ensures.1 c.in_ok-msg.ensures.0 c.in_ok-msg.ensures.1 c.in_err-sig.ensures)
+pub returns-in_err-signature : goal.returns-in_err-signature
+returns-in_err-signature c =
+    rw c.from_residual-in_err-signature.ensures (no_named _ _ _ _ c.in_ok-verdict.ensures.0 c.in_ok-verdict.ensures.1
+    c.in_err-signature.ensures)

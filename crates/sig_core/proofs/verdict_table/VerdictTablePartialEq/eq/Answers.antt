@@ -1,10 +1,8 @@
-use Rattle.std.proofs.Common.{◌≡◌, Bool, List, refl, rules, subst}
-use Rattle.std.specs.Bool.{Decides, one_answer}
+use Rattle.std.proofs.Common.{◌≡◌, Bool, List, rules, subst}
+use Rattle.std.specs.Bool.{Decides}
 use Rattle.std.specs.Cmp.Lexicographic.{pointwise}
 use Rattle.std.proofs.lemmas.Slice.Eq.{slice_eq-Decides}
 use Rattle.sig_core.specs.declared.verdict_row.VerdictRow.{VerdictRow}
-use Rattle.sig_core.specs.VerdictTable.{is_same_row}
-use Rattle.sig_core.proofs.Verdicts.{is_same_row-Decides}
 use Rattle.sig_core.proofs.verdict_table.VerdictTablePartialEq.eq.Goals as goal
 
 -- what a test of the rows tells of the tables that are seen as them
@@ -16,8 +14,3 @@ told {E} decides xs ys a b r seen seen' test =
 
 pub returns-clause-same : goal.returns-clause-same
 returns-clause-same c = told (λ a b. search rules) _ _ _ _ c.eq.result c.self.view_is c.other.view_is c.eq.ensures
-
-pub returns-clause-value : goal.returns-clause-value
-returns-clause-value c =
-    let ours = slice_eq-Decides is_same_row-Decides c.args.self.now c.args.other.now _ refl in
-    one_answer c.eq.result (pointwise is_same_row c.args.self.now c.args.other.now) (returns-clause-same c) ours
