@@ -6,7 +6,7 @@ use Rattle.der_core.specs.Encoding.{encoding}
 use Rattle.asn1_types.specs.Elements.{bit_string}
 use Rattle.asn1_types.specs.declared.bit_string.BitString.{BitString}
 use Rattle.asn1_types.specs.declared.generalized_time.GeneralizedTime.{GeneralizedTime}
-use Rattle.asn1_types.specs.declared.oids.TheConstants.{CE_BASIC_CONSTRAINTS}
+use Rattle.asn1_types.specs.declared.oids.TheConstants.{CE_BASIC_CONSTRAINTS, CE_SUBJECT_KEY_IDENTIFIER}
 use Rattle.key_types.specs.AlgorithmIdentifier.{algorithm_identifier}
 use Rattle.key_types.specs.declared.key_info.SubjectPublicKeyInfo.{SubjectPublicKeyInfo}
 use Rattle.key_core.specs.SignatureAlgorithm.{NamesSignature}
@@ -17,19 +17,21 @@ use Rattle.x509_types.specs.FirstOfValue.{extensions_in}
 use Rattle.x509_types.specs.TbsCertificate.{tbs_certificate}
 use Rattle.x509_types.specs.TbsElements.{tbs_of}
 use Rattle.x509_types.specs.declared.extension.Extension.{Extension}
+use Rattle.x509_types.specs.declared.extension_view.ExtensionView.TheVariants as views
 use Rattle.x509_types.specs.declared.tbs_certificate.TbsCertificate.{TbsCertificate}
+use Rattle.x509_core.specs.Distinct.{AreDistinct}
 use Rattle.x509_core.specs.FirstValue.{HasFirst}
 use Rattle.x509_core.specs.KeptCertificate.{KeptCertificate}
 use Rattle.x509_core.specs.Link.{IsSignedBy}
+use Rattle.x509_core.specs.SaidValues.{NamesKey}
 use Rattle.x509_core.specs.Steps.{IsFirstUntaken, AreTaken, RefusesBySteps}
 use Rattle.x509_core.specs.declared.error.CertError.{CertError}
 use Rattle.asn1_types.specs.declared.integer.IntegerAsn1.{IntegerAsn1}
 use Rattle.key_types.specs.declared.algorithm.AlgorithmIdentifier.{AlgorithmIdentifier}
 use Rattle.x509_types.specs.declared.version.Version.TheVariants as versions
 use Rattle.x509_values.specs.declared.validity.Validity.{Validity}
-use Rattle.issuing_core.specs.BuiltCertificate.{authority_of, IsBuiltBy, IsBuiltFor, IsTbsBy, IsTbsFor, IsValidityOf, NameSets}
+use Rattle.issuing_core.specs.BuiltCertificate.{authority_of, IsBuiltBy, IsBuiltFor, IsIdentified, IsTbsBy, IsTbsFor, IsValidityOf, NameSets}
 use Rattle.issuing_core.specs.Building.{IsBuilt, IsMade, algorithm_step, build_steps, given_steps, identifier_step, message_of, signing_steps, steps_by, subject_steps}
-use Rattle.issuing_core.specs.Inherited.{AreDistinct}
 use Rattle.issuing_core.specs.MadeExtensions.{AreBuilt, constraints_of}
 use Rattle.issuing_core.specs.declared.builder.CertificateBuilder.{CertificateBuilder}
 use Rattle.issuing_core.specs.declared.builder.IssuerInfos.{IssuerInfos}
@@ -38,7 +40,7 @@ use Rattle.x509_core.specs.declared.error.CertError.TheVariants as errors
 use Rattle.issuing_core.proofs.MadeCertificates.{made_or_refused}
 use Rattle.issuing_core.proofs.Subjects.{subject_taken}
 use Rattle.x509_core.proofs.TakenSteps.{untaken_before, refused_behind, refused_within}
-use Rattle.issuing_core.proofs.WantedExtensions.{built_distinct, built_constrained}
+use Rattle.issuing_core.proofs.WantedExtensions.{built_authority, built_constrained, built_distinct, built_key}
 
 is_given : {X : Type 0} (option : Option X) (x : X) → option ≡ Some x → IsSome option
 is_given {X} option x e = subst (λ (o : Option X). IsSome o) (sym e) refl
@@ -122,6 +124,21 @@ constrained judge signs pair b word (Ok cert) Refused is =
     let by = is.made.made.tbs.by in
     subst (λ (o : Option (List Extension)). HasFirst CE_BASIC_CONSTRAINTS.now (extensions_in o) (constraints_of b)) (sym by.given) (built_constrained b is.issuer _ _ by.extensions by.built)
 constrained judge signs pair b word (Err e) Refused is = tt
+
+pub identified : (judge : Judge) (signs : Signs) (pair : Pair) (b : CertificateBuilder) (word : ℕ) (r : Result KeptCertificate CertError) (Refused : CertError → Type 0)
+    → MatchResult r (IsBuilt (arithmetic judge signs pair) b word) Refused → IfOk r (λ cert. IsIdentified b cert.certificate.tbs_certificate)
+identified judge signs pair b word (Ok cert) Refused is =
+    let tbs = is.made.made.tbs in
+    let by = tbs.by in record {
+      issuer = is.issuer;
+      given = is.given;
+      own = tbs.own;
+      identified = tbs.issued_to.identified;
+      key = subst (λ (o : Option (List Extension)). HasFirst CE_SUBJECT_KEY_IDENTIFIER.now (extensions_in o) (views.SubjectKeyIdentifier tbs.own)) (sym by.given) (built_key b is.issuer _ _ by.extensions by.built);
+      authority = subst (λ (o : Option (List Extension)). NamesKey (extensions_in o) (authority_of is.issuer.self_signed b.authority_key_identifier tbs.own)) (sym by.given)
+          (built_authority b is.issuer _ _ by.extensions by.built);
+    }
+identified judge signs pair b word (Err e) Refused is = tt
 
 -- ---- what is signed, of its parts
 

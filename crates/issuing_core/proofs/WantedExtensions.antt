@@ -1,11 +1,11 @@
 -- Extensions that are wanted, in a row; those of a builder have different identifiers, and so they have with those that are added.
-use Rattle.std.proofs.Common.{◌≡◌, ◌≢◌, ℕ, List, [], ◌∷◌, ◌++◌, Bool, true, false, ◌&&◌, ◌||◌, not, Option, Some, None, refl, sym, ap, subst, ◌∙◌, append_assoc}
+use Rattle.std.proofs.Common.{◌≡◌, ◌≢◌, ℕ, List, [], ◌∷◌, ◌++◌, Bool, true, false, ◌&&◌, ◌||◌, not, Option, Some, None, refl, sym, ap, subst, ◌∙◌, append_assoc, append-nil}
 use Rattle.std.specs.Prelude.{if◌then◌else◌, option_to_list}
 use Rattle.std.specs.Str.{bytes_eq}
 use Rattle.std.proofs.lemmas.Bool.{and_parts}
 use Rattle.std.proofs.lemmas.Slice.Eq.{bytes_eq-Decides}
 use Rattle.asn1_types.specs.Values.{identifier_contents}
-use Rattle.asn1_types.specs.declared.oids.TheConstants.{CE_KEY_USAGE, CE_SUBJECT_ALT_NAME, CE_ISSUER_ALT_NAME, CE_BASIC_CONSTRAINTS, CE_EXT_KEY_USAGE}
+use Rattle.asn1_types.specs.declared.oids.TheConstants.{CE_SUBJECT_KEY_IDENTIFIER, CE_KEY_USAGE, CE_SUBJECT_ALT_NAME, CE_ISSUER_ALT_NAME, CE_BASIC_CONSTRAINTS, CE_AUTHORITY_KEY_IDENTIFIER, CE_EXT_KEY_USAGE}
 use Rattle.x501_types.specs.declared.general_name.RawGeneralName.{RawGeneralName}
 use Rattle.x509_types.specs.FirstOfValue.{NoneHas}
 use Rattle.x509_types.specs.declared.extension.Extension.{Extension}
@@ -13,11 +13,15 @@ use Rattle.x509_types.specs.declared.extension_view.ExtensionView.{ExtensionView
 use Rattle.x509_types.specs.declared.extension_view.ExtensionView.TheVariants as views
 use Rattle.x509_values.specs.declared.extended_key_usage.ExtendedKeyUsage.{ExtendedKeyUsage}
 use Rattle.x509_values.specs.declared.key_usage.KeyUsage.{KeyUsage}
+use Rattle.x509_values.specs.AuthorityKeyIdentifier.{key_of_identifier}
+use Rattle.x509_core.specs.Distinct.{AreDistinct}
 use Rattle.x509_core.specs.FirstValue.{HasFirst}
-use Rattle.issuing_core.specs.Inherited.{has_one, with_one, with_others, AreDistinct}
+use Rattle.x509_core.specs.SaidValues.{NamesKey}
+use Rattle.issuing_core.specs.Inherited.{has_one, with_one, with_others}
 use Rattle.issuing_core.specs.MadeExtensions.{WantedExtension, IsWantedExtension, AreWanted, AreBuilt, HasUses, IsConstraints, constraints_of, inherited, where_given, wanted, wanted_keys, wanted_names, wanted_uses}
 use Rattle.issuing_core.specs.declared.builder.CertificateBuilder.{CertificateBuilder}
 use Rattle.issuing_core.specs.declared.builder.IssuerInfos.{IssuerInfos}
+use Rattle.x509_core.proofs.DistinctExtensions.{distinct_with, first_of_distinct}
 
 pub wanted_both : (a b : List WantedExtension) (xs ys : List Extension) → AreWanted a xs → AreWanted b ys → AreWanted (a ++ b) (xs ++ ys)
 wanted_both [] b [] ys p q = q
@@ -96,15 +100,6 @@ made_distinct b critical own authority made are =
 
 -- ---- one more, and others
 
-none_with : (oid : List ℕ) (es : List Extension) (e : Extension) → NoneHas oid es → identifier_contents e.extn_id ≢ oid → NoneHas oid (es ++ e ∷ [])
-none_with oid [] e none other = (other, tt)
-none_with oid (x ∷ es) e none other = (none.0, none_with oid es e none.1 other)
-
-distinct_with : (es : List Extension) (e : Extension) → AreDistinct es → NoneHas (identifier_contents e.extn_id) es → AreDistinct (es ++ e ∷ [])
-distinct_with [] e distinct none = (tt, tt)
-distinct_with (x ∷ es) e distinct none =
-    (none_with (identifier_contents x.extn_id) es e distinct.0 (λ same. none.0 (sym same)), distinct_with es e distinct.1 none.1)
-
 none_has : (es : List Extension) (oid : List ℕ) → has_one es oid ≡ false → NoneHas oid es
 none_has [] oid test = tt
 none_has (e ∷ es) oid test =
@@ -124,35 +119,62 @@ built_distinct b issuer own authority es built =
     subst AreDistinct (sym built.are)
     (distinct_others built.made (inherited issuer.self_signed b.inherits b.subject_infos) (made_distinct b built.critical own authority built.made built.are_made))
 
--- ---- the first stays
+-- ---- the first of each identifier
 
-abbrev IsAtFront : Extension → List Extension → Type 0
-IsAtFront first es = (others : List Extension) × (es ≡ first ∷ others)
+-- the wanted one, among others
+found : (xs ys : List WantedExtension) (w : WantedExtension) (es : List Extension) → AreWanted (xs ++ w ∷ ys) es
+    → (e : Extension) × (before : List Extension) × (after : List Extension) × (es ≡ before ++ e ∷ after) × IsWantedExtension w e
+found [] ys w [] are = absurd are
+found [] ys w (e ∷ es) are = (e, [], es, refl, are.0)
+found (x ∷ xs) ys w [] are = absurd are
+found (x ∷ xs) ys w (e ∷ es) are =
+    let rest = found xs ys w es are.1 in
+    (rest.0, e ∷ rest.1, rest.2, ap (λ (others : List Extension). e ∷ others) rest.3, rest.4)
 
-begins_or : (first : Extension) (es : List Extension) (e : Extension) (t : Bool) → IsAtFront first es → IsAtFront first (if t then es else es ++ e ∷ [])
-begins_or first es e true begins = begins
-begins_or first es e false begins = (begins.0 ++ e ∷ [], ap (λ (x : List Extension). x ++ e ∷ []) begins.1)
+stays_or : (es : List Extension) (e : Extension) (t : Bool) → (more : List Extension) × ((if t then es else es ++ e ∷ []) ≡ es ++ more)
+stays_or es e true = ([], sym (append-nil es))
+stays_or es e false = (e ∷ [], refl)
 
-begins_others : (first : Extension) (es others : List Extension) → IsAtFront first es → IsAtFront first (with_others es others)
-begins_others first es [] begins = begins
-begins_others first es (e ∷ others) begins = begins_others first (with_one es e) others (begins_or first es e (has_one es (identifier_contents e.extn_id)) begins)
+stays : (es others : List Extension) → (more : List Extension) × (with_others es others ≡ es ++ more)
+stays es [] = ([], sym (append-nil es))
+stays es (e ∷ others) =
+    let one = stays_or es e (has_one es (identifier_contents e.extn_id)) in
+    let all = stays (with_one es e) others in
+    (one.0 ++ all.0, all.1 ∙ ap (λ (front : List Extension). front ++ all.0) one.1 ∙ append_assoc es one.0 all.0)
 
-first_wanted : (w : WantedExtension) (ws : List WantedExtension) (es : List Extension) → AreWanted (w ∷ ws) es → (e : Extension) × IsWantedExtension w e × IsAtFront e es
-first_wanted w ws [] are = absurd are
-first_wanted w ws (e ∷ es) are = (e, are.0, (es, refl))
+module _ (b : CertificateBuilder) (issuer : IssuerInfos) (own authority : List ℕ) (es : List Extension) (built : AreBuilt b issuer own authority es) where
+  first_built : (xs ys : List WantedExtension) (w : WantedExtension) → wanted b built.critical own authority ≡ xs ++ w ∷ ys → HasFirst w.oid es w.value
+  first_built xs ys w are =
+      let at = found xs ys w built.made (subst (λ (ws : List WantedExtension). AreWanted ws built.made) are built.are_made) in
+      let more = stays built.made (inherited issuer.self_signed b.inherits b.subject_infos) in
+      first_of_distinct w.oid w.value es at.1 (at.2 ++ more.0) at.0 (built_distinct b issuer own authority es built)
+      (built.are ∙ more.1 ∙ ap (λ (front : List Extension). front ++ more.0) at.3 ∙ append_assoc at.1 (at.0 ∷ at.2) more.0) at.4.named at.4.valued
 
-first_value : (oid : List ℕ) (value : ExtensionView) (e : Extension) (es : List Extension) → identifier_contents e.extn_id ≡ oid → e.extn_value ≡ value → IsAtFront e es → HasFirst oid es value
-first_value oid value e es named valued begins = record {
-  extension = e;
-  first = record { before = []; after = begins.0; are = begins.1; first = tt; named = named };
-  valued = valued;
-}
+  pub built_constrained : HasFirst CE_BASIC_CONSTRAINTS.now es (constraints_of b)
+  built_constrained = first_built [] _ (record { oid = CE_BASIC_CONSTRAINTS.now; critical = built.critical; value = constraints_of b }) refl
 
-pub built_constrained : (b : CertificateBuilder) (issuer : IssuerInfos) (own authority : List ℕ) (es : List Extension) → AreBuilt b issuer own authority es → HasFirst CE_BASIC_CONSTRAINTS.now es (constraints_of b)
-built_constrained b issuer own authority es built =
-    let first = first_wanted _ _ built.made built.are_made in
-    let begins = begins_others first.0 built.made (inherited issuer.self_signed b.inherits b.subject_infos) first.2 in
-    first_value CE_BASIC_CONSTRAINTS.now (constraints_of b) first.0 es first.1.named first.1.valued (subst (IsAtFront first.0) (sym built.are) begins)
+  abbrev uses : List WantedExtension
+  uses = wanted_uses b built.critical
+
+  abbrev key_wanted : WantedExtension
+  key_wanted = record { oid = CE_SUBJECT_KEY_IDENTIFIER.now; critical = false; value = views.SubjectKeyIdentifier own }
+
+  abbrev authority_wanted : WantedExtension
+  authority_wanted = record { oid = CE_AUTHORITY_KEY_IDENTIFIER.now; critical = false; value = views.AuthorityKeyIdentifier (key_of_identifier authority) }
+
+  behind_names : wanted b built.critical own authority ≡ (uses ++ wanted_names b) ++ key_wanted ∷ authority_wanted ∷ []
+  behind_names = sym (append_assoc uses (wanted_names b) (key_wanted ∷ authority_wanted ∷ []))
+
+  pub built_key : HasFirst CE_SUBJECT_KEY_IDENTIFIER.now es (views.SubjectKeyIdentifier own)
+  built_key = first_built (uses ++ wanted_names b) (authority_wanted ∷ []) key_wanted behind_names
+
+  pub built_authority : NamesKey es authority
+  built_authority = record {
+    value = key_of_identifier authority;
+    first = first_built ((uses ++ wanted_names b) ++ key_wanted ∷ []) [] authority_wanted
+        (behind_names ∙ sym (append_assoc (uses ++ wanted_names b) (key_wanted ∷ []) (authority_wanted ∷ [])));
+    named = refl;
+  }
 
 -- ---- put together
 

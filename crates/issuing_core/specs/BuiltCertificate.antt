@@ -4,6 +4,7 @@ use Rattle.asn1_types.specs.Integer.{number_of, IsUnsignedInteger}
 use Rattle.asn1_types.specs.Values.{integer_contents}
 use Rattle.asn1_types.specs.declared.generalized_time.GeneralizedTime.{GeneralizedTime}
 use Rattle.asn1_types.specs.declared.integer.IntegerAsn1.{IntegerAsn1}
+use Rattle.asn1_types.specs.declared.oids.TheConstants.{CE_SUBJECT_KEY_IDENTIFIER}
 use Rattle.key_types.specs.declared.algorithm.AlgorithmIdentifier.{AlgorithmIdentifier}
 use Rattle.key_types.specs.declared.key_info.SubjectPublicKeyInfo.{SubjectPublicKeyInfo}
 use Rattle.key_core.specs.KeyIdentifier.{IsKeyIdentifier}
@@ -15,10 +16,14 @@ use Rattle.key_core.specs.declared.private_key.PrivateKey.{PrivateKey}
 use Rattle.names_core.specs.Names.{sets_of}
 use Rattle.names_core.specs.UtcDate.{IsTimeOf}
 use Rattle.x501_types.specs.declared.attribute.AttributeTypeAndValue.{AttributeTypeAndValue}
+use Rattle.x509_types.specs.FirstOfValue.{extensions_in}
 use Rattle.x509_types.specs.declared.extension.Extension.{Extension}
+use Rattle.x509_types.specs.declared.extension_view.ExtensionView.TheVariants as views
 use Rattle.x509_types.specs.declared.tbs_certificate.TbsCertificate.{TbsCertificate}
 use Rattle.x509_types.specs.declared.version.Version.TheVariants as versions
 use Rattle.x509_values.specs.declared.validity.Validity.{Validity}
+use Rattle.x509_core.specs.FirstValue.{HasFirst}
+use Rattle.x509_core.specs.SaidValues.{NamesKey}
 use Rattle.issuing_core.specs.MadeExtensions.{AreBuilt}
 use Rattle.issuing_core.specs.SelfSigned.{IsSelfSigned}
 use Rattle.issuing_core.specs.declared.builder.CertificateBuilder.{CertificateBuilder}
@@ -115,3 +120,15 @@ pub record IsTbsFor (judge : Judge) (b : CertificateBuilder) (issuer : IssuerInf
   pub own : List ℕ
   pub issued_to : IsBuiltFor judge b issuer own tbs.subject tbs.subject_public_key_info
   pub by : IsTbsBy b issuer word own tbs
+
+-- The first identifiers of keys (RFC 5280 4.2.1.1, 4.2.1.2): of the subject's, by the method of the
+-- builder, and of the issuer's, as it is given, or as the subject's where they are the same.
+pub record IsIdentified (b : CertificateBuilder) (tbs : TbsCertificate) : Type 0 where
+  pub issuer : IssuerInfos
+  pub given : b.issuer_infos ≡ Some issuer
+  pub own : List ℕ
+  pub identified : IsKeyIdentifier b.key_id_gen_method tbs.subject_public_key_info own
+  pub key : HasFirst CE_SUBJECT_KEY_IDENTIFIER.now (extensions_in tbs.extensions)
+      (views.SubjectKeyIdentifier own)
+  pub authority : NamesKey (extensions_in tbs.extensions)
+      (authority_of issuer.self_signed b.authority_key_identifier own)

@@ -1,9 +1,8 @@
 -- The extensions that a request asks for, and those of them that a certificate gets.
-use Rattle.std.specs.Prelude.{⊤, ℕ, Bool, if◌then◌else◌, bytes_eq, List, [], ◌∷◌, ◌++◌, Option, Some, None}
+use Rattle.std.specs.Prelude.{ℕ, Bool, if◌then◌else◌, bytes_eq, List, [], ◌∷◌, ◌++◌, Option, Some, None}
 use Rattle.std.specs.List.{list_any}
 use Rattle.asn1_types.specs.Values.{identifier_contents}
 use Rattle.x509_types.specs.Extension.{extension_id}
-use Rattle.x509_types.specs.FirstOfValue.{NoneHas}
 use Rattle.x509_types.specs.declared.attribute.Attribute.{Attribute}
 use Rattle.x509_types.specs.declared.attribute_values.AttributeValues.{AttributeValues}
 use Rattle.x509_types.specs.declared.attribute_values.AttributeValues.TheVariants as values
@@ -50,9 +49,3 @@ with_one extensions e =
 abbrev pub with_others : List Extension → List Extension → List Extension
 with_others extensions [] = extensions
 with_others extensions (e ∷ others) = with_others (with_one extensions e) others
-
--- no two of the extensions have the same identifier (RFC 5280 4.2)
-abbrev pub AreDistinct : List Extension → Type 0
-AreDistinct [] = ⊤
-AreDistinct (e ∷ extensions) =
-    NoneHas (identifier_contents (extension_id e)) extensions × AreDistinct extensions

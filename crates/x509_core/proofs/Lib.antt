@@ -4,6 +4,7 @@ pub mod Anew
 pub mod KeyIds
 pub mod Names
 pub mod FirstOfIdentifier
+pub mod DistinctExtensions
 pub mod ReadCerts
 pub mod Links
 pub mod Parts

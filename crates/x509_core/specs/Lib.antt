@@ -2,6 +2,7 @@ pub mod Keyless
 pub mod KeylessParts
 pub mod KeptCertificate
 pub mod FirstValue
+pub mod Distinct
 pub mod SaidValues
 pub mod CertType
 pub mod Parent

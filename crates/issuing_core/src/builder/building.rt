@@ -10,6 +10,7 @@ ghost use Rattle.x509_types.specs.declared.version.Version.TheVariants as versio
 ghost use Rattle.key_core.specs.Signing.{IsKeyPair, arithmetic};
 ghost use Rattle.key_core.specs.Keys.{info_of};
 ghost use Rattle.names_core.specs.Names.{sets_of};
+ghost use Rattle.x509_core.specs.Distinct.{AreDistinct};
 ghost use Rattle.x509_core.specs.FirstValue.{HasFirst};
 ghost use Rattle.x509_core.specs.KeptCertificate.{KeptCertificate};
 ghost use Rattle.x509_core.specs.Link.{IsSignedBy, signature_refusal as algorithm_refusal};
@@ -18,9 +19,8 @@ ghost use Rattle.x509_core.specs.declared.error.CertError.{CertError};
 ghost use Rattle.x509_core.specs.declared.error.CertError.TheVariants as errors;
 ghost use Rattle.issuing_core.specs.declared.builder.IssuerInfos.{IssuerInfos};
 ghost use Rattle.der_core.specs.Refusals.{Tells};
-ghost use Rattle.issuing_core.specs.BuiltCertificate.{IsBuiltBy, IsTbsBy, IsValidityOf, serial_of};
+ghost use Rattle.issuing_core.specs.BuiltCertificate.{IsBuiltBy, IsIdentified, IsTbsBy, IsValidityOf, serial_of};
 ghost use Rattle.issuing_core.specs.Building.{IsBuilt, algorithm_step, argument_steps, build_steps, given_steps};
-ghost use Rattle.issuing_core.specs.Inherited.{AreDistinct};
 ghost use Rattle.issuing_core.specs.MadeExtensions.{constraints_of};
 
 use super::refusing::{missing, no_algorithm};
@@ -77,6 +77,9 @@ impl<'a> CertificateBuilder<'a> {
         ensures constrained { IfOk result (λ cert. HasFirst CE_BASIC_CONSTRAINTS.now
             (extensions_in cert.certificate.tbs_certificate.extensions)
             (constraints_of self.entry)) }
+        // So are the first identifiers of its key and of the issuer's.
+        ensures identified { IfOk result
+            (λ cert. IsIdentified self.entry cert.certificate.tbs_certificate) }
     {
         self.built(alloc, word, scheme)
     }

@@ -1,4 +1,4 @@
-use Rattle.issuing_core.proofs.BuiltCertificates.{all_distinct, constrained, signed_by_parents}
+use Rattle.issuing_core.proofs.BuiltCertificates.{all_distinct, constrained, identified, signed_by_parents}
 use Rattle.issuing_core.proofs.builder.CertificateBuilder.build.Goals as goal
 
 pub returns-clause-linked : goal.returns-clause-linked
@@ -12,3 +12,7 @@ returns-clause-distinct g c =
 pub returns-clause-constrained : goal.returns-clause-constrained
 returns-clause-constrained g c =
     constrained (g.S.Scheme.judge c.args.scheme.now) (g.S.Scheme.signs c.args.scheme.now) (g.S.Scheme.pair c.args.scheme.now) c.args.self c.args.word c.built.result _ c.built.ensures.answer
+
+pub returns-clause-identified : goal.returns-clause-identified
+returns-clause-identified g c =
+    identified (g.S.Scheme.judge c.args.scheme.now) (g.S.Scheme.signs c.args.scheme.now) (g.S.Scheme.pair c.args.scheme.now) c.args.self c.args.word c.built.result _ c.built.ensures.answer
