@@ -1,5 +1,5 @@
--- Verdict tables: how rows are spelled in both versions, where a text stops being a table, and what a
--- table says of a signature.
+-- Verdict tables: how rows are spelled in both versions, where a text stops being a table, and what
+-- a table says of a signature.
 use Rattle.std.specs.Prelude.{◌≡◌, ◌≢◌, ℕ, ◌+◌, List, [], ◌∷◌, ◌++◌, length, Bool, ◌&&◌, codes, find, Option, option_map, ⊤}
 use Rattle.std.specs.BTreeMap.{BTreeMap, get}
 use Rattle.std.specs.List.{AllByRecursion, flat_map}
@@ -39,8 +39,8 @@ newline = 0x0A
 -- with one space between
 abbrev pub signature_line : SignatureDigests → List ℕ
 signature_line signature =
-    name_of signature.alg ++ space ∷ encode_lower signature.key ++ space ∷ encode_lower signature.msg
-    ++ space ∷ encode_lower signature.sig ++ newline ∷ []
+    name_of signature.alg ++ space ∷ encode_lower signature.key
+    ++ space ∷ encode_lower signature.msg ++ space ∷ encode_lower signature.sig ++ newline ∷ []
 
 -- the text doesn't begin with a line that names a signature
 abbrev pub BeginsWithNoSignature : List ℕ → Type 0
@@ -141,7 +141,8 @@ HasFirstVerdicts cmp rows verdicts =
 -- the verdict of a table: that of the first row that names the signature. What no row names is
 -- rejected
 abbrev pub verdict_of : List VerdictRow → SigAlg → List ℕ → List ℕ → List ℕ → Verdict
-verdict_of rows alg key msg sig = unwrap_or (first_verdict rows (signature_of alg key msg sig)) Reject
+verdict_of rows alg key msg sig =
+    unwrap_or (first_verdict rows (signature_of alg key msg sig)) Reject
 
 -- behind its first line, if it has one, the text begins with the line of a row
 pub record BeginsWithLine (text : List ℕ) : Type 0 where
