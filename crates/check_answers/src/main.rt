@@ -23,15 +23,17 @@ mod kept;
 mod line;
 
 use crate::case::{answer, case_of};
-use anyhow::{Context, Result, bail};
+use anyhow::{Result, bail};
 use std::alloc::Global;
 use std::io::{BufWriter, Write};
 use std::{env, fs, io};
 
 fn main(rt: HostRuntime) -> Result<()> {
     let words: Vec<String> = env::args(&rt)?.skip(1).collect(rt.alloc())?;
-    let path = words.first().context("no file of cases is named")?;
-    let cases = fs::read_to_string(&rt, path)?;
+    let [path] = words.as_slice() else {
+        bail!("usage: check_answers FILE");
+    };
+    let cases = fs::read_to_string(&rt, path.as_str())?;
     let mut out = BufWriter::new(rt.alloc(), io::writer(&rt))?;
     print_answers(rt.alloc(), &cases, &mut out)?;
     out.flush()?;
