@@ -23,26 +23,17 @@ mod row;
 mod view;
 
 use anyhow::{Result, bail};
-use std::io::{BufWriter, Write};
+use row_answers::print_rows;
 use std::{env, fs, io};
 
 fn main(rt: HostRuntime) -> Result<()> {
     let words: Vec<String> = env::args(&rt)?.skip(1).collect(rt.alloc())?;
-    let mut out = BufWriter::new(rt.alloc(), io::writer(&rt))?;
     match words.as_slice() {
-        [path] => {
-            let rows = fs::read_to_string(&rt, path.as_str())?;
-            for text in rows.lines() {
-                let answer = row::answer(rt.alloc(), text)?;
-                writeln!(out, "{answer}")?;
-            }
-        }
+        [path] => print_rows(&rt, path.as_str(), row::print),
         [path, times] => {
             let file = fs::read(&rt, path.as_str())?;
-            measure::print_times(rt.alloc(), &rt, &file, times.parse()?, &mut out)?;
+            measure::print_times(rt.alloc(), &rt, &file, times.parse()?, &mut io::writer(&rt))
         }
         _ => bail!("usage: certificate_answers FILE [TIMES]"),
     }
-    out.flush()?;
-    Ok(())
 }

@@ -4,15 +4,15 @@ use crate::view::{first_in, octets};
 use anyhow::Result;
 use asn1_types::oids::{KP_CODE_SIGNING, KP_TIME_STAMPING};
 use der_core::Cursor;
+use row_answers::print_time;
 use std::alloc::Global;
 use std::io::Write;
 use std::time::CpuClock;
 use x509_core::Cert;
 use x509_types::{CertView, Time};
 
-/// Reads each certificate of a file so many times, in each way. For each way a line is printed: its
-/// name, for each certificate 1 where it is read and 0 where it isn't, the nanoseconds that all
-/// took together, and a sum over what was read.
+/// Reads each certificate of a file so many times: lent where it lies, with each field, and as a
+/// certificate that is kept with its octets.
 pub fn print_times(
     alloc: Global,
     clock: &impl CpuClock,
@@ -21,60 +21,25 @@ pub fn print_times(
     out: &mut impl Write,
 ) -> Result<()> {
     let certificates = certificates_of(alloc, file)?;
-    print_way(alloc, clock, &certificates, times, out, Way::Lent)?;
-    print_way(alloc, clock, &certificates, times, out, Way::Kept)?;
-    Ok(())
-}
-
-/// A way in which a certificate is read.
-#[derive(Clone, Copy)]
-enum Way {
-    /// Where its octets lie, with each field.
-    Lent,
-    /// As a certificate that is kept with its octets.
-    Kept,
-}
-
-impl Way {
-    fn name(self) -> &'static str {
-        match self {
-            Way::Lent => "view",
-            Way::Kept => "owned",
-        }
-    }
-
-    /// A number of what is read, so that the reading is needed; or that there is no certificate.
-    fn read(self, alloc: Global, octets: &[u8]) -> Option<usize> {
-        match self {
-            Way::Lent => lent(octets),
-            Way::Kept => kept(alloc, octets),
-        }
-    }
-}
-
-fn print_way(
-    alloc: Global,
-    clock: &impl CpuClock,
-    certificates: &[&[u8]],
-    times: u32,
-    out: &mut impl Write,
-    way: Way,
-) -> Result<()> {
-    let mut which = String::new(alloc);
-    for octets in certificates {
-        let is_read = way.read(alloc, octets).is_some();
-        which.push(if is_read { '1' } else { '0' })?;
-    }
-    let start = clock.thread_cpu_time()?;
-    let mut sum = 0usize;
-    for _ in 0..times {
-        for octets in certificates {
-            sum = sum.wrapping_add(way.read(alloc, octets).unwrap_or(0));
-        }
-    }
-    let nanos = clock.thread_cpu_time()?.saturating_sub(start).as_nanos();
-    let name = way.name();
-    writeln!(out, "{name} {which} {nanos} {sum}")?;
+    let works = certificates.as_slice();
+    print_time(
+        alloc,
+        clock,
+        times,
+        "view",
+        works,
+        |octets| lent(octets),
+        out,
+    )?;
+    print_time(
+        alloc,
+        clock,
+        times,
+        "owned",
+        works,
+        |octets| kept(alloc, octets),
+        out,
+    )?;
     Ok(())
 }
 

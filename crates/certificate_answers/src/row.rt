@@ -1,20 +1,12 @@
 //! Rows, and what is answered to them.
 
 use crate::{both, details, kept, view};
-use anyhow::Result;
-use row_answers::{Args, Line, Row, Unanswered, are_equal, comes_back, number_of, value_of};
+use row_answers::{Args, Line, Unanswered, are_equal, comes_back, number_of, value_of};
 use std::alloc::Global;
 use x509_types::Certificate;
 
 /// The answer to a row.
-pub fn answer(alloc: Global, text: &str) -> Result<String> {
-    let row = Row::of(alloc, text)?;
-    let mut line = Line::new(alloc);
-    print(alloc, row.args(), &mut line);
-    line.answer_to(text)
-}
-
-fn print(alloc: Global, args: Args<'_>, line: &mut Line) {
+pub fn print(alloc: Global, args: Args<'_>, line: &mut Line) {
     match (args.words, args.octets) {
         ([call, "certificate", words @ ..], [_, _, octets @ ..]) => {
             print_call(alloc, call, Args { words, octets }, line)

@@ -35,36 +35,27 @@ mod telling;
 mod words;
 
 use anyhow::{Context, Result, bail};
-use row_answers::Line;
+use row_answers::{Line, print_answers};
 use sig_core::{DemoScheme, Scheme};
 use std::alloc::Global;
-use std::io::{BufWriter, Write};
 use std::{env, fs, io};
 
 fn main(rt: HostRuntime) -> Result<()> {
     let words: Vec<String> = env::args(&rt)?.skip(1).collect(rt.alloc())?;
-    let mut out = BufWriter::new(rt.alloc(), io::writer(&rt))?;
     match words.as_slice() {
-        [path] => {
-            let rows = fs::read_to_string(&rt, path.as_str())?;
-            print_answers(rt.alloc(), &rows, &mut out)?;
-        }
+        [path] => print_answers(&rt, path.as_str(), text_of),
         [path, times] => {
             let row = fs::read_to_string(&rt, path.as_str())?;
-            measure::print_times(rt.alloc(), &rt, row.trim_end(), times.parse()?, &mut out)?;
+            measure::print_times(
+                rt.alloc(),
+                &rt,
+                row.trim_end(),
+                times.parse()?,
+                &mut io::writer(&rt),
+            )
         }
         _ => bail!("usage: issuing_answers FILE [TIMES]"),
     }
-    out.flush()?;
-    Ok(())
-}
-
-fn print_answers(alloc: Global, rows: &str, out: &mut impl Write) -> Result<()> {
-    for row in rows.lines() {
-        let text = text_of(alloc, row)?;
-        writeln!(out, "{text}")?;
-    }
-    Ok(())
 }
 
 fn text_of(alloc: Global, row: &str) -> Result<String> {

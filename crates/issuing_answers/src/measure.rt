@@ -9,9 +9,11 @@ use anyhow::{Result, bail};
 use issuing_core::CertificateBuilder;
 use key_core::PrivateKey;
 use names_core::UtcDate;
+use row_answers::print_time;
 use sig_core::{Scheme, SchemeError, SchemeKind, SigAlg, Verdict};
 use std::alloc::{AllocError, Global};
 use std::io::Write;
+use std::slice;
 use std::time::CpuClock;
 use x509_core::Cert;
 use x509_types::KeyUsage;
@@ -96,18 +98,17 @@ impl Job {
         }
     }
 
-    /// A number of what is done, so that it is needed; 0 where it can't be done.
-    fn done(self, alloc: Global, work: &Work) -> usize {
+    /// A number of what is done, None where it can't be done.
+    fn done(self, alloc: Global, work: &Work) -> Option<usize> {
         match self {
-            Job::Judging => accepted(alloc, &work.certificates, &work.date).unwrap_or(0),
-            Job::Reading => read(alloc, work).unwrap_or(0),
-            Job::Building => built(alloc, work).unwrap_or(0),
+            Job::Judging => accepted(alloc, &work.certificates, &work.date),
+            Job::Reading => read(alloc, work),
+            Job::Building => built(alloc, work),
         }
     }
 }
 
-/// A line for each job: its name, 1 where it is done and 0 where it isn't, the nanoseconds that all
-/// took together, and a sum.
+/// A line for each job.
 pub fn print_times(
     alloc: Global,
     clock: &impl CpuClock,
@@ -128,8 +129,18 @@ fn print_jobs(
     times: u32,
     out: &mut impl Write,
 ) -> Result<()> {
+    let works = slice::from_ref(work);
     for job in Job::ALL {
-        print_job(alloc, clock, work, times, job, out)?;
+        let name = job.name();
+        print_time(
+            alloc,
+            clock,
+            times,
+            name,
+            works,
+            |work| job.done(alloc, work),
+            out,
+        )?;
     }
     Ok(())
 }
@@ -155,26 +166,6 @@ fn octets_of(alloc: Global, certificates: &[Cert]) -> Result<Vec<Vec<u8>>, Alloc
         all.push(Vec::from_slice(alloc, certificate.as_bytes())?)?;
     }
     Ok(all)
-}
-
-fn print_job(
-    alloc: Global,
-    clock: &impl CpuClock,
-    work: &Work,
-    times: u32,
-    job: Job,
-    out: &mut impl Write,
-) -> Result<()> {
-    let is_done = usize::from(job.done(alloc, work) > 0);
-    let start = clock.thread_cpu_time()?;
-    let mut sum = 0usize;
-    for _ in 0..times {
-        sum = sum.wrapping_add(job.done(alloc, work));
-    }
-    let nanos = clock.thread_cpu_time()?.saturating_sub(start).as_nanos();
-    let name = job.name();
-    writeln!(out, "{name} {is_done} {nanos} {sum}")?;
-    Ok(())
 }
 
 /// The number of certificates, where the first is accepted over the others.

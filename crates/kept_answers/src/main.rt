@@ -40,32 +40,26 @@ use crate::line::print_kept;
 use crate::made::print_made;
 use crate::stamp::print_stamped;
 use anyhow::{Context, Result, bail};
-use row_answers::octets_of;
+use row_answers::{octets_of, print_answers};
 use sig_core::{DemoScheme, Scheme};
 use std::alloc::Global;
-use std::io::{BufWriter, Write};
-use std::{env, fs, io};
+use std::env;
 
 fn main(rt: HostRuntime) -> Result<()> {
     let words: Vec<String> = env::args(&rt)?.skip(1).collect(rt.alloc())?;
-    let path = words.first().context("no file of rows is named")?;
-    let rows = fs::read_to_string(&rt, path)?;
-    let mut out = BufWriter::new(rt.alloc(), io::writer(&rt))?;
-    print_answers(rt.alloc(), &rows, &mut out)?;
-    out.flush()?;
-    Ok(())
+    let [path] = words.as_slice() else {
+        bail!("usage: kept_answers FILE");
+    };
+    print_answers(&rt, path.as_str(), answer)
 }
 
-fn print_answers(alloc: Global, rows: &str, out: &mut impl Write) -> Result<()> {
-    for row in rows.lines() {
-        let mut line = String::new(alloc);
-        print_answer(alloc, row, &mut line)?;
-        writeln!(out, "{line}")?;
-    }
-    Ok(())
+/// The answer to a row.
+fn answer(alloc: Global, row: &str) -> Result<String> {
+    let mut line = String::new(alloc);
+    print_answer(alloc, row, &mut line)?;
+    Ok(line)
 }
 
-/// What is answered to a row.
 fn print_answer(alloc: Global, row: &str, line: &mut String) -> Result<()> {
     match row.split_once(' ') {
         None => print_kept(alloc, &octets_of(alloc, row)?, line),

@@ -21,20 +21,13 @@ mod structures;
 mod views;
 
 use anyhow::{Result, bail};
-use std::io::{BufWriter, Write};
-use std::{env, fs, io};
+use row_answers::print_rows;
+use std::env;
 
 fn main(rt: HostRuntime) -> Result<()> {
     let words: Vec<String> = env::args(&rt)?.skip(1).collect(rt.alloc())?;
     let [path] = words.as_slice() else {
         bail!("usage: structure_answers FILE");
     };
-    let rows = fs::read_to_string(&rt, path.as_str())?;
-    let mut out = BufWriter::new(rt.alloc(), io::writer(&rt))?;
-    for text in rows.lines() {
-        let answer = row::answer(rt.alloc(), text)?;
-        writeln!(out, "{answer}")?;
-    }
-    out.flush()?;
-    Ok(())
+    print_rows(&rt, path.as_str(), row::print)
 }

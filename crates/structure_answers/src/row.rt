@@ -1,19 +1,11 @@
 //! Rows, and who answers them.
 
 use crate::{keys, making, points, private_keys, signatures, structures, views};
-use anyhow::Result;
-use row_answers::{Args, Line, Row};
+use row_answers::{Args, Line};
 use std::alloc::Global;
 
 /// The answer to a row.
-pub fn answer(alloc: Global, text: &str) -> Result<String> {
-    let row = Row::of(alloc, text)?;
-    let mut line = Line::new(alloc);
-    print(alloc, row.args(), &mut line);
-    line.answer_to(text)
-}
-
-fn print(alloc: Global, args: Args<'_>, line: &mut Line) {
+pub fn print(alloc: Global, args: Args<'_>, line: &mut Line) {
     match args.split() {
         Some((subject, args)) => print_subject(alloc, subject, args, line),
         None => line.no_call(),
