@@ -1,5 +1,6 @@
 -- What is found out about the files of a job follows from how they were read and what they say.
-use Rattle.std.proofs.Common.{◌≡◌, ℕ, List, [], ◌∷◌, ◌++◌, length, Option, Some, None, IsSome, Result, Err, IfOk, IfErr, inl, inr, refl, sym, ap, subst, arith}
+use Rattle.std.proofs.Common.{◌≡◌, ℕ, List, [], ◌∷◌, ◌++◌, Option, IsSome, Result, Err, IfOk, IfErr, inl, inr, refl, subst}
+use Rattle.std.proofs.lemmas.List.Elements.{All-cons, All-nil}
 use Rattle.std.proofs.lemmas.Result.{IfOk-weaker, IfErr-weaker}
 use Rattle.sig_core.specs.declared.verdict_row.VerdictRow.{VerdictRow}
 use Rattle.sig_core.specs.VerdictTable.{IsTable, IsFirstBadLine, verdict_of}
@@ -8,47 +9,25 @@ use Rattle.picky_check.specs.declared.stop.Stop.{Stop}
 use Rattle.picky_check.specs.declared.stop.Stop.TheVariants as stop
 use Rattle.picky_check.specs.declared.error.FileError.{FileError}
 use Rattle.picky_check.specs.declared.error.FileError.TheVariants as file
-use Rattle.picky_check.specs.Limits.{IsWholeFile, IsLongFile, IsMissingFile, AreWholeFiles, HasFiles, HasLongFile}
+use Rattle.picky_check.specs.Limits.{IsWholeFile, IsLongFile, IsMissingFile, AreWholeFiles, HasFiles}
+use Rattle.picky_check.specs.ReadFiles.{AreRead, AreUnread, FindsLongFile}
 use Rattle.picky_check.specs.Stops.{stop_for_file}
 use Rattle.picky_check.specs.Shelf.{Files, ShelfState, file_of}
-use Rattle.picky_check.specs.Unread.{AreUnread}
 use Rattle.picky_check.specs.Words.{Job, files_of}
 use Rattle.picky_check.specs.Answer.{IsAnswerTo, table_in}
 use Rattle.picky_check.specs.Report.{Answer}
 use Rattle.picky_check.specs.Inquiry.{IsReportOf, GivesReport, GivesStop, StopsForText, IsStopped, IsInquiry}
 use Rattle.picky_check.proofs.Reported.{GivesReport-memory}
+use Rattle.picky_check.proofs.SeveralFiles.{has_file, not_long, not_missing, same_file}
 
 -- ---- whole files
 
-some_there : (o : Option (List ℕ)) (file : List ℕ) → o ≡ Some file → IsSome o
-some_there (Some x) file h = refl
-some_there None file h = absurd cc
-
 has_files : (files : Option Files) (names contents : List (List ℕ)) → IsSome files → AreWholeFiles files names contents → HasFiles files names
-has_files files [] [] t whole = tt
+has_files files [] [] t whole = All-nil (λ (name : List ℕ). IsSome (file_of files name))
 has_files files [] (octets ∷ contents) t whole = absurd whole
 has_files files (name ∷ names) [] t whole = absurd whole
 has_files files (name ∷ names) (octets ∷ contents) t whole =
-    (some_there (file_of files name) octets (whole.0.as_told t), has_files files names contents t whole.1)
-
-tells : (files : Option Files) (name file : List ℕ) → file_of files name ≡ Some file → IsSome files
-tells (Some files) name file h = refl
-tells None name file h = absurd cc
-
-same_file : (o : Option (List ℕ)) (x y : List ℕ) → o ≡ Some x → o ≡ Some y → x ≡ y
-same_file o x y a b = cc
-
-not_long : (files : Option Files) (name octets : List ℕ) → IsWholeFile files name octets → IsLongFile files name → ⊥
-not_long files name octets whole long =
-    let same = same_file (file_of files name) long.0 octets long.1 (whole.as_told (tells files name long.0 long.1)) in
-    omega (arith, long.2, whole.short, ap length same)
-
-none_long : (files : Option Files) (names contents : List (List ℕ)) → AreWholeFiles files names contents → HasLongFile files names → ⊥
-none_long files [] [] whole long = long
-none_long files [] (octets ∷ contents) whole long = long
-none_long files (name ∷ names) [] whole long = whole
-none_long files (name ∷ names) (octets ∷ contents) whole (inl long) = not_long files name octets whole.0 long
-none_long files (name ∷ names) (octets ∷ contents) whole (inr long) = none_long files names contents whole.1 long
+    All-cons (λ (n : List ℕ). IsSome (file_of files n)) name names (has_file files name octets t whole.0) (has_files files names contents t whole.1)
 
 contents_once : (files : Option Files) (names a b : List (List ℕ)) → IsSome files → AreWholeFiles files names a → AreWholeFiles files names b → a ≡ b
 contents_once files [] [] [] t x y = refl
@@ -61,22 +40,30 @@ contents_once files (name ∷ names) (octets ∷ contents) (other ∷ others) t 
     let behind = contents_once files names contents others t x.1 y.1 in
     cc
 
-no_file : (o : Option (List ℕ)) (octets : List ℕ) → o ≡ None → o ≡ Some octets → ⊥
-no_file o octets none some = absurd cc
-
 nothing_behind : (name : List ℕ) (ahead behind : List (List ℕ)) → ◌≡◌ {A = List (List ℕ)} [] (ahead ++ name ∷ behind) → ⊥
 nothing_behind name [] behind are = absurd cc
 nothing_behind name (one ∷ ahead) behind are = absurd cc
 
+-- each of them is
+one_whole : (files : Option Files) (names contents ahead behind : List (List ℕ)) (name : List ℕ) → AreWholeFiles files names contents
+    → names ≡ ahead ++ name ∷ behind → (octets : List ℕ) × IsWholeFile files name octets
+one_whole files [] contents ahead behind name whole are = absurd (nothing_behind name ahead behind are)
+one_whole files (one ∷ names) [] ahead behind name whole are = absurd whole
+one_whole files (one ∷ names) (octets ∷ contents) [] behind name whole are =
+    let same : one ≡ name = cc in
+    (octets, subst (λ (n : List ℕ). IsWholeFile files n octets) same whole.0)
+one_whole files (one ∷ names) (octets ∷ contents) (two ∷ ahead) behind name whole are =
+    one_whole files names contents ahead behind name whole.1 (cc)
+
 none_missing : (files : Option Files) (names contents ahead behind : List (List ℕ)) (name : List ℕ) → AreWholeFiles files names contents
     → names ≡ ahead ++ name ∷ behind → IsMissingFile files name → ⊥
-none_missing files [] contents ahead behind name whole are m = nothing_behind name ahead behind are
-none_missing files (one ∷ names) [] ahead behind name whole are m = whole
-none_missing files (one ∷ names) (octets ∷ contents) [] behind name whole are m =
-    let same : one ≡ name = cc in
-    no_file (file_of files one) octets (subst (λ (n : List ℕ). file_of files n ≡ None) (sym same) m.none) (whole.0.as_told m.told)
-none_missing files (one ∷ names) (octets ∷ contents) (two ∷ ahead) behind name whole are m =
-    none_missing files names contents ahead behind name whole.1 (cc) m
+none_missing files names contents ahead behind name whole are m =
+    let one = one_whole files names contents ahead behind name whole are in not_missing files name one.0 one.1 m
+
+none_long : (files : Option Files) (names contents ahead behind : List (List ℕ)) (name : List ℕ) → AreWholeFiles files names contents
+    → names ≡ ahead ++ name ∷ behind → IsLongFile files name → ⊥
+none_long files names contents ahead behind name whole are l =
+    let one = one_whole files names contents ahead behind name whole are in not_long files name one.0 one.1 l
 
 -- ---- inquiries
 
@@ -88,10 +75,13 @@ IsInquiry-memory before after job = record {
   answered = λ answer t asked q. GivesReport-memory answer;
   bad_table = λ t bad q. inr refl;
   missing = λ ahead behind name are m. inl (inr refl);
-  too_long = λ l. inl (inr refl);
+  too_long = λ ahead behind name are l. inl (inr refl);
 }
 
 module _ (before after : ShelfState) (job : Job) where
+  all_short : (contents : List (List ℕ)) → AreWholeFiles before.files (files_of job) contents → IsSome before.files → FindsLongFile before after (files_of job) → ⊥
+  all_short contents whole t l = none_long before.files (files_of job) contents l.ahead l.behind l.name whole l.names_are (l.is_long t)
+
   -- where the files were not all read
   pub IsInquiry-unread : (e : FileError) → AreUnread before after (files_of job) e → IsInquiry before after job (Err (stop_for_file e))
   IsInquiry-unread file.Fault h = record {
@@ -100,21 +90,24 @@ module _ (before after : ShelfState) (job : Job) where
     answered = λ answer t asked q. absurd (h.quiet q (has_files before.files (files_of job) asked.contents t asked.are_files) refl);
     bad_table = λ t bad q. absurd (h.quiet q (has_files before.files (files_of job) bad.contents t bad.are_files) refl);
     missing = λ ahead behind name are m. inl (inl refl);
-    too_long = λ l. inr refl;
+    too_long = λ ahead behind name are l. inr (refl, λ q there. h.long ahead behind name are l q there refl);
   }
   IsInquiry-unread file.TooLong h = record {
     reported = tt;
-    stopped = (h.more_given refl, h.too_long refl);
-    answered = λ answer t asked q. absurd (none_long before.files (files_of job) asked.contents asked.are_files (h.too_long refl t));
-    bad_table = λ t bad q. absurd (none_long before.files (files_of job) bad.contents bad.are_files (h.too_long refl t));
+    stopped = h.too_long refl;
+    answered = λ answer t asked q. absurd (all_short asked.contents asked.are_files t (h.too_long refl));
+    bad_table = λ t bad q. absurd (all_short bad.contents bad.are_files t (h.too_long refl));
     missing = λ ahead behind name are m. inr (refl, h.missing ahead behind name are m refl);
-    too_long = λ l. inl (inl refl);
+    too_long = λ ahead behind name are l. inl (inl refl);
   }
   IsInquiry-unread file.Memory h = IsInquiry-memory before after job
 
-  module _ (contents : List (List ℕ)) (whole : AreWholeFiles before.files (files_of job) contents) where
+  module _ (contents : List (List ℕ)) (read : AreRead before after (files_of job) contents) where
     stopped_for_text : (s : Stop) → StopsForText (table_in job contents) s → IsStopped before after job s
-    stopped_for_text stop.BadTable bad = record { contents = contents; number = bad.0; are_files = whole; bad_line = bad.1 }
+    stopped_for_text stop.BadTable bad = record {
+      has_bad_table = record { contents = contents; number = bad.0; are_files = read.are_files; bad_line = bad.1 };
+      given = read.given;
+    }
     stopped_for_text stop.Memory bad = tt
     stopped_for_text stop.Usage bad = bad
     stopped_for_text stop.Shelf bad = absurd bad
@@ -131,17 +124,23 @@ module _ (before after : ShelfState) (job : Job) where
         → ((number : ℕ) → IsFirstBadLine (table_in job contents) number → GivesStop stop.BadTable result)
         → IsInquiry before after job result
     IsInquiry-read result reported stopped only bad = record {
-      reported = IfOk-weaker result _ _ (λ report h.
-          (h.1, h.4, record { contents = contents; rows = h.0; are_files = whole; is_table = h.2; is_answer = h.3 })) reported;
+      reported = IfOk-weaker result _ _ (λ report h. (
+        h.1,
+        h.4,
+        record {
+          is_answered = record { contents = contents; rows = h.0; are_files = read.are_files; is_table = h.2; is_answer = h.3 };
+          given = read.given;
+        },
+      )) reported;
       stopped = IfErr-weaker result _ _ (λ s h. stopped_for_text s h) stopped;
       answered = λ answer t asked q.
-          let same = contents_once before.files (files_of job) asked.contents contents t asked.are_files whole in
+          let same = contents_once before.files (files_of job) asked.contents contents t asked.are_files read.are_files in
           only asked.rows answer
           (subst (λ (c : List (List ℕ)). IsTable (table_in job c) asked.rows) same asked.is_table)
           (subst (λ (c : List (List ℕ)). IsAnswerTo (verdict_of asked.rows) job c answer) same asked.is_answer);
       bad_table = λ t h q.
-          let same = contents_once before.files (files_of job) h.contents contents t h.are_files whole in
+          let same = contents_once before.files (files_of job) h.contents contents t h.are_files read.are_files in
           bad h.number (subst (λ (c : List (List ℕ)). IsFirstBadLine (table_in job c) h.number) same h.bad_line);
-      missing = λ ahead behind name are m. absurd (none_missing before.files (files_of job) contents ahead behind name whole are m);
-      too_long = λ long. absurd (none_long before.files (files_of job) contents whole long);
+      missing = λ ahead behind name are m. absurd (none_missing before.files (files_of job) contents ahead behind name read.are_files are m);
+      too_long = λ ahead behind name are l. absurd (none_long before.files (files_of job) contents ahead behind name read.are_files are l);
     }

@@ -43,19 +43,12 @@ pub reads_too_much : (files : Option Files) (name octets : List ℕ) (rest : Opt
 reads_too_much files name octets rest read more =
     (read.file, read.named, omega (arith, more, ap length read.whole, length-append octets read.left))
 
+pub rises_none : (before now : ℕ) → now ≡ before → RisesBy 0 before now
+rises_none before now same = omega (arith, same)
+
 pub rises_more : (first next last m n : ℕ) → RisesBy m first next → RisesBy n next last
     → RisesBy (m + n) first last
-rises_more first next last m n before after = record {
-  no_fall = omega (arith, before.no_fall, after.no_fall);
-  fits = after.fits;
-  by_number = elim after.by_number [
-    | inl more ↦ elim before.by_number [
-      | inl by ↦ inl (omega (arith, more, by))
-      | inr stands ↦ inr (omega (arith, more, stands, after.fits))
-    ]
-    | inr stands ↦ inr stands
-  ];
-}
+rises_more first next last m n before after = omega (arith, before, after)
 
 pub goes_further : (first next last : ℕ) → GoesOn first next → GoesOn next last → GoesOn first last
 goes_further first next last before after = record { no_fall = omega (arith, before.no_fall, after.no_fall); fits = after.fits }

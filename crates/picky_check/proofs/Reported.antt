@@ -21,7 +21,7 @@ GivesReport-reported answer result h other = h
 -- an answer that is want of memory isn't reported, so that memory ran out
 pub out_of_memory : (answer other : Answer) (result : Result Report Stop) → WantsMemory answer → IsReported answer result
     → IsReported other result
-out_of_memory answer other (Ok report) wants h = absurd (h.told wants)
+out_of_memory answer other (Ok report) wants h = absurd (h.reportable wants)
 out_of_memory answer other (Err s) wants h = h
 
 pub GivesReport-memory : (answer : Answer) → GivesReport answer (Err stop.Memory)

@@ -5,7 +5,7 @@ use Rattle.picky_check.specs.declared.report.Report.{Report}
 use Rattle.picky_check.specs.declared.stop.Stop.{Stop}
 use Rattle.picky_check.specs.declared.stop.Stop.TheVariants as stop
 use Rattle.authenticode_core.specs.Counts.{HasRisen}
-use Rattle.picky_check.specs.Limits.{HasLongFile}
+use Rattle.picky_check.specs.Limits.{HasFiles, HasLongFile}
 use Rattle.picky_check.specs.Shelf.{ShelfState}
 use Rattle.picky_check.specs.Sink.{SinkState, Appends, HasRoom, IsCutShort}
 use Rattle.picky_check.specs.Stops.{status_for}
@@ -13,7 +13,7 @@ use Rattle.picky_check.specs.Words.{Job, AsksFor, AsksForNothing}
 use Rattle.picky_check.specs.Report.{Answer, OfSignature, OfChain, WantsMemory, report_line, status_of}
 use Rattle.picky_check.specs.Answer.{IsAnswered}
 use Rattle.picky_check.specs.Inquiry.{IsReportOf, GivesReport, GivesStop, IsStopped, IsInquiry}
-use Rattle.picky_check.specs.Run.{Answers, IsRun, LacksRoom}
+use Rattle.picky_check.specs.Run.{IsRun, IsRunAnswer, LacksRoom}
 
 status_bounded : (s : Stop) → status_for s ≤ 7
 status_bounded stop.Usage = omega arith
@@ -71,7 +71,7 @@ stop_status s t (inr e) = let same : s ≡ stop.Memory = cc in inr (ap status_fo
 
 memory_status : (answer : Answer) (s : Stop) → (WantsMemory answer → ⊥) → GivesReport answer (Err s)
     → status_for s ≡ 7
-memory_status answer s told h = ap status_for (h told)
+memory_status answer s reportable h = ap status_for (h reportable)
 
 -- ---- answers and their reports
 
@@ -121,26 +121,22 @@ module _ (words : List (List ℕ)) (shelf shelf_now : ShelfState) (settled : Ask
       bounded = status_bounded s;
       reported = λ e. absurd (omega (arith, status_least s));
       usage = (λ e. stopped_usage (is_usage s e), is_usage_status);
-      bad_table = λ e.
-          let h = stopped_job stop.BadTable (λ u. absurd cc) (is_bad_table s e) in
-          record { job = h.0; asked = h.1; has_bad_table = h.2 };
+      bad_table = λ e. stopped_job stop.BadTable (λ u. absurd cc) (is_bad_table s e);
       bad_table_always = λ job some q t bad. stop_status s stop.BadTable ((asked job some).bad_table t bad q);
       shelf_failed = λ e. (stopped_job stop.Shelf (λ u. absurd cc) (is_shelf s e)).2.0;
       shelf_quiet = λ job some q there e. (subst (IsStopped shelf shelf_now job) (is_shelf s e) (asked job some).stopped).1 q there;
       missing = λ job ahead behind name some are m. missing_status ahead ((asked job some).missing ahead behind name are m);
       sink_failed = λ e. absurd (never_five s e);
-      too_long = λ e.
-          let h = stopped_job stop.TooLong (λ u. absurd cc) (is_too_long s e) in
-          record { job = h.0; asked = h.1; more_given = h.2.0; has_long_file = h.2.1 };
-      too_long_always = λ job some long. long_status ((asked job some).too_long long);
+      too_long = λ e. stopped_job stop.TooLong (λ u. absurd cc) (is_too_long s e);
+      too_long_always = λ job ahead behind name some are long. long_status ahead ((asked job some).too_long ahead behind name are long);
       nothing_written = λ two five. λ v e. e;
-      answered = λ job answer some q t a told. inl (inr (memory_status answer s told ((asked job some).answered answer t a q)));
+      answered = λ job answer some q t a reportable. inl (inr (memory_status answer s reportable ((asked job some).answered answer t a q)));
     } where
-      long_status : GivesStop stop.TooLong (Err s)
-          ⊎ (◌≡◌ {A = Result Report Stop} (Err s) (Err stop.Shelf))
-          → ((status_for s ≡ 6) ⊎ (status_for s ≡ 7)) ⊎ (status_for s ≡ 4)
-      long_status (inl h) = inl (stop_status s stop.TooLong h)
-      long_status (inr e) = let same : s ≡ stop.Shelf = cc in inr (ap status_for same)
+      long_status : (ahead : List (List ℕ)) → GivesStop stop.TooLong (Err s)
+          ⊎ ((◌≡◌ {A = Result Report Stop} (Err s) (Err stop.Shelf)) × (shelf.is_quiet → HasFiles shelf.files ahead → ⊥))
+          → ((status_for s ≡ 6) ⊎ (status_for s ≡ 7)) ⊎ ((status_for s ≡ 4) × (shelf.is_quiet → HasFiles shelf.files ahead → ⊥))
+      long_status ahead (inl h) = inl (stop_status s stop.TooLong h)
+      long_status ahead (inr h) = let e = h.0 in let same : s ≡ stop.Shelf = cc in inr (ap status_for same, h.1)
 
       missing_status : (ahead : List (List ℕ)) → GivesStop stop.Shelf (Err s)
           ⊎ ((◌≡◌ {A = Result Report Stop} (Err s) (Err stop.TooLong)) × HasLongFile shelf.files ahead)
@@ -160,10 +156,10 @@ module _ (words : List (List ℕ)) (shelf shelf_now : ShelfState) (settled : Ask
     no_usage : AsksForNothing words → ⊥
     no_usage none = no_stop stop.Usage (inl (unasked none))
 
-    no_long : GivesStop stop.TooLong (Ok report)
-        ⊎ (◌≡◌ {A = Result Report Stop} (Ok report) (Err stop.Shelf)) → ⊥
-    no_long (inl h) = no_stop stop.TooLong h
-    no_long (inr e) = absurd cc
+    no_long : (ahead : List (List ℕ)) → GivesStop stop.TooLong (Ok report)
+        ⊎ ((◌≡◌ {A = Result Report Stop} (Ok report) (Err stop.Shelf)) × (shelf.is_quiet → HasFiles shelf.files ahead → ⊥)) → ⊥
+    no_long ahead (inl h) = no_stop stop.TooLong h
+    no_long ahead (inr h) = no_stop stop.Shelf (inl h.0)
 
     no_missing : (ahead : List (List ℕ)) → GivesStop stop.Shelf (Ok report)
         ⊎ ((◌≡◌ {A = Result Report Stop} (Ok report) (Err stop.TooLong)) × HasLongFile shelf.files ahead) → ⊥
@@ -171,10 +167,10 @@ module _ (words : List (List ℕ)) (shelf shelf_now : ShelfState) (settled : Ask
     no_missing ahead (inr h) = no_stop stop.TooLong (inl h.0)
 
     -- the answer that is reported
-    the_answer : (answer : Answer) × IsReportOf answer report × Answers words shelf.files answer
+    the_answer : (answer : Answer) × IsReportOf answer report × IsRunAnswer words shelf shelf_now answer
     the_answer = elim settled [
       | inl none ↦ absurd (no_usage none)
-      | inr some ↦ let h = (asked some.0 some.1).reported in (h.0, h.1, record { job = some.0; asked = some.1; is_answered = h.2 })
+      | inr some ↦ let h = (asked some.0 some.1).reported in (h.0, h.1, record { is_answer = (some.0, some.1, h.2); reportable = h.1.reportable })
     ]
 
     low_status : report.status < 2
@@ -183,7 +179,7 @@ module _ (words : List (List ℕ)) (shelf shelf_now : ShelfState) (settled : Ask
     -- the report is that of each answer that is given
     given : (job : Job) (answer : Answer) → AsksFor words job → shelf.is_quiet → IsSome shelf.files
         → IsAnswered shelf.files job answer → (WantsMemory answer → ⊥) → IsReportOf answer report
-    given job answer some q t a told = (asked job some).answered answer t a q told
+    given job answer some q t a reportable = (asked job some).answered answer t a q reportable
 
     module _ (out out_now : SinkState) where
       IsRun-written : (status : ℕ) → status ≡ report.status
@@ -194,7 +190,6 @@ module _ (words : List (List ℕ)) (shelf shelf_now : ShelfState) (settled : Ask
         reported = λ e. record {
           answer = the_answer.0;
           is_answer = the_answer.2;
-          told = the_answer.1.told;
           is_status = sym (is ∙ the_answer.1.status);
           has_line = subst (λ (line : List ℕ). Appends out.held line out_now.held) the_answer.1.line all;
         };
@@ -206,11 +201,11 @@ module _ (words : List (List ℕ)) (shelf shelf_now : ShelfState) (settled : Ask
         missing = λ job ahead behind name some are m. absurd (no_missing ahead ((asked job some).missing ahead behind name are m));
         sink_failed = λ e. absurd (omega (arith, low_status));
         too_long = λ e. absurd (omega (arith, low_status));
-        too_long_always = λ job some long. absurd (no_long ((asked job some).too_long long));
+        too_long_always = λ job ahead behind name some are long. absurd (no_long ahead ((asked job some).too_long ahead behind name are long));
         nothing_written = λ two five. absurd (omega (arith, low_status));
-        answered = λ job answer some q t a told.
-            let told_of = given job answer some q t a told in
-            inl (inl (is ∙ told_of.status, subst (λ (line : List ℕ). Appends out.held line out_now.held) told_of.line all));
+        answered = λ job answer some q t a reportable.
+            let h = given job answer some q t a reportable in
+            inl (inl (is ∙ h.status, subst (λ (line : List ℕ). Appends out.held line out_now.held) h.line all));
       }
 
       IsRun-cut : (status : ℕ) → status ≡ 5 → HasRisen out.faults out_now.faults
@@ -228,15 +223,14 @@ module _ (words : List (List ℕ)) (shelf shelf_now : ShelfState) (settled : Ask
         sink_failed = λ e. record {
           answer = the_answer.0;
           is_answer = the_answer.2;
-          told = the_answer.1.told;
           cut_short = cut_line the_answer.0 report out out_now the_answer.1 cut;
           has_risen = rose;
         };
         too_long = λ e. absurd (omega arith);
-        too_long_always = λ job some long. absurd (no_long ((asked job some).too_long long));
+        too_long_always = λ job ahead behind name some are long. absurd (no_long ahead ((asked job some).too_long ahead behind name are long));
         nothing_written = λ two five. absurd (five is);
-        answered = λ job answer some q t a told.
-            inr (is, rose, lacks_room answer report out out_now (given job answer some q t a told) cut);
+        answered = λ job answer some q t a reportable.
+            inr (is, rose, lacks_room answer report out out_now (given job answer some q t a reportable) cut);
       }
 
       pub IsRun-delivered : (status : ℕ)

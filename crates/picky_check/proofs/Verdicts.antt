@@ -154,11 +154,11 @@ module _ (unbroken : (judge : Judge) (checks : ChainChecks) (checked : KeptCerti
 
   refused_alike : (e f : CertError) (result : Result Report Stop) → IsNamedAlike e f → IsReported (OfChain (Err e)) result
       → (WantsMemory (OfChain (Err f)) → ⊥) → IsReported (OfChain (Err f)) result
-  refused_alike e f result (inl memory) h told = out_of_memory (OfChain (Err e)) (OfChain (Err f)) result (wants e memory) h
-  refused_alike e f result (inr (inl memory)) h told = absurd (told (wants f memory))
-  refused_alike e f (Ok report) (inr (inr name)) h told =
-      record { told = told; status = h.status; line = h.line ∙ ap (λ (text : List ℕ). codes "refused " ++ text ++ 10 ∷ []) name }
-  refused_alike e f (Err s) (inr (inr name)) h told = h
+  refused_alike e f result (inl memory) h other = out_of_memory (OfChain (Err e)) (OfChain (Err f)) result (wants e memory) h
+  refused_alike e f result (inr (inl memory)) h other = absurd (other (wants f memory))
+  refused_alike e f (Ok report) (inr (inr name)) h other =
+      record { reportable = other; status = h.status; line = h.line ∙ ap (λ (text : List ℕ). codes "refused " ++ text ++ 10 ∷ []) name }
+  refused_alike e f (Err s) (inr (inr name)) h other = h
 
   given_chain : (judge : Judge) (date : GeneralizedTime) (octets : List (List ℕ)) (a b : Result ℕ CertError) (result : Result Report Stop)
       → IsReported (OfChain a) result → IsChainAnswer judge date octets a → IsChainAnswer judge date octets b → GivesReport (OfChain b) result

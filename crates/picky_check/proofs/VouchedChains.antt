@@ -1,5 +1,5 @@
 -- What is accepted of certificates is vouched for.
-use Rattle.std.proofs.Common.{◌≡◌, List, [], ◌∷◌, ℕ, Option, Some, Ok, inl, inr, refl, subst}
+use Rattle.std.proofs.Common.{◌≡◌, List, [], ◌∷◌, ℕ, ◌+◌, length, Option, Some, Ok, inl, inr, refl, subst}
 use Rattle.asn1_types.specs.declared.generalized_time.GeneralizedTime.{GeneralizedTime}
 use Rattle.sig_core.specs.declared.verdict_row.VerdictRow.{VerdictRow}
 use Rattle.sig_core.specs.VerdictTable.{IsTable, verdict_of}
@@ -11,8 +11,9 @@ use Rattle.x509_core.specs.declared.cert_type.CertType.TheVariants as types
 use Rattle.picky_check.specs.ChainAnswer.{AreKeptCertificates, IsChainAnswer, IsChainJudged, all_checks}
 use Rattle.picky_check.specs.ChainHeadline.{IsVouchedChain, window_at}
 use Rattle.picky_check.specs.Limits.{IsWholeFile, AreWholeFiles}
+use Rattle.picky_check.specs.ReadFiles.{HandsOut, total_length}
 use Rattle.picky_check.specs.Report.{parents_line}
-use Rattle.picky_check.specs.Shelf.{Files}
+use Rattle.picky_check.specs.Shelf.{ShelfState}
 use Rattle.picky_check.specs.Sink.{Appends}
 use Rattle.picky_check.specs.Words.{Chain, AsksFor}
 
@@ -26,11 +27,12 @@ the_path judge date checked parents path =
       subst (λ (ps : List KeptCertificate). IsOfType (last_of checked ps).elements types.Root) same (path.rooted refl),
     )
 
-module _ (words : List (List ℕ)) (files : Option Files) (held held_now : Option (List ℕ)) (table : List ℕ) (date : GeneralizedTime) (names : List (List ℕ))
+module _ (words : List (List ℕ)) (shelf shelf_now : ShelfState) (held held_now : Option (List ℕ)) (table : List ℕ) (date : GeneralizedTime) (names : List (List ℕ))
     (asked : AsksFor words (Chain table date names)) (text : List ℕ) (rows : List VerdictRow) (octets : List (List ℕ))
-    (table_file : IsWholeFile files table text) (certificate_files : AreWholeFiles files names octets) (is_table : IsTable text rows) where
+    (table_file : IsWholeFile shelf.files table text) (certificate_files : AreWholeFiles shelf.files names octets)
+    (given : HandsOut (length text + total_length octets) shelf shelf_now) (is_table : IsTable text rows) where
   of_certificates : (count : ℕ) (certificates : List KeptCertificate) → AreKeptCertificates octets certificates
-      → IsChainJudged (verdict_of rows) date certificates (Ok count) → Appends held (parents_line count) held_now → IsVouchedChain words files held held_now
+      → IsChainJudged (verdict_of rows) date certificates (Ok count) → Appends held (parents_line count) held_now → IsVouchedChain words shelf shelf_now held held_now
   of_certificates count [] are judged written = absurd judged
   of_certificates count (checked ∷ parents) are judged written =
       let path = the_path (verdict_of rows) date checked parents (judged.1.chained refl) in record {
@@ -45,6 +47,7 @@ module _ (words : List (List ℕ)) (files : Option Files) (held held_now : Optio
         parents = parents;
         table_file = table_file;
         certificate_files = certificate_files;
+        given = given;
         is_table = is_table;
         are_certificates = are;
         written = subst (λ (n : ℕ). Appends held (parents_line n) held_now) judged.0 written;
@@ -53,6 +56,6 @@ module _ (words : List (List ℕ)) (files : Option Files) (held held_now : Optio
         rooted = path.1;
       }
 
-  pub vouched_chain : (count : ℕ) → IsChainAnswer (verdict_of rows) date octets (Ok count) → Appends held (parents_line count) held_now → IsVouchedChain words files held held_now
+  pub vouched_chain : (count : ℕ) → IsChainAnswer (verdict_of rows) date octets (Ok count) → Appends held (parents_line count) held_now → IsVouchedChain words shelf shelf_now held held_now
   vouched_chain count (inl unread) written = absurd unread
   vouched_chain count (inr judged) written = of_certificates count judged.0 judged.1 judged.2 written

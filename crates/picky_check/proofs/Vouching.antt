@@ -1,5 +1,6 @@
 -- What is accepted is vouched for.
-use Rattle.std.proofs.Common.{◌≡◌, List, [], ◌∷◌, ℕ, Option, Result, Ok, Err, inl, inr, arith}
+use Rattle.std.proofs.Common.{◌≡◌, List, [], ◌∷◌, ℕ, ◌+◌, length, Option, Result, Ok, Err, inl, inr, subst, arith}
+use Rattle.std.proofs.lemmas.List.Sums.{sum_by-cons}
 use Rattle.asn1_types.specs.declared.generalized_time.GeneralizedTime.{GeneralizedTime}
 use Rattle.cms_types.specs.SignedDataElements.{SignedDataElements}
 use Rattle.sig_core.specs.declared.verdict_row.VerdictRow.{VerdictRow}
@@ -10,12 +11,13 @@ use Rattle.authenticode_core.specs.declared.error.CheckError.{CheckError}
 use Rattle.x509_core.specs.declared.error.CertError.{CertError}
 use Rattle.picky_check.specs.declared.options.CheckOptions.{CheckOptions}
 use Rattle.picky_check.specs.Headline.{IsVouchedFor, IsVouchedSignature}
-use Rattle.picky_check.specs.Answer.{IsAnswered, IsAnswerTo, table_in}
+use Rattle.picky_check.specs.Answer.{AnswersRead, IsAnswerTo, table_in}
+use Rattle.picky_check.specs.ReadFiles.{HandsOut, total_length}
 use Rattle.picky_check.specs.ChainHeadline.{IsVouchedChain}
 use Rattle.picky_check.specs.Limits.{AreWholeFiles}
 use Rattle.picky_check.specs.Report.{Answer, OfSignature, OfChain, accepted_line, parents_line, report_line, status_of}
-use Rattle.picky_check.specs.Run.{Answers}
-use Rattle.picky_check.specs.Shelf.{Files}
+use Rattle.picky_check.specs.Run.{IsRunAnswer}
+use Rattle.picky_check.specs.Shelf.{ShelfState}
 use Rattle.picky_check.specs.Sink.{Appends}
 use Rattle.picky_check.specs.Vouched.{IsVouched}
 use Rattle.picky_check.specs.Words.{Job, Basic, Check, Chain, AsksFor, files_of}
@@ -23,37 +25,47 @@ use Rattle.picky_check.proofs.VouchedChains.{vouched_chain}
 use Rattle.picky_check.proofs.VouchedSignatures.{vouched_basic, vouched_check}
 
 module _ (one_signed_data : (octets : List ℕ) (f g : SignedDataElements) → HasSignedData octets f → HasSignedData octets g → f ≡ g)
-    (words : List (List ℕ)) (files : Option Files) (held held_now : Option (List ℕ)) where
+    (words : List (List ℕ)) (shelf shelf_now : ShelfState) (held held_now : Option (List ℕ)) where
+  first_and_others : (first : List ℕ) (others : List (List ℕ)) → HandsOut (total_length (first ∷ others)) shelf shelf_now
+      → HandsOut (length first + total_length others) shelf shelf_now
+  first_and_others first others given =
+      subst (λ (n : ℕ). HandsOut n shelf shelf_now) (sum_by-cons (λ (o : List ℕ). length o) first others) given
+
+  both : (first second : List ℕ) → HandsOut (total_length (first ∷ second ∷ [])) shelf shelf_now → HandsOut (length first + length second) shelf shelf_now
+  both first second given =
+      let one = sum_by-cons (λ (o : List ℕ). length o) second [] in
+      subst (λ (n : ℕ). HandsOut n shelf shelf_now) (omega (arith, one)) (first_and_others first (second ∷ []) given)
+
   of_basic : (signature table hash : List ℕ) (contents : List (List ℕ)) (rows : List VerdictRow) (a : Accepted)
-      → AsksFor words (Basic signature table hash) → AreWholeFiles files (files_of (Basic signature table hash)) contents
+      → AsksFor words (Basic signature table hash) → AreWholeFiles shelf.files (files_of (Basic signature table hash)) contents
       → IsTable (table_in (Basic signature table hash) contents) rows
       → IsAnswerTo (verdict_of rows) (Basic signature table hash) contents (OfSignature (Ok a))
-      → Appends held (accepted_line a) held_now → IsVouchedFor words files held held_now
-  of_basic signature table hash [] rows a asked are is_table is_answer written = absurd are
-  of_basic signature table hash (octets ∷ []) rows a asked are is_table is_answer written = absurd are.1
-  of_basic signature table hash (octets ∷ text ∷ more ∷ others) rows a asked are is_table is_answer written = absurd are.1.1
-  of_basic signature table hash (octets ∷ text ∷ []) rows a asked are is_table is_answer written =
-      vouched_basic words files signature table hash octets text rows are.0 are.1.0 is_table a one_signed_data held held_now written asked is_answer.is
+      → HandsOut (total_length contents) shelf shelf_now → Appends held (accepted_line a) held_now → IsVouchedFor words shelf shelf_now held held_now
+  of_basic signature table hash [] rows a asked are is_table is_answer given written = absurd are
+  of_basic signature table hash (octets ∷ []) rows a asked are is_table is_answer given written = absurd are.1
+  of_basic signature table hash (octets ∷ text ∷ more ∷ others) rows a asked are is_table is_answer given written = absurd are.1.1
+  of_basic signature table hash (octets ∷ text ∷ []) rows a asked are is_table is_answer given written =
+      vouched_basic words shelf shelf_now signature table hash octets text rows are.0 are.1.0 (both octets text given) is_table a one_signed_data held held_now written asked is_answer.is
 
   of_check : (signature table hash : List ℕ) (date : GeneralizedTime) (options : CheckOptions) (contents : List (List ℕ)) (rows : List VerdictRow) (a : Accepted)
-      → AsksFor words (Check signature table hash date options) → AreWholeFiles files (files_of (Check signature table hash date options)) contents
+      → AsksFor words (Check signature table hash date options) → AreWholeFiles shelf.files (files_of (Check signature table hash date options)) contents
       → IsTable (table_in (Check signature table hash date options) contents) rows
       → IsAnswerTo (verdict_of rows) (Check signature table hash date options) contents (OfSignature (Ok a))
-      → Appends held (accepted_line a) held_now → IsVouchedSignature words files held held_now
-  of_check signature table hash date options [] rows a asked are is_table is_answer written = absurd are
-  of_check signature table hash date options (octets ∷ []) rows a asked are is_table is_answer written = absurd are.1
-  of_check signature table hash date options (octets ∷ text ∷ more ∷ others) rows a asked are is_table is_answer written = absurd are.1.1
-  of_check signature table hash date options (octets ∷ text ∷ []) rows a asked are is_table is_answer written =
-      vouched_check words files signature table hash octets text rows are.0 are.1.0 is_table a one_signed_data held held_now written date options asked is_answer.is
+      → HandsOut (total_length contents) shelf shelf_now → Appends held (accepted_line a) held_now → IsVouchedSignature words shelf shelf_now held held_now
+  of_check signature table hash date options [] rows a asked are is_table is_answer given written = absurd are
+  of_check signature table hash date options (octets ∷ []) rows a asked are is_table is_answer given written = absurd are.1
+  of_check signature table hash date options (octets ∷ text ∷ more ∷ others) rows a asked are is_table is_answer given written = absurd are.1.1
+  of_check signature table hash date options (octets ∷ text ∷ []) rows a asked are is_table is_answer given written =
+      vouched_check words shelf shelf_now signature table hash octets text rows are.0 are.1.0 (both octets text given) is_table a one_signed_data held held_now written date options asked is_answer.is
 
   of_chain : (table : List ℕ) (date : GeneralizedTime) (names contents : List (List ℕ)) (rows : List VerdictRow) (count : ℕ)
-      → AsksFor words (Chain table date names) → AreWholeFiles files (files_of (Chain table date names)) contents
+      → AsksFor words (Chain table date names) → AreWholeFiles shelf.files (files_of (Chain table date names)) contents
       → IsTable (table_in (Chain table date names) contents) rows
       → IsAnswerTo (verdict_of rows) (Chain table date names) contents (OfChain (Ok count))
-      → Appends held (parents_line count) held_now → IsVouchedChain words files held held_now
-  of_chain table date names [] rows count asked are is_table is_answer written = absurd are
-  of_chain table date names (text ∷ octets) rows count asked are is_table is_answer written =
-      vouched_chain words files held held_now table date names asked text rows octets are.0 are.1 is_table count is_answer written
+      → HandsOut (total_length contents) shelf shelf_now → Appends held (parents_line count) held_now → IsVouchedChain words shelf shelf_now held held_now
+  of_chain table date names [] rows count asked are is_table is_answer given written = absurd are
+  of_chain table date names (text ∷ octets) rows count asked are is_table is_answer given written =
+      vouched_chain words shelf shelf_now held held_now table date names asked text rows octets are.0 are.1 (first_and_others text octets given) is_table count is_answer written
 
   -- an answer to one job is none to another
   no_chain_for_basic : (signature table hash : List ℕ) (contents : List (List ℕ)) (rows : List VerdictRow) (given : Result ℕ CertError)
@@ -71,23 +83,23 @@ module _ (one_signed_data : (octets : List ℕ) (f g : SignedDataElements) → H
   no_signature_for_chain table date names [] rows given is_answer = is_answer
   no_signature_for_chain table date names (text ∷ octets) rows given is_answer = is_answer
 
-  vouched_for_job : (job : Job) (answer : Answer) → AsksFor words job → IsAnswered files job answer → status_of answer ≡ 0
-      → Appends held (report_line answer) held_now → IsVouched words files held held_now
+  vouched_for_job : (job : Job) (answer : Answer) → AsksFor words job → AnswersRead shelf shelf_now job answer → status_of answer ≡ 0
+      → Appends held (report_line answer) held_now → IsVouched words shelf shelf_now held held_now
   vouched_for_job (Basic signature table hash) (OfSignature (Ok a)) asked h zero written =
-      inl (of_basic signature table hash h.contents h.rows a asked h.are_files h.is_table h.is_answer written)
+      inl (of_basic signature table hash h.is_answered.contents h.is_answered.rows a asked h.is_answered.are_files h.is_answered.is_table h.is_answered.is_answer h.given written)
   vouched_for_job (Basic signature table hash) (OfSignature (Err e)) asked h zero written = absurd (omega arith)
-  vouched_for_job (Basic signature table hash) (OfChain given) asked h zero written = absurd (no_chain_for_basic signature table hash h.contents h.rows given h.is_answer)
+  vouched_for_job (Basic signature table hash) (OfChain given) asked h zero written = absurd (no_chain_for_basic signature table hash h.is_answered.contents h.is_answered.rows given h.is_answered.is_answer)
   vouched_for_job (Check signature table hash date options) (OfSignature (Ok a)) asked h zero written =
-      inr (inl (of_check signature table hash date options h.contents h.rows a asked h.are_files h.is_table h.is_answer written))
+      inr (inl (of_check signature table hash date options h.is_answered.contents h.is_answered.rows a asked h.is_answered.are_files h.is_answered.is_table h.is_answered.is_answer h.given written))
   vouched_for_job (Check signature table hash date options) (OfSignature (Err e)) asked h zero written = absurd (omega arith)
   vouched_for_job (Check signature table hash date options) (OfChain given) asked h zero written =
-      absurd (no_chain_for_check signature table hash date options h.contents h.rows given h.is_answer)
+      absurd (no_chain_for_check signature table hash date options h.is_answered.contents h.is_answered.rows given h.is_answered.is_answer)
   vouched_for_job (Chain table date names) (OfChain (Ok count)) asked h zero written =
-      inr (inr (of_chain table date names h.contents h.rows count asked h.are_files h.is_table h.is_answer written))
+      inr (inr (of_chain table date names h.is_answered.contents h.is_answered.rows count asked h.is_answered.are_files h.is_answered.is_table h.is_answered.is_answer h.given written))
   vouched_for_job (Chain table date names) (OfChain (Err e)) asked h zero written = absurd (omega arith)
   vouched_for_job (Chain table date names) (OfSignature given) asked h zero written =
-      absurd (no_signature_for_chain table date names h.contents h.rows given h.is_answer)
+      absurd (no_signature_for_chain table date names h.is_answered.contents h.is_answered.rows given h.is_answered.is_answer)
 
-  pub vouched_for : (answer : Answer) → Answers words files answer → status_of answer ≡ 0 → Appends held (report_line answer) held_now
-      → IsVouched words files held held_now
-  vouched_for answer h zero written = vouched_for_job h.job answer h.asked h.is_answered zero written
+  pub vouched_for : (answer : Answer) → IsRunAnswer words shelf shelf_now answer → status_of answer ≡ 0 → Appends held (report_line answer) held_now
+      → IsVouched words shelf shelf_now held held_now
+  vouched_for answer h zero written = vouched_for_job h.is_answer.0 answer h.is_answer.1 h.is_answer.2 zero written

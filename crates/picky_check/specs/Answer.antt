@@ -12,7 +12,8 @@ use Rattle.picky_check.specs.ChainAnswer.{IsChainAnswer}
 use Rattle.picky_check.specs.Limits.{AreWholeFiles}
 use Rattle.picky_check.specs.Policies.{basic_policy, check_policy}
 use Rattle.picky_check.specs.Report.{Answer, OfSignature, OfChain}
-use Rattle.picky_check.specs.Shelf.{Files}
+use Rattle.picky_check.specs.ReadFiles.{HandsOut, total_length}
+use Rattle.picky_check.specs.Shelf.{Files, ShelfState}
 use Rattle.picky_check.specs.Words.{Job, Basic, Check, Chain, files_of}
 
 -- the text of the table, among the contents of the files
@@ -64,3 +65,15 @@ pub record HasBadTable (files : Option Files) (job : Job) : Type 0 where
   pub number : ℕ
   pub are_files : AreWholeFiles files (files_of job) contents
   pub bad_line : IsFirstBadLine (table_in job contents) number
+
+-- ---- with just the octets of the files handed out
+
+-- The answer to a job, about files that were read.
+pub record AnswersRead (before after : ShelfState) (job : Job) (answer : Answer) : Type 0 where
+  pub is_answered : IsAnswered before.files job answer
+  pub given : HandsOut (total_length is_answered.contents) before after
+
+-- A text with a bad line, among files that were read.
+pub record FindsBadTable (before after : ShelfState) (job : Job) : Type 0 where
+  pub has_bad_table : HasBadTable before.files job
+  pub given : HandsOut (total_length has_bad_table.contents) before after

@@ -1,5 +1,5 @@
 -- Acceptance means vouched for: a certificate over its parents.
-use Rattle.std.specs.Prelude.{List, ◌∷◌, length, ℕ, Option, true}
+use Rattle.std.specs.Prelude.{List, ◌∷◌, ◌+◌, length, ℕ, Option, true}
 use Rattle.asn1_types.specs.declared.generalized_time.GeneralizedTime.{GeneralizedTime}
 use Rattle.sig_core.specs.declared.verdict_row.VerdictRow.{VerdictRow}
 use Rattle.sig_core.specs.VerdictTable.{IsTable, verdict_of}
@@ -13,7 +13,8 @@ use Rattle.x509_core.specs.declared.window.Window.{Window}
 use Rattle.picky_check.specs.ChainAnswer.{AreKeptCertificates}
 use Rattle.picky_check.specs.Limits.{IsWholeFile, AreWholeFiles}
 use Rattle.picky_check.specs.Report.{parents_line}
-use Rattle.picky_check.specs.Shelf.{Files}
+use Rattle.picky_check.specs.ReadFiles.{HandsOut, total_length}
+use Rattle.picky_check.specs.Shelf.{ShelfState}
 use Rattle.picky_check.specs.Sink.{Appends}
 use Rattle.picky_check.specs.Words.{Chain, AsksFor}
 
@@ -22,12 +23,12 @@ abbrev pub window_at : GeneralizedTime → Window
 window_at date = record { date = dates.Exact date; not_before = true; not_after = true }
 
 -- The words are chain TABLE DATE CERT .. The octets of the files CERT are certificates, and the
--- text of the file TABLE is a table, as far as the shelf tells its files. The first certificate is
--- valid at DATE. Each of the others is, and may have issued the one before it: it is an
--- authority's, its path length allows those between, names and key identifiers agree, and the table
--- accepts the signature over the octets that the file holds. The last is a root. What is told is
--- the line that the sink has more: how many these others are.
-pub record IsVouchedChain (words : List (List ℕ)) (files : Option Files)
+-- text of the file TABLE is a table, as far as the shelf tells its files; and just these octets and
+-- this text were handed out. The first certificate is valid at DATE. Each of the others is, and may
+-- have issued the one before it: it is an authority's, its path length allows those between, names
+-- and key identifiers agree, and the table accepts the signature over the octets that the file
+-- holds. The last is a root. The sink has the line more that says how many these others are.
+pub record IsVouchedChain (words : List (List ℕ)) (shelf shelf_now : ShelfState)
     (held held_now : Option (List ℕ)) : Type 0 where
   pub table : List ℕ
   pub date : GeneralizedTime
@@ -38,8 +39,9 @@ pub record IsVouchedChain (words : List (List ℕ)) (files : Option Files)
   pub octets : List (List ℕ)
   pub checked : KeptCertificate
   pub parents : List KeptCertificate
-  pub table_file : IsWholeFile files table text
-  pub certificate_files : AreWholeFiles files names octets
+  pub table_file : IsWholeFile shelf.files table text
+  pub certificate_files : AreWholeFiles shelf.files names octets
+  pub given : HandsOut (length text + total_length octets) shelf shelf_now
   pub is_table : IsTable text rows
   pub are_certificates : AreKeptCertificates octets (checked ∷ parents)
   pub written : Appends held (parents_line (length parents)) held_now

@@ -6,16 +6,16 @@ use Rattle.picky_check.specs.declared.stop.Stop.{Stop}
 use Rattle.picky_check.specs.declared.stop.Stop.TheVariants.{Usage, BadTable, Shelf, TooLong, Memory}
 use Rattle.picky_check.specs.declared.report.Report.{Report}
 use Rattle.authenticode_core.specs.Counts.{HasRisen}
-use Rattle.picky_check.specs.Counts.{RisesBeyond}
-use Rattle.picky_check.specs.Limits.{longest_file, IsMissingFile, HasFiles, HasLongFile}
+use Rattle.picky_check.specs.Limits.{IsLongFile, IsMissingFile, HasFiles, HasLongFile}
 use Rattle.picky_check.specs.Report.{Answer, WantsMemory, report_line, status_of}
-use Rattle.picky_check.specs.Answer.{HasBadTable, IsAnswered}
+use Rattle.picky_check.specs.Answer.{AnswersRead, FindsBadTable, HasBadTable, IsAnswered}
+use Rattle.picky_check.specs.ReadFiles.{FindsLongFile}
 use Rattle.picky_check.specs.Shelf.{ShelfState}
 use Rattle.picky_check.specs.Words.{Job, AsksFor, files_of}
 
 -- The report is the line of the answer, with its status. Want of memory has no report.
 pub record IsReportOf (answer : Answer) (report : Report) : Type 0 where
-  pub told : WantsMemory answer → ⊥
+  pub reportable : WantsMemory answer → ⊥
   pub status : report.status ≡ status_of answer
   pub line : string_bytes report.line ≡ report_line answer
 
@@ -49,13 +49,11 @@ StopsForText text TooLong = ⊥
 
 -- Why there is no report about the files of a job.
 abbrev pub IsStopped : ShelfState → ShelfState → Job → Stop → Type 0
-IsStopped before after job BadTable = HasBadTable before.files job
+IsStopped before after job BadTable = FindsBadTable before after job
 IsStopped before after job Shelf =
     HasRisen before.faults after.faults
     × (before.is_quiet → HasFiles before.files (files_of job) → ⊥)
-IsStopped before after job TooLong =
-    RisesBeyond longest_file before.given after.given
-    × (IsSome before.files → HasLongFile before.files (files_of job))
+IsStopped before after job TooLong = FindsLongFile before after (files_of job)
 IsStopped before after job Memory = Unit {0}
 IsStopped before after job Usage = ⊥
 
@@ -64,7 +62,7 @@ pub record IsInquiry (before after : ShelfState) (job : Job) (result : Result Re
     : Type 0 where
   -- a report is that of an answer
   pub reported : IfOk result (λ report. (answer : Answer)
-      × IsReportOf answer report × IsAnswered before.files job answer)
+      × IsReportOf answer report × AnswersRead before after job answer)
   -- without a report there is a cause
   pub stopped : IfErr result (IsStopped before after job)
   -- the answer about files that are told is reported
@@ -77,8 +75,12 @@ pub record IsInquiry (before after : ShelfState) (job : Job) (result : Result Re
   pub missing : (ahead behind : List (List ℕ)) (name : List ℕ)
       → files_of job ≡ ahead ++ name ∷ behind → IsMissingFile before.files name
       → GivesStop Shelf result ⊎ ((result ≡ Err TooLong) × HasLongFile before.files ahead)
-  pub too_long : HasLongFile before.files (files_of job)
-      → GivesStop TooLong result ⊎ (result ≡ Err Shelf)
+  -- a file that is longer than is read ends the run, unless the shelf fails: a quiet one that has
+  -- those ahead of it doesn't
+  pub too_long : (ahead behind : List (List ℕ)) (name : List ℕ)
+      → files_of job ≡ ahead ++ name ∷ behind → IsLongFile before.files name
+      → GivesStop TooLong result
+      ⊎ ((result ≡ Err Shelf) × (before.is_quiet → HasFiles before.files ahead → ⊥))
 
 -- What is found out for words that ask for a job.
 abbrev pub Inquires : List (List ℕ) → ShelfState → ShelfState → Result Report Stop → Type 0

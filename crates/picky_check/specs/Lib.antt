@@ -3,7 +3,7 @@ pub mod Shelf
 pub mod Sink
 pub mod Limits
 pub mod ErrorText
-pub mod Unread
+pub mod ReadFiles
 pub mod Stored
 pub mod Memory
 pub mod Opened

@@ -1,5 +1,6 @@
 -- How long a file may be, and what it is to have one or none by its name.
-use Rattle.std.specs.Prelude.{ℕ, List, [], ◌∷◌, ◌≡◌, ◌<◌, ◌≤◌, ◌⊎◌, length, Option, Some, None, IsSome}
+use Rattle.std.specs.Prelude.{ℕ, List, ◌≡◌, ◌<◌, ◌≤◌, length, Option, Some, None, IsSome, All, Any}
+use Rattle.std.specs.List.{AllZip}
 use Rattle.picky_check.specs.Shelf.{Files, file_of}
 
 -- octets of the longest file that is read whole: 16 MiB
@@ -25,18 +26,12 @@ pub record IsMissingFile (files : Option Files) (name : List ℕ) : Type 0 where
 
 -- these are the whole files of these names
 abbrev pub AreWholeFiles : Option Files → (names contents : List (List ℕ)) → Type 0
-AreWholeFiles files [] [] = Unit {0}
-AreWholeFiles files [] (octets ∷ contents) = ⊥
-AreWholeFiles files (name ∷ names) [] = ⊥
-AreWholeFiles files (name ∷ names) (octets ∷ contents) =
-    IsWholeFile files name octets × AreWholeFiles files names contents
+AreWholeFiles files names contents = AllZip (IsWholeFile files) names contents
 
 -- the shelf tells each of them
 abbrev pub HasFiles : Option Files → List (List ℕ) → Type 0
-HasFiles files [] = Unit {0}
-HasFiles files (name ∷ names) = IsSome (file_of files name) × HasFiles files names
+HasFiles files names = All (λ name. IsSome (file_of files name)) names
 
 -- one of them is longer than is read
 abbrev pub HasLongFile : Option Files → List (List ℕ) → Type 0
-HasLongFile files [] = ⊥
-HasLongFile files (name ∷ names) = IsLongFile files name ⊎ HasLongFile files names
+HasLongFile files names = Any (IsLongFile files) names

@@ -5,6 +5,7 @@ use Rattle.sig_core.specs.declared.verdict_table.TableError.TheVariants as table
 use Rattle.picky_check.specs.declared.error.FileError.{FileError}
 use Rattle.picky_check.specs.declared.error.FileError.TheVariants as file
 use Rattle.picky_check.specs.declared.stop.Stop.{Stop}
+use Rattle.picky_check.specs.declared.stop.TheConstants.{USAGE, BAD_TABLE, SHELF_FAILED, TOO_LONG, OUT_OF_MEMORY}
 use Rattle.picky_check.specs.declared.stop.Stop.TheVariants.{Usage, BadTable, Shelf, TooLong, Memory}
 
 -- where a file wasn't read
@@ -20,8 +21,8 @@ stop_for_table table.Memory = Memory
 
 -- the exit status
 abbrev pub status_for : Stop → ℕ
-status_for Usage = 2
-status_for BadTable = 3
-status_for Shelf = 4
-status_for TooLong = 6
-status_for Memory = 7
+status_for Usage = USAGE
+status_for BadTable = BAD_TABLE
+status_for Shelf = SHELF_FAILED
+status_for TooLong = TOO_LONG
+status_for Memory = OUT_OF_MEMORY

@@ -2,12 +2,12 @@
 
 ghost use Rattle.std.specs.Prelude.{◌≡◌, ◌+◌, ◌≤◌, ◌++◌, ℕ, List, Err, length, map, string_bytes, IfOk, IfErr, OnOk, OnErr, IsOk, IsErr, IsSome, IsErrOf, MatchResult};
 ghost use Rattle.authenticode_core.specs.Counts.{GoesOn, HasRisen};
-ghost use Rattle.picky_check.specs.Counts.{FailsOnce, RisesBy};
+ghost use Rattle.picky_check.specs.Counts.{FailsOnce};
 ghost use Rattle.picky_check.specs.Jobs.{contents_held, names_held};
-ghost use Rattle.picky_check.specs.Limits.{longest_file, IsWholeFile, IsLongFile, IsMissingFile, AreWholeFiles};
+ghost use Rattle.picky_check.specs.Limits.{longest_file, IsWholeFile, IsLongFile, IsMissingFile};
 ghost use Rattle.picky_check.specs.Shelf.{file_of};
 ghost use Rattle.picky_check.specs.Sink.{Appends, Lowers, HasRoom, IsCutShort};
-ghost use Rattle.picky_check.specs.Unread.{AreUnread};
+ghost use Rattle.picky_check.specs.ReadFiles.{AreRead, AreUnread, HandsOut};
 
 use crate::{Failed, FileError, Shelf, Sink};
 use std::alloc::Global;
@@ -22,12 +22,12 @@ pub fn read_file<F: Shelf>(alloc: Global, shelf: &mut F, name: &str) -> Result<V
     ensures whole { IfOk result (λ octets.
         IsWholeFile (F.state shelf.old).files name.now octets.items) }
     ensures given { IfOk result (λ octets.
-        RisesBy (length octets.items) (F.state shelf.old).given (F.state shelf.new).given) }
+        HandsOut (length octets.items) (F.state shelf.old) (F.state shelf.new)) }
 
     ensures too_long { IsErrOf result FileError.TooLong → IsSome (F.state shelf.old).files
         → IsLongFile (F.state shelf.old).files name.now }
     ensures more_given { IsErrOf result FileError.TooLong
-        → RisesBy (longest_file + 1) (F.state shelf.old).given (F.state shelf.new).given }
+        → HandsOut (longest_file + 1) (F.state shelf.old) (F.state shelf.new) }
 
     ensures missing { IsMissingFile (F.state shelf.old).files name.now
         → result ≡ Err FileError.Fault }
@@ -36,7 +36,7 @@ pub fn read_file<F: Shelf>(alloc: Global, shelf: &mut F, name: &str) -> Result<V
     ensures no_fault { (F.state shelf.old).is_quiet
         → IsSome (file_of (F.state shelf.old).files name.now)
         → ¬ IsErrOf result FileError.Fault }
-    // A call that failed is the last, and is told.
+    // A call that failed is the last, and is reported.
     ensures once { FailsOnce (result ≡ Err FileError.Fault)
         (F.state shelf.old).faults (F.state shelf.new).faults }
 
@@ -69,7 +69,7 @@ pub fn write_report<O: Sink>(out: &mut O, text: &str) -> Result<(), Failed>
     ensures cut { OnErr result (IsCutShort text.now (O.state out.old) (O.state out.new)) }
     ensures counted { (O.state out.old).faults ≤ (O.state out.new).faults }
     ensures cause { OnErr result (HasRisen (O.state out.old).faults (O.state out.new).faults) }
-    // A call that failed is the last, and is told.
+    // A call that failed is the last, and is reported.
     ensures once { FailsOnce (IsErr result) (O.state out.old).faults (O.state out.new).faults }
     ensures room { HasRoom (O.state out.old).room (length text.now) → IsOk result }
 {
@@ -104,7 +104,7 @@ pub(crate) fn read_files<F: Shelf>(
     names: &Names<'_>,
 ) -> Result<Contents, FileError>
     ensures read { MatchResult result
-        (λ read. AreWholeFiles (F.state shelf.old).files (names_held names.now)
+        (λ read. AreRead (F.state shelf.old) (F.state shelf.new) (names_held names.now)
         (contents_held read))
         (AreUnread (F.state shelf.old) (F.state shelf.new) (names_held names.now)) }
     ensures once { FailsOnce (result ≡ Err FileError.Fault)
@@ -131,7 +131,7 @@ fn read_others<F: Shelf>(
     ensures read { OnOk result ((read : List (List ℕ))
         × (map (λ octets. octets.items) contents.new.items
         ≡ map (λ octets. octets.items) contents.old.items ++ read)
-        × AreWholeFiles (F.state shelf.old).files (map string_bytes names.now) read) }
+        × AreRead (F.state shelf.old) (F.state shelf.new) (map string_bytes names.now) read) }
     ensures unread { IfErr result
         (AreUnread (F.state shelf.old) (F.state shelf.new) (map string_bytes names.now)) }
     ensures once { FailsOnce (result ≡ Err FileError.Fault)

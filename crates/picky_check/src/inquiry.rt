@@ -30,6 +30,7 @@ pub(crate) fn inquire<F: Shelf>(
     shelf: &mut F,
 ) -> Result<Report, Stop>
     ensures usage { AsksForNothing (map string_bytes words.now) → result ≡ Err Stop.Usage }
+    ensures unread { AsksForNothing (map string_bytes words.now) → shelf.new ≡ shelf.old }
     ensures asked { Inquires (map string_bytes words.now)
         (F.state shelf.old) (F.state shelf.new) result }
     ensures once { FailsOnce (result ≡ Err Stop.Shelf)

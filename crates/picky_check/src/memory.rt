@@ -139,7 +139,8 @@ impl Shelf for MemShelf {
         ensures picked { OnOk result
             (IsPicked (shelf_files self.old) name.now (Some (shelf_rest self.new))) }
         ensures same { shelf_files self.new ≡ shelf_files self.old }
-        ensures none_given { RisesBy 0 (shelf_given self.old) (shelf_given self.new) }
+        ensures none_given { shelf_given self.new ≡ shelf_given self.old }
+        ensures kept { GoesOn (shelf_given self.old) (shelf_given self.new) }
         ensures counted { GoesOn (shelf_faults self.old) (shelf_faults self.new) }
         ensures cause { OnErr result (HasRisen (shelf_faults self.old) (shelf_faults self.new)) }
         ensures once { FailsOnce (IsErr result) (shelf_faults self.old) (shelf_faults self.new) }
@@ -166,6 +167,7 @@ impl Shelf for MemShelf {
             Moves n (shelf_rest self.old) into.new (Some (shelf_rest self.new))) }
         ensures same { shelf_files self.new ≡ shelf_files self.old }
         ensures given { IfOk result (λ n. RisesBy n (shelf_given self.old) (shelf_given self.new)) }
+        ensures none_given { OnErr result (shelf_given self.new ≡ shelf_given self.old) }
         ensures kept { GoesOn (shelf_given self.old) (shelf_given self.new) }
         ensures counted { GoesOn (shelf_faults self.old) (shelf_faults self.new) }
         ensures cause { OnErr result (HasRisen (shelf_faults self.old) (shelf_faults self.new)) }
@@ -173,8 +175,7 @@ impl Shelf for MemShelf {
         ensures quiet { shelf_is_quiet self.old → IsOk result × shelf_is_quiet self.new }
         ensures fails { is_err result ≡ is_set_to_fail self.old }
         ensures next { IsNextCall self.old self.new }
-        ensures left { OnErr result ((shelf_rest self.new ≡ shelf_rest self.old)
-            × (shelf_given self.new ≡ shelf_given self.old)) }
+        ensures left { OnErr result (shelf_rest self.new ≡ shelf_rest self.old) }
     {
         self.calls.begin()?;
         let rest = after(octets_at(&self.files, self.picked), self.at);

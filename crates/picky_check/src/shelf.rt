@@ -33,7 +33,8 @@ pub trait Shelf {
             → IsPicked (state self.old).files name.now (state self.new).rest) }
         ensures same { (state self.new).files ≡ (state self.old).files }
         ensures told { IsSome (state self.old).rest → IsSome (state self.new).rest }
-        ensures none_given { RisesBy 0 (state self.old).given (state self.new).given }
+        ensures none_given { (state self.new).given ≡ (state self.old).given }
+        ensures kept { GoesOn (state self.old).given (state self.new).given }
         ensures counted { GoesOn (state self.old).faults (state self.new).faults }
         ensures cause { OnErr result (HasRisen (state self.old).faults (state self.new).faults) }
         ensures once { FailsOnce (IsErr result) (state self.old).faults (state self.new).faults }
@@ -49,6 +50,7 @@ pub trait Shelf {
         ensures same { (state self.new).files ≡ (state self.old).files }
         ensures told { IsSome (state self.old).rest → IsSome (state self.new).rest }
         ensures given { IfOk result (λ n. RisesBy n (state self.old).given (state self.new).given) }
+        ensures none_given { OnErr result ((state self.new).given ≡ (state self.old).given) }
         ensures kept { GoesOn (state self.old).given (state self.new).given }
         ensures counted { GoesOn (state self.old).faults (state self.new).faults }
         ensures cause { OnErr result (HasRisen (state self.old).faults (state self.new).faults) }

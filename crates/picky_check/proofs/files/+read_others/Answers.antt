@@ -1,6 +1,6 @@
 use Rattle.std.proofs.Common.{List, ℕ, Err, ap, map, string_bytes, sym, subst, ◌∙◌}
 use Rattle.std.proofs.lemmas.Result.{IfErr-weaker, err_from_is_err_and}
-use Rattle.picky_check.specs.Unread.{AreUnread}
+use Rattle.picky_check.specs.ReadFiles.{AreUnread}
 use Rattle.picky_check.proofs.AskedWords.{behind, words_are}
 use Rattle.x509_core.proofs.NoRefusal.{one_error}
 use Rattle.picky_check.proofs.Failing.{failed_as, failed_then, none_failed, stands}
@@ -28,7 +28,7 @@ returns-clause-unread g t c =
     (unread_behind (g.F.Shelf.state c.args.shelf.now) (g.F.Shelf.state c.read_file.new.shelf) (g.F.Shelf.state c.read_others.new.shelf)
     c.as_str.result.now (map string_bytes (behind c.args.names.now)) e c.in_ok-read_file.field-0.items
     c.in_ok-read_file.ensures.whole c.in_ok-read_file.ensures.same c.in_ok-read_file.ensures.quiet
-    c.in_ok-read_file.ensures.counted c.in_ok-read_file.ensures.counted_given h)) c.read_others.ensures.unread
+    c.in_ok-read_file.ensures.counted c.in_ok-read_file.ensures.given h)) c.read_others.ensures.unread
 
 pub returns-in_err-read_file-clause-once : goal.returns-in_err-read_file-clause-once
 returns-in_err-read_file-clause-once g t c =

@@ -3,7 +3,7 @@ use Rattle.std.proofs.lemmas.Result.{err_from_is_err_and}
 use Rattle.std.proofs.lemmas.List.{take-append-le, length-take, length-take-le, length-append, length-drop, length-replicate}
 use Rattle.picky_check.specs.Counts.{RisesBy}
 use Rattle.picky_check.proofs.Failing.{failed_as, failed_then, none_failed, stands}
-use Rattle.picky_check.proofs.Reading.{reads_nothing, reads_more, reads_all, reads_too_much, rises_more, goes_further, has_risen_since}
+use Rattle.picky_check.proofs.Reading.{reads_nothing, reads_more, reads_all, reads_too_much, rises_more, rises_none, goes_further, has_risen_since}
 use Rattle.picky_check.proofs.files.read_file.Goals as goal
 
 pub loop-piece-init : goal.loop-piece-init
@@ -13,7 +13,8 @@ loop-piece-init g c =
       within = omega (arith, ap length none);
       size = length-replicate {A = ℕ} 16384 0;
       read = λ told. rw none (reads_nothing _ _ _ (c.in_ok-pick.ensures.picked told));
-      given = rw none c.pick.ensures.none_given;
+      given = rw none (rises_none _ _ c.pick.ensures.none_given);
+      kept = c.pick.ensures.kept;
       counted = c.pick.ensures.counted;
       still = stands c.in_ok-pick.ensures.once (λ none. absurd cc);
       same = c.pick.ensures.same;
@@ -77,6 +78,7 @@ loop-piece-preserved g c =
           let moves = c.in_ok-count.ensures.moved read.left read.rest_is in
           rw items (reads_more _ _ _ _ _ _ _ _ read moves front);
       given = rw size (rises_more _ _ _ _ _ c.loop-piece.invariant.given c.in_ok-count.ensures.given);
+      kept = goes_further _ _ _ c.loop-piece.invariant.kept c.read.ensures.kept;
       counted = goes_further _ _ _ c.loop-piece.invariant.counted c.read.ensures.counted;
       still = stands c.in_ok-count.ensures.once (λ none. absurd cc) ∙ c.loop-piece.invariant.still;
       same = c.read.ensures.same ∙ c.loop-piece.invariant.same;

@@ -1,7 +1,7 @@
 use Rattle.std.proofs.Common.{◌≡◌, ◌+◌, ◌-◌, ◌≤◌, length, IsSome}
 use Rattle.authenticode_core.specs.Counts.{GoesOn}
-use Rattle.picky_check.specs.Counts.{RisesBy}
 use Rattle.picky_check.specs.Limits.{longest_file}
+use Rattle.picky_check.specs.ReadFiles.{HandsOut}
 use Rattle.picky_check.specs.Shelf.{file_of}
 use Rattle.picky_check.proofs.Reading.{HasRead}
 use Rattle.picky_check.proofs.files.read_file.Given as goal
@@ -11,7 +11,8 @@ invariant-loop-piece g l = record {
   within : length l.octets.items ≤ longest_file + 1;
   size : length l.piece ≡ 16384;
   read : IsSome (g.F.Shelf.state l.fn.shelf).files → HasRead (g.F.Shelf.state l.fn.shelf).files l.name l.octets.items (g.F.Shelf.state l.shelf).rest;
-  given : RisesBy (length l.octets.items) (g.F.Shelf.state l.fn.shelf).given (g.F.Shelf.state l.shelf).given;
+  given : HandsOut (length l.octets.items) (g.F.Shelf.state l.fn.shelf) (g.F.Shelf.state l.shelf);
+  kept : GoesOn (g.F.Shelf.state l.fn.shelf).given (g.F.Shelf.state l.shelf).given;
   counted : GoesOn (g.F.Shelf.state l.fn.shelf).faults (g.F.Shelf.state l.shelf).faults;
   still : (g.F.Shelf.state l.shelf).faults ≡ (g.F.Shelf.state l.fn.shelf).faults;
   same : (g.F.Shelf.state l.shelf).files ≡ (g.F.Shelf.state l.fn.shelf).files;

@@ -1,8 +1,7 @@
 use Rattle.std.proofs.Common.{List, ℕ, Err, ap, subst, ◌∙◌}
 use Rattle.std.proofs.lemmas.Result.{err_from_is_err_and}
 use Rattle.picky_check.specs.Jobs.{contents_held, job_held}
-use Rattle.picky_check.specs.Limits.{AreWholeFiles}
-use Rattle.picky_check.specs.Unread.{AreUnread}
+use Rattle.picky_check.specs.ReadFiles.{AreRead, AreUnread}
 use Rattle.x509_core.proofs.NoRefusal.{one_error}
 use Rattle.picky_check.specs.Stops.{stop_for_file}
 use Rattle.picky_check.proofs.Failing.{failed_as, none_failed, stands}
@@ -18,7 +17,7 @@ returns-in_err-contents-clause-found g c =
 pub returns-clause-found : goal.returns-clause-found
 returns-clause-found g c =
     IsInquiry-read (g.F.Shelf.state c.args.shelf.now) (g.F.Shelf.state c.read_files.new.shelf) (job_held c.args.job.now) (contents_held c.in_ok-contents.contents)
-    (subst (λ (names : List (List ℕ)). AreWholeFiles (g.F.Shelf.state c.args.shelf.now).files names (contents_held c.in_ok-contents.contents)) c.names.ensures c.in_ok-contents.ensures.read)
+    (subst (λ (names : List (List ℕ)). AreRead (g.F.Shelf.state c.args.shelf.now) (g.F.Shelf.state c.read_files.new.shelf) names (contents_held c.in_ok-contents.contents)) c.names.ensures c.in_ok-contents.ensures.read)
     c.judge.result c.judge.ensures.reported c.judge.ensures.stopped c.judge.ensures.only c.judge.ensures.bad
 
 pub returns-in_err-contents-clause-once : goal.returns-in_err-contents-clause-once

@@ -14,10 +14,10 @@ returns-in_err-table-clause-only c rows answer is_table is reportable =
     rw (p.1, p.2) (ap stop_for_table memory)
 
 pub returns-clause-only : goal.returns-clause-only
-returns-clause-only c rows answer is_table is told =
+returns-clause-only c rows answer is_table is reportable =
     let same = c.in_ok-table.ensures.each_table rows (subst (λ (text : List ℕ). IsTable text rows) (sym c.table_in.ensures) is_table) in
     c.judge_by.ensures.only answer
-    (subst (λ (rs : List VerdictRow). IsAnswerTo (verdict_of rs) (job_held c.args.asked.now) (contents_held c.args.read.now) answer) (sym same) is) told
+    (subst (λ (rs : List VerdictRow). IsAnswerTo (verdict_of rs) (job_held c.args.asked.now) (contents_held c.args.read.now) answer) (sym same) is) reportable
 
 pub returns-clause-bad : goal.returns-clause-bad
 returns-clause-bad c number bad =

@@ -13,7 +13,7 @@ returns-in-Ok-clause-ends g c =
 pub returns-in-Ok-clause-vouched_for : goal.returns-in-Ok-clause-vouched_for
 returns-in-Ok-clause-vouched_for g c zero =
     let h = (returns-in-Ok-clause-ends g c).reported (omega (arith, zero)) in
-    vouched_for c.one_signed_data.ensures _ _ _ _ h.answer h.is_answer (h.is_status ∙ zero) h.has_line
+    vouched_for c.one_signed_data.ensures _ _ _ _ _ h.answer h.is_answer (h.is_status ∙ zero) h.has_line
 
 pub returns-in-Err-clause-ends : goal.returns-in-Err-clause-ends
 returns-in-Err-clause-ends g c =
