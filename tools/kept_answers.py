@@ -9,7 +9,7 @@ writes FOLDER/data/rows, signed data in hexadecimal digits, and FOLDER/stdout,
 what is answered to them.  The rows are those of `path_answers` and those of
 `CASES` below, and so is the front of each answer; behind it stand the digest
 of the file, where the content is indirect data, and how many signed and how
-many unsigned attributes the first signer has, `-` where there is none.  They
+many unsigned attributes the first signer has, `-` where there is no signer.  They
 are found with the readers of `der_reader` and `cms_reader`; those of `CASES`
 have to be what stands there.
 
@@ -72,13 +72,13 @@ CASES = [
     ("indirect data that isn't", with_content(SPC_INDIRECT_DATA, sequence()), "no signed data"),
     ("indirect data under another type", with_content("1.2.3", indirect(b"\xAB")), "1 hash=- signed=- unsigned=-"),
     ("octets", with_content("1.2.840.113549.1.7.1", octet_string(b"abc")), "1 hash=- signed=- unsigned=-"),
-    ("signed attributes", signed_data([with_attributes([ONE, TWO])], S), "1 0: (0) hash=- signed=2 unsigned=-"),
-    ("signed attributes, none of them", signed_data([with_attributes([])], S), "1 0: (0) hash=- signed=0 unsigned=-"),
-    ("unsigned attributes", signed_data([with_attributes(None, [ONE])], S), "1 0: (0) hash=- signed=- unsigned=1"),
+    ("signed attributes", signed_data([with_attributes([ONE, TWO])], S), "1 0: (0) hash=- signed=2 unsigned=0"),
+    ("signed attributes, none of them", signed_data([with_attributes([])], S), "1 0: (0) hash=- signed=0 unsigned=0"),
+    ("unsigned attributes", signed_data([with_attributes(None, [ONE])], S), "1 0: (0) hash=- signed=0 unsigned=1"),
     ("both", signed_data([with_attributes([ONE], [TWO, ONE, TWO])], S), "1 0: (0) hash=- signed=1 unsigned=3"),
-    ("those of the first signer", signed_data([signer(sequence(name(b"A"), integer(b"\x01"))), with_attributes([ONE], [ONE])], S), "1 0: (0) hash=- signed=- unsigned=-"),
+    ("those of the first signer", signed_data([signer(sequence(name(b"A"), integer(b"\x01"))), with_attributes([ONE], [ONE])], S), "1 0: (0) hash=- signed=0 unsigned=0"),
     ("no certificates and no signer", made_signatures.alone(), "0 hash=- signed=- unsigned=-"),
-    ("a signature that is made", made_signatures.S0.value(), f"1 0: (0) hash={made_signatures.FILE_HASH.hex()} signed=3 unsigned=-"),
+    ("a signature that is made", made_signatures.S0.value(), f"1 0: (0) hash={made_signatures.FILE_HASH.hex()} signed=3 unsigned=0"),
     ("a time stamp that isn't", signed_data([with_attributes([], [attribute("1.3.6.1.4.1.311.3.3.1", sequence())])], S), "no signed data"),
 ]
 
@@ -150,9 +150,10 @@ def file_hash(content_info):
 
 
 def count(signers, tag):
-    """How many elements the field of this tag of the first signer has."""
-    fields = [field for field in signers[0].kids if field.tag == tag] if signers else []
-    return str(len(fields[0].kids)) if fields else "-"
+    """How many elements the field of this tag of the first signer has, none where it is left out."""
+    if not signers:
+        return "-"
+    return str(sum(len(field.kids) for field in signers[0].kids if field.tag == tag))
 
 
 def answer(octets):

@@ -1,7 +1,7 @@
 -- What is asked of signed data that is kept (RFC 2315 9.1, 9.2; Windows Authenticode Portable
 -- Executable Signature Format).
 use Rattle.std.specs.Prelude.{ℕ, List, [], ◌∷◌, Option, Some, None}
-use Rattle.std.specs.Option.{option_map}
+use Rattle.std.specs.Option.{option_map, unwrap_or}
 use Rattle.cms_types.specs.SignedAttributesElement.{attributes_of}
 use Rattle.cms_types.specs.declared.signer_info.SignerInfo.{SignerInfo}
 use Rattle.cms_types.specs.declared.unsigned_attribute.UnsignedAttribute.{UnsignedAttribute}
@@ -19,12 +19,13 @@ abbrev pub file_hash_in : Option ContentValue → Option (List ℕ)
 file_hash_in None = None
 file_hash_in (Some content) = file_hash_of content
 
--- the signed attributes of the first signer, where there is one that has some
+-- the signed attributes of the first signer, where there is one: none where their field is left out
 abbrev pub signed_attributes_in : List SignerInfo → Option (List Attribute)
 signed_attributes_in [] = None
-signed_attributes_in (signer ∷ others) = option_map attributes_of signer.signed_attrs
+signed_attributes_in (signer ∷ others) =
+    Some (unwrap_or (option_map attributes_of signer.signed_attrs) [])
 
 -- and its unsigned ones
 abbrev pub unsigned_attributes_in : List SignerInfo → Option (List UnsignedAttribute)
 unsigned_attributes_in [] = None
-unsigned_attributes_in (signer ∷ others) = signer.unsigned_attrs
+unsigned_attributes_in (signer ∷ others) = Some (unwrap_or signer.unsigned_attrs [])

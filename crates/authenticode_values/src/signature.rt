@@ -123,28 +123,29 @@ impl AuthenticodeSignature {
         }
     }
 
-    /// The signed attributes of the first signer, None exactly where there is none or it has none.
+    /// The signed attributes of the first signer, none of them where the field is left out; None
+    /// exactly where there is no signer.
     pub fn authenticated_attributes(&self) -> Option<&[Attribute]>
         ensures { option_copied result ≡ signed_attributes_in (signer_infos_of self.now.0) }
     {
         match self.0.signer_infos().first() {
             Some(signer) => match &signer.signed_attrs {
                 Some(attributes) => Some(attributes.list().as_slice()),
-                None => None,
+                None => Some(&[]),
             },
             None => None,
         }
     }
 
-    /// The unsigned attributes of the first signer, None exactly where there is none or it has
-    /// none.
+    /// The unsigned attributes of the first signer, none of them where the field is left out; None
+    /// exactly where there is no signer.
     pub fn unauthenticated_attributes(&self) -> Option<&[UnsignedAttribute]>
         ensures { option_copied result ≡ unsigned_attributes_in (signer_infos_of self.now.0) }
     {
         match self.0.signer_infos().first() {
             Some(signer) => match &signer.unsigned_attrs {
                 Some(attributes) => Some(attributes.as_slice()),
-                None => None,
+                None => Some(&[]),
             },
             None => None,
         }

@@ -16,11 +16,9 @@ fn is_told(alloc: Global, octets: &[u8], hash: &[u8]) -> bool {
 
 /// Whether the digest is signed, with three attributes, and nothing is added.
 fn signs(alloc: Global, signature: &AuthenticodeSignature, hash: &[u8]) -> bool {
-    let signed = match signature.authenticated_attributes() {
-        Some(attributes) => attributes.len() == 3,
-        None => false,
-    };
-    signed && signature.unauthenticated_attributes().is_none() && is_of(alloc, signature, hash)
+    let signed = matches!(signature.authenticated_attributes(), Some([_, _, _]));
+    let unstamped = matches!(signature.unauthenticated_attributes(), Some([]));
+    signed && unstamped && is_of(alloc, signature, hash)
 }
 
 fn is_of(alloc: Global, signature: &AuthenticodeSignature, hash: &[u8]) -> bool {

@@ -57,7 +57,7 @@ fn certificate_count(alloc: Global, signature: &AuthenticodeSignature) -> usize 
 
 fn stamp_count(signature: &AuthenticodeSignature) -> usize {
     match signature.unauthenticated_attributes() {
-        None => 0,
+        None | Some([]) => 0,
         Some([UnsignedAttribute::CounterSign(values)]) => values.as_slice().len(),
         Some(_) => 9,
     }
