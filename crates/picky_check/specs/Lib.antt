@@ -15,6 +15,7 @@ pub mod Jobs
 pub mod Report
 pub mod ChainAnswer
 pub mod Answer
+pub mod Statuses
 pub mod Stops
 pub mod Inquiry
 pub mod Run

@@ -1,6 +1,6 @@
 -- What a run does: its status, its cause, and what the sink then holds.
 use Rattle.std.specs.Prelude.{◌≡◌, ◌≢◌, ◌⊎◌, ◌↔◌, ℕ, ◌≤◌, List, ◌∷◌, ◌++◌, length, IsSome}
-use Rattle.picky_check.specs.declared.stop.TheConstants.{REFUSED, USAGE, BAD_TABLE, SHELF_FAILED, SINK_FAILED, TOO_LONG, OUT_OF_MEMORY}
+use Rattle.picky_check.specs.Statuses as statuses
 use Rattle.authenticode_core.specs.Counts.{HasRisen}
 use Rattle.picky_check.specs.Limits.{IsLongFile, IsMissingFile, HasFiles, HasLongFile}
 use Rattle.picky_check.specs.ReadFiles.{FindsLongFile}
@@ -45,40 +45,43 @@ LacksRoom out answer = HasRoom out.room (length (report_line answer)) → ⊥
 pub record IsRun (words : List (List ℕ)) (shelf shelf_now : ShelfState) (out out_now : SinkState)
     (status : ℕ) : Type 0 where
   -- there is no other status
-  pub bounded : status ≤ OUT_OF_MEMORY
+  pub bounded : status ≤ statuses.out_of_memory
   -- an acceptance or a refusal is the answer, and the sink has its line more
-  pub reported : status ≤ REFUSED → IsDelivered words shelf shelf_now out out_now status
+  pub reported : status ≤ statuses.refused → IsDelivered words shelf shelf_now out out_now status
   -- the words ask for nothing, whatever memory there is
-  pub usage : (status ≡ USAGE) ↔ AsksForNothing words
+  pub usage : (status ≡ statuses.usage) ↔ AsksForNothing words
   -- the table has a bad line, and all files were read
-  pub bad_table : status ≡ BAD_TABLE → ForJob words (FindsBadTable shelf shelf_now)
+  pub bad_table : status ≡ statuses.bad_table → ForJob words (FindsBadTable shelf shelf_now)
   pub bad_table_always : (job : Job) → AsksFor words job → shelf.is_quiet → IsSome shelf.files
-      → HasBadTable shelf.files job → (status ≡ BAD_TABLE) ⊎ (status ≡ OUT_OF_MEMORY)
+      → HasBadTable shelf.files job
+      → (status ≡ statuses.bad_table) ⊎ (status ≡ statuses.out_of_memory)
   -- the shelf failed
-  pub shelf_failed : status ≡ SHELF_FAILED → HasRisen shelf.faults shelf_now.faults
+  pub shelf_failed : status ≡ statuses.shelf_failed → HasRisen shelf.faults shelf_now.faults
   pub shelf_quiet : (job : Job) → AsksFor words job → shelf.is_quiet
-      → HasFiles shelf.files (files_of job) → status ≢ SHELF_FAILED
+      → HasFiles shelf.files (files_of job) → status ≢ statuses.shelf_failed
   -- a missing file is a failure of the shelf, unless one ahead of it is longer than is read
   pub missing : (job : Job) (ahead behind : List (List ℕ)) (name : List ℕ) → AsksFor words job
       → files_of job ≡ ahead ++ name ∷ behind → IsMissingFile shelf.files name
-      → ((status ≡ SHELF_FAILED) ⊎ (status ≡ OUT_OF_MEMORY))
-      ⊎ ((status ≡ TOO_LONG) × HasLongFile shelf.files ahead)
+      → ((status ≡ statuses.shelf_failed) ⊎ (status ≡ statuses.out_of_memory))
+      ⊎ ((status ≡ statuses.too_long) × HasLongFile shelf.files ahead)
   -- the sink took a part of the line
-  pub sink_failed : status ≡ SINK_FAILED → IsLost words shelf shelf_now out out_now
+  pub sink_failed : status ≡ statuses.sink_failed → IsLost words shelf shelf_now out out_now
   -- a file is longer than is read
-  pub too_long : status ≡ TOO_LONG
+  pub too_long : status ≡ statuses.too_long
       → ForJob words (λ job. FindsLongFile shelf shelf_now (files_of job))
   -- such a file is too long, unless the shelf fails: a quiet one doesn't that has those ahead of it
   pub too_long_always : (job : Job) (ahead behind : List (List ℕ)) (name : List ℕ)
       → AsksFor words job → files_of job ≡ ahead ++ name ∷ behind → IsLongFile shelf.files name
-      → ((status ≡ TOO_LONG) ⊎ (status ≡ OUT_OF_MEMORY))
-      ⊎ ((status ≡ SHELF_FAILED) × (shelf.is_quiet → HasFiles shelf.files ahead → ⊥))
+      → ((status ≡ statuses.too_long) ⊎ (status ≡ statuses.out_of_memory))
+      ⊎ ((status ≡ statuses.shelf_failed) × (shelf.is_quiet → HasFiles shelf.files ahead → ⊥))
   -- without a report nothing is written
-  pub nothing_written : USAGE ≤ status → status ≢ SINK_FAILED → Keeps out.held out_now.held
+  pub nothing_written : statuses.usage ≤ status → status ≢ statuses.sink_failed
+      → Keeps out.held out_now.held
   -- Where a quiet shelf tells its files, the answer about them is reported by its line, unless
   -- memory runs out, or the sink fails that tells no room for the line.
   pub answered : (job : Job) (answer : Answer) → AsksFor words job → shelf.is_quiet
       → IsSome shelf.files → IsAnswered shelf.files job answer → (WantsMemory answer → ⊥)
       → (((status ≡ status_of answer) × Appends out.held (report_line answer) out_now.held)
-      ⊎ (status ≡ OUT_OF_MEMORY))
-      ⊎ ((status ≡ SINK_FAILED) × HasRisen out.faults out_now.faults × LacksRoom out answer)
+      ⊎ (status ≡ statuses.out_of_memory))
+      ⊎ ((status ≡ statuses.sink_failed) × HasRisen out.faults out_now.faults
+      × LacksRoom out answer)

@@ -5,7 +5,7 @@ use Rattle.sig_core.specs.declared.verdict_table.TableError.TheVariants as table
 use Rattle.picky_check.specs.declared.error.FileError.{FileError}
 use Rattle.picky_check.specs.declared.error.FileError.TheVariants as file
 use Rattle.picky_check.specs.declared.stop.Stop.{Stop}
-use Rattle.picky_check.specs.declared.stop.TheConstants.{USAGE, BAD_TABLE, SHELF_FAILED, TOO_LONG, OUT_OF_MEMORY}
+use Rattle.picky_check.specs.Statuses as statuses
 use Rattle.picky_check.specs.declared.stop.Stop.TheVariants.{Usage, BadTable, Shelf, TooLong, Memory}
 
 -- where a file wasn't read
@@ -21,8 +21,8 @@ stop_for_table table.Memory = Memory
 
 -- the exit status
 abbrev pub status_for : Stop → ℕ
-status_for Usage = USAGE
-status_for BadTable = BAD_TABLE
-status_for Shelf = SHELF_FAILED
-status_for TooLong = TOO_LONG
-status_for Memory = OUT_OF_MEMORY
+status_for Usage = statuses.usage
+status_for BadTable = statuses.bad_table
+status_for Shelf = statuses.shelf_failed
+status_for TooLong = statuses.too_long
+status_for Memory = statuses.out_of_memory

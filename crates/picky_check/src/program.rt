@@ -6,6 +6,7 @@ ghost use Rattle.authenticode_core.specs.Counts.{HasRisen};
 ghost use Rattle.picky_check.specs.Counts.{FailsOnce};
 ghost use Rattle.picky_check.specs.Run.{IsRun};
 ghost use Rattle.picky_check.specs.Sink.{Appends, IsCutShort};
+ghost use Rattle.picky_check.specs.Statuses as statuses;
 ghost use Rattle.picky_check.specs.Vouched.{IsVouched};
 ghost use Rattle.picky_check.specs.Words.{AsksForNothing};
 
@@ -21,15 +22,15 @@ use std::io::{Error, ErrorKind};
 /// an answer, and gives the exit status, one of those that have names here.
 pub fn run<F: Shelf, O: Sink>(alloc: Global, words: &[String], shelf: &mut F, out: &mut O) -> u8
     // Acceptance means vouched for.
-    ensures vouched_for { result ≡ ACCEPTED
+    ensures vouched_for { result ≡ statuses.accepted
         → IsVouched (map string_bytes words.now) (F.state shelf.old) (F.state shelf.new)
         (O.state out.old).held (O.state out.new).held }
     // Nothing is read where nothing is asked for.
     ensures unread { AsksForNothing (map string_bytes words.now) → shelf.new ≡ shelf.old }
     // A call of the shelf or of the sink that failed is the last, and the status reports it.
-    ensures shelf_once { FailsOnce (result ≡ SHELF_FAILED) (F.state shelf.old).faults
+    ensures shelf_once { FailsOnce (result ≡ statuses.shelf_failed) (F.state shelf.old).faults
         (F.state shelf.new).faults }
-    ensures sink_once { FailsOnce (result ≡ SINK_FAILED) (O.state out.old).faults
+    ensures sink_once { FailsOnce (result ≡ statuses.sink_failed) (O.state out.old).faults
         (O.state out.new).faults }
     // What each status says, and when it comes.
     ensures ends { IsRun (map string_bytes words.now) (F.state shelf.old) (F.state shelf.new)
@@ -47,9 +48,10 @@ pub fn run<F: Shelf, O: Sink>(alloc: Global, words: &[String], shelf: &mut F, ou
 fn deliver<O: Sink>(out: &mut O, report: &Report) -> u8
     ensures delivered { ((result ≡ report.now.status)
         × Appends (O.state out.old).held (string_bytes report.now.line) (O.state out.new).held)
-        ⊎ ((result ≡ SINK_FAILED) × HasRisen (O.state out.old).faults (O.state out.new).faults
+        ⊎ ((result ≡ statuses.sink_failed)
+        × HasRisen (O.state out.old).faults (O.state out.new).faults
         × IsCutShort (string_bytes report.now.line) (O.state out.old) (O.state out.new)) }
-    ensures once { FailsOnce (result ≡ SINK_FAILED) (O.state out.old).faults
+    ensures once { FailsOnce (result ≡ statuses.sink_failed) (O.state out.old).faults
         (O.state out.new).faults }
 {
     match write_report(out, report.line.as_str()) {
@@ -61,8 +63,10 @@ fn deliver<O: Sink>(out: &mut O, report: &Report) -> u8
 /// The exit status where the words of the command line can't be had, by the reason: there was no
 /// memory for them, or one isn't UTF-8 and so they ask for nothing.
 pub fn status_without_words(reason: &Error) -> u8
-    ensures memory { error_kind reason.now ≡ ErrorKind.OutOfMemory → result ≡ OUT_OF_MEMORY }
-    ensures usage { (error_kind reason.now ≡ ErrorKind.OutOfMemory → ⊥) → result ≡ USAGE }
+    ensures memory { error_kind reason.now ≡ ErrorKind.OutOfMemory
+        → result ≡ statuses.out_of_memory }
+    ensures usage { (error_kind reason.now ≡ ErrorKind.OutOfMemory → ⊥)
+        → result ≡ statuses.usage }
 {
     if reason.kind() == ErrorKind::OutOfMemory {
         OUT_OF_MEMORY
