@@ -1,5 +1,5 @@
 -- A signature file as it is made is accepted under basic validation alone.
-use Rattle.std.proofs.Common.{◌≡◌, ℕ, ◌-◌, List, [], ◌∷◌, ◌++◌, Option, Result, Ok, Err, MatchResult, map, length, take, inl, inr, refl, sym, ap, subst, ◌∙◌, arith, append-nil}
+use Rattle.std.proofs.Common.{◌≡◌, ℕ, ◌-◌, List, [], ◌∷◌, ◌++◌, Option, Result, Ok, Err, IfOk, MatchResult, map, length, take, inl, inr, refl, sym, ap, subst, ◌∙◌, arith, append-nil}
 use Rattle.std.specs.Prelude.{replicate, slice_range}
 use Rattle.std.specs.Int.{next_multiple_of}
 use Rattle.std.proofs.Math.Seq.{take-append_seam}
@@ -35,11 +35,11 @@ use Rattle.wincert_core.proofs.Spelled.{not_refused}
 use Rattle.x501_types.specs.Name.{name}
 use Rattle.x509_types.specs.CertificateElements.{CertificateElements, certificate_of}
 use Rattle.authenticode_core.specs.BagSigner.{IsNamedByFirst}
-use Rattle.authenticode_core.specs.Basic.{VouchesFor}
+use Rattle.authenticode_core.specs.Basic.{HasSignedData, VouchesFor}
 use Rattle.authenticode_core.specs.CertificateBag.{IsBag}
 use Rattle.authenticode_core.specs.FormRules.{HasForm}
 use Rattle.authenticode_core.specs.SignedFields.{HasMessageDigest, IndirectData, IsAttributeOf, signers_of}
-use Rattle.authenticode_core.specs.SigningRules.{IsSigned, digested_octets}
+use Rattle.authenticode_core.specs.SigningRules.{IsBagOf, IsSigned, digested_octets}
 use Rattle.authenticode_core.specs.Trusted.{IsAnswer, IsTrusted}
 use Rattle.authenticode_core.specs.declared.accepted.Accepted.{Accepted}
 use Rattle.authenticode_core.specs.declared.error.CheckError.{CheckError}
@@ -48,7 +48,8 @@ use Rattle.authenticode_core.specs.declared.policy.Policy.{Policy}
 use Rattle.making_core.specs.MadeContent.{attribute_by, content_digest, image_element}
 use Rattle.making_core.specs.MadeSignature.{SignatureParts, signature_made, signer_made}
 use Rattle.making_core.specs.SignedProgram.{Program, issuer_and_serial_of, parts_for, program_of}
-use Rattle.authenticode_values.specs.MadeFile.{AreCertificates, IsBasicAlone, IsMadeFor, IsMadeSignature, IsSpelledWhole, by_the_first, wrapped}
+use Rattle.authenticode_values.specs.MadeFile.{AreCertificates, IsBasicAlone, IsCheckedBy, IsMadeFor, IsMadeSignature, IsSpelledWhole, by_the_first, wrapped}
+use Rattle.authenticode_core.proofs.OneData.{one_data}
 
 -- ---- the bag is that of the certificates
 
@@ -91,12 +92,12 @@ opus_info_differs e = absurd cc
 
 -- ---- the signed data vouches for the digest
 
-module _ (judge : Judge) (p : Program) (value : Pkcs7Certificate) (m : IsMadeFor judge p value) where
+module _ (judge : Judge) (p : Program) (first : CertificateElements) (others : List CertificateElements) (value : Pkcs7Certificate) (m : IsMadeFor judge p first others value) where
   abbrev bag : List CertificateElements
-  bag = m.first ∷ m.others
+  bag = first ∷ others
 
   abbrev parts : SignatureParts
-  parts = parts_for p m.first bag m.signature
+  parts = parts_for p first bag m.signature
 
   abbrev fields : SignedDataElements
   fields = signature_made parts
@@ -134,8 +135,8 @@ module _ (judge : Judge) (p : Program) (value : Pkcs7Certificate) (m : IsMadeFor
   is_bag : IsBag (members_of fields.certificates) bag
   is_bag = subst (λ (members : List DerElement). IsBag members bag) (sym (listed-row (map certificate_of bag))) (bag_of bag m.are)
 
-  is_named : IsNamedByFirst (signers_of fields) m.first
-  is_named = named_by (signers_of fields) found.0 m.first alone found.0.sid refl (ap (λ (g : SignerElements). g.sid) found_as)
+  is_named : IsNamedByFirst (signers_of fields) first
+  is_named = named_by (signers_of fields) found.0 first alone found.0.sid refl (ap (λ (g : SignerElements). g.sid) found_as)
 
   digested : HasMessageDigest signer (digest_of (hash_of p.hash) (digested_octets indirect))
   digested = record {
@@ -157,7 +158,7 @@ module _ (judge : Judge) (p : Program) (value : Pkcs7Certificate) (m : IsMadeFor
   signed = record {
     bag = bag;
     is_bag = is_bag;
-    certificate = m.first;
+    certificate = first;
     is_signer = record { later = omega arith; stands = refl; fits = is_named; least = λ place c later before stands fits. omega (arith, before) };
     hash = hash_of p.hash;
     named = record { variant = p.hash; parameters = null ∷ []; is = refl; named = refl };
@@ -176,6 +177,9 @@ module _ (judge : Judge) (p : Program) (value : Pkcs7Certificate) (m : IsMadeFor
     binds_hash = refl;
     signed = signed;
   })
+
+  pub carries : IsBagOf (signed_data_elements value.signed_data) bag
+  carries = subst (λ (f : SignedDataElements). IsBagOf f bag) (sym m.fields) is_bag
 
 -- ---- what is asked of it
 
@@ -211,20 +215,43 @@ pub padded_so : (octets : List ℕ) (element : DerElement) → IsDer element →
 padded_so octets element der is =
     (der, next_multiple_of (length octets) 8 - length octets, omega arith, ap (λ (o : List ℕ). o ++ replicate (next_multiple_of (length octets) 8 - length octets) 0) is)
 
-pub answers_so : (judge : Judge) (policy : Policy) (octets file_hash : List ℕ) → IsBasicAlone policy file_hash → IsMadeSignature judge octets file_hash → IsAnswer judge policy octets (Ok by_the_first)
-answers_so judge policy octets file_hash asked made =
-    let w = wrapped made.kind (encoding (pkcs7 made.value)) in
-    let f = signed_data_elements made.value.signed_data in (
-      f,
-      record {
-        certificate = padded (encoding (pkcs7 made.value));
-        named = contents_of octets (with_padding w) (begins_so octets w made.file);
-        value = made.value;
-        spelled = padded_so (encoding (pkcs7 made.value)) (pkcs7 made.value) made.der refl;
-        fields = refl;
-      },
-      trusted judge policy f file_hash asked (vouches judge (program_of made.hash file_hash made.name) made.value made.made),
-    )
+-- the signed data that what is made has, and the certificates that it carries
+module _ (judge : Judge) (policy : Policy) (first : CertificateElements) (others : List CertificateElements) (octets file_hash : List ℕ) (made : IsMadeSignature judge first others octets file_hash) where
+  abbrev made_data : SignedDataElements
+  made_data = signed_data_elements made.value.signed_data
+
+  held : HasSignedData octets made_data
+  held = record {
+    certificate = padded (encoding (pkcs7 made.value));
+    named = contents_of octets (with_padding (wrapped made.kind (encoding (pkcs7 made.value)))) (begins_so octets (wrapped made.kind (encoding (pkcs7 made.value))) made.file);
+    value = made.value;
+    spelled = padded_so (encoding (pkcs7 made.value)) (pkcs7 made.value) made.der refl;
+    fields = refl;
+  }
+
+  vouched : VouchesFor judge made_data file_hash 0
+  vouched = vouches judge (program_of made.hash file_hash made.name) first others made.value made.made
+
+  carried : IsBagOf made_data (first ∷ others)
+  carried = carries judge (program_of made.hash file_hash made.name) first others made.value made.made
+
+  pub answers_so : IsBasicAlone policy file_hash → IsAnswer judge policy octets (Ok by_the_first)
+  answers_so asked = (made_data, held, trusted judge policy made_data file_hash asked vouched)
+
+  trusted_so : (r : Result Accepted CheckError) → IsAnswer judge policy octets r → IfOk r (IsTrusted judge policy made_data)
+  trusted_so (Ok a) answer = subst (λ (f : SignedDataElements). IsTrusted judge policy f a) (one_data octets answer.0 made_data answer.1 held) answer.2
+  trusted_so (Err e) answer = tt
+
+  pub checked_so : (r : Result Accepted CheckError) → IsAnswer judge policy octets r → ((other : Result Accepted CheckError) → IsAnswer judge policy octets other → AreOneUnlessMemory Memory r other)
+      → IsCheckedBy judge policy (first ∷ others) octets file_hash r
+  checked_so r answer only = record {
+    f = made_data;
+    held = held;
+    bag = carried;
+    vouches = vouched;
+    trusted = trusted_so r answer;
+    accepted = λ a is. only (Ok a) (made_data, held, is);
+  }
 
 pub answered : (r : Result Accepted CheckError) → AreOneUnlessMemory Memory r (Ok by_the_first) → MatchResult r (λ a. a ≡ by_the_first) (λ e. e ≡ Memory)
 answered (Ok a) (inl same) = cc

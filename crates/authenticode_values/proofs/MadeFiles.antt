@@ -1,29 +1,25 @@
 -- A signature that is made is one as a signature file has it.
-use Rattle.std.proofs.Common.{◌≡◌, ℕ, List, [], ◌∷◌, Option, Result, Ok, Err, IfOk, inl, inr, sym, subst}
+use Rattle.std.proofs.Common.{◌≡◌, ℕ, List, [], ◌∷◌, Option, inl, inr, sym, subst}
 use Rattle.cms_types.specs.Pkcs7.{pkcs7}
 use Rattle.cms_types.specs.SignedData.{signed_data_elements}
 use Rattle.cms_types.specs.SignedDataElements.{SignedDataElements}
 use Rattle.cms_types.specs.declared.pkcs7.Pkcs7Certificate.{Pkcs7Certificate}
 use Rattle.der_core.specs.DerElement.{DerElement}
 use Rattle.der_core.specs.Encoding.{encoding, IsDer}
-use Rattle.key_core.specs.Signing.{Signs, Pair, IsKeyPair, arithmetic}
+use Rattle.key_core.specs.Signing.{Signs, Pair, arithmetic}
 use Rattle.key_core.specs.Verifying.{Judge}
 use Rattle.key_core.specs.declared.private_key.PrivateKey.{PrivateKey}
-use Rattle.key_types.specs.declared.key_info.SubjectPublicKeyInfo.{SubjectPublicKeyInfo}
 use Rattle.sig_core.specs.declared.sha_variant.ShaVariant.{ShaVariant}
 use Rattle.wincert_core.specs.declared.kinds.CertificateType.{CertificateType}
-use Rattle.x509_core.specs.Link.{HasKey}
 use Rattle.x509_types.specs.CertificateElements.{CertificateElements}
 use Rattle.authenticode_core.specs.CertificateBag.{IsBag}
-use Rattle.authenticode_core.specs.SigningRules.{IsForCodeSigning}
-use Rattle.authenticode_core.specs.declared.error.AuthenticodeError.{AuthenticodeError}
+use Rattle.authenticode_core.specs.SigningRules.{IsBagOf, IsForCodeSigning}
 use Rattle.making_core.specs.Carried.{AreCarried, AreWithoutRoots, IsRootCertificate}
 use Rattle.making_core.specs.MadeSignature.{signature_made}
 use Rattle.making_core.specs.SignedProgram.{Program, parts_for, program_of}
-use Rattle.authenticode_values.specs.MadeFile.{AreCertificates, IsAloneOrNoRoot, IsMadeFor, IsMadeSignature, IsSpelledWhole, NoneIsRoot, wrapped}
+use Rattle.authenticode_values.specs.MadeFile.{AreCertificates, IsAloneOrNoRoot, IsMadeFor, IsMadeSignature, IsMadeWith, IsSpelledWhole, NoneIsRoot, wrapped}
 use Rattle.authenticode_values.specs.Making.{IsMadeOf}
-use Rattle.authenticode_values.specs.Pkcs7.{fields_of, written}
-use Rattle.authenticode_values.specs.declared.signature.AuthenticodeSignature.{AuthenticodeSignature}
+use Rattle.authenticode_core.proofs.BagSteps.{one_bag}
 use Rattle.authenticode_values.proofs.CarriedWalks.{still_for_code_signing}
 
 -- ---- those of a bag are certificates, and so are those that are carried
@@ -70,46 +66,56 @@ first_carried first (d ∷ others) carried (inr (other, more, is, are)) root = (
 -- ---- what is made is as a signature file has it
 
 module _ (judge : Judge) (signs : Signs) (pair : Pair) (f : SignedDataElements) (hash : ShaVariant) (file_hash : List ℕ) (name : Option (List ℕ)) (key : PrivateKey) where
-  pub made_for : (value : Pkcs7Certificate) (m : IsMadeOf (arithmetic judge signs pair) f hash file_hash name key (signed_data_elements value.signed_data)) (info : SubjectPublicKeyInfo) → HasKey m.first info → IsKeyPair pair key info → (IsRootCertificate m.first → m.others ≡ [])
-      → IsMadeFor judge (program_of hash file_hash name) value
-  made_for value m info has pairs root =
+  made_for : (value : Pkcs7Certificate) (m : IsMadeOf (arithmetic judge signs pair) f hash file_hash name key (signed_data_elements value.signed_data)) → IsMadeWith pair key m.first m.others
+      → (carried : List CertificateElements) → m.program.carried ≡ m.first ∷ carried → IsMadeFor judge (program_of hash file_hash name) m.first carried value
+  made_for value m by carried is =
       let p : Program = program_of hash file_hash name in
       let bag : List CertificateElements = m.first ∷ m.others in
-      let carried = m.program.carried in
+      let kept = m.program.carried in
       let are = m.program.are_carried in
-      let front = first_carried m.first m.others carried are root in
-      let is = front.1 in
       record {
         supported = m.supported;
-        first = m.first;
-        others = front.0;
-        are = subst AreCertificates is (fit_carried bag carried are (fit_in_bag _ bag m.signer.bag));
-        rootless = subst IsAloneOrNoRoot is (rootless_carried bag carried are);
-        code_signing = subst (λ (cs : List CertificateElements). IsForCodeSigning cs m.first) is (still_for_code_signing bag carried m.first are m.signer.code_signing);
+        are = subst AreCertificates is (fit_carried bag kept are (fit_in_bag _ bag m.signer.bag));
+        rootless = subst IsAloneOrNoRoot is (rootless_carried bag kept are);
+        code_signing = subst (λ (cs : List CertificateElements). IsForCodeSigning cs m.first) is (still_for_code_signing bag kept m.first are m.signer.code_signing);
         signature = m.program.signature;
         fields = subst (λ (cs : List CertificateElements). signed_data_elements value.signed_data ≡ signature_made (parts_for p m.first cs m.program.signature)) is m.program.fields;
-        info = info;
-        key = has;
-        accepted = m.program.is_signature.accepted info pairs;
+        info = by.info;
+        key = by.has;
+        accepted = m.program.is_signature.accepted by.info by.pairs;
       }
 
-  pub made_file : (value : Pkcs7Certificate) (kind : CertificateType) (octets : List ℕ) → IsDer (pkcs7 value) → IsSpelledWhole octets (wrapped kind (encoding (pkcs7 value)))
-      → (m : IsMadeOf (arithmetic judge signs pair) f hash file_hash name key (signed_data_elements value.signed_data)) (info : SubjectPublicKeyInfo) → HasKey m.first info → IsKeyPair pair key info → (IsRootCertificate m.first → m.others ≡ [])
-      → IsMadeSignature judge octets file_hash
-  made_file value kind octets der file m info has pairs root = record {
-    kind = kind;
-    value = value;
-    der = der;
-    file = file;
-    hash = hash;
-    name = name;
-    basic = m.basic;
-    made = made_for value m info has pairs root;
-  }
+  -- the octets are a signature file by the first of these certificates, of which it carries some
+  abbrev Carries : List ℕ → CertificateElements → List CertificateElements → Type 0
+  Carries octets first others = (carried : List CertificateElements) × AreCarried (first ∷ others) (first ∷ carried) × IsMadeSignature judge first carried octets file_hash
 
-  -- whatever is answered
-  pub made_files : (r : Result AuthenticodeSignature AuthenticodeError)
-      → IfOk r (λ s. (m : IsMadeOf (arithmetic judge signs pair) f hash file_hash name key (fields_of s.0)) → (info : SubjectPublicKeyInfo) → HasKey m.first info → IsKeyPair pair key info → (IsRootCertificate m.first → m.others ≡ [])
-      → (kind : CertificateType) (octets : List ℕ) → IsDer (written s.0) → IsSpelledWhole octets (wrapped kind (encoding (written s.0))) → IsMadeSignature judge octets file_hash)
-  made_files (Ok s) = λ m info has pairs root kind octets der file. made_file s.0.signed kind octets der file m info has pairs root
-  made_files (Err e) = tt
+  made_by : (value : Pkcs7Certificate) (kind : CertificateType) (octets : List ℕ) → IsDer (pkcs7 value) → IsSpelledWhole octets (wrapped kind (encoding (pkcs7 value)))
+      → (m : IsMadeOf (arithmetic judge signs pair) f hash file_hash name key (signed_data_elements value.signed_data)) → IsMadeWith pair key m.first m.others → Carries octets m.first m.others
+  made_by value kind octets der file m by =
+      let front = first_carried m.first m.others m.program.carried m.program.are_carried by.carried in (
+        front.0,
+        subst (AreCarried (m.first ∷ m.others)) front.1 m.program.are_carried,
+        record {
+          kind = kind;
+          value = value;
+          der = der;
+          file = file;
+          hash = hash;
+          name = name;
+          basic = m.basic;
+          made = made_for value m by front.0 front.1;
+        },
+      )
+
+  same_first : (a b : CertificateElements) (xs ys : List CertificateElements) → a ∷ xs ≡ b ∷ ys → (a ≡ b) × (xs ≡ ys)
+  same_first a b xs ys e = (cc, cc)
+
+  pub made_file : (value : Pkcs7Certificate) → IsMadeOf (arithmetic judge signs pair) f hash file_hash name key (signed_data_elements value.signed_data)
+      → (first : CertificateElements) (others : List CertificateElements) → IsBagOf f (first ∷ others) → IsMadeWith pair key first others
+      → (kind : CertificateType) (octets : List ℕ) → IsDer (pkcs7 value) → IsSpelledWhole octets (wrapped kind (encoding (pkcs7 value)))
+      → Carries octets first others
+  made_file value m first others bag by kind octets der file =
+      let same = same_first first m.first others m.others (one_bag _ (first ∷ others) (m.first ∷ m.others) bag m.signer.bag) in
+      subst (λ (c : CertificateElements). Carries octets c others) (sym same.0)
+      (subst (Carries octets m.first) (sym same.1)
+      (made_by value kind octets der file m (subst (IsMadeWith pair key m.first) same.1 (subst (λ (c : CertificateElements). IsMadeWith pair key c others) same.0 by))))

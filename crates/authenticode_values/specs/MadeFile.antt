@@ -1,11 +1,15 @@
 -- A signature file as it is made.
-use Rattle.std.specs.Prelude.{◌≡◌, ◌≢◌, ⊤, ℕ, List, [], ◌∷◌, Option, Some, true, false}
+use Rattle.std.specs.Prelude.{◌≡◌, ◌≢◌, ⊤, ℕ, List, [], ◌∷◌, Option, Some, Result, Ok, IfOk, true, false}
 use Rattle.cms_types.specs.Pkcs7.{pkcs7}
 use Rattle.cms_types.specs.SignedData.{signed_data_elements}
+use Rattle.cms_types.specs.SignedDataElements.{SignedDataElements}
 use Rattle.cms_types.specs.declared.pkcs7.Pkcs7Certificate.{Pkcs7Certificate}
 use Rattle.der_core.specs.Encoding.{encoding, IsDer}
 use Rattle.der_core.specs.Structure.{Fits}
+use Rattle.key_core.specs.Rules.{AreOneUnlessMemory}
+use Rattle.key_core.specs.Signing.{IsKeyPair, Pair}
 use Rattle.key_core.specs.Verifying.{Judge, Accepts}
+use Rattle.key_core.specs.declared.private_key.PrivateKey.{PrivateKey}
 use Rattle.key_types.specs.declared.key_info.SubjectPublicKeyInfo.{SubjectPublicKeyInfo}
 use Rattle.sig_core.specs.ShaVariant.{hash_of}
 use Rattle.sig_core.specs.declared.hash.HashAlgorithm.TheVariants.{SHA2_224}
@@ -15,9 +19,13 @@ use Rattle.wincert_core.specs.declared.kinds.CertificateType.{CertificateType}
 use Rattle.wincert_core.specs.declared.kinds.RevisionType.TheVariants.{WinCertificateRevision20}
 use Rattle.x509_core.specs.Link.{HasKey}
 use Rattle.x509_types.specs.CertificateElements.{CertificateElements, AreCertificateFields}
-use Rattle.authenticode_core.specs.SigningRules.{IsForCodeSigning}
+use Rattle.authenticode_core.specs.Basic.{HasSignedData, VouchesFor}
+use Rattle.authenticode_core.specs.SigningRules.{IsBagOf, IsForCodeSigning}
+use Rattle.authenticode_core.specs.Trusted.{IsTrusted}
 use Rattle.authenticode_core.specs.declared.accepted.Accepted.{Accepted}
 use Rattle.authenticode_core.specs.declared.accepted.Excuse.TheVariants as excuses
+use Rattle.authenticode_core.specs.declared.error.CheckError.{CheckError}
+use Rattle.authenticode_core.specs.declared.error.CheckError.TheVariants.{Memory}
 use Rattle.authenticode_core.specs.declared.policy.Policy.{Policy}
 use Rattle.making_core.specs.Carried.{IsRootCertificate}
 use Rattle.making_core.specs.MadeSignature.{signature_made}
@@ -51,10 +59,9 @@ pub record IsSpelledWhole (octets : List ℕ) (w : WinCert) : Type 0 where
 
 -- The signed data is a signature of the program by the first of these certificates, which it
 -- carries: it may sign code, and its key accepts the signature.
-pub record IsMadeFor (judge : Judge) (p : Program) (value : Pkcs7Certificate) : Type 0 where
+pub record IsMadeFor (judge : Judge) (p : Program) (first : CertificateElements)
+    (others : List CertificateElements) (value : Pkcs7Certificate) : Type 0 where
   pub supported : hash_of p.hash ≢ SHA2_224
-  pub first : CertificateElements
-  pub others : List CertificateElements
   pub are : AreCertificates (first ∷ others)
   pub rootless : IsAloneOrNoRoot (first ∷ others)
   pub code_signing : IsForCodeSigning (first ∷ others) first
@@ -65,9 +72,11 @@ pub record IsMadeFor (judge : Judge) (p : Program) (value : Pkcs7Certificate) : 
   pub key : HasKey first info
   pub accepted : Accepts judge (algorithm_for p) info (message_for p) signature
 
--- The octets are a signature file as it is made for the digest of a file: of revision 2.0 and of
--- any type, with signed data of the form in which a program of some name, or of none, is signed.
-pub record IsMadeSignature (judge : Judge) (octets : List ℕ) (file_hash : List ℕ) : Type 0 where
+-- The octets are a signature file as it is made by the first of these certificates, which it
+-- carries, for the digest of a file: of revision 2.0 and of any type, with signed data of the form
+-- in which a program of some name, or of none, is signed.
+pub record IsMadeSignature (judge : Judge) (first : CertificateElements)
+    (others : List CertificateElements) (octets : List ℕ) (file_hash : List ℕ) : Type 0 where
   pub kind : CertificateType
   pub value : Pkcs7Certificate
   pub der : IsDer (pkcs7 value)
@@ -75,7 +84,18 @@ pub record IsMadeSignature (judge : Judge) (octets : List ℕ) (file_hash : List
   pub hash : ShaVariant
   pub name : Option (List ℕ)
   pub basic : IsBasicName name
-  pub made : IsMadeFor judge (program_of hash file_hash name) value
+  pub made : IsMadeFor judge (program_of hash file_hash name) first others value
+
+-- The private key pairs with that of the first certificate, which is no root's unless it stands
+-- alone.
+pub record IsMadeWith (pair : Pair) (key : PrivateKey) (first : CertificateElements)
+    (others : List CertificateElements) : Type 0 where
+  pub info : SubjectPublicKeyInfo
+  pub has : HasKey first info
+  pub pairs : IsKeyPair pair key info
+  pub carried : IsRootCertificate first → others ≡ []
+
+-- ---- its check
 
 -- The policy asks for basic validation alone, with this digest of the file.
 pub record IsBasicAlone (policy : Policy) (file_hash : List ℕ) : Type 0 where
@@ -86,3 +106,16 @@ pub record IsBasicAlone (policy : Policy) (file_hash : List ℕ) : Type 0 where
 -- the first certificate is the signer's, and no path and no excuse are told
 abbrev pub by_the_first : Accepted
 by_the_first = record { signer = Some 0; path = []; excuse = excuses.None }
+
+-- The answer is of the signed data in the octets, which carries these certificates and no others,
+-- and vouches for the digest of a file by the first of them: it is accepted exactly where it is
+-- trusted under the policy, want of memory aside.
+pub record IsCheckedBy (judge : Judge) (policy : Policy) (certificates : List CertificateElements)
+    (octets file_hash : List ℕ) (answer : Result Accepted CheckError) : Type 0 where
+  pub f : SignedDataElements
+  pub held : HasSignedData octets f
+  pub bag : IsBagOf f certificates
+  pub vouches : VouchesFor judge f file_hash 0
+  pub trusted : IfOk answer (IsTrusted judge policy f)
+  pub accepted : (a : Accepted) → IsTrusted judge policy f a
+      → AreOneUnlessMemory Memory answer (Ok a)

@@ -1,16 +1,17 @@
 //! Signature files as they are made: written, read again, and checked.
 
-ghost use Rattle.std.specs.Prelude.{◌≡◌, List, Ok, Err, ℕ, MatchResult};
+ghost use Rattle.std.specs.Prelude.{◌≡◌, ◌∷◌, List, Ok, Err, ℕ, MatchResult};
 ghost use Rattle.der_core.specs.Encoding.{encoding, IsDer};
 ghost use Rattle.wincert_core.specs.Refusal.{contents_in, current, encoded};
 ghost use Rattle.wincert_core.specs.declared.error.WinCertificateError.{WinCertificateError};
 ghost use Rattle.wincert_core.specs.declared.kinds.CertificateType.{CertificateType};
+ghost use Rattle.x509_types.specs.CertificateElements.{CertificateElements};
 ghost use Rattle.authenticode_core.specs.ContentRefusal.{told_of_header};
 ghost use Rattle.authenticode_core.specs.Trusted.{IsAnswer, RefusesForm};
 ghost use Rattle.authenticode_core.specs.declared.error.CheckError.{CheckError};
 ghost use Rattle.authenticode_core.specs.declared.error.CheckError.TheVariants.{Memory};
 ghost use Rattle.authenticode_values.specs.FileRefusals.{GivesFile, GivesSignature, RefusesHeader};
-ghost use Rattle.authenticode_values.specs.MadeFile.{IsBasicAlone, IsMadeSignature, IsSpelledWhole, by_the_first, wrapped};
+ghost use Rattle.authenticode_values.specs.MadeFile.{IsBasicAlone, IsCheckedBy, IsMadeSignature, IsSpelledWhole, by_the_first, wrapped};
 ghost use Rattle.authenticode_values.specs.Pkcs7.{written};
 ghost use Rattle.authenticode_values.specs.declared.pkcs7.Pkcs7.{Pkcs7};
 
@@ -49,8 +50,8 @@ pub fn decode_signature(alloc: Global, octets: &[u8]) -> Result<AuthenticodeSign
     read_file(alloc, octets)
 }
 
-/// The check of a signature file. One that is made is accepted under basic validation alone with
-/// its own digest, unless memory runs out.
+/// The check of a signature file. One that is made is checked over the certificates that it
+/// carries, and accepted under basic validation alone with its own digest, unless memory runs out.
 pub fn check_made<S: Scheme>(
     alloc: Global,
     octets: &[u8],
@@ -61,9 +62,15 @@ pub fn check_made<S: Scheme>(
     // A refusal of the header, of what the certificate is or of the form comes whatever memory
     // there is.
     ensures refused { (e : CheckError) → RefusesForm policy.now octets.now e → result ≡ Err e }
+    // What is made is checked over its certificates, whatever the policy asks for.
+    ensures over { (first : CertificateElements) (others : List CertificateElements)
+        (file_hash : List ℕ)
+        → IsMadeSignature (S.judge scheme.now) first others octets.now file_hash
+        → IsCheckedBy (S.judge scheme.now) policy.now (first ∷ others) octets.now file_hash result }
     // What is made is accepted.
-    ensures made { (file_hash : List ℕ) → IsBasicAlone policy.now file_hash
-        → IsMadeSignature (S.judge scheme.now) octets.now file_hash
+    ensures made { (first : CertificateElements) (others : List CertificateElements)
+        (file_hash : List ℕ) → IsBasicAlone policy.now file_hash
+        → IsMadeSignature (S.judge scheme.now) first others octets.now file_hash
         → MatchResult result (λ a. a ≡ by_the_first) (λ e. e ≡ Memory) }
 {
     check_wincert(alloc, octets, policy, scheme)

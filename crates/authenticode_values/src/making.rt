@@ -9,20 +9,20 @@ ghost use Rattle.der_core.specs.DerElement.{DerElement};
 ghost use Rattle.der_core.specs.Encoding.{encoding, IsDer};
 ghost use Rattle.der_core.specs.Placed.{AreDer};
 ghost use Rattle.key_core.specs.declared.signature_algorithm.SignatureAlgorithm.TheVariants.{RsaPkcs1v15};
-ghost use Rattle.key_core.specs.Signing.{IsKeyPair, arithmetic};
-ghost use Rattle.key_types.specs.declared.key_info.SubjectPublicKeyInfo.{SubjectPublicKeyInfo};
+ghost use Rattle.key_core.specs.Signing.{arithmetic};
 ghost use Rattle.sig_core.specs.ShaVariant.{hash_of};
 ghost use Rattle.sig_core.specs.declared.hash.HashAlgorithm.TheVariants.{SHA2_224};
 ghost use Rattle.wincert_core.specs.declared.kinds.CertificateType.{CertificateType};
-ghost use Rattle.x509_core.specs.Link.{HasKey};
 ghost use Rattle.x509_core.specs.Steps.{AreTaken, IsFirstUntaken, RefusesBySteps};
+ghost use Rattle.x509_types.specs.CertificateElements.{CertificateElements};
+ghost use Rattle.authenticode_core.specs.SigningRules.{IsBagOf};
 ghost use Rattle.authenticode_core.specs.declared.error.AuthenticodeError.TheVariants as errors;
-ghost use Rattle.making_core.specs.Carried.{IsRootCertificate, elements_of};
+ghost use Rattle.making_core.specs.Carried.{AreCarried, elements_of};
 ghost use Rattle.making_core.specs.MadeContent.{attributes_message, content_digest, data_element, opus_element, program_attributes};
 ghost use Rattle.making_core.specs.MadeSignature.{attributes_element};
 ghost use Rattle.making_core.specs.SignedProgram.{IsBasicName, IsSignature, IsSignedProgram, program_of};
 ghost use Rattle.authenticode_values.specs.Making.{IsMadeOf, hash_step, making_steps, name_step, sealing_step, program_steps, writing_step};
-ghost use Rattle.authenticode_values.specs.MadeFile.{IsMadeSignature, IsSpelledWhole, wrapped};
+ghost use Rattle.authenticode_values.specs.MadeFile.{IsMadeSignature, IsMadeWith, IsSpelledWhole, wrapped};
 ghost use Rattle.authenticode_values.specs.MadeProgram.{program_for};
 ghost use Rattle.authenticode_values.specs.Pkcs7.{fields_of, written};
 
@@ -79,18 +79,15 @@ impl AuthenticodeSignature {
             (option_copied program_name.entry)
             (program_of hash_algo file_hash.now (option_copied program_name.entry))
             private_key.now)) }
-        // Made by a key of the first certificate, which is no root's unless it stands alone, its
-        // file is a signature file as it is made.
-        ensures file { IfOk result (λ s. (m : IsMadeOf
-            (arithmetic (S.judge scheme.now) (S.signs scheme.now) (S.pair scheme.now))
-            (fields_of pkcs7.now) hash_algo file_hash.now (option_copied program_name.entry)
-            private_key.now (fields_of s.0))
-            → (info : SubjectPublicKeyInfo) → HasKey m.first info
-            → IsKeyPair (S.pair scheme.now) private_key.now info
-            → (IsRootCertificate m.first → m.others ≡ [])
+        // Its file is a signature file as it is made, by the first certificate of all and others
+        // that it carries.
+        ensures file { IfOk result (λ s. (first : CertificateElements)
+            (others : List CertificateElements) → IsBagOf (fields_of pkcs7.now) (first ∷ others)
+            → IsMadeWith (S.pair scheme.now) private_key.now first others
             → (certificate_type : CertificateType) (octets : List ℕ) → IsDer (written s.0)
             → IsSpelledWhole octets (wrapped certificate_type (encoding (written s.0)))
-            → IsMadeSignature (S.judge scheme.now) octets file_hash.now) }
+            → (carried : List CertificateElements) × AreCarried (first ∷ others) (first ∷ carried)
+            × IsMadeSignature (S.judge scheme.now) first carried octets file_hash.now) }
         // A name past U+FFFF, and SHA-224 where there is no name, are told whatever memory there
         // is.
         ensures refused { (IsBasicName (option_copied program_name.entry) → ⊥)
@@ -99,53 +96,19 @@ impl AuthenticodeSignature {
             → result ≡ Err
             (errors.UnsupportedHashAlgorithmError (record { algorithm = SHA2_224 })) }
     {
-        made(
-            alloc,
-            pkcs7,
+        let opus = opus_for(alloc, program_name)?;
+        let algorithm = algorithm_of(hash_algo)?;
+        let program = Program {
+            hash: hash_algo,
+            algorithm,
             file_hash,
-            hash_algo,
-            private_key,
-            program_name,
-            scheme,
-        )
+            opus: &opus,
+        };
+        let bag = pkcs7.decode_certificates(alloc)?;
+        let first = first_signer(&bag)?;
+        let made = signed(alloc, &bag, first, &program, private_key, scheme)?;
+        Ok(AuthenticodeSignature(made))
     }
-}
-
-/// The signature, or why it isn't made.
-fn made<S: Scheme>(
-    alloc: Global,
-    pkcs7: &Pkcs7,
-    file_hash: &[u8],
-    hash_algo: ShaVariant,
-    private_key: &PrivateKey,
-    program_name: Option<&str>,
-    scheme: &S,
-) -> Result<AuthenticodeSignature, AuthenticodeError>
-    ensures answer { MatchResult result
-        (λ s. IsMadeOf (arithmetic (S.judge scheme.now) (S.signs scheme.now) (S.pair scheme.now))
-        (fields_of pkcs7.now) hash_algo file_hash.now (option_copied program_name.entry)
-        private_key.now (fields_of s.0))
-        (RefusesBySteps errors.Memory (making_steps (S.signs scheme.now) (fields_of pkcs7.now)
-        (option_copied program_name.entry)
-        (program_of hash_algo file_hash.now (option_copied program_name.entry))
-        private_key.now)) }
-    ensures refused { (IsBasicName (option_copied program_name.entry) → ⊥)
-        → result ≡ Err errors.ProgramNameCharSet }
-    ensures unsupported { option_copied program_name.entry ≡ None → hash_of hash_algo ≡ SHA2_224
-        → result ≡ Err (errors.UnsupportedHashAlgorithmError (record { algorithm = SHA2_224 })) }
-{
-    let opus = opus_for(alloc, program_name)?;
-    let algorithm = algorithm_of(hash_algo)?;
-    let program = Program {
-        hash: hash_algo,
-        algorithm,
-        file_hash,
-        opus: &opus,
-    };
-    let bag = pkcs7.decode_certificates(alloc)?;
-    let first = first_signer(&bag)?;
-    let made = signed(alloc, &bag, first, &program, private_key, scheme)?;
-    Ok(AuthenticodeSignature(made))
 }
 
 /// What is said of the program.
