@@ -92,7 +92,8 @@ pub record IsUnlinkedToken (judge : Judge) (bag : List CertificateElements)
 
 -- ---- excuses of a certificate of a signer in a bag, which has expired
 
--- A token stands beside the signature, and a certificate that could have made it is linked.
+-- A token stands beside the signature, some certificate of it names time stamping, and its first
+-- one is linked.
 pub record IsStamped (judge : Judge) (f : SignedDataElements) : Type 0 where
   pub t : SignedDataElements
   pub has : HasToken f t
@@ -108,7 +109,7 @@ IsExcused judge f bag c excuses.Bag = (NamesLifetime c → ⊥) × NamesTimeStam
 IsExcused judge f bag c excuses.Token =
     (NamesLifetime c → ⊥) × (NamesTimeStamping bag → ⊥) × IsStamped judge f
 
--- no token stands there whose certificates could have made it
+-- no token stands there with a certificate that names time stamping
 abbrev pub IsUnstamped : SignedDataElements → Type 0
 IsUnstamped f =
     (t : SignedDataElements) (bag : List CertificateElements) → HasToken f t → IsForStamping t bag
@@ -120,8 +121,8 @@ abbrev pub HasNoExcuse : SignedDataElements → List CertificateElements → Cer
     → Type 0
 HasNoExcuse f bag c = NamesLifetime c ⊎ ((NamesTimeStamping bag → ⊥) × IsUnstamped f)
 
--- A token stands there, and a certificate that could have made it isn't linked, which the error
--- tells.
+-- A token stands there, some certificate of it names time stamping, and its first one isn't linked,
+-- which the error tells.
 pub record HasBadStamp (judge : Judge) (f : SignedDataElements) (bag : List CertificateElements)
     (c : CertificateElements) (e : AuthenticodeError) : Type 0 where
   pub mortal : NamesLifetime c → ⊥
