@@ -1,6 +1,6 @@
 //! The certificates that signed data carries, where their octets lie.
 
-ghost use Rattle.std.specs.Prelude.{◌≡◌, ℕ, suc, ◌+◌, ◌<◌, ◌^◌, List, [], length, MatchOption, IfSome};
+ghost use Rattle.std.specs.Prelude.{◌≡◌, ℕ, suc, ◌+◌, ◌<◌, ◌^◌, List, [], length, None, MatchOption, IfSome};
 ghost use Rattle.std.specs.Coded.{Coded-set};
 ghost use Rattle.der_core.specs.Facts.Codes.{coded_element};
 ghost use Rattle.der_core.specs.Lent.{at_option};
@@ -55,6 +55,8 @@ impl<'a> Bag<'a> {
             (λ _. length (left_members self.new.members) < length (left_members self.old.members)) }
         ensures place { IfSome result
             (λ next. (next.place ≡ self.old.place) × (self.new.place ≡ suc next.place)) }
+        // Behind the last certificate the bag stays as it is.
+        ensures ended { result ≡ None → self.new ≡ self.old }
         ensures begins { MatchOption result (IsBag (left_members self.old.members) [])
             (λ next. BeginsBag (left_members self.old.members) (view_elements next.certificate)
             (left_members self.new.members)) }

@@ -1,6 +1,6 @@
 //! The walk from the certificate of a signer to those of its issuers, where their octets lie.
 
-ghost use Rattle.std.specs.Prelude.{◌≡◌, ◌↔◌, ℕ, suc, ◌<◌, List, [], length, IsTrue, IfSome, MatchOption};
+ghost use Rattle.std.specs.Prelude.{◌≡◌, ◌↔◌, ℕ, suc, ◌<◌, List, [], length, None, IsTrue, IfSome, MatchOption};
 ghost use Rattle.der_core.specs.DerElement.{DerElement};
 ghost use Rattle.x509_types.specs.CertificateElements.{CertificateElements};
 ghost use Rattle.x509_types.specs.CertificateView.{view_elements};
@@ -62,6 +62,8 @@ impl<'a> IssuerWalk<'a> {
     pub fn next(&mut self) -> Option<BagCertificate<'a>>
         ensures fewer { IfSome result (λ _. length (left_members self.new.bag.members)
             < length (left_members self.old.bag.members)) }
+        // Behind its last certificate the walk stays as it is.
+        ensures ended { result ≡ None → self.new ≡ self.old }
         ensures next { (bag : List CertificateElements) (from : ℕ) (subject : DerElement)
             → LooksFrom self.old bag from subject
             → MatchOption result (IsWalkFrom bag from subject []) (λ next. IsLeastPlace bag
@@ -69,8 +71,12 @@ impl<'a> IssuerWalk<'a> {
             × LooksFrom self.new bag (suc next.place)
             (view_elements next.certificate).tbs.issuer) }
     {
-        let next = self.bag.next_wanted(Wanted::Subject(self.subject))?;
-        self.subject = next.certificate.issuer();
+        let mut bag = self.bag;
+        let next = bag.next_wanted(Wanted::Subject(self.subject))?;
+        *self = IssuerWalk {
+            bag,
+            subject: next.certificate.issuer(),
+        };
         Some(next)
     }
 }
