@@ -1,6 +1,6 @@
--- Why the expiry of a signer's certificate is excused: for a time stamp, or for a certificate that
--- could have made one (Windows Authenticode Portable Executable Signature Format). The signature
--- and the time of a stamp aren't asked.
+-- Why the expiry of a signer's certificate is excused: a certificate for time stamping in the bag,
+-- or a token that has one and whose first certificate is linked (Windows Authenticode Portable
+-- Executable Signature Format). The signature and the time of a stamp aren't checked.
 use Rattle.std.specs.Prelude.{◌≡◌, ◌⊎◌, ℕ, zero, suc, List, [], ◌∷◌, length, false}
 use Rattle.asn1_types.specs.declared.oids.TheConstants.{KP_LIFETIME_SIGNING, KP_TIME_STAMPING, RFC3161_COUNTER_SIGN}
 use Rattle.cms_types.specs.Pkcs7.{pkcs7}

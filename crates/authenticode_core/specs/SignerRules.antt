@@ -110,7 +110,7 @@ pub record IsUnexcused (policy : Policy) (f : SignedDataElements)
   pub outside : IsOutside (window_of policy) signer cause
   pub told : e ≡ errors.CertError cause
 
--- The certificate of the signer has expired, and the first one of the token that would excuse it
+-- The signer's certificate has expired, and the first certificate of the token that would excuse it
 -- isn't linked.
 pub record IsBadlyStamped (judge : Judge) (policy : Policy) (f : SignedDataElements)
     (e : AuthenticodeError) : Type 0 where

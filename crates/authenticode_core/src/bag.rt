@@ -55,7 +55,7 @@ impl<'a> Bag<'a> {
             (λ _. length (left_members self.new.members) < length (left_members self.old.members)) }
         ensures place { IfSome result
             (λ next. (next.place ≡ self.old.place) × (self.new.place ≡ suc next.place)) }
-        // Behind the last certificate the bag stays as it is.
+        // After None nothing has changed.
         ensures ended { result ≡ None → self.new ≡ self.old }
         ensures begins { MatchOption result (IsBag (left_members self.old.members) [])
             (λ next. BeginsBag (left_members self.old.members) (view_elements next.certificate)

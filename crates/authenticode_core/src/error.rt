@@ -77,8 +77,8 @@ pub enum AuthenticodeError {
     },
     /// The certificate of the signer isn't one for code signing.
     NoEKUCodeSigning,
-    /// The certificate of the signer has expired, and the first one of the token that would excuse
-    /// it isn't linked. Never with want of memory.
+    /// The signer's certificate has expired, and the first certificate of the token that would
+    /// excuse it isn't linked. Never wraps `Memory`.
     InvalidTimestampCert(CertError),
     /// The name of a program has a character past U+FFFF.
     ProgramNameCharSet,

@@ -22,7 +22,6 @@ use content_types::CONTENT;
 use der_core::tag::{OCTET_STRING, SEQUENCE};
 use der_core::{Elem, Kids, explicit_at, is_same, leaf_at, two_kids};
 
-/// The tag of a content under its type.
 /// The version of signed data (RFC 2315 9.1).
 const VERSION: u8 = 1;
 

@@ -62,7 +62,7 @@ impl<'a> IssuerWalk<'a> {
     pub fn next(&mut self) -> Option<BagCertificate<'a>>
         ensures fewer { IfSome result (λ _. length (left_members self.new.bag.members)
             < length (left_members self.old.bag.members)) }
-        // Behind its last certificate the walk stays as it is.
+        // After None nothing has changed.
         ensures ended { result ≡ None → self.new ≡ self.old }
         ensures next { (bag : List CertificateElements) (from : ℕ) (subject : DerElement)
             → LooksFrom self.old bag from subject

@@ -9,7 +9,7 @@ use Rattle.picky_check.specs.Counts.{RisesBy}
 use Rattle.picky_check.specs.Limits.{longest_file, IsWholeFile, IsLongFile, IsMissingFile, AreWholeFiles, HasFiles, HasLongFile}
 use Rattle.picky_check.specs.ReadFiles.{AreUnread, FindsLongFile, HandsOut, total_length}
 use Rattle.picky_check.specs.Shelf.{Files, ShelfState, file_of}
-use Rattle.picky_check.proofs.Reading.{has_risen_since, rises_more}
+use Rattle.picky_check.proofs.Reading.{goes_further, has_risen_since, rises_more}
 
 -- ---- lists
 
@@ -95,10 +95,11 @@ module _ (before between after : ShelfState) (name : List ℕ) (names : List (Li
   pub unread_first : (e ≡ file.Fault → HasRisen before.faults after.faults)
       → (before.is_quiet → IsSome (file_of before.files name) → e ≢ file.Fault)
       → (e ≡ file.TooLong → HandsOut (longest_file + 1) before after)
+      → GoesOn before.given after.given
       → (e ≡ file.TooLong → IsSome before.files → IsLongFile before.files name)
       → (IsMissingFile before.files name → e ≡ file.Fault)
       → AreUnread before after (name ∷ names) e
-  unread_first cause no_fault given long missing = record {
+  unread_first cause no_fault given counted long missing = record {
     failed = cause;
     quiet = λ q there. no_fault q (All-head (λ (n : List ℕ). IsSome (file_of before.files n)) name names there);
     long = λ ahead behind other are l q there. no_fault q (there_first ahead behind other are l there);
@@ -111,6 +112,7 @@ module _ (before between after : ShelfState) (name : List ℕ) (names : List (Li
       are_files = tt;
       is_long = long l;
       given = given l;
+      counted = counted;
     };
     missing = long_ahead long missing;
   }
@@ -119,6 +121,7 @@ module _ (before between after : ShelfState) (name : List ℕ) (names : List (Li
   module _ (octets : List ℕ) (whole : IsWholeFile before.files name octets) (same : between.files ≡ before.files)
       (quiet : before.is_quiet → IsSome (file_of before.files name) → between.is_quiet)
       (faults : GoesOn before.faults between.faults) (given : HandsOut (length octets) before between)
+      (counted : GoesOn before.given between.given)
       (unread : AreUnread between after names e) where
     long_behind : (ahead behind : List (List ℕ)) (other : List ℕ) → name ∷ names ≡ ahead ++ other ∷ behind
         → IsMissingFile before.files other → e ≡ file.TooLong → HasLongFile before.files ahead
@@ -149,6 +152,7 @@ module _ (before between after : ShelfState) (name : List ℕ) (names : List (Li
       are_files = (whole, whole_along between.files before.files h.ahead h.contents same h.are_files);
       is_long = λ t. subst (λ (f : Option Files). IsLongFile f h.name) same (h.is_long (subst (λ (f : Option Files). IsSome f) (sym same) t));
       given = rises_with octets h.contents (longest_file + 1) before.given between.given after.given given h.given;
+      counted = goes_further before.given between.given after.given counted h.counted;
     }
 
     pub unread_behind : AreUnread before after (name ∷ names) e

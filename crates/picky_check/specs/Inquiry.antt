@@ -75,8 +75,8 @@ pub record IsInquiry (before after : ShelfState) (job : Job) (result : Result Re
   pub missing : (ahead behind : List (List ℕ)) (name : List ℕ)
       → files_of job ≡ ahead ++ name ∷ behind → IsMissingFile before.files name
       → GivesStop Shelf result ⊎ ((result ≡ Err TooLong) × HasLongFile before.files ahead)
-  -- a file that is longer than is read ends the run, unless the shelf fails: a quiet one that has
-  -- those ahead of it doesn't
+  -- A file that is too long ends the run so, unless the shelf fails; a quiet shelf that has the
+  -- files ahead of it doesn't.
   pub too_long : (ahead behind : List (List ℕ)) (name : List ℕ)
       → files_of job ≡ ahead ++ name ∷ behind → IsLongFile before.files name
       → GivesStop TooLong result

@@ -12,10 +12,10 @@ pub mod Options
 pub mod Words
 pub mod Policies
 pub mod Jobs
+pub mod Statuses
 pub mod Report
 pub mod ChainAnswer
 pub mod Answer
-pub mod Statuses
 pub mod Stops
 pub mod Inquiry
 pub mod Run

@@ -2,7 +2,7 @@
 use Rattle.std.specs.Prelude.{◌≡◌, ◌≢◌, ℕ, ◌+◌, List, ◌∷◌, ◌++◌, length, sum_by, IsSome}
 use Rattle.picky_check.specs.declared.error.FileError.{FileError}
 use Rattle.picky_check.specs.declared.error.FileError.TheVariants as file
-use Rattle.authenticode_core.specs.Counts.{HasRisen}
+use Rattle.authenticode_core.specs.Counts.{GoesOn, HasRisen}
 use Rattle.picky_check.specs.Counts.{RisesBy}
 use Rattle.picky_check.specs.Limits.{longest_file, IsLongFile, IsMissingFile, AreWholeFiles, HasFiles, HasLongFile}
 use Rattle.picky_check.specs.Shelf.{ShelfState}
@@ -15,13 +15,15 @@ total_length contents = sum_by (λ octets. length octets) contents
 abbrev pub HandsOut : (number : ℕ) (before after : ShelfState) → Type 0
 HandsOut number before after = RisesBy number before.given after.given
 
--- These are the whole files of these names, and just their octets were handed out.
+-- These are the whole files of these names, as far as the shelf exposes its files, and exactly
+-- their octets were handed out.
 pub record AreRead (before after : ShelfState) (names contents : List (List ℕ)) : Type 0 where
   pub are_files : AreWholeFiles before.files names contents
   pub given : HandsOut (total_length contents) before after
 
--- One of the files is longer than is read, where the shelf tells it. Just the octets of the files
--- ahead of it were handed out, each read whole, and of itself one more than the longest file has.
+-- One of the files is longer than is read, as far as the shelf exposes its files. Exactly the
+-- octets of the files ahead of it were handed out, and of itself one more than the longest file
+-- has.
 pub record FindsLongFile (before after : ShelfState) (names : List (List ℕ)) : Type 0 where
   pub ahead : List (List ℕ)
   pub name : List ℕ
@@ -31,13 +33,15 @@ pub record FindsLongFile (before after : ShelfState) (names : List (List ℕ)) :
   pub are_files : AreWholeFiles before.files ahead contents
   pub is_long : IsSome before.files → IsLongFile before.files name
   pub given : HandsOut (total_length contents + (longest_file + 1)) before after
+  -- so it rose by more than the longest file has, or stands at its last value
+  pub counted : GoesOn before.given after.given
 
 -- Why the files of these names weren't all read.
 pub record AreUnread (before after : ShelfState) (names : List (List ℕ))
     (e : FileError) : Type 0 where
   -- the shelf failed
   pub failed : e ≡ file.Fault → HasRisen before.faults after.faults
-  -- A quiet shelf doesn't that has each of them, or each ahead of one that is longer than is read.
+  -- A quiet shelf that has all of them, or all ahead of one that is too long, doesn't fail.
   pub quiet : before.is_quiet → HasFiles before.files names → e ≢ file.Fault
   pub long : (ahead behind : List (List ℕ)) (name : List ℕ) → names ≡ ahead ++ name ∷ behind
       → IsLongFile before.files name → before.is_quiet → HasFiles before.files ahead

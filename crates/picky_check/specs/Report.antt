@@ -7,6 +7,7 @@ use Rattle.authenticode_core.specs.declared.error.CheckError.{CheckError}
 use Rattle.authenticode_core.specs.declared.error.CheckError.TheVariants as check
 use Rattle.authenticode_core.specs.RefusalName.{refusal_name}
 use Rattle.sig_core.specs.VerdictTable.{newline}
+use Rattle.picky_check.specs.Statuses as statuses
 use Rattle.x509_core.specs.ErrorName.{cert_error_name}
 use Rattle.x509_core.specs.declared.error.CertError.{CertError}
 use Rattle.x509_core.specs.declared.error.CertError.TheVariants as cert
@@ -72,7 +73,7 @@ report_line (OfChain (Err e)) = refused_chain_line e
 
 -- the status of a run that reports it
 abbrev pub status_of : Answer → ℕ
-status_of (OfSignature (Ok accepted)) = 0
-status_of (OfSignature (Err e)) = 1
-status_of (OfChain (Ok count)) = 0
-status_of (OfChain (Err e)) = 1
+status_of (OfSignature (Ok accepted)) = statuses.accepted
+status_of (OfSignature (Err e)) = statuses.refused
+status_of (OfChain (Ok count)) = statuses.accepted
+status_of (OfChain (Err e)) = statuses.refused

@@ -20,7 +20,8 @@ pub record IsRunAnswer (words : List (List ℕ)) (shelf shelf_now : ShelfState)
   pub is_answer : ForJob words (λ job. AnswersRead shelf shelf_now job answer)
   pub reportable : WantsMemory answer → ⊥
 
--- An answer with this status is reported: the sink has its line more.
+-- An answer with this status is reported: if the sink exposes its contents, exactly its line has
+-- been appended.
 pub record IsDelivered (words : List (List ℕ)) (shelf shelf_now : ShelfState)
     (out out_now : SinkState) (status : ℕ) : Type 0 where
   pub answer : Answer
@@ -28,7 +29,7 @@ pub record IsDelivered (words : List (List ℕ)) (shelf shelf_now : ShelfState)
   pub is_status : status_of answer ≡ status
   pub has_line : Appends out.held (report_line answer) out_now.held
 
--- An answer had a line that the sink didn't take whole. It took a front of the line, and its count
+-- An answer had a line that the sink didn't take whole. It took a prefix of the line, and its count
 -- of faults rose.
 pub record IsLost (words : List (List ℕ)) (shelf shelf_now : ShelfState)
     (out out_now : SinkState) : Type 0 where
@@ -46,7 +47,7 @@ pub record IsRun (words : List (List ℕ)) (shelf shelf_now : ShelfState) (out o
     (status : ℕ) : Type 0 where
   -- there is no other status
   pub bounded : status ≤ statuses.out_of_memory
-  -- an acceptance or a refusal is the answer, and the sink has its line more
+  -- an acceptance or a refusal is the answer, and its line is reported
   pub reported : status ≤ statuses.refused → IsDelivered words shelf shelf_now out out_now status
   -- the words ask for nothing, whatever memory there is
   pub usage : (status ≡ statuses.usage) ↔ AsksForNothing words
@@ -69,7 +70,8 @@ pub record IsRun (words : List (List ℕ)) (shelf shelf_now : ShelfState) (out o
   -- a file is longer than is read
   pub too_long : status ≡ statuses.too_long
       → ForJob words (λ job. FindsLongFile shelf shelf_now (files_of job))
-  -- such a file is too long, unless the shelf fails: a quiet one doesn't that has those ahead of it
+  -- A file that is too long ends the run so, unless the shelf fails; a quiet shelf that has the
+  -- files ahead of it doesn't.
   pub too_long_always : (job : Job) (ahead behind : List (List ℕ)) (name : List ℕ)
       → AsksFor words job → files_of job ≡ ahead ++ name ∷ behind → IsLongFile shelf.files name
       → ((status ≡ statuses.too_long) ⊎ (status ≡ statuses.out_of_memory))

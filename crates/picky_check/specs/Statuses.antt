@@ -1,4 +1,4 @@
--- The exit statuses of a run, as numbers: constants of the code with other values are refused.
+-- The exit statuses of a run.
 use Rattle.std.specs.Prelude.{ℕ}
 
 -- the signature or the chain is accepted

@@ -12,7 +12,7 @@ ghost use Rattle.picky_check.specs.Words.{AsksForNothing};
 
 use crate::inquiry::inquire;
 use crate::report::Report;
-use crate::stop::{ACCEPTED, OUT_OF_MEMORY, SHELF_FAILED, SINK_FAILED, USAGE};
+use crate::stop::{OUT_OF_MEMORY, SINK_FAILED, USAGE};
 use crate::{Shelf, Sink, write_report};
 use authenticode_core::one_signed_data;
 use std::alloc::Global;

@@ -16,7 +16,7 @@ returns-in_err-read_file-clause-unread g t c =
     c.as_str.result.now (map string_bytes (behind c.args.names.now)) c.in_err-read_file.field-0.0
     (λ fault. c.in_err-read_file.ensures.cause (ap Err fault))
     (λ quiet there fault. c.in_err-read_file.ensures.no_fault quiet there (ap Err fault))
-    (λ long. c.in_err-read_file.ensures.more_given (ap Err long))
+    (λ long. c.in_err-read_file.ensures.more_given (ap Err long)) c.in_err-read_file.ensures.counted_given
     (λ long. c.in_err-read_file.ensures.too_long (ap Err long))
     (λ missing. let e = c.in_err-read_file.ensures.missing missing in cc)))
 
@@ -28,7 +28,7 @@ returns-clause-unread g t c =
     (unread_behind (g.F.Shelf.state c.args.shelf.now) (g.F.Shelf.state c.read_file.new.shelf) (g.F.Shelf.state c.read_others.new.shelf)
     c.as_str.result.now (map string_bytes (behind c.args.names.now)) e c.in_ok-read_file.field-0.items
     c.in_ok-read_file.ensures.whole c.in_ok-read_file.ensures.same c.in_ok-read_file.ensures.quiet
-    c.in_ok-read_file.ensures.counted c.in_ok-read_file.ensures.given h)) c.read_others.ensures.unread
+    c.in_ok-read_file.ensures.counted c.in_ok-read_file.ensures.given c.in_ok-read_file.ensures.counted_given h)) c.read_others.ensures.unread
 
 pub returns-in_err-read_file-clause-once : goal.returns-in_err-read_file-clause-once
 returns-in_err-read_file-clause-once g t c =

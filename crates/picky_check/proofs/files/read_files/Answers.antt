@@ -12,7 +12,7 @@ returns-in_err-first-clause-read g c =
     c.args.names.now.first.now (c.args.names.now.second.now ∷ map string_bytes c.args.names.now.others.now) c.in_err-first.field-0.0
     (λ fault. c.in_err-first.ensures.cause (ap Err fault))
     (λ quiet there fault. c.in_err-first.ensures.no_fault quiet there (ap Err fault))
-    (λ long. c.in_err-first.ensures.more_given (ap Err long))
+    (λ long. c.in_err-first.ensures.more_given (ap Err long)) c.in_err-first.ensures.counted_given
     (λ long. c.in_err-first.ensures.too_long (ap Err long))
     (λ missing. let e = c.in_err-first.ensures.missing missing in cc))
 
@@ -21,12 +21,12 @@ returns-in_err-second-clause-read g c =
     let p = err_from_is_err_and c.from_residual-in_err-second.result c.from_residual-in_err-second.ensures.1 in
     rw (p.1, p.2) (unread_behind (g.F.Shelf.state c.args.shelf.now) (g.F.Shelf.state c.read_file.new.shelf) (g.F.Shelf.state c.read_file-2.new.shelf)
     c.args.names.now.first.now (c.args.names.now.second.now ∷ map string_bytes c.args.names.now.others.now) c.in_err-second.field-0.0 c.in_ok-first.first.items
-    c.in_ok-first.ensures.whole c.in_ok-first.ensures.same c.in_ok-first.ensures.quiet c.in_ok-first.ensures.counted c.in_ok-first.ensures.given
+    c.in_ok-first.ensures.whole c.in_ok-first.ensures.same c.in_ok-first.ensures.quiet c.in_ok-first.ensures.counted c.in_ok-first.ensures.given c.in_ok-first.ensures.counted_given
     (unread_first (g.F.Shelf.state c.read_file.new.shelf) (g.F.Shelf.state c.read_file.new.shelf) (g.F.Shelf.state c.read_file-2.new.shelf)
     c.args.names.now.second.now (map string_bytes c.args.names.now.others.now) c.in_err-second.field-0.0
     (λ fault. c.in_err-second.ensures.cause (ap Err fault))
     (λ quiet there fault. c.in_err-second.ensures.no_fault quiet there (ap Err fault))
-    (λ long. c.in_err-second.ensures.more_given (ap Err long))
+    (λ long. c.in_err-second.ensures.more_given (ap Err long)) c.in_err-second.ensures.counted_given
     (λ long. c.in_err-second.ensures.too_long (ap Err long))
     (λ missing. let e = c.in_err-second.ensures.missing missing in cc)))
 
@@ -35,10 +35,10 @@ returns-in_err-read_others-clause-read g c =
     let p = err_from_is_err_and c.from_residual-in_err-read_others.result c.from_residual-in_err-read_others.ensures.1 in
     rw (p.1, p.2) (unread_behind (g.F.Shelf.state c.args.shelf.now) (g.F.Shelf.state c.read_file.new.shelf) (g.F.Shelf.state c.read_others.new.shelf)
     c.args.names.now.first.now (c.args.names.now.second.now ∷ map string_bytes c.args.names.now.others.now) c.in_err-read_others.field-0.0 c.in_ok-first.first.items
-    c.in_ok-first.ensures.whole c.in_ok-first.ensures.same c.in_ok-first.ensures.quiet c.in_ok-first.ensures.counted c.in_ok-first.ensures.given
+    c.in_ok-first.ensures.whole c.in_ok-first.ensures.same c.in_ok-first.ensures.quiet c.in_ok-first.ensures.counted c.in_ok-first.ensures.given c.in_ok-first.ensures.counted_given
     (unread_behind (g.F.Shelf.state c.read_file.new.shelf) (g.F.Shelf.state c.read_file-2.new.shelf) (g.F.Shelf.state c.read_others.new.shelf)
     c.args.names.now.second.now (map string_bytes c.args.names.now.others.now) c.in_err-read_others.field-0.0 c.in_ok-second.second.items
-    c.in_ok-second.ensures.whole c.in_ok-second.ensures.same c.in_ok-second.ensures.quiet c.in_ok-second.ensures.counted c.in_ok-second.ensures.given
+    c.in_ok-second.ensures.whole c.in_ok-second.ensures.same c.in_ok-second.ensures.quiet c.in_ok-second.ensures.counted c.in_ok-second.ensures.given c.in_ok-second.ensures.counted_given
     c.in_err-read_others.ensures.unread))
 
 pub returns-in_err-first-clause-once : goal.returns-in_err-first-clause-once

@@ -14,5 +14,5 @@ returns-clause-next c = λ bag from subject l.
         fits = next.0.fits ∙ l.octets;
         least = λ place d later before at fits. next.0.least place d (omega (arith, later, l.place)) before at (fits ∙ sym l.octets);
       },
-      record { stands = c.in_ok-next.ensures.stands bag l.stands; place = next.1; octets = c.issuer-self.ensures },
+      record { stands = c.in_ok-next.ensures.stands bag l.stands; place = next.1; octets = c.issuer.ensures },
     )
