@@ -11,7 +11,7 @@ use Rattle.sig_core.specs.declared.verdict_row.TableVersion.{TableVersion}
 use Rattle.sig_core.specs.declared.verdict_row.TableVersion.TheVariants.{One, Two}
 use Rattle.sig_core.specs.declared.verdict_row.VerdictRow.{VerdictRow}
 use Rattle.sig_core.specs.Algorithm.{name_of}
-use Rattle.sig_core.specs.VerdictTable.{IsDigest, IsSignature, IsRow, HasVerdict, signature_line, line_of, lines_of, verdict_word, space, newline, BeginsWithNoSignature, BeginsWithNoLine}
+use Rattle.sig_core.specs.VerdictTable.{IsDigest, AreDigests, IsRow, AdmitsVerdict, signature_line, line_of, lines_of, verdict_word, space, newline, BeginsWithNoSignature, BeginsWithNoLine}
 use Rattle.sig_core.proofs.Names.{name_once}
 use Rattle.sig_core.proofs.Lines.{digits_same, take-digits, drop-digits}
 
@@ -66,7 +66,7 @@ same_parts a b alg key msg sig =
     ∙ ap (λ x. record b { msg = x; sig = a.sig }) msg ∙ ap (λ x. record b { sig = x }) sig
 
 -- a line is read in one way
-pub signature_once : (a b : SignatureDigests) (x y : List ℕ) → IsSignature a → IsSignature b → signature_line a ++ x ≡ signature_line b ++ y → (a ≡ b) × (x ≡ y)
+pub signature_once : (a b : SignatureDigests) (x y : List ℕ) → AreDigests a → AreDigests b → signature_line a ++ x ≡ signature_line b ++ y → (a ≡ b) × (x ≡ y)
 signature_once a b x y ha hb e =
     let one = name_once a.alg b.alg _ _ (sym (signature_parts a x) ∙ e ∙ signature_parts b y) in
     let two = digits_once a.key b.key _ _ space ha.0 hb.0 one.1 in
@@ -75,7 +75,7 @@ signature_once a b x y ha hb e =
     (same_parts a b one.0 two.0 three.0 four.0, four.1)
 
 -- and so is the word before it
-words_once : (version : TableVersion) (a b : Verdict) (x y : List ℕ) → HasVerdict version a → HasVerdict version b
+words_once : (version : TableVersion) (a b : Verdict) (x y : List ℕ) → AdmitsVerdict version a → AdmitsVerdict version b
     → verdict_word version a ++ x ≡ verdict_word version b ++ y → (a ≡ b) × (x ≡ y)
 words_once One a b x y ha hb e = (ha ∙ sym hb, e)
 words_once Two Accept Accept x y ha hb e = (refl, append_cancel_left (verdict_word Two Accept) x y e)
@@ -99,13 +99,13 @@ line_once version a b x y ha hb e =
 
 -- where no verdict stands, no row does
 pub no_verdict : (version : TableVersion) (text : List ℕ)
-    → ((verdict : Verdict) (after : List ℕ) → HasVerdict version verdict → text ≢ verdict_word version verdict ++ after)
+    → ((verdict : Verdict) (after : List ℕ) → AdmitsVerdict version verdict → text ≢ verdict_word version verdict ++ after)
     → BeginsWithNoLine version text
 no_verdict version text none row after h begins =
     none row.verdict _ h.0 (begins ∙ append_assoc (verdict_word version row.verdict) (signature_line row.signature) after)
 
 -- nor where no signature stands behind it
-pub no_named : (version : TableVersion) (verdict : Verdict) (text rest : List ℕ) → HasVerdict version verdict
+pub no_named : (version : TableVersion) (verdict : Verdict) (text rest : List ℕ) → AdmitsVerdict version verdict
     → text ≡ verdict_word version verdict ++ rest → BeginsWithNoSignature rest → BeginsWithNoLine version text
 no_named version verdict text rest h e none row after is begins =
     let word = words_once version verdict row.verdict rest _ h is.0

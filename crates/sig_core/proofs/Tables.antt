@@ -8,7 +8,7 @@ use Rattle.sig_core.specs.declared.verdict_row.TableVersion.TheVariants.{One, Tw
 use Rattle.sig_core.specs.declared.verdict_row.VerdictRow.{VerdictRow}
 use Rattle.sig_core.specs.declared.verdict_table.TableError.{TableError}
 use Rattle.sig_core.specs.declared.verdict_table.TableError.TheVariants.{BadLine, Memory}
-use Rattle.sig_core.specs.VerdictTable.{IsTable, IsFirstBadLine, IsCause, IsRow, IsOfVersion, BeginsWithLine, BeginsWithNoLine, first_line, first_number, line_of, lines_of, text_of}
+use Rattle.sig_core.specs.VerdictTable.{IsTable, IsFirstBadLine, IsCause, IsRow, IsOfVersion, BeginsWithLine, BeginsWithNoLine, first_line, first_number, line_of, lines_of, version_2_text}
 use Rattle.sig_core.proofs.Rows.{lines_once, nothing_begins, rows_of_two}
 
 -- a text has one version, and is read in one way up to where no line begins
@@ -74,9 +74,9 @@ begins_where_some text (row ∷ others) table some =
     record { version = table.version; row = row; after = lines_of table.version others; is_row = table.are_rows.0; spelled = table.spelled ∙ sym (append_assoc (first_line table.version) (line_of table.version row) (lines_of table.version others)) }
 
 -- the text that has some rows is a table of them
-pub text_is_table : (rows : List VerdictRow) → AllByRecursion (IsRow Two) rows → IsTable (text_of rows) rows
+pub text_is_table : (rows : List VerdictRow) → AllByRecursion (IsRow Two) rows → IsTable (version_2_text rows) rows
 text_is_table rows h = record { version = Two; of_version = (lines_of Two rows, refl); are_rows = h; spelled = refl }
 
 -- the rows of a table of either version have a text of version 2
-pub carried : (text : List ℕ) (rows : List VerdictRow) → IsTable text rows → IsTable (text_of rows) rows
+pub carried : (text : List ℕ) (rows : List VerdictRow) → IsTable text rows → IsTable (version_2_text rows) rows
 carried text rows h = text_is_table rows (rows_of_two h.version rows h.are_rows)

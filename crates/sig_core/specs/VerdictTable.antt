@@ -24,8 +24,8 @@ abbrev pub IsDigest : List ℕ → Type 0
 IsDigest digest = (length digest ≡ 32) × IsBytes digest
 
 -- an algorithm and three digests, those of key bytes, of a message and of a signature
-abbrev pub IsSignature : SignatureDigests → Type 0
-IsSignature signature = IsDigest signature.key × IsDigest signature.msg × IsDigest signature.sig
+abbrev pub AreDigests : SignatureDigests → Type 0
+AreDigests signature = IsDigest signature.key × IsDigest signature.msg × IsDigest signature.sig
 
 -- what stands between the words of a line
 abbrev pub space : ℕ
@@ -45,7 +45,7 @@ signature_line signature =
 -- the text doesn't begin with a line that names a signature
 abbrev pub BeginsWithNoSignature : List ℕ → Type 0
 BeginsWithNoSignature text =
-    (signature : SignatureDigests) (after : List ℕ) → IsSignature signature
+    (signature : SignatureDigests) (after : List ℕ) → AreDigests signature
     → text ≢ signature_line signature ++ after
 
 -- how a table begins: version 2 with a line of its own, version 1 with its rows
@@ -64,13 +64,13 @@ IsOfVersion text One = (after : List ℕ) → text ≢ first_line Two ++ after
 IsOfVersion text Two = (after : List ℕ) × (text ≡ first_line Two ++ after)
 
 -- the verdicts that a row may have: in version 1 only one
-abbrev pub HasVerdict : TableVersion → Verdict → Type 0
-HasVerdict One verdict = verdict ≡ Accept
-HasVerdict Two verdict = ⊤
+abbrev pub AdmitsVerdict : TableVersion → Verdict → Type 0
+AdmitsVerdict One verdict = verdict ≡ Accept
+AdmitsVerdict Two verdict = ⊤
 
 -- a row of a version
 abbrev pub IsRow : TableVersion → VerdictRow → Type 0
-IsRow version row = HasVerdict version row.verdict × IsSignature row.signature
+IsRow version row = AdmitsVerdict version row.verdict × AreDigests row.signature
 
 -- how the line of a row begins: in version 2 with the word of its verdict
 abbrev pub verdict_word : TableVersion → Verdict → List ℕ
@@ -113,8 +113,8 @@ pub record IsFirstBadLine (text : List ℕ) (number : ℕ) : Type 0 where
   pub counted : number ≡ length before + first_number version
 
 -- the table of version 2 that has these rows
-abbrev pub text_of : List VerdictRow → List ℕ
-text_of rows = first_line Two ++ lines_of Two rows
+abbrev pub version_2_text : List VerdictRow → List ℕ
+version_2_text rows = first_line Two ++ lines_of Two rows
 
 -- the signature as rows name it
 abbrev pub signature_of : SigAlg → List ℕ → List ℕ → List ℕ → SignatureDigests

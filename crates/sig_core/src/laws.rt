@@ -5,7 +5,7 @@ ghost use Rattle.der_core.specs.Encoding.{encoding};
 ghost use Rattle.sig_core.specs.DemoScheme.{demo_key};
 ghost use Rattle.sig_core.specs.RsaSecret.{IsRsaSecret, rsa_public_element};
 ghost use Rattle.sig_core.specs.declared.algorithm.SchemeKind.TheVariants.{Rsa};
-ghost use Rattle.sig_core.specs.VerdictTable.{IsTable, IsFirstBadLine, text_of};
+ghost use Rattle.sig_core.specs.VerdictTable.{IsTable, IsFirstBadLine, version_2_text};
 ghost use Rattle.sig_core.specs.declared.algorithm.SigAlg.{SigAlg};
 ghost use Rattle.sig_core.specs.declared.algorithm.TheConstants.SigAlg as signatures;
 ghost use Rattle.sig_core.specs.declared.hash.HashAlgorithm.{HashAlgorithm};
@@ -26,7 +26,7 @@ pub fn one_table()
     ensures not_both { (text : List ℕ) (rows : List VerdictRow) (number : ℕ)
         → IsTable text rows → IsFirstBadLine text number → ⊥ }
     ensures carried { (text : List ℕ) (rows : List VerdictRow)
-        → IsTable text rows → IsTable (text_of rows) rows }
+        → IsTable text rows → IsTable (version_2_text rows) rows }
 {}
 
 /// The key that the demonstration scheme derives from a secret of RSA is the public key in it, and

@@ -3,7 +3,7 @@
 ghost use Rattle.std.specs.Prelude.{◌≡◌, ◌≢◌, ◌≤◌, ℕ, List, ◌∷◌, ◌++◌, ◌==◌, position, MatchOption, OnOk};
 ghost use Rattle.hex.specs.Hex.{encode_lower};
 ghost use Rattle.sig_core.specs.Algorithm.{name_of};
-ghost use Rattle.sig_core.specs.VerdictTable.{IsDigest, IsSignature, IsOfVersion, IsRow, HasVerdict, signature_line, line_of, first_line, first_number, verdict_word, space, BeginsWithNoSignature, BeginsWithNoLine};
+ghost use Rattle.sig_core.specs.VerdictTable.{IsDigest, AreDigests, IsOfVersion, IsRow, AdmitsVerdict, signature_line, line_of, first_line, first_number, verdict_word, space, BeginsWithNoSignature, BeginsWithNoLine};
 ghost use Rattle.sig_core.specs.declared.algorithm.SigAlg.{SigAlg};
 ghost use Rattle.sig_core.specs.declared.scheme.Verdict.{Verdict};
 
@@ -65,7 +65,7 @@ impl SignatureDigests {
     /// The signature whose line begins the text, and the text after that line.
     fn split_first(text: &[u8]) -> Option<(SignatureDigests, &[u8])>
         ensures { MatchOption result (BeginsWithNoSignature text.now)
-            (λ split. IsSignature split.0 × (text.now ≡ signature_line split.0 ++ split.1.now)) }
+            (λ split. AreDigests split.0 × (text.now ≡ signature_line split.0 ++ split.1.now)) }
     {
         let (alg, text) = split_algorithm(text)?;
         let (key, text) = split_digest(text, b' ')?;
@@ -134,9 +134,9 @@ fn word_of(verdict: Verdict) -> &'static str
 /// there, and the verdict is acceptance.
 fn split_verdict(version: TableVersion, text: &[u8]) -> Option<(Verdict, &[u8])>
     ensures { MatchOption result
-        ((verdict : Verdict) (after : List ℕ) → HasVerdict version verdict
+        ((verdict : Verdict) (after : List ℕ) → AdmitsVerdict version verdict
         → text.now ≢ verdict_word version verdict ++ after)
-        (λ split. HasVerdict version split.0
+        (λ split. AdmitsVerdict version split.0
         × (text.now ≡ verdict_word version split.0 ++ split.1.now)) }
 {
     match version {

@@ -3,7 +3,7 @@
 ghost use Rattle.std.specs.Prelude.{◌≡◌, ◌⊎◌, ◌↔◌, ℕ, List, [], length, Err, Some, IfOk, IfErr, IsOk, IsTrue, MatchResult};
 ghost use Rattle.std.specs.Cmp.Lexicographic.{pointwise, lists_per, lists_equiv};
 ghost use Rattle.sig_core.specs.ErrorText.{table_error_text};
-ghost use Rattle.sig_core.specs.VerdictTable.{IsTable, IsFirstBadLine, IsCause, HasFirstVerdicts, text_of, verdict_of};
+ghost use Rattle.sig_core.specs.VerdictTable.{IsTable, IsFirstBadLine, IsCause, HasFirstVerdicts, version_2_text, verdict_of};
 ghost use Rattle.sig_core.specs.declared.verdict_row.VerdictRow.{VerdictRow};
 ghost use Rattle.sig_core.specs.declared.verdict_table.TableError.TheVariants.{Memory};
 
@@ -103,7 +103,7 @@ impl VerdictTable {
 
     /// The table in version 2.
     pub fn to_bytes(&self, alloc: Global) -> Result<Vec<u8>, AllocError>
-        ensures text { IfOk result (λ text. text.items ≡ text_of self.now) }
+        ensures text { IfOk result (λ text. text.items ≡ version_2_text self.now) }
         // It is a table of the same rows.
         ensures table { IfOk result (λ text. IsTable text.items self.now) }
     {
