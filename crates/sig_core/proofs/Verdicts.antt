@@ -14,7 +14,8 @@ use Rattle.sig_core.specs.declared.scheme.Verdict.{Verdict}
 use Rattle.sig_core.specs.declared.verdict_row.SignatureDigests.{SignatureDigests}
 use Rattle.sig_core.specs.declared.verdict_row.VerdictRow.{VerdictRow}
 use Rattle.sig_core.specs.Algorithm.{name_of}
-use Rattle.sig_core.specs.VerdictTable.{is_same_signature, first_verdict, HasFirstVerdicts}
+use Rattle.sig_core.specs.FirstVerdicts.{HasFirstVerdicts}
+use Rattle.sig_core.specs.VerdictTable.{is_same_signature, first_verdict}
 use Rattle.sig_core.proofs.Names.{name_of_same}
 use Rattle.sig_core.proofs.Rows.{same_parts}
 

@@ -2,6 +2,7 @@ pub mod Digest
 pub mod ShaVariant
 pub mod Algorithm
 pub mod VerdictTable
+pub mod FirstVerdicts
 pub mod RsaSecret
 pub mod DemoScheme
 pub mod ErrorText

@@ -1,11 +1,9 @@
 -- Verdict tables: how rows are spelled in both versions, where a text stops being a table, and what
 -- a table says of a signature.
 use Rattle.std.specs.Prelude.{◌≡◌, ◌≢◌, ℕ, ◌+◌, List, [], ◌∷◌, ◌++◌, length, Bool, ◌&&◌, codes, find, Option, option_map, ⊤}
-use Rattle.std.specs.BTreeMap.{BTreeMap, get}
 use Rattle.std.specs.List.{AllByRecursion, flat_map}
 use Rattle.std.specs.Option.{unwrap_or}
 use Rattle.std.specs.Str.{bytes_eq}
-use Rattle.std.specs.declared.cmp.Ordering.{Ordering}
 use Rattle.hex.specs.Hex.{encode_lower, IsBytes}
 use Rattle.sha2.specs.Sha256.{sha256}
 use Rattle.sig_core.specs.declared.algorithm.SigAlg.{SigAlg}
@@ -131,12 +129,6 @@ is_same_signature a b =
 abbrev pub first_verdict : List VerdictRow → SignatureDigests → Option Verdict
 first_verdict rows signature =
     option_map (λ row. row.verdict) (find (λ row. is_same_signature signature row.signature) rows)
-
--- the map has the first verdict on each signature
-abbrev pub HasFirstVerdicts : (SignatureDigests → SignatureDigests → Ordering) → List VerdictRow
-    → BTreeMap SignatureDigests Verdict → Type 0
-HasFirstVerdicts cmp rows verdicts =
-    (signature : SignatureDigests) → get cmp verdicts signature ≡ first_verdict rows signature
 
 -- the verdict of a table: that of the first row that names the signature. What no row names is
 -- rejected

@@ -3,7 +3,8 @@
 ghost use Rattle.std.specs.Prelude.{◌≡◌, ◌⊎◌, ◌↔◌, ℕ, List, [], length, Err, Some, IfOk, IfErr, IsOk, IsTrue, MatchResult};
 ghost use Rattle.std.specs.Cmp.Lexicographic.{pointwise, lists_per, lists_equiv};
 ghost use Rattle.sig_core.specs.ErrorText.{table_error_text};
-ghost use Rattle.sig_core.specs.VerdictTable.{IsTable, IsFirstBadLine, IsCause, HasFirstVerdicts, version_2_text, verdict_of};
+ghost use Rattle.sig_core.specs.FirstVerdicts.{HasFirstVerdicts};
+ghost use Rattle.sig_core.specs.VerdictTable.{IsTable, IsFirstBadLine, IsCause, version_2_text, verdict_of};
 ghost use Rattle.sig_core.specs.declared.verdict_row.VerdictRow.{VerdictRow};
 ghost use Rattle.sig_core.specs.declared.verdict_table.TableError.TheVariants.{Memory};
 
@@ -67,7 +68,8 @@ pub struct VerdictTable {
 impl Model for VerdictTable {
     ghost use Rattle.std.specs.Prelude.{List};
     ghost use Rattle.std.specs.List.{AllByRecursion};
-    ghost use Rattle.sig_core.specs.VerdictTable.{IsRow, HasFirstVerdicts};
+    ghost use Rattle.sig_core.specs.FirstVerdicts.{HasFirstVerdicts};
+    ghost use Rattle.sig_core.specs.VerdictTable.{IsRow};
     ghost use Rattle.sig_core.specs.declared.verdict_row.TableVersion.TheVariants.{Two};
     ghost use Rattle.sig_core.specs.declared.verdict_row.VerdictRow.{VerdictRow};
 

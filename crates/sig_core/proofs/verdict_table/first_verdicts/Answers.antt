@@ -1,7 +1,7 @@
 use Rattle.std.proofs.Common.{◌<◌, [], arith, get_or, length, sym, ◌∙◌, ap, subst, rules, unwrap_or}
 use Rattle.std.specs.BTreeMap.Entry.{map_with_value}
 use Rattle.std.proofs.lemmas.List.{take_more}
-use Rattle.sig_core.specs.VerdictTable.{HasFirstVerdicts}
+use Rattle.sig_core.specs.FirstVerdicts.{HasFirstVerdicts}
 use Rattle.sig_core.specs.declared.algorithm.SigAlg.TheVariants.{RsaMd5}
 use Rattle.sig_core.specs.declared.scheme.Verdict.TheVariants.{Accept}
 use Rattle.sig_core.specs.declared.verdict_row.VerdictRow.{VerdictRow}

@@ -1,5 +1,5 @@
 use Rattle.std.proofs.Common.{take}
-use Rattle.sig_core.specs.VerdictTable.{HasFirstVerdicts}
+use Rattle.sig_core.specs.FirstVerdicts.{HasFirstVerdicts}
 use Rattle.sig_core.specs.contracts.verdict_row.SignatureDigestsOrd.TheImpl as block
 use Rattle.sig_core.proofs.verdict_table.first_verdicts.Given as goal
 

@@ -2,7 +2,7 @@ use Rattle.std.proofs.Common.{◌∙◌, subst}
 use Rattle.std.proofs.lemmas.Result.{err_from_is_err_and}
 use Rattle.sig_core.proofs.Rows.{rows_of_two}
 use Rattle.sig_core.proofs.Tables.{begins_where_some, table_once, no_bad_line, cause_at_table, cause_at_bad_line}
-use Rattle.sig_core.specs.VerdictTable.{HasFirstVerdicts}
+use Rattle.sig_core.specs.FirstVerdicts.{HasFirstVerdicts}
 use Rattle.sig_core.proofs.verdict_table.VerdictTable.parse.Goals as goal
 
 pub returns-in_err-rows-clause-each_table : goal.returns-in_err-rows-clause-each_table
