@@ -13,7 +13,7 @@ use Rattle.sig_core.specs.VerdictTable.{IsDigest}
 pub length-digits : (digest : List ℕ) → IsDigest digest → length (encode_lower digest) ≡ 64
 length-digits digest h = let e = length-encode_with lower_digits digest in omega (arith, e, h.0)
 
--- digits spell one digest
+-- digits encode one digest
 pub digits_same : (a b : List ℕ) → IsDigest a → IsDigest b → encode_lower a ≡ encode_lower b → a ≡ b
 digits_same a b ha hb e =
     decode_of-same (encode_lower a) a b (decode_of-encode_lower a ha.1) (ap decode_of e ∙ decode_of-encode_lower b hb.1)

@@ -5,7 +5,7 @@ use Rattle.sig_core.specs.declared.algorithm.SigAlg.TheVariants.{RsaMd5, RsaSha1
 use Rattle.sig_core.specs.declared.algorithm.SchemeKind as kind
 use Rattle.sig_core.specs.declared.algorithm.SchemeKind.{SchemeKind}
 
--- the name of an algorithm, as a verdict table spells it
+-- the name of an algorithm in a verdict table
 abbrev pub name_of : SigAlg → List ℕ
 name_of RsaMd5 = codes "rsa-md5"
 name_of RsaSha1 = codes "rsa-sha1"

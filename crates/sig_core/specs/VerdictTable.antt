@@ -1,5 +1,5 @@
--- Verdict tables: how rows are spelled in both versions, where a text stops being a table, and what
--- a table says of a signature.
+-- Verdict tables: the line of a row in both versions, where a text stops being a table, and the
+-- verdict on a signature.
 use Rattle.std.specs.Prelude.{◌≡◌, ◌≢◌, ℕ, ◌+◌, List, [], ◌∷◌, ◌++◌, length, Bool, ◌&&◌, codes, find, Option, option_map, ⊤}
 use Rattle.std.specs.List.{AllByRecursion, flat_map}
 use Rattle.std.specs.Option.{unwrap_or}
@@ -61,7 +61,7 @@ abbrev pub IsOfVersion : List ℕ → TableVersion → Type 0
 IsOfVersion text One = (after : List ℕ) → text ≢ first_line Two ++ after
 IsOfVersion text Two = (after : List ℕ) × (text ≡ first_line Two ++ after)
 
--- the verdicts that a row may have: in version 1 only one
+-- the verdicts that a row may have: in version 1 only Accept
 abbrev pub AdmitsVerdict : TableVersion → Verdict → Type 0
 AdmitsVerdict One verdict = verdict ≡ Accept
 AdmitsVerdict Two verdict = ⊤
@@ -77,7 +77,7 @@ verdict_word Two Accept = codes "accept "
 verdict_word Two Reject = codes "reject "
 verdict_word Two Malformed = codes "malformed "
 
--- the line that spells a row
+-- the line of a row
 abbrev pub line_of : TableVersion → VerdictRow → List ℕ
 line_of version row = verdict_word version row.verdict ++ signature_line row.signature
 
@@ -97,8 +97,9 @@ abbrev pub BeginsWithNoLine : TableVersion → List ℕ → Type 0
 BeginsWithNoLine version text =
     (row : VerdictRow) (after : List ℕ) → IsRow version row → text ≢ line_of version row ++ after
 
--- the line of this number is the first that spells no row: after the lines of the rows before it
--- something is left, and that doesn't begin with a line. Lines are counted from 1
+-- the line of this number is the first that isn't the line of a row: after the lines of the rows
+-- before it something is left, and that doesn't begin with the line of a row. Lines are counted
+-- from 1, the first line of version 2 among them
 pub record IsFirstBadLine (text : List ℕ) (number : ℕ) : Type 0 where
   pub version : TableVersion
   pub before : List VerdictRow
@@ -125,7 +126,7 @@ is_same_signature a b =
     bytes_eq (name_of a.alg) (name_of b.alg)
     && bytes_eq a.key b.key && bytes_eq a.msg b.msg && bytes_eq a.sig b.sig
 
--- what the first row says that names the signature
+-- the verdict of the first row that names the signature
 abbrev pub first_verdict : List VerdictRow → SignatureDigests → Option Verdict
 first_verdict rows signature =
     option_map (λ row. row.verdict) (find (λ row. is_same_signature signature row.signature) rows)

@@ -58,7 +58,7 @@ impl SigAlg {
         None
     }
 
-    /// The name of the algorithm, as a verdict table spells it.
+    /// The name of the algorithm in a verdict table.
     pub fn name(self) -> &'static str
         ensures { result.now ≡ name_of self }
     {

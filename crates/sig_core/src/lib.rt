@@ -1,8 +1,8 @@
 //! Digests, the algorithms of signatures, and what it means for a signature to be accepted.
 //!
 //! Whether a signature belongs to a key and a message is never computed here: a `Scheme` says so.
-//! `VerdictTable` says what the rows of a file say. `DemoScheme` makes signatures that
-//! anyone could make, for demonstrations and tests.
+//! `VerdictTable` gives the verdict of the first row that names a signature, and rejects what no
+//! row names. `DemoScheme` makes signatures that anyone could make, for demonstrations and tests.
 #![tactic(auto)]
 
 mod algorithm;

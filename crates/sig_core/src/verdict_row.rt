@@ -1,4 +1,4 @@
-//! One row of a verdict table, and the line that spells it.
+//! One row of a verdict table, and its line.
 
 ghost use Rattle.std.specs.Prelude.{◌≡◌, ◌≢◌, ◌≤◌, ℕ, List, ◌∷◌, ◌++◌, ◌==◌, position, MatchOption, OnOk};
 ghost use Rattle.hex.specs.Hex.{encode_lower};
@@ -14,13 +14,13 @@ use std::alloc::{AllocError, Global};
 /// The octets of a digest in a row.
 const DIGEST_LEN: usize = 32;
 
-/// The digits that spell a digest in a line.
+/// The hexadecimal digits of a digest in a line.
 const DIGITS_LEN: usize = 64;
 
 /// How a table of version 2 begins.
 pub const FIRST_LINE: &[u8] = b"picky-verdicts 2\n";
 
-/// Version 1 names what is accepted, version 2 says a verdict of each signature.
+/// Version 1 lists accepted signatures; version 2 gives each a verdict.
 #[derive(Clone, Copy, PartialEq, Eq, Debug)]
 pub enum TableVersion {
     One,
@@ -87,7 +87,7 @@ impl SignatureDigests {
     }
 }
 
-/// What a table says of a signature.
+/// A verdict on a signature.
 #[derive(Clone, Copy, PartialEq, Eq, Debug)]
 pub struct VerdictRow {
     pub verdict: Verdict,
@@ -193,7 +193,7 @@ fn split_digest(text: &[u8], end: u8) -> Option<([u8; DIGEST_LEN], &[u8])>
     Some((digest, rest))
 }
 
-/// The digest that lower-case digits spell.
+/// The digest that lower-case digits encode.
 fn digest_of_digits(digits: &[u8]) -> Option<[u8; DIGEST_LEN]>
     ensures { MatchOption result
         ((digest : List ℕ) → IsDigest digest → digits.now ≢ encode_lower digest)

@@ -21,7 +21,7 @@ use thiserror::Error;
 /// Why a text is no verdict table.
 #[derive(Clone, Copy, PartialEq, Eq, Debug, Error)]
 pub enum TableError {
-    /// The first line that spells no row, counted from 1.
+    /// The first line that isn't the line of a row, counted from 1.
     BadLine { number: u64 },
     /// No memory was left.
     Memory,
@@ -88,7 +88,7 @@ impl VerdictTable {
     /// further one begins with `accept`, `reject` or `malformed` and a space.
     pub fn parse(alloc: Global, bytes: &[u8]) -> Result<VerdictTable, TableError>
         ensures table { IfOk result (λ table. IsTable bytes.now table) }
-        // Want of memory is none where no row begins the text.
+        // Memory runs out only where the text begins with a row.
         ensures cause { IfErr result (IsCause bytes.now) }
         // A table is read as its rows.
         ensures each_table { (rows : List VerdictRow) → IsTable bytes.now rows
