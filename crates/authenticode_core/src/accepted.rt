@@ -69,9 +69,9 @@ pub enum Excuse {
 /// What is said of a signature that is accepted.
 #[derive(Debug, Drop)]
 pub struct Accepted {
-    /// The place of the signer's certificate among the certificates.
+    /// The index of the signer's certificate among the certificates.
     pub signer: Option<usize>,
-    /// The places of the certificates that vouch for the signer's.
+    /// The indices of the certificates that vouch for the signer's.
     pub path: Places,
     /// Why an expired certificate of the signer is excused.
     pub excuse: Excuse,

@@ -50,7 +50,7 @@ IsAnswerTo judge (Chain table date certificates) (text ∷ octets) answer =
 IsAnswerTo judge job contents answer = ⊥
 
 -- The answer to a job, by the verdicts of its table. The contents are those of the named files, as
--- far as the shelf tells its files.
+-- far as the shelf exposes its files.
 pub record IsAnswered (files : Option Files) (job : Job) (answer : Answer) : Type 0 where
   pub contents : List (List ℕ)
   pub rows : List VerdictRow
@@ -59,7 +59,7 @@ pub record IsAnswered (files : Option Files) (job : Job) (answer : Answer) : Typ
   pub is_answer : IsAnswerTo (verdict_of rows) job contents answer
 
 -- The files of a job, with a text that has a bad line in the place of the table: they are the named
--- files, as far as the shelf tells its files.
+-- files, as far as the shelf exposes its files.
 pub record HasBadTable (files : Option Files) (job : Job) : Type 0 where
   pub contents : List (List ℕ)
   pub number : ℕ

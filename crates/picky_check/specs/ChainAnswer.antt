@@ -23,7 +23,7 @@ all_checks date = checks_at (dates.Exact date) first_checks
 abbrev pub AreKeptCertificates : List (List ℕ) → List KeptCertificate → Type 0
 AreKeptCertificates octets certificates = map kept_octets certificates ≡ octets
 
--- The error tells of the first octets that aren't a certificate.
+-- The error is about the first octets that aren't a certificate.
 abbrev pub IsFirstUnread : List (List ℕ) → CertError → Type 0
 IsFirstUnread [] e = ⊥
 IsFirstUnread (octets ∷ others) e =
@@ -31,7 +31,7 @@ IsFirstUnread (octets ∷ others) e =
     ⊎ (((certificate : KeptCertificate) × (kept_octets certificate ≡ octets))
     × IsFirstUnread others e)
 
--- The first certificate is accepted over the others, and these are counted; or the error tells of
+-- The first certificate is accepted over the others, and these are counted; or the error is that of
 -- the first rule that is broken.
 abbrev pub IsChainJudged : Judge → GeneralizedTime → List KeptCertificate → Result ℕ CertError
     → Type 0

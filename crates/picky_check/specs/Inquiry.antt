@@ -65,7 +65,7 @@ pub record IsInquiry (before after : ShelfState) (job : Job) (result : Result Re
       × IsReportOf answer report × AnswersRead before after job answer)
   -- without a report there is a cause
   pub stopped : IfErr result (IsStopped before after job)
-  -- the answer about files that are told is reported
+  -- the answer about files that are exposed is reported
   pub answered : (answer : Answer) → IsSome before.files
       → IsAnswered before.files job answer
       → before.is_quiet → GivesReport answer result

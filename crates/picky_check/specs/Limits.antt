@@ -7,17 +7,17 @@ use Rattle.picky_check.specs.Shelf.{Files, file_of}
 abbrev pub longest_file : ℕ
 longest_file = 16777216
 
--- These octets are the whole file of this name, as far as the shelf tells its files.
+-- These octets are the whole file of this name, as far as the shelf exposes its files.
 pub record IsWholeFile (files : Option Files) (name octets : List ℕ) : Type 0 where
   pub as_told : IsSome files → file_of files name ≡ Some octets
   pub short : length octets ≤ longest_file
 
--- The shelf tells a file of this name that is longer than is read.
+-- The shelf exposes a file of this name that is longer than is read.
 abbrev pub IsLongFile : Option Files → List ℕ → Type 0
 IsLongFile files name = (file : List ℕ) × (file_of files name ≡ Some file)
     × (longest_file < length file)
 
--- The shelf tells its files, and none has this name.
+-- The shelf exposes its files, and none has this name.
 pub record IsMissingFile (files : Option Files) (name : List ℕ) : Type 0 where
   pub told : IsSome files
   pub none : file_of files name ≡ None
@@ -28,7 +28,7 @@ pub record IsMissingFile (files : Option Files) (name : List ℕ) : Type 0 where
 abbrev pub AreWholeFiles : Option Files → (names contents : List (List ℕ)) → Type 0
 AreWholeFiles files names contents = AllZip (IsWholeFile files) names contents
 
--- the shelf tells each of them
+-- the shelf exposes each of them
 abbrev pub HasFiles : Option Files → List (List ℕ) → Type 0
 HasFiles files names = All (λ name. IsSome (file_of files name)) names
 

@@ -38,7 +38,7 @@ pub record IsLost (words : List (List ℕ)) (shelf shelf_now : ShelfState)
   pub cut_short : IsCutShort (report_line answer) out out_now
   pub has_risen : HasRisen out.faults out_now.faults
 
--- the sink tells no room for the line of the answer
+-- the sink exposes no room for the line of the answer
 abbrev pub LacksRoom : SinkState → Answer → Type 0
 LacksRoom out answer = HasRoom out.room (length (report_line answer)) → ⊥
 
@@ -49,7 +49,7 @@ pub record IsRun (words : List (List ℕ)) (shelf shelf_now : ShelfState) (out o
   pub bounded : status ≤ statuses.out_of_memory
   -- an acceptance or a refusal is the answer, and its line is reported
   pub reported : status ≤ statuses.refused → IsDelivered words shelf shelf_now out out_now status
-  -- the words ask for nothing, whatever memory there is
+  -- the words ask for nothing, even when memory has run out
   pub usage : (status ≡ statuses.usage) ↔ AsksForNothing words
   -- the table has a bad line, and all files were read
   pub bad_table : status ≡ statuses.bad_table → ForJob words (FindsBadTable shelf shelf_now)
@@ -79,8 +79,8 @@ pub record IsRun (words : List (List ℕ)) (shelf shelf_now : ShelfState) (out o
   -- without a report nothing is written
   pub nothing_written : statuses.usage ≤ status → status ≢ statuses.sink_failed
       → Keeps out.held out_now.held
-  -- Where a quiet shelf tells its files, the answer about them is reported by its line, unless
-  -- memory runs out, or the sink fails that tells no room for the line.
+  -- Where a quiet shelf exposes its files, the answer about them is reported by its line, unless
+  -- memory runs out, or a sink fails that exposes no room for the line.
   pub answered : (job : Job) (answer : Answer) → AsksFor words job → shelf.is_quiet
       → IsSome shelf.files → IsAnswered shelf.files job answer → (WantsMemory answer → ⊥)
       → (((status ≡ status_of answer) × Appends out.held (report_line answer) out_now.held)

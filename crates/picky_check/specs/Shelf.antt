@@ -7,9 +7,9 @@ Files = List ℕ → Option (List ℕ)
 
 -- What is seen of a shelf at one moment.
 pub record ShelfState : Type 1 where
-  -- its files by name, where it tells them
+  -- its files by name, if it exposes them
   pub files : Option Files
-  -- what is left to read of the picked file, where it tells that
+  -- what is left to read of the picked file, if it exposes that
   pub rest : Option (List ℕ)
   -- how many octets it has handed out
   pub given : ℕ
@@ -18,7 +18,7 @@ pub record ShelfState : Type 1 where
   -- from now on it doesn't fail but where a name is missing
   pub is_quiet : Type 0
 
--- the file of this name, where the shelf tells its files and has it
+-- the file of this name, if the shelf exposes its files and has it
 abbrev pub file_of : Option Files → List ℕ → Option (List ℕ)
 file_of (Some files) name = files name
 file_of None name = None

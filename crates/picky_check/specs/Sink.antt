@@ -3,14 +3,14 @@ use Rattle.std.specs.Prelude.{ℕ, List, ◌≡◌, ◌<◌, ◌≤◌, ◌-◌,
 
 -- What is seen of a sink at one moment.
 pub record SinkState : Type 0 where
-  -- the octets that it holds, where it tells them
+  -- the octets that it holds, if it exposes them
   pub held : Option (List ℕ)
-  -- how many octets it can still take, where it tells that
+  -- how many octets it can still take, if it exposes that
   pub room : Option ℕ
   -- how often it has failed
   pub faults : ℕ
 
--- a sink that tells what it holds has these octets more
+-- the contents of a sink that exposes them have grown by these octets
 abbrev pub Appends : Option (List ℕ) → List ℕ → Option (List ℕ) → Type 0
 Appends before more after = (held : List ℕ) → before ≡ Some held → after ≡ Some (held ++ more)
 
@@ -18,11 +18,11 @@ Appends before more after = (held : List ℕ) → before ≡ Some held → after
 abbrev pub Keeps : {A : Type 0} → Option A → Option A → Type 0
 Keeps {A} before after = (value : A) → before ≡ Some value → after ≡ Some value
 
--- a sink that tells its room has this much less
+-- the room of a sink that exposes it is this much less
 abbrev pub Lowers : Option ℕ → ℕ → Option ℕ → Type 0
 Lowers before n after = (room : ℕ) → before ≡ Some room → (n ≤ room) × (after ≡ Some (room - n))
 
--- it tells a room of at least this much
+-- it exposes room for at least this much
 abbrev pub HasRoom : Option ℕ → ℕ → Type 0
 HasRoom room n = (left : ℕ) × (room ≡ Some left) × (n ≤ left)
 
@@ -30,7 +30,7 @@ HasRoom room n = (left : ℕ) × (room ≡ Some left) × (n ≤ left)
 abbrev pub IsFull : Option ℕ → List ℕ → Type 0
 IsFull before piece = (room : ℕ) → before ≡ Some room → (room ≡ 0) × (0 < length piece)
 
--- A front of a text was appended, and not all of it: where the sink told its room, as much as it
+-- A prefix of a text was appended, and not all of it: if the sink exposed its room, as much as it
 -- had.
 pub record IsCutShort (text : List ℕ) (before after : SinkState) : Type 0 where
   pub count : ℕ
