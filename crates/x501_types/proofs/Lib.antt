@@ -2,7 +2,7 @@ pub mod AttributeTypes
 pub mod Digits
 pub mod Joined
 pub mod Texts
-pub mod TypeWords
+pub mod TypeDescriptors
 pub mod Equal
 pub mod Elements
 pub mod Parties

@@ -1,4 +1,5 @@
--- The attribute types of names that have a descriptor (RFC 4514 3).
+-- The attribute types that print by a descriptor, most of them of RFC 4514 3; the rest are a
+-- profile.
 use Rattle.std.specs.Prelude.{ℕ, Option, List, [], ◌∷◌, find, bytes_eq, codes}
 use Rattle.x501_types.specs.declared.name_attr.NameAttr.{NameAttr}
 use Rattle.x501_types.specs.declared.name_attr.NameAttr.TheVariants as attributes

@@ -22,8 +22,8 @@ descriptor_or_dotted (Some attr) arcs = attribute_descriptor attr
 descriptor_or_dotted None arcs = if bytes_eq arcs email_address then codes "EMAIL" else dotted arcs
 
 -- the descriptor of the attribute type with these arcs, or their dotted text
-abbrev pub type_word : List ℕ → List ℕ
-type_word arcs = descriptor_or_dotted (attribute_type arcs) arcs
+abbrev pub type_descriptor : List ℕ → List ℕ
+type_descriptor arcs = descriptor_or_dotted (attribute_type arcs) arcs
 
 -- a string's text, or the octets of another element after `#`
 abbrev pub value_text : AttributeValue → List ℕ
@@ -31,10 +31,10 @@ value_text (values.DirectoryString string) = text_of string
 value_text (values.Ia5String string) = ia5_contents string
 value_text (values.Other other) = codes "#" ++ encode_lower (encoding other.element.element)
 
--- word, `=` and value
+-- descriptor, `=` and value
 abbrev pub attribute_text : AttributeTypeAndValue → List ℕ
 attribute_text attribute =
-    type_word (arcs_of attribute.ty) ++ codes "=" ++ value_text attribute.value
+    type_descriptor (arcs_of attribute.ty) ++ codes "=" ++ value_text attribute.value
 
 -- what stands between sets
 abbrev pub comma : ℕ

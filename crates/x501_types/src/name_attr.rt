@@ -69,7 +69,7 @@ impl NameAttr {
         self.row().0
     }
 
-    /// The descriptor that is printed for the type (RFC 4514 3).
+    /// The descriptor that is printed for the type.
     pub fn descriptor(self) -> &'static str
         ensures { result.now ≡ attribute_descriptor self }
     {
@@ -79,7 +79,7 @@ impl NameAttr {
     /// The contents octets of the identifier, and the descriptor.
     fn row(self) -> (&'static [u8], &'static str)
         ensures octets { result.0.now ≡ 0x55 ∷ 0x04 ∷ attribute_arc self ∷ [] }
-        ensures word { result.1.now ≡ attribute_descriptor self }
+        ensures descriptor { result.1.now ≡ attribute_descriptor self }
     {
         match self {
             NameAttr::CommonName => (oids::AT_COMMON_NAME, "CN"),

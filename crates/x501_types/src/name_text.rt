@@ -5,7 +5,7 @@ ghost use Rattle.std.specs.Fmt.{WritesOnOk};
 ghost use Rattle.hex.specs.Hex.{encode_lower};
 ghost use Rattle.der_core.specs.Encoding.{encoding};
 ghost use Rattle.asn1_types.specs.Values.{arcs_of};
-ghost use Rattle.x501_types.specs.NameText.{attribute_text, name_text, set_text, type_word, value_text};
+ghost use Rattle.x501_types.specs.NameText.{attribute_text, name_text, set_text, type_descriptor, value_text};
 
 use crate::attribute::AttributeTypeAndValue;
 use crate::attribute_value::AttributeValue;
@@ -49,9 +49,9 @@ impl fmt::Display for AttributeTypeAndValue {
     }
 }
 
-/// The word of an attribute type, or its identifier's dotted text.
+/// The descriptor of an attribute type, or its identifier's dotted text.
 fn write_type<W: fmt::Write>(ty: &ObjectIdentifier, f: &mut fmt::Formatter<W>) -> fmt::Result
-    ensures { WritesOnOk W.write_str_gives f.old result (type_word (arcs_of ty.now)) f.new }
+    ensures { WritesOnOk W.write_str_gives f.old result (type_descriptor (arcs_of ty.now)) f.new }
 {
     if let Some(attr) = NameAttr::from_contents(ty.as_bytes()) {
         return f.write_str(attr.descriptor());

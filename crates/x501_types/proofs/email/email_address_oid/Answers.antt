@@ -1,5 +1,5 @@
 use Rattle.std.proofs.lemmas.Result.{IfOk-weaker}
-use Rattle.x501_types.proofs.TypeWords.{email_by_contents}
+use Rattle.x501_types.proofs.TypeDescriptors.{email_by_contents}
 use Rattle.x501_types.proofs.email.email_address_oid.Goals as goal
 
 pub returns : goal.returns

@@ -1,5 +1,5 @@
 use Rattle.std.proofs.Common.{◌∙◌, sym}
-use Rattle.x501_types.proofs.TypeWords.{email_by_contents}
+use Rattle.x501_types.proofs.TypeDescriptors.{email_by_contents}
 use Rattle.x501_types.proofs.email.is_email_address.Goals as goal
 
 pub returns : goal.returns

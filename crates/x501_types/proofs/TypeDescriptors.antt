@@ -1,4 +1,4 @@
--- The words of attribute types, by the contents octets of their identifiers.
+-- The descriptors of attribute types, by the contents octets of their identifiers.
 use Rattle.std.proofs.Common.{◌≡◌, ◌↔◌, ℕ, Bool, true, List, [], ◌∷◌, rules, refl, sym, ap, ◌∙◌, None}
 use Rattle.std.specs.Prelude.{find, bytes_eq, if◌then◌else◌, codes}
 use Rattle.std.proofs.lemmas.Bool.{false_from_ne_true}
@@ -8,23 +8,23 @@ use Rattle.asn1_types.specs.ObjectIdentifier.{IsArcs, IsIdentifier, contents_of,
 use Rattle.x501_types.specs.declared.name_attr.NameAttr.{NameAttr}
 use Rattle.asn1_types.specs.declared.oids.TheConstants.{EMAIL_ADDRESS}
 use Rattle.x501_types.specs.NameAttr.{attribute_arcs, attribute_types, attribute_descriptor}
-use Rattle.x501_types.specs.NameText.{email_address, type_word, descriptor_or_dotted}
+use Rattle.x501_types.specs.NameText.{email_address, type_descriptor, descriptor_or_dotted}
 use Rattle.x501_types.proofs.AttributeTypes.{IsArcs-type, arcs_from_contents, attribute_type-arcs}
 
-pub word_of_type : (attr : NameAttr) (contents : List ℕ) (identifier : IsIdentifier contents)
-    → contents_of (attribute_arcs attr) ≡ contents → type_word identifier.arcs ≡ attribute_descriptor attr
-word_of_type attr contents identifier named =
+pub descriptor_of_type : (attr : NameAttr) (contents : List ℕ) (identifier : IsIdentifier contents)
+    → contents_of (attribute_arcs attr) ≡ contents → type_descriptor identifier.arcs ≡ attribute_descriptor attr
+descriptor_of_type attr contents identifier named =
     let arcs = arcs_from_contents contents (attribute_arcs attr) identifier (IsArcs-type attr) (sym named) in
-    ap type_word arcs ∙ ap (λ found. descriptor_or_dotted found (attribute_arcs attr)) (attribute_type-arcs attr)
+    ap type_descriptor arcs ∙ ap (λ found. descriptor_or_dotted found (attribute_arcs attr)) (attribute_type-arcs attr)
 
 -- what passes nowhere is found nowhere
 find_none : {X : Type 0} (test : X → Bool) (xs : List X) → ((x : X) → test x ≡ true → ⊥) → find test xs ≡ None
 find_none test [] fails = refl
 find_none test (x ∷ xs) fails = rw (false_from_ne_true (test x) (fails x)) (find_none test xs fails)
 
-pub word_of_other : (contents : List ℕ) (identifier : IsIdentifier contents) → ((attr : NameAttr) → contents_of (attribute_arcs attr) ≡ contents → ⊥)
-    → (identifier.arcs ≡ email_address → ⊥) → type_word identifier.arcs ≡ dotted identifier.arcs
-word_of_other contents identifier other no_email =
+pub descriptor_of_other : (contents : List ℕ) (identifier : IsIdentifier contents) → ((attr : NameAttr) → contents_of (attribute_arcs attr) ≡ contents → ⊥)
+    → (identifier.arcs ≡ email_address → ⊥) → type_descriptor identifier.arcs ≡ dotted identifier.arcs
+descriptor_of_other contents identifier other no_email =
     ap (λ found. descriptor_or_dotted found identifier.arcs)
     (find_none (λ attr. bytes_eq (attribute_arcs attr) identifier.arcs) attribute_types
     (λ attr same. other attr (ap contents_of ((bytes_eq-Decides (attribute_arcs attr) identifier.arcs).0 same) ∙ sym identifier.spelled)))
