@@ -19,13 +19,14 @@ abbrev pub file_hash_in : Option ContentValue → Option (List ℕ)
 file_hash_in None = None
 file_hash_in (Some content) = file_hash_of content
 
--- the signed attributes of the first signer, where there is one: none where their field is left out
+-- the signed attributes of the first signer, an empty list if its field is absent; None only
+-- without a signer
 abbrev pub signed_attributes_in : List SignerInfo → Option (List Attribute)
 signed_attributes_in [] = None
 signed_attributes_in (signer ∷ others) =
     Some (unwrap_or (option_map attributes_of signer.signed_attrs) [])
 
--- and its unsigned ones
+-- the same of its unsigned attributes
 abbrev pub unsigned_attributes_in : List SignerInfo → Option (List UnsignedAttribute)
 unsigned_attributes_in [] = None
 unsigned_attributes_in (signer ∷ others) = Some (unwrap_or signer.unsigned_attrs [])

@@ -123,8 +123,8 @@ impl AuthenticodeSignature {
         }
     }
 
-    /// The signed attributes of the first signer, none of them where the field is left out; None
-    /// exactly where there is no signer.
+    /// The signed attributes of the first signer, an empty list if its field is absent; None only
+    /// without a signer.
     pub fn authenticated_attributes(&self) -> Option<&[Attribute]>
         ensures { option_copied result ≡ signed_attributes_in (signer_infos_of self.now.0) }
     {
@@ -137,8 +137,8 @@ impl AuthenticodeSignature {
         }
     }
 
-    /// The unsigned attributes of the first signer, none of them where the field is left out; None
-    /// exactly where there is no signer.
+    /// The unsigned attributes of the first signer, an empty list if its field is absent; None only
+    /// without a signer.
     pub fn unauthenticated_attributes(&self) -> Option<&[UnsignedAttribute]>
         ensures { option_copied result ≡ unsigned_attributes_in (signer_infos_of self.now.0) }
     {
