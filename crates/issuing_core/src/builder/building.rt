@@ -50,10 +50,9 @@ impl<'a> CertificateBuilder<'a> {
     /// public half; where it isn't, `MissingBuilderArgument` where the identifier of its key, or
     /// the subject, isn't given, and `InvalidCsr` where the request of the subject isn't signed by
     /// its own key; `CertGeneration` with `KeyIdGen` where the subject's key has no identifier;
-    /// `Signature`
-    /// where the algorithm has none; `CertGeneration` with `Asn1Serialization` where what is signed
-    /// can't be written, and with `Signature` where it isn't signed; `Asn1Serialization` where the
-    /// whole can't be written.
+    /// `Signature` where the algorithm has none; `CertGeneration` with `Asn1Serialization` where
+    /// what is signed can't be written, and with `Signature` where it isn't signed;
+    /// `Asn1Serialization` where the whole can't be written.
     pub fn build<S: Scheme>(self, alloc: Global, word: u32, scheme: &S) -> Result<Cert, CertError>
         ensures answer { MatchResult result
             (IsBuilt (arithmetic (S.judge scheme.now) (S.signs scheme.now) (S.pair scheme.now))
@@ -61,7 +60,7 @@ impl<'a> CertificateBuilder<'a> {
             (RefusesBySteps errors.Memory (build_steps
             (arithmetic (S.judge scheme.now) (S.signs scheme.now) (S.pair scheme.now))
             self.entry word)) }
-        // What isn't given is told whatever memory there is.
+        // What isn't given is reported even when memory has run out.
         ensures refused { (e : CertError) → IsFirstUntaken (argument_steps self.entry) e
             → result ≡ Err e }
         // Its signature is one by each certificate whose key pairs with the issuer's.
@@ -77,7 +76,7 @@ impl<'a> CertificateBuilder<'a> {
         ensures constrained { IfOk result (λ cert. HasFirst CE_BASIC_CONSTRAINTS.now
             (extensions_in cert.certificate.tbs_certificate.extensions)
             (constraints_of self.entry)) }
-        // So are the first identifiers of its key and of the issuer's.
+        // The first key identifiers are those of the keys, whatever a request asks for.
         ensures identified { IfOk result
             (λ cert. IsIdentified self.entry cert.certificate.tbs_certificate) }
     {
