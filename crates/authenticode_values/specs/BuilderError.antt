@@ -9,12 +9,12 @@ use Rattle.authenticode_core.specs.declared.error.AuthenticodeError.TheVariants 
 use Rattle.authenticode_values.specs.declared.builder_error.AuthenticodeSignatureBuilderError.{AuthenticodeSignatureBuilderError}
 use Rattle.authenticode_values.specs.declared.builder_error.AuthenticodeSignatureBuilderError.TheVariants as errors
 
--- the error for one of Authenticode signatures; want of memory is told as such
+-- the error for one of Authenticode signatures; out of memory is reported as such
 abbrev pub builder_refusal : AuthenticodeError → AuthenticodeSignatureBuilderError
 builder_refusal signatures.Memory = errors.Memory
 builder_refusal e = errors.AuthenticodeError e
 
--- the error for one of an encoding; want of memory is told as such
+-- the error for one of an encoding; out of memory is reported as such
 abbrev pub unwritten_in_builder : DerError → AuthenticodeSignatureBuilderError
 unwritten_in_builder der.Memory = errors.Memory
 unwritten_in_builder e = errors.Asn1DerError e

@@ -109,7 +109,7 @@ by_the_first = record { signer = Some 0; path = []; excuse = excuses.None }
 
 -- The answer is of the signed data in the octets, which carries these certificates and no others,
 -- and vouches for the digest of a file by the first of them: it is accepted exactly where it is
--- trusted under the policy, want of memory aside.
+-- trusted under the policy, out of memory aside.
 pub record IsCheckedBy (judge : Judge) (policy : Policy) (certificates : List CertificateElements)
     (octets file_hash : List ℕ) (answer : Result Accepted CheckError) : Type 0 where
   pub f : SignedDataElements

@@ -9,7 +9,7 @@ use Rattle.authenticode_core.specs.declared.error.AuthenticodeError.TheVariants 
 use Rattle.authenticode_core.specs.declared.pkcs7_error.Pkcs7Error.{Pkcs7Error}
 use Rattle.authenticode_core.specs.declared.pkcs7_error.Pkcs7Error.TheVariants as errors
 
--- want of memory is told as such, any other cause by the structure and the cause
+-- out of memory is reported as such, any other cause by the structure and the cause
 abbrev pub unread : DerError → Pkcs7Error
 unread der.Memory = errors.Memory
 unread source = errors.Cert (certs.Asn1Deserialization structures.Pkcs7 source)

@@ -24,10 +24,10 @@ pub enum AuthenticodeSignatureBuilderError {
     MissingIssuerAndSerialNumber,
     /// No certificates are given.
     MissingCertificatesRequired,
-    /// The digest algorithm, the signer's certificate or the key isn't one that signs. Never with
-    /// want of memory.
+    /// The digest algorithm, the signer's certificate or the key isn't one that signs. Never wraps
+    /// `Memory`.
     AuthenticodeError(AuthenticodeError),
-    /// The content or the attributes can't be written. Never with want of memory.
+    /// The content or the attributes can't be written. Never wraps `Memory`.
     Asn1DerError(DerError),
     /// No memory was left.
     Memory,
@@ -60,7 +60,7 @@ impl fmt::Display for AuthenticodeSignatureBuilderError {
     }
 }
 
-/// Want of memory is told as such.
+/// Out of memory is reported as such.
 impl From<AuthenticodeError> for AuthenticodeSignatureBuilderError {
     ghost from_gives = { λ error e. e ≡ builder_refusal error };
 
@@ -72,7 +72,7 @@ impl From<AuthenticodeError> for AuthenticodeSignatureBuilderError {
     }
 }
 
-/// Want of memory is told as such.
+/// Out of memory is reported as such.
 impl From<DerError> for AuthenticodeSignatureBuilderError {
     ghost from_gives = { λ error e. e ≡ unwritten_in_builder error };
 

@@ -39,7 +39,7 @@ pub fn encode_signature(
 /// The signature in a signature file. It is refused as `decode` and `from_wincert` refuse.
 pub fn decode_signature(alloc: Global, octets: &[u8]) -> Result<AuthenticodeSignature, CheckError>
     ensures answer { GivesSignature octets.now result }
-    // A refusal of the header comes whatever memory there is.
+    // A refusal of the header comes even when memory runs out.
     ensures refused { (source : WinCertificateError) → contents_in octets.now ≡ Err source
         → result ≡ Err (told_of_header source) }
     // What was made is read as it was made.
@@ -59,8 +59,8 @@ pub fn check_made<S: Scheme>(
     scheme: &S,
 ) -> Result<Accepted, CheckError>
     ensures answer { IsAnswer (S.judge scheme.now) policy.now octets.now result }
-    // A refusal of the header, of what the certificate is or of the form comes whatever memory
-    // there is.
+    // A refusal of the header, of what the certificate is or of the form comes even when memory
+    // runs out.
     ensures refused { (e : CheckError) → RefusesForm policy.now octets.now e → result ≡ Err e }
     // What is made is checked over its certificates, whatever the policy asks for.
     ensures over { (first : CertificateElements) (others : List CertificateElements)

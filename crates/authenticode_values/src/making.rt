@@ -88,8 +88,8 @@ impl AuthenticodeSignature {
             → IsSpelledWhole octets (wrapped certificate_type (encoding (written s.0)))
             → (carried : List CertificateElements) × AreCarried (first ∷ others) (first ∷ carried)
             × IsMadeSignature (S.judge scheme.now) first carried octets file_hash.now) }
-        // A name past U+FFFF, and SHA-224 where there is no name, are told whatever memory there
-        // is.
+        // A name past U+FFFF, and SHA-224 where there is no name, are reported even when memory
+        // runs out.
         ensures refused { (IsBasicName (option_copied program_name.entry) → ⊥)
             → result ≡ Err errors.ProgramNameCharSet }
         ensures unsupported { option_copied program_name.entry ≡ None → hash_of hash_algo ≡ SHA2_224

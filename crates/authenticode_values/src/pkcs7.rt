@@ -50,10 +50,10 @@ impl Pkcs7 {
         ensures answer { MatchResult result
             (λ p. IsWithin IsPkcs7Of der.now p.signed)
             (IsUnreadPkcs7 (RefusesOctets IsPkcs7Of der.now)) }
-        // Octets with a fault are refused with it, whatever memory there is.
+        // Octets with a fault are refused with it, even when memory runs out.
         ensures faulty { (at : ℕ) (fault : DerFault) → IsExactFault der.now at fault
             → result ≡ Err (unread (der_errors.Malformed (record { at = at; fault = fault }))) }
-        // An element that is that of no signed data is refused as such, whatever memory there is.
+        // An element that is that of no signed data is refused as such, even when memory runs out.
         ensures shapeless { (element : DerElement) → IsDer element → der.now ≡ encoding element
             → ((value : Pkcs7Certificate) → element ≢ pkcs7 value)
             → result ≡ Err (unread der_errors.Shape) }
@@ -65,7 +65,7 @@ impl Pkcs7 {
     }
 
     /// Signed data that signs nothing, and carries the certificates as they are, in order. It is
-    /// refused for want of memory alone.
+    /// refused only when out of memory.
     pub fn of_certificates(alloc: Global, certificates: &[Cert]) -> Result<Pkcs7, Pkcs7Error>
         ensures { MatchResult result
             (λ p. fields_of p ≡ certificates_alone

@@ -44,11 +44,11 @@ impl AuthenticodeSignature {
         ensures answer { MatchResult result
             (λ s. IsWithin IsPkcs7Of der.now s.0.signed)
             (TellsOfSignedData (IsUnreadPkcs7 (RefusesOctets IsPkcs7Of der.now))) }
-        // Octets with a fault are refused with it, whatever memory there is.
+        // Octets with a fault are refused with it, even when memory runs out.
         ensures faulty { (at : ℕ) (fault : DerFault) → IsExactFault der.now at fault
             → result ≡ Err
             (of_signed_data (unread (der_errors.Malformed (record { at = at; fault = fault })))) }
-        // An element that is that of no signed data is refused as such, whatever memory there is.
+        // An element that is that of no signed data is refused as such, even when memory runs out.
         ensures shapeless { (element : DerElement) → IsDer element → der.now ≡ encoding element
             → ((value : Pkcs7Certificate) → element ≢ pkcs7 value)
             → result ≡ Err (of_signed_data (unread der_errors.Shape)) }
@@ -81,7 +81,7 @@ impl AuthenticodeSignature {
         ensures answer { MatchResult result
             (λ s. IsPaddedEncoding cert.now.certificate (written s.0))
             (TellsOfSignedData (IsUnreadPkcs7 (RefusesPadded cert.now.certificate))) }
-        // What is no signed data is refused as such, whatever memory there is.
+        // What is no signed data is refused as such, even when memory runs out.
         ensures refused { (source : DerError) → IsNoSignedData cert.now.certificate source
             → result ≡ Err (of_signed_data (unread source)) }
     {
@@ -102,7 +102,7 @@ impl AuthenticodeSignature {
             (λ c. IsSigningCertificate (signer_infos_of self.now.0) certificates.now c.now)
             (HasNoSigningCertificate (signer_infos_of self.now.0) certificates.now) }
         // Where there is no signer, or the first is named by the identifier of a key, that is told
-        // whatever memory there is.
+        // even when memory runs out.
         ensures refused { (e : AuthenticodeError) → IsNamedOtherwise (signer_infos_of self.now.0) e
             → result ≡ Err e }
     {

@@ -31,8 +31,7 @@ impl AuthenticodeSignature {
             (RefusesStamp (T.gives timestamper.old) (T.modifies timestamper.old)
             (HasRisen (T.faults timestamper.old) (T.faults timestamper.new)) hash_algo
             self.old.0.signed.signed_data) }
-        // Where there is no signer this is told, whatever memory there is, and no token is asked
-        // for.
+        // A missing signer is reported even when memory runs out, and no token is asked for.
         ensures no_signer { signer_infos_of self.old.0 ≡ []
             → result ≡ Err (errors.MultipleSignerInfo 0) }
         ensures not_asked { signer_infos_of self.old.0 ≡ [] → timestamper.new ≡ timestamper.old }

@@ -80,11 +80,11 @@ impl TimestampRequest {
         ensures answer { MatchResult result
             (λ r. IsWithin IsRequestOf der.now r.request)
             (IsUnreadCert elements.TimestampRequest (RefusesOctets IsRequestOf der.now)) }
-        // Octets with a fault are refused with it, whatever memory there is.
+        // Octets with a fault are refused with it, even when memory runs out.
         ensures faulty { (at : ℕ) (fault : DerFault) → IsExactFault der.now at fault
             → result ≡ Err (errors.Asn1Deserialization elements.TimestampRequest
             (der_errors.Malformed (record { at = at; fault = fault }))) }
-        // An element that is that of no request is refused as such, whatever memory there is.
+        // An element that is that of no request is refused as such, even when memory runs out.
         ensures shapeless { (element : DerElement) → IsDer element → der.now ≡ encoding element
             → ((value : RequestValue) → element ≢ timestamp_request value)
             → result ≡ Err (errors.Asn1Deserialization elements.TimestampRequest der_errors.Shape) }

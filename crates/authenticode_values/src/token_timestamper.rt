@@ -47,11 +47,11 @@ impl TokenTimestamper {
         ensures answer { MatchResult result
             (λ t. IsWithin IsPkcs7Of der.now t.token.signed)
             (IsRefusedToken (IsUnreadPkcs7 (RefusesOctets IsPkcs7Of der.now))) }
-        // Octets with a fault are refused with it, whatever memory there is.
+        // Octets with a fault are refused with it, even when memory runs out.
         ensures faulty { (at : ℕ) (fault : DerFault) → IsExactFault der.now at fault
             → result ≡ Err
             (token_refusal (unread (der_errors.Malformed (record { at = at; fault = fault })))) }
-        // An element that is that of no signed data is refused as such, whatever memory there is.
+        // An element that is that of no signed data is refused as such, even when memory runs out.
         ensures shapeless { (element : DerElement) → IsDer element → der.now ≡ encoding element
             → ((value : Pkcs7Certificate) → element ≢ pkcs7 value)
             → result ≡ Err (token_refusal (unread der_errors.Shape)) }
@@ -131,7 +131,7 @@ impl Timestamper for TokenTimestamper {
         ensures refused { IfErr result
             (OrMemory errors.Memory (λ e. token_modifies token signed_data.old (Err e))) }
         ensures unchanged { OnErr result (signed_data.new ≡ signed_data.old) }
-        // Where there is no signer on either side, that is told whatever memory there is.
+        // Where there is no signer on either side, that is reported even when memory runs out.
         ensures empty { (signed_data.old.signers_infos ≡ []) ⊎ (signer_infos_of token ≡ [])
             → result ≡ Err errors.TimestampTokenEmpty }
     {

@@ -379,7 +379,7 @@ pub token_reads : (v : TokenValues) (place : ℕ) (kept : KeptElement) → slice
 token_reads v place kept e none =
     no_value v.all (λ all. let p = value_of_pkcs7 kept.element kept.der (pkcs7_at_place v.items place kept e all) in none p.0 p.1)
 
--- an element that spells a value is refused for want of memory alone
+-- an element that spells a value is refused only when out of memory
 pub only_memory : {X : Type 0} (P : X → Type 0) (e : DerError) → RefusesShape P e → (((x : X) → P x → ⊥) → ⊥) → e ≡ errors.Memory
 only_memory P errors.Memory refused some = refl
 only_memory P errors.Shape refused some = absurd (some refused)

@@ -14,7 +14,7 @@ use Rattle.x509_core.specs.declared.error.CertCause.TheVariants as causes
 use Rattle.x509_core.specs.declared.error.CertError.{CertError}
 use Rattle.x509_core.specs.declared.error.CertError.TheVariants as errors
 
--- Want of memory is told as such, any other cause by what was to be made.
+-- Out of memory is reported as such, any other cause by what was to be made.
 
 -- why a private key gives no public key
 abbrev pub no_half : KeyError → CertError

@@ -10,7 +10,7 @@ use Rattle.key_core.specs.declared.signature_error.SignatureError.TheVariants as
 use Rattle.x509_core.specs.declared.csr_error.CsrError.{CsrError}
 use Rattle.x509_core.specs.declared.csr_error.CsrError.TheVariants as errors
 
--- want of memory is told as such, any other cause by the structure and the cause
+-- out of memory is reported as such, any other cause by the structure and the cause
 abbrev pub unread_csr : Element → DerError → CsrError
 unread_csr element der.Memory = errors.Memory
 unread_csr element source = errors.Asn1Deserialization element source
@@ -20,12 +20,12 @@ abbrev pub unwritten_csr : Element → DerError → CsrError
 unwritten_csr element der.Memory = errors.Memory
 unwritten_csr element source = errors.Asn1Serialization element source
 
--- the error for one of a signature; want of memory is told as such
+-- the error for one of a signature; out of memory is reported as such
 abbrev pub unsigned : SignatureError → CsrError
 unsigned signature.Memory = errors.Memory
 unsigned source = errors.Signature source
 
--- the error for that of a private key without a public one; want of memory is told as such
+-- the error for that of a private key without a public one; out of memory is reported as such
 abbrev pub keyless : KeyError → CsrError
 keyless key.Memory = errors.Memory
 keyless source = errors.PrivateKeyToPublicKey source

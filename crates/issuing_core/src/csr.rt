@@ -91,11 +91,11 @@ impl Csr {
         ensures answer { MatchResult result
             (λ csr. IsWithin IsRequest der.now csr.request)
             (IsUnreadCsr elements.Request (RefusesOctets IsRequest der.now)) }
-        // Octets with a fault are refused with it, whatever memory there is.
+        // Octets with a fault are refused with it, even when memory runs out.
         ensures faulty { (at : ℕ) (fault : DerFault) → IsExactFault der.now at fault
             → result ≡ Err (errors.Asn1Deserialization elements.Request
             (der_errors.Malformed (record { at = at; fault = fault }))) }
-        // An element that is that of no request is refused as such, whatever memory there is.
+        // An element that is that of no request is refused as such, even when memory runs out.
         ensures shapeless { (element : DerElement) → IsDer element → der.now ≡ encoding element
             → ((r : CertificationRequest) → IsRequest element r → ⊥)
             → result ≡ Err (errors.Asn1Deserialization elements.Request der_errors.Shape) }

@@ -1,4 +1,4 @@
--- What is written of a key is refused by its reader for want of memory alone.
+-- What is written of a key is refused by its reader only when out of memory.
 use Rattle.std.proofs.Common.{◌≡◌, ℕ, List, Option, Some, None, refl, sym, ap, subst, ◌∙◌, inl, inr}
 use Rattle.der_core.specs.DerElement.{DerElement}
 use Rattle.der_core.specs.Encoding.{encoding, IsDer}

@@ -8,7 +8,7 @@ use Rattle.der_core.specs.declared.error.DerError.{DerError}
 use Rattle.der_core.specs.declared.error.DerError.TheVariants as der
 use Rattle.key_core.specs.KeyRefusals.{CantBeWritten}
 
--- an element in bounds is refused for want of memory alone
+-- an element in bounds is refused only when out of memory
 pub written : (t : DerElement) (e : DerError) → IsDer t → CantBeWritten t e → ⊥
 written t (der.Malformed m) bounds refuses = refuses.cause
 written t der.Shape bounds refuses = refuses.cause

@@ -65,7 +65,7 @@ RefusesPayload key (errors.Asn1Serialization element source) =
     × CantBeWritten (rsa_public_key rsa) source
 RefusesPayload key errors.Memory = ⊤
 
--- want of memory is told as such, any other cause by the RSAPublicKey and the cause
+-- out of memory is reported as such, any other cause by the RSAPublicKey and the cause
 abbrev pub payload_refusal : DerError → KeyIdGenError
 payload_refusal der.Memory = errors.Memory
 payload_refusal source = errors.Asn1Serialization elements.RsaPublicKey source
@@ -79,7 +79,7 @@ RefusesKeyIdentifier (SPKValueHashedLeftmost160 hash) info e =
     (key_errors.UnsupportedAlgorithm (kind_of_key info.subject_public_key))))
     ⊎ ((hash ≢ MD5) × RefusesPayload info.subject_public_key e)
 
--- an error of a key as one of its identifier: want of memory is told as such
+-- an error of a key as one of its identifier: out of memory is reported as such
 abbrev pub key_id_refusal : KeyError → KeyIdGenError
 key_id_refusal key_errors.Memory = errors.Memory
 key_id_refusal source = errors.InvalidKey source

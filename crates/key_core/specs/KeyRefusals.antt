@@ -12,7 +12,7 @@ use Rattle.key_core.specs.declared.element.Element.{Element}
 use Rattle.key_core.specs.declared.error.KeyError.{KeyError}
 use Rattle.key_core.specs.declared.error.KeyError.TheVariants as errors
 
--- want of memory is told as such, any other cause by the structure and the cause
+-- out of memory is reported as such, any other cause by the structure and the cause
 abbrev pub unread : Element → DerError → KeyError
 unread element der.Memory = errors.Memory
 unread element source = errors.Asn1Deserialization element source
@@ -22,18 +22,18 @@ abbrev pub unwritten : Element → DerError → KeyError
 unwritten element der.Memory = errors.Memory
 unwritten element source = errors.Asn1Serialization element source
 
--- The error tells of this structure, for a cause that refuses it.
+-- The error names this structure, for a cause that refuses it.
 abbrev pub IsUnreadKey : Element → (DerError → Type 0) → KeyError → Type 0
 IsUnreadKey element = Tells (unread element)
 
--- Octets with a fault are refused with it, whatever memory there is.
+-- Octets with a fault are refused with it, even when memory runs out.
 abbrev pub RefusesFaults : {A : Type 0} → Element → List ℕ → Result A KeyError → Type 0
 RefusesFaults structure octets result =
     (at : ℕ) (fault : DerFault) → IsExactFault octets at fault
     → result ≡ Err (errors.Asn1Deserialization structure
     (der.Malformed (record { at = at; fault = fault })))
 
--- An element that spells no value is refused as such, whatever memory there is.
+-- An element that encodes no value is refused as such, even when memory runs out.
 abbrev pub RefusesOthers : {A X : Type 0} → (DerElement → X → Type 0) → Element → List ℕ
     → Result A KeyError → Type 0
 RefusesOthers {A} {X} spells structure octets result =
@@ -41,11 +41,11 @@ RefusesOthers {A} {X} spells structure octets result =
     → ((value : X) → spells element value → ⊥)
     → result ≡ Err (errors.Asn1Deserialization structure der.Shape)
 
--- The error tells of this structure, for a cause that refuses to write it.
+-- The error names this structure, for a cause that refuses to write it.
 abbrev pub IsUnwrittenKey : Element → (DerError → Type 0) → KeyError → Type 0
 IsUnwrittenKey element = Tells (unwritten element)
 
--- The element can't be written, for a cause other than want of memory.
+-- The element can't be written, for a cause other than out of memory.
 pub record CantBeWritten (element : DerElement) (source : DerError) : Type 0 where
   pub cause : RefusesToWrite element source
   pub not_memory : source ≢ der.Memory

@@ -10,7 +10,7 @@ use Rattle.key_core.specs.declared.signature_error.SignatureError.TheVariants as
 abbrev pub RefusesSignatureBy : List (Rule SignatureError) → SignatureError → Type 0
 RefusesSignatureBy = RefusesByRules errors.Memory
 
--- an error of a key as one of a signature: want of memory is told as such
+-- an error of a key as one of a signature: out of memory is reported as such
 abbrev pub key_refusal : KeyError → SignatureError
 key_refusal key.Memory = errors.Memory
 key_refusal source = errors.Key source

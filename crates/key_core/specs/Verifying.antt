@@ -200,7 +200,7 @@ HasVerdict judge algorithm info msg sig result =
     MatchResult result (IsJudged judge algorithm info msg sig)
     (RefusesSignatureBy (key_rules algorithm info ++ Unwritable info ∷ []))
 
--- A key that isn't one for the algorithm is refused, whatever memory there is.
+-- A key that isn't one for the algorithm is refused, even when memory runs out.
 abbrev pub RefusesKey : {A : Type 0} → SignatureAlgorithm → SubjectPublicKeyInfo
     → Result A SignatureError → Type 0
 RefusesKey algorithm info result =

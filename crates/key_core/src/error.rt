@@ -16,10 +16,10 @@ use thiserror::Error;
 /// Why a key isn't read, made or written.
 #[derive(Clone, Copy, Debug, PartialEq, Eq, Error)]
 pub enum KeyError {
-    /// The value has no encoding: it is nested too deep, or some contents are too long. Never with
-    /// want of memory.
+    /// The value has no encoding: it is nested too deep, or some contents are too long. Never wraps
+    /// `Memory`.
     Asn1Serialization { element: Element, source: DerError },
-    /// The octets are no element, or one of another structure. Never with want of memory.
+    /// The octets are no element, or one of another structure. Never wraps `Memory`.
     Asn1Deserialization { element: Element, source: DerError },
     /// A key of RSA can't be had.
     Rsa { context: KeyContext },

@@ -38,10 +38,10 @@ pub enum KeyIdGenMethod {
 /// Why a key has no identifier.
 #[derive(Clone, Copy, Debug, PartialEq, Eq, Error)]
 pub enum KeyIdGenError {
-    /// The key can't be written, or the digest has fewer octets than the identifier. Never with
-    /// want of memory.
+    /// The key can't be written, or the digest has fewer octets than the identifier. Never wraps
+    /// `Memory`.
     InvalidKey { source: KeyError },
-    /// What the bits of the key hold can't be written. Never with want of memory.
+    /// What the bits of the key hold can't be written. Never wraps `Memory`.
     Asn1Serialization { element: Element, source: DerError },
     /// No memory was left.
     Memory,
@@ -62,7 +62,7 @@ impl KeyIdGenMethod {
             (RefusesKeyIdentifier self public_key.now.info) }
         ensures sized { IfOk result (λ id. (hash : HashAlgorithm)
             → self ≡ methods.SPKValueHashedLeftmost160 hash → vec_len id ≡ 20) }
-        // MD5 is refused for the bits, whatever memory there is.
+        // MD5 is refused for the bits, even when memory runs out.
         ensures refused { self ≡ methods.SPKValueHashedLeftmost160 MD5
             → result ≡ Err (errors.InvalidKey (key_errors.UnsupportedAlgorithm
             (kind_of_key public_key.now.info.subject_public_key))) }

@@ -42,7 +42,7 @@ pub fn pkcs1_comes_back()
 {}
 
 /// What `PublicKey::to_der` writes of a key is read by `from_der` as that key again, and refused
-/// for want of memory alone.
+/// only when out of memory.
 pub fn public_keys_come_back()
     ensures again { (octets : List ℕ) (info again : SubjectPublicKeyInfo) → IsWholeOf info octets
         → IsWithin IsPublicKeyInfo octets again → again ≡ info }
@@ -53,7 +53,7 @@ pub fn public_keys_come_back()
 {}
 
 /// What `PrivateKey::to_pkcs8` writes of a key that was read is read by `from_pkcs8` as that key
-/// again, and refused for want of memory alone, under a scheme that derives the same keys from
+/// again, and refused only when out of memory, under a scheme that derives the same keys from
 /// secrets.
 pub fn pkcs8_comes_back()
     ensures again { (derives : Derivation) (octets : List ℕ) (key again : PrivateKey)

@@ -119,7 +119,7 @@ impl PublicKey {
     ) -> Result<PublicKey, KeyError>
         ensures answer { MatchResult result (λ key. IsEdKey algorithm public_key.now key.info)
             (RefusesEd algorithm) }
-        // Another identifier is refused, whatever memory there is.
+        // Another identifier is refused, even when memory runs out.
         ensures refused { (NamesEd algorithm → ⊥)
             → result ≡ Err (errors.ED contexts.UnsupportedEd) }
     {

@@ -51,7 +51,7 @@ impl SignatureAlgorithm {
         id: &AlgorithmIdentifier,
     ) -> Result<SignatureAlgorithm, SignatureError>
         ensures answer { MatchResult result (NamesSignature id.now) (IsUnnamed id.now) }
-        // An algorithm that there is is read whatever memory there is.
+        // An algorithm that there is is read even when memory runs out.
         ensures read { (algorithm : SignatureAlgorithm) → NamesSignature id.now algorithm
             → result ≡ Ok algorithm }
     {
@@ -70,7 +70,7 @@ impl SignatureAlgorithm {
         alloc: Global,
     ) -> Result<AlgorithmIdentifier, SignatureError>
         ensures answer { MatchResult result (IsWrittenAlgorithm self) (IsUnwritable self) }
-        // One without an identifier is refused, whatever memory there is.
+        // One without an identifier is refused, even when memory runs out.
         ensures refused { signature_identifier self ≡ None
             → result ≡ Err (errors.Ec contexts.HashNotSupported) }
     {

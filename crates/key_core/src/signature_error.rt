@@ -16,7 +16,7 @@ use thiserror::Error;
 /// Why a signature isn't made or accepted, or an algorithm of signatures isn't read or written.
 #[derive(Debug, PartialEq, Eq, Drop, Error)]
 pub enum SignatureError {
-    /// The key is not one for the algorithm, or can't be written. Never with want of memory.
+    /// The key is not one for the algorithm, or can't be written. Never wraps `Memory`.
     Key { source: KeyError },
     /// A signature of RSA can't be made or judged.
     Rsa { context: SigContext },

@@ -34,7 +34,7 @@ pub fn signature_algorithms_are_read_as_written()
 {}
 
 /// At most one error tells of the first broken rule of a verification, and none does where the
-/// signature is accepted. So `SignatureAlgorithm::verify` has one answer, want of memory aside.
+/// signature is accepted. So `SignatureAlgorithm::verify` has one answer, out of memory aside.
 pub fn signatures_have_one_answer()
     ensures one_refusal { (judge : Judge) (algorithm : SignatureAlgorithm)
         (info : SubjectPublicKeyInfo) (msg sig : List ℕ) (a b : SignatureError)

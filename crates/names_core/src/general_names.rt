@@ -128,7 +128,7 @@ impl GeneralNames {
     pub fn find_directory_name(&self, alloc: Global) -> Result<Option<DirectoryName>, AllocError>
         ensures found { IfOk result
             (λ found. option_map (λ name. name.name) found ≡ first_directory_name self.now) }
-        // That there is none is answered whatever memory there is.
+        // That there is none is reported even when memory runs out.
         ensures none { first_directory_name self.now ≡ None → result ≡ Ok None }
     {
         match first_directory_name(self.names.as_slice()) {

@@ -46,7 +46,7 @@ same_certificates (x ∷ xs) (y ∷ ys) same =
 spells_none : (kept : KeptCertificate) → ((c : Certificate) → IsCertificate (certificate_of kept.elements) c → ⊥) → ⊥
 spells_none kept none = ∥∥₁_elim kept.spelled (λ x y. absurd x) (λ are. none kept.certificate (record { elements = kept.elements; is = refl; spelled = are }))
 
--- what is a certificate is refused for want of memory alone
+-- what is a certificate is refused only when out of memory
 refused_for_memory : (kept : KeptCertificate) (octets : List ℕ) (source : DerError) → kept_octets kept ≡ octets → RefusesOctets IsCertificate octets source → source ≡ der.Memory
 refused_for_memory kept octets (der.Malformed m) is refused =
     absurd (no_fault_where_whole octets (certificate_of kept.elements) m.at m.fault kept.der (sym is) refused)
@@ -125,7 +125,7 @@ module _ (unbroken : (judge : Judge) (checks : ChainChecks) (checked : KeptCerti
   not_both judge date (checked ∷ parents) count e accepted (inl broken) = absurd (unbroken judge (all_checks date) checked (Some parents) e accepted.1 broken)
   not_both judge date (checked ∷ parents) count e accepted (inr memory) = memory
 
-  -- what is accepted is refused for want of memory alone
+  -- what is accepted is refused only when out of memory
   refused_is_memory : (judge : Judge) (date : GeneralizedTime) (octets : List (List ℕ)) (count : ℕ) (e : CertError)
       → IsChainAnswer judge date octets (Ok count) → IsChainAnswer judge date octets (Err e) → e ≡ cert.Memory
   refused_is_memory judge date octets count e accepted (inl unread) =
@@ -143,7 +143,7 @@ module _ (unbroken : (judge : Judge) (checks : ChainChecks) (checked : KeptCerti
       one_count judge date x.0 m n x.2
       (subst (λ (cs : List KeptCertificate). IsChainJudged judge date cs (Ok n)) (same_certificates y.0 x.0 (y.1 ∙ sym x.1)) y.2)
 
-  -- two refusals have one name, want of memory aside
+  -- two refusals have one name, out of memory aside
   one_name : (judge : Judge) (date : GeneralizedTime) (octets : List (List ℕ)) (e f : CertError)
       → IsChainAnswer judge date octets (Err e) → IsChainAnswer judge date octets (Err f) → IsNamedAlike e f
   one_name judge date octets e f (inl a) (inl b) = unread_alike octets e f a b

@@ -49,7 +49,7 @@ pub record IsRun (words : List (List ℕ)) (shelf shelf_now : ShelfState) (out o
   pub bounded : status ≤ statuses.out_of_memory
   -- an acceptance or a refusal is the answer, and its line is reported
   pub reported : status ≤ statuses.refused → IsDelivered words shelf shelf_now out out_now status
-  -- the words ask for nothing, even when memory has run out
+  -- the words ask for nothing, even when memory runs out
   pub usage : (status ≡ statuses.usage) ↔ AsksForNothing words
   -- the table has a bad line, and all files were read
   pub bad_table : status ≡ statuses.bad_table → ForJob words (FindsBadTable shelf shelf_now)

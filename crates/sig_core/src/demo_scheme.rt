@@ -79,7 +79,7 @@ impl Scheme for DemoScheme {
             (λ sig. (key : List ℕ) → demo_key (kind_of_algorithm alg) secret.now ≡ Some key
             → demo_verdict alg key msg.now sig.items ≡ Verdict.Accept) }
         ensures refused { IsErrOf result SchemeError.Refused → demo_signs alg secret.now ≡ false }
-        // A secret without a key is refused, whatever memory there is.
+        // A secret without a key is refused, even when memory runs out.
         ensures always { demo_signs alg secret.now ≡ false → result ≡ Err SchemeError.Refused }
     {
         let key = self.public_of(alloc, alg.kind(), secret)?;
@@ -94,7 +94,7 @@ impl Scheme for DemoScheme {
     ) -> Result<Vec<u8>, SchemeError>
         ensures derived { IfOk result (λ key. demo_key kind secret.now ≡ Some key.items) }
         ensures refused { IsErrOf result SchemeError.Refused → demo_key kind secret.now ≡ None }
-        // A secret without a key is refused, whatever memory there is.
+        // A secret without a key is refused, even when memory runs out.
         ensures always { demo_key kind secret.now ≡ None → result ≡ Err SchemeError.Refused }
     {
         match kind {

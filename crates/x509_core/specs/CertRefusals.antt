@@ -6,7 +6,7 @@ use Rattle.key_core.specs.declared.element.Element.{Element}
 use Rattle.x509_core.specs.declared.error.CertError.{CertError}
 use Rattle.x509_core.specs.declared.error.CertError.TheVariants as errors
 
--- want of memory is told as such, any other cause by the structure and the cause
+-- out of memory is reported as such, any other cause by the structure and the cause
 abbrev pub unread : Element → DerError → CertError
 unread element der.Memory = errors.Memory
 unread element source = errors.Asn1Deserialization element source

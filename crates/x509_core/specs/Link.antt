@@ -115,7 +115,7 @@ pub record IsUnsupported (child : KeptCertificate) (e : CertError) : Type 0 wher
   pub told : e ≡ errors.Signature
       (signature_errors.UnsupportedAlgorithm (unsupported.Oid (oid_of id)))
 
--- an error of a signature as one of a certificate: want of memory is told as such
+-- an error of a signature as one of a certificate: out of memory is reported as such
 abbrev pub signature_refusal : SignatureError → CertError
 signature_refusal signature_errors.Memory = errors.Memory
 signature_refusal source = errors.Signature source

@@ -83,11 +83,11 @@ impl Cert {
         ensures answer { MatchResult result
             (λ cert. IsWithin IsCertificate der.now cert.certificate)
             (IsUnreadCert elements.Certificate (RefusesOctets IsCertificate der.now)) }
-        // Octets with a fault are refused with it, whatever memory there is.
+        // Octets with a fault are refused with it, even when memory runs out.
         ensures faulty { (at : ℕ) (fault : DerFault) → IsExactFault der.now at fault
             → result ≡ Err (errors.Asn1Deserialization elements.Certificate
             (der_errors.Malformed (record { at = at; fault = fault }))) }
-        // An element that is that of no certificate is refused as such, whatever memory there is.
+        // An element that is that of no certificate is refused as such, even when memory runs out.
         ensures shapeless { (element : DerElement) → IsDer element → der.now ≡ encoding element
             → ((c : Certificate) → IsCertificate element c → ⊥)
             → result ≡ Err (errors.Asn1Deserialization elements.Certificate der_errors.Shape) }

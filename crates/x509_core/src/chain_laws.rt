@@ -17,7 +17,7 @@ ghost use Rattle.x509_core.specs.declared.window.Window.{Window};
 
 /// What is valid breaks no rule of windows, what is a link none of links, and what is accepted none
 /// of chains. So `Window::expect_valid` answers Ok exactly there, and `Cert::expect_link` and
-/// `CertValidator::verify` do, want of memory aside. What has expired is told so, and nothing else.
+/// `CertValidator::verify` do, out of memory aside. What has expired is told so, and nothing else.
 pub fn chains_break_no_rule()
     ensures window { (w : Window) (f : CertificateElements) (cause : CertCause)
         → IsWithinWindow w f → IsFirstBroken (window_rules w f) cause → ⊥ }

@@ -29,22 +29,22 @@ pub enum CertError {
         id: DirectoryName,
         source: CertCause,
     },
-    /// The value has no encoding: it is nested too deep, or some contents are too long. Never with
-    /// want of memory.
+    /// The value has no encoding: it is nested too deep, or some contents are too long. Never wraps
+    /// `Memory`.
     Asn1Serialization {
         element: Element,
         source: DerError,
     },
-    /// The octets are no element, or one of another structure. Never with want of memory.
+    /// The octets are no element, or one of another structure. Never wraps `Memory`.
     Asn1Deserialization {
         element: Element,
         source: DerError,
     },
-    /// The algorithm of a signature isn't known, or has no identifier. Never with want of memory.
+    /// The algorithm of a signature isn't known, or has no identifier. Never wraps `Memory`.
     Signature {
         source: SignatureError,
     },
-    /// A key has no identifier. Never with want of memory.
+    /// A key has no identifier. Never wraps `Memory`.
     KeyIdGen {
         source: KeyIdGenError,
     },
@@ -52,7 +52,7 @@ pub enum CertError {
     InvalidChain {
         source: CaChainError,
     },
-    /// The request isn't accepted that a certificate is to be made from. Never with want of memory.
+    /// The request isn't accepted that a certificate is to be made from. Never wraps `Memory`.
     InvalidCsr {
         source: CsrError,
     },
@@ -74,7 +74,7 @@ pub enum CertError {
         not_after: UtcDate,
         now: UtcDate,
     },
-    /// The private key has no public key. Never with want of memory.
+    /// The private key has no public key. Never wraps `Memory`.
     PrivateKeyToPublicKey {
         source: KeyError,
     },
@@ -123,13 +123,13 @@ impl Drop for CertError {
 /// What a certificate is refused for, or not made, each as the `CertError` of its name.
 #[derive(Debug, Drop, Error)]
 pub enum CertCause {
-    /// The value has no encoding: it is nested too deep, or some contents are too long. Never with
-    /// want of memory.
+    /// The value has no encoding: it is nested too deep, or some contents are too long. Never wraps
+    /// `Memory`.
     Asn1Serialization { element: Element, source: DerError },
     /// The signature of the certificate isn't one by the key of its parent, or isn't made. Never
-    /// with want of memory.
+    /// wraps `Memory`.
     Signature { source: SignatureError },
-    /// A key has no identifier. Never with want of memory.
+    /// A key has no identifier. Never wraps `Memory`.
     KeyIdGen { source: KeyIdGenError },
     /// Certificates are no chain.
     InvalidChain { source: CaChainError },

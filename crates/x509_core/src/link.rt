@@ -49,7 +49,7 @@ impl Cert {
         ensures answer { MatchResult result
             (λ _. IsWithinWindow window.now self.now.elements)
             (Breaks (IsOutside window.now self.now)) }
-        // What is valid is so whatever memory there is.
+        // What is valid is so even when memory runs out.
         ensures valid { OnErr result (IsWithinWindow window.now self.now.elements → ⊥) }
     {
         self.viewed().expect_valid(alloc, window)

@@ -92,7 +92,7 @@ pub issuer_kept : (kind : ExtensionKind) (octets kept : List ℕ)
 issuer_kept kind octets kept None is none held same = (subst (λ (k : ExtensionKind). MayBeKept k kept) (sym is) (subst HoldsNoNames (sym same) held), sym same)
 issuer_kept kind octets kept (Some names) is none held same = absurd cc
 
--- what holds names is refused for want of memory alone
+-- what holds names is refused only when out of memory
 pub names_refused : (octets : List ℕ) (e : DerError) → FitsWithin AreGeneralNames octets → RefusesShape (IsWithin AreGeneralNames octets) e → e ≡ errors.Memory
 names_refused octets errors.Memory fit refused = refl
 names_refused octets errors.Shape fit refused = absurd (refused fit.0 fit.1)

@@ -22,7 +22,7 @@ use Rattle.authenticode_values.specs.declared.pkcs7.Pkcs7.{Pkcs7}
 
 -- ---- causes
 
--- an element in bounds is refused for want of memory alone
+-- an element in bounds is refused only when out of memory
 not_unwritable : (element : DerElement) → IsDer element → (source : DerError) → source ≢ der.Memory → RefusesToWrite element source → ⊥
 not_unwritable element is (der.Malformed m) known refused = refused
 not_unwritable element is der.Shape known refused = refused

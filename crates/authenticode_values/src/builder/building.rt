@@ -76,7 +76,7 @@ impl AuthenticodeSignatureBuilder<'_> {
             (arithmetic (S.judge scheme.now) (S.signs scheme.now) (S.pair scheme.now))
             self.entry (fields_of s.0))
             (RefusesBySteps errors.Memory (building_steps (S.signs scheme.now) self.entry)) }
-        // What isn't given, and SHA-224, is told whatever memory there is.
+        // What isn't given, and SHA-224, is reported even when memory runs out.
         ensures refused { (e : AuthenticodeSignatureBuilderError)
             → IsFirstUntaken (part_steps self.entry) e → result ≡ Err e }
     {

@@ -60,7 +60,7 @@ impl<'a> CertificateBuilder<'a> {
             (RefusesBySteps errors.Memory (build_steps
             (arithmetic (S.judge scheme.now) (S.signs scheme.now) (S.pair scheme.now))
             self.entry word)) }
-        // What isn't given is reported even when memory has run out.
+        // What isn't given is reported even when memory runs out.
         ensures refused { (e : CertError) → IsFirstUntaken (argument_steps self.entry) e
             → result ≡ Err e }
         // Its signature is one by each certificate whose key pairs with the issuer's.

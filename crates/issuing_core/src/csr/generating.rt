@@ -41,7 +41,7 @@ impl Csr {
             (RefusesToGenerate
             (arithmetic (S.judge scheme.now) (S.signs scheme.now) (S.pair scheme.now)) subject
             private_key.now signature_hash_type []) }
-        // A public key that is missing is told whatever memory there is.
+        // A public key that is missing is reported even when memory runs out.
         ensures missing { (e : KeyError) → point_beside private_key.now ≡ None
             → IsMissingHalf (container_of private_key.now).private_key e
             → result ≡ Err (keyless e) }
@@ -80,7 +80,7 @@ impl Csr {
             (RefusesToGenerate
             (arithmetic (S.judge scheme.now) (S.signs scheme.now) (S.pair scheme.now)) subject
             private_key.now signature_hash_type attributes) }
-        // A public key that is missing is told whatever memory there is.
+        // A public key that is missing is reported even when memory runs out.
         ensures missing { (e : KeyError) → point_beside private_key.now ≡ None
             → IsMissingHalf (container_of private_key.now).private_key e
             → result ≡ Err (keyless e) }

@@ -24,7 +24,7 @@ impl Csr {
         ensures answer { MatchResult result
             (λ _. IsSelfSigned (S.judge scheme.now) self.now)
             (IsUnsigned (RefusesSelfSigned (S.judge scheme.now) self.now)) }
-        // A key that the algorithm isn't for is refused whatever memory there is.
+        // A key that the algorithm isn't for is refused even when memory runs out.
         ensures refused { (algorithm : SignatureAlgorithm) (e : SignatureError)
             → NamesSignature self.now.request.signature_algorithm algorithm
             → IsFirstBroken

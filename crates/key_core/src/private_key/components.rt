@@ -40,7 +40,7 @@ impl PrivateKey {
         ensures answer { MatchResult result
             (IsGivenPointKey curve secret.now point_x.now point_y.now)
             (RefusesCoordinates curve point_x.now point_y.now) }
-        // Coordinates of another length are refused, whatever memory there is.
+        // Coordinates of another length are refused, even when memory runs out.
         ensures refused { (AreCoordinates curve point_x.now point_y.now → ⊥)
             → result ≡ Err (errors.EC contexts.CoordinateSize) }
     {

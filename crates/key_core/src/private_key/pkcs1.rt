@@ -52,7 +52,7 @@ impl PrivateKey {
         ensures answer { MatchResult result
             (λ octets. IsPkcs1OfPrivate self.now.info.private_key octets.items)
             (RefusesPrivatePkcs1 self.now.info.private_key) }
-        // A key of another kind is refused, whatever memory there is.
+        // A key of another kind is refused, even when memory runs out.
         ensures refused { private_kind self.now.info.private_key ≢ kinds.Rsa
             → result ≡ Err (errors.Rsa contexts.NotRsa) }
     {

@@ -41,7 +41,7 @@ impl PrivateKey {
     /// missing. A key of an elliptic curve is written anew on the curve that the parameters name,
     /// and refused as `EC` where they name none; its point is had as by
     /// `from_ec_der_with_curve_oid`. Octets that are no element, or one of another structure, are
-    /// refused as `Asn1Deserialization`, whatever memory there is.
+    /// refused as `Asn1Deserialization`, even when memory runs out.
     pub fn from_pkcs8<S: Scheme>(
         alloc: Global,
         der: &[u8],

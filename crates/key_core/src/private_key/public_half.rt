@@ -22,7 +22,7 @@ impl PrivateKey {
             (λ key. IsPublicHalf self.now.info.private_key self.now.info.private_key_algorithm
             self.now.public_key key.info)
             (RefusesPublicHalf self.now.info.private_key self.now.public_key) }
-        // A public key that is missing is told, whatever memory there is.
+        // A public key that is missing is reported, even when memory runs out.
         ensures missing { (e : KeyError) → self.now.public_key ≡ None
             → IsMissingHalf self.now.info.private_key e → result ≡ Err e }
     {

@@ -30,7 +30,7 @@ impl PrivateKey {
     /// stands in it and the curve is known, the scheme derives one; the key is refused as `EC`
     /// where the secret hasn't as many octets as the field then, or the scheme derives none. Where
     /// the curve isn't known the point stays missing. Octets that are no element, or one of another
-    /// structure, are refused as `Asn1Deserialization`, whatever memory there is.
+    /// structure, are refused as `Asn1Deserialization`, even when memory runs out.
     pub fn from_ec_der<S: Scheme>(
         alloc: Global,
         der: &[u8],

@@ -26,7 +26,7 @@ impl PublicKey {
         ensures answer { MatchResult result
             (λ key. IsPointKey curve x.now y.now key.info)
             (RefusesCoordinates curve x.now y.now) }
-        // Coordinates of another length are refused, whatever memory there is.
+        // Coordinates of another length are refused, even when memory runs out.
         ensures refused { (AreCoordinates curve x.now y.now → ⊥)
             → result ≡ Err (errors.EC contexts.CoordinateSize) }
     {

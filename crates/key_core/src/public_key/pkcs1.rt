@@ -45,7 +45,7 @@ impl PublicKey {
         ensures answer { MatchResult result
             (λ octets. IsPkcs1Of self.now.info.subject_public_key octets.items)
             (RefusesPkcs1 self.now.info.subject_public_key) }
-        // A key of another kind is refused, whatever memory there is.
+        // A key of another kind is refused, even when memory runs out.
         ensures refused { kind_of_key self.now.info.subject_public_key ≢ kinds.Rsa
             → result ≡ Err (errors.Rsa contexts.NotRsa) }
     {

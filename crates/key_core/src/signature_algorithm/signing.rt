@@ -49,7 +49,7 @@ impl SignatureAlgorithm {
         ensures accepted { IfOk result (λ sig. (info : SubjectPublicKeyInfo)
             → IsKeyPair (S.pair scheme.now) private_key.now info
             → Accepts (S.judge scheme.now) self info msg.now sig.items) }
-        // A key that isn't one for the algorithm is refused, whatever memory there is.
+        // A key that isn't one for the algorithm is refused, even when memory runs out.
         ensures refused { (e : SignatureError) → IsFirstBroken (secret_rules self private_key.now) e
             → result ≡ Err e }
     {

@@ -61,7 +61,7 @@ returns-clause-file g c =
     made_file (g.S.Scheme.judge c.args.scheme.now) (g.S.Scheme.signs c.args.scheme.now) (g.S.Scheme.pair c.args.scheme.now) (fields_of c.args.pkcs7.now) c.args.hash_algo c.args.file_hash.now (option_copied c.args.program_name)
     c.args.private_key.now c.in_ok-made.made.signed (returns-clause-answer g c)
 
--- ---- what is told whatever memory there is
+-- ---- what is reported even when memory runs out
 
 pub returns-in_err-opus-clause-refused : goal.returns-in_err-opus-clause-refused
 returns-in_err-opus-clause-refused g c = λ no.
