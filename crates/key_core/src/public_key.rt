@@ -50,7 +50,9 @@ impl PublicKey {
         ensures answer { MatchResult result
             (λ key. IsWithin IsPublicKeyInfo der.now key.info)
             (IsUnreadKey elements.SubjectPublicKeyInfo (RefusesOctets IsPublicKeyInfo der.now)) }
+        // Octets with a fault are refused with it, even when memory runs out.
         ensures faulty { RefusesFaults elements.SubjectPublicKeyInfo der.now result }
+        // An element of another structure is refused as such, even when memory runs out.
         ensures shapeless { RefusesOthers IsPublicKeyInfo elements.SubjectPublicKeyInfo der.now
             result }
     {

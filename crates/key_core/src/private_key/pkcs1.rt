@@ -34,7 +34,9 @@ impl PrivateKey {
         ensures answer { MatchResult result
             (IsPrivatePkcs1 der.now)
             (IsUnreadKey elements.RsaPrivateKey (RefusesOctets IsRsaPrivateKey der.now)) }
+        // Octets with a fault are refused with it, even when memory runs out.
         ensures faulty { RefusesFaults elements.RsaPrivateKey der.now result }
+        // An element of another structure is refused as such, even when memory runs out.
         ensures shapeless { RefusesOthers IsRsaPrivateKey elements.RsaPrivateKey der.now result }
     {
         match RsaPrivateKey::from_der(alloc, der) {

@@ -49,7 +49,9 @@ impl PrivateKey {
     ) -> Result<PrivateKey, KeyError>
         ensures answer { MatchResult result (IsPkcs8Key (S.derives scheme.now) der.now)
             (RefusesPkcs8 (S.derives scheme.now) der.now) }
+        // Octets with a fault are refused with it, even when memory runs out.
         ensures faulty { RefusesFaults elements.PrivateKeyInfo der.now result }
+        // An element of another structure is refused as such, even when memory runs out.
         ensures shapeless { RefusesOthers IsPrivateKeyInfo elements.PrivateKeyInfo der.now result }
     {
         match PrivateKeyInfo::from_der(alloc, der) {

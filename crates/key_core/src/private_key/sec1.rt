@@ -39,7 +39,9 @@ impl PrivateKey {
         ensures answer { MatchResult result (IsSec1Key (S.derives scheme.now) der.now)
             (RefusesSec1 (λ read. RefusesOwnCurve (S.derives scheme.now) read.parameters read)
             der.now) }
+        // Octets with a fault are refused with it, even when memory runs out.
         ensures faulty { RefusesFaults elements.EcPrivateKey der.now result }
+        // An element of another structure is refused as such, even when memory runs out.
         ensures shapeless { RefusesOthers IsECPrivateKey elements.EcPrivateKey der.now result }
     {
         match read(alloc, der) {
@@ -59,7 +61,9 @@ impl PrivateKey {
         ensures answer { MatchResult result
             (IsSec1KeyOnKnown (S.derives scheme.now) curve der.now)
             (RefusesSec1 (RefusesKnownCurve (S.derives scheme.now) curve) der.now) }
+        // Octets with a fault are refused with it, even when memory runs out.
         ensures faulty { RefusesFaults elements.EcPrivateKey der.now result }
+        // An element of another structure is refused as such, even when memory runs out.
         ensures shapeless { RefusesOthers IsECPrivateKey elements.EcPrivateKey der.now result }
     {
         match read(alloc, der) {
@@ -80,7 +84,9 @@ impl PrivateKey {
         ensures answer { MatchResult result
             (IsSec1KeyOn (S.derives scheme.now) curve_oid der.now)
             (RefusesSec1 (RefusesCurveKey (S.derives scheme.now) curve_oid) der.now) }
+        // Octets with a fault are refused with it, even when memory runs out.
         ensures faulty { RefusesFaults elements.EcPrivateKey der.now result }
+        // An element of another structure is refused as such, even when memory runs out.
         ensures shapeless { RefusesOthers IsECPrivateKey elements.EcPrivateKey der.now result }
     {
         match read(alloc, der) {
@@ -95,7 +101,9 @@ fn read(alloc: Global, der: &[u8]) -> Result<ECPrivateKey, KeyError>
     ensures answer { MatchResult result
         (IsWithin IsECPrivateKey der.now)
         (IsUnreadKey elements.EcPrivateKey (RefusesOctets IsECPrivateKey der.now)) }
+    // Octets with a fault are refused with it, even when memory runs out.
     ensures faulty { RefusesFaults elements.EcPrivateKey der.now result }
+    // An element of another structure is refused as such, even when memory runs out.
     ensures shapeless { RefusesOthers IsECPrivateKey elements.EcPrivateKey der.now result }
 {
     match ECPrivateKey::from_der(alloc, der) {

@@ -28,7 +28,9 @@ impl PublicKey {
         ensures answer { MatchResult result
             (λ key. IsPkcs1Key der.now key.info)
             (IsUnreadKey elements.RsaPublicKey (RefusesOctets IsRsaPublicKey der.now)) }
+        // Octets with a fault are refused with it, even when memory runs out.
         ensures faulty { RefusesFaults elements.RsaPublicKey der.now result }
+        // An element of another structure is refused as such, even when memory runs out.
         ensures shapeless { RefusesOthers IsRsaPublicKey elements.RsaPublicKey der.now result }
     {
         match RsaPublicKey::from_der(alloc, der) {
