@@ -28,7 +28,7 @@ from pathlib import Path
 
 NO_LIBRARIES = ("_tests", "_answers", "_vectors")
 # Names that methods of the standard library have too.
-STANDARD = {"count", "get", "join", "read"}
+STANDARD = {"chain", "count", "get", "join", "parse", "read"}
 
 COMMENT_OR_TEXT = re.compile(
     r"""//[^\n]*|b?"(?:\\.|[^"\\])*"|b?'(?:\\.[^']*|[^'\\\n])'""", re.DOTALL
