@@ -70,8 +70,10 @@ def main(arguments):
         return 2
     try:
         program = Path(arguments[0]).read_bytes()
-        Path(arguments[1]).write_bytes(signature(program))
-        print(image_digest(program, *arguments[2:] or ["sha256"]))
+        entry = signature(program)
+        digest = image_digest(program, *arguments[2:] or ["sha256"])
+        Path(arguments[1]).write_bytes(entry)
+        print(digest)
     except (OSError, NotSigned, ValueError) as refusal:
         print(f"signed_program.py: {arguments[0]}: {refusal}", file=sys.stderr)
         return 1

@@ -743,6 +743,18 @@ class UsersToolsTest(unittest.TestCase):
             (1, "signed_program.py: file: shake_128 has digests of any length"),
         )
 
+    def test_missing_files(self):
+        for words in ["none"], ["--chain", "none", "other"]:
+            self.assertEqual(self.said(verdict_table, *words), (1, "verdict_table.py: none: no such file"))
+
+    def test_nothing_is_written_by_another_digest(self):
+        with TemporaryDirectory() as folder:
+            program, entry = Path(folder, "program"), Path(folder, "entry")
+            program.write_bytes(signed_programs.stored()["three"].octets)
+            for digest in "shake_128", "sha3":
+                self.assertEqual(self.said(signed_program, program, entry, digest)[0], 1)
+                self.assertFalse(entry.exists())
+
     def test_help(self):
         for tool in verdict_table, order_bag, signed_program, signed_programs:
             self.assertEqual(self.said(tool, "--help"), (0, ""))

@@ -297,12 +297,20 @@ def chain_table(files, version=1):
     return table_of(asked_of_chain([certificate_in(octets) for octets in files]), version)
 
 
+def octets_of(path):
+    """The octets of a file by its path."""
+    try:
+        return Path(path).read_bytes()
+    except FileNotFoundError as error:
+        raise NotRead(f"{path}: no such file") from error
+
+
 def table_for(paths, of_chain, version=1):
     """The same for files by their paths: one signature file, or certificates."""
     certificates = []
     for path in paths:
         try:
-            octets = Path(path).read_bytes()
+            octets = octets_of(path)
             if not of_chain:
                 return table(octets, version)
             certificates.append(certificate_in(octets))
