@@ -1,5 +1,5 @@
 -- What is read of several files, in their order, or why they aren't all read.
-use Rattle.std.specs.Prelude.{◌≡◌, ◌≢◌, ℕ, ◌+◌, List, ◌∷◌, ◌++◌, length, sum_by, IsSome}
+use Rattle.std.specs.Prelude.{◌≡◌, ◌≢◌, ℕ, ◌+◌, ◌*◌, ◌≤◌, List, ◌∷◌, ◌++◌, length, sum_by, IsSome}
 use Rattle.picky_check.specs.declared.error.FileError.{FileError}
 use Rattle.picky_check.specs.declared.error.FileError.TheVariants as file
 use Rattle.authenticode_core.specs.Counts.{GoesOn, HasRisen}
@@ -14,6 +14,10 @@ total_length contents = sum_by (λ octets. length octets) contents
 -- Just this many octets were handed out.
 abbrev pub HandsOut : (number : ℕ) (before after : ShelfState) → Type 0
 HandsOut number before after = RisesBy number before.given after.given
+
+-- At most one octet more than the longest file has was handed out of each of this many files.
+abbrev pub HandsOutAtMost : (files : ℕ) (before after : ShelfState) → Type 0
+HandsOutAtMost files before after = after.given ≤ before.given + files * (longest_file + 1)
 
 -- These are the whole files of these names, as far as the shelf exposes its files, and exactly
 -- their octets were handed out.

@@ -7,7 +7,7 @@ ghost use Rattle.picky_check.specs.Jobs.{contents_held, names_held};
 ghost use Rattle.picky_check.specs.Limits.{longest_file, IsWholeFile, IsLongFile, IsMissingFile};
 ghost use Rattle.picky_check.specs.Shelf.{file_of};
 ghost use Rattle.picky_check.specs.Sink.{Appends, Lowers, HasRoom, IsCutShort};
-ghost use Rattle.picky_check.specs.ReadFiles.{AreRead, AreUnread, HandsOut};
+ghost use Rattle.picky_check.specs.ReadFiles.{AreRead, AreUnread, HandsOut, HandsOutAtMost};
 
 use crate::{Failed, FileError, Shelf, Sink};
 use std::alloc::Global;
@@ -28,6 +28,8 @@ pub fn read_file<F: Shelf>(alloc: Global, shelf: &mut F, name: &str) -> Result<V
         → IsLongFile (F.state shelf.old).files name.now }
     ensures more_given { IsErrOf result FileError.TooLong
         → HandsOut (longest_file + 1) (F.state shelf.old) (F.state shelf.new) }
+    // Whatever the result, no more of the file is read.
+    ensures at_most { HandsOutAtMost 1 (F.state shelf.old) (F.state shelf.new) }
 
     ensures missing { IsMissingFile (F.state shelf.old).files name.now
         → result ≡ Err FileError.Fault }
@@ -107,6 +109,8 @@ pub(crate) fn read_files<F: Shelf>(
         (λ read. AreRead (F.state shelf.old) (F.state shelf.new) (names_held names.now)
         (contents_held read))
         (AreUnread (F.state shelf.old) (F.state shelf.new) (names_held names.now)) }
+    ensures at_most { HandsOutAtMost (length (names_held names.now))
+        (F.state shelf.old) (F.state shelf.new) }
     ensures once { FailsOnce (result ≡ Err FileError.Fault)
         (F.state shelf.old).faults (F.state shelf.new).faults }
 {
@@ -134,6 +138,7 @@ fn read_others<F: Shelf>(
         × AreRead (F.state shelf.old) (F.state shelf.new) (map string_bytes names.now) read) }
     ensures unread { IfErr result
         (AreUnread (F.state shelf.old) (F.state shelf.new) (map string_bytes names.now)) }
+    ensures at_most { HandsOutAtMost (length names.now) (F.state shelf.old) (F.state shelf.new) }
     ensures once { FailsOnce (result ≡ Err FileError.Fault)
         (F.state shelf.old).faults (F.state shelf.new).faults }
 {

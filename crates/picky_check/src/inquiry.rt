@@ -1,14 +1,15 @@
 //! What is found out about the files that the words name: a report, or why there is none.
 
-ghost use Rattle.std.specs.Prelude.{◌≡◌, ◌⊎◌, ◌∷◌, ℕ, Err, map, string_bytes, IfOk, IfErr, List};
+ghost use Rattle.std.specs.Prelude.{◌≡◌, ◌⊎◌, ◌∷◌, ℕ, Err, length, map, string_bytes, IfOk, IfErr, List};
 ghost use Rattle.sig_core.specs.declared.verdict_row.VerdictRow.{VerdictRow};
 ghost use Rattle.sig_core.specs.VerdictTable.{IsTable, IsFirstBadLine, verdict_of};
 ghost use Rattle.picky_check.specs.Answer.{IsAnswerTo, IsCertificateAnswer, IsSignatureAnswer, table_in};
 ghost use Rattle.picky_check.specs.Counts.{FailsOnce};
 ghost use Rattle.picky_check.specs.Inquiry.{IsReportOf, GivesReport, GivesStop, StopsForText, IsInquiry, Inquires, Reports};
 ghost use Rattle.picky_check.specs.Jobs.{contents_held, job_held};
+ghost use Rattle.picky_check.specs.ReadFiles.{HandsOutAtMost};
 ghost use Rattle.picky_check.specs.Report.{Answer};
-ghost use Rattle.picky_check.specs.Words.{AsksFor, AsksForNothing, Job as AskedJob};
+ghost use Rattle.picky_check.specs.Words.{AsksFor, AsksForNothing, Job as AskedJob, files_of};
 
 use crate::Shelf;
 use crate::chain::check_chain;
@@ -33,6 +34,8 @@ pub(crate) fn inquire<F: Shelf>(
     ensures unread { AsksForNothing (map string_bytes words.now) → shelf.new ≡ shelf.old }
     ensures asked { Inquires (map string_bytes words.now)
         (F.state shelf.old) (F.state shelf.new) result }
+    ensures at_most { (asked : AskedJob) → AsksFor (map string_bytes words.now) asked
+        → HandsOutAtMost (length (files_of asked)) (F.state shelf.old) (F.state shelf.new) }
     ensures once { FailsOnce (result ≡ Err Stop.Shelf)
         (F.state shelf.old).faults (F.state shelf.new).faults }
     ensures settled { AsksForNothing (map string_bytes words.now)
@@ -47,6 +50,8 @@ pub(crate) fn inquire<F: Shelf>(
 /// Reads the files of a job, and judges what they hold.
 fn answer<F: Shelf>(alloc: Global, shelf: &mut F, job: &Job<'_>) -> Result<Report, Stop>
     ensures found { IsInquiry (F.state shelf.old) (F.state shelf.new) (job_held job.now) result }
+    ensures at_most { HandsOutAtMost (length (files_of (job_held job.now)))
+        (F.state shelf.old) (F.state shelf.new) }
     ensures once { FailsOnce (result ≡ Err Stop.Shelf)
         (F.state shelf.old).faults (F.state shelf.new).faults }
 {

@@ -1,14 +1,15 @@
 //! A run of the program: words, files, report, and the status that it ends with.
 
-ghost use Rattle.std.specs.Prelude.{◌≡◌, ◌⊎◌, map, string_bytes};
+ghost use Rattle.std.specs.Prelude.{◌≡◌, ◌⊎◌, length, map, string_bytes};
 ghost use Rattle.std.specs.IoError.{error_kind};
 ghost use Rattle.authenticode_core.specs.Counts.{HasRisen};
 ghost use Rattle.picky_check.specs.Counts.{FailsOnce};
+ghost use Rattle.picky_check.specs.ReadFiles.{HandsOutAtMost};
 ghost use Rattle.picky_check.specs.Run.{IsRun};
 ghost use Rattle.picky_check.specs.Sink.{Appends, IsCutShort};
 ghost use Rattle.picky_check.specs.Statuses as statuses;
 ghost use Rattle.picky_check.specs.Vouched.{IsVouched};
-ghost use Rattle.picky_check.specs.Words.{AsksForNothing};
+ghost use Rattle.picky_check.specs.Words.{AsksFor, AsksForNothing, Job, files_of};
 
 use crate::inquiry::inquire;
 use crate::report::Report;
@@ -27,6 +28,9 @@ pub fn run<F: Shelf, O: Sink>(alloc: Global, words: &[String], shelf: &mut F, ou
         (O.state out.old).held (O.state out.new).held }
     // Nothing is read where nothing is asked for.
     ensures unread { AsksForNothing (map string_bytes words.now) → shelf.new ≡ shelf.old }
+    // Whatever the status, at most one octet more than the longest file has is read of each file.
+    ensures at_most { (job : Job) → AsksFor (map string_bytes words.now) job
+        → HandsOutAtMost (length (files_of job)) (F.state shelf.old) (F.state shelf.new) }
     // A call of the shelf or of the sink that failed is the last, and the status reports it.
     ensures shelf_once { FailsOnce (result ≡ statuses.shelf_failed) (F.state shelf.old).faults
         (F.state shelf.new).faults }

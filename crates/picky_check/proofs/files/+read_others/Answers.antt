@@ -1,4 +1,5 @@
-use Rattle.std.proofs.Common.{List, ℕ, Err, ap, map, string_bytes, sym, subst, ◌∙◌}
+use Rattle.std.proofs.Common.{List, ℕ, ◌-◌, Err, length, drop, ap, map, string_bytes, sym, subst, ◌∙◌, arith}
+use Rattle.std.proofs.lemmas.List.{length-take, length-drop}
 use Rattle.std.proofs.lemmas.Result.{IfErr-weaker, err_from_is_err_and}
 use Rattle.picky_check.specs.ReadFiles.{AreUnread}
 use Rattle.picky_check.proofs.AskedWords.{behind, words_are}
@@ -40,3 +41,13 @@ returns-in_err-push-clause-once g t c = none_failed (stands c.in_ok-read_file.en
 
 pub returns-clause-once : goal.returns-clause-once
 returns-clause-once g t c = failed_then (stands c.in_ok-read_file.ensures.once (λ none. absurd cc)) c.read_others.ensures.once
+
+pub returns-in_err-read_file-clause-at_most : goal.returns-in_err-read_file-clause-at_most
+returns-in_err-read_file-clause-at_most g t c = omega (arith, c.in_err-read_file.ensures.at_most, c.in-len1-up.len_at_least)
+
+pub returns-in_err-push-clause-at_most : goal.returns-in_err-push-clause-at_most
+returns-in_err-push-clause-at_most g t c = omega (arith, c.in_ok-read_file.ensures.at_most, c.in-len1-up.len_at_least)
+
+pub returns-clause-at_most : goal.returns-clause-at_most
+returns-clause-at_most g t c =
+    omega (arith, c.in_ok-read_file.ensures.at_most, c.read_others.ensures.at_most, c.in-len1-up.len_at_least, length-take (length c.args.names.now - 1) (drop 1 c.args.names.now), length-drop 1 c.args.names.now)

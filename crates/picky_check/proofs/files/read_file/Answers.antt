@@ -102,3 +102,23 @@ pub returns-clause-more_given : goal.returns-clause-more_given
 returns-clause-more_given g c _ =
     let long : length c.loop-piece.octets.items ≡ 16777217 = omega (arith, c.loop-piece-test.false, c.loop-piece.invariant.within, c.len.ensures) in
     subst (λ n. RisesBy n (g.F.Shelf.state c.args.shelf.now).given (g.F.Shelf.state c.loop-piece.shelf).given) long c.loop-piece.invariant.given
+
+-- ---- at most one octet more than the longest file has
+
+pub returns-in_err-pick-clause-at_most : goal.returns-in_err-pick-clause-at_most
+returns-in_err-pick-clause-at_most g c = omega (arith, c.pick.ensures.none_given)
+
+pub returns-in_err-count-clause-at_most : goal.returns-in_err-count-clause-at_most
+returns-in_err-count-clause-at_most g c =
+    omega (arith, c.loop-piece.invariant.given, c.loop-piece.invariant.within, c.in_err-count.ensures.none_given)
+
+pub returns-then-count-eq0-clause-at_most : goal.returns-then-count-eq0-clause-at_most
+returns-then-count-eq0-clause-at_most g c =
+    omega (arith, c.loop-piece.invariant.given, c.loop-piece.invariant.within, c.in_ok-count.ensures.given, c.if-count-eq0.true)
+
+pub returns-in_err-extend_from_slice-clause-at_most : goal.returns-in_err-extend_from_slice-clause-at_most
+returns-in_err-extend_from_slice-clause-at_most g c =
+    omega (arith, c.loop-piece.invariant.given, c.in_ok-count.ensures.given, c.in_ok-count.ensures.bound, length-take c.min-most.result c.loop-piece.piece, c.min-most.ensures, c.len-in-loop-piece.ensures, c.len.ensures, c.loop-piece-test.true)
+
+pub returns-clause-at_most : goal.returns-clause-at_most
+returns-clause-at_most g c = omega (arith, c.loop-piece.invariant.given, c.loop-piece.invariant.within)

@@ -1,4 +1,5 @@
-use Rattle.std.proofs.Common.{◌∷◌, Err, ap, map, string_bytes, ◌∙◌}
+use Rattle.std.proofs.Common.{◌∷◌, Err, ap, map, string_bytes, ◌∙◌, arith}
+use Rattle.std.proofs.lemmas.List.{length-map}
 use Rattle.std.proofs.lemmas.Result.{err_from_is_err_and}
 use Rattle.x509_core.proofs.NoRefusal.{one_error}
 use Rattle.picky_check.proofs.Failing.{failed_as, failed_then, none_failed, stands}
@@ -60,3 +61,17 @@ returns-in_err-read_others-clause-once g c =
 pub returns-clause-once : goal.returns-clause-once
 returns-clause-once g c =
     none_failed (stands c.in_ok-read_others.ensures.once (λ none. absurd cc) ∙ stands c.in_ok-second.ensures.once (λ none. absurd cc) ∙ stands c.in_ok-first.ensures.once (λ none. absurd cc))
+
+pub returns-in_err-first-clause-at_most : goal.returns-in_err-first-clause-at_most
+returns-in_err-first-clause-at_most g c = omega (arith, c.in_err-first.ensures.at_most)
+
+pub returns-in_err-second-clause-at_most : goal.returns-in_err-second-clause-at_most
+returns-in_err-second-clause-at_most g c = omega (arith, c.in_ok-first.ensures.at_most, c.in_err-second.ensures.at_most)
+
+pub returns-in_err-read_others-clause-at_most : goal.returns-in_err-read_others-clause-at_most
+returns-in_err-read_others-clause-at_most g c =
+    omega (arith, c.in_ok-first.ensures.at_most, c.in_ok-second.ensures.at_most, c.in_err-read_others.ensures.at_most, length-map c.args.names.now.others.now string_bytes)
+
+pub returns-clause-at_most : goal.returns-clause-at_most
+returns-clause-at_most g c =
+    omega (arith, c.in_ok-first.ensures.at_most, c.in_ok-second.ensures.at_most, c.in_ok-read_others.ensures.at_most, length-map c.args.names.now.others.now string_bytes)

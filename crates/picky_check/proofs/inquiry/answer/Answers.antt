@@ -1,4 +1,4 @@
-use Rattle.std.proofs.Common.{List, ℕ, Err, ap, subst, ◌∙◌}
+use Rattle.std.proofs.Common.{List, ℕ, Err, length, ap, subst, ◌∙◌, arith}
 use Rattle.std.proofs.lemmas.Result.{err_from_is_err_and}
 use Rattle.picky_check.specs.Jobs.{contents_held, job_held}
 use Rattle.picky_check.specs.ReadFiles.{AreRead, AreUnread}
@@ -27,3 +27,9 @@ returns-in_err-contents-clause-once g c =
 
 pub returns-clause-once : goal.returns-clause-once
 returns-clause-once g c = none_failed (stands c.in_ok-contents.ensures.once (λ none. absurd cc))
+
+pub returns-in_err-contents-clause-at_most : goal.returns-in_err-contents-clause-at_most
+returns-in_err-contents-clause-at_most g c = omega (arith, c.in_err-contents.ensures.at_most, ap length c.names.ensures)
+
+pub returns-clause-at_most : goal.returns-clause-at_most
+returns-clause-at_most g c = omega (arith, c.in_ok-contents.ensures.at_most, ap length c.names.ensures)
