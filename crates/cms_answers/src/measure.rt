@@ -39,10 +39,15 @@ fn kept(alloc: Global, octets: &[u8]) -> Option<usize> {
     Some(count)
 }
 
-/// How many octets the signers take, of signed data that is lent.
+/// How many octets the digest algorithms take, of signed data that is lent.
 fn lent(octets: &[u8]) -> Option<usize> {
     match Cursor::new(octets).next() {
-        Ok(Some(elem)) => Some(SignedView::read(elem)?.signers_infos().whole.len()),
+        Ok(Some(elem)) => Some(
+            SignedView::read(elem)?
+                .digest_algorithm_identifiers()
+                .whole
+                .len(),
+        ),
         _ => None,
     }
 }

@@ -59,6 +59,13 @@ impl<'a> SignedView<'a> {
         }
     }
 
+    /// The element of the digest algorithms.
+    pub fn digest_algorithm_identifiers(&self) -> Elem<'a>
+        ensures { result.is.0 ≡ (data_elements self.now).digest_algorithms }
+    {
+        self.fields.digest_algorithms
+    }
+
     /// The digest algorithms.
     pub fn digest_algorithms(&self) -> Cursor<'a>
         ensures { LendsKids (data_elements self.now).digest_algorithms result }
