@@ -5,6 +5,14 @@ use Rattle.std.specs.Option.{option_map}
 use Rattle.asn1_types.specs.Elements.{object_identifier}
 use Rattle.asn1_types.specs.Values.{identifier_contents}
 use Rattle.asn1_types.specs.declared.oids.TheConstants.{SPC_INDIRECT_DATA}
+use Rattle.cms_content.specs.ContentInfoElements.{content_info_of}
+use Rattle.cms_content.specs.ContentKind.{named_content}
+use Rattle.cms_content.specs.ContentValue.{HasKind, content_value, kind_of_content}
+use Rattle.cms_content.specs.Facts.ContentInfos.{fields_once}
+use Rattle.cms_content.specs.declared.content_kind.ContentKind.{ContentKind}
+use Rattle.cms_content.specs.declared.content_kind.ContentKind.TheVariants as kinds
+use Rattle.cms_content.specs.declared.content_value.ContentValue.{ContentValue}
+use Rattle.cms_content.specs.declared.content_value.ContentValue.TheVariants as contents
 use Rattle.cms_types.specs.Facts.SignedDatas.{told_value}
 use Rattle.cms_types.specs.Facts.SignerElements.{told_data, same_data, same_signer}
 use Rattle.cms_types.specs.Facts.SignerInfos.{told_signer}
@@ -17,20 +25,12 @@ use Rattle.cms_types.specs.SignerInfo.{signer_info, signer_elements}
 use Rattle.cms_types.specs.declared.signed_data.SignedData.{SignedData}
 use Rattle.cms_types.specs.declared.signed_view.SignedView.{SignedView}
 use Rattle.cms_types.specs.declared.signer_info.SignerInfo.{SignerInfo}
-use Rattle.content_types.specs.ContentInfoElements.{content_info_of}
-use Rattle.content_types.specs.ContentKind.{named_content}
-use Rattle.content_types.specs.ContentValue.{HasKind, content_value, kind_of_content}
-use Rattle.content_types.specs.Facts.ContentInfos.{fields_once}
-use Rattle.content_types.specs.declared.content_kind.ContentKind.{ContentKind}
-use Rattle.content_types.specs.declared.content_kind.ContentKind.TheVariants as kinds
-use Rattle.content_types.specs.declared.content_value.ContentValue.{ContentValue}
-use Rattle.content_types.specs.declared.content_value.ContentValue.TheVariants as contents
 use Rattle.der_core.specs.Optional.{members_of}
 use Rattle.der_core.specs.DerElement.{DerElement, Primitive, Constructed, row}
 use Rattle.der_core.specs.Elements.{sequence}
 use Rattle.der_core.specs.Facts.Rows.{listed-row}
 use Rattle.key_types.specs.AlgorithmIdentifier.{algorithm_identifier}
-use Rattle.content_types.specs.SpcAttribute.{spc_attribute}
+use Rattle.cms_content.specs.SpcAttribute.{spc_attribute}
 use Rattle.authenticode_core.specs.Form.{AreSpelled}
 use Rattle.authenticode_core.specs.SignedFields.{HasVersion, HasSignedContent, HasIndirectData, IndirectData, IsFirstAlgorithm, IsFirstSigner, indirect_kids, signers_of}
 

@@ -4,6 +4,9 @@ use Rattle.std.specs.Option.{option_map}
 use Rattle.asn1_types.specs.Elements.{object_identifier}
 use Rattle.asn1_types.specs.Values.{identifier_contents}
 use Rattle.asn1_types.specs.declared.oids.TheConstants.{SPC_INDIRECT_DATA}
+use Rattle.cms_content.specs.ContentInfoElements.{content_info_of}
+use Rattle.cms_content.specs.ContentValue.{content_value}
+use Rattle.cms_content.specs.Facts.ContentInfos.{fields_once}
 use Rattle.cms_types.specs.Facts.SignerElements.{told_fields, same_signer}
 use Rattle.cms_types.specs.Facts.SignerInfos.{told_signer}
 use Rattle.cms_types.specs.Pkcs7Elements.{pkcs7_of}
@@ -13,9 +16,6 @@ use Rattle.cms_types.specs.SignerInfo.{signer_info, signer_elements}
 use Rattle.cms_types.specs.SignerView.{IsSignerView, signer_elements_at}
 use Rattle.cms_types.specs.declared.signer_info.SignerInfo.{SignerInfo}
 use Rattle.cms_types.specs.declared.signer_view.SignerView.{SignerView}
-use Rattle.content_types.specs.ContentInfoElements.{content_info_of}
-use Rattle.content_types.specs.ContentValue.{content_value}
-use Rattle.content_types.specs.Facts.ContentInfos.{fields_once}
 use Rattle.der_core.specs.Optional.{members_of}
 use Rattle.der_core.specs.DerElement.{DerElement, Primitive, Constructed, row, listed, kids_of}
 use Rattle.der_core.specs.Elements.{sequence, explicit, octet_string}

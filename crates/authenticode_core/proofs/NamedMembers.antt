@@ -11,7 +11,7 @@ use Rattle.cms_types.specs.declared.signer_identifier.SignerIdentifier.TheVarian
 use Rattle.der_core.specs.DerElement.{DerElement, Primitive}
 use Rattle.der_core.specs.Elements.{sequence}
 use Rattle.der_core.specs.Encoding.{encoding}
-use Rattle.x501_types.specs.Name.{name}
+use Rattle.name_types.specs.Name.{name}
 use Rattle.x509_types.specs.CertificateElements.{CertificateElements}
 use Rattle.x509_types.specs.CertificateView.{view_elements}
 use Rattle.authenticode_core.specs.BagSigner.{IsNamedByFirst}

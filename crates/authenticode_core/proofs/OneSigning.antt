@@ -17,13 +17,13 @@ use Rattle.key_core.specs.Verifying.{Judge, verify_rules}
 use Rattle.key_core.specs.declared.signature_algorithm.SignatureAlgorithm.TheVariants.{RsaPkcs1v15}
 use Rattle.key_core.specs.declared.signature_error.SignatureError.{SignatureError}
 use Rattle.key_types.specs.declared.key_info.SubjectPublicKeyInfo.{SubjectPublicKeyInfo}
+use Rattle.name_types.specs.Name.{name}
 use Rattle.names_core.specs.Facts.{directory_names}
 use Rattle.names_core.specs.declared.name.DirectoryName.{DirectoryName}
 use Rattle.sig_core.specs.Digest.{digest_of}
 use Rattle.sig_core.specs.declared.error.UnsupportedAlgorithmError.{UnsupportedAlgorithmError}
 use Rattle.sig_core.specs.declared.hash.HashAlgorithm.{HashAlgorithm}
 use Rattle.sig_core.specs.declared.hash.HashAlgorithm.TheVariants.{SHA2_224}
-use Rattle.x501_types.specs.Name.{name}
 use Rattle.x509_core.proofs.SignedParts.{one_key}
 use Rattle.x509_types.specs.CertificateElements.{CertificateElements}
 use Rattle.x509_types.specs.Purposes.{NamesPurpose}

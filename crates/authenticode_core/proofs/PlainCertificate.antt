@@ -11,6 +11,7 @@ use Rattle.der_core.specs.DerElement.{Primitive}
 use Rattle.der_core.specs.Elements.{sequence, bit_octets, null}
 use Rattle.der_core.specs.Encoding.{encoding, IsDer}
 use Rattle.der_core.specs.Structure.{Fits}
+use Rattle.extension_types.specs.declared.time.Time.TheVariants as times
 use Rattle.key_types.specs.PublicKeyInfo.{public_key_info as written_info}
 use Rattle.key_types.specs.RsaPublicKey.{rsa_public_key}
 use Rattle.key_types.specs.declared.key_info.SubjectPublicKeyInfo.{SubjectPublicKeyInfo}
@@ -18,7 +19,6 @@ use Rattle.key_types.specs.declared.public_key.RsaPublicKey.{RsaPublicKey}
 use Rattle.key_types.specs.declared.subject_key.SubjectKey.TheVariants as keys
 use Rattle.x509_types.specs.CertificateElements.{AreCertificateFields, CertificateElements}
 use Rattle.x509_types.specs.declared.version.Version.TheVariants as versions
-use Rattle.x509_values.specs.declared.time.Time.TheVariants as times
 use Rattle.authenticode_core.specs.PlainForm.{CertificateParts, IsNewYear, IsPlainKey, algorithm, plain_name, plain_public_key_info, plain_validity}
 use Rattle.authenticode_core.proofs.PlainShape.{algorithm_value, name_value}
 

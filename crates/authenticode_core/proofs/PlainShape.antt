@@ -5,6 +5,7 @@ use Rattle.asn1_types.proofs.KnownTable.{known_is}
 use Rattle.asn1_types.specs.KnownIdentifiers.{is_known}
 use Rattle.asn1_types.specs.declared.oid.ObjectIdentifier.{ObjectIdentifier}
 use Rattle.asn1_types.specs.declared.oids.TheConstants as identifiers
+use Rattle.cms_content.specs.declared.content_value.ContentValue.TheVariants as contents
 use Rattle.cms_types.proofs.SignerLaws.{inside, value_of_pkcs7, value_of_signer}
 use Rattle.cms_types.specs.Facts.SignedDatas.{told_value}
 use Rattle.cms_types.specs.Facts.SignerElements.{told_data, told_fields, same_data, same_signer}
@@ -17,16 +18,15 @@ use Rattle.cms_types.specs.SignerInfo.{signer_elements}
 use Rattle.cms_types.specs.Signers.{IsPkcs7, Pkcs7, Signed, IsSignerInfo, Bare, NoSigners, MoreSigners}
 use Rattle.cms_types.specs.declared.signer_identifier.SignerIdentifier.TheVariants as named
 use Rattle.cms_types.specs.declared.version.CmsVersion.TheVariants as versions
-use Rattle.content_types.specs.declared.content_value.ContentValue.TheVariants as contents
 use Rattle.der_core.specs.DerElement.{DerElement}
 use Rattle.der_core.specs.Elements.{sequence, set, null, bit_octets, octet_string}
 use Rattle.der_core.specs.Encoding.{IsDer, IsPaddedEncoding}
 use Rattle.der_core.specs.Kept.{KeptElement}
 use Rattle.der_core.specs.Structure.{Fits}
 use Rattle.key_types.specs.declared.algorithm.AlgorithmIdentifier.{AlgorithmIdentifier}
-use Rattle.x501_types.specs.declared.attribute.AttributeTypeAndValue.{AttributeTypeAndValue}
-use Rattle.x501_types.specs.declared.attribute_value.AttributeValue.TheVariants as strings
-use Rattle.x501_types.specs.declared.directory_string.DirectoryString.TheVariants as directory_strings
+use Rattle.name_types.specs.declared.attribute.AttributeTypeAndValue.{AttributeTypeAndValue}
+use Rattle.name_types.specs.declared.attribute_value.AttributeValue.TheVariants as strings
+use Rattle.name_types.specs.declared.directory_string.DirectoryString.TheVariants as directory_strings
 use Rattle.x509_types.specs.declared.attribute_values.AttributeValues.TheVariants as values
 use Rattle.x509_types.specs.Attribute.{IsAttribute, AreAttributes}
 use Rattle.authenticode_core.specs.Asn1.{context}

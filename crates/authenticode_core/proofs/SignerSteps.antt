@@ -4,7 +4,7 @@ use Rattle.der_core.specs.DerElement.{DerElement, Primitive}
 use Rattle.der_core.specs.Elements.{sequence}
 use Rattle.der_core.specs.Encoding.{encoding}
 use Rattle.asn1_types.specs.Values.{integer_contents}
-use Rattle.x501_types.specs.Name.{name}
+use Rattle.name_types.specs.Name.{name}
 use Rattle.x509_types.specs.CertificateElements.{CertificateElements}
 use Rattle.x509_types.specs.CertificateView.{view_elements}
 use Rattle.cms_types.specs.SignerElements.{SignerElements, signer_of}

@@ -4,11 +4,11 @@ use Rattle.asn1_types.specs.Values.{integer_contents}
 use Rattle.der_core.specs.ErrorText.{der_error_text}
 use Rattle.hex.specs.Hex.{encode_lower}
 use Rattle.key_core.specs.SignatureErrorText.{signature_error_text}
+use Rattle.name_types.specs.NameText.{name_text}
 use Rattle.names_core.specs.Names.{sets_of}
 use Rattle.names_core.specs.declared.name.DirectoryName.{DirectoryName}
 use Rattle.sig_core.specs.ErrorText.{unsupported_hash_text, unsupported_algorithm_text}
 use Rattle.wincert_core.specs.ErrorText.{error_text}
-use Rattle.x501_types.specs.NameText.{name_text}
 use Rattle.x509_core.specs.ErrorText.{cert_error_text}
 use Rattle.authenticode_core.specs.declared.error.AuthenticodeError.{AuthenticodeError}
 use Rattle.authenticode_core.specs.declared.error.AuthenticodeError.TheVariants as contents

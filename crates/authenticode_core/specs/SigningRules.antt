@@ -16,6 +16,7 @@ use Rattle.key_core.specs.Verifying.{Judge, Accepts, verify_rules}
 use Rattle.key_core.specs.declared.signature_algorithm.SignatureAlgorithm.TheVariants.{RsaPkcs1v15}
 use Rattle.key_core.specs.declared.signature_error.SignatureError.{SignatureError}
 use Rattle.key_types.specs.declared.key_info.SubjectPublicKeyInfo.{SubjectPublicKeyInfo}
+use Rattle.name_types.specs.Name.{name}
 use Rattle.names_core.specs.Names.{sets_of}
 use Rattle.names_core.specs.declared.name.DirectoryName.{DirectoryName}
 use Rattle.sig_core.specs.Digest.{digest_of}
@@ -24,7 +25,6 @@ use Rattle.sig_core.specs.declared.error.UnsupportedAlgorithmError.{UnsupportedA
 use Rattle.sig_core.specs.declared.hash.HashAlgorithm.{HashAlgorithm}
 use Rattle.sig_core.specs.declared.hash.HashAlgorithm.TheVariants.{SHA2_224}
 use Rattle.sig_core.specs.declared.sha_variant.ShaVariant.{ShaVariant}
-use Rattle.x501_types.specs.Name.{name}
 use Rattle.x509_core.specs.Link.{HasKey}
 use Rattle.x509_types.specs.CertificateElements.{CertificateElements}
 use Rattle.x509_types.specs.Purposes.{HasPurposes, NamesPurpose}

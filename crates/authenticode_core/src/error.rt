@@ -12,13 +12,13 @@ use crate::timestamp_error::TimestampError;
 use asn1_types::{CharSetError, IntegerAsn1};
 use der_core::{DerError, Octets};
 use key_core::SignatureError;
+use name_types::write_hexadecimal;
 use names_core::DirectoryName;
 use sig_core::{UnsupportedAlgorithmError, UnsupportedHashAlgorithmError};
 use std::alloc::{AllocError, AllocFailed, Global};
 use std::fmt::{self, Display};
 use thiserror::Error;
 use wincert_core::WinCertificateError;
-use x501_types::write_hexadecimal;
 use x509_core::CertError;
 
 /// Why signed data is refused, in the order in which it is asked (Windows Authenticode Portable

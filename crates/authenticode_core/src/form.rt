@@ -17,8 +17,8 @@ ghost use Rattle.authenticode_core.specs.SignedFields.{HasVersion, IndirectData,
 
 use crate::error::AuthenticodeError;
 use asn1_types::oids::SPC_INDIRECT_DATA;
+use cms_content::CONTENT;
 use cms_types::{SignedView, SignerView};
-use content_types::CONTENT;
 use der_core::tag::{OCTET_STRING, SEQUENCE};
 use der_core::{Elem, Kids, explicit_at, is_same, leaf_at, two_kids};
 

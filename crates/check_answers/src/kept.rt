@@ -3,7 +3,7 @@
 use crate::line::told;
 use anyhow::Result;
 use authenticode_core::{Accepted, CheckError, DateCheck, Policy};
-use authenticode_values::{AuthenticodeSignature, AuthenticodeValidator};
+use authenticode_signature::{AuthenticodeSignature, AuthenticodeValidator};
 use der_core::Octets;
 use sig_core::VerdictTable;
 use std::alloc::{AllocError, Global};

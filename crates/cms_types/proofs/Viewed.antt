@@ -7,8 +7,8 @@ use Rattle.der_core.specs.DerElement.{DerElement, tag_of}
 use Rattle.der_core.specs.Elements.{octet_string}
 use Rattle.der_core.specs.Encoding.{form_bit, IsDer}
 use Rattle.der_core.specs.Structure.{Fits}
-use Rattle.content_types.specs.ContentInfo.{content_info}
-use Rattle.content_types.specs.declared.content_info.EncapsulatedContentInfo.{EncapsulatedContentInfo}
+use Rattle.cms_content.specs.ContentInfo.{content_info}
+use Rattle.cms_content.specs.declared.content_info.EncapsulatedContentInfo.{EncapsulatedContentInfo}
 use Rattle.cms_types.specs.CmsVersion.{cms_version}
 use Rattle.cms_types.specs.SignerElements.{SignerElements, signer_of}
 use Rattle.cms_types.specs.SignedDataElements.{SignedDataElements, signed_data_of}

@@ -9,8 +9,8 @@ use Rattle.asn1_types.specs.Values.{identifier_contents}
 use Rattle.asn1_types.specs.declared.oid.ObjectIdentifier.{ObjectIdentifier}
 use Rattle.key_types.specs.AlgorithmIdentifier.{algorithm_identifier}
 use Rattle.key_types.specs.declared.algorithm.AlgorithmIdentifier.{AlgorithmIdentifier}
-use Rattle.content_types.specs.ContentInfo.{content_info}
-use Rattle.content_types.specs.declared.content_info.EncapsulatedContentInfo.{EncapsulatedContentInfo}
+use Rattle.cms_content.specs.ContentInfo.{content_info}
+use Rattle.cms_content.specs.declared.content_info.EncapsulatedContentInfo.{EncapsulatedContentInfo}
 use Rattle.cms_types.specs.CmsVersion.{cms_version}
 use Rattle.cms_types.specs.SignerIdentifier.{signer_identifier}
 use Rattle.x509_types.specs.Attribute.{AreAttributes}

@@ -5,7 +5,7 @@ use Rattle.der_core.specs.DerElement.{DerElement}
 use Rattle.der_core.specs.Each.{IsListOf, list_element, Prints}
 use Rattle.der_core.specs.Kept.{KeptElement}
 use Rattle.key_types.specs.AlgorithmIdentifier.{algorithm_identifier}
-use Rattle.content_types.specs.ContentInfo.{content_info}
+use Rattle.cms_content.specs.ContentInfo.{content_info}
 use Rattle.cms_types.specs.CmsVersion.{cms_version}
 use Rattle.cms_types.specs.Levels.{IsCmsVersion, IsAlgorithm, IsContentInfo}
 use Rattle.der_core.specs.Optional.{SpellsOption}

@@ -35,7 +35,7 @@ mod unsigned_kind;
 mod version;
 
 pub use certificate_choices::CertificateChoices;
-pub use content_types::{
+pub use cms_content::{
     CTLEntry, CTLEntryAttribute, CTLEntryAttributeValues, ContentKind, ContentValue, ContentView,
     Ctl, CtlKind, DigestInfo, EncapsulatedContentInfo, HeldPurposes,
     SpcAttributeTypeAndOptionalValue, SpcIndirectDataContent, TimestampRequest,

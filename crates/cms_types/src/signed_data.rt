@@ -10,7 +10,7 @@ use crate::signed_data_fields::{CERTIFICATES, REVOCATION_LISTS, SignedDataFields
 use crate::signed_data_parts::{CarriedPart, SignedPart, join};
 use crate::signer_info::SignerInfo;
 use crate::version::CmsVersion;
-use content_types::EncapsulatedContentInfo;
+use cms_content::EncapsulatedContentInfo;
 use der_core::tag::{SEQUENCE, SET};
 use der_core::{DerError, Elem, ListOf, NewKids, Structure, Tree, push_value};
 use key_types::AlgorithmIdentifier;

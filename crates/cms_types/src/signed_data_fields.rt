@@ -8,7 +8,7 @@ ghost use Rattle.cms_types.specs.SignedDataElements.{SignedDataElements};
 
 use crate::signer_fields::expect_list;
 use crate::version::CmsVersion;
-use content_types::EncapsulatedContentInfo;
+use cms_content::EncapsulatedContentInfo;
 use der_core::tag::{SEQUENCE, SET};
 use der_core::{Elem, Kids};
 use key_types::AlgorithmIdentifier;

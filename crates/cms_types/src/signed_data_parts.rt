@@ -10,7 +10,7 @@ use crate::raw_unsigned::RawList;
 use crate::signed_data::{CertificateSet, DigestAlgorithms, SignedData, SignersInfos};
 use crate::signed_data_fields::{CERTIFICATES, REVOCATION_LISTS, SignedDataFields};
 use crate::version::CmsVersion;
-use content_types::EncapsulatedContentInfo;
+use cms_content::EncapsulatedContentInfo;
 use der_core::tag::SET;
 use der_core::{DerError, Structure, copy_each, read_list};
 use std::alloc::{AllocError, Global};

@@ -14,7 +14,7 @@ use crate::levels::signed_data_in;
 use crate::shapes::has_signers;
 use crate::signed_data_fields::SignedDataFields;
 use crate::version::CmsVersion;
-use content_types::ContentView;
+use cms_content::ContentView;
 use der_core::{Cursor, Elem};
 
 /// Signed data with its type, where its octets lie (RFC 5652 3, 5.1). It takes no memory.
@@ -29,7 +29,7 @@ impl<'a> SignedView<'a> {
     ghost use Rattle.std.specs.Prelude.{◌≡◌, ◌≢◌, [], ◌∷◌, MatchOption, Option};
     ghost use Rattle.der_core.specs.DerElement.{DerElement, Primitive};
     ghost use Rattle.der_core.specs.Lent.{at_option};
-    ghost use Rattle.content_types.specs.ContentInfoElements.{content_info_of};
+    ghost use Rattle.cms_content.specs.ContentInfoElements.{content_info_of};
     ghost use Rattle.cms_types.specs.Pkcs7.{pkcs7};
     ghost use Rattle.cms_types.specs.SignedView.{data_elements, IsSignedView};
     ghost use Rattle.der_core.specs.Lending.{LendsMembers};

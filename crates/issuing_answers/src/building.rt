@@ -5,12 +5,12 @@ use crate::telling::{print_name, print_refused};
 use crate::words::key_of;
 use anyhow::{Result, bail};
 use der_core::DerError;
-use issuing_core::CertificateBuilder;
 use key_core::PrivateKey;
 use row_answers::{Line, gives};
 use sig_core::Scheme;
 use std::alloc::{AllocError, Global};
 use x509_core::Cert;
+use x509_issuing::CertificateBuilder;
 
 /// The octets of the certificate, whether they come back, its subject and its issuer; or the name
 /// and the text of the refusal.

@@ -6,7 +6,6 @@ use crate::chains::certificates_of;
 use crate::settings::issued_under;
 use crate::words::{date_of, key_of};
 use anyhow::{Result, bail};
-use issuing_core::CertificateBuilder;
 use key_core::PrivateKey;
 use names_core::UtcDate;
 use row_answers::print_time;
@@ -16,6 +15,7 @@ use std::io::Write;
 use std::slice;
 use std::time::CpuClock;
 use x509_core::Cert;
+use x509_issuing::CertificateBuilder;
 use x509_types::KeyUsage;
 
 /// A scheme that answers at once: it accepts every signature, and makes each of the same octets.

@@ -4,7 +4,6 @@ use crate::telling::{print_name, print_told};
 use crate::words::{algorithm_of, attributes_of, key_of, name_of};
 use anyhow::{Result, bail};
 use der_core::{DerError, Structure};
-use issuing_core::Csr;
 use key_core::PrivateKey;
 use names_core::DirectoryName;
 use request_types::CertificationRequest;
@@ -12,6 +11,7 @@ use row_answers::{Line, equals, gives, gives_octets, octets_of};
 use sig_core::Scheme;
 use std::alloc::{AllocError, Global};
 use x509_core::CsrError;
+use x509_issuing::Csr;
 
 /// Whether the octets come back, the key, the subject and what is told of the signature; or the
 /// text of the refusal.

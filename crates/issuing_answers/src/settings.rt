@@ -5,12 +5,12 @@ use crate::words::{
 };
 use anyhow::{Context, Result, bail};
 use der_core::{Octets, Structure};
-use issuing_core::{CertificateBuilder, Csr};
 use key_core::{KeyIdGenMethod, PrivateKey, PublicKey, SignatureAlgorithm};
 use names_core::{DirectoryName, GeneralNames, UtcDate};
 use row_answers::{flag_of, octets_of};
 use std::alloc::{AllocError, Global};
 use x509_core::Cert;
+use x509_issuing::{CertificateBuilder, Csr};
 use x509_types::{ExtendedKeyUsage, KeyUsage};
 
 /// What a call sets. The key of an issuer is handed in where it is set.

@@ -3,7 +3,7 @@
 use crate::line::print_octets;
 use crate::words::certificates_of;
 use anyhow::Result;
-use authenticode_values::Pkcs7;
+use authenticode_signature::Pkcs7;
 use std::alloc::Global;
 
 /// Signed data that has the certificates of signed data, and nothing else.

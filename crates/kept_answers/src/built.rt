@@ -4,7 +4,7 @@ use crate::line::print_signature_octets;
 use crate::settings::{Setting, settings_of};
 use crate::words::key_of;
 use anyhow::{Result, bail};
-use authenticode_values::{AuthenticodeSignatureBuilder, AuthenticodeSignatureBuilderError};
+use authenticode_signature::{AuthenticodeSignatureBuilder, AuthenticodeSignatureBuilderError};
 use key_core::PrivateKey;
 use sig_core::Scheme;
 use std::alloc::{AllocError, Global};

@@ -2,7 +2,7 @@
 
 use anyhow::Result;
 use authenticode_core::AuthenticodeError;
-use authenticode_values::{AuthenticodeSignature, SignatureCertificatesIterator};
+use authenticode_signature::{AuthenticodeSignature, SignatureCertificatesIterator};
 use std::alloc::{AllocError, Global};
 use x509_core::Cert;
 

@@ -3,7 +3,7 @@
 use crate::line::{print_refused, print_signature_octets};
 use crate::words::{key_of, signed_data_of, variant_of};
 use anyhow::{Result, bail};
-use authenticode_values::{AuthenticodeSignature, Pkcs7};
+use authenticode_signature::{AuthenticodeSignature, Pkcs7};
 use key_core::PrivateKey;
 use row_answers::{octets_of, text_of};
 use sig_core::{Scheme, ShaVariant};

@@ -3,7 +3,7 @@
 use crate::words::{attributes_of, certificates_of, content_of, hash_of, unsigned_of};
 use anyhow::{Context, Result, bail};
 use asn1_types::IntegerAsn1;
-use authenticode_values::AuthenticodeSignatureBuilder;
+use authenticode_signature::AuthenticodeSignatureBuilder;
 use cms_types::{EncapsulatedContentInfo, IssuerAndSerialNumber, UnsignedAttributeList};
 use der_core::Structure;
 use key_core::PrivateKey;

@@ -2,7 +2,7 @@
 
 use crate::line::{print_refused, print_signature_octets};
 use anyhow::Result;
-use authenticode_values::{AuthenticodeSignature, TokenTimestamper};
+use authenticode_signature::{AuthenticodeSignature, TokenTimestamper};
 use sig_core::HashAlgorithm;
 use std::alloc::Global;
 

@@ -1,7 +1,7 @@
 //! The values of words.
 
 use anyhow::{Result, bail};
-use authenticode_values::Pkcs7;
+use authenticode_signature::Pkcs7;
 use cms_types::{EncapsulatedContentInfo, UnsignedAttribute, UnsignedAttributeList};
 use der_core::{ListOf, Structure};
 use key_core::PrivateKey;

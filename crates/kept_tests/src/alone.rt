@@ -1,7 +1,7 @@
 //! Signed data of certificates alone.
 
 use crate::samples::{EMPTY, ONE, is_written, signed_data};
-use authenticode_values::Pkcs7;
+use authenticode_signature::Pkcs7;
 use std::alloc::Global;
 use std::test::Fail;
 use x509_core::Cert;

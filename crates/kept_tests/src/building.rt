@@ -4,7 +4,7 @@
 use crate::samples::{KEY, ONE, signed_data};
 use asn1_types::oids::SIGNED_DATA;
 use asn1_types::{IntegerAsn1, ObjectIdentifier};
-use authenticode_values::{AuthenticodeSignatureBuilder, AuthenticodeSignatureBuilderError};
+use authenticode_signature::{AuthenticodeSignatureBuilder, AuthenticodeSignatureBuilderError};
 use cms_types::{ContentValue, EncapsulatedContentInfo};
 use der_core::{DerError, Raw, whole_element};
 use key_core::PrivateKey;

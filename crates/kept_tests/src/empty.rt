@@ -2,7 +2,7 @@
 
 use crate::samples::{EMPTY, is_spelled, is_written, signature, signed_data};
 use authenticode_core::AuthenticodeError;
-use authenticode_values::{AuthenticodeSignature, Pkcs7};
+use authenticode_signature::{AuthenticodeSignature, Pkcs7};
 use cms_types::Pkcs7Certificate;
 use std::alloc::Global;
 use std::test::Fail;

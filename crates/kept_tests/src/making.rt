@@ -2,7 +2,7 @@
 
 use crate::samples::{EMPTY, FILE_HASH, KEY, ONE, is_spelled, signed_data};
 use authenticode_core::{AuthenticodeError, Policy};
-use authenticode_values::{
+use authenticode_signature::{
     AuthenticodeSignature, Pkcs7, check_made, decode_signature, encode_signature,
 };
 use der_core::Octets;

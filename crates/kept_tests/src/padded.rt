@@ -2,7 +2,7 @@
 
 use crate::samples::EMPTY;
 use authenticode_core::AuthenticodeError;
-use authenticode_values::AuthenticodeSignature;
+use authenticode_signature::AuthenticodeSignature;
 use der_core::{DerError, DerFault};
 use std::alloc::Global;
 use std::test::Fail;

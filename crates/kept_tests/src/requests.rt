@@ -1,7 +1,7 @@
 //! The octets of a request, by the grammar of Authenticode, counted by hand.
 
 use crate::samples::{EMPTY, timestamper};
-use authenticode_values::{TimestampRequest, TokenTimestamper};
+use authenticode_signature::{TimestampRequest, TokenTimestamper};
 use cms_types::TimestampRequest as RequestValue;
 use std::alloc::Global;
 use std::test::Fail;

@@ -1,6 +1,6 @@
 //! Signed data by hand, and what is read of octets.
 
-use authenticode_values::{AuthenticodeSignature, Pkcs7, TokenTimestamper};
+use authenticode_signature::{AuthenticodeSignature, Pkcs7, TokenTimestamper};
 use std::alloc::Global;
 
 /// Version 1, no digest algorithms, the content left out, empty fields of certificates and

@@ -1,7 +1,7 @@
 //! What a signature says of its signer and of what is signed.
 
 use crate::samples::{FILE_HASH, SIGNATURE, signature};
-use authenticode_values::AuthenticodeSignature;
+use authenticode_signature::AuthenticodeSignature;
 use std::alloc::Global;
 use std::test::Fail;
 use x509_core::Cert;

@@ -2,7 +2,7 @@
 
 use crate::samples::{EMPTY, SIGNATURE, is_spelled, signature, timestamper};
 use authenticode_core::{AuthenticodeError, TimestampError};
-use authenticode_values::{AuthenticodeSignature, TokenTimestamper};
+use authenticode_signature::{AuthenticodeSignature, TokenTimestamper};
 use cms_types::UnsignedAttribute;
 use sig_core::HashAlgorithm;
 use std::alloc::Global;

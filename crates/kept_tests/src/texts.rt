@@ -1,6 +1,6 @@
 //! Texts of errors.
 
-use authenticode_values::{Pkcs7, Pkcs7Error};
+use authenticode_signature::{Pkcs7, Pkcs7Error};
 use std::alloc::Global;
 use std::test::Fail;
 

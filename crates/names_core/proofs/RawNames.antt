@@ -1,8 +1,8 @@
 -- General names and the raw names that they stand for are one for one.
+use Rattle.name_types.specs.Facts.GeneralNames.{forms_once}
+use Rattle.name_types.specs.declared.general_name.RawGeneralName.{RawGeneralName}
+use Rattle.name_types.specs.declared.general_name.RawGeneralName.TheVariants as raw
 use Rattle.std.proofs.Common.{◌≡◌, refl, sym, ap, ◌∙◌}
-use Rattle.x501_types.specs.Facts.GeneralNames.{forms_once}
-use Rattle.x501_types.specs.declared.general_name.RawGeneralName.{RawGeneralName}
-use Rattle.x501_types.specs.declared.general_name.RawGeneralName.TheVariants as raw
 use Rattle.names_core.specs.GeneralName.{raw_name, named_element}
 use Rattle.names_core.specs.declared.general_name.GeneralName.{GeneralName}
 use Rattle.names_core.specs.declared.general_name.GeneralName.TheVariants as forms

@@ -2,13 +2,13 @@
 use Rattle.std.specs.Prelude.{◌≡◌, ℕ, bytes_eq, if◌then◌else◌, Option, Some, None, List, [], ◌∷◌, ◌++◌, flat_map, filter_map}
 use Rattle.std.specs.List.{slice_get}
 use Rattle.asn1_types.specs.Values.{arcs_of}
-use Rattle.x501_types.specs.declared.attribute.AttributeTypeAndValue.{AttributeTypeAndValue}
-use Rattle.x501_types.specs.declared.directory_string.DirectoryString.{DirectoryString}
-use Rattle.x501_types.specs.declared.directory_string.DirectoryString.TheVariants as strings
-use Rattle.x501_types.specs.declared.attribute_value.AttributeValue.{AttributeValue}
-use Rattle.x501_types.specs.declared.attribute_value.AttributeValue.TheVariants as values
-use Rattle.x501_types.specs.declared.name_attr.NameAttr.TheVariants as attributes
-use Rattle.x501_types.specs.NameAttr.{attribute_arcs}
+use Rattle.name_types.specs.declared.attribute.AttributeTypeAndValue.{AttributeTypeAndValue}
+use Rattle.name_types.specs.declared.directory_string.DirectoryString.{DirectoryString}
+use Rattle.name_types.specs.declared.directory_string.DirectoryString.TheVariants as strings
+use Rattle.name_types.specs.declared.attribute_value.AttributeValue.{AttributeValue}
+use Rattle.name_types.specs.declared.attribute_value.AttributeValue.TheVariants as values
+use Rattle.name_types.specs.declared.name_attr.NameAttr.TheVariants as attributes
+use Rattle.name_types.specs.NameAttr.{attribute_arcs}
 
 -- a text as a UTF8String
 abbrev pub utf8_value : List ℕ → AttributeValue

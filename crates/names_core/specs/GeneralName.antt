@@ -3,9 +3,9 @@ use Rattle.std.specs.Prelude.{◌≡◌, ℕ, List}
 use Rattle.der_core.specs.DerElement.{DerElement}
 use Rattle.asn1_types.specs.Values.{ia5_contents}
 use Rattle.asn1_types.specs.declared.ia5_string.Ia5String.{Ia5String}
-use Rattle.x501_types.specs.GeneralName.{general_name}
-use Rattle.x501_types.specs.declared.general_name.RawGeneralName.{RawGeneralName}
-use Rattle.x501_types.specs.declared.general_name.RawGeneralName.TheVariants as raw
+use Rattle.name_types.specs.GeneralName.{general_name}
+use Rattle.name_types.specs.declared.general_name.RawGeneralName.{RawGeneralName}
+use Rattle.name_types.specs.declared.general_name.RawGeneralName.TheVariants as raw
 use Rattle.names_core.specs.declared.general_name.GeneralName.{GeneralName}
 use Rattle.names_core.specs.declared.general_name.GeneralName.TheVariants as forms
 

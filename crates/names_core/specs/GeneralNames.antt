@@ -2,9 +2,9 @@
 use Rattle.std.specs.Prelude.{Option, Some, None, List, filter_map}
 use Rattle.std.specs.List.{slice_get}
 use Rattle.asn1_types.specs.declared.ia5_string.Ia5String.{Ia5String}
-use Rattle.x501_types.specs.declared.attribute.AttributeTypeAndValue.{AttributeTypeAndValue}
-use Rattle.x501_types.specs.declared.general_name.RawGeneralName.{RawGeneralName}
-use Rattle.x501_types.specs.declared.general_name.RawGeneralName.TheVariants as raw
+use Rattle.name_types.specs.declared.attribute.AttributeTypeAndValue.{AttributeTypeAndValue}
+use Rattle.name_types.specs.declared.general_name.RawGeneralName.{RawGeneralName}
+use Rattle.name_types.specs.declared.general_name.RawGeneralName.TheVariants as raw
 
 -- the text of a host's name; a name of another form has none
 abbrev pub dns_name_of : RawGeneralName → Option Ia5String

@@ -1,6 +1,6 @@
 -- What contracts see of a directory's name.
+use Rattle.name_types.specs.declared.attribute.AttributeTypeAndValue.{AttributeTypeAndValue}
 use Rattle.std.specs.Prelude.{List}
-use Rattle.x501_types.specs.declared.attribute.AttributeTypeAndValue.{AttributeTypeAndValue}
 use Rattle.names_core.specs.declared.name.DirectoryName.{DirectoryName}
 
 -- The sets of attributes, the first of the name first (RFC 5280 4.1.2.4).

@@ -5,7 +5,7 @@ ghost use Rattle.std.specs.List.{slice_get};
 ghost use Rattle.std.specs.Option.{option_copied};
 ghost use Rattle.names_core.specs.DirectoryName.{common_name_of, first_common_name};
 
-use x501_types::{
+use name_types::{
     AttributeTypeAndValue, AttributeValue, DirectoryString, NameAttr, RelativeDistinguishedName,
 };
 

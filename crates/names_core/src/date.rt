@@ -7,10 +7,10 @@ ghost use Rattle.asn1_types.specs.Time.{generalized_fields, time_text, utc_field
 ghost use Rattle.names_core.specs.UtcDate.{time_fields, IsTimeOf};
 
 use asn1_types::{GeneralizedTime, UTCTime};
+use extension_types::Time;
 use std::fmt;
 use std::marker::Model;
 use std::ops::Deref;
-use x509_values::Time;
 
 /// A moment of the years 0 to 9999 in universal time, to the second. Contracts see it as its
 /// GeneralizedTime. Dates are ordered by year, month, day, hour, minute and second, in this order.

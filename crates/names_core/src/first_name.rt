@@ -5,7 +5,7 @@ ghost use Rattle.std.specs.Option.{option_copied};
 ghost use Rattle.names_core.specs.GeneralNames.{first_dns_name, first_directory_name};
 
 use asn1_types::Ia5String;
-use x501_types::{Name, RawGeneralName};
+use name_types::{Name, RawGeneralName};
 
 /// The first name of a host.
 pub fn first_dns_name(names: &[RawGeneralName]) -> Option<&Ia5String>

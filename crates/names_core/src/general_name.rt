@@ -9,8 +9,8 @@ ghost use Rattle.names_core.specs.declared.general_name.GeneralName.TheVariants 
 use crate::name::DirectoryName;
 use asn1_types::{CharSetError, Ia5String, ObjectIdentifier};
 use der_core::{Octets, Structure};
+use name_types::{DirectoryString, EdiPartyName, OtherName, RawGeneralName};
 use std::alloc::{AllocError, Global};
-use x501_types::{DirectoryString, EdiPartyName, OtherName, RawGeneralName};
 
 /// A name in one of eight of the nine forms (RFC 5280 4.2.1.6), all but the x400Address, with a
 /// name of the directory that can be searched and can grow. What a text or an address means is not

@@ -1,8 +1,8 @@
 //! General names in a row.
 
+ghost use Rattle.name_types.specs.declared.general_name.RawGeneralName.TheVariants as raw;
 ghost use Rattle.std.specs.Prelude.{◌≡◌, ◌↔◌, ◌++◌, ◌∷◌, [], length, map, option_map, IsTrue, IfOk, OnOk, OnErr, Ok, None};
 ghost use Rattle.std.specs.Option.{option_copied};
-ghost use Rattle.x501_types.specs.declared.general_name.RawGeneralName.TheVariants as raw;
 ghost use Rattle.names_core.specs.GeneralName.{raw_name};
 ghost use Rattle.names_core.specs.GeneralNames.{first_dns_name, first_directory_name};
 
@@ -11,9 +11,9 @@ use crate::general_name::GeneralName;
 use crate::name::DirectoryName;
 use asn1_types::Ia5String;
 use der_core::Structure;
+use name_types::{RawGeneralName, RawGeneralNames};
 use std::alloc::{AllocError, Global};
 use std::marker::Model;
-use x501_types::{RawGeneralName, RawGeneralNames};
 
 /// General names in order (RFC 5280 4.2.1.6), to be made and searched. Contracts see the list of
 /// the raw names that they stand for.
@@ -24,8 +24,8 @@ pub struct GeneralNames {
 
 impl Model for GeneralNames {
     ghost use Rattle.std.specs.Prelude.{List};
-    ghost use Rattle.x501_types.specs.declared.general_name.RawGeneralName.{RawGeneralName};
-    ghost use Rattle.x501_types.specs.Facts.GeneralNames.{coded_general_names};
+    ghost use Rattle.name_types.specs.declared.general_name.RawGeneralName.{RawGeneralName};
+    ghost use Rattle.name_types.specs.Facts.GeneralNames.{coded_general_names};
 
     ghost Value = { List RawGeneralName };
 
@@ -192,7 +192,7 @@ impl From<GeneralNames> for RawGeneralNames {
 impl PartialEq for GeneralNames {
     ghost use Rattle.der_core.specs.Equality.{same_octets};
     ghost use Rattle.der_core.specs.Facts.Equality.{same_octets_per};
-    ghost use Rattle.x501_types.specs.GeneralName.{general_names};
+    ghost use Rattle.name_types.specs.GeneralName.{general_names};
 
     ghost eq = { same_octets general_names };
 
@@ -208,7 +208,7 @@ impl PartialEq for GeneralNames {
 
 impl Eq for GeneralNames {
     ghost use Rattle.der_core.specs.Facts.Equality.{same_octets_equiv};
-    ghost use Rattle.x501_types.specs.GeneralName.{general_names};
+    ghost use Rattle.name_types.specs.GeneralName.{general_names};
 
     ghost laws = { same_octets_equiv general_names };
 }

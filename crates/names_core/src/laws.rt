@@ -7,7 +7,7 @@ ghost use Rattle.std.specs.declared.cmp.Ordering.TheVariants.{Equal};
 ghost use Rattle.std.specs.Hash as fed;
 ghost use Rattle.asn1_types.specs.declared.generalized_time.GeneralizedTime.{GeneralizedTime};
 ghost use Rattle.asn1_types.specs.Time.{day_of, generalized_fields, hour_of, minute_of, month_of, second_of, year_of};
-ghost use Rattle.x501_types.specs.declared.general_name.RawGeneralName.{RawGeneralName};
+ghost use Rattle.name_types.specs.declared.general_name.RawGeneralName.{RawGeneralName};
 ghost use Rattle.names_core.specs.GeneralName.{raw_name};
 ghost use Rattle.names_core.specs.declared.general_name.GeneralName.{GeneralName};
 

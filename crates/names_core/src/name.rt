@@ -3,21 +3,21 @@
 ghost use Rattle.std.specs.Prelude.{◌≡◌, ◌↔◌, [], IsTrue, Some, IfOk, OnOk, OnErr};
 ghost use Rattle.std.specs.Option.{option_copied};
 ghost use Rattle.asn1_types.specs.Values.{arcs_of};
-ghost use Rattle.x501_types.specs.declared.name_attr.NameAttr.TheVariants as attributes;
-ghost use Rattle.x501_types.specs.declared.attribute_value.AttributeValue.TheVariants as values;
-ghost use Rattle.x501_types.specs.NameAttr.{attribute_arcs};
-ghost use Rattle.x501_types.specs.NameText.{email_address, name_text};
+ghost use Rattle.name_types.specs.declared.name_attr.NameAttr.TheVariants as attributes;
+ghost use Rattle.name_types.specs.declared.attribute_value.AttributeValue.TheVariants as values;
+ghost use Rattle.name_types.specs.NameAttr.{attribute_arcs};
+ghost use Rattle.name_types.specs.NameText.{email_address, name_text};
 ghost use Rattle.names_core.specs.DirectoryName.{IsExtended, utf8_value, first_common_name};
 
 use crate::common_name::first_common_name;
 use asn1_types::{Ia5String, ObjectIdentifier};
 use der_core::{DerError, Elem, ListOf, Structure, Tree};
-use std::alloc::{AllocError, Global};
-use std::fmt::{self, Display};
-use x501_types::{
+use name_types::{
     AttributeTypeAndValue, AttributeValue, DirectoryString, Name, NameAttr,
     RelativeDistinguishedName, email_address_oid,
 };
+use std::alloc::{AllocError, Global};
+use std::fmt::{self, Display};
 
 /// A name of the directory, to be made, searched and printed.
 #[derive(Debug, Drop)]
@@ -126,7 +126,7 @@ impl fmt::Display for DirectoryName {
 
 /// A name of the directory is read and written as the Name that it holds.
 impl Structure for DirectoryName {
-    ghost use Rattle.x501_types.specs.Name.{name};
+    ghost use Rattle.name_types.specs.Name.{name};
     ghost use Rattle.names_core.specs.Facts.{directory_names};
 
     ghost written = { λ made. name made.name };
@@ -158,7 +158,7 @@ impl Structure for DirectoryName {
 impl PartialEq for DirectoryName {
     ghost use Rattle.der_core.specs.Equality.{same_octets};
     ghost use Rattle.der_core.specs.Facts.Equality.{same_octets_per};
-    ghost use Rattle.x501_types.specs.Name.{name};
+    ghost use Rattle.name_types.specs.Name.{name};
 
     ghost eq = { same_octets (λ made. name made.name) };
 
@@ -174,7 +174,7 @@ impl PartialEq for DirectoryName {
 
 impl Eq for DirectoryName {
     ghost use Rattle.der_core.specs.Facts.Equality.{same_octets_equiv};
-    ghost use Rattle.x501_types.specs.Name.{name};
+    ghost use Rattle.name_types.specs.Name.{name};
 
     ghost laws = { same_octets_equiv (λ made. name made.name) };
 }

@@ -10,7 +10,7 @@ use Rattle.der_core.specs.Structure.{Fits}
 use Rattle.der_core.specs.Facts.Equality.{by_test, options_same, pointwise_same}
 use Rattle.asn1_types.specs.Elements.{bit_string}
 use Rattle.asn1_types.specs.declared.bit_string.BitString.{BitString}
-use Rattle.x501_types.specs.Name.{name, IsName}
+use Rattle.name_types.specs.Name.{name, IsName}
 use Rattle.key_types.specs.AlgorithmIdentifier.{algorithm_identifier}
 use Rattle.key_types.specs.PublicKeyInfo.{IsPublicKeyInfo}
 use Rattle.key_types.specs.declared.algorithm.AlgorithmIdentifier.{AlgorithmIdentifier}

@@ -3,7 +3,7 @@ use Rattle.std.specs.Prelude.{◌≡◌, ℕ, List, [], ◌++◌, flat_map, Opti
 use Rattle.std.specs.Option.{option_map}
 use Rattle.der_core.specs.DerElement.{DerElement}
 use Rattle.der_core.specs.Encoding.{encoding}
-use Rattle.x501_types.specs.Name.{name}
+use Rattle.name_types.specs.Name.{name}
 use Rattle.key_types.specs.PublicKeyInfo.{public_key_info, inner_key, IsPublicKeyInfo}
 use Rattle.x509_types.specs.Attribute.{AreAttributes, attribute_list, inner_attributes}
 use Rattle.x509_types.specs.AttributeValues.{asked_kinds}

@@ -18,8 +18,8 @@ use der_core::{
     read_list, write_list,
 };
 use key_types::SubjectPublicKeyInfo;
+use name_types::Name;
 use std::alloc::{AllocError, Global};
-use x501_types::Name;
 use x509_types::{Attribute, AttributeList};
 
 /// The tag of the attributes.

@@ -2,10 +2,10 @@
 
 use asn1_types::{CharSetError, Ia5String};
 use der_core::{DerError, Structure};
+use name_types::RawGeneralNames;
 use names_core::{DirectoryName, GeneralName, GeneralNames};
 use std::alloc::{AllocError, Global};
 use std::test::Fail;
-use x501_types::RawGeneralNames;
 
 /// A host, a resource, another host, a name of the directory and a mailbox.
 fn five_names(alloc: Global) -> Result<GeneralNames, CharSetError> {

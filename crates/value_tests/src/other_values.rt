@@ -1,9 +1,9 @@
 //! Values of attributes that are no string of a known type.
 
 use der_core::{DerError, Raw, Structure};
+use name_types::{AttributeValue, OtherValue};
 use std::alloc::Global;
 use std::test::Fail;
-use x501_types::{AttributeValue, OtherValue};
 
 fn is_taken(alloc: Global, der: &[u8]) -> Result<bool, DerError> {
     let element = Raw::from_der(alloc, der)?;

@@ -5,10 +5,10 @@ use Rattle.der_core.specs.DerElement.{DerElement}
 use Rattle.der_core.specs.Kept.{IsKept}
 use Rattle.der_core.specs.Structure.{IsWithin}
 use Rattle.asn1_types.specs.declared.oids.TheConstants.{CE_SUBJECT_KEY_IDENTIFIER, CE_BASIC_CONSTRAINTS, CE_AUTHORITY_KEY_IDENTIFIER}
-use Rattle.x509_values.specs.AuthorityKeyIdentifier.{authority_key_identifier}
-use Rattle.x509_values.specs.BasicConstraints.{IsBasicConstraints}
-use Rattle.x509_values.specs.declared.authority_key_identifier.AuthorityKeyIdentifier.{AuthorityKeyIdentifier}
-use Rattle.x509_values.specs.declared.basic_constraints.BasicConstraints.{BasicConstraints}
+use Rattle.extension_types.specs.AuthorityKeyIdentifier.{authority_key_identifier}
+use Rattle.extension_types.specs.BasicConstraints.{IsBasicConstraints}
+use Rattle.extension_types.specs.declared.authority_key_identifier.AuthorityKeyIdentifier.{AuthorityKeyIdentifier}
+use Rattle.extension_types.specs.declared.basic_constraints.BasicConstraints.{BasicConstraints}
 use Rattle.x509_types.specs.CertificateElements.{CertificateElements, AreCertificateFields}
 use Rattle.x509_types.specs.ExtensionKind.{named_kind}
 use Rattle.x509_types.specs.ExtensionParts.{HasCa, HasPathLength, HasSubjectKey, HasAuthorityKey}

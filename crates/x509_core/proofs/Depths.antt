@@ -6,8 +6,8 @@ use Rattle.der_core.specs.Default.{IsBoolean, IsDefaultFalse}
 use Rattle.der_core.specs.DerElement.{DerElement, Primitive}
 use Rattle.der_core.specs.Elements.{sequence}
 use Rattle.asn1_types.specs.declared.oids.TheConstants.{CE_BASIC_CONSTRAINTS}
-use Rattle.x509_values.specs.BasicConstraints.{small_integer}
-use Rattle.x509_values.specs.Facts.Constraints.{integer_once}
+use Rattle.extension_types.specs.BasicConstraints.{small_integer}
+use Rattle.extension_types.specs.Facts.Constraints.{integer_once}
 use Rattle.x509_types.specs.CertificateElements.{CertificateElements}
 use Rattle.x509_types.specs.ExtensionParts.{HasCa, HasPathLength}
 use Rattle.x509_types.proofs.FirstExtensions.{value_once}

@@ -7,13 +7,13 @@ use Rattle.der_core.specs.Default.{IsBoolean}
 use Rattle.der_core.specs.Facts.Fields.{split}
 use Rattle.der_core.specs.Facts.Grammars.{same_fields}
 use Rattle.der_core.specs.Lent.{kept_option}
-use Rattle.x509_values.specs.AuthorityIssuer.{HasIssuerTag}
-use Rattle.x509_values.specs.AuthorityKeyIdentifier.{authority_key_of, authority_key_identifier}
-use Rattle.x509_values.specs.BasicConstraints.{small_integer, optional_integer, IsBasicConstraints}
-use Rattle.x509_values.specs.Boolean.{IsOptionalBoolean}
-use Rattle.x509_values.specs.Facts.Constraints.{boolean_once, default_field, lengths_once, no_flag, optional_field}
-use Rattle.x509_values.specs.declared.authority_key_identifier.AuthorityKeyIdentifier.{AuthorityKeyIdentifier}
-use Rattle.x509_values.specs.declared.basic_constraints.BasicConstraints.{BasicConstraints}
+use Rattle.extension_types.specs.AuthorityIssuer.{HasIssuerTag}
+use Rattle.extension_types.specs.AuthorityKeyIdentifier.{authority_key_of, authority_key_identifier}
+use Rattle.extension_types.specs.BasicConstraints.{small_integer, optional_integer, IsBasicConstraints}
+use Rattle.extension_types.specs.Boolean.{IsOptionalBoolean}
+use Rattle.extension_types.specs.Facts.Constraints.{boolean_once, default_field, lengths_once, no_flag, optional_field}
+use Rattle.extension_types.specs.declared.authority_key_identifier.AuthorityKeyIdentifier.{AuthorityKeyIdentifier}
+use Rattle.extension_types.specs.declared.basic_constraints.BasicConstraints.{BasicConstraints}
 use Rattle.x509_types.specs.ExtensionParts.{HasFirstElement, EndsWithLength, IsAuthorityKeyIdentifier}
 
 -- ---- flags

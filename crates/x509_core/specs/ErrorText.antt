@@ -8,7 +8,7 @@ use Rattle.key_core.specs.ErrorText.{element_error_text, key_error_text}
 use Rattle.key_core.specs.SignatureErrorText.{signature_error_text, key_id_error_text}
 use Rattle.key_core.specs.declared.key_id.KeyIdGenError.{KeyIdGenError}
 use Rattle.key_core.specs.declared.signature_error.SignatureError.{SignatureError}
-use Rattle.x501_types.specs.NameText.{name_text}
+use Rattle.name_types.specs.NameText.{name_text}
 use Rattle.names_core.specs.Names.{sets_of}
 use Rattle.x509_core.specs.CsrErrorText.{csr_error_text}
 use Rattle.x509_core.specs.declared.error.Arg.{Arg}

@@ -2,16 +2,16 @@
 -- 5280 4.2.1.1, 4.2.1.2, 4.2.1.9).
 use Rattle.std.specs.Prelude.{◌≡◌, ◌↔◌, ℕ, Bool, List, Some}
 use Rattle.asn1_types.specs.declared.oids.TheConstants.{CE_SUBJECT_KEY_IDENTIFIER, CE_BASIC_CONSTRAINTS, CE_AUTHORITY_KEY_IDENTIFIER}
+use Rattle.extension_types.specs.AuthorityKeyIdentifier.{key_identifier_of}
+use Rattle.extension_types.specs.BasicConstraints.{ca_of, pathlen_of}
+use Rattle.extension_types.specs.declared.authority_key_identifier.AuthorityKeyIdentifier.{AuthorityKeyIdentifier}
+use Rattle.extension_types.specs.declared.basic_constraints.BasicConstraints.{BasicConstraints}
 use Rattle.x509_types.specs.CertificateElements.{CertificateElements}
 use Rattle.x509_types.specs.ExtensionParts.{HasCa, HasPathLength, HasSubjectKey, HasAuthorityKey}
 use Rattle.x509_types.specs.FirstOfValue.{extensions_in}
 use Rattle.x509_types.specs.declared.certificate.Certificate.{Certificate}
 use Rattle.x509_types.specs.declared.extension.Extension.{Extension}
 use Rattle.x509_types.specs.declared.extension_view.ExtensionView.TheVariants as views
-use Rattle.x509_values.specs.AuthorityKeyIdentifier.{key_identifier_of}
-use Rattle.x509_values.specs.BasicConstraints.{ca_of, pathlen_of}
-use Rattle.x509_values.specs.declared.authority_key_identifier.AuthorityKeyIdentifier.{AuthorityKeyIdentifier}
-use Rattle.x509_values.specs.declared.basic_constraints.BasicConstraints.{BasicConstraints}
 use Rattle.x509_core.specs.FirstValue.{HasFirst}
 
 -- The first key identifier of an authority names its key by this one.

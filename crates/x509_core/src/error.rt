@@ -10,11 +10,11 @@ ghost use Rattle.x509_core.specs.declared.error.CertError.TheVariants.{Memory};
 use crate::csr_error::CsrError;
 use der_core::{DerError, Octets};
 use key_core::{Element, KeyError, KeyIdGenError, SignatureError};
+use name_types::write_hexadecimal;
 use names_core::{DirectoryName, UtcDate};
 use std::alloc::{AllocError, AllocFailed};
 use std::fmt;
 use thiserror::Error;
-use x501_types::write_hexadecimal;
 
 /// Why a certificate isn't read, written or made, lacks an extension, isn't valid, or isn't one of
 /// a chain.

@@ -5,16 +5,16 @@ use Rattle.der_core.specs.Structure.{IsWithin, FitsWithin}
 use Rattle.der_core.specs.Refusals.{RefusesShape}
 use Rattle.der_core.specs.declared.error.DerError.{DerError}
 use Rattle.der_core.specs.declared.error.DerError.TheVariants as errors
-use Rattle.x501_types.specs.GeneralName.{AreGeneralNames}
-use Rattle.x501_types.specs.declared.general_name.RawGeneralName.{RawGeneralName}
-use Rattle.x509_values.specs.KeyUsage.{key_usage}
-use Rattle.x509_values.specs.BasicConstraints.{IsBasicConstraints}
-use Rattle.x509_values.specs.AuthorityKeyIdentifier.{authority_key_identifier}
-use Rattle.x509_values.specs.ExtendedKeyUsage.{extended_key_usage}
-use Rattle.x509_values.specs.declared.key_usage.KeyUsage.{KeyUsage}
-use Rattle.x509_values.specs.declared.basic_constraints.BasicConstraints.{BasicConstraints}
-use Rattle.x509_values.specs.declared.authority_key_identifier.AuthorityKeyIdentifier.{AuthorityKeyIdentifier}
-use Rattle.x509_values.specs.declared.extended_key_usage.ExtendedKeyUsage.{ExtendedKeyUsage}
+use Rattle.extension_types.specs.KeyUsage.{key_usage}
+use Rattle.extension_types.specs.BasicConstraints.{IsBasicConstraints}
+use Rattle.extension_types.specs.AuthorityKeyIdentifier.{authority_key_identifier}
+use Rattle.extension_types.specs.ExtendedKeyUsage.{extended_key_usage}
+use Rattle.extension_types.specs.declared.key_usage.KeyUsage.{KeyUsage}
+use Rattle.extension_types.specs.declared.basic_constraints.BasicConstraints.{BasicConstraints}
+use Rattle.extension_types.specs.declared.authority_key_identifier.AuthorityKeyIdentifier.{AuthorityKeyIdentifier}
+use Rattle.extension_types.specs.declared.extended_key_usage.ExtendedKeyUsage.{ExtendedKeyUsage}
+use Rattle.name_types.specs.GeneralName.{AreGeneralNames}
+use Rattle.name_types.specs.declared.general_name.RawGeneralName.{RawGeneralName}
 use Rattle.x509_types.specs.ExtensionView.{key_identifier, HoldsNoNames, MayBeKept, IsValueOf}
 use Rattle.x509_types.specs.Facts.ExtensionViews.{HoldsOf, holds_of}
 use Rattle.x509_types.specs.declared.extension_kind.ExtensionKind.{ExtensionKind}

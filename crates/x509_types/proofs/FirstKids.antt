@@ -7,8 +7,8 @@ use Rattle.der_core.specs.Default.{IsBoolean, IsDefaultFalse, HasBadFlag, TakesD
 use Rattle.der_core.specs.Structure.{BeginsOtherwise, HasMore}
 use Rattle.der_core.specs.Facts.Fields.{split}
 use Rattle.der_core.specs.Facts.Grammars.{same_fields}
-use Rattle.x509_values.specs.BasicConstraints.{small_integer}
-use Rattle.x509_values.specs.Facts.Constraints.{default_field}
+use Rattle.extension_types.specs.BasicConstraints.{small_integer}
+use Rattle.extension_types.specs.Facts.Constraints.{default_field}
 use Rattle.x509_types.specs.ExtensionParts.{HasFirstElement, EndsWithLength}
 
 -- nothing begins a sequence of none

@@ -7,12 +7,12 @@ use Rattle.der_core.specs.Facts.Lists.{list_refused}
 use Rattle.der_core.specs.declared.error.DerError.{DerError}
 use Rattle.asn1_types.specs.Values.{integer_contents}
 use Rattle.asn1_types.specs.declared.integer.IntegerAsn1.{IntegerAsn1}
-use Rattle.x501_types.specs.Name.{IsName}
+use Rattle.name_types.specs.Name.{IsName}
+use Rattle.extension_types.specs.Validity.{validity}
+use Rattle.extension_types.specs.declared.validity.Validity.{Validity}
 use Rattle.key_types.specs.AlgorithmIdentifier.{algorithm_identifier}
 use Rattle.key_types.specs.PublicKeyInfo.{IsPublicKeyInfo}
 use Rattle.key_types.specs.declared.algorithm.AlgorithmIdentifier.{AlgorithmIdentifier}
-use Rattle.x509_values.specs.Validity.{validity}
-use Rattle.x509_values.specs.declared.validity.Validity.{Validity}
 use Rattle.der_core.specs.Optional.{SpellsOption}
 use Rattle.x509_types.specs.TbsElements.{TbsElements, tbs_of}
 use Rattle.x509_types.specs.TbsCertificate.{IsVersion, IsExtensions, AreTbsFields, IsTbsCertificate}

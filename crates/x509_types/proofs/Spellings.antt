@@ -11,9 +11,9 @@ use Rattle.der_core.specs.Structure.{IsWithin}
 use Rattle.der_core.specs.Default.{IsDefaultFalse}
 use Rattle.asn1_types.specs.Elements.{object_identifier}
 use Rattle.der_core.specs.Default.{default_false}
-use Rattle.x509_values.specs.BasicConstraints.{basic_constraints, IsBasicConstraints}
-use Rattle.x509_values.specs.Facts.Constraints.{boolean_stands, constraints_spelled}
-use Rattle.x509_values.specs.declared.basic_constraints.BasicConstraints.{BasicConstraints}
+use Rattle.extension_types.specs.BasicConstraints.{basic_constraints, IsBasicConstraints}
+use Rattle.extension_types.specs.Facts.Constraints.{boolean_stands, constraints_spelled}
+use Rattle.extension_types.specs.declared.basic_constraints.BasicConstraints.{BasicConstraints}
 use Rattle.x509_types.specs.ExtensionView.{value_octets, IsValueIn}
 use Rattle.x509_types.specs.Extension.{IsExtension}
 use Rattle.x509_types.specs.ExtensionSpellings.{HasOtherFlag, HasOtherConstraints, IsSpelling}

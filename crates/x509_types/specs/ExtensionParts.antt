@@ -5,7 +5,7 @@ use Rattle.der_core.specs.DerElement.{DerElement, Primitive}
 use Rattle.der_core.specs.Elements.{sequence}
 use Rattle.der_core.specs.Default.{IsBoolean, IsDefaultFalse}
 use Rattle.asn1_types.specs.declared.oids.TheConstants.{CE_SUBJECT_KEY_IDENTIFIER, CE_BASIC_CONSTRAINTS, CE_AUTHORITY_KEY_IDENTIFIER}
-use Rattle.x509_values.specs.BasicConstraints.{small_integer}
+use Rattle.extension_types.specs.BasicConstraints.{small_integer}
 use Rattle.x509_types.specs.ExtensionView.{key_identifier}
 use Rattle.x509_types.specs.CertificateElements.{CertificateElements}
 use Rattle.x509_types.specs.FirstExtension.{Says}

@@ -6,8 +6,8 @@ use Rattle.der_core.specs.Encoding.{encoding}
 use Rattle.der_core.specs.Elements.{sequence, octet_string}
 use Rattle.der_core.specs.Default.{default_false}
 use Rattle.asn1_types.specs.Elements.{object_identifier}
-use Rattle.x509_values.specs.BasicConstraints.{HasOtherTrue}
-use Rattle.x509_values.specs.declared.basic_constraints.BasicConstraints.{BasicConstraints}
+use Rattle.extension_types.specs.BasicConstraints.{HasOtherTrue}
+use Rattle.extension_types.specs.declared.basic_constraints.BasicConstraints.{BasicConstraints}
 use Rattle.x509_types.specs.Extension.{extension, IsExtension}
 use Rattle.x509_types.specs.ExtensionView.{value_octets}
 use Rattle.x509_types.specs.declared.extension.Extension.{Extension}

@@ -5,15 +5,15 @@ use Rattle.der_core.specs.DerElement.{DerElement}
 use Rattle.der_core.specs.Elements.{octet_string}
 use Rattle.der_core.specs.Encoding.{encoding}
 use Rattle.der_core.specs.Structure.{IsWithin}
-use Rattle.x501_types.specs.GeneralName.{general_names, AreGeneralNames}
-use Rattle.x501_types.specs.declared.general_name.RawGeneralName.{RawGeneralName}
-use Rattle.x509_values.specs.KeyUsage.{key_usage}
-use Rattle.x509_values.specs.BasicConstraints.{basic_constraints, IsBasicConstraints}
-use Rattle.x509_values.specs.AuthorityKeyIdentifier.{authority_key_identifier}
-use Rattle.x509_values.specs.ExtendedKeyUsage.{extended_key_usage}
-use Rattle.x509_values.specs.declared.key_usage.KeyUsage.{KeyUsage}
-use Rattle.x509_values.specs.declared.authority_key_identifier.AuthorityKeyIdentifier.{AuthorityKeyIdentifier}
-use Rattle.x509_values.specs.declared.extended_key_usage.ExtendedKeyUsage.{ExtendedKeyUsage}
+use Rattle.extension_types.specs.KeyUsage.{key_usage}
+use Rattle.extension_types.specs.BasicConstraints.{basic_constraints, IsBasicConstraints}
+use Rattle.extension_types.specs.AuthorityKeyIdentifier.{authority_key_identifier}
+use Rattle.extension_types.specs.ExtendedKeyUsage.{extended_key_usage}
+use Rattle.extension_types.specs.declared.key_usage.KeyUsage.{KeyUsage}
+use Rattle.extension_types.specs.declared.authority_key_identifier.AuthorityKeyIdentifier.{AuthorityKeyIdentifier}
+use Rattle.extension_types.specs.declared.extended_key_usage.ExtendedKeyUsage.{ExtendedKeyUsage}
+use Rattle.name_types.specs.GeneralName.{general_names, AreGeneralNames}
+use Rattle.name_types.specs.declared.general_name.RawGeneralName.{RawGeneralName}
 use Rattle.x509_types.specs.ExtensionKind.{extension_kind_number}
 use Rattle.x509_types.specs.declared.extension_kind.ExtensionKind.{ExtensionKind}
 use Rattle.x509_types.specs.declared.extension_kind.ExtensionKind.TheVariants as kinds

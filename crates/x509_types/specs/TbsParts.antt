@@ -2,10 +2,10 @@
 -- 5280 4.1.2).
 use Rattle.std.specs.Prelude.{◌≡◌}
 use Rattle.asn1_types.specs.Values.{integer_contents}
-use Rattle.x501_types.specs.Name.{IsName}
+use Rattle.name_types.specs.Name.{IsName}
+use Rattle.extension_types.specs.Validity.{validity}
 use Rattle.key_types.specs.AlgorithmIdentifier.{algorithm_identifier}
 use Rattle.key_types.specs.PublicKeyInfo.{IsPublicKeyInfo}
-use Rattle.x509_values.specs.Validity.{validity}
 use Rattle.der_core.specs.Optional.{SpellsOption}
 use Rattle.x509_types.specs.TbsElements.{TbsElements}
 use Rattle.x509_types.specs.TbsCertificate.{IsVersion, IsExtensions}

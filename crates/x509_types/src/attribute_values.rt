@@ -15,8 +15,8 @@ use der_core::{
     DerError, Elem, ListOf, Octets, Raw, Structure, Tree, copy_each, has_list, read_list,
     write_list,
 };
+use extension_types::OidList;
 use std::alloc::{AllocError, Global};
-use x509_values::OidList;
 
 /// The values of an attribute, a SET OF (RFC 2986 4.1, RFC 5652 5.3), by the attribute's
 /// identifier. Of each kind any number of values are read, also none, in the order that stands.

@@ -19,9 +19,9 @@ use asn1_types::oids::{
 };
 use der_core::tag::{OCTET_STRING, SEQUENCE};
 use der_core::{DerError, Elem, ListOf, NewKids, Octets, Structure, Tree, write_boolean};
+use extension_types::{AuthorityKeyIdentifier, BasicConstraints, ExtendedKeyUsage, KeyUsage};
+use name_types::RawGeneralNames;
 use std::alloc::{AllocError, Global};
-use x501_types::RawGeneralNames;
-use x509_values::{AuthorityKeyIdentifier, BasicConstraints, ExtendedKeyUsage, KeyUsage};
 
 /// Extensions in order (RFC 5280 4.1).
 pub type Extensions = ListOf<Extension>;
@@ -38,8 +38,8 @@ pub struct Extension {
 }
 
 impl Extension {
-    ghost use Rattle.x509_values.specs.AuthorityKeyIdentifier.{key_of_identifier};
-    ghost use Rattle.x509_values.specs.BasicConstraints.{constraints_with};
+    ghost use Rattle.extension_types.specs.AuthorityKeyIdentifier.{key_of_identifier};
+    ghost use Rattle.extension_types.specs.BasicConstraints.{constraints_with};
     ghost use Rattle.der_core.specs.Refusals.{RefusesShape};
     ghost use Rattle.x509_types.specs.Extension.{IsPlainExtension, IsNamedValue, IsRawExtension};
     ghost use Rattle.x509_types.specs.declared.extension_view.ExtensionView.{ExtensionView};

@@ -6,7 +6,7 @@ ghost use Rattle.x509_types.specs.ExtensionParts.{HasFirstElement, EndsWithLengt
 
 use der_core::tag::SEQUENCE;
 use der_core::{Elem, Kids, boolean_at, leaf_at};
-use x509_values::small_integer_at;
+use extension_types::small_integer_at;
 
 /// The tag of the key's identifier in an AuthorityKeyIdentifier.
 const KEY_IDENTIFIER: u8 = 0x80;

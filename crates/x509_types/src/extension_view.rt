@@ -5,15 +5,15 @@ ghost use Rattle.der_core.specs.Placed.{AreDer};
 ghost use Rattle.der_core.specs.Refusals.{RefusesShape, RefusesInner};
 ghost use Rattle.der_core.specs.Structure.{IsWithin};
 ghost use Rattle.der_core.specs.declared.error.DerError.TheVariants as errors;
-ghost use Rattle.x501_types.specs.GeneralName.{AreGeneralNames};
+ghost use Rattle.name_types.specs.GeneralName.{AreGeneralNames};
 ghost use Rattle.x509_types.specs.ExtensionView.{kind_of_view, value_octets, inner_value, HoldsNoNames, IsValueOf};
 ghost use Rattle.x509_types.specs.declared.extension_view.ExtensionView.{ExtensionView};
 
 use crate::extension_kind::ExtensionKind;
 use der_core::{DerError, Octets, Structure, has_within, read_within, write_within};
+use extension_types::{AuthorityKeyIdentifier, BasicConstraints, ExtendedKeyUsage, KeyUsage};
+use name_types::RawGeneralNames;
 use std::alloc::{AllocError, Global};
-use x501_types::RawGeneralNames;
-use x509_values::{AuthorityKeyIdentifier, BasicConstraints, ExtendedKeyUsage, KeyUsage};
 
 /// The value of an extension, by the extension's identifier (RFC 5280 4.2).
 #[derive(Debug, Drop)]

@@ -30,6 +30,9 @@ pub use cert_view::CertView;
 pub use certificate::Certificate;
 pub use extension::{Extension, Extensions};
 pub use extension_kind::ExtensionKind;
+pub use extension_types::{
+    AuthorityKeyIdentifier, BasicConstraints, ExtendedKeyUsage, KeyUsage, OidList, Time, Validity,
+};
 pub use extension_view::ExtensionView;
 pub use key_types::{AlgorithmIdentifier, KeyKind, RsaPublicKey, SubjectKey, SubjectPublicKeyInfo};
 pub use laws::{
@@ -37,13 +40,10 @@ pub use laws::{
     first_extensions_are_those_of_certificates, times_and_keys_are_those_of_certificates,
     views_lend_what_certificates_have,
 };
-pub use tbs_certificate::TbsCertificate;
-pub use version::Version;
-pub use x501_types::{
+pub use name_types::{
     AttributeTypeAndValue, AttributeValue, DirectoryString, EdiPartyName, Name, NameAttr,
     OtherName, OtherValue, RawGeneralName, RawGeneralNames, RelativeDistinguishedName,
     email_address_oid, list_has_each_attribute_type,
 };
-pub use x509_values::{
-    AuthorityKeyIdentifier, BasicConstraints, ExtendedKeyUsage, KeyUsage, OidList, Time, Validity,
-};
+pub use tbs_certificate::TbsCertificate;
+pub use version::Version;

@@ -11,8 +11,8 @@ use Rattle.der_core.specs.Facts.Kept.{same_kept}
 use Rattle.key_types.specs.AlgorithmIdentifier.{algorithm_identifier}
 use Rattle.key_types.specs.Facts.Algorithms.{algorithms}
 use Rattle.key_types.specs.declared.algorithm.AlgorithmIdentifier.{AlgorithmIdentifier}
-use Rattle.content_types.specs.ContentInfo.{content_info}
-use Rattle.content_types.specs.Facts.ContentInfos.{content_infos}
+use Rattle.cms_content.specs.ContentInfo.{content_info}
+use Rattle.cms_content.specs.Facts.ContentInfos.{content_infos}
 use Rattle.cms_types.specs.CertificateChoices.{certificate_choice}
 use Rattle.cms_types.specs.Members.{element_of_kept}
 use Rattle.cms_types.specs.Pkcs7.{pkcs7}

@@ -5,8 +5,8 @@ use Rattle.der_core.specs.Structure.{IsGrammar}
 use Rattle.der_core.specs.Facts.Grammars.{printed}
 use Rattle.asn1_types.specs.Elements.{integer}
 use Rattle.asn1_types.specs.Facts.Elements.{integers}
-use Rattle.x501_types.specs.Name.{name}
-use Rattle.x501_types.specs.Facts.Names.{names}
+use Rattle.name_types.specs.Name.{name}
+use Rattle.name_types.specs.Facts.Names.{names}
 use Rattle.cms_types.specs.SignerIdentifier.{issuer_and_serial_number, signer_identifier}
 use Rattle.cms_types.specs.declared.issuer_and_serial.IssuerAndSerialNumber.{IssuerAndSerialNumber}
 use Rattle.cms_types.specs.declared.signer_identifier.SignerIdentifier.{SignerIdentifier}

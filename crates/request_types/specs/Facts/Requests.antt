@@ -11,8 +11,8 @@ use Rattle.der_core.specs.Facts.Grammars.{AreDer-append, AreDer-front, AreDer-ba
 use Rattle.asn1_types.specs.Elements.{bit_string}
 use Rattle.asn1_types.specs.Facts.Elements.{bit_strings}
 use Rattle.asn1_types.specs.declared.bit_string.BitString.{BitString}
-use Rattle.x501_types.specs.Name.{name}
-use Rattle.x501_types.specs.Facts.Names.{names}
+use Rattle.name_types.specs.Name.{name}
+use Rattle.name_types.specs.Facts.Names.{names}
 use Rattle.key_types.specs.AlgorithmIdentifier.{algorithm_identifier}
 use Rattle.key_types.specs.PublicKeyInfo.{inner_key, public_key_info, IsPublicKeyInfo}
 use Rattle.key_types.specs.Facts.Algorithms.{algorithms}

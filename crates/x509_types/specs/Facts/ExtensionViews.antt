@@ -8,19 +8,19 @@ use Rattle.der_core.specs.Placed.{AreDer}
 use Rattle.der_core.specs.Structure.{IsWithin, IsGrammar}
 use Rattle.der_core.specs.Facts.Within.{within_once, within_written, within_bounds, encoded_once}
 use Rattle.der_core.specs.Facts.OctetStrings.{octet_strings}
-use Rattle.x501_types.specs.GeneralName.{general_names, AreGeneralNames}
-use Rattle.x501_types.specs.Facts.GeneralNames.{general_name_lists}
-use Rattle.x501_types.specs.declared.general_name.RawGeneralName.{RawGeneralName}
-use Rattle.x509_values.specs.BasicConstraints.{basic_constraints, IsBasicConstraints}
-use Rattle.x509_values.specs.AuthorityKeyIdentifier.{authority_key_identifier}
-use Rattle.x509_values.specs.KeyUsage.{key_usage}
-use Rattle.x509_values.specs.ExtendedKeyUsage.{extended_key_usage}
-use Rattle.x509_values.specs.Facts.Constraints.{all_basic_constraints, constraints_printed, constraints_der}
-use Rattle.x509_values.specs.Facts.Usages.{key_usages, extended_key_usages}
-use Rattle.x509_values.specs.Facts.AuthorityKeys.{authority_key_identifiers}
-use Rattle.x509_values.specs.declared.key_usage.KeyUsage.{KeyUsage}
-use Rattle.x509_values.specs.declared.authority_key_identifier.AuthorityKeyIdentifier.{AuthorityKeyIdentifier}
-use Rattle.x509_values.specs.declared.extended_key_usage.ExtendedKeyUsage.{ExtendedKeyUsage}
+use Rattle.extension_types.specs.BasicConstraints.{basic_constraints, IsBasicConstraints}
+use Rattle.extension_types.specs.AuthorityKeyIdentifier.{authority_key_identifier}
+use Rattle.extension_types.specs.KeyUsage.{key_usage}
+use Rattle.extension_types.specs.ExtendedKeyUsage.{extended_key_usage}
+use Rattle.extension_types.specs.Facts.Constraints.{all_basic_constraints, constraints_printed, constraints_der}
+use Rattle.extension_types.specs.Facts.Usages.{key_usages, extended_key_usages}
+use Rattle.extension_types.specs.Facts.AuthorityKeys.{authority_key_identifiers}
+use Rattle.extension_types.specs.declared.key_usage.KeyUsage.{KeyUsage}
+use Rattle.extension_types.specs.declared.authority_key_identifier.AuthorityKeyIdentifier.{AuthorityKeyIdentifier}
+use Rattle.extension_types.specs.declared.extended_key_usage.ExtendedKeyUsage.{ExtendedKeyUsage}
+use Rattle.name_types.specs.GeneralName.{general_names, AreGeneralNames}
+use Rattle.name_types.specs.Facts.GeneralNames.{general_name_lists}
+use Rattle.name_types.specs.declared.general_name.RawGeneralName.{RawGeneralName}
 use Rattle.x509_types.specs.ExtensionKind.{extension_kind_number}
 use Rattle.x509_types.specs.ExtensionView.{kind_of_view, key_identifier, value_octets, inner_value, view_octets, IsValueIn, HoldsNoNames, MayBeKept, IsOfKind, IsValueOf}
 use Rattle.x509_types.specs.Facts.ExtensionKinds.{same_kinds, kinds_by_number}

@@ -20,7 +20,7 @@ use Rattle.x509_types.specs.ExtensionView.{kind_of_view, value_octets, inner_val
 use Rattle.x509_types.specs.Extension.{extension, extension_octets, IsExtension}
 use Rattle.der_core.specs.Facts.Grammars.{same_fields}
 use Rattle.der_core.specs.Facts.Fields.{split}
-use Rattle.x509_values.specs.Facts.Constraints.{default_is, default_field, default_once}
+use Rattle.extension_types.specs.Facts.Constraints.{default_is, default_field, default_once}
 use Rattle.x509_types.specs.Facts.ExtensionKinds.{kinds_by_number}
 use Rattle.x509_types.specs.Facts.ExtensionViews.{IsOfKind-prop, values_once, values_by_octets, values_bounded, values_written}
 use Rattle.x509_types.specs.declared.extension.Extension.{Extension}

@@ -11,8 +11,8 @@ use Rattle.asn1_types.specs.Values.{integer_contents}
 use Rattle.asn1_types.specs.Elements.{integer}
 use Rattle.asn1_types.specs.Facts.Elements.{integers}
 use Rattle.asn1_types.specs.declared.integer.IntegerAsn1.{IntegerAsn1}
-use Rattle.x501_types.specs.Name.{name}
-use Rattle.x501_types.specs.Facts.Names.{names}
+use Rattle.name_types.specs.Name.{name}
+use Rattle.name_types.specs.Facts.Names.{names}
 use Rattle.key_types.specs.AlgorithmIdentifier.{algorithm_identifier}
 use Rattle.key_types.specs.PublicKeyInfo.{inner_key}
 use Rattle.key_types.specs.Facts.Algorithms.{algorithms}
@@ -26,8 +26,8 @@ use Rattle.x509_types.specs.TbsCertificate.{IsVersion, IsExtensions, extensions,
 use Rattle.x509_types.specs.Facts.Extensions.{all_extensions}
 use Rattle.x509_types.specs.Facts.ToldExtensions.{options_told, kinds_and_octets}
 use Rattle.der_core.specs.Facts.Optional.{option_once, option_bounded, option_spelled, options_once, option_formed}
+use Rattle.extension_types.specs.Facts.Times.{validities, validities_once}
 use Rattle.x509_types.specs.Facts.TbsElements.{same_elements, elements_formed}
-use Rattle.x509_values.specs.Facts.Times.{validities, validities_once}
 use Rattle.x509_types.specs.Facts.Versions.{versions, versions_once}
 use Rattle.x509_types.specs.declared.extension.Extension.{Extension}
 use Rattle.x509_types.specs.declared.tbs_certificate.TbsCertificate.{TbsCertificate}

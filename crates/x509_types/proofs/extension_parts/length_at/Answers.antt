@@ -1,6 +1,6 @@
 use Rattle.std.proofs.Common.{[], ◌∷◌, ◌++◌}
 use Rattle.der_core.specs.DerElement.{row}
-use Rattle.x509_values.specs.BasicConstraints.{small_integer}
+use Rattle.extension_types.specs.BasicConstraints.{small_integer}
 use Rattle.x509_types.proofs.FirstKids.{bad_flag, no_length, more_lengths, ends}
 use Rattle.x509_types.proofs.extension_parts.length_at.Goals as goal
 

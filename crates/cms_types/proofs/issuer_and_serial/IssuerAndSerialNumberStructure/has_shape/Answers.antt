@@ -1,7 +1,7 @@
 use Rattle.std.proofs.Common.{◌∷◌, [], ap, ◌∙◌}
 use Rattle.der_core.specs.DerElement.{DerElement}
 use Rattle.der_core.specs.Elements.{sequence}
-use Rattle.x501_types.specs.Name.{name}
+use Rattle.name_types.specs.Name.{name}
 use Rattle.cms_types.proofs.issuer_and_serial.IssuerAndSerialNumberStructure.has_shape.Goals as goal
 
 pub returns-then-has_shape-clause-fits : goal.returns-then-has_shape-clause-fits

@@ -1,6 +1,6 @@
 use Rattle.std.proofs.Common.{sym, ap, ◌∙◌}
 use Rattle.der_core.specs.DerElement.{Primitive}
-use Rattle.content_types.specs.ContentInfoElements.{content_info_of}
+use Rattle.cms_content.specs.ContentInfoElements.{content_info_of}
 use Rattle.cms_types.proofs.Viewed.{data_content}
 use Rattle.cms_types.proofs.signed_view.SignedView.content.Goals as goal
 

@@ -1,5 +1,5 @@
 use Rattle.der_core.specs.Facts.Equality.{octets_decide}
-use Rattle.x501_types.specs.Facts.GeneralNames.{general_name_forms}
+use Rattle.name_types.specs.Facts.GeneralNames.{general_name_forms}
 use Rattle.names_core.specs.GeneralName.{raw_name, named_element}
 use Rattle.names_core.proofs.RawNames.{named_once}
 use Rattle.names_core.proofs.general_name.GeneralNamePartialEq.eq.Goals as goal

@@ -1,0 +1,10 @@
+use Rattle.std.proofs.Common.{◌≡◌, length}
+use Rattle.authenticode_signature.specs.Walk.{walked}
+use Rattle.authenticode_signature.proofs.certificates.first_of.Given as goal
+
+-- the certificates that were passed give nothing
+abbrev pub invariant-loop-certificate : goal.invariant-loop-certificate
+invariant-loop-certificate l = walked l.subject l.rest ≡ walked l.subject l.fn.certificates
+
+abbrev pub decreases-loop-certificate : goal.decreases-loop-certificate
+decreases-loop-certificate l = length l.rest

@@ -1,0 +1,223 @@
+//! Whether a signature that is kept is trusted.
+
+ghost use Rattle.std.specs.Prelude.{◌≡◌, true, false, Err, Result, MatchResult};
+ghost use Rattle.der_core.specs.Kept.{IsKept};
+ghost use Rattle.key_core.specs.Rules.{AreOneUnlessMemory, IsFirstBroken};
+ghost use Rattle.x509_core.specs.declared.window.DateCheck.TheVariants as dates;
+ghost use Rattle.authenticode_core.specs.Policy.{first_policy};
+ghost use Rattle.authenticode_core.specs.SigningRules.{RefusesAuthenticodeBy};
+ghost use Rattle.authenticode_core.specs.Trusted.{IsTrusted, asked, policy_rules, shape_rules};
+ghost use Rattle.authenticode_core.specs.declared.accepted.Accepted.{Accepted};
+ghost use Rattle.authenticode_core.specs.declared.error.AuthenticodeError.{AuthenticodeError};
+ghost use Rattle.authenticode_signature.specs.Pkcs7.{fields_of, written};
+ghost use Rattle.authenticode_signature.specs.Validator.{IsVerdict, at_dates, with_basic, policy_with_chain, policy_with_not_after, policy_with_not_before, with_signing, without_basic};
+ghost use Rattle.authenticode_signature.specs.declared.pkcs7.Pkcs7.{Pkcs7};
+
+use crate::signature::AuthenticodeSignature;
+use authenticode_core::{Accepted, AuthenticodeError, DateCheck, Policy, check_signed_data};
+use cms_types::SignedView;
+use der_core::{Octets, Structure, whole_element};
+use names_core::UtcDate;
+use sig_core::Scheme;
+use std::alloc::Global;
+
+/// Asks whether a signature that is kept is trusted. Of the setters of one kind the last call
+/// counts.
+#[derive(Drop)]
+pub struct AuthenticodeValidator<'a> {
+    signature: &'a AuthenticodeSignature,
+    policy: Policy,
+}
+
+impl AuthenticodeSignature {
+    /// A validator that asks for all, to which no digest of the file and no date are given. It
+    /// takes no memory.
+    pub fn authenticode_verifier(&self, alloc: Global) -> AuthenticodeValidator<'_>
+        ensures policy { result.policy ≡ first_policy }
+        ensures signature { result.signature.now ≡ self.now }
+    {
+        AuthenticodeValidator {
+            signature: self,
+            policy: Policy::new(alloc),
+        }
+    }
+}
+
+impl<'a> AuthenticodeValidator<'a> {
+    /// The date at which certificates have to be valid. It takes the place of an interval.
+    pub fn exact_date(self, exact: UtcDate) -> Self
+        ensures policy { result.policy ≡ at_dates (dates.Exact exact) self.entry.policy }
+        ensures signature { result.signature.now ≡ self.entry.signature.now }
+    {
+        self.at(DateCheck::Exact(exact))
+    }
+
+    /// The interval: certificates have to be valid already at its upper end and still at its lower
+    /// one. It takes the place of a date.
+    pub fn interval_date(self, lower: UtcDate, upper: UtcDate) -> Self
+        ensures policy { result.policy ≡ at_dates (dates.Interval lower upper) self.entry.policy }
+        ensures signature { result.signature.now ≡ self.entry.signature.now }
+    {
+        self.at(DateCheck::Interval { lower, upper })
+    }
+
+    /// The moments at which certificates have to be valid.
+    fn at(self, date: DateCheck) -> Self
+        ensures policy { result.policy ≡ at_dates date self.entry.policy }
+        ensures signature { result.signature.now ≡ self.entry.signature.now }
+    {
+        let AuthenticodeValidator {
+            signature,
+            mut policy,
+        } = self;
+        policy.date = date;
+        AuthenticodeValidator { signature, policy }
+    }
+
+    /// Certificates have to be valid already.
+    pub fn require_not_before_check(mut self) -> Self
+        ensures policy { result.policy ≡ policy_with_not_before true self.entry.policy }
+        ensures signature { result.signature.now ≡ self.entry.signature.now }
+    {
+        self.policy.not_before = true;
+        self
+    }
+
+    /// Certificates may be valid later.
+    pub fn ignore_not_before_check(mut self) -> Self
+        ensures policy { result.policy ≡ policy_with_not_before false self.entry.policy }
+        ensures signature { result.signature.now ≡ self.entry.signature.now }
+    {
+        self.policy.not_before = false;
+        self
+    }
+
+    /// Certificates have to be valid still.
+    pub fn require_not_after_check(mut self) -> Self
+        ensures policy { result.policy ≡ policy_with_not_after true self.entry.policy }
+        ensures signature { result.signature.now ≡ self.entry.signature.now }
+    {
+        self.policy.not_after = true;
+        self
+    }
+
+    /// Certificates may have expired.
+    pub fn ignore_not_after_check(mut self) -> Self
+        ensures policy { result.policy ≡ policy_with_not_after false self.entry.policy }
+        ensures signature { result.signature.now ≡ self.entry.signature.now }
+    {
+        self.policy.not_after = false;
+        self
+    }
+
+    /// The certificate of the signer has to be linked to those of its issuers.
+    pub fn require_chain_check(mut self) -> Self
+        ensures policy { result.policy ≡ policy_with_chain true self.entry.policy }
+        ensures signature { result.signature.now ≡ self.entry.signature.now }
+    {
+        self.policy.chain = true;
+        self
+    }
+
+    /// The certificates of the issuers aren't looked at.
+    pub fn ignore_chain_check(mut self) -> Self
+        ensures policy { result.policy ≡ policy_with_chain false self.entry.policy }
+        ensures signature { result.signature.now ≡ self.entry.signature.now }
+    {
+        self.policy.chain = false;
+        self
+    }
+
+    /// The certificate of the signer is asked for.
+    pub fn require_signing_certificate_check(mut self) -> Self
+        ensures policy { result.policy ≡ with_signing true self.entry.policy }
+        ensures signature { result.signature.now ≡ self.entry.signature.now }
+    {
+        self.policy.signing = true;
+        self
+    }
+
+    /// The certificate of the signer isn't asked for, but for its key by basic validation.
+    pub fn ignore_signing_certificate_check(mut self) -> Self
+        ensures policy { result.policy ≡ with_signing false self.entry.policy }
+        ensures signature { result.signature.now ≡ self.entry.signature.now }
+    {
+        self.policy.signing = false;
+        self
+    }
+
+    /// The form, the digest of the file, which is this, and the signature are asked for.
+    pub fn require_basic_authenticode_validation(self, file_hash: Octets) -> Self
+        ensures policy { result.policy ≡ with_basic file_hash self.entry.policy }
+        ensures signature { result.signature.now ≡ self.entry.signature.now }
+    {
+        let AuthenticodeValidator {
+            signature,
+            mut policy,
+        } = self;
+        policy.basic = true;
+        policy.file_hash = Some(file_hash);
+        AuthenticodeValidator { signature, policy }
+    }
+
+    /// Neither the form nor the digest of the file nor the signature is asked for.
+    pub fn ignore_basic_authenticode_validation(self) -> Self
+        ensures policy { result.policy ≡ without_basic self.entry.policy }
+        ensures signature { result.signature.now ≡ self.entry.signature.now }
+    {
+        let AuthenticodeValidator {
+            signature,
+            mut policy,
+        } = self;
+        policy.basic = false;
+        policy.file_hash = None;
+        AuthenticodeValidator { signature, policy }
+    }
+
+    /// Whether the signature is trusted, as it is written: `check_wincert` answers so to its octets
+    /// in a WIN_CERTIFICATE. A value without an encoding is refused before any step, as
+    /// `Asn1DerError` with the cause for which `der_core::write` refuses its element.
+    pub fn verify<S: Scheme>(
+        &self,
+        alloc: Global,
+        scheme: &S,
+    ) -> Result<Accepted, AuthenticodeError>
+        ensures answer { IsVerdict (S.judge scheme.now) self.now.policy
+            (written self.now.signature.now.0) (fields_of self.now.signature.now.0) result }
+        // No other answer has its cause, want of memory aside.
+        ensures only { (other : Result Accepted AuthenticodeError)
+            → IsVerdict (S.judge scheme.now) self.now.policy (written self.now.signature.now.0)
+            (fields_of self.now.signature.now.0) other
+            → AreOneUnlessMemory AuthenticodeError.Memory result other }
+    {
+        let octets = self.signature.0.signed.to_der(alloc)?;
+        check_octets(alloc, &octets, &self.policy, scheme)
+    }
+}
+
+/// Checks the octets of signed data under a policy, in the order of `check_wincert`.
+fn check_octets<S: Scheme>(
+    alloc: Global,
+    octets: &[u8],
+    policy: &Policy,
+    scheme: &S,
+) -> Result<Accepted, AuthenticodeError>
+    requires { (signed : Pkcs7) × IsKept octets.now (written signed) }
+    ensures answer { (signed : Pkcs7) → IsKept octets.now (written signed)
+        → MatchResult result
+        (IsTrusted (S.judge scheme.now) policy.now (fields_of signed))
+        (RefusesAuthenticodeBy (policy_rules (S.judge scheme.now) policy.now (fields_of signed))) }
+    // A refusal of the form comes whatever memory there is, and that no digest is given, too.
+    ensures shape { (signed : Pkcs7) → IsKept octets.now (written signed) → (e : AuthenticodeError)
+        → IsFirstBroken
+        (asked policy.now.basic (shape_rules (fields_of signed) policy.now.file_hash)) e
+        → result ≡ Err e }
+{
+    let Some(elem) = whole_element(octets) else {
+        unreachable!();
+    };
+    let Some(signed_data) = SignedView::read(elem) else {
+        unreachable!();
+    };
+    check_signed_data(alloc, elem, &signed_data, policy, scheme)
+}

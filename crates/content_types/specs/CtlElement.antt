@@ -1,7 +1,0 @@
--- A trust list is written as the element that it was read from.
-use Rattle.der_core.specs.DerElement.{DerElement}
-use Rattle.content_types.specs.declared.ctl.Ctl.{Ctl}
-
--- the element of a trust list
-abbrev pub ctl : Ctl → DerElement
-ctl value = value.element.element

@@ -1,0 +1,70 @@
+-- Basic constraints by their kids.
+use Rattle.std.proofs.Common.{◌≡◌, ℕ, List, [], ◌∷◌, ◌++◌, Option, Some, None, refl, sym, ap, subst, ◌∙◌}
+use Rattle.std.specs.Prelude.{Bool}
+use Rattle.der_core.specs.DerElement.{DerElement, tag_of}
+use Rattle.der_core.specs.Elements.{sequence}
+use Rattle.der_core.specs.Default.{IsBoolean, HasBadFlag}
+use Rattle.der_core.specs.Structure.{HasMore, BeginsOtherwise}
+use Rattle.extension_types.specs.Boolean.{IsOptionalBoolean, TakesBoolean}
+use Rattle.extension_types.specs.BasicConstraints.{optional_integer, IsBasicConstraints, HasBadLength, TakesLength}
+use Rattle.der_core.specs.Facts.Grammars.{same_fields}
+use Rattle.der_core.specs.Facts.Fields.{split}
+use Rattle.extension_types.specs.Facts.Constraints.{optional_field, no_flag}
+use Rattle.extension_types.specs.declared.basic_constraints.BasicConstraints.{BasicConstraints}
+
+-- a BOOLEAN in front of elements is that flag
+pub boolean_taken : (all : List DerElement) (kid : DerElement) (rest : List DerElement) (b : Bool) → all ≡ kid ∷ rest → IsBoolean kid b → TakesBoolean all (Some b) rest
+boolean_taken all kid rest b are is = record { flag = kid ∷ []; is = (kid, refl, is); are = are; once = λ e. absurd cc }
+
+bad_in : (flag more : List DerElement) (b : Option Bool) (kid : DerElement) (rest : List DerElement) → kid ∷ rest ≡ flag ++ more → IsOptionalBoolean flag b → tag_of kid ≡ 0x01
+    → ((c : Bool) → IsBoolean kid c → ⊥) → BeginsOtherwise 0x01 more → ⊥
+bad_in flag more None kid rest e is tagged none other =
+    let here : kid ∷ rest ≡ more = e ∙ ap (λ (f : List DerElement). f ++ more) is in
+    subst (BeginsOtherwise 0x01) (sym here) other tagged
+bad_in flag more (Some b) kid rest e is tagged none other =
+    let here : kid ∷ rest ≡ is.0 ∷ more = e ∙ ap (λ (f : List DerElement). f ++ more) is.1 in
+    let same : is.0 ≡ kid = cc in
+    none b (subst (λ (k : DerElement). IsBoolean k b) same is.2)
+
+-- a bad flag is that of no constraints
+pub bad_flag : (element : DerElement) (kids : List DerElement) (b : BasicConstraints) → element ≡ sequence kids → HasBadFlag kids → IsBasicConstraints element b → ⊥
+bad_flag element kids b holds bad is =
+    bad_in is.flag (optional_integer b.pathlen) b.ca bad.kid bad.rest (sym bad.are ∙ same_fields kids (is.flag ++ optional_integer b.pathlen) (sym holds ∙ is.is)) is.flagged bad.tagged bad.none (no_flag b.pathlen)
+
+-- what is behind the flag is the path length
+behind : (element : DerElement) (kids rest : List DerElement) (ca : Option Bool) (b : BasicConstraints) → element ≡ sequence kids → TakesBoolean kids ca rest → IsBasicConstraints element b → rest ≡ optional_integer b.pathlen
+behind element kids rest ca b holds takes is =
+    (split 0x01 takes.flag is.flag rest (optional_integer b.pathlen) (optional_field takes.flag ca takes.is) (optional_field is.flag b.ca is.flagged) takes.once (λ e. no_flag b.pathlen)
+    (sym takes.are ∙ same_fields kids (is.flag ++ optional_integer b.pathlen) (sym holds ∙ is.is))).1
+
+bad_number : (all : List DerElement) (number : Option ℕ) → HasBadLength all → all ≡ optional_integer number → ⊥
+bad_number all None bad e = absurd cc (bad.are, e)
+bad_number all (Some n) bad e = bad.none n (first_of (sym bad.are ∙ e))
+  where
+    first_of : {k l : DerElement} {ks ls : List DerElement} → k ∷ ks ≡ l ∷ ls → k ≡ l
+    first_of e = cc
+
+pub bad_length : (element : DerElement) (kids rest : List DerElement) (ca : Option Bool) (b : BasicConstraints) → element ≡ sequence kids → TakesBoolean kids ca rest → HasBadLength rest → IsBasicConstraints element b → ⊥
+bad_length element kids rest ca b holds takes bad is = bad_number rest b.pathlen bad (behind element kids rest ca b holds takes is)
+
+more_number : (all rest : List DerElement) (m n : Option ℕ) → TakesLength all m rest → HasMore rest → all ≡ optional_integer n → ⊥
+more_number all rest None n takes more e = absurd cc (takes.last refl, more.are)
+more_number all rest (Some m) None takes more e = absurd cc (takes.are, e)
+more_number all rest (Some m) (Some n) takes more e = absurd cc (takes.are, e, more.are)
+
+pub more_kids : (element : DerElement) (kids rest last : List DerElement) (ca : Option Bool) (m : Option ℕ) (b : BasicConstraints)
+    → element ≡ sequence kids → TakesBoolean kids ca rest → TakesLength rest m last → HasMore last → IsBasicConstraints element b → ⊥
+more_kids element kids rest last ca m b holds takes length more is = more_number rest last m b.pathlen length more (behind element kids rest ca b holds takes is)
+
+-- nothing is behind them
+pub all_kids : (element : DerElement) (kids rest last : List DerElement) (b : BasicConstraints)
+    → element ≡ sequence kids → TakesBoolean kids b.ca rest → TakesLength rest b.pathlen last → last ≡ [] → IsBasicConstraints element b
+all_kids element kids rest last b holds takes length none = record {
+  flag = takes.flag;
+  flagged = takes.is;
+  is = holds ∙ ap sequence (takes.are ∙ ap (λ (r : List DerElement). takes.flag ++ r) (length.are ∙ ap (λ (r : List DerElement). optional_integer b.pathlen ++ r) none ∙ nothing_behind b.pathlen));
+}
+  where
+    nothing_behind : (number : Option ℕ) → optional_integer number ++ [] ≡ optional_integer number
+    nothing_behind None = refl
+    nothing_behind (Some n) = refl

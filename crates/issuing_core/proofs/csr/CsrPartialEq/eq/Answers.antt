@@ -1,8 +1,0 @@
-use Rattle.std.proofs.Common.{ap, ◌∙◌}
-use Rattle.issuing_core.specs.KeptRequest.{kept_request}
-use Rattle.issuing_core.proofs.ReadCsrs.{same_csrs}
-use Rattle.issuing_core.proofs.csr.CsrPartialEq.eq.Goals as goal
-
-pub returns-clause-same : goal.returns-clause-same
-returns-clause-same c =
-    same_csrs _ _ c.self.inside.kept c.other.inside.kept _ (c.self.inside.around.1.0 ∙ ap kept_request c.self.view_is) (c.other.inside.around.1.0 ∙ ap kept_request c.other.view_is) c.eq.ensures.same

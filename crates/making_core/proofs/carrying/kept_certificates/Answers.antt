@@ -1,5 +1,0 @@
-use Rattle.making_core.proofs.CarriedCertificates.{all_kept}
-use Rattle.making_core.proofs.carrying.kept_certificates.Goals as goal
-
-pub returns : goal.returns
-returns c = all_kept _ _ _ c.loop-certificate.invariant c.in_default.ensures.cases

@@ -1,7 +1,0 @@
-use Rattle.std.proofs.Common.{◌∙◌}
-use Rattle.making_core.proofs.KeptNames.{names_it}
-use Rattle.making_core.proofs.frame.named_by.Goals as goal
-
-pub returns : goal.returns
-returns c =
-    names_it c.args.certificate.now c.from-issuer.result c.in_ok-serial_number.serial_number (c.from-issuer.ensures ∙ c.in_ok-issuer_name.ensures) (c.in_ok-serial_number.ensures ∙ c.serial_number.ensures)

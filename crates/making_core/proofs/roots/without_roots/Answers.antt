@@ -1,9 +1,0 @@
-use Rattle.making_core.proofs.SortedCertificates.{all_sorted, not_root, other_kept}
-use Rattle.making_core.proofs.roots.without_roots.Goals as goal
-
-pub loop-certificate-preserved-in_ok-push : goal.loop-certificate-preserved-in_ok-push
-loop-certificate-preserved-in_ok-push c =
-    other_kept _ _ _ _ _ _ _ c.loop-certificate.invariant c.in-Some.ensures.cases.0 (not_root c.if-not-is_root.ensures) c.in_ok-member_of.ensures c.in_ok-push.ensures.ok
-
-pub returns : goal.returns
-returns c = all_sorted _ _ _ c.loop-certificate.invariant c.in_default.ensures.cases

@@ -1,0 +1,4 @@
+use Rattle.name_types.proofs.tagging.has_text.Goals as goal
+
+pub returns-in-Some-clause-fits : goal.returns-in-Some-clause-fits
+returns-in-Some-clause-fits c = λ w. (record { text = c.in-Some.content.now; ascii = c.is_content.ensures.formed.0 w }, c.in-Some.ensures)

@@ -1,5 +1,0 @@
-use Rattle.x501_types.proofs.Elements.{value_at}
-use Rattle.x501_types.proofs.attribute_value.AttributeValueStructure.has_shape.Goals as goal
-
-pub returns-clause-fits : goal.returns-clause-fits
-returns-clause-fits c = λ w. value_at _ _ _ _ c.args._elem.is.1

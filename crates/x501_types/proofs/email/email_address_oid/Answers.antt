@@ -1,7 +1,0 @@
-use Rattle.std.proofs.lemmas.Result.{IfOk-weaker}
-use Rattle.x501_types.proofs.TypeDescriptors.{email_by_contents}
-use Rattle.x501_types.proofs.email.email_address_oid.Goals as goal
-
-pub returns : goal.returns
-returns c =
-    IfOk-weaker c.from_known.result _ _ (λ identifier contents. (email_by_contents identifier.contents identifier.formed).0 contents) c.from_known.ensures

@@ -1,7 +1,0 @@
-use Rattle.der_core.specs.Facts.Equality.{octets_decide}
-use Rattle.x501_types.specs.GeneralName.{general_name}
-use Rattle.x501_types.specs.Facts.GeneralNames.{general_name_forms, forms_once}
-use Rattle.x501_types.proofs.general_name.RawGeneralNamePartialEq.eq.Goals as goal
-
-pub returns-clause-octets : goal.returns-clause-octets
-returns-clause-octets c = octets_decide general_name forms_once general_name_forms.formed c.args.self.now c.args.other.now _ c.is_same.ensures

@@ -1,0 +1,48 @@
+//! What is told of a request that isn't read, written, accepted or made, by what refuses the step.
+
+ghost use Rattle.std.specs.Prelude.{◌≡◌};
+ghost use Rattle.x509_issuing.specs.CsrRefusals.{unread_csr, unwritten_csr, unsigned as unsigned_csr, keyless as keyless_csr};
+
+use der_core::DerError;
+use key_core::{Element, KeyError, SignatureError};
+use x509_core::CsrError;
+
+/// Why octets of the structure aren't read.
+pub(super) fn unread(element: Element, source: DerError) -> CsrError
+    ensures { result ≡ unread_csr element source }
+{
+    match source {
+        DerError::Memory => CsrError::Memory,
+        source => CsrError::Asn1Deserialization { element, source },
+    }
+}
+
+/// Why a value of the structure isn't written.
+pub(super) fn unwritten(element: Element, source: DerError) -> CsrError
+    ensures { result ≡ unwritten_csr element source }
+{
+    match source {
+        DerError::Memory => CsrError::Memory,
+        source => CsrError::Asn1Serialization { element, source },
+    }
+}
+
+/// Why a signature isn't accepted or made.
+pub(super) fn unsigned(source: SignatureError) -> CsrError
+    ensures { result ≡ unsigned_csr source }
+{
+    match source {
+        SignatureError::Memory => CsrError::Memory,
+        source => CsrError::Signature { source },
+    }
+}
+
+/// Why a private key gives no public key.
+pub(super) fn keyless(source: KeyError) -> CsrError
+    ensures { result ≡ keyless_csr source }
+{
+    match source {
+        KeyError::Memory => CsrError::Memory,
+        source => CsrError::PrivateKeyToPublicKey { source },
+    }
+}

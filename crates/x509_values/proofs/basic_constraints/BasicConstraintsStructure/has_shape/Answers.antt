@@ -1,6 +1,0 @@
-use Rattle.std.proofs.Common.{sym, ◌∙◌}
-use Rattle.der_core.specs.Facts.Answers.{missing}
-use Rattle.x509_values.proofs.basic_constraints.BasicConstraintsStructure.has_shape.Goals as goal
-
-pub returns-clause-unfit : goal.returns-clause-unfit
-returns-clause-unfit c = λ no. missing _ _ _ c.at.ensures (sym c.is_some.ensures ∙ no)

@@ -1,5 +1,0 @@
-use Rattle.x509_values.proofs.Constraints.{boolean_taken}
-use Rattle.x509_values.proofs.boolean.next_boolean.Goals as goal
-
-pub returns : goal.returns
-returns c = boolean_taken _ _ _ _ c.in-Some.ensures.0 c.in_ok-boolean_at.ensures
