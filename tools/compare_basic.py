@@ -1,12 +1,12 @@
 #!/usr/bin/env python3
-"""Compare what `basic_answers` prints with what `basic_judge` says, on signature files with elements changed at random.
+"""Compare what `golden_basic` prints with what `basic_judge` says, on signature files with elements changed at random.
 
 Usage:
 
     python3 tools/compare_basic.py [--seed N] [--count N] PROGRAM
 
-PROGRAM is the executable of the crate `basic_answers`.  The files are those of
-`basic_answers.py` in which elements are left out, repeated, exchanged, put
+PROGRAM is the executable of the crate `golden_basic`.  The files are those of
+`golden_basic.py` in which elements are left out, repeated, exchanged, put
 elsewhere or changed in an octet, one to three times.  The table accepts the
 signature of whatever signer and certificate the judge finds there, so that the
 steps behind the signature are reached, and mostly the digest that stands in the
@@ -22,8 +22,8 @@ from collections import Counter
 from hashlib import sha256
 from pathlib import Path
 
-import basic_answers
 import basic_judge
+import golden_basic
 from basic_world import HEADER, signature_file, with_octet
 from der_reader import Constructed, Malformed, NotWritable, Primitive, read_first, write
 from value_reader import word
@@ -33,7 +33,7 @@ LONGEST = 6000
 
 def bases():
     """Values that are one element, and the digests that they are asked for."""
-    for (file, file_hash, *_), said in basic_answers.cases():
+    for (file, file_hash, *_), said in golden_basic.cases():
         try:
             element, _ = read_first(file[HEADER:])
         except Malformed:
@@ -171,7 +171,7 @@ def options(description, count, program):
 
 
 def main():
-    words = options("Basic validation beside a judge in Python.", 6000, "basic_answers")
+    words = options("Basic validation beside a judge in Python.", 6000, "golden_basic")
     made = cases(words.seed, words.count, bases(), case)
     rows = [(word(octets), word(file_hash), word(table.encode())) for octets, file_hash, table in made]
     return compare(words.program, rows, [basic_judge.answer(*one) for one in made], lambda said: said.split()[0])

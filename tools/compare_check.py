@@ -1,21 +1,21 @@
 #!/usr/bin/env python3
-"""Compare what `check_answers` prints with what `check_judge` says, on signature files with elements changed at random.
+"""Compare what `golden_check` prints with what `check_judge` says, on signature files with elements changed at random.
 
 Usage:
 
     python3 tools/compare_check.py [--seed N] [--count N] PROGRAM
 
-PROGRAM is the executable of the crate `check_answers`.  The files are those of
-`check_answers.py`, changed as `compare_basic.py` changes them, under policies drawn
+PROGRAM is the executable of the crate `golden_check`.  The files are those of
+`golden_check.py`, changed as `compare_basic.py` changes them, under policies drawn
 at random.  The table accepts most of the signatures that a check may ask for, so
 that the steps behind them are reached.  Exit status 1 says that an answer differs.
 """
 
 import sys
 
-import check_answers
 import check_rows
 import check_world
+import golden_check
 import verdict_table
 from basic_world import HEADER
 from check_judge import Policy, answer
@@ -84,9 +84,9 @@ def kind(said):
 
 
 def main():
-    words = options("A check under a policy beside a judge in Python.", 4000, "check_answers")
+    words = options("A check under a policy beside a judge in Python.", 4000, "golden_check")
     made = cases(words.seed, words.count, bases(), case)
-    rows = [(word(octets), check_answers.table_word(table), check_answers.asked_word(policy)) for octets, policy, table in made]
+    rows = [(word(octets), golden_check.table_word(table), golden_check.asked_word(policy)) for octets, policy, table in made]
     return compare(words.program, rows, [answer(*one) for one in made], kind)
 
 

@@ -11,7 +11,7 @@ behind it that of `crates/usage_tests/src/signing.rt`.
 The form is that of RFC 2315 9.1 and 9.2 and of Windows Authenticode Portable
 Executable Signature Format, as docs/FORMATS.md tells it.  Certificates are made
 by `issuing_maker`, signatures of the demonstration scheme by its rules.  The
-rows of `MADE` and `BUILT` are those of `kept_answers` on signatures that are
+rows of `MADE` and `BUILT` are those of `golden_kept` on signatures that are
 made; which certificates are carried, and why a signature isn't made, stands
 beside each.
 """

@@ -5,7 +5,7 @@ Usage:
 
     python3 tools/system_roots.py [--folder FOLDER] PROGRAM
 
-PROGRAM is the path of `certificate_answers`.  It is asked for each root of
+PROGRAM is the path of `golden_certificate`.  It is asked for each root of
 Debian's package ca-certificates, as a value of its own, as one that is lent, and
 as one that is kept; the answers are compared with those of `value_reader`, and these field by
 field with what `openssl x509` and Python's package `cryptography` say.  Printed
@@ -21,7 +21,7 @@ import tempfile
 from pathlib import Path
 
 from certificate_making import openssl
-from value_answers import threefold
+from golden_value import threefold
 from world_check import check
 
 FOLDER = Path("/usr/share/ca-certificates/mozilla")
@@ -48,7 +48,7 @@ def answers(program, found):
 def main():
     parser = argparse.ArgumentParser(description="Roots of the system.")
     parser.add_argument("--folder", type=Path, default=FOLDER)
-    parser.add_argument("program", type=Path, help="path of certificate_answers")
+    parser.add_argument("program", type=Path, help="path of golden_certificate")
     options = parser.parse_args()
     found = list(certificates(options.folder))
     differing, read = 0, []

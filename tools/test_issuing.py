@@ -1,4 +1,4 @@
-"""Tests of what the maker and the judge of `issuing_answers` find: against lines by hand, and openssl.
+"""Tests of what the maker and the judge of `golden_issuing` find: against lines by hand, and openssl.
 
     python3 -m unittest discover -s tools
 """
@@ -6,7 +6,7 @@
 import unittest
 from shutil import which
 
-import issuing_answers
+import golden_issuing
 import issuing_chains as chains
 import issuing_check
 import issuing_rows as rows
@@ -40,17 +40,17 @@ def settled(settings, scheme=rows.DEMO, key=rows.K11):
 class StoredRunTest(unittest.TestCase):
 
     def test_stored_files(self):
-        for path, octets in issuing_answers.stored_files().items():
-            self.assertEqual((issuing_answers.FOLDER / path).read_bytes(), octets, path)
+        for path, octets in golden_issuing.stored_files().items():
+            self.assertEqual((golden_issuing.FOLDER / path).read_bytes(), octets, path)
 
     @unittest.skipUnless(which("openssl"), "openssl isn't there")
     def test_openssl_reads_some(self):
-        read = [row for row in issuing_answers.stored() if " build " in row[0] or " generate " in row[0]]
+        read = [row for row in golden_issuing.stored() if " build " in row[0] or " generate " in row[0]]
         self.assertEqual(issuing_check.check(read[::12]), 0)
 
     @unittest.skipUnless(which("openssl"), "openssl isn't there")
     def test_openssl_says_another_field(self):
-        row, line = next(iter(issuing_answers.stored()))
+        row, line = next(iter(golden_issuing.stored()))
         octets = bytes.fromhex(line.split(" ")[0])
         for asked, other in (("=20200101", "=20200102"), ("build 0", "build 2"), ("5369676e6572", "5369676e6573")):
             self.assertIn(asked, row)

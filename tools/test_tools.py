@@ -16,26 +16,26 @@ from tempfile import TemporaryDirectory
 from textwrap import dedent
 from unittest.mock import patch
 
-import certificate_parts
-import basic_answers
 import basic_rows
 import basic_world
+import certificate_parts
 import chains
-import check_answers
 import check_judge
 import check_rows
 import compare_basic
 import compare_check
 import compare_readers
-import der_reader
 import demo_signatures
-import kept_answers
+import der_reader
+import golden_basic
+import golden_check
+import golden_kept
+import golden_path
 import kept_certificates
 import made_check
 import made_signatures
 import oid_table
 import order_bag
-import path_answers
 import reader_stand_in
 import run_program
 import signed_program
@@ -68,10 +68,10 @@ from first_path import (
     FILE_HASH, SignatureFile, identifier, name, sequence, set_of, signature_file, utf8_string,
     verdict_line,
 )
+from golden_der import stored_files
+from golden_value import stored_files as stored_values
 from hostile_inputs import ROWS
 from signature_making import portable_executable
-from stored_answers import stored_files
-from value_answers import stored_files as stored_values
 from value_reader import WORDS, dotted, name_text, structure_line
 from verdict_rows import verdicts
 from world_check import Differs, Fields, openssl_check
@@ -206,7 +206,7 @@ class StoredAnswersTest(unittest.TestCase):
 
     def test_stored_files(self):
         for path, octets in stored_files().items():
-            self.assertEqual((CRATES / "der_answers" / path).read_bytes(), octets, path)
+            self.assertEqual((CRATES / "golden_der" / path).read_bytes(), octets, path)
 
 
 class BasicAnswersTest(unittest.TestCase):
@@ -216,10 +216,10 @@ class BasicAnswersTest(unittest.TestCase):
         self.assertEqual(made, basic_rows.FILE)
 
     def test_answers_are_those_by_hand(self):
-        self.assertEqual(list(basic_answers.unlike()), [])
+        self.assertEqual(list(golden_basic.unlike()), [])
 
     def test_every_refusal_has_a_row(self):
-        names = {said.split()[0] for *_, said in basic_answers.rows()}
+        names = {said.split()[0] for *_, said in golden_basic.rows()}
         self.assertEqual(names, {
             "WrongLength", "CertificateDataIsEmpty", "WrongRevisionValue", "WrongCertificateType", "Io", "Asn1Deserialization",
             "IncorrectVersion", "MultipleSignerInfo", "IncorrectDigestAlgorithmsCount", "NoEncapsulatedContentInfo", "NoSpcIndirectDataContent",
@@ -236,18 +236,18 @@ class BasicAnswersTest(unittest.TestCase):
                 self.assertNotEqual(file[at], octet, label)
 
     def test_stored_files(self):
-        for path, octets in basic_answers.stored_files().items():
-            self.assertEqual((CRATES / "basic_answers" / path).read_bytes(), octets, path)
+        for path, octets in golden_basic.stored_files().items():
+            self.assertEqual((CRATES / "golden_basic" / path).read_bytes(), octets, path)
 
 
 class CheckAnswersTest(unittest.TestCase):
 
     def test_answers_are_those_by_hand(self):
-        self.assertEqual(list(check_answers.unlike()), [])
+        self.assertEqual(list(golden_check.unlike()), [])
 
     def test_every_refusal_and_excuse_has_a_row(self):
         said = [row.said.split() for row in check_rows.rows()]
-        self.assertEqual({words[1] for words in said if words[0] == "refused"} - {said.split()[0] for *_, said in basic_answers.rows()}, {
+        self.assertEqual({words[1] for words in said if words[0] == "refused"} - {said.split()[0] for *_, said in golden_basic.rows()}, {
             "MissingExpectedFileHash", "MissingBuilderArgument", "InvalidCertificate:CertificateNotYetValid", "InvalidCertificate:CertificateExpired",
             "InvalidChain:IssuerIsNotCA", "InvalidChain:TooDeep", "InvalidCertificate:ExtensionNotFound", "InvalidCertificate:InvalidChain:AuthorityKeyIdMismatch",
             "InvalidCertificate:InvalidChain:IssuerNameMismatch", "Signature", "InvalidCertificate:Signature", "InvalidTimestampCert",
@@ -255,8 +255,8 @@ class CheckAnswersTest(unittest.TestCase):
         self.assertEqual({words[-1] for words in said if words[0] == "accepted"}, {"excuse=none", "excuse=bag", "excuse=token"})
 
     def test_stored_files(self):
-        for path, octets in check_answers.stored_files().items():
-            self.assertEqual((CRATES / "check_answers" / path).read_bytes(), octets, path)
+        for path, octets in golden_check.stored_files().items():
+            self.assertEqual((CRATES / "golden_check" / path).read_bytes(), octets, path)
 
 
 class SignedProgramsTest(unittest.TestCase):
@@ -295,23 +295,23 @@ class SignedProgramsTest(unittest.TestCase):
 class PathAnswersTest(unittest.TestCase):
 
     def test_answers_are_those_by_hand(self):
-        for label, octets, said in path_answers.CASES:
-            self.assertEqual(path_answers.answer(octets), said, label)
+        for label, octets, said in golden_path.CASES:
+            self.assertEqual(golden_path.answer(octets), said, label)
 
     def test_stored_files(self):
-        for path, octets in path_answers.stored_files().items():
-            self.assertEqual((CRATES / "path_answers" / path).read_bytes(), octets, path)
+        for path, octets in golden_path.stored_files().items():
+            self.assertEqual((CRATES / "golden_path" / path).read_bytes(), octets, path)
 
 
 class KeptAnswersTest(unittest.TestCase):
 
     def test_answers_are_those_by_hand(self):
-        for label, octets, said in kept_answers.CASES:
-            self.assertEqual(kept_answers.answer(octets), said, label)
+        for label, octets, said in golden_kept.CASES:
+            self.assertEqual(golden_kept.answer(octets), said, label)
 
     def test_stored_files(self):
-        for path, octets in kept_answers.stored_files().items():
-            self.assertEqual((CRATES / "kept_answers" / path).read_bytes(), octets, path)
+        for path, octets in golden_kept.stored_files().items():
+            self.assertEqual((CRATES / "golden_kept" / path).read_bytes(), octets, path)
 
 
 class MadeSignaturesTest(unittest.TestCase):
@@ -979,7 +979,7 @@ class RunsTest(unittest.TestCase):
     def test_rows(self):
         self.assertEqual({row.status for row in run_program.ROWS}, set(range(7)))
         names = {row.line.split()[1] for row in run_program.ROWS if row.status == 1 and row.words[0] == "basic"}
-        self.assertEqual(names, {said.split()[0] for *_, said in basic_answers.rows()} - {"accepted"})
+        self.assertEqual(names, {said.split()[0] for *_, said in golden_basic.rows()} - {"accepted"})
         checked = {row.line for row in run_program.CHECK_ROWS}
         lines = (run_program.line_of(row.said) for row in check_rows.rows() if run_program.words_of(row.policy))
         self.assertEqual({line for line in lines if line.startswith("refused")} - checked, set())

@@ -1,4 +1,4 @@
-//! What is told of a refusal. The texts and the names of all have a clause, and `basic_answers`
+//! What is told of a refusal. The texts and the names of all have a clause, and `golden_basic`
 //! prints each that signature files can have.
 
 use crate::made::{FILE, FILE_HASH, basic_policy, table, table_saying};

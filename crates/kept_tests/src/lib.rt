@@ -1,5 +1,5 @@
 //! Tests of signed data and signatures that a caller keeps: read, written, asked, made and stamped.
-//! What their validator answers, `check_answers` has as data.
+//! What their validator answers, `golden_check` has as data.
 #![tactic(auto)]
 
 #[cfg(test)]

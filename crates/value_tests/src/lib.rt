@@ -1,6 +1,6 @@
 //! Tests of what rows of data can't show, a hash, lists that grow and values that callers make; of
-//! the public calls of `der_core`, beside the rows of `der_answers`; and of those of
-//! `wincert_core`. The rows of `value_answers` and `structure_answers` are the others.
+//! the public calls of `der_core`, beside the rows of `golden_der`; and of those of `wincert_core`.
+//! The rows of `golden_value` and `golden_structure` are the others.
 #![tactic(auto)]
 
 #[cfg(test)]

@@ -1,0 +1,93 @@
+//! What is printed of a certificate where it lies.
+
+use crate::details::print_time;
+use asn1_types::oids::{KP_CODE_SIGNING, KP_TIME_STAMPING};
+use der_core::{Cursor, Elem, Malformed};
+use golden::Line;
+use x509_types::CertView;
+
+/// The first certificate in the octets, None where the first element is that of none.
+pub fn first_in(octets: &[u8]) -> Result<Option<CertView<'_>>, Malformed> {
+    match Cursor::new(octets).next()? {
+        Some(elem) => Ok(CertView::read(elem)),
+        None => Ok(None),
+    }
+}
+
+/// The fields in order, each in its octets, what is signed and what extensions say last.
+pub fn print(view: &CertView<'_>, line: &mut Line) {
+    print_head(view, line);
+    print_key(view, line);
+    print_tail(view, line);
+    print_said(view, line);
+    print_purposes(view, line);
+}
+
+/// The fields up to the subject.
+fn print_head(view: &CertView<'_>, line: &mut Line) {
+    line.given(octets(view.version()));
+    line.octets(view.serial());
+    line.octets(view.inner_algorithm());
+    line.octets(view.issuer());
+    line.octets(view.validity().whole);
+    print_time(&view.not_before(), line);
+    print_time(&view.not_after(), line);
+    line.octets(view.subject());
+}
+
+/// The key, its algorithm and its octets.
+fn print_key(view: &CertView<'_>, line: &mut Line) {
+    line.octets(view.subject_public_key_info().whole);
+    line.octets(view.key_algorithm());
+    line.octets(view.key());
+}
+
+/// The fields behind the key, the algorithm, the signature, and what is signed.
+fn print_tail(view: &CertView<'_>, line: &mut Line) {
+    line.given(view.issuer_unique_id());
+    line.given(view.subject_unique_id());
+    line.given(octets(view.extensions()));
+    line.octets(view.algorithm());
+    line.octets(view.signature());
+    line.octets(view.tbs());
+}
+
+/// What the first basic constraints and the first key identifiers say.
+fn print_said(view: &CertView<'_>, line: &mut Line) {
+    print_flag(view.ca(), line);
+    print_length(view.path_length(), line);
+    line.given(view.subject_key_identifier());
+    line.given(view.authority_key_identifier());
+}
+
+/// What is true or false, `none` where neither is said.
+pub fn print_flag(flag: Option<bool>, line: &mut Line) {
+    match flag {
+        Some(flag) => line.shown(&flag),
+        None => line.word("none"),
+    }
+}
+
+/// A path length, `none` where none is given.
+pub fn print_length(length: Option<u8>, line: &mut Line) {
+    match length {
+        Some(length) => line.shown(&length),
+        None => line.word("none"),
+    }
+}
+
+/// Whether there is an extended key usage, and whether some of them holds code signing, and time
+/// stamping.
+fn print_purposes(view: &CertView<'_>, line: &mut Line) {
+    line.shown(&view.has_purposes());
+    line.shown(&view.names(KP_CODE_SIGNING));
+    line.shown(&view.names(KP_TIME_STAMPING));
+}
+
+/// The octets of an element, where it is given.
+pub fn octets(elem: Option<Elem<'_>>) -> Option<&[u8]> {
+    match elem {
+        Some(elem) => Some(elem.whole),
+        None => None,
+    }
+}

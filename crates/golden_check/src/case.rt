@@ -1,0 +1,74 @@
+//! A case, and what is answered to it.
+
+use crate::asked::asked_of;
+use crate::kept::kept_line;
+use crate::line::told;
+use anyhow::{Result, bail};
+use authenticode_core::{Policy, check_wincert};
+use golden::octets_of;
+use sig_core::VerdictTable;
+use std::alloc::Global;
+
+/// A signature file and a table.
+#[derive(Drop)]
+pub struct Case {
+    file: Vec<u8>,
+    table: VerdictTable,
+}
+
+/// The case of two words.
+pub fn case_of(alloc: Global, file: &str, table: &str) -> Result<Case> {
+    Ok(Case {
+        file: octets_of(alloc, file)?,
+        table: table_of(alloc, table)?,
+    })
+}
+
+/// The table of rows with `:` for each space and `;` for each newline, `-` for none.
+fn table_of(alloc: Global, word: &str) -> Result<VerdictTable> {
+    if word == "-" {
+        return Ok(VerdictTable::parse(alloc, b"")?);
+    }
+    let spaced = word.replace(alloc, ':', " ")?;
+    let text = spaced.replace(alloc, ';', "\n")?;
+    Ok(VerdictTable::parse(alloc, text.as_bytes())?)
+}
+
+/// The line for what is answered where this is asked in a case.
+pub fn answer(alloc: Global, case: &Case, text: &str) -> Result<String> {
+    let asked = asked_of(alloc, text)?;
+    if asked.change == "-" {
+        return line_of(alloc, &case.file, &asked.policy, &case.table);
+    }
+    let change = octets_of(alloc, asked.change)?;
+    let file = changed(alloc, &case.file, &change)?;
+    line_of(alloc, &file, &asked.policy, &case.table)
+}
+
+/// The line for what is answered, after `differs` where the signature, as it is kept, is answered
+/// otherwise.
+fn line_of(alloc: Global, file: &[u8], policy: &Policy, table: &VerdictTable) -> Result<String> {
+    let line = file_line(alloc, file, policy, table)?;
+    match kept_line(alloc, file, policy, table)? {
+        Some(kept) if kept != line => Ok(format!(in alloc; "differs {line} from {kept}")?),
+        _ => Ok(line),
+    }
+}
+
+fn file_line(alloc: Global, file: &[u8], policy: &Policy, table: &VerdictTable) -> Result<String> {
+    told(alloc, &check_wincert(alloc, file, policy, table))
+}
+
+/// A copy of a file in which another octet stands at the place that a change names.
+fn changed(alloc: Global, file: &[u8], change: &[u8]) -> Result<Vec<u8>> {
+    let [high, low, octet] = change else {
+        bail!("a change has three octets");
+    };
+    let place = usize::from(u16::from_be_bytes([*high, *low]));
+    let mut copy = Vec::from_slice(alloc, file)?;
+    let Some(there) = copy.get_mut(place) else {
+        bail!("no octet stands at the place of a change");
+    };
+    *there = *octet;
+    Ok(copy)
+}

@@ -1,0 +1,40 @@
+//! What is answered to rows of a file on structures of PKCS #7 and Authenticode, for a comparison
+//! with other answers.
+//!
+//! ```text
+//! golden_cms FILE
+//! golden_cms FILE TIMES
+//! ```
+//!
+//! A row is a call and its arguments, a space between: `structure KIND OCTETS`, `both pkcs7
+//! OCTETS`, `unlike KIND OCTETS OCTETS`, `members KIND OCTETS`, `make string TEXT` or `make sha
+//! NAME`. Octets and texts stand in hexadecimal digits, `-` for none. A line is printed for each
+//! row. `tools/golden_value.py` makes rows and lines.
+//!
+//! With TIMES the file is signed data, which is read so many times, for `bench/signed_data.py`.
+#![tactic(auto)]
+
+mod both;
+mod details;
+mod making;
+mod measure;
+mod members;
+mod row;
+mod structures;
+mod view;
+
+use anyhow::{Result, bail};
+use golden::print_rows;
+use std::{env, fs, io};
+
+fn main(rt: HostRuntime) -> Result<()> {
+    let words: Vec<String> = env::args(&rt)?.skip(1).collect(rt.alloc())?;
+    match words.as_slice() {
+        [path] => print_rows(&rt, path.as_str(), row::print),
+        [path, times] => {
+            let file = fs::read(&rt, path.as_str())?;
+            measure::print_times(rt.alloc(), &rt, &file, times.parse()?, &mut io::writer(&rt))
+        }
+        _ => bail!("usage: golden_cms FILE [TIMES]"),
+    }
+}

@@ -1,0 +1,53 @@
+//! How long signed data takes to be read, for `bench/signed_data.py`.
+
+use anyhow::Result;
+use cms_types::{Pkcs7Certificate, SignedView};
+use der_core::{Cursor, Structure};
+use golden::print_time;
+use std::alloc::Global;
+use std::io::Write;
+use std::slice;
+use std::time::CpuClock;
+
+/// Reads a file of signed data so many times: lent where it lies, and as a value that is kept.
+pub fn print_times(
+    alloc: Global,
+    clock: &impl CpuClock,
+    file: &[u8],
+    times: u32,
+    out: &mut impl Write,
+) -> Result<()> {
+    let works = slice::from_ref(&file);
+    print_time(alloc, clock, times, "view", works, |file| lent(file), out)?;
+    print_time(
+        alloc,
+        clock,
+        times,
+        "owned",
+        works,
+        |file| kept(alloc, file),
+        out,
+    )?;
+    Ok(())
+}
+
+/// How many signers the value has that is read.
+fn kept(alloc: Global, octets: &[u8]) -> Option<usize> {
+    let value = Pkcs7Certificate::from_der(alloc, octets).ok()?;
+    let count = value.signed_data.signers_infos.len();
+    drop(value);
+    Some(count)
+}
+
+/// How many octets the digest algorithms take, of signed data that is lent.
+fn lent(octets: &[u8]) -> Option<usize> {
+    match Cursor::new(octets).next() {
+        Ok(Some(elem)) => Some(
+            SignedView::read(elem)?
+                .digest_algorithm_identifiers()
+                .whole
+                .len(),
+        ),
+        _ => None,
+    }
+}

@@ -1,0 +1,36 @@
+//! Rows, and who answers them.
+
+use crate::{both, making, members, structures};
+use golden::{Args, Line};
+use std::alloc::Global;
+
+/// The answer to a row.
+pub fn print(alloc: Global, args: Args<'_>, line: &mut Line) {
+    match args.split() {
+        Some((call, args)) => print_kind(alloc, call, args, line),
+        None => line.no_call(),
+    }
+}
+
+fn print_kind(alloc: Global, call: &str, args: Args<'_>, line: &mut Line) {
+    match args.split() {
+        Some((kind, args)) => print_call(alloc, (call, kind), args, line),
+        None => line.no_call(),
+    }
+}
+
+fn print_call(alloc: Global, (call, kind): (&str, &str), args: Args<'_>, line: &mut Line) {
+    match (call, args.octets) {
+        ("structure", [Some(element)]) => structures::print(alloc, kind, element, line),
+        ("unlike", [Some(one), Some(other)]) => structures::print_unlike(
+            alloc,
+            kind,
+            (one, other),
+            line,
+        ),
+        ("both", [Some(octets)]) => both::print(alloc, kind, octets, line),
+        ("members", [Some(octets)]) => members::print(alloc, kind, octets, line),
+        ("make", _) => making::print(alloc, kind, args, line),
+        _ => line.no_call(),
+    }
+}

@@ -1,0 +1,43 @@
+//! What the reader of DER makes of many inputs, for a comparison with another reader.
+//!
+//! ```text
+//! golden_der cases FILE
+//! golden_der digests PREFIX COUNT
+//! golden_der count FILE
+//! ```
+//!
+//! `tools/compare_readers.py` says what the first two ask for and what is printed. The third prints
+//! how many elements the file has, for `bench/cursor.py`.
+#![tactic(auto)]
+
+mod answer;
+mod blocks;
+mod cases;
+mod family;
+mod request;
+mod walk;
+
+use anyhow::Result;
+use request::Request;
+use std::io::{BufWriter, Write};
+use std::{env, fs, io};
+
+fn main(rt: HostRuntime) -> Result<()> {
+    let words: Vec<String> = env::args(&rt)?.skip(1).collect(rt.alloc())?;
+    let mut out = BufWriter::new(rt.alloc(), io::writer(&rt))?;
+    match Request::from_words(rt.alloc(), &words)? {
+        Request::Cases { path } => {
+            let file = fs::read(&rt, path)?;
+            cases::print_answers(rt.alloc(), &file, &mut out)?;
+        }
+        Request::Digests(family) => {
+            blocks::print_digests(rt.alloc(), &family, &mut out)?;
+        }
+        Request::Count { path } => {
+            let file = fs::read(&rt, path)?;
+            writeln!(out, "{}", walk::count_elements(&file)?)?;
+        }
+    }
+    out.flush()?;
+    Ok(())
+}

@@ -1,0 +1,87 @@
+//! What is answered to rows of a file on certificates that are built, requests, and certificates
+//! over their parents.
+//!
+//! ```text
+//! golden_issuing FILE
+//! golden_issuing FILE TIMES
+//! ```
+//!
+//! A row has words, a space between. The first is the scheme: `demo`, or the text of a verdict
+//! table. Behind it stands one of these:
+//!
+//! ```text
+//! build WORD KEY SETTER=VALUE ..
+//! request OCTETS
+//! generate ALGORITHM KEY SUBJECT [ATTRIBUTES]
+//! chain CERTIFICATE,PARENT,.. LOWER,UPPER SETTER ..
+//! parent PARENT CERTIFICATE
+//! ```
+//!
+//! Octets stand in hexadecimal digits, `-` for none. KEY is a private key in PKCS #8, a date is the
+//! contents of a GeneralizedTime. A line is printed for each row. `tools/golden_issuing.py` makes
+//! rows and lines.
+//!
+//! With TIMES the file has certificates, a comma between, the first issued by the second and so on,
+//! a date, and the key of the second. The chain is judged and the first is built so many times, for
+//! `bench/issuing.py`.
+#![tactic(auto)]
+
+mod building;
+mod chains;
+mod measure;
+mod requests;
+mod settings;
+mod telling;
+mod words;
+
+use anyhow::{Context, Result, bail};
+use golden::{Line, print_answers};
+use sig_core::{DemoScheme, Scheme};
+use std::alloc::Global;
+use std::{env, fs, io};
+
+fn main(rt: HostRuntime) -> Result<()> {
+    let words: Vec<String> = env::args(&rt)?.skip(1).collect(rt.alloc())?;
+    match words.as_slice() {
+        [path] => print_answers(&rt, path.as_str(), text_of),
+        [path, times] => {
+            let row = fs::read_to_string(&rt, path.as_str())?;
+            measure::print_times(
+                rt.alloc(),
+                &rt,
+                row.trim_end(),
+                times.parse()?,
+                &mut io::writer(&rt),
+            )
+        }
+        _ => bail!("usage: golden_issuing FILE [TIMES]"),
+    }
+}
+
+fn text_of(alloc: Global, row: &str) -> Result<String> {
+    let mut line = Line::new(alloc);
+    answer(alloc, row, &mut line)?;
+    line.answer_to(row)
+}
+
+/// The line for a row: its scheme, and what is called.
+fn answer(alloc: Global, row: &str, line: &mut Line) -> Result<()> {
+    let (scheme, call) = row.split_once(' ').context("a row has words")?;
+    if scheme == "demo" {
+        return answer_under(alloc, call, &DemoScheme::new(), line);
+    }
+    let table = words::table_of(alloc, scheme)?;
+    answer_under(alloc, call, &table, line)
+}
+
+fn answer_under<S: Scheme>(alloc: Global, call: &str, scheme: &S, line: &mut Line) -> Result<()> {
+    let (name, words) = call.split_once(' ').context("a call has words")?;
+    match name {
+        "build" => building::print(alloc, words, scheme, line),
+        "request" => requests::print(alloc, words, scheme, line),
+        "generate" => requests::generate(alloc, words, scheme, line),
+        "chain" => chains::print(alloc, words, scheme, line),
+        "parent" => chains::print_parent(alloc, words, line),
+        _ => bail!("no call has such a row"),
+    }
+}

@@ -1,0 +1,76 @@
+//! Where the certificates of signed data, that of its signer and those of the issuers stand.
+//!
+//! ```text
+//! golden_path FILE
+//! ```
+//!
+//! Each line of FILE is signed data in hexadecimal digits. `tools/golden_path.py` makes such a
+//! file, and the answers to it: how many certificates there are, the place of the signer's, and the
+//! places of the issuer walk, those that aren't on the issuer path in parentheses.
+#![tactic(auto)]
+
+use anyhow::{Context, Result};
+use authenticode_core::{BagCertificate, certificate_bag, is_on_path, issuer_walk_of, signer_of};
+use cms_types::SignedView;
+use der_core::whole_element;
+use std::alloc::Global;
+use std::io::{BufWriter, Write};
+use std::{env, fs, io};
+
+fn main(rt: HostRuntime) -> Result<()> {
+    let words: Vec<String> = env::args(&rt)?.skip(1).collect(rt.alloc())?;
+    let path = words.first().context("no file of rows is named")?;
+    let rows = fs::read_to_string(&rt, path)?;
+    let mut out = BufWriter::new(rt.alloc(), io::writer(&rt))?;
+    print_answers(rt.alloc(), &rows, &mut out)?;
+    out.flush()?;
+    Ok(())
+}
+
+fn print_answers(alloc: Global, rows: &str, out: &mut impl Write) -> Result<()> {
+    for row in rows.lines() {
+        let octets = hex::decode(alloc, row)?;
+        let answer = answer_of(alloc, &octets)?;
+        out.write_all(answer.as_bytes())?;
+    }
+    Ok(())
+}
+
+fn answer_of(alloc: Global, octets: &[u8]) -> Result<String> {
+    if let Some(elem) = whole_element(octets) {
+        if let Some(signed_data) = SignedView::read(elem) {
+            return places_of(alloc, &signed_data);
+        }
+    }
+    Ok(format!(in alloc; "no signed data\n")?)
+}
+
+/// The line for the places in signed data.
+fn places_of(alloc: Global, signed_data: &SignedView<'_>) -> Result<String> {
+    let count = certificate_bag(signed_data).count();
+    let Some(signer) = signer_of(signed_data) else {
+        return Ok(format!(in alloc; "{count}\n")?);
+    };
+    let mut line = format!(in alloc; "{count} {}:", signer.place)?;
+    let mut walk = issuer_walk_of(signed_data, &signer.certificate);
+    while let Some(next) = walk.next() {
+        let word = walk_word(alloc, &signer, &next)?;
+        line.push_str(&word)?;
+    }
+    line.push_str("\n")?;
+    Ok(line)
+}
+
+/// The place of a certificate of the issuer walk, in parentheses where it isn't on the issuer path.
+fn walk_word(
+    alloc: Global,
+    signer: &BagCertificate<'_>,
+    next: &BagCertificate<'_>,
+) -> Result<String> {
+    let place = next.place;
+    if is_on_path(&signer.certificate, &next.certificate) {
+        Ok(format!(in alloc; " {place}")?)
+    } else {
+        Ok(format!(in alloc; " ({place})")?)
+    }
+}
