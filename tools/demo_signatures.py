@@ -6,7 +6,7 @@ Usage:
     python3 tools/demo_signatures.py rows
     python3 tools/demo_signatures.py check
 
-`rows` prints the table of `crates/signature_tests/src/demo_rows.rt`, `check`
+`rows` prints the table of `crates/test_signature/src/demo_rows.rt`, `check`
 says whether that file has it.  Keys are made by the rules of
 `docs/FORMATS.md`, digests by Python's hashlib.
 """
@@ -15,7 +15,7 @@ import hashlib
 import pathlib
 import sys
 
-FILE = pathlib.Path(__file__).resolve().parent.parent / "crates/signature_tests/src/demo_rows.rt"
+FILE = pathlib.Path(__file__).resolve().parent.parent / "crates/test_signature/src/demo_rows.rt"
 
 MESSAGE = b"message"
 

@@ -5,8 +5,8 @@ Usage:
 
     python3 tools/made_signatures.py
 
-prints in hexadecimal digits the file of `crates/kept_tests/src/making.rt`, and
-behind it that of `crates/usage_tests/src/signing.rt`.
+prints in hexadecimal digits the file of `crates/test_kept/src/making.rt`, and
+behind it that of `crates/test_usage/src/signing.rt`.
 
 The form is that of RFC 2315 9.1 and 9.2 and of Windows Authenticode Portable
 Executable Signature Format, as docs/FORMATS.md tells it.  Certificates are made

@@ -317,7 +317,7 @@ class KeptAnswersTest(unittest.TestCase):
 class MadeSignaturesTest(unittest.TestCase):
 
     def test_files_of_tests(self):
-        for path, program in (("kept_tests/src/making.rt", made_signatures.SAMPLE),):
+        for path, program in (("test_kept/src/making.rt", made_signatures.SAMPLE),):
             source = (CRATES / path).read_text(encoding="utf-8")
             self.assertIn(f'"{made_signatures.padded(program.value()).hex()}"', source)
 
@@ -940,7 +940,7 @@ class UnusedCallsTest(unittest.TestCase):
     def listed(self, *tests):
         """What is listed of the library, where each test is a file of another crate."""
         texts = {"names/src/lib.rt": "", "names/src/name.rt": self.NAME, "names/src/names.rt": self.NAMES}
-        texts |= {f"t{at}_tests/src/lib.rt": text for at, text in enumerate(tests)}
+        texts |= {f"test_{at}/src/lib.rt": text for at, text in enumerate(tests)}
         with TemporaryDirectory() as folder:
             for path, text in texts.items():
                 Path(folder, path).parent.mkdir(parents=True, exist_ok=True)

@@ -26,7 +26,7 @@ from collections import Counter, defaultdict
 from dataclasses import dataclass
 from pathlib import Path
 
-NO_LIBRARIES = re.compile(r"golden|test_|.*_(?:tests|vectors)$")
+NO_LIBRARIES = ("golden", "test_")
 # Names that methods of the standard library have too.
 STANDARD = {"chain", "count", "get", "join", "parse", "read"}
 
@@ -75,7 +75,7 @@ class Function:
 def functions(crate, file):
     """The functions of a file in order."""
     text = USE.sub("", COMMENT_OR_TEXT.sub('""', file.read_text(encoding="utf-8")))
-    is_library = not NO_LIBRARIES.match(crate.name) and (crate / "src" / "lib.rt").is_file()
+    is_library = not crate.name.startswith(NO_LIBRARIES) and (crate / "src" / "lib.rt").is_file()
     block, found = None, []
     for line in text.splitlines(keepends=True):
         block = BLOCK.match(line) or (None if line.startswith("}") else block)
