@@ -2,7 +2,7 @@
 use Rattle.std.proofs.Common.{◌≡◌, ℕ, List, [], ◌∷◌, inl, inr, sym, ap, subst, ◌∙◌}
 use Rattle.cms_types.specs.SignerElements.{SignerElements}
 use Rattle.der_core.specs.DerElement.{DerElement, Primitive}
-use Rattle.key_core.specs.Rules.{IsFirstBroken}
+use Rattle.der_core.specs.Rules.{IsFirstBroken}
 use Rattle.key_core.specs.SignatureRules.{RefusesSignatureBy}
 use Rattle.key_core.specs.Verifying.{Judge, Accepts, verify_rules}
 use Rattle.key_core.specs.declared.signature_algorithm.SignatureAlgorithm.TheVariants.{RsaPkcs1v15}

@@ -4,8 +4,9 @@ use Rattle.cms_types.specs.SignedDataElements.{SignedDataElements}
 use Rattle.cms_types.specs.SignerElements.{SignerElements}
 use Rattle.cms_types.specs.SignerView.{signer_elements_at}
 use Rattle.der_core.specs.DerElement.{DerElement}
+use Rattle.der_core.specs.Rules.{IsMet, IsFirstBroken}
+use Rattle.der_core.proofs.RuleLists.{AreMet, AreToldOnce, IsToldOnce, NoneTells, broken_before, broken_behind, met_together, none_broken, none_together, one_broken, one_of_two, told_together}
 use Rattle.key_core.specs.Verifying.{Judge}
-use Rattle.key_core.specs.Rules.{IsMet, IsFirstBroken}
 use Rattle.authenticode_core.specs.Basic.{IsRefusedPart, VouchesFor}
 use Rattle.authenticode_core.specs.Form.{IsFormOf}
 use Rattle.authenticode_core.specs.FormRules.{FileDiffers, HasForm, form_rules}
@@ -19,7 +20,6 @@ use Rattle.authenticode_core.specs.declared.form.Form.{Form}
 use Rattle.authenticode_core.proofs.FormFields.{indirect_once, signer_once}
 use Rattle.authenticode_core.proofs.FormOrder.{file_told, form_met, form_tells_no_memory, form_told}
 use Rattle.authenticode_core.proofs.OneSigning.{one_signing_refusal, place_once, signed_breaks_no_rule}
-use Rattle.key_core.proofs.RuleLists.{AreMet, AreToldOnce, IsToldOnce, NoneTells, broken_before, broken_behind, met_together, none_broken, none_together, one_broken, one_of_two, told_together}
 
 -- ---- the parts behind the form
 

@@ -5,13 +5,13 @@ use Rattle.cms_types.specs.SignedDataElements.{SignedDataElements}
 use Rattle.cms_types.specs.SignerElements.{SignerElements}
 use Rattle.der_core.specs.DerElement.{DerElement}
 use Rattle.der_core.specs.Elements.{sequence}
-use Rattle.key_core.specs.Rules.{IsMet}
+use Rattle.der_core.specs.Rules.{IsMet}
+use Rattle.der_core.proofs.RuleLists.{AreMet, IsToldOnce, AreToldOnce, NoneTells}
 use Rattle.authenticode_core.specs.FormRules.{HasForm, IsOfOtherVersion, HasOtherSigners, HasOtherAlgorithms, LacksContent, HasOtherContent, ContentDiffers, SignerDiffers, FileDiffers, form_rules}
 use Rattle.authenticode_core.specs.SameElements.{IsSameElement}
 use Rattle.authenticode_core.specs.SignedFields.{HasVersion, HasSignedContent, HasIndirectData, IndirectData, IsFirstAlgorithm, IsFirstSigner, digest_algorithms_of, indirect_kids, signers_of}
 use Rattle.authenticode_core.specs.declared.error.AuthenticodeError.TheVariants as errors
 use Rattle.authenticode_core.proofs.FormFields.{version_once, content_once, indirect_once, algorithm_once, signer_once}
-use Rattle.key_core.proofs.RuleLists.{AreMet, IsToldOnce, AreToldOnce, NoneTells}
 
 no_version : (number : ℕ) → errors.Memory ≡ errors.IncorrectVersion 1 number → ⊥
 no_version number e = absurd cc

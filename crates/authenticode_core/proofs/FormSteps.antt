@@ -21,7 +21,7 @@ use Rattle.der_core.specs.DerElement.{DerElement, Primitive, Constructed, row, l
 use Rattle.der_core.specs.Elements.{sequence, explicit, octet_string}
 use Rattle.der_core.specs.Encoding.{encoding}
 use Rattle.der_core.specs.Facts.Rows.{listed-row}
-use Rattle.key_core.specs.Rules.{IsFirstBroken}
+use Rattle.der_core.specs.Rules.{IsFirstBroken}
 use Rattle.authenticode_core.specs.Form.{AreSpelled, IsIndirectContent}
 use Rattle.authenticode_core.specs.FormRules.{HasForm, IsOfOtherVersion, HasOtherSigners, HasOtherAlgorithms, LacksContent, HasOtherContent, form_rules}
 use Rattle.authenticode_core.specs.SameElements.{IsSameElement}

@@ -16,10 +16,10 @@ use Rattle.der_core.specs.Elements.{sequence}
 use Rattle.der_core.specs.Encoding.{encoding}
 use Rattle.der_core.specs.Facts.Fronts.{formed_encoding_once}
 use Rattle.der_core.specs.Structure.{IsWithin}
+use Rattle.der_core.specs.Rules.{IsMet}
 use Rattle.name_types.specs.Facts.Names.{names}
 use Rattle.name_types.specs.Name.{name}
 use Rattle.names_core.specs.declared.name.DirectoryName.{DirectoryName}
-use Rattle.key_core.specs.Rules.{IsMet}
 use Rattle.x509_types.specs.CertificateElements.{CertificateElements}
 use Rattle.authenticode_core.specs.BagSigner.{HasNoSigner}
 use Rattle.authenticode_core.specs.CertificateBag.{IsBag}

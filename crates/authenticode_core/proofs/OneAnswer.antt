@@ -9,15 +9,16 @@ use Rattle.der_core.specs.Encoding.{encoding, IsPaddedEncoding}
 use Rattle.der_core.specs.Facts.Fronts.{fronts}
 use Rattle.der_core.specs.Fault.{IsFirstFault}
 use Rattle.der_core.specs.Reading.{IsFirst, HasNoFirst}
+use Rattle.der_core.specs.Rules.{IsFirstBroken, AreOneUnlessMemory}
 use Rattle.der_core.specs.declared.error.DerError.{DerError}
 use Rattle.der_core.specs.declared.error.DerError.TheVariants as der
 use Rattle.der_core.specs.declared.fault.DerFault.{DerFault}
 use Rattle.der_core.specs.declared.fault.Malformed.{Malformed}
+use Rattle.der_core.proofs.RuleLists.{none_tells, one_broken}
 use Rattle.key_core.specs.Verifying.{Judge}
 use Rattle.key_core.specs.declared.element.Element.TheVariants.{Pkcs7}
 use Rattle.wincert_core.specs.Refusal.{contents_in}
 use Rattle.wincert_core.specs.declared.error.WinCertificateError.{WinCertificateError}
-use Rattle.key_core.specs.Rules.{IsFirstBroken, AreOneUnlessMemory}
 use Rattle.x509_core.specs.declared.error.CertError.TheVariants.{Asn1Deserialization}
 use Rattle.authenticode_core.specs.Basic.{HasSignedData, IsNoSignedData, IsShapeless, IsMalformedPadded, IsUnreadSignature, RefusesValue}
 use Rattle.authenticode_core.specs.ContentRefusal.{told_of_content}
@@ -33,7 +34,6 @@ use Rattle.authenticode_core.proofs.BasicOrder.{shape_tells_no_memory, shape_tol
 use Rattle.authenticode_core.proofs.OneData.{one_data, one_element, same_certificate}
 use Rattle.authenticode_core.proofs.Padded.{IsFirst-padded}
 use Rattle.authenticode_core.proofs.PolicyOrder.{asked_told, one_trusted, policy_told, shape_in_policy, trusted_unbroken}
-use Rattle.key_core.proofs.RuleLists.{none_tells, one_broken}
 
 -- Octets have one first fault at most, and none where they begin with an element.
 abbrev pub FaultsAreOne : Type 0

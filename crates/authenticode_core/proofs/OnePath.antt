@@ -1,11 +1,11 @@
 -- A signer has one vouched path, and of certificates at places one answer is given whether they are a chain.
 use Rattle.std.proofs.Common.{◌≡◌, ◌⊎◌, ℕ, List, [], ◌∷◌, ◌++◌, length, inl, inr, refl, sym, ap, subst, ◌∙◌}
+use Rattle.der_core.specs.Rules.{IsFirstBroken}
 use Rattle.key_core.specs.Verifying.{Judge}
 use Rattle.x509_core.specs.Chain.{IsLinkedChain, last_of}
 use Rattle.x509_core.specs.Facts.Certs.{same_kept}
 use Rattle.x509_core.specs.KeptCertificate.{KeptCertificate}
 use Rattle.x509_core.specs.Link.{link_rules}
-use Rattle.key_core.specs.Rules.{IsFirstBroken}
 use Rattle.x509_core.specs.declared.error.CertError.{CertError}
 use Rattle.x509_core.specs.declared.window.Window.{Window}
 use Rattle.x509_core.proofs.OneLink.{link_once}

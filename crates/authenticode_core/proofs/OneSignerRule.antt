@@ -2,11 +2,12 @@
 use Rattle.std.proofs.Common.{◌≡◌, ℕ, List, [], ◌∷◌, Bool, Some, true, false, IsTrue, refl, sym, ap, subst, ◌∙◌}
 use Rattle.cms_types.specs.SignedDataElements.{SignedDataElements}
 use Rattle.cms_types.specs.SignerElements.{SignerElements}
+use Rattle.der_core.specs.Rules.{IsMet, IsFirstBroken}
+use Rattle.der_core.proofs.RuleLists.{AreMet, AreToldOnce, IsToldOnce, met_together}
 use Rattle.key_core.specs.Verifying.{Judge}
 use Rattle.x509_core.proofs.OneLink.{told_once, window_once}
 use Rattle.x509_core.specs.KeptCertificate.{KeptCertificate}
 use Rattle.x509_core.specs.Link.{IsOutside}
-use Rattle.key_core.specs.Rules.{IsMet, IsFirstBroken}
 use Rattle.x509_core.specs.Window.{IsExpired, window_rules}
 use Rattle.x509_core.specs.declared.window.Window.{Window}
 use Rattle.x509_types.specs.CertificateElements.{CertificateElements}
@@ -25,7 +26,6 @@ use Rattle.authenticode_core.proofs.FormFields.{signer_once as first_once}
 use Rattle.authenticode_core.proofs.OneExcuse.{bad_stamp_is_no_excuse, excuse_once, excused_or_not, stamp_once}
 use Rattle.authenticode_core.proofs.OnePath.{linked_is_not_broken, unlinked_once}
 use Rattle.authenticode_core.proofs.OneSigning.{certificate_once, signer_once}
-use Rattle.key_core.proofs.RuleLists.{AreMet, AreToldOnce, IsToldOnce, met_together}
 use Rattle.authenticode_core.proofs.SignerOrder.{begun_met, dated_met, moved, named_met, named_rules, stamped_at, unbegun_at, unexcused_at, unvouched_at, valid_met, valid_or_expired}
 use Rattle.authenticode_core.proofs.WalkSteps.{one_path}
 

@@ -11,8 +11,9 @@ use Rattle.cms_types.specs.SignerInfo.{signer_elements, signer_info}
 use Rattle.der_core.specs.Optional.{members_of}
 use Rattle.der_core.specs.DerElement.{DerElement, Primitive}
 use Rattle.der_core.specs.Elements.{sequence}
+use Rattle.der_core.specs.Rules.{IsMet, IsFirstBroken}
+use Rattle.der_core.proofs.RuleLists.{AreMet, AreToldOnce, IsToldOnce, NoneTells, none_broken, one_broken}
 use Rattle.key_core.proofs.Verifications.{verify_one, accepted_is_met}
-use Rattle.key_core.specs.Rules.{IsMet, IsFirstBroken}
 use Rattle.key_core.specs.Verifying.{Judge, verify_rules}
 use Rattle.key_core.specs.declared.signature_algorithm.SignatureAlgorithm.TheVariants.{RsaPkcs1v15}
 use Rattle.key_core.specs.declared.signature_error.SignatureError.{SignatureError}
@@ -35,7 +36,6 @@ use Rattle.authenticode_core.specs.declared.error.AuthenticodeError.TheVariants 
 use Rattle.authenticode_core.proofs.BagSteps.{one_bag}
 use Rattle.authenticode_core.proofs.DigestNames.{named_once}
 use Rattle.authenticode_core.proofs.FirstAttributes.{message_digest_once}
-use Rattle.key_core.proofs.RuleLists.{AreMet, AreToldOnce, IsToldOnce, NoneTells, none_broken, one_broken}
 use Rattle.authenticode_core.proofs.SignerSteps.{heads, same_sid}
 use Rattle.authenticode_core.proofs.WalkSteps.{least_once}
 

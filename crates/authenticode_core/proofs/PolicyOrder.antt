@@ -1,8 +1,9 @@
 -- The rules of a policy: what meets them, that each is told once, and which is broken first.
 use Rattle.std.proofs.Common.{◌≡◌, ℕ, List, [], ◌++◌, Bool, Option, Some, None, Result, Ok, Err, MatchResult, true, false, IsTrue, inl, inr, refl, sym, ap, ◌∙◌}
 use Rattle.cms_types.specs.SignedDataElements.{SignedDataElements}
+use Rattle.der_core.specs.Rules.{Rule, IsFirstBroken}
+use Rattle.der_core.proofs.RuleLists.{AreMet, AreToldOnce, broken_before, broken_behind, met_together, none_broken, told_together}
 use Rattle.key_core.specs.Verifying.{Judge}
-use Rattle.key_core.specs.Rules.{Rule, IsFirstBroken}
 use Rattle.authenticode_core.specs.PolicySteps.{IsPlaceAsked, IsVouchedAt}
 use Rattle.authenticode_core.specs.SignerRules.{IsSignerVouched, signer_rules}
 use Rattle.authenticode_core.specs.SigningRules.{RefusesAuthenticodeBy}
@@ -14,7 +15,6 @@ use Rattle.authenticode_core.specs.declared.policy.Policy.{Policy}
 use Rattle.authenticode_core.proofs.BasicOrder.{basic_met, basic_told, one_vouched_place, shape_in_basic}
 use Rattle.authenticode_core.proofs.OneSignerRule.{same_accepted, signer_met, signer_told, vouched_once}
 use Rattle.authenticode_core.proofs.OneSigning.{signer_once}
-use Rattle.key_core.proofs.RuleLists.{AreMet, AreToldOnce, broken_before, broken_behind, met_together, none_broken, told_together}
 
 -- ---- rules that are asked for
 

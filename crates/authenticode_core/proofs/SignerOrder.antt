@@ -4,6 +4,8 @@ use Rattle.cms_types.specs.SignedDataElements.{SignedDataElements}
 use Rattle.cms_types.specs.SignerElements.{SignerElements}
 use Rattle.cms_types.specs.SignerInfo.{signer_elements}
 use Rattle.der_core.specs.DerElement.{DerElement}
+use Rattle.der_core.specs.Rules.{Rule, IsMet, IsFirstBroken}
+use Rattle.der_core.proofs.RuleLists.{AreMet, broken_behind}
 use Rattle.key_core.specs.Verifying.{Judge}
 use Rattle.names_core.specs.declared.name.DirectoryName.{DirectoryName}
 use Rattle.x509_core.proofs.OneLink.{window_once}
@@ -12,7 +14,6 @@ use Rattle.x509_core.specs.Chain.{IsDated, LacksDate}
 use Rattle.x509_core.specs.Facts.Certs.{same_kept}
 use Rattle.x509_core.specs.KeptCertificate.{KeptCertificate}
 use Rattle.x509_core.specs.Link.{IsOutside}
-use Rattle.key_core.specs.Rules.{Rule, IsMet, IsFirstBroken}
 use Rattle.x509_core.specs.Rules.{Breaks}
 use Rattle.x509_core.specs.Window.{IsExpired, IsWithinWindow, window_rules}
 use Rattle.x509_core.specs.declared.error.CertCause.{CertCause}
@@ -41,7 +42,6 @@ use Rattle.authenticode_core.specs.declared.policy.Policy.{Policy}
 use Rattle.authenticode_core.proofs.FormFields.{signer_is_spelled, signer_once as first_once}
 use Rattle.authenticode_core.proofs.OneExcuse.{bad_stamp_is_told}
 use Rattle.authenticode_core.proofs.OneSigning.{certificate_is_met, named_is_met, same_bag, signer_once}
-use Rattle.key_core.proofs.RuleLists.{AreMet, broken_behind}
 
 -- ---- the certificate of the signer is one
 

@@ -10,6 +10,7 @@ use Rattle.der_core.specs.DerElement.{DerElement}
 use Rattle.der_core.specs.Encoding.{IsPaddedEncoding}
 use Rattle.der_core.specs.Fault.{IsFirstFault}
 use Rattle.der_core.specs.Reading.{IsFirst}
+use Rattle.der_core.specs.Rules.{Rule, IsFirstBroken}
 use Rattle.der_core.specs.declared.error.DerError.{DerError}
 use Rattle.der_core.specs.declared.error.DerError.TheVariants as der
 use Rattle.der_core.specs.declared.fault.DerFault.TheVariants.{Trailing}
@@ -17,7 +18,6 @@ use Rattle.der_core.specs.declared.fault.Malformed.{Malformed}
 use Rattle.key_core.specs.Verifying.{Judge}
 use Rattle.key_core.specs.declared.element.Element.TheVariants.{Pkcs7}
 use Rattle.wincert_core.specs.Refusal.{contents_in}
-use Rattle.key_core.specs.Rules.{Rule, IsFirstBroken}
 use Rattle.x509_core.specs.declared.error.CertError.TheVariants.{Asn1Deserialization}
 use Rattle.authenticode_core.specs.FormRules.{HasForm, FileDiffers}
 use Rattle.authenticode_core.specs.SignedFields.{HasIndirectData, IndirectData, IsFirstSigner}

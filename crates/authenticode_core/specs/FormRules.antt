@@ -5,7 +5,7 @@ use Rattle.asn1_types.specs.declared.oids.TheConstants.{SPC_INDIRECT_DATA}
 use Rattle.cms_types.specs.SignedDataElements.{SignedDataElements}
 use Rattle.cms_types.specs.SignerElements.{SignerElements}
 use Rattle.der_core.specs.DerElement.{DerElement}
-use Rattle.key_core.specs.Rules.{Rule}
+use Rattle.der_core.specs.Rules.{Rule}
 use Rattle.authenticode_core.specs.SameElements.{IsSameElement}
 use Rattle.authenticode_core.specs.SignedFields.{HasVersion, HasSignedContent, HasIndirectData, IndirectData, IsFirstAlgorithm, IsFirstSigner, digest_algorithms_of, signers_of}
 use Rattle.authenticode_core.specs.declared.error.AuthenticodeError.{AuthenticodeError}

@@ -2,10 +2,10 @@
 use Rattle.std.specs.Prelude.{◌≡◌, Bool, ℕ, List, [], ◌∷◌, Option, Some, None, true, false}
 use Rattle.asn1_types.specs.declared.generalized_time.GeneralizedTime.{GeneralizedTime}
 use Rattle.cms_types.specs.SignedDataElements.{SignedDataElements}
+use Rattle.der_core.specs.Rules.{Rule}
 use Rattle.key_core.specs.Verifying.{Judge}
 use Rattle.names_core.specs.declared.name.DirectoryName.{DirectoryName}
 use Rattle.x509_core.specs.KeptCertificate.{KeptCertificate}
-use Rattle.key_core.specs.Rules.{Rule}
 use Rattle.x509_core.specs.declared.error.CertCause.{CertCause}
 use Rattle.x509_core.specs.declared.error.CertCause.TheVariants as causes
 use Rattle.x509_core.specs.declared.error.CertError.{CertError}

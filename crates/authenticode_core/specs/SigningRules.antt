@@ -11,7 +11,7 @@ use Rattle.der_core.specs.DerElement.{DerElement, Primitive}
 use Rattle.der_core.specs.Elements.{sequence, octet_string}
 use Rattle.der_core.specs.Encoding.{encodings}
 use Rattle.der_core.specs.DerElement.{row}
-use Rattle.key_core.specs.Rules.{Rule, IsFirstBroken, RefusesByRules}
+use Rattle.der_core.specs.Rules.{Rule, IsFirstBroken, RefusesByRules}
 use Rattle.key_core.specs.Verifying.{Judge, Accepts, verify_rules}
 use Rattle.key_core.specs.declared.signature_algorithm.SignatureAlgorithm.TheVariants.{RsaPkcs1v15}
 use Rattle.key_core.specs.declared.signature_error.SignatureError.{SignatureError}

@@ -1,9 +1,9 @@
 -- When the signed data of a signature file is trusted under a policy, and what is answered.
 use Rattle.std.specs.Prelude.{◌≡◌, ⊤, ◌⊎◌, Bool, ℕ, List, [], ◌∷◌, ◌++◌, Option, Some, None, Result, Ok, Err, true, false, IsTrue}
 use Rattle.cms_types.specs.SignedDataElements.{SignedDataElements}
+use Rattle.der_core.specs.Rules.{Rule, IsFirstBroken}
 use Rattle.key_core.specs.Verifying.{Judge}
 use Rattle.wincert_core.specs.Refusal.{contents_in}
-use Rattle.key_core.specs.Rules.{Rule, IsFirstBroken}
 use Rattle.authenticode_core.specs.Basic.{HasSignedData, IsRefusedPart, IsUnreadSignature, VouchesFor}
 use Rattle.authenticode_core.specs.FormRules.{form_rules}
 use Rattle.authenticode_core.specs.SignerRules.{IsSignerVouched, signer_rules}

@@ -4,7 +4,7 @@ ghost use Rattle.std.specs.Prelude.{◌≡◌, Err, MatchResult};
 ghost use Rattle.cms_types.specs.Pkcs7Elements.{pkcs7_of};
 ghost use Rattle.cms_types.specs.SignedDataElements.{signed_data_of};
 ghost use Rattle.cms_types.specs.SignedView.{data_elements};
-ghost use Rattle.key_core.specs.Rules.{IsFirstBroken, OrMemory};
+ghost use Rattle.der_core.specs.Rules.{IsFirstBroken, OrMemory};
 ghost use Rattle.authenticode_core.specs.Basic.{IsRefusedPart, VouchesFor};
 ghost use Rattle.authenticode_core.specs.Form.{AreSpelled, IsFormOf};
 ghost use Rattle.authenticode_core.specs.PolicySteps.{IsVouchedAt};

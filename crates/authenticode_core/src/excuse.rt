@@ -1,8 +1,8 @@
 //! Why the expiry of a signer's certificate is excused.
 
 ghost use Rattle.std.specs.Prelude.{◌↔◌, List, IsTrue, MatchOption, MatchResult};
-ghost use Rattle.key_core.specs.Rules.{OrMemory};
 ghost use Rattle.cms_types.specs.SignedView.{data_elements};
+ghost use Rattle.der_core.specs.Rules.{OrMemory};
 ghost use Rattle.x509_types.specs.CertificateElements.{CertificateElements};
 ghost use Rattle.x509_types.specs.CertificateView.{view_elements};
 ghost use Rattle.authenticode_core.specs.ExcuseSteps.{LeadsStamping, TellsUnlinked};

@@ -1,7 +1,7 @@
 //! Whether certificates of a bag are a chain above one of them.
 
 ghost use Rattle.std.specs.Prelude.{◌≡◌, ◌++◌, ◌∷◌, [], ℕ, List, Option, None, IfOk, MatchResult, unwrap_or};
-ghost use Rattle.key_core.specs.Rules.{OrMemory};
+ghost use Rattle.der_core.specs.Rules.{OrMemory};
 ghost use Rattle.cms_types.specs.SignedView.{data_elements};
 ghost use Rattle.x509_types.specs.CertificateElements.{CertificateElements};
 ghost use Rattle.x509_types.specs.CertificateView.{view_elements};

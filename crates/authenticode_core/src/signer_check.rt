@@ -4,7 +4,7 @@
 ghost use Rattle.std.specs.Prelude.{◌≡◌, ◌↔◌, ℕ, List, Some, IsTrue, MatchResult};
 ghost use Rattle.cms_types.specs.SignedView.{data_elements};
 ghost use Rattle.cms_types.specs.SignerView.{signer_elements_at};
-ghost use Rattle.key_core.specs.Rules.{OrMemory};
+ghost use Rattle.der_core.specs.Rules.{OrMemory};
 ghost use Rattle.x509_core.specs.KeptCertificate.{KeptCertificate};
 ghost use Rattle.x509_core.specs.Link.{IsOutside};
 ghost use Rattle.x509_core.specs.Rules.{Breaks};

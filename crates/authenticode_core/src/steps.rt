@@ -5,7 +5,7 @@ ghost use Rattle.std.specs.Prelude.{◌≡◌, Err, Result, MatchResult};
 ghost use Rattle.cms_types.specs.Pkcs7Elements.{pkcs7_of};
 ghost use Rattle.cms_types.specs.SignedDataElements.{signed_data_of};
 ghost use Rattle.cms_types.specs.SignedView.{data_elements, IsSignedView};
-ghost use Rattle.key_core.specs.Rules.{AreOneUnlessMemory, IsFirstBroken};
+ghost use Rattle.der_core.specs.Rules.{AreOneUnlessMemory, IsFirstBroken};
 ghost use Rattle.authenticode_core.specs.Form.{AreSpelled};
 ghost use Rattle.authenticode_core.specs.PolicySteps.{IsPlaceAsked};
 ghost use Rattle.authenticode_core.specs.SigningRules.{RefusesAuthenticodeBy};

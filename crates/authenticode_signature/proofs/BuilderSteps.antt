@@ -10,6 +10,8 @@ use Rattle.cms_types.specs.declared.issuer_and_serial.IssuerAndSerialNumber.{Iss
 use Rattle.der_core.specs.DerElement.{DerElement}
 use Rattle.der_core.specs.Encoding.{encoding}
 use Rattle.der_core.specs.Placed.{AreDer}
+use Rattle.der_core.specs.Steps.{Step, AreTaken, IsFirstUntaken, RefusesBySteps}
+use Rattle.der_core.proofs.TakenSteps.{refused_before, refused_behind, untaken_before, untaken_behind}
 use Rattle.key_core.specs.Signing.{Signs, Pair, arithmetic}
 use Rattle.key_core.specs.Verifying.{Judge}
 use Rattle.key_core.specs.declared.private_key.PrivateKey.{PrivateKey}
@@ -18,7 +20,6 @@ use Rattle.sig_core.specs.ShaVariant.{hash_of}
 use Rattle.sig_core.specs.declared.hash.HashAlgorithm.{HashAlgorithm}
 use Rattle.sig_core.specs.declared.sha_variant.ShaVariant.{ShaVariant}
 use Rattle.x509_core.specs.KeptCertificate.{KeptCertificate}
-use Rattle.x509_core.specs.Steps.{Step, AreTaken, IsFirstUntaken, RefusesBySteps}
 use Rattle.x509_types.specs.Attribute.{attribute}
 use Rattle.x509_types.specs.CertificateElements.{CertificateElements}
 use Rattle.x509_types.specs.declared.attribute.Attribute.{Attribute}
@@ -31,7 +32,6 @@ use Rattle.authenticode_signature.specs.Building.{Given, HasGiven, IsBuiltSignat
 use Rattle.authenticode_signature.specs.declared.builder.AuthenticodeSignatureBuilder.{AuthenticodeSignatureBuilder}
 use Rattle.authenticode_signature.specs.declared.builder_error.AuthenticodeSignatureBuilderError.{AuthenticodeSignatureBuilderError}
 use Rattle.authenticode_signature.specs.declared.builder_error.AuthenticodeSignatureBuilderError.TheVariants as errors
-use Rattle.x509_core.proofs.TakenSteps.{refused_before, refused_behind, untaken_before, untaken_behind}
 
 -- ---- what has to be given
 

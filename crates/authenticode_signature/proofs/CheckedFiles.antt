@@ -24,7 +24,7 @@ use Rattle.der_core.specs.DerElement.{DerElement, Primitive}
 use Rattle.der_core.specs.Elements.{null, sequence, octet_string}
 use Rattle.der_core.specs.Encoding.{encoding, IsDer, IsPaddedEncoding}
 use Rattle.der_core.specs.Facts.Rows.{listed-row}
-use Rattle.key_core.specs.Rules.{AreOneUnlessMemory}
+use Rattle.der_core.specs.Rules.{AreOneUnlessMemory}
 use Rattle.key_core.specs.Verifying.{Judge}
 use Rattle.name_types.specs.Name.{name}
 use Rattle.sig_core.specs.Digest.{digest_of}

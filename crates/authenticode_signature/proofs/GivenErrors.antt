@@ -3,8 +3,8 @@ use Rattle.std.proofs.Common.{◌≡◌, [], Option, Some, sym, ap, ◌∙◌}
 use Rattle.std.proofs.lemmas.Option.{none-some}
 use Rattle.sig_core.specs.declared.error.UnsupportedHashAlgorithmError.{UnsupportedHashAlgorithmError}
 use Rattle.sig_core.specs.declared.hash.HashAlgorithm.{HashAlgorithm}
-use Rattle.x509_core.specs.Steps.{AreTaken, IsFirstUntaken}
-use Rattle.x509_core.proofs.TakenSteps.{HasOneError, HaveOneError, left_behind, one_before, untaken_before}
+use Rattle.der_core.specs.Steps.{AreTaken, IsFirstUntaken}
+use Rattle.der_core.proofs.TakenSteps.{HasOneError, HaveOneError, left_behind, one_before, untaken_before}
 use Rattle.authenticode_core.specs.declared.error.AuthenticodeError.TheVariants as signatures
 use Rattle.authenticode_signature.specs.Building.{part_step, part_steps, supported_step}
 use Rattle.authenticode_signature.specs.declared.builder.AuthenticodeSignatureBuilder.{AuthenticodeSignatureBuilder}

@@ -11,7 +11,9 @@ use Rattle.der_core.specs.DerElement.{DerElement, Primitive}
 use Rattle.der_core.specs.Encoding.{IsDer}
 use Rattle.der_core.specs.Placed.{AreDer}
 use Rattle.der_core.specs.Refusals.{RefusesInner}
+use Rattle.der_core.specs.Steps.{AreTaken, RefusesBySteps}
 use Rattle.der_core.specs.declared.error.DerError.{DerError}
+use Rattle.der_core.proofs.TakenSteps.{refused_before, refused_behind}
 use Rattle.key_core.specs.SignatureRules.{RefusesSignatureBy}
 use Rattle.key_core.specs.Signing.{Signs, Pair, arithmetic, sign_rules}
 use Rattle.key_core.specs.Verifying.{Judge}
@@ -24,7 +26,6 @@ use Rattle.sig_core.specs.ShaVariant.{hash_of}
 use Rattle.sig_core.specs.declared.hash.HashAlgorithm.TheVariants.{SHA2_224}
 use Rattle.sig_core.specs.declared.sha_variant.ShaVariant.{ShaVariant}
 use Rattle.x509_types.specs.CertificateElements.{CertificateElements, certificate_of}
-use Rattle.x509_core.specs.Steps.{AreTaken, RefusesBySteps}
 use Rattle.authenticode_core.specs.ContentRefusal.{of_char_set, of_der, of_signatures}
 use Rattle.authenticode_core.specs.SigningRules.{IsBagOf, IsForCodeSigning}
 use Rattle.authenticode_core.specs.declared.error.AuthenticodeError.{AuthenticodeError}
@@ -34,7 +35,6 @@ use Rattle.authenticode_parts.specs.MadeContent.{attributes_message, content_dig
 use Rattle.authenticode_parts.specs.MadeSignature.{attributes_element, signature_made}
 use Rattle.authenticode_parts.specs.SignedProgram.{IsBasicName, IsSignature, IsSignedProgram, Program, algorithm_for, attributes_for, message_for, issuer_and_serial_of, program_of}
 use Rattle.authenticode_signature.specs.Making.{HasNoFirstForSigning, HasFirstForSigning, IsFirstForSigning, IsMadeOf, attributes_written, certificates_step, code_signing_step, hash_step, making_steps, name_step, sealing_step, program_steps, writing_step}
-use Rattle.x509_core.proofs.TakenSteps.{refused_before, refused_behind}
 
 -- ---- the first step
 

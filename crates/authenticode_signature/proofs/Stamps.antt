@@ -3,9 +3,9 @@ use Rattle.std.proofs.Common.{◌≡◌, List, [], ◌∷◌, ◌++◌, ℕ, map
 use Rattle.std.specs.Prelude.{slice_get}
 use Rattle.der_core.specs.Refusals.{RefusesInner}
 use Rattle.der_core.specs.Writing.{RefusesToWrite}
+use Rattle.der_core.specs.Rules.{OrMemory}
 use Rattle.der_core.specs.declared.error.DerError.{DerError}
 use Rattle.der_core.specs.declared.error.DerError.TheVariants as der
-use Rattle.key_core.specs.Rules.{OrMemory}
 use Rattle.key_core.specs.declared.element.Element.TheVariants as structures
 use Rattle.x509_core.specs.CertRefusals.{unwritten}
 use Rattle.sig_core.specs.declared.hash.HashAlgorithm.{HashAlgorithm}

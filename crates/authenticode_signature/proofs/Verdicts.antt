@@ -8,14 +8,14 @@ use Rattle.der_core.specs.Encoding.{IsDer}
 use Rattle.der_core.specs.Facts.Kept.{one_kept}
 use Rattle.der_core.specs.Kept.{IsKept}
 use Rattle.der_core.specs.Refusals.{RefusesInner}
+use Rattle.der_core.specs.Rules.{IsMet, IsFirstBroken, AreOneUnlessMemory}
 use Rattle.der_core.specs.declared.error.DerError.{DerError}
 use Rattle.der_core.specs.declared.error.DerError.TheVariants as der
+use Rattle.der_core.proofs.RuleLists.{IsToldOnce, one_broken}
 use Rattle.key_core.proofs.Unwritten.{alone, one_source, written as no_cause}
 use Rattle.key_core.specs.Verifying.{Judge}
-use Rattle.key_core.specs.Rules.{IsMet, IsFirstBroken, AreOneUnlessMemory}
 use Rattle.authenticode_core.proofs.FormFields.{fields_of_view, same_fields_of}
 use Rattle.authenticode_core.proofs.PolicyOrder.{one_trusted, policy_told, trusted_unbroken}
-use Rattle.key_core.proofs.RuleLists.{IsToldOnce, one_broken}
 use Rattle.authenticode_core.specs.ContentRefusal.{of_der}
 use Rattle.authenticode_core.specs.SigningRules.{RefusesAuthenticodeBy}
 use Rattle.authenticode_core.specs.Trusted.{IsTrusted, asked, policy_rules, shape_rules}

@@ -26,7 +26,6 @@ use Rattle.sig_core.specs.declared.hash.HashAlgorithm.{HashAlgorithm}
 use Rattle.sig_core.specs.declared.hash.HashAlgorithm.TheVariants.{SHA2_224}
 use Rattle.sig_core.specs.declared.sha_variant.ShaVariant.{ShaVariant}
 use Rattle.x509_core.specs.KeptCertificate.{KeptCertificate}
-use Rattle.x509_core.specs.Steps.{Step, AreTaken}
 use Rattle.x509_types.specs.Attribute.{attribute, inner_attributes}
 use Rattle.x509_types.specs.CertificateElements.{CertificateElements, certificate_of}
 use Rattle.x509_types.specs.declared.attribute.Attribute.{Attribute}
@@ -40,6 +39,7 @@ use Rattle.authenticode_parts.specs.MadeSignature.{SignatureParts, attributes_el
 use Rattle.authenticode_parts.specs.SignedProgram.{IsSignature}
 use Rattle.authenticode_signature.specs.BuilderError.{builder_refusal, unwritten_in_builder}
 use Rattle.der_core.specs.Refusals.{Tells}
+use Rattle.der_core.specs.Steps.{Step, AreTaken}
 use Rattle.authenticode_core.specs.BagSigner.{HasIssuerAndSerial}
 use Rattle.authenticode_signature.specs.declared.builder.AuthenticodeSignatureBuilder.{AuthenticodeSignatureBuilder}
 use Rattle.authenticode_signature.specs.declared.builder_error.AuthenticodeSignatureBuilderError.{AuthenticodeSignatureBuilderError}

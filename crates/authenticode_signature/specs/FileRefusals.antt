@@ -4,7 +4,7 @@ use Rattle.std.specs.declared.alloc.Global.{Global}
 use Rattle.der_core.specs.DerElement.{DerElement}
 use Rattle.der_core.specs.Encoding.{encoding, IsDer, IsPaddedEncoding}
 use Rattle.der_core.specs.Refusals.{RefusesInner}
-use Rattle.key_core.specs.Rules.{OrMemory}
+use Rattle.der_core.specs.Rules.{OrMemory}
 use Rattle.wincert_core.specs.Refusal.{contents_in, current, encoded}
 use Rattle.wincert_core.specs.declared.error.WinCertificateError.{WinCertificateError}
 use Rattle.wincert_core.specs.declared.kinds.CertificateType.{CertificateType}

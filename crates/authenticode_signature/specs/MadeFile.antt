@@ -6,7 +6,7 @@ use Rattle.cms_types.specs.SignedDataElements.{SignedDataElements}
 use Rattle.cms_types.specs.declared.pkcs7.Pkcs7Certificate.{Pkcs7Certificate}
 use Rattle.der_core.specs.Encoding.{encoding, IsDer}
 use Rattle.der_core.specs.Structure.{Fits}
-use Rattle.key_core.specs.Rules.{AreOneUnlessMemory}
+use Rattle.der_core.specs.Rules.{AreOneUnlessMemory}
 use Rattle.key_core.specs.Signing.{IsKeyPair, Pair}
 use Rattle.key_core.specs.Verifying.{Judge, Accepts}
 use Rattle.key_core.specs.declared.private_key.PrivateKey.{PrivateKey}

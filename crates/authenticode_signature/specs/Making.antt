@@ -5,6 +5,7 @@ use Rattle.cms_types.specs.SignedDataElements.{SignedDataElements}
 use Rattle.der_core.specs.DerElement.{DerElement}
 use Rattle.der_core.specs.Placed.{AreDer}
 use Rattle.der_core.specs.Refusals.{RefusesInner, Tells}
+use Rattle.der_core.specs.Steps.{Step, AreTaken}
 use Rattle.key_core.specs.SignatureRules.{RefusesSignatureBy}
 use Rattle.key_core.specs.Signing.{Signs, KeyArithmetic, IsAsked, sign_rules}
 use Rattle.key_core.specs.declared.private_key.PrivateKey.{PrivateKey}
@@ -14,7 +15,6 @@ use Rattle.sig_core.specs.declared.hash.HashAlgorithm.{HashAlgorithm}
 use Rattle.sig_core.specs.declared.hash.HashAlgorithm.TheVariants.{SHA2_224}
 use Rattle.sig_core.specs.declared.sha_variant.ShaVariant.{ShaVariant}
 use Rattle.x509_types.specs.CertificateElements.{CertificateElements}
-use Rattle.x509_core.specs.Steps.{Step, AreTaken}
 use Rattle.authenticode_core.specs.SigningRules.{IsBagOf, IsForCodeSigning}
 use Rattle.authenticode_core.specs.ContentRefusal.{of_der, of_signatures}
 use Rattle.authenticode_core.specs.declared.error.AuthenticodeError.{AuthenticodeError}

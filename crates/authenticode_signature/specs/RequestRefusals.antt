@@ -2,9 +2,9 @@
 use Rattle.std.specs.Prelude.{◌≡◌}
 use Rattle.der_core.specs.DerElement.{DerElement}
 use Rattle.der_core.specs.Encoding.{IsShort}
+use Rattle.der_core.specs.Rules.{OrMemory}
 use Rattle.der_core.specs.declared.error.DerError.TheVariants as der
 use Rattle.der_core.specs.Refusals.{Tells}
-use Rattle.key_core.specs.Rules.{OrMemory}
 use Rattle.key_core.specs.declared.element.Element.TheVariants as structures
 use Rattle.x509_core.specs.declared.error.CertError.{CertError}
 use Rattle.x509_core.specs.declared.error.CertError.TheVariants as certs

@@ -3,10 +3,10 @@ use Rattle.std.specs.Prelude.{◌≡◌, Bool, ℕ, List, ◌∷◌, Some, None,
 use Rattle.cms_types.specs.SignedDataElements.{SignedDataElements}
 use Rattle.der_core.specs.DerElement.{DerElement}
 use Rattle.der_core.specs.Encoding.{IsDer}
+use Rattle.der_core.specs.Rules.{Rule}
 use Rattle.der_core.specs.declared.error.DerError.{DerError}
 use Rattle.key_core.specs.KeyRefusals.{CantBeWritten}
 use Rattle.key_core.specs.Verifying.{Judge}
-use Rattle.key_core.specs.Rules.{Rule}
 use Rattle.x509_core.specs.declared.window.DateCheck.{DateCheck}
 use Rattle.authenticode_core.specs.SigningRules.{RefusesAuthenticodeBy}
 use Rattle.authenticode_core.specs.Trusted.{IsTrusted, policy_rules}

@@ -1,7 +1,7 @@
 //! Where timestamps come from.
 
 ghost use Rattle.std.specs.Prelude.{◌≡◌, ℕ, Ok, Err, IfOk, OnOk, OnErr, IfErr, Result};
-ghost use Rattle.key_core.specs.Rules.{OrMemory};
+ghost use Rattle.der_core.specs.Rules.{OrMemory};
 ghost use Rattle.cms_types.specs.declared.signed_data.SignedData.{SignedData};
 ghost use Rattle.authenticode_core.specs.declared.timestamp_error.TimestampError.{TimestampError};
 ghost use Rattle.authenticode_core.specs.declared.timestamp_error.TimestampError.TheVariants as errors;

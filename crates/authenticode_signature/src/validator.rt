@@ -2,7 +2,7 @@
 
 ghost use Rattle.std.specs.Prelude.{◌≡◌, true, false, Err, Result, MatchResult};
 ghost use Rattle.der_core.specs.Kept.{IsKept};
-ghost use Rattle.key_core.specs.Rules.{AreOneUnlessMemory, IsFirstBroken};
+ghost use Rattle.der_core.specs.Rules.{AreOneUnlessMemory, IsFirstBroken};
 ghost use Rattle.x509_core.specs.declared.window.DateCheck.TheVariants as dates;
 ghost use Rattle.authenticode_core.specs.Policy.{first_policy};
 ghost use Rattle.authenticode_core.specs.SigningRules.{RefusesAuthenticodeBy};

@@ -16,3 +16,5 @@ pub mod Parts
 pub mod Inner
 pub mod Several
 pub mod Values
+pub mod RuleLists
+pub mod TakenSteps

@@ -19,4 +19,6 @@ pub mod Each
 pub mod Lent
 pub mod Lending
 pub mod Equality
+pub mod Rules
+pub mod Steps
 pub mod Facts

@@ -7,7 +7,6 @@ pub mod KeptKeys
 pub mod Pkcs8Keys
 pub mod Refusing
 pub mod SignatureIdentifiers
-pub mod RuleLists
 pub mod Unwritten
 pub mod Verifications
 pub mod Signings

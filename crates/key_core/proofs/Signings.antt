@@ -4,8 +4,10 @@ use Rattle.std.specs.Prelude.{Result, Ok, Err, IfOk, MatchResult}
 use Rattle.der_core.specs.DerElement.{DerElement, Primitive}
 use Rattle.der_core.specs.Encoding.{IsDer}
 use Rattle.der_core.specs.Refusals.{RefusesInner}
+use Rattle.der_core.specs.Rules.{IsMet, IsFirstBroken}
 use Rattle.der_core.specs.declared.error.DerError.{DerError}
 use Rattle.der_core.specs.declared.error.DerError.TheVariants as der
+use Rattle.der_core.proofs.RuleLists.{AreMet, AreToldOnce, broken_behind, left_broken, told_together}
 use Rattle.asn1_types.specs.declared.bit_string.BitString.{BitString}
 use Rattle.key_types.specs.declared.key_info.SubjectPublicKeyInfo.{SubjectPublicKeyInfo}
 use Rattle.key_types.specs.declared.key_kind.KeyKind.TheVariants as kinds
@@ -26,7 +28,6 @@ use Rattle.key_core.specs.KeyRefusals.{CantBeWritten, unwritten}
 use Rattle.key_core.specs.PrivateKeyValue.{private_kind}
 use Rattle.key_core.specs.PrivatePkcs1.{IsPkcs1OfPrivate, RefusesPrivatePkcs1}
 use Rattle.key_core.specs.SchemeNames.{rsa_alg, ecdsa_alg}
-use Rattle.key_core.specs.Rules.{IsMet, IsFirstBroken}
 use Rattle.key_core.specs.SignatureRules.{RefusesSignatureBy, key_refusal}
 use Rattle.key_core.specs.Signing.{HasCurveOf, HasEdOf, IsEd25519Secret, FitsSecret, Signs, Pair, IsAsked, IsKeyPair, NotRsaSecret, UnwritableSecret, UnpairedSecret, WrongSecretSize, ForAgreementOnly, NotEd25519Secret, WrongEdSize, Unsigned, scheme_refused, secret_rules, sign_rules}
 use Rattle.key_core.specs.Verifying.{Judge, FitsKey, Accepts, IsPointOn}
@@ -49,7 +50,6 @@ use Rattle.key_core.specs.declared.signature_error.SignatureError.TheVariants as
 use Rattle.key_core.specs.declared.signature_error.Unsupported.TheVariants as unsupported
 use Rattle.key_core.proofs.Curves.{same_curve, same_algorithm}
 use Rattle.key_core.proofs.Unwritten.{written, one_source, alone}
-use Rattle.key_core.proofs.RuleLists.{AreMet, AreToldOnce, broken_behind, left_broken, told_together}
 use Rattle.key_core.proofs.Verifications.{deep_is_not_memory, long_is_not_memory, not_x25519}
 
 -- ---- what a private key names

@@ -4,8 +4,10 @@ use Rattle.std.specs.Prelude.{Result, Ok, Err, MatchResult}
 use Rattle.der_core.specs.DerElement.{DerElement, Primitive}
 use Rattle.der_core.specs.Encoding.{IsDer}
 use Rattle.der_core.specs.Refusals.{RefusesInner}
+use Rattle.der_core.specs.Rules.{IsMet, IsFirstBroken}
 use Rattle.der_core.specs.declared.error.DerError.{DerError}
 use Rattle.der_core.specs.declared.error.DerError.TheVariants as der
+use Rattle.der_core.proofs.RuleLists.{AreMet, AreToldOnce, broken_behind, early_in, left_broken, told_together}
 use Rattle.asn1_types.specs.declared.bit_string.BitString.{BitString}
 use Rattle.key_types.specs.RsaPublicKey.{rsa_public_key}
 use Rattle.key_types.specs.SubjectKey.{kind_of_key}
@@ -22,7 +24,6 @@ use Rattle.key_core.specs.EcCurve.{curve_identifier}
 use Rattle.key_core.specs.KeyRefusals.{CantBeWritten, unwritten}
 use Rattle.key_core.specs.Pkcs1.{IsPkcs1Of, RefusesPkcs1}
 use Rattle.key_core.specs.SchemeNames.{ecdsa_alg}
-use Rattle.key_core.specs.Rules.{IsMet, IsFirstBroken}
 use Rattle.key_core.specs.SignatureRules.{RefusesSignatureBy, key_refusal}
 use Rattle.key_core.specs.Verifying.{Judge, IsOnCurve, IsOfEd, IsEd25519Key, FitsKey, IsJudged, Accepts, NotRsa, Unwritable, UnknownHash, Unpaired, ForAgreement, NotEd25519, WrongSize, Malformed, Rejected, malformed, key_rules, verify_rules}
 use Rattle.key_core.specs.declared.ec_curve.EcCurve.{EcCurve}
@@ -40,7 +41,6 @@ use Rattle.key_core.specs.declared.signature_error.SignatureError.TheVariants as
 use Rattle.key_core.specs.declared.signature_error.Unsupported.TheVariants as unsupported
 use Rattle.key_core.proofs.Curves.{same_curve, same_algorithm}
 use Rattle.key_core.proofs.Unwritten.{written, one_source, alone}
-use Rattle.key_core.proofs.RuleLists.{AreMet, AreToldOnce, broken_behind, early_in, left_broken, told_together}
 
 -- ---- what a key names
 

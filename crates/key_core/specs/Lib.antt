@@ -25,7 +25,6 @@ pub mod EdViews
 pub mod ErrorText
 pub mod SignatureAlgorithm
 pub mod SchemeNames
-pub mod Rules
 pub mod SignatureRules
 pub mod Verifying
 pub mod Signing

@@ -1,6 +1,6 @@
 -- Rules that a key and a signature have to meet, and how they are refused.
 use Rattle.std.specs.Prelude.{List}
-use Rattle.key_core.specs.Rules.{Rule, RefusesByRules}
+use Rattle.der_core.specs.Rules.{Rule, RefusesByRules}
 use Rattle.key_core.specs.declared.error.KeyError.{KeyError}
 use Rattle.key_core.specs.declared.error.KeyError.TheVariants as key
 use Rattle.key_core.specs.declared.signature_error.SignatureError.{SignatureError}

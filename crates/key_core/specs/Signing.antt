@@ -1,5 +1,6 @@
 -- What a private key signs, and why it doesn't; which public keys belong to it.
 use Rattle.std.specs.Prelude.{◌≡◌, ◌≢◌, ℕ, List, [], ◌∷◌, ◌++◌, length, Bool, false, Some, None, ◌⊎◌}
+use Rattle.der_core.specs.Rules.{Rule}
 use Rattle.der_core.specs.declared.error.DerError.{DerError}
 use Rattle.asn1_types.specs.Values.{identifier_contents, payload_of}
 use Rattle.asn1_types.specs.declared.bit_string.BitString.{BitString}
@@ -23,7 +24,6 @@ use Rattle.key_core.specs.Pkcs1.{IsPkcs1Of}
 use Rattle.key_core.specs.PrivateKeyValue.{private_kind}
 use Rattle.key_core.specs.PrivatePkcs1.{IsPkcs1OfPrivate}
 use Rattle.key_core.specs.SchemeNames.{rsa_alg, curve_for, ecdsa_alg}
-use Rattle.key_core.specs.Rules.{Rule}
 use Rattle.key_core.specs.Verifying.{Judge, NamesCurve, IsPointOn, IsOfEd}
 use Rattle.key_core.specs.declared.ec_curve.EcCurve.{EcCurve}
 use Rattle.key_core.specs.declared.ed_algorithm.EdAlgorithm.{EdAlgorithm}

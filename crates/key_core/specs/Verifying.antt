@@ -2,6 +2,7 @@
 use Rattle.std.specs.Prelude.{◌≡◌, ◌≢◌, ℕ, List, [], ◌∷◌, ◌++◌, length, Some, None, Result, Err, MatchResult}
 use Rattle.asn1_types.specs.Elements.{object_identifier_of}
 use Rattle.der_core.specs.Lent.{kept_option}
+use Rattle.der_core.specs.Rules.{Rule, IsFirstBroken}
 use Rattle.der_core.specs.declared.error.DerError.{DerError}
 use Rattle.asn1_types.specs.Values.{identifier_contents, payload_of}
 use Rattle.asn1_types.specs.declared.bit_string.BitString.{BitString}
@@ -24,7 +25,6 @@ use Rattle.key_core.specs.KeyRefusals.{CantBeWritten}
 use Rattle.key_core.specs.Pkcs1.{IsPkcs1Of}
 use Rattle.key_core.specs.SchemeNames.{rsa_alg, curve_for, ecdsa_alg}
 use Rattle.key_core.specs.SignatureRules.{RefusesSignatureBy}
-use Rattle.key_core.specs.Rules.{Rule, IsFirstBroken}
 use Rattle.key_core.specs.declared.ec_curve.EcCurve.{EcCurve}
 use Rattle.key_core.specs.declared.ed_algorithm.EdAlgorithm.{EdAlgorithm}
 use Rattle.key_core.specs.declared.ed_algorithm.EdAlgorithm.TheVariants as ed

@@ -2,12 +2,12 @@
 
 ghost use Rattle.std.specs.Prelude.{◌≡◌, ◌≢◌, ℕ, List, length, Contains, true, None};
 ghost use Rattle.asn1_types.specs.Values.{identifier_contents};
+ghost use Rattle.der_core.specs.Rules.{IsFirstBroken};
 ghost use Rattle.key_types.specs.AlgorithmIdentifier.{oid_of};
 ghost use Rattle.key_types.specs.declared.algorithm.AlgorithmIdentifier.{AlgorithmIdentifier};
 ghost use Rattle.key_types.specs.declared.key_info.SubjectPublicKeyInfo.{SubjectPublicKeyInfo};
 ghost use Rattle.key_core.specs.KeyIdentifier.{IsKeyIdentifier};
 ghost use Rattle.key_core.specs.SignatureAlgorithm.{signature_identifier, NamesSignature, IsWrittenAlgorithm};
-ghost use Rattle.key_core.specs.Rules.{IsFirstBroken};
 ghost use Rattle.key_core.specs.Signing.{Signs, IsAsked, sign_rules};
 ghost use Rattle.key_core.specs.Verifying.{Judge, Accepts, verify_rules};
 ghost use Rattle.key_core.specs.declared.key_id.KeyIdGenMethod.{KeyIdGenMethod};

@@ -3,7 +3,7 @@ use Rattle.std.proofs.Common.{◌≡◌, ◌⊎◌, ℕ, List, Result, Ok, Err, 
 use Rattle.authenticode_core.specs.declared.accepted.Accepted.{Accepted}
 use Rattle.authenticode_core.specs.declared.error.CheckError.{CheckError}
 use Rattle.authenticode_core.specs.declared.error.CheckError.TheVariants as check
-use Rattle.key_core.specs.Rules.{AreOneUnlessMemory}
+use Rattle.der_core.specs.Rules.{AreOneUnlessMemory}
 use Rattle.key_core.specs.Verifying.{Judge}
 use Rattle.authenticode_core.specs.Trusted.{IsAnswer}
 use Rattle.authenticode_core.specs.declared.policy.Policy.{Policy}

@@ -1,6 +1,6 @@
 -- What is found out about the files of a job, before anything is written.
 use Rattle.std.specs.Prelude.{◌≡◌, ◌⊎◌, ℕ, List, ◌∷◌, ◌++◌, IsSome, Result, Err, IfOk, IfErr, MatchResult, string_bytes}
-use Rattle.key_core.specs.Rules.{OrMemory}
+use Rattle.der_core.specs.Rules.{OrMemory}
 use Rattle.sig_core.specs.VerdictTable.{IsFirstBadLine}
 use Rattle.picky_check.specs.declared.stop.Stop.{Stop}
 use Rattle.picky_check.specs.declared.stop.Stop.TheVariants.{Usage, BadTable, Shelf, TooLong, Memory}

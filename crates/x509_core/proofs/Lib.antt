@@ -13,7 +13,6 @@ pub mod Validity
 pub mod Depths
 pub mod SignedParts
 pub mod LinkRules
-pub mod TakenSteps
 pub mod Chains
 pub mod ChainSteps
 pub mod UnbrokenLinks

@@ -1,12 +1,12 @@
 -- One link of a chain, rule by rule.
 use Rattle.std.proofs.Common.{◌≡◌, ◌≢◌, ◌<◌, ◌≤◌, ℕ, true, Result, Ok, Err, MatchResult, inl, inr, refl, subst, arith}
+use Rattle.der_core.specs.Rules.{IsMet}
 use Rattle.key_core.specs.Verifying.{Judge}
 use Rattle.x509_types.specs.CertificateElements.{CertificateElements}
 use Rattle.x509_types.specs.ExtensionParts.{HasCa, HasPathLength}
 use Rattle.x509_core.specs.KeptCertificate.{KeptCertificate}
 use Rattle.x509_core.specs.Link.{IsDeepEnough, IsStandingFor, IsLink, IsSignedBy, IsNoAuthority, IsTooDeep, IsOutside, link_rules, link_signature_rules}
 use Rattle.x509_core.specs.Parent.{AgreeByKeyAndName, RefusesParent}
-use Rattle.key_core.specs.Rules.{IsMet}
 use Rattle.x509_core.specs.Rules.{Breaks, RefusesCertBy}
 use Rattle.x509_core.specs.Window.{IsWithinWindow}
 use Rattle.x509_core.specs.declared.error.CertError.{CertError}

@@ -1,11 +1,11 @@
 -- How key identifiers of elements stand, where the elements are the same.
 use Rattle.std.proofs.Common.{◌≡◌, ◌≢◌, ◌↔◌, IsTrue, Bool, refl, subst}
+use Rattle.der_core.specs.Rules.{IsMet}
 use Rattle.names_core.specs.declared.name.DirectoryName.{DirectoryName}
 use Rattle.x509_types.specs.CertificateElements.{CertificateElements}
 use Rattle.x509_core.specs.KeptCertificate.{KeptCertificate}
 use Rattle.x509_core.specs.Link.{IsNoParent}
 use Rattle.x509_core.specs.Parent.{AgreeByName, AgreeByKeyAndName, LacksKey, DifferByKey, IsKeyLink, RefusesChain, RefusesLink, RefusesParent}
-use Rattle.key_core.specs.Rules.{IsMet}
 use Rattle.x509_core.specs.declared.error.CaChainError.{CaChainError}
 use Rattle.x509_core.specs.declared.error.CaChainError.TheVariants as chain
 use Rattle.x509_core.specs.declared.error.CertCause.{CertCause}

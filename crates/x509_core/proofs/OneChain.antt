@@ -1,11 +1,11 @@
 -- At most one error tells of the first broken rule of a chain.
 use Rattle.std.proofs.Common.{◌≡◌, ◌⊎◌, List, [], ◌∷◌, ◌++◌, length, Option, inl, inr, refl, sym, ap, subst, ◌∙◌}
+use Rattle.der_core.specs.Rules.{IsFirstBroken}
+use Rattle.der_core.proofs.RuleLists.{IsToldOnce, one_broken}
 use Rattle.key_core.specs.Verifying.{Judge}
 use Rattle.x509_core.specs.Chain.{IsFirstUnlinked, IsUnlinked, chain_rules, last_of}
 use Rattle.x509_core.specs.KeptCertificate.{KeptCertificate}
 use Rattle.x509_core.specs.Link.{link_rules}
-use Rattle.key_core.specs.Rules.{IsFirstBroken}
-use Rattle.key_core.proofs.RuleLists.{IsToldOnce, one_broken}
 use Rattle.x509_core.specs.Window.{window_rules}
 use Rattle.x509_core.specs.declared.error.CertError.{CertError}
 use Rattle.x509_core.specs.declared.validator.ChainChecks.{ChainChecks}

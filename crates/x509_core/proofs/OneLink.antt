@@ -4,14 +4,14 @@ use Rattle.asn1_types.specs.Facts.Times.{same_generalized}
 use Rattle.asn1_types.specs.Values.{identifier_contents}
 use Rattle.asn1_types.specs.declared.generalized_time.GeneralizedTime.{GeneralizedTime}
 use Rattle.der_core.specs.DerElement.{DerElement}
+use Rattle.der_core.specs.Rules.{Rule, IsFirstBroken}
+use Rattle.der_core.proofs.RuleLists.{IsToldOnce, one_broken}
 use Rattle.key_core.specs.SignatureAlgorithm.{NamesSignature}
-use Rattle.key_core.specs.Rules.{Rule, IsFirstBroken}
 use Rattle.key_core.specs.Verifying.{Judge, verify_rules}
 use Rattle.key_core.specs.declared.signature_algorithm.SignatureAlgorithm.{SignatureAlgorithm}
 use Rattle.key_core.specs.declared.signature_error.SignatureError.{SignatureError}
 use Rattle.key_core.specs.declared.signature_error.SignatureError.TheVariants as signature_errors
 use Rattle.key_core.specs.declared.signature_error.Unsupported.TheVariants as unsupported
-use Rattle.key_core.proofs.RuleLists.{IsToldOnce, one_broken}
 use Rattle.key_core.proofs.SignatureIdentifiers.{same_algorithm}
 use Rattle.key_core.proofs.Verifications.{verify_one}
 use Rattle.key_types.specs.declared.algorithm.AlgorithmIdentifier.{AlgorithmIdentifier}

@@ -3,7 +3,7 @@ use Rattle.std.proofs.Common.{◌≡◌, List, map, subst}
 use Rattle.std.specs.Borrow.{Bor}
 use Rattle.std.specs.Prelude.{Option}
 use Rattle.std.specs.Iterator.{Yields}
-use Rattle.key_core.specs.Rules.{OrMemory}
+use Rattle.der_core.specs.Rules.{OrMemory}
 use Rattle.key_core.specs.Verifying.{Judge}
 use Rattle.x509_core.specs.CertType.{IsOfType}
 use Rattle.x509_core.specs.Chain.{IsLinkedChain, IsFirstUnlinked, last_of, lent}

@@ -5,6 +5,7 @@ use Rattle.std.specs.Coded.{Coded-set}
 use Rattle.der_core.specs.Placed.{AreDer}
 use Rattle.der_core.specs.Facts.Codes.{coded_element}
 use Rattle.der_core.specs.Facts.Placed.{AreDer-prop}
+use Rattle.der_core.specs.Rules.{Rule, IsMet, IsFirstBroken}
 use Rattle.key_types.specs.AlgorithmIdentifier.{algorithm_identifier}
 use Rattle.key_types.specs.Facts.Algorithms.{algorithms}
 use Rattle.key_types.specs.Facts.Keys.{infos_once}
@@ -15,7 +16,6 @@ use Rattle.key_types.specs.declared.public_key.RsaPublicKey.{RsaPublicKey}
 use Rattle.key_types.specs.declared.subject_key.SubjectKey.TheVariants as keys
 use Rattle.key_core.specs.Pkcs1.{IsPkcs1Of}
 use Rattle.key_core.specs.SignatureAlgorithm.{NamesSignature, IsUnnamed}
-use Rattle.key_core.specs.Rules.{Rule, IsMet, IsFirstBroken}
 use Rattle.key_core.specs.SignatureRules.{RefusesSignatureBy}
 use Rattle.key_core.specs.Verifying.{Judge, Accepts, verify_rules}
 use Rattle.key_core.specs.declared.signature_algorithm.SignatureAlgorithm.{SignatureAlgorithm}

@@ -4,7 +4,7 @@ use Rattle.asn1_types.specs.Values.{identifier_contents}
 use Rattle.key_types.specs.declared.algorithm.AlgorithmIdentifier.{AlgorithmIdentifier}
 use Rattle.key_types.specs.declared.key_info.SubjectPublicKeyInfo.{SubjectPublicKeyInfo}
 use Rattle.key_core.specs.SignatureAlgorithm.{NamesSignature}
-use Rattle.key_core.specs.Rules.{IsMet, IsFirstBroken}
+use Rattle.der_core.specs.Rules.{IsMet, IsFirstBroken}
 use Rattle.key_core.specs.Verifying.{Judge, verify_rules}
 use Rattle.key_core.specs.declared.signature_algorithm.SignatureAlgorithm.{SignatureAlgorithm}
 use Rattle.key_core.proofs.SignatureIdentifiers.{same_algorithm}

@@ -5,13 +5,13 @@ use Rattle.std.specs.Ordering.{nat_cmp}
 use Rattle.asn1_types.specs.Time.{generalized_fields}
 use Rattle.asn1_types.specs.declared.generalized_time.GeneralizedTime.{GeneralizedTime}
 use Rattle.der_core.specs.DerElement.{DerElement}
+use Rattle.der_core.specs.Rules.{IsFirstBroken}
 use Rattle.extension_types.specs.Validity.{time as time_element}
 use Rattle.extension_types.specs.Facts.Times.{times_once}
 use Rattle.extension_types.specs.declared.time.Time.{Time}
 use Rattle.names_core.specs.UtcDate.{time_fields}
 use Rattle.x509_types.specs.CertificateElements.{CertificateElements}
 use Rattle.x509_types.specs.CertificateFields.{not_before_of, not_after_of}
-use Rattle.key_core.specs.Rules.{IsFirstBroken}
 use Rattle.x509_core.specs.Window.{IsEarlier, IsTimeAt, IsNotBefore, IsNotAfter, earliest, latest, HasBegun, HasNotEnded, IsWithinWindow, IsExpired, IsNotYetValid, IsOver, window_rules}
 use Rattle.x509_core.specs.declared.error.CertCause.{CertCause}
 use Rattle.x509_core.specs.declared.error.CertCause.TheVariants as causes

@@ -3,12 +3,12 @@ use Rattle.std.proofs.Common.{◌≡◌, ◌≢◌, IsTrue, false, List, ◌∷�
 use Rattle.std.proofs.lemmas.Bool.{false≢true}
 use Rattle.std.specs.Borrow.{Bor}
 use Rattle.std.specs.Iterator.{AlwaysYields, Yields, Drains}
+use Rattle.der_core.specs.Rules.{OrMemory, IsMet, IsFirstBroken}
 use Rattle.key_core.specs.Verifying.{Judge}
 use Rattle.x509_core.specs.CertType.{IsOfType}
 use Rattle.x509_core.specs.Chain.{YieldsParents, IsDated, IsLinkedChain, IsFirstUnlinked, IsUnlinked, LacksDate, LacksChain, LacksRoot, IsAccepted, IsRooted, chain_rules, last_of, lent}
 use Rattle.x509_core.specs.KeptCertificate.{KeptCertificate}
 use Rattle.x509_core.specs.Link.{IsOutside}
-use Rattle.key_core.specs.Rules.{OrMemory, IsMet, IsFirstBroken}
 use Rattle.x509_core.specs.Rules.{Breaks, RefusesCertBy}
 use Rattle.x509_core.specs.Window.{IsWithinWindow}
 use Rattle.x509_core.specs.declared.cert_type.CertType.{CertType}

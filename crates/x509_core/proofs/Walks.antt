@@ -4,13 +4,13 @@ use Rattle.std.proofs.lemmas.Bool.{false≢true}
 use Rattle.std.specs.Borrow.{Bor}
 use Rattle.std.specs.Prelude.{IfErr}
 use Rattle.std.specs.Iterator.{Yields, Drains}
+use Rattle.der_core.specs.Rules.{OrMemory, IsFirstBroken}
 use Rattle.key_core.specs.Verifying.{Judge}
 use Rattle.x509_core.specs.CertType.{IsOfType}
 use Rattle.x509_core.specs.Chain.{GaveSoFar, IsWalked, WasAccepted, WasRefused, IsDated, IsLinkedChain, IsFirstUnlinked, LacksDate, IsAccepted, chain_rules, last_of, lent}
 use Rattle.x509_core.specs.KeptCertificate.{KeptCertificate}
 use Rattle.x509_core.specs.Link.{IsOutside, link_rules}
 use Rattle.x509_core.specs.Parent.{RefusesParent}
-use Rattle.key_core.specs.Rules.{OrMemory, IsFirstBroken}
 use Rattle.x509_core.specs.Rules.{Breaks}
 use Rattle.x509_core.specs.Window.{IsWithinWindow}
 use Rattle.x509_core.specs.declared.cert_type.CertType.{CertType}

@@ -7,7 +7,6 @@ pub mod SaidValues
 pub mod CertType
 pub mod Parent
 pub mod Rules
-pub mod Steps
 pub mod Window
 pub mod Link
 pub mod Checks

@@ -2,12 +2,12 @@
 -- 4.2.1.9).
 use Rattle.std.specs.Prelude.{◌≡◌, ◌≢◌, ◌<◌, ◌≤◌, min, ℕ, List, [], ◌∷◌, true}
 use Rattle.der_core.specs.Encoding.{encoding}
+use Rattle.der_core.specs.Rules.{Rule, IsFirstBroken}
 use Rattle.key_types.specs.AlgorithmIdentifier.{algorithm_identifier, oid_of}
 use Rattle.key_types.specs.PublicKeyInfo.{public_key_info}
 use Rattle.key_types.specs.declared.algorithm.AlgorithmIdentifier.{AlgorithmIdentifier}
 use Rattle.key_types.specs.declared.key_info.SubjectPublicKeyInfo.{SubjectPublicKeyInfo}
 use Rattle.key_core.specs.SignatureAlgorithm.{NamesSignature}
-use Rattle.key_core.specs.Rules.{Rule, IsFirstBroken}
 use Rattle.key_core.specs.Verifying.{Judge, Accepts, verify_rules}
 use Rattle.key_core.specs.declared.signature_algorithm.SignatureAlgorithm.{SignatureAlgorithm}
 use Rattle.key_core.specs.declared.signature_error.SignatureError.{SignatureError}

@@ -1,6 +1,6 @@
 -- How rules of certificates are refused.
 use Rattle.std.specs.Prelude.{List}
-use Rattle.key_core.specs.Rules.{Rule, OrMemory, RefusesByRules}
+use Rattle.der_core.specs.Rules.{Rule, OrMemory, RefusesByRules}
 use Rattle.x509_core.specs.declared.error.CertError.{CertError}
 use Rattle.x509_core.specs.declared.error.CertError.TheVariants as errors
 

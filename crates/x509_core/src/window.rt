@@ -2,8 +2,8 @@
 
 ghost use Rattle.std.specs.Prelude.{◌≡◌, ◌↔◌, IsTrue, MatchResult};
 ghost use Rattle.asn1_types.specs.declared.generalized_time.GeneralizedTime.{GeneralizedTime};
+ghost use Rattle.der_core.specs.Rules.{IsFirstBroken};
 ghost use Rattle.x509_types.specs.CertificateView.{view_elements};
-ghost use Rattle.key_core.specs.Rules.{IsFirstBroken};
 ghost use Rattle.x509_core.specs.Window.{IsEarlier, IsWithinWindow, HasBegun, HasNotEnded, IsNotYetValid, IsOver, earliest, latest, window_rules};
 
 use crate::error::CertCause;

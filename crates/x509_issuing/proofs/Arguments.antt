@@ -1,7 +1,7 @@
 -- One error tells of an argument that isn't given, and none where all are.
 use Rattle.std.proofs.Common.{◌≡◌, Bool, true, false, Option, Some, None, IsSome, refl, sym, ◌∙◌, subst}
-use Rattle.x509_core.specs.Steps.{IsFirstUntaken}
-use Rattle.x509_core.proofs.TakenSteps.{HasOneError, HaveOneError, left_behind, one_before}
+use Rattle.der_core.specs.Steps.{IsFirstUntaken}
+use Rattle.der_core.proofs.TakenSteps.{HasOneError, HaveOneError, left_behind, one_before}
 use Rattle.x509_core.specs.declared.error.Arg.{Arg}
 use Rattle.x509_core.specs.declared.error.Arg.TheVariants as arguments
 use Rattle.x509_core.specs.declared.error.CertError.{CertError}

@@ -3,6 +3,8 @@ use Rattle.std.proofs.Common.{◌≡◌, ℕ, List, [], ◌∷◌, ◌++◌, Opt
 use Rattle.std.specs.Prelude.{IsSome}
 use Rattle.der_core.specs.DerElement.{Primitive}
 use Rattle.der_core.specs.Encoding.{encoding}
+use Rattle.der_core.specs.Steps.{IsFirstUntaken, AreTaken, RefusesBySteps}
+use Rattle.der_core.proofs.TakenSteps.{untaken_before, refused_behind, refused_within}
 use Rattle.asn1_types.specs.Elements.{bit_string}
 use Rattle.asn1_types.specs.declared.bit_string.BitString.{BitString}
 use Rattle.asn1_types.specs.declared.generalized_time.GeneralizedTime.{GeneralizedTime}
@@ -24,7 +26,6 @@ use Rattle.x509_core.specs.FirstValue.{HasFirst}
 use Rattle.x509_core.specs.KeptCertificate.{KeptCertificate}
 use Rattle.x509_core.specs.Link.{IsSignedBy}
 use Rattle.x509_core.specs.SaidValues.{NamesKey}
-use Rattle.x509_core.specs.Steps.{IsFirstUntaken, AreTaken, RefusesBySteps}
 use Rattle.x509_core.specs.declared.error.CertError.{CertError}
 use Rattle.asn1_types.specs.declared.integer.IntegerAsn1.{IntegerAsn1}
 use Rattle.extension_types.specs.declared.validity.Validity.{Validity}
@@ -37,7 +38,6 @@ use Rattle.x509_issuing.specs.Building.{IsBuilt, IsMade, algorithm_step, build_s
 use Rattle.x509_issuing.specs.MadeExtensions.{AreBuilt, constraints_of}
 use Rattle.x509_issuing.specs.declared.builder.CertificateBuilder.{CertificateBuilder}
 use Rattle.x509_issuing.specs.declared.builder.IssuerInfos.{IssuerInfos}
-use Rattle.x509_core.proofs.TakenSteps.{untaken_before, refused_behind, refused_within}
 use Rattle.x509_issuing.proofs.MadeCertificates.{made_or_refused}
 use Rattle.x509_issuing.proofs.Subjects.{subject_taken}
 use Rattle.x509_issuing.proofs.WantedExtensions.{built_authority, built_constrained, built_distinct, built_key}

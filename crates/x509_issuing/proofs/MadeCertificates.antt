@@ -5,7 +5,6 @@ use Rattle.der_core.specs.Facts.Fronts.{formed_encoding_once}
 use Rattle.der_core.specs.Placed.{AreDer}
 use Rattle.der_core.specs.Refusals.{RefusesInner}
 use Rattle.key_types.specs.declared.key_info.SubjectPublicKeyInfo.{SubjectPublicKeyInfo}
-use Rattle.key_core.specs.Rules.{OrMemory}
 use Rattle.key_core.specs.SignatureRules.{RefusesSignatureBy}
 use Rattle.key_core.specs.Signing.{Signs, Pair, IsKeyPair, arithmetic, sign_rules}
 use Rattle.key_core.specs.Verifying.{Judge, Accepts}
@@ -20,10 +19,11 @@ use Rattle.x509_types.specs.declared.certificate.Certificate.{Certificate}
 use Rattle.x509_types.specs.declared.tbs_certificate.TbsCertificate.{TbsCertificate}
 use Rattle.x509_core.specs.CertRefusals.{IsUnwrittenCert}
 use Rattle.x509_core.specs.KeptCertificate.{KeptCertificate, kept_octets, written_octets, written_elements}
-use Rattle.x509_core.specs.Steps.{IsFirstUntaken, RefusesBySteps}
 use Rattle.x509_core.specs.declared.error.CertError.{CertError}
 use Rattle.x509_core.specs.declared.error.CertError.TheVariants as errors
 use Rattle.der_core.specs.Refusals.{Tells}
+use Rattle.der_core.specs.Rules.{OrMemory}
+use Rattle.der_core.specs.Steps.{IsFirstUntaken, RefusesBySteps}
 use Rattle.x509_issuing.specs.BuildRefusals.{no_octets, no_signature}
 use Rattle.x509_issuing.specs.Building.{IsMade, IsSignedCertificate, IsTbsSigned, message_of, signing_steps, tbs_written}
 

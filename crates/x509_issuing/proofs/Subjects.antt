@@ -5,10 +5,10 @@ use Rattle.key_types.specs.declared.key_info.SubjectPublicKeyInfo.{SubjectPublic
 use Rattle.key_core.specs.Verifying.{Judge}
 use Rattle.key_core.specs.declared.public_key.PublicKey.{PublicKey}
 use Rattle.names_core.specs.declared.name.DirectoryName.{DirectoryName}
-use Rattle.x509_core.specs.Steps.{AreTaken, RefusesBySteps}
 use Rattle.x509_core.specs.declared.error.CertError.{CertError}
 use Rattle.x509_core.specs.declared.error.CertError.TheVariants as errors
 use Rattle.der_core.specs.Refusals.{Tells}
+use Rattle.der_core.specs.Steps.{AreTaken, RefusesBySteps}
 use Rattle.x509_issuing.specs.BuildRefusals.{no_request}
 use Rattle.x509_issuing.specs.BuiltCertificate.{IsGivenSubject, IsHalfOf, IsSubjectBy, NameSets}
 use Rattle.x509_issuing.specs.Building.{half_step, other_steps, subject_steps}

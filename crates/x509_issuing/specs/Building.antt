@@ -25,12 +25,12 @@ use Rattle.x509_types.specs.declared.tbs_certificate.TbsCertificate.{TbsCertific
 use Rattle.x509_core.specs.CertRefusals.{IsUnwrittenCert}
 use Rattle.x509_core.specs.KeptCertificate.{KeptCertificate, written_elements}
 use Rattle.x509_core.specs.Link.{signature_refusal}
-use Rattle.x509_core.specs.Steps.{Step}
 use Rattle.x509_core.specs.declared.error.Arg.{Arg}
 use Rattle.x509_core.specs.declared.error.Arg.TheVariants as arguments
 use Rattle.x509_core.specs.declared.error.CertError.{CertError}
 use Rattle.x509_core.specs.declared.error.CertError.TheVariants as errors
 use Rattle.der_core.specs.Refusals.{Tells}
+use Rattle.der_core.specs.Steps.{Step}
 use Rattle.x509_issuing.specs.BuildRefusals.{no_half, no_request, no_key_id, no_octets, no_signature}
 use Rattle.x509_issuing.specs.BuiltCertificate.{IsHalfOf, NameSets, IsSubject, IsBuiltFor, IsTbsFor}
 use Rattle.x509_issuing.specs.CsrRefusals.{IsUnsigned}

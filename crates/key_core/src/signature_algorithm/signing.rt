@@ -2,12 +2,12 @@
 
 ghost use Rattle.std.specs.Prelude.{◌≡◌, ◌≢◌, [], ◌∷◌, ℕ, List, length, true, false, Some, Err, IfOk, MatchResult};
 ghost use Rattle.asn1_types.specs.Values.{payload_of};
+ghost use Rattle.der_core.specs.Rules.{IsFirstBroken, OrMemory};
 ghost use Rattle.key_types.specs.declared.key_info.SubjectPublicKeyInfo.{SubjectPublicKeyInfo};
 ghost use Rattle.sig_core.specs.Algorithm.{kind_of_algorithm};
 ghost use Rattle.sig_core.specs.declared.scheme.Verdict.TheVariants as verdicts;
 ghost use Rattle.key_core.specs.PrivatePkcs1.{IsPkcs1OfPrivate};
 ghost use Rattle.key_core.specs.SchemeNames.{curve_for};
-ghost use Rattle.key_core.specs.Rules.{IsFirstBroken, OrMemory};
 ghost use Rattle.key_core.specs.SignatureRules.{RefusesSignatureBy};
 ghost use Rattle.key_core.specs.Signing.{FitsSecret, IsAsked, IsKeyPair, IsEd25519Secret, HasCurveOf, NotRsaSecret, UnwritableSecret, UnknownCurveOf, UnpairedSecret, secret_rules, sign_rules, scheme_refused};
 ghost use Rattle.key_core.specs.Verifying.{Accepts};

@@ -2,6 +2,7 @@
 
 ghost use Rattle.std.specs.Prelude.{◌≡◌, ◌≢◌, ℕ, List, [], ◌∷◌, length, Some, Err, MatchOption, MatchResult};
 ghost use Rattle.asn1_types.specs.Values.{payload_of};
+ghost use Rattle.der_core.specs.Rules.{IsFirstBroken};
 ghost use Rattle.key_types.specs.SubjectKey.{kind_of_key};
 ghost use Rattle.key_types.specs.declared.key_info.SubjectPublicKeyInfo.{SubjectPublicKeyInfo};
 ghost use Rattle.key_types.specs.declared.key_kind.KeyKind.TheVariants as kinds;
@@ -9,7 +10,6 @@ ghost use Rattle.key_types.specs.declared.public_key.RsaPublicKey.{RsaPublicKey}
 ghost use Rattle.key_types.specs.declared.subject_key.SubjectKey.TheVariants as keys;
 ghost use Rattle.key_core.specs.Pkcs1.{IsPkcs1Of};
 ghost use Rattle.key_core.specs.SchemeNames.{curve_for, ecdsa_alg};
-ghost use Rattle.key_core.specs.Rules.{IsFirstBroken};
 ghost use Rattle.key_core.specs.SignatureRules.{RefusesSignatureBy};
 ghost use Rattle.key_core.specs.Verifying.{Judge, FitsKey, IsJudged, NamesCurve, IsOnCurve, IsEd25519Key, NotRsa, Unwritable, UnknownCurve, UnknownHash, Unpaired, key_rules, malformed, IsVerified, HasVerdict, RefusesKey};
 ghost use Rattle.key_core.specs.declared.ec_curve.EcCurve.{EcCurve};

@@ -2,10 +2,10 @@
 
 ghost use Rattle.std.specs.Prelude.{◌≡◌, [], ◌∷◌, ◌++◌, false, Err, IfOk, IsSome, MatchResult};
 ghost use Rattle.key_core.specs.Keys.{info_of};
-ghost use Rattle.key_core.specs.Rules.{OrMemory};
 ghost use Rattle.names_core.specs.Names.{sets_of};
 ghost use Rattle.der_core.specs.Refusals.{Tells};
-ghost use Rattle.x509_core.specs.Steps.{IsFirstUntaken, RefusesBySteps};
+ghost use Rattle.der_core.specs.Rules.{OrMemory};
+ghost use Rattle.der_core.specs.Steps.{IsFirstUntaken, RefusesBySteps};
 ghost use Rattle.x509_core.specs.declared.error.CertError.{CertError};
 ghost use Rattle.x509_core.specs.declared.error.CertError.TheVariants as errors;
 ghost use Rattle.x509_issuing.specs.BuildRefusals.{no_request as request_refusal};

@@ -1,7 +1,7 @@
 //! Whether the signature of a request is one by the key in it.
 
 ghost use Rattle.std.specs.Prelude.{◌≡◌, Err, MatchResult};
-ghost use Rattle.key_core.specs.Rules.{IsFirstBroken};
+ghost use Rattle.der_core.specs.Rules.{IsFirstBroken};
 ghost use Rattle.key_core.specs.SignatureAlgorithm.{NamesSignature};
 ghost use Rattle.key_core.specs.Verifying.{key_rules};
 ghost use Rattle.key_core.specs.declared.signature_algorithm.SignatureAlgorithm.{SignatureAlgorithm};

@@ -1,7 +1,7 @@
 use Rattle.std.proofs.Common.{[], ◌∷◌, sym, subst}
 use Rattle.std.specs.Option.{option_copied}
-use Rattle.x509_core.specs.Steps.{RefusesBySteps}
 use Rattle.authenticode_core.specs.declared.error.AuthenticodeError.TheVariants as errors
+use Rattle.der_core.specs.Steps.{RefusesBySteps}
 use Rattle.authenticode_signature.specs.Making.{name_step}
 use Rattle.authenticode_signature.proofs.MadeSteps.{bad_name}
 use Rattle.authenticode_signature.proofs.making.opus_for.Goals as goal

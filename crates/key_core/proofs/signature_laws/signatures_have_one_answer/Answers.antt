@@ -1,5 +1,5 @@
+use Rattle.der_core.proofs.RuleLists.{one_broken}
 use Rattle.key_core.specs.Verifying.{verify_rules}
-use Rattle.key_core.proofs.RuleLists.{one_broken}
 use Rattle.key_core.proofs.Verifications.{verify_one, accepted_is_met}
 use Rattle.key_core.proofs.signature_laws.signatures_have_one_answer.Goals as goal
 

@@ -1,5 +1,5 @@
+use Rattle.der_core.proofs.RuleLists.{one_broken}
 use Rattle.key_core.specs.Signing.{sign_rules}
-use Rattle.key_core.proofs.RuleLists.{one_broken}
 use Rattle.key_core.proofs.Signings.{sign_one, asked_is_met}
 use Rattle.key_core.proofs.signature_laws.signing_has_one_answer.Goals as goal
 

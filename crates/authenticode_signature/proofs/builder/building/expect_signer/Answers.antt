@@ -1,11 +1,11 @@
 use Rattle.std.proofs.Common.{[], ◌∷◌}
 use Rattle.std.proofs.lemmas.Bool.{iff_false}
 use Rattle.std.proofs.lemmas.Result.{err_from_is_err_and}
+use Rattle.der_core.proofs.TakenSteps.{refused_before}
 use Rattle.authenticode_signature.specs.BuilderParts.{given_of}
 use Rattle.authenticode_signature.specs.Building.{named_step, purpose_step}
 use Rattle.authenticode_signature.specs.declared.builder_error.AuthenticodeSignatureBuilderError.TheVariants as errors
 use Rattle.authenticode_signature.proofs.BuilderSteps.{not_for_code}
-use Rattle.x509_core.proofs.TakenSteps.{refused_before}
 use Rattle.authenticode_signature.proofs.builder.building.expect_signer.Goals as goal
 
 pub returns-in_err-signer : goal.returns-in_err-signer

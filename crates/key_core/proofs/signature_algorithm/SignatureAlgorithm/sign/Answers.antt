@@ -1,13 +1,13 @@
 use Rattle.std.proofs.Common.{ℕ, List, [], ◌∷◌, Err, inl, refl, sym, ap, subst, ◌∙◌}
 use Rattle.std.proofs.lemmas.Result.{err_from_is_err_and}
 use Rattle.std.specs.Prelude.{vec_items}
+use Rattle.der_core.specs.Rules.{IsFirstBroken}
+use Rattle.der_core.proofs.RuleLists.{broken_before, none_broken, one_broken}
 use Rattle.sig_core.specs.declared.algorithm.SigAlg.TheVariants as algs
 use Rattle.key_core.specs.PrivatePkcs1.{IsPkcs1OfPrivate}
-use Rattle.key_core.specs.Rules.{IsFirstBroken}
 use Rattle.key_core.specs.Signing.{FitsSecret, UnwritableSecret, Unsigned, secret_rules}
 use Rattle.key_core.specs.declared.signature_algorithm.SignatureAlgorithm.{SignatureAlgorithm}
 use Rattle.key_core.specs.declared.signature_algorithm.SignatureAlgorithm.TheVariants.{RsaPkcs1v15, Ecdsa, Ed25519}
-use Rattle.key_core.proofs.RuleLists.{broken_before, none_broken, one_broken}
 use Rattle.key_core.proofs.Signings.{secret_met, secret_one, made_accepts, made_by, made_of}
 use Rattle.key_core.proofs.signature_algorithm.SignatureAlgorithm.sign.Goals as goal
 

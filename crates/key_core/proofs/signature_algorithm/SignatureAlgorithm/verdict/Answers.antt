@@ -1,10 +1,10 @@
 use Rattle.std.proofs.Common.{inl, [], ◌∷◌, Err, ap, subst, ◌∙◌}
 use Rattle.std.proofs.lemmas.Result.{err_from_is_err_and}
+use Rattle.der_core.specs.Rules.{IsFirstBroken}
+use Rattle.der_core.proofs.RuleLists.{broken_before, one_broken}
 use Rattle.key_core.specs.Verifying.{key_rules, Unwritable}
-use Rattle.key_core.specs.Rules.{IsFirstBroken}
 use Rattle.key_core.specs.declared.signature_algorithm.SignatureAlgorithm.{SignatureAlgorithm}
 use Rattle.key_core.specs.declared.signature_algorithm.SignatureAlgorithm.TheVariants.{Ecdsa, Ed25519}
-use Rattle.key_core.proofs.RuleLists.{broken_before, one_broken}
 use Rattle.key_core.proofs.Verifications.{key_one}
 use Rattle.key_core.proofs.signature_algorithm.SignatureAlgorithm.verdict.Goals as goal
 

@@ -1,6 +1,6 @@
 use Rattle.std.proofs.Common.{subst}
+use Rattle.der_core.specs.Rules.{IsFirstBroken}
 use Rattle.x509_types.specs.CertificateElements.{CertificateElements}
-use Rattle.key_core.specs.Rules.{IsFirstBroken}
 use Rattle.x509_core.specs.Window.{window_rules}
 use Rattle.x509_core.proofs.SignedParts.{told_of}
 use Rattle.x509_core.proofs.Validity.{valid_is_met}

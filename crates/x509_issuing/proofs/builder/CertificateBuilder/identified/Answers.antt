@@ -1,7 +1,7 @@
 use Rattle.std.proofs.Common.{[], ◌∷◌, inl}
 use Rattle.std.proofs.lemmas.Result.{err_from_is_err_and}
+use Rattle.der_core.proofs.TakenSteps.{refused_before, refused_behind}
 use Rattle.x509_core.specs.declared.error.CertError.TheVariants as errors
-use Rattle.x509_core.proofs.TakenSteps.{refused_before, refused_behind}
 use Rattle.x509_issuing.specs.Building.{identifier_step, subject_steps}
 use Rattle.x509_issuing.proofs.Subjects.{subject_taken}
 use Rattle.x509_issuing.proofs.builder.CertificateBuilder.identified.Goals as goal

@@ -1,7 +1,7 @@
 -- Steps in a row: the first that can't be taken is that of the first part, or all of that part are taken.
 use Rattle.std.specs.Prelude.{⊤}
 use Rattle.std.proofs.Common.{◌≡◌, List, [], ◌∷◌, ◌++◌, inl, inr}
-use Rattle.x509_core.specs.Steps.{Step, IsFirstUntaken, AreTaken, RefusesBySteps}
+use Rattle.der_core.specs.Steps.{Step, IsFirstUntaken, AreTaken, RefusesBySteps}
 
 pub untaken_before : {E : Type 0} (a b : List (Step E)) (e : E) → IsFirstUntaken a e → IsFirstUntaken (a ++ b) e
 untaken_before [] b e first = absurd first

@@ -1,6 +1,6 @@
 -- Steps that are taken in order, and the error of the first that isn't.
 use Rattle.std.specs.Prelude.{◌⊎◌, ⊤, List, [], ◌∷◌}
-use Rattle.key_core.specs.Rules.{OrMemory}
+use Rattle.der_core.specs.Rules.{OrMemory}
 
 -- A step: what holds where it can be taken, and the errors that tell that it can't.
 pub record Step (E : Type 0) : Type 1 where

@@ -1,7 +1,7 @@
 -- Rules that are asked for in order.
 use Rattle.std.proofs.Common.{◌≡◌, List, [], ◌∷◌, ◌++◌, inl, inr}
 use Rattle.std.specs.Prelude.{⊤}
-use Rattle.key_core.specs.Rules.{IsMet, IsFirstBroken}
+use Rattle.der_core.specs.Rules.{IsMet, IsFirstBroken}
 
 -- each rule is met
 abbrev pub AreMet : {E : Type 0} → List (E → Type 0) → Type 0
