@@ -30,5 +30,4 @@ pub mod OthersCursor
 pub mod Linking
 pub mod Wanted
 pub mod Naming
-pub mod Counts
 pub mod Form

@@ -3,7 +3,7 @@
 ghost use Rattle.std.specs.Prelude.{◌≡◌, ◌≤◌, [], IfErr, OnErr, OnOk, Err, MatchOption};
 ghost use Rattle.cms_types.specs.declared.signer_info.SignerInfo.{SignerInfo};
 ghost use Rattle.authenticode_core.specs.declared.error.AuthenticodeError.TheVariants as errors;
-ghost use Rattle.authenticode_core.specs.Counts.{HasRisen};
+ghost use Rattle.der_core.specs.Counts.{HasRisen};
 ghost use Rattle.authenticode_signature.specs.Pkcs7.{signer_infos_of};
 ghost use Rattle.authenticode_signature.specs.Stamping.{HasFirstSignature, IsLeftByStamp, RefusesStamp, of_timestamp};
 ghost use Rattle.authenticode_signature.specs.Timestamper.{GiveAlike, ModifyAlike};

@@ -2,10 +2,10 @@
 
 ghost use Rattle.std.specs.Prelude.{◌≡◌, ℕ, Ok, Err, IfOk, OnOk, OnErr, IfErr, Result};
 ghost use Rattle.der_core.specs.Rules.{OrMemory};
+ghost use Rattle.der_core.specs.Counts.{GoesOn, HasRisen};
 ghost use Rattle.cms_types.specs.declared.signed_data.SignedData.{SignedData};
 ghost use Rattle.authenticode_core.specs.declared.timestamp_error.TimestampError.{TimestampError};
 ghost use Rattle.authenticode_core.specs.declared.timestamp_error.TimestampError.TheVariants as errors;
-ghost use Rattle.authenticode_core.specs.Counts.{GoesOn, HasRisen};
 ghost use Rattle.authenticode_signature.specs.Timestamper.{GiveAlike, Giving, Modification, ModifyAlike};
 ghost use Rattle.authenticode_signature.specs.declared.pkcs7.Pkcs7.{Pkcs7};
 

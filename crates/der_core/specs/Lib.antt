@@ -21,4 +21,5 @@ pub mod Lending
 pub mod Equality
 pub mod Rules
 pub mod Steps
+pub mod Counts
 pub mod Facts

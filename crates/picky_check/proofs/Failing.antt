@@ -1,6 +1,6 @@
 -- At most one call fails: what follows of the next ones.
 use Rattle.std.proofs.Common.{◌≡◌, ℕ, inl, inr, subst, arith}
-use Rattle.picky_check.specs.Counts.{FailsOnce}
+use Rattle.der_core.specs.Counts.{FailsOnce}
 
 -- what isn't reported didn't fail
 pub stands : {HasFailed : Type 0} {before now : ℕ} → FailsOnce HasFailed before now → (HasFailed → ⊥) → now ≡ before

@@ -1,8 +1,7 @@
 -- A file that is read piece by piece.
 use Rattle.std.proofs.Common.{◌≡◌, ℕ, ◌+◌, ◌<◌, inl, inr, List, [], ◌++◌, length, take, drop, Option, Some, refl, sym, ◌∙◌, ap, arith, append_assoc, append-nil, length-append}
 use Rattle.std.proofs.lemmas.List.{take-append-drop}
-use Rattle.authenticode_core.specs.Counts.{GoesOn, HasRisen}
-use Rattle.picky_check.specs.Counts.{RisesBy}
+use Rattle.der_core.specs.Counts.{GoesOn, HasRisen, RisesBy}
 use Rattle.picky_check.specs.Limits.{longest_file}
 use Rattle.picky_check.specs.Shelf.{Files, file_of, IsPicked, Moves}
 

@@ -1,10 +1,10 @@
 -- What a run does follows from what was found out about the files, and from what the sink took.
 use Rattle.std.proofs.Common.{◌≡◌, ◌≢◌, ◌⊎◌, ℕ, ◌<◌, ◌≤◌, List, length, IsSome, Result, Ok, Err, inl, inr, refl, sym, ◌∙◌, ap, subst, arith}
 use Rattle.std.specs.Prelude.{string_bytes}
+use Rattle.der_core.specs.Counts.{HasRisen}
 use Rattle.picky_check.specs.declared.report.Report.{Report}
 use Rattle.picky_check.specs.declared.stop.Stop.{Stop}
 use Rattle.picky_check.specs.declared.stop.Stop.TheVariants as stop
-use Rattle.authenticode_core.specs.Counts.{HasRisen}
 use Rattle.picky_check.specs.Limits.{HasFiles, HasLongFile}
 use Rattle.picky_check.specs.Shelf.{ShelfState}
 use Rattle.picky_check.specs.Sink.{SinkState, Appends, HasRoom, IsCutShort}

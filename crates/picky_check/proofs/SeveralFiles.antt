@@ -2,10 +2,9 @@
 use Rattle.std.proofs.Common.{◌≡◌, ◌≢◌, ℕ, suc, ◌+◌, List, [], ◌∷◌, ◌++◌, length, Option, Some, None, IsSome, refl, sym, ap, subst, arith}
 use Rattle.std.proofs.lemmas.List.Elements.{All-head, All-tail}
 use Rattle.std.proofs.lemmas.List.Sums.{sum_by-cons}
+use Rattle.der_core.specs.Counts.{GoesOn, HasRisen, RisesBy}
 use Rattle.picky_check.specs.declared.error.FileError.{FileError}
 use Rattle.picky_check.specs.declared.error.FileError.TheVariants as file
-use Rattle.authenticode_core.specs.Counts.{GoesOn, HasRisen}
-use Rattle.picky_check.specs.Counts.{RisesBy}
 use Rattle.picky_check.specs.Limits.{longest_file, IsWholeFile, IsLongFile, IsMissingFile, AreWholeFiles, HasFiles, HasLongFile}
 use Rattle.picky_check.specs.ReadFiles.{AreUnread, FindsLongFile, HandsOut, total_length}
 use Rattle.picky_check.specs.Shelf.{Files, ShelfState, file_of}

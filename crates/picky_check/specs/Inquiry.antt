@@ -1,11 +1,11 @@
 -- What is found out about the files of a job, before anything is written.
 use Rattle.std.specs.Prelude.{◌≡◌, ◌⊎◌, ℕ, List, ◌∷◌, ◌++◌, IsSome, Result, Err, IfOk, IfErr, MatchResult, string_bytes}
 use Rattle.der_core.specs.Rules.{OrMemory}
+use Rattle.der_core.specs.Counts.{HasRisen}
 use Rattle.sig_core.specs.VerdictTable.{IsFirstBadLine}
 use Rattle.picky_check.specs.declared.stop.Stop.{Stop}
 use Rattle.picky_check.specs.declared.stop.Stop.TheVariants.{Usage, BadTable, Shelf, TooLong, Memory}
 use Rattle.picky_check.specs.declared.report.Report.{Report}
-use Rattle.authenticode_core.specs.Counts.{HasRisen}
 use Rattle.picky_check.specs.Limits.{IsLongFile, IsMissingFile, HasFiles, HasLongFile}
 use Rattle.picky_check.specs.Report.{Answer, WantsMemory, report_line, status_of}
 use Rattle.picky_check.specs.Answer.{AnswersRead, FindsBadTable, HasBadTable, IsAnswered}

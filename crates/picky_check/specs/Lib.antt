@@ -1,4 +1,3 @@
-pub mod Counts
 pub mod Shelf
 pub mod Sink
 pub mod Limits

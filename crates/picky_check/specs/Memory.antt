@@ -1,10 +1,10 @@
 -- Shelves and sinks in memory: what they hold and tell.
 use Rattle.std.specs.Prelude.{ℕ, Bool, ◌+◌, ◌==◌, min, List, ◌≡◌, ◌<◌, drop, Option, Some, if◌then◌else◌, bytes_eq, All}
+use Rattle.der_core.specs.Counts.{last_count}
 use Rattle.picky_check.specs.declared.memory.Calls.{Calls}
 use Rattle.picky_check.specs.declared.memory.MemShelf.{MemShelf}
 use Rattle.picky_check.specs.declared.memory.MemSink.{MemSink}
 use Rattle.std.specs.List.{list_any}
-use Rattle.authenticode_core.specs.Counts.{last_count}
 use Rattle.picky_check.specs.Shelf.{Files, ShelfState, file_of}
 use Rattle.picky_check.specs.Sink.{SinkState}
 use Rattle.picky_check.specs.Stored.{latest_file, octets_at}

@@ -1,9 +1,8 @@
 -- What is read of several files, in their order, or why they aren't all read.
 use Rattle.std.specs.Prelude.{◌≡◌, ◌≢◌, ℕ, ◌+◌, ◌*◌, ◌≤◌, List, ◌∷◌, ◌++◌, length, sum_by, IsSome}
+use Rattle.der_core.specs.Counts.{GoesOn, HasRisen, RisesBy}
 use Rattle.picky_check.specs.declared.error.FileError.{FileError}
 use Rattle.picky_check.specs.declared.error.FileError.TheVariants as file
-use Rattle.authenticode_core.specs.Counts.{GoesOn, HasRisen}
-use Rattle.picky_check.specs.Counts.{RisesBy}
 use Rattle.picky_check.specs.Limits.{longest_file, IsLongFile, IsMissingFile, AreWholeFiles, HasFiles, HasLongFile}
 use Rattle.picky_check.specs.Shelf.{ShelfState}
 

@@ -1,7 +1,7 @@
 -- What a run does: its status, its cause, and what the sink then holds.
 use Rattle.std.specs.Prelude.{◌≡◌, ◌≢◌, ◌⊎◌, ◌↔◌, ℕ, ◌≤◌, List, ◌∷◌, ◌++◌, length, IsSome}
+use Rattle.der_core.specs.Counts.{HasRisen}
 use Rattle.picky_check.specs.Statuses as statuses
-use Rattle.authenticode_core.specs.Counts.{HasRisen}
 use Rattle.picky_check.specs.Limits.{IsLongFile, IsMissingFile, HasFiles, HasLongFile}
 use Rattle.picky_check.specs.ReadFiles.{FindsLongFile}
 use Rattle.picky_check.specs.Report.{Answer, WantsMemory, report_line, status_of}

@@ -1,8 +1,7 @@
 //! Whole files from a shelf, and whole reports to a sink.
 
 ghost use Rattle.std.specs.Prelude.{◌≡◌, ◌+◌, ◌≤◌, ◌++◌, ℕ, List, Err, length, map, string_bytes, IfOk, IfErr, OnOk, OnErr, IsOk, IsErr, IsSome, IsErrOf, MatchResult};
-ghost use Rattle.authenticode_core.specs.Counts.{GoesOn, HasRisen};
-ghost use Rattle.picky_check.specs.Counts.{FailsOnce};
+ghost use Rattle.der_core.specs.Counts.{GoesOn, HasRisen, FailsOnce};
 ghost use Rattle.picky_check.specs.Jobs.{contents_held, names_held};
 ghost use Rattle.picky_check.specs.Limits.{longest_file, IsWholeFile, IsLongFile, IsMissingFile};
 ghost use Rattle.picky_check.specs.Shelf.{file_of};

@@ -1,10 +1,10 @@
 //! What is found out about the files that the words name: a report, or why there is none.
 
 ghost use Rattle.std.specs.Prelude.{◌≡◌, ◌⊎◌, ◌∷◌, ℕ, Err, length, map, string_bytes, IfOk, IfErr, List};
+ghost use Rattle.der_core.specs.Counts.{FailsOnce};
 ghost use Rattle.sig_core.specs.declared.verdict_row.VerdictRow.{VerdictRow};
 ghost use Rattle.sig_core.specs.VerdictTable.{IsTable, IsFirstBadLine, verdict_of};
 ghost use Rattle.picky_check.specs.Answer.{IsAnswerTo, IsCertificateAnswer, IsSignatureAnswer, table_in};
-ghost use Rattle.picky_check.specs.Counts.{FailsOnce};
 ghost use Rattle.picky_check.specs.Inquiry.{IsReportOf, GivesReport, GivesStop, StopsForText, IsInquiry, Inquires, Reports};
 ghost use Rattle.picky_check.specs.Jobs.{contents_held, job_held};
 ghost use Rattle.picky_check.specs.ReadFiles.{HandsOutAtMost};

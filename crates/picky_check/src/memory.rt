@@ -3,8 +3,7 @@
 
 ghost use Rattle.std.specs.Prelude.{◌≡◌, ◌<◌, ◌≤◌, ◌+◌, ℕ, List, [], ◌∷◌, ◌++◌, length, Some, None, IfOk, OnOk, OnErr, IsOk, IsErr, IsSome, true, false, vec_capacity, drop, is_err, min, ◌==◌};
 ghost use Rattle.std.specs.List.{list_any};
-ghost use Rattle.authenticode_core.specs.Counts.{last_count, GoesOn, HasRisen};
-ghost use Rattle.picky_check.specs.Counts.{FailsOnce, RisesBy};
+ghost use Rattle.der_core.specs.Counts.{last_count, GoesOn, HasRisen, FailsOnce, RisesBy};
 
 use crate::stored::{StoredFile, after, find_latest, octets_at};
 use crate::{Failed, Shelf, Sink};

@@ -2,8 +2,7 @@
 
 ghost use Rattle.std.specs.Prelude.{◌≡◌, ◌⊎◌, length, map, string_bytes};
 ghost use Rattle.std.specs.IoError.{error_kind};
-ghost use Rattle.authenticode_core.specs.Counts.{HasRisen};
-ghost use Rattle.picky_check.specs.Counts.{FailsOnce};
+ghost use Rattle.der_core.specs.Counts.{HasRisen, FailsOnce};
 ghost use Rattle.picky_check.specs.ReadFiles.{HandsOutAtMost};
 ghost use Rattle.picky_check.specs.Run.{IsRun};
 ghost use Rattle.picky_check.specs.Sink.{Appends, IsCutShort};

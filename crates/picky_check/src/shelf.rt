@@ -1,8 +1,7 @@
 //! Where files are read from.
 
 ghost use Rattle.std.specs.Prelude.{◌≡◌, ◌≤◌, ℕ, List, Some, length, IfOk, OnOk, OnErr, IsOk, IsErr, IsSome};
-ghost use Rattle.authenticode_core.specs.Counts.{GoesOn, HasRisen};
-ghost use Rattle.picky_check.specs.Counts.{FailsOnce, RisesBy};
+ghost use Rattle.der_core.specs.Counts.{GoesOn, HasRisen, FailsOnce, RisesBy};
 ghost use Rattle.picky_check.specs.ErrorText.{failed_text};
 ghost use Rattle.picky_check.specs.Shelf.{ShelfState, file_of, IsPicked, Moves};
 

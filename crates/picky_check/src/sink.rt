@@ -1,8 +1,7 @@
 //! Where a report is written to.
 
 ghost use Rattle.std.specs.Prelude.{◌≡◌, ◌<◌, ◌≤◌, length, take, IfOk, OnErr, IsErr};
-ghost use Rattle.authenticode_core.specs.Counts.{GoesOn, HasRisen};
-ghost use Rattle.picky_check.specs.Counts.{FailsOnce};
+ghost use Rattle.der_core.specs.Counts.{GoesOn, HasRisen, FailsOnce};
 ghost use Rattle.picky_check.specs.Sink.{SinkState, Appends, Keeps, Lowers, IsFull};
 
 use crate::Failed;

@@ -1,7 +1,7 @@
 //! A shelf over readers and a sink over a writer. They tell what these know, and count each error.
 
 ghost use Rattle.std.specs.Prelude.{◌≡◌, ◌≤◌, ◌+◌, None, Option, option_map, IfOk};
-ghost use Rattle.authenticode_core.specs.Counts.{last_count, GoesOn, HasRisen};
+ghost use Rattle.der_core.specs.Counts.{last_count, GoesOn, HasRisen};
 ghost use Rattle.picky_check.specs.Opened.{IsOpened, told_rest};
 ghost use Rattle.picky_check.specs.Shelf.{Files};
 

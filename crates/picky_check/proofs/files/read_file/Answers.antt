@@ -1,7 +1,7 @@
 use Rattle.std.proofs.Common.{◌≡◌, Err, ◌<◌, length, drop, ◌+◌, ℕ, subst, ap, ◌∙◌, arith}
 use Rattle.std.proofs.lemmas.Result.{err_from_is_err_and}
 use Rattle.std.proofs.lemmas.List.{take-append-le, length-take, length-take-le, length-append, length-drop, length-replicate}
-use Rattle.picky_check.specs.Counts.{RisesBy}
+use Rattle.der_core.specs.Counts.{RisesBy}
 use Rattle.picky_check.proofs.Failing.{failed_as, failed_then, none_failed, stands}
 use Rattle.picky_check.proofs.Reading.{reads_nothing, reads_more, reads_all, reads_too_much, rises_more, rises_none, goes_further, has_risen_since}
 use Rattle.picky_check.proofs.files.read_file.Goals as goal

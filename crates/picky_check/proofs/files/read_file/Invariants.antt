@@ -1,5 +1,5 @@
 use Rattle.std.proofs.Common.{◌≡◌, ◌+◌, ◌-◌, ◌≤◌, length, IsSome}
-use Rattle.authenticode_core.specs.Counts.{GoesOn}
+use Rattle.der_core.specs.Counts.{GoesOn}
 use Rattle.picky_check.specs.Limits.{longest_file}
 use Rattle.picky_check.specs.ReadFiles.{HandsOut}
 use Rattle.picky_check.specs.Shelf.{file_of}

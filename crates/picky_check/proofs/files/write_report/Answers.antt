@@ -1,6 +1,6 @@
 use Rattle.std.proofs.Common.{◌≡◌, ℕ, length, refl, subst, sym, ap, ◌∙◌, arith}
 use Rattle.std.proofs.lemmas.Result.{err_from_is_err_and}
-use Rattle.authenticode_core.specs.Counts.{HasRisen}
+use Rattle.der_core.specs.Counts.{HasRisen}
 use Rattle.picky_check.specs.Sink.{Lowers}
 use Rattle.picky_check.proofs.Failing.{failed_as, failed_then, none_failed, stands}
 use Rattle.picky_check.proofs.Appending.{appends_nothing, appends_rest, appends_kept, lowers_nothing, lowers_more, used_up}
