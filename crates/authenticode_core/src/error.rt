@@ -10,9 +10,8 @@ ghost use Rattle.authenticode_core.specs.declared.error.AuthenticodeError.TheVar
 
 use crate::timestamp_error::TimestampError;
 use asn1_types::{CharSetError, IntegerAsn1};
-use der_core::{DerError, Octets};
+use der_core::{DerError, Octets, write_hexadecimal};
 use key_core::SignatureError;
-use name_types::write_hexadecimal;
 use names_core::DirectoryName;
 use sig_core::{UnsupportedAlgorithmError, UnsupportedHashAlgorithmError};
 use std::alloc::{AllocError, AllocFailed, Global};

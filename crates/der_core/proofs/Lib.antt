@@ -18,3 +18,4 @@ pub mod Several
 pub mod Values
 pub mod RuleLists
 pub mod TakenSteps
+pub mod Digits

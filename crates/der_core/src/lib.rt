@@ -9,6 +9,7 @@ mod elem;
 mod error;
 mod fault;
 mod header;
+mod hexadecimal;
 mod kids;
 mod laws;
 mod leaves;
@@ -32,6 +33,7 @@ pub use cursor::Cursor;
 pub use elem::Elem;
 pub use error::DerError;
 pub use fault::{DerFault, Malformed};
+pub use hexadecimal::write_hexadecimal;
 pub use kids::{Kids, three_kids, two_kids};
 pub use laws::{
     no_encoding_begins_another, one_first_fault, read_back, tests_of_a_head,

@@ -1,5 +1,4 @@
 pub mod AttributeTypes
-pub mod Digits
 pub mod Joined
 pub mod Texts
 pub mod TypeDescriptors

@@ -10,12 +10,12 @@ ghost use Rattle.name_types.specs.NameText.{attribute_text, name_text, set_text,
 use crate::attribute::AttributeTypeAndValue;
 use crate::attribute_value::AttributeValue;
 use crate::email::is_email_address;
-use crate::hexadecimal::write_hexadecimal;
 use crate::name::Name;
 use crate::name_attr::NameAttr;
 use crate::other_value::OtherValue;
 use crate::relative_name::RelativeDistinguishedName;
 use asn1_types::ObjectIdentifier;
+use der_core::write_hexadecimal;
 use std::fmt::{self, Display};
 
 impl fmt::Display for OtherValue {

@@ -8,9 +8,8 @@ ghost use Rattle.x509_core.specs.CertRefusals.{unread, unwritten};
 ghost use Rattle.x509_core.specs.declared.error.CertError.TheVariants.{Memory};
 
 use crate::csr_error::CsrError;
-use der_core::{DerError, Octets};
+use der_core::{DerError, Octets, write_hexadecimal};
 use key_core::{Element, KeyError, KeyIdGenError, SignatureError};
-use name_types::write_hexadecimal;
 use names_core::{DirectoryName, UtcDate};
 use std::alloc::{AllocError, AllocFailed};
 use std::fmt;

@@ -1,7 +1,7 @@
 use Rattle.std.proofs.Common.{take}
 use Rattle.std.specs.Fmt.{HasWritten, IsPlainFormatter}
 use Rattle.hex.specs.Hex.{encode_lower}
-use Rattle.name_types.proofs.hexadecimal.write_hexadecimal.Given as goal
+use Rattle.der_core.proofs.hexadecimal.write_hexadecimal.Given as goal
 
 -- the digits of the octets so far have been written
 abbrev pub invariant-loop-octet : goal.invariant-loop-octet

@@ -1,9 +1,9 @@
 use Rattle.std.proofs.Common.{arith, subst, rules, slice_index}
 use Rattle.std.proofs.Output.{has_written_append, has_written_of_eq}
 use Rattle.std.specs.Fmt.{DisplaysOnOk}
+use Rattle.der_core.proofs.Digits.{octet_written, one_more_octet}
 use Rattle.hex.specs.Hex.{encode_with}
-use Rattle.name_types.proofs.Digits.{octet_written, one_more_octet}
-use Rattle.name_types.proofs.hexadecimal.write_hexadecimal.Goals as goal
+use Rattle.der_core.proofs.hexadecimal.write_hexadecimal.Goals as goal
 
 pub loop-octet-init : goal.loop-octet-init
 unfolding encode_with
