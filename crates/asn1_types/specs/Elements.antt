@@ -9,6 +9,8 @@ use Rattle.asn1_types.specs.declared.bit_string.BitString.{BitString}
 use Rattle.asn1_types.specs.declared.ia5_string.Ia5String.{Ia5String}
 use Rattle.asn1_types.specs.declared.utc_time.UTCTime.{UTCTime}
 use Rattle.asn1_types.specs.declared.generalized_time.GeneralizedTime.{GeneralizedTime}
+use Rattle.asn1_types.specs.declared.time.Time.{Time}
+use Rattle.asn1_types.specs.declared.time.Time.TheVariants as times
 
 -- an INTEGER of these contents octets (X.690 8.3)
 abbrev pub integer_of : List ℕ → DerElement
@@ -36,8 +38,13 @@ ia5_string value = Primitive 0x16 (ia5_contents value)
 
 -- UTCTime (X.690 11.8)
 abbrev pub utc_time : UTCTime → DerElement
-utc_time time = Primitive 0x17 (utc_contents time)
+utc_time moment = Primitive 0x17 (utc_contents moment)
 
 -- GeneralizedTime (X.690 11.7)
 abbrev pub generalized_time : GeneralizedTime → DerElement
-generalized_time time = Primitive 0x18 (generalized_contents time)
+generalized_time moment = Primitive 0x18 (generalized_contents moment)
+
+-- Time ::= CHOICE { utcTime UTCTime, generalTime GeneralizedTime } (RFC 5280 4.1)
+abbrev pub time : Time → DerElement
+time (times.Utc moment) = utc_time moment
+time (times.Generalized moment) = generalized_time moment

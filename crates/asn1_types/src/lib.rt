@@ -12,6 +12,7 @@ mod ia5_string;
 mod integer;
 mod oid;
 pub mod oids;
+mod time;
 mod time_laws;
 mod utc_time;
 
@@ -21,5 +22,6 @@ pub use generalized_time::GeneralizedTime;
 pub use ia5_string::Ia5String;
 pub use integer::{IntegerAsn1, one_shortest_integer};
 pub use oid::{LentIdentifier, ObjectIdentifier, text_and_contents_agree};
+pub use time::Time;
 pub use time_laws::times_are_their_fields;
 pub use utc_time::UTCTime;

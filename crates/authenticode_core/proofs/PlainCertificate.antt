@@ -7,11 +7,11 @@ use Rattle.asn1_types.specs.Calendar.{IsMoment, IsUtcYear}
 use Rattle.asn1_types.specs.Time.{utc_contents}
 use Rattle.asn1_types.specs.declared.oids.TheConstants as identifiers
 use Rattle.asn1_types.specs.declared.utc_time.UTCTime.{UTCTime}
+use Rattle.asn1_types.specs.declared.time.Time.TheVariants as times
 use Rattle.der_core.specs.DerElement.{Primitive}
 use Rattle.der_core.specs.Elements.{sequence, bit_octets, null}
 use Rattle.der_core.specs.Encoding.{encoding, IsDer}
 use Rattle.der_core.specs.Structure.{Fits}
-use Rattle.extension_types.specs.declared.time.Time.TheVariants as times
 use Rattle.key_types.specs.PublicKeyInfo.{public_key_info as written_info}
 use Rattle.key_types.specs.RsaPublicKey.{rsa_public_key}
 use Rattle.key_types.specs.declared.key_info.SubjectPublicKeyInfo.{SubjectPublicKeyInfo}

@@ -1,5 +1,4 @@
 -- Lemmas that facts of values rest on. Nothing in this folder needs reading: no public clause cites it.
-pub mod Times
 pub mod Constraints
 pub mod Usages
 pub mod Issuers

@@ -1,4 +1,3 @@
-pub mod Validity
 pub mod Boolean
 pub mod BasicConstraints
 pub mod KeyUsage

@@ -1,4 +1,4 @@
-//! Values in certificates (RFC 5280): validities, and what extensions hold.
+//! What extensions of certificates hold (RFC 5280 4.2), as values.
 #![tactic(auto)]
 
 mod authority_key_fields;
@@ -7,12 +7,8 @@ mod basic_constraints;
 mod boolean;
 mod extended_key_usage;
 mod key_usage;
-mod time;
-mod validity;
 
 pub use authority_key_identifier::AuthorityKeyIdentifier;
 pub use basic_constraints::{BasicConstraints, small_integer_at};
 pub use extended_key_usage::{ExtendedKeyUsage, OidList};
 pub use key_usage::KeyUsage;
-pub use time::Time;
-pub use validity::Validity;

@@ -3,8 +3,8 @@ use Rattle.std.specs.Prelude.{◌≡◌, ◌↔◌, ⊤, ℕ, List}
 use Rattle.asn1_types.specs.Calendar.{IsUtcYear}
 use Rattle.asn1_types.specs.Time.{generalized_fields, utc_fields, year_of}
 use Rattle.asn1_types.specs.declared.generalized_time.GeneralizedTime.{GeneralizedTime}
-use Rattle.extension_types.specs.declared.time.Time.{Time}
-use Rattle.extension_types.specs.declared.time.Time.TheVariants as times
+use Rattle.asn1_types.specs.declared.time.Time.{Time}
+use Rattle.asn1_types.specs.declared.time.Time.TheVariants as times
 
 -- the fields of a time in either form
 abbrev pub time_fields : Time → List ℕ

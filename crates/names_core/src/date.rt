@@ -6,8 +6,7 @@ ghost use Rattle.asn1_types.specs.Calendar.{IsCalendarDate, IsMoment, IsUtcYear}
 ghost use Rattle.asn1_types.specs.Time.{generalized_fields, time_text, utc_fields, year_of};
 ghost use Rattle.names_core.specs.UtcDate.{time_fields, IsTimeOf};
 
-use asn1_types::{GeneralizedTime, UTCTime};
-use extension_types::Time;
+use asn1_types::{GeneralizedTime, Time, UTCTime};
 use std::fmt;
 use std::marker::Model;
 use std::ops::Deref;

@@ -5,11 +5,11 @@ use Rattle.std.specs.Cmp.Lexicographic.{slice_cmp}
 use Rattle.std.specs.Ordering.{nat_cmp}
 use Rattle.std.specs.declared.cmp.Ordering.TheVariants.{Less}
 use Rattle.asn1_types.specs.Time.{generalized_fields}
+use Rattle.asn1_types.specs.Elements.{time as time_element}
 use Rattle.asn1_types.specs.declared.generalized_time.GeneralizedTime.{GeneralizedTime}
+use Rattle.asn1_types.specs.declared.time.Time.{Time}
 use Rattle.der_core.specs.DerElement.{DerElement}
 use Rattle.der_core.specs.Rules.{Rule}
-use Rattle.extension_types.specs.Validity.{time as time_element}
-use Rattle.extension_types.specs.declared.time.Time.{Time}
 use Rattle.names_core.specs.UtcDate.{time_fields}
 use Rattle.x509_types.specs.CertificateElements.{CertificateElements}
 use Rattle.x509_types.specs.CertificateFields.{not_before_of, not_after_of}

@@ -28,9 +28,9 @@ use Rattle.x509_core.specs.Link.{IsSignedBy}
 use Rattle.x509_core.specs.SaidValues.{NamesKey}
 use Rattle.x509_core.specs.declared.error.CertError.{CertError}
 use Rattle.asn1_types.specs.declared.integer.IntegerAsn1.{IntegerAsn1}
-use Rattle.extension_types.specs.declared.validity.Validity.{Validity}
 use Rattle.key_types.specs.declared.algorithm.AlgorithmIdentifier.{AlgorithmIdentifier}
 use Rattle.x509_types.specs.declared.version.Version.TheVariants as versions
+use Rattle.x509_types.specs.declared.validity.Validity.{Validity}
 use Rattle.x509_core.proofs.SignedParts.{signed_by, signed_with}
 use Rattle.x509_core.specs.declared.error.CertError.TheVariants as errors
 use Rattle.x509_issuing.specs.BuiltCertificate.{authority_of, IsBuiltBy, IsBuiltFor, IsIdentified, IsTbsBy, IsTbsFor, IsValidityOf, NameSets}

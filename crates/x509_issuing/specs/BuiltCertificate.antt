@@ -7,7 +7,6 @@ use Rattle.asn1_types.specs.declared.integer.IntegerAsn1.{IntegerAsn1}
 use Rattle.asn1_types.specs.declared.oids.TheConstants.{CE_SUBJECT_KEY_IDENTIFIER}
 use Rattle.key_types.specs.declared.algorithm.AlgorithmIdentifier.{AlgorithmIdentifier}
 use Rattle.key_types.specs.declared.key_info.SubjectPublicKeyInfo.{SubjectPublicKeyInfo}
-use Rattle.extension_types.specs.declared.validity.Validity.{Validity}
 use Rattle.key_core.specs.KeyIdentifier.{IsKeyIdentifier}
 use Rattle.key_core.specs.Keys.{container_of, info_of, point_beside}
 use Rattle.key_core.specs.PublicHalf.{IsPublicHalf}
@@ -22,6 +21,7 @@ use Rattle.x509_types.specs.declared.extension.Extension.{Extension}
 use Rattle.x509_types.specs.declared.extension_view.ExtensionView.TheVariants as views
 use Rattle.x509_types.specs.declared.tbs_certificate.TbsCertificate.{TbsCertificate}
 use Rattle.x509_types.specs.declared.version.Version.TheVariants as versions
+use Rattle.x509_types.specs.declared.validity.Validity.{Validity}
 use Rattle.x509_core.specs.FirstValue.{HasFirst}
 use Rattle.x509_core.specs.SaidValues.{NamesKey}
 use Rattle.x509_issuing.specs.MadeExtensions.{AreBuilt}

@@ -2,15 +2,13 @@
 use Rattle.std.proofs.Common.{◌≡◌, ◌≢◌, ℕ, List, [], ◌∷◌, Some, refl, sym, ◌∙◌, arith}
 use Rattle.der_core.specs.DerElement.{DerElement, Primitive}
 use Rattle.der_core.specs.Elements.{sequence}
-use Rattle.asn1_types.specs.Elements.{utc_time, generalized_time}
+use Rattle.asn1_types.specs.Elements.{utc_time, generalized_time, time}
 use Rattle.asn1_types.specs.Time.{utc_contents, generalized_contents}
+use Rattle.asn1_types.specs.Facts.Elements.{unlike_tags}
 use Rattle.asn1_types.specs.declared.utc_time.UTCTime.{UTCTime}
 use Rattle.asn1_types.specs.declared.generalized_time.GeneralizedTime.{GeneralizedTime}
-use Rattle.extension_types.specs.Validity.{time, validity}
-use Rattle.extension_types.specs.Facts.Times.{unlike_tags}
-use Rattle.extension_types.specs.declared.time.Time.{Time}
-use Rattle.extension_types.specs.declared.time.Time.TheVariants as forms
-use Rattle.extension_types.specs.declared.validity.Validity.{Validity}
+use Rattle.asn1_types.specs.declared.time.Time.{Time}
+use Rattle.asn1_types.specs.declared.time.Time.TheVariants as forms
 use Rattle.key_types.specs.AlgorithmIdentifier.{algorithm_identifier}
 use Rattle.key_types.specs.PublicKeyInfo.{subject_public_key, public_key_info}
 use Rattle.key_types.specs.declared.key_info.SubjectPublicKeyInfo.{SubjectPublicKeyInfo}
@@ -18,6 +16,8 @@ use Rattle.key_types.specs.declared.subject_key.SubjectKey.{SubjectKey}
 use Rattle.key_types.specs.declared.subject_key.SubjectKey.TheVariants as keys
 use Rattle.x509_types.specs.CertificateFields.{bits_of}
 use Rattle.x509_types.specs.InnerFields.{key_payload}
+use Rattle.x509_types.specs.Validity.{validity}
+use Rattle.x509_types.specs.declared.validity.Validity.{Validity}
 
 same_contents : (tag : ℕ) (x y : List ℕ) → Primitive tag x ≡ Primitive tag y → x ≡ y
 same_contents tag x y e = cc

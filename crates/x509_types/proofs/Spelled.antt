@@ -8,8 +8,6 @@ use Rattle.der_core.specs.declared.error.DerError.{DerError}
 use Rattle.asn1_types.specs.Values.{integer_contents}
 use Rattle.asn1_types.specs.declared.integer.IntegerAsn1.{IntegerAsn1}
 use Rattle.name_types.specs.Name.{IsName}
-use Rattle.extension_types.specs.Validity.{validity}
-use Rattle.extension_types.specs.declared.validity.Validity.{Validity}
 use Rattle.key_types.specs.AlgorithmIdentifier.{algorithm_identifier}
 use Rattle.key_types.specs.PublicKeyInfo.{IsPublicKeyInfo}
 use Rattle.key_types.specs.declared.algorithm.AlgorithmIdentifier.{AlgorithmIdentifier}
@@ -18,10 +16,12 @@ use Rattle.x509_types.specs.TbsElements.{TbsElements, tbs_of}
 use Rattle.x509_types.specs.TbsCertificate.{IsVersion, IsExtensions, AreTbsFields, IsTbsCertificate}
 use Rattle.x509_types.specs.TbsParts.{IsIssuedBy, IsIssuedTo, AreAdded, issued_by, issued_to, added_fields, tbs_of_parts}
 use Rattle.x509_types.specs.Facts.TbsElements.{same_elements}
+use Rattle.x509_types.specs.Validity.{validity}
 use Rattle.x509_types.specs.declared.tbs_certificate.TbsCertificate.{TbsCertificate}
 use Rattle.x509_types.specs.declared.tbs_parts.IssuedBy.{IssuedBy}
 use Rattle.x509_types.specs.declared.tbs_parts.IssuedTo.{IssuedTo}
 use Rattle.x509_types.specs.declared.tbs_parts.AddedFields.{AddedFields}
+use Rattle.x509_types.specs.declared.validity.Validity.{Validity}
 
 -- the elements of the fields spell the value that the element around them spells
 pub by_fields : (element : DerElement) (f : TbsElements) (tbs : TbsCertificate) → element ≡ tbs_of f → IsTbsCertificate element tbs → AreTbsFields f tbs

@@ -4,6 +4,7 @@ pub mod ExtensionViews
 pub mod Extensions
 pub mod ToldExtensions
 pub mod Versions
+pub mod Validities
 pub mod TbsElements
 pub mod TbsCertificates
 pub mod Certificates

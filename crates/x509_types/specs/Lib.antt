@@ -4,6 +4,7 @@ pub mod ExtensionFields
 pub mod Extension
 pub mod ExtensionSpellings
 pub mod Version
+pub mod Validity
 pub mod TbsElements
 pub mod LentTbs
 pub mod TbsCertificate

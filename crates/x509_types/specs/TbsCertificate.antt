@@ -6,7 +6,6 @@ use Rattle.der_core.specs.Encoding.{encoding}
 use Rattle.der_core.specs.Each.{IsListOf, list_element}
 use Rattle.asn1_types.specs.Values.{integer_contents}
 use Rattle.name_types.specs.Name.{name, IsName}
-use Rattle.extension_types.specs.Validity.{validity}
 use Rattle.key_types.specs.AlgorithmIdentifier.{algorithm_identifier}
 use Rattle.key_types.specs.PublicKeyInfo.{public_key_info, inner_key, IsPublicKeyInfo}
 use Rattle.x509_types.specs.Version.{version}
@@ -14,6 +13,7 @@ use Rattle.x509_types.specs.ExtensionView.{inner_value}
 use Rattle.x509_types.specs.Extension.{extension, value_kinds, IsExtension}
 use Rattle.der_core.specs.Optional.{SpellsOption, inner_option}
 use Rattle.x509_types.specs.TbsElements.{TbsElements, tbs_of}
+use Rattle.x509_types.specs.Validity.{validity}
 use Rattle.x509_types.specs.declared.extension.Extension.{Extension}
 use Rattle.x509_types.specs.declared.tbs_certificate.TbsCertificate.{TbsCertificate}
 use Rattle.x509_types.specs.declared.version.Version.{Version}

@@ -3,12 +3,12 @@
 use Rattle.std.specs.Prelude.{◌≡◌}
 use Rattle.asn1_types.specs.Values.{integer_contents}
 use Rattle.name_types.specs.Name.{IsName}
-use Rattle.extension_types.specs.Validity.{validity}
 use Rattle.key_types.specs.AlgorithmIdentifier.{algorithm_identifier}
 use Rattle.key_types.specs.PublicKeyInfo.{IsPublicKeyInfo}
 use Rattle.der_core.specs.Optional.{SpellsOption}
 use Rattle.x509_types.specs.TbsElements.{TbsElements}
 use Rattle.x509_types.specs.TbsCertificate.{IsVersion, IsExtensions}
+use Rattle.x509_types.specs.Validity.{validity}
 use Rattle.x509_types.specs.declared.tbs_certificate.TbsCertificate.{TbsCertificate}
 use Rattle.x509_types.specs.declared.tbs_parts.IssuedBy.{IssuedBy}
 use Rattle.x509_types.specs.declared.tbs_parts.IssuedTo.{IssuedTo}

@@ -19,9 +19,9 @@ pub struct CertView<'a> {
 impl<'a> CertView<'a> {
     ghost use Rattle.std.specs.Prelude.{◌≡◌, Some, MatchOption};
     ghost use Rattle.std.specs.Option.{option_copied, option_map};
+    ghost use Rattle.asn1_types.specs.Elements.{time};
     ghost use Rattle.der_core.specs.Encoding.{encoding};
     ghost use Rattle.der_core.specs.Lent.{at_option};
-    ghost use Rattle.extension_types.specs.Validity.{time};
     ghost use Rattle.x509_types.specs.Certificate.{IsCertificate};
     ghost use Rattle.x509_types.specs.CertificateFields.{not_before_of, not_after_of, key_algorithm_of, key_octets_of};
     ghost use Rattle.x509_types.specs.CertificateView.{IsCertView, IsKnownView, view_elements};

@@ -1,17 +1,17 @@
 //! The times and the key of a certificate, where their octets lie.
 
 ghost use Rattle.std.specs.Prelude.{◌≡◌, ◌≢◌, Some, MatchOption};
-ghost use Rattle.extension_types.specs.Validity.{time, validity};
-ghost use Rattle.extension_types.specs.declared.time.Time.{Time};
-ghost use Rattle.extension_types.specs.declared.validity.Validity.{Validity};
+ghost use Rattle.asn1_types.specs.Elements.{time};
+ghost use Rattle.asn1_types.specs.declared.time.Time.{Time};
 ghost use Rattle.key_types.specs.PublicKeyInfo.{IsPublicKeyInfo};
 ghost use Rattle.key_types.specs.declared.key_info.SubjectPublicKeyInfo.{SubjectPublicKeyInfo};
 ghost use Rattle.x509_types.specs.CertificateFields.{kid, bits_of};
+ghost use Rattle.x509_types.specs.Validity.{validity};
+ghost use Rattle.x509_types.specs.declared.validity.Validity.{Validity};
 
-use asn1_types::{GeneralizedTime, UTCTime};
+use asn1_types::{GeneralizedTime, Time, UTCTime};
 use der_core::tag::{BIT_STRING, GENERALIZED_TIME, SEQUENCE, UTC_TIME};
 use der_core::{Elem, leaf_at, two_kids};
-use extension_types::Time;
 
 /// The first time of a validity.
 pub(crate) fn first_time(elem: Elem<'_>) -> Option<Time>

@@ -20,9 +20,11 @@ mod purposes;
 mod tbs_certificate;
 mod tbs_fields;
 mod tbs_parts;
+mod validity;
 mod version;
 mod view_extensions;
 
+pub use asn1_types::Time;
 pub use attribute::{Attribute, AttributeList};
 pub use attribute_kind::AttributeKind;
 pub use attribute_values::AttributeValues;
@@ -31,7 +33,7 @@ pub use certificate::Certificate;
 pub use extension::{Extension, Extensions};
 pub use extension_kind::ExtensionKind;
 pub use extension_types::{
-    AuthorityKeyIdentifier, BasicConstraints, ExtendedKeyUsage, KeyUsage, OidList, Time, Validity,
+    AuthorityKeyIdentifier, BasicConstraints, ExtendedKeyUsage, KeyUsage, OidList,
 };
 pub use extension_view::ExtensionView;
 pub use key_types::{AlgorithmIdentifier, KeyKind, RsaPublicKey, SubjectKey, SubjectPublicKeyInfo};
@@ -46,4 +48,5 @@ pub use name_types::{
     email_address_oid, list_has_each_attribute_type,
 };
 pub use tbs_certificate::TbsCertificate;
+pub use validity::Validity;
 pub use version::Version;

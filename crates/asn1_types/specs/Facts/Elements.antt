@@ -1,20 +1,23 @@
 -- Unlike values have unlike elements, each well formed.
 use Rattle.std.proofs.Common.{◌≡◌, ℕ, List, [], refl, ap, subst, arith}
 use Rattle.std.proofs.Props.{props}
-use Rattle.der_core.specs.DerElement.{Primitive}
+use Rattle.der_core.specs.DerElement.{DerElement, Primitive, tag_of}
+use Rattle.der_core.specs.Encoding.{IsWellFormed}
 use Rattle.der_core.specs.Structure.{IsGrammar}
 use Rattle.der_core.specs.Facts.Grammars.{printed}
 use Rattle.asn1_types.specs.ObjectIdentifier.{IsIdentifier}
 use Rattle.asn1_types.specs.Integer.{IsInteger}
 use Rattle.asn1_types.specs.BitString.{IsBitString}
 use Rattle.asn1_types.specs.Ia5String.{IsIa5}
-use Rattle.asn1_types.specs.Elements.{integer, bit_string, object_identifier, ia5_string, utc_time, generalized_time}
+use Rattle.asn1_types.specs.Elements.{integer, bit_string, object_identifier, ia5_string, utc_time, generalized_time, time}
 use Rattle.asn1_types.specs.Facts.OneIdentifier.{IsIdentifier-prop}
 use Rattle.asn1_types.specs.Facts.Times.{utc_once, generalized_once}
 use Rattle.asn1_types.specs.declared.oid.ObjectIdentifier.{ObjectIdentifier}
 use Rattle.asn1_types.specs.declared.integer.IntegerAsn1.{IntegerAsn1}
 use Rattle.asn1_types.specs.declared.bit_string.BitString.{BitString}
 use Rattle.asn1_types.specs.declared.ia5_string.Ia5String.{Ia5String}
+use Rattle.asn1_types.specs.declared.time.Time.{Time}
+use Rattle.asn1_types.specs.declared.time.Time.TheVariants as forms
 
 -- ---- values with a fact are the same where what the fact is of is
 
@@ -83,3 +86,22 @@ utc_times = printed utc_time (λ a b e. utc_once a b (leaf_once 0x17 _ _ e)) (λ
 
 pub generalized_times : IsGrammar (λ element value. element ≡ generalized_time value) generalized_time (λ value. [])
 generalized_times = printed generalized_time (λ a b e. generalized_once a b (leaf_once 0x18 _ _ e)) (λ value. ((omega arith, omega arith, omega arith), refl))
+
+-- ---- a time in one of its two forms
+
+-- elements of unlike tags are unlike
+pub unlike_tags : (x y : DerElement) → (tag_of x ≡ tag_of y → ⊥) → x ≡ y → ⊥
+unlike_tags x y apart e = apart (ap tag_of e)
+
+pub times_once : (a b : Time) → time a ≡ time b → a ≡ b
+times_once (forms.Utc x) (forms.Utc y) e = ap forms.Utc (utc_times.once (utc_time x) x y refl e)
+times_once (forms.Generalized x) (forms.Generalized y) e = ap forms.Generalized (generalized_times.once (generalized_time x) x y refl e)
+times_once (forms.Utc x) (forms.Generalized y) e = absurd (unlike_tags (utc_time x) (generalized_time y) (λ t. omega (arith, t)) e)
+times_once (forms.Generalized x) (forms.Utc y) e = absurd (unlike_tags (generalized_time x) (utc_time y) (λ t. omega (arith, t)) e)
+
+pub times_formed : (a : Time) → IsWellFormed (time a)
+times_formed (forms.Utc x) = utc_times.formed x
+times_formed (forms.Generalized x) = generalized_times.formed x
+
+pub times : IsGrammar (λ element value. element ≡ time value) time (λ value. [])
+times = printed time times_once times_formed

@@ -26,9 +26,9 @@ use Rattle.x509_types.specs.TbsCertificate.{IsVersion, IsExtensions, extensions,
 use Rattle.x509_types.specs.Facts.Extensions.{all_extensions}
 use Rattle.x509_types.specs.Facts.ToldExtensions.{options_told, kinds_and_octets}
 use Rattle.der_core.specs.Facts.Optional.{option_once, option_bounded, option_spelled, options_once, option_formed}
-use Rattle.extension_types.specs.Facts.Times.{validities, validities_once}
 use Rattle.x509_types.specs.Facts.TbsElements.{same_elements, elements_formed}
 use Rattle.x509_types.specs.Facts.Versions.{versions, versions_once}
+use Rattle.x509_types.specs.Facts.Validities.{validities, validities_once}
 use Rattle.x509_types.specs.declared.extension.Extension.{Extension}
 use Rattle.x509_types.specs.declared.tbs_certificate.TbsCertificate.{TbsCertificate}
 use Rattle.x509_types.specs.declared.version.Version.{Version}

@@ -6,11 +6,11 @@ use Rattle.der_core.specs.Encoding.{encoding}
 use Rattle.der_core.specs.Facts.Equality.{octets_decide, same_whole}
 use Rattle.asn1_types.specs.Time.{generalized_fields, utc_fields}
 use Rattle.asn1_types.specs.Facts.Times.{same_generalized, same_utc}
-use Rattle.extension_types.specs.Validity.{time}
-use Rattle.extension_types.specs.Facts.Times.{times, times_once}
-use Rattle.extension_types.specs.declared.time.Time.{Time}
-use Rattle.extension_types.specs.declared.time.Time.TheVariants as forms
-use Rattle.extension_types.proofs.time.TimePartialEq.eq.Goals as goal
+use Rattle.asn1_types.specs.Elements.{time}
+use Rattle.asn1_types.specs.Facts.Elements.{times, times_once}
+use Rattle.asn1_types.specs.declared.time.Time.{Time}
+use Rattle.asn1_types.specs.declared.time.Time.TheVariants as forms
+use Rattle.asn1_types.proofs.time.TimePartialEq.eq.Goals as goal
 
 by_octets : (a b : Time) (t : Bool) → (IsTrue t ↔ (a ≡ b)) → t ≡ bytes_eq (encoding (time a)) (encoding (time b))
 by_octets = octets_decide time times_once times.formed

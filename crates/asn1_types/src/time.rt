@@ -2,7 +2,7 @@
 
 ghost use Rattle.std.specs.Prelude.{◌≡◌, ◌↔◌, IsTrue};
 
-use asn1_types::{GeneralizedTime, UTCTime};
+use crate::{GeneralizedTime, UTCTime};
 use der_core::{DerError, Elem, Structure, Tree};
 use std::alloc::{AllocError, Global};
 
@@ -17,8 +17,8 @@ pub enum Time {
 }
 
 impl Structure for Time {
-    ghost use Rattle.extension_types.specs.Validity.{time};
-    ghost use Rattle.extension_types.specs.Facts.Times.{times};
+    ghost use Rattle.asn1_types.specs.Elements.{time};
+    ghost use Rattle.asn1_types.specs.Facts.Elements.{times};
 
     ghost written = { time };
 
@@ -54,9 +54,9 @@ impl Structure for Time {
 
 /// Times are equal exactly where their octets are.
 impl PartialEq for Time {
+    ghost use Rattle.asn1_types.specs.Elements.{time};
     ghost use Rattle.der_core.specs.Equality.{same_octets};
     ghost use Rattle.der_core.specs.Facts.Equality.{same_octets_per};
-    ghost use Rattle.extension_types.specs.Validity.{time};
 
     ghost eq = { same_octets time };
 
@@ -75,8 +75,8 @@ impl PartialEq for Time {
 }
 
 impl Eq for Time {
+    ghost use Rattle.asn1_types.specs.Elements.{time};
     ghost use Rattle.der_core.specs.Facts.Equality.{same_octets_equiv};
-    ghost use Rattle.extension_types.specs.Validity.{time};
 
     ghost laws = { same_octets_equiv time };
 }

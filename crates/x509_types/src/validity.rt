@@ -2,7 +2,7 @@
 
 ghost use Rattle.std.specs.Prelude.{◌≡◌, ◌↔◌, IsTrue};
 
-use crate::time::Time;
+use asn1_types::Time;
 use der_core::tag::SEQUENCE;
 use der_core::{DerError, Elem, NewKids, Structure, Tree, two_kids};
 use std::alloc::{AllocError, Global};
@@ -16,8 +16,8 @@ pub struct Validity {
 }
 
 impl Structure for Validity {
-    ghost use Rattle.extension_types.specs.Validity.{validity};
-    ghost use Rattle.extension_types.specs.Facts.Times.{validities};
+    ghost use Rattle.x509_types.specs.Validity.{validity};
+    ghost use Rattle.x509_types.specs.Facts.Validities.{validities};
 
     ghost written = { validity };
 
@@ -62,9 +62,9 @@ impl Structure for Validity {
 
 /// Validities are equal exactly where their octets are.
 impl PartialEq for Validity {
+    ghost use Rattle.x509_types.specs.Validity.{validity};
     ghost use Rattle.der_core.specs.Equality.{same_octets};
     ghost use Rattle.der_core.specs.Facts.Equality.{same_octets_per};
-    ghost use Rattle.extension_types.specs.Validity.{validity};
 
     ghost eq = { same_octets validity };
 
@@ -79,8 +79,8 @@ impl PartialEq for Validity {
 }
 
 impl Eq for Validity {
+    ghost use Rattle.x509_types.specs.Validity.{validity};
     ghost use Rattle.der_core.specs.Facts.Equality.{same_octets_equiv};
-    ghost use Rattle.extension_types.specs.Validity.{validity};
 
     ghost laws = { same_octets_equiv validity };
 }

@@ -1,8 +1,8 @@
 use Rattle.std.proofs.Common.{◌∷◌, [], ap, ◌∙◌}
+use Rattle.asn1_types.specs.Elements.{time}
+use Rattle.x509_types.proofs.validity.ValidityStructure.has_shape.Goals as goal
 use Rattle.der_core.specs.DerElement.{DerElement}
 use Rattle.der_core.specs.Elements.{sequence}
-use Rattle.extension_types.specs.Validity.{time}
-use Rattle.extension_types.proofs.validity.ValidityStructure.has_shape.Goals as goal
 
 pub returns-then-has_shape-clause-fits : goal.returns-then-has_shape-clause-fits
 returns-then-has_shape-clause-fits c = λ w.
