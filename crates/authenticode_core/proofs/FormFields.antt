@@ -45,6 +45,9 @@ fields_of_view element view is =
     let g = signed_data_elements is.value.signed_data in
     same_data f g (told_data f is.fields) (told_value is.value.signed_data) (inside f g (sym is.is ∙ is.spelled))
 
+pub are_spelled : (element : DerElement) (view : SignedView) → IsSignedView element view → AreSpelled (data_elements view)
+are_spelled element view is = (is.value.signed_data, fields_of_view element view is)
+
 pub same_fields_of : (a b : SignedData) → pkcs7_of (signed_data_of (signed_data_elements a)) ≡ pkcs7_of (signed_data_of (signed_data_elements b)) → signed_data_elements a ≡ signed_data_elements b
 same_fields_of a b e = same_data (signed_data_elements a) (signed_data_elements b) (told_value a) (told_value b) (inside (signed_data_elements a) (signed_data_elements b) e)
 

@@ -9,18 +9,16 @@ use Rattle.cms_content.specs.ContentValue.{content_value}
 use Rattle.cms_content.specs.Facts.ContentInfos.{fields_once}
 use Rattle.cms_types.specs.Facts.SignerElements.{told_fields, same_signer}
 use Rattle.cms_types.specs.Facts.SignerInfos.{told_signer}
-use Rattle.cms_types.specs.Pkcs7Elements.{pkcs7_of}
-use Rattle.cms_types.specs.SignedDataElements.{SignedDataElements, signed_data_of}
+use Rattle.cms_types.specs.SignedDataElements.{SignedDataElements}
 use Rattle.cms_types.specs.SignerElements.{SignerElements}
 use Rattle.cms_types.specs.SignerInfo.{signer_info, signer_elements}
 use Rattle.cms_types.specs.SignerView.{IsSignerView, signer_elements_at}
 use Rattle.cms_types.specs.declared.signer_info.SignerInfo.{SignerInfo}
 use Rattle.cms_types.specs.declared.signer_view.SignerView.{SignerView}
 use Rattle.der_core.specs.Optional.{members_of}
-use Rattle.der_core.specs.DerElement.{DerElement, Primitive, Constructed, row, listed, kids_of}
-use Rattle.der_core.specs.Elements.{sequence, explicit, octet_string}
+use Rattle.der_core.specs.DerElement.{DerElement, Primitive, Constructed, kids_of}
+use Rattle.der_core.specs.Elements.{sequence, octet_string}
 use Rattle.der_core.specs.Encoding.{encoding}
-use Rattle.der_core.specs.Facts.Rows.{listed-row}
 use Rattle.der_core.specs.Rules.{IsFirstBroken}
 use Rattle.authenticode_core.specs.Form.{AreSpelled, IsIndirectContent}
 use Rattle.authenticode_core.specs.FormRules.{HasForm, IsOfOtherVersion, HasOtherSigners, HasOtherAlgorithms, LacksContent, HasOtherContent, form_rules}
@@ -41,29 +39,6 @@ members_are (Constructed tag elements) kids e = cc
 pub no_members : (element : DerElement) → kids_of element ≡ None → members_of (Some element) ≡ []
 no_members (Primitive tag content) e = refl
 no_members (Constructed tag elements) e = absurd cc
-
--- ---- the digest algorithms in signed data with its type
-
-pub some_same : (a b : DerElement) → Some a ≡ Some b → a ≡ b
-some_same a b e = cc
-
-pub is_found : (a : DerElement) → None ≡ Some a → ⊥
-is_found a e = absurd cc
-
-pub tagged_is : (element first second : DerElement) (f : SignedDataElements) → element ≡ Constructed 0x30 (row (first ∷ second ∷ [])) → element ≡ pkcs7_of (signed_data_of f) → second ≡ explicit 0xA0 (signed_data_of f)
-tagged_is element first second f read written = cc (read, written)
-
-pub data_is : (tagged kid : DerElement) (f : SignedDataElements) → tagged ≡ explicit 0xA0 kid → tagged ≡ explicit 0xA0 (signed_data_of f) → kid ≡ signed_data_of f
-data_is tagged kid f read written = cc (read, written)
-
-same_rows : (kids expected : List DerElement) → row kids ≡ row expected → kids ≡ expected
-same_rows kids expected e = sym (listed-row kids) ∙ ap listed e ∙ listed-row expected
-
-pub kids_are : (element : DerElement) (kids expected : List DerElement) → element ≡ Constructed 0x30 (row kids) → element ≡ sequence expected → kids ≡ expected
-kids_are element kids expected read written = let same : row kids ≡ row expected = cc (read, written) in same_rows kids expected same
-
-pub second_is : (kids left others : List DerElement) (first version algorithms : DerElement) → kids ≡ version ∷ algorithms ∷ others → kids ≡ first ∷ left → left ≡ algorithms ∷ others
-second_is kids left others first version algorithms e read = cc (e, read)
 
 -- ---- the signer
 

@@ -1,8 +1,6 @@
 //! Basic validation: the form of the signed data, the digest of the file, and the signature.
 
 ghost use Rattle.std.specs.Prelude.{◌≡◌, Err, MatchResult};
-ghost use Rattle.cms_types.specs.Pkcs7Elements.{pkcs7_of};
-ghost use Rattle.cms_types.specs.SignedDataElements.{signed_data_of};
 ghost use Rattle.cms_types.specs.SignedView.{data_elements};
 ghost use Rattle.der_core.specs.Rules.{IsFirstBroken, OrMemory};
 ghost use Rattle.authenticode_core.specs.Basic.{IsRefusedPart, VouchesFor};
@@ -16,22 +14,20 @@ use crate::form::{Form, expect_form};
 use crate::policy::Policy;
 use crate::signing::expect_signed;
 use cms_types::SignedView;
-use der_core::{Elem, Octets, is_same};
+use der_core::{Octets, is_same};
 use sig_core::Scheme;
 use std::alloc::Global;
 
 /// Signed data vouches for the digest of the file that the policy has: the place of its signer's
 /// certificate. The first of these is answered that doesn't hold: its form; a digest is given; it
 /// is that of the content; the signature of its one signer is good by the scheme (`expect_signed`).
-pub(crate) fn expect_basic<'a, S: Scheme>(
+pub(crate) fn expect_basic<S: Scheme>(
     alloc: Global,
-    elem: Elem<'a>,
-    signed_data: &SignedView<'a>,
+    signed_data: &SignedView<'_>,
     policy: &Policy,
     scheme: &S,
 ) -> Result<usize, AuthenticodeError>
-    requires is { elem.is.0 ≡ pkcs7_of (signed_data_of (data_elements signed_data.now)) }
-    requires spelled { AreSpelled (data_elements signed_data.now) }
+    requires { AreSpelled (data_elements signed_data.now) }
     ensures answer { MatchResult result
         (IsVouchedAt (S.judge scheme.now) policy.now.file_hash (data_elements signed_data.now))
         (RefusesAuthenticodeBy (basic_rules (S.judge scheme.now) (data_elements signed_data.now)
@@ -41,7 +37,7 @@ pub(crate) fn expect_basic<'a, S: Scheme>(
         → IsFirstBroken (shape_rules (data_elements signed_data.now) policy.now.file_hash) e
         → result ≡ Err e }
 {
-    let form = expect_form(elem, signed_data)?;
+    let form = expect_form(signed_data)?;
     let Some(file_hash) = &policy.file_hash else {
         return Err(AuthenticodeError::MissingExpectedFileHash);
     };

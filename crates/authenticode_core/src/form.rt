@@ -2,13 +2,10 @@
 //! signed in the place of a file. It takes no memory.
 
 ghost use Rattle.std.specs.Prelude.{◌≡◌, ◌≢◌, List, [], ◌∷◌, length, Some, MatchOption, MatchResult};
-ghost use Rattle.cms_types.specs.Pkcs7Elements.{pkcs7_of};
-ghost use Rattle.cms_types.specs.SignedDataElements.{SignedDataElements, signed_data_of};
 ghost use Rattle.cms_types.specs.SignedView.{data_elements};
 ghost use Rattle.cms_types.specs.SignerView.{signer_elements_at};
 ghost use Rattle.der_core.specs.DerElement.{DerElement};
 ghost use Rattle.der_core.specs.Elements.{sequence, octet_string};
-ghost use Rattle.der_core.specs.Lent.{at_option};
 ghost use Rattle.der_core.specs.Optional.{members_of};
 ghost use Rattle.der_core.specs.Rules.{IsFirstBroken};
 ghost use Rattle.authenticode_core.specs.Form.{AreSpelled, IsIndirectContent, IsFormOf};
@@ -17,10 +14,9 @@ ghost use Rattle.authenticode_core.specs.SignedFields.{HasVersion, IndirectData,
 
 use crate::error::AuthenticodeError;
 use asn1_types::oids::SPC_INDIRECT_DATA;
-use cms_content::CONTENT;
 use cms_types::{SignedView, SignerView};
 use der_core::tag::{OCTET_STRING, SEQUENCE};
-use der_core::{Elem, Kids, explicit_at, is_same, leaf_at, two_kids};
+use der_core::{Elem, Kids, is_same, leaf_at, two_kids};
 
 /// The version of signed data (RFC 2315 9.1).
 const VERSION: u8 = 1;
@@ -42,19 +38,15 @@ pub(crate) struct Form<'a> {
 }
 
 /// Signed data has the form, or breaks its first rule so.
-pub(crate) fn expect_form<'a>(
-    elem: Elem<'a>,
-    signed_data: &SignedView<'a>,
-) -> Result<Form<'a>, AuthenticodeError>
-    requires is { elem.is.0 ≡ pkcs7_of (signed_data_of (data_elements signed_data.now)) }
-    requires spelled { AreSpelled (data_elements signed_data.now) }
+pub(crate) fn expect_form<'a>(signed_data: &SignedView<'a>) -> Result<Form<'a>, AuthenticodeError>
+    requires { AreSpelled (data_elements signed_data.now) }
     ensures { MatchResult result
         (IsFormOf (data_elements signed_data.now))
         (IsFirstBroken (form_rules (data_elements signed_data.now))) }
 {
     expect_version(signed_data)?;
     let signer = one_signer(signed_data)?;
-    let algorithm = one_algorithm(elem, signed_data)?;
+    let algorithm = one_algorithm(signed_data)?;
     let content = expect_content(signed_data)?;
     if !is_same(content.algorithm.whole, algorithm.whole) {
         return Err(AuthenticodeError::DigestAlgorithmMismatch);
@@ -100,36 +92,17 @@ fn one_signer<'a>(signed_data: &SignedView<'a>) -> Result<SignerView<'a>, Authen
 }
 
 /// The one digest algorithm.
-fn one_algorithm<'a>(
-    elem: Elem<'a>,
-    signed_data: &SignedView<'a>,
-) -> Result<Elem<'a>, AuthenticodeError>
-    requires { elem.is.0 ≡ pkcs7_of (signed_data_of (data_elements signed_data.now)) }
+fn one_algorithm<'a>(signed_data: &SignedView<'a>) -> Result<Elem<'a>, AuthenticodeError>
     ensures { MatchResult result
         (λ algorithm. digest_algorithms_of (data_elements signed_data.now) ≡ algorithm.is.0 ∷ [])
         (HasOtherAlgorithms (data_elements signed_data.now)) }
 {
-    let Some(algorithms) = digest_algorithms_in(elem) else {
-        unreachable!();
-    };
-    match only_within(algorithms) {
+    match only_within(signed_data.digest_algorithm_identifiers()) {
         Ok(only) => Ok(only),
         Err(incorrect_count) => {
             Err(AuthenticodeError::IncorrectDigestAlgorithmsCount { incorrect_count })
         }
     }
-}
-
-/// The element of the digest algorithms in signed data with its type.
-fn digest_algorithms_in<'a>(elem: Elem<'a>) -> Option<Elem<'a>>
-    ensures { (f : SignedDataElements) → elem.entry.is.0 ≡ pkcs7_of (signed_data_of f)
-        → at_option result ≡ Some f.digest_algorithms }
-{
-    let (_, tagged) = two_kids(elem, SEQUENCE)?;
-    let signed_data = explicit_at(tagged, CONTENT)?;
-    let mut kids = Kids::of(signed_data, SEQUENCE)?;
-    let _version = kids.next()?;
-    kids.next()
 }
 
 /// The content is what is signed in the place of a file.

@@ -2,9 +2,8 @@
 //! validation, then the certificate of the signer, each where it is asked for.
 
 ghost use Rattle.std.specs.Prelude.{◌≡◌, Err, Result, MatchResult};
-ghost use Rattle.cms_types.specs.Pkcs7Elements.{pkcs7_of};
-ghost use Rattle.cms_types.specs.SignedDataElements.{signed_data_of};
 ghost use Rattle.cms_types.specs.SignedView.{data_elements, IsSignedView};
+ghost use Rattle.der_core.specs.DerElement.{DerElement};
 ghost use Rattle.der_core.specs.Rules.{AreOneUnlessMemory, IsFirstBroken};
 ghost use Rattle.authenticode_core.specs.Form.{AreSpelled};
 ghost use Rattle.authenticode_core.specs.PolicySteps.{IsPlaceAsked};
@@ -20,7 +19,7 @@ use crate::policy::Policy;
 use crate::signer_check::expect_signer;
 use crate::value::read_signed_data;
 use cms_types::SignedView;
-use der_core::{Elem, one_first_fault};
+use der_core::one_first_fault;
 use sig_core::Scheme;
 use std::alloc::Global;
 
@@ -44,23 +43,22 @@ pub fn check_wincert<S: Scheme>(
 {
     // a law that the proof rests on; the call does nothing
     one_first_fault();
-    let (elem, signed_data) = read_signed_data(bytes)?;
-    let accepted = check_signed_data(alloc, elem, &signed_data, policy, scheme)?;
+    let signed_data = read_signed_data(bytes)?;
+    let accepted = check_signed_data(alloc, &signed_data, policy, scheme)?;
     Ok(accepted)
 }
 
-/// Checks signed data under a policy, which lies in this element: where basic validation is asked
-/// for, its form, the digest of the file and the signature of its signer; then, where that is asked
-/// for, the certificate of its first signer. The first rule that is broken is told. The signed data
-/// is what `SignedView::read` gives of the element.
-pub fn check_signed_data<'a, S: Scheme>(
+/// Checks signed data under a policy: where basic validation is asked for, its form, the digest of
+/// the file and the signature of its signer; then, where that is asked for, the certificate of its
+/// first signer. The first rule that is broken is told. The signed data is what `SignedView::read`
+/// gives.
+pub fn check_signed_data<S: Scheme>(
     alloc: Global,
-    elem: Elem<'a>,
-    signed_data: &SignedView<'a>,
+    signed_data: &SignedView<'_>,
     policy: &Policy,
     scheme: &S,
 ) -> Result<Accepted, AuthenticodeError>
-    requires { IsSignedView elem.is.0 signed_data.now }
+    requires { (element : DerElement) × IsSignedView element signed_data.now }
     ensures answer { MatchResult result
         (IsTrusted (S.judge scheme.now) policy.now (data_elements signed_data.now))
         (RefusesAuthenticodeBy
@@ -72,7 +70,7 @@ pub fn check_signed_data<'a, S: Scheme>(
         (shape_rules (data_elements signed_data.now) policy.now.file_hash)) e
         → result ≡ Err e }
 {
-    let signer = basic_place(alloc, elem, signed_data, policy, scheme)?;
+    let signer = basic_place(alloc, signed_data, policy, scheme)?;
     if policy.signing {
         return expect_signer(alloc, signed_data, policy, scheme);
     }
@@ -84,15 +82,13 @@ pub fn check_signed_data<'a, S: Scheme>(
 }
 
 /// Basic validation, where it is asked for: the place of the signer's certificate.
-fn basic_place<'a, S: Scheme>(
+fn basic_place<S: Scheme>(
     alloc: Global,
-    elem: Elem<'a>,
-    signed_data: &SignedView<'a>,
+    signed_data: &SignedView<'_>,
     policy: &Policy,
     scheme: &S,
 ) -> Result<Option<usize>, AuthenticodeError>
-    requires is { elem.is.0 ≡ pkcs7_of (signed_data_of (data_elements signed_data.now)) }
-    requires spelled { AreSpelled (data_elements signed_data.now) }
+    requires { AreSpelled (data_elements signed_data.now) }
     ensures answer { MatchResult result
         (IsPlaceAsked policy.now.basic (S.judge scheme.now) policy.now.file_hash
         (data_elements signed_data.now))
@@ -107,6 +103,6 @@ fn basic_place<'a, S: Scheme>(
     if !policy.basic {
         return Ok(None);
     }
-    let place = expect_basic(alloc, elem, signed_data, policy, scheme)?;
+    let place = expect_basic(alloc, signed_data, policy, scheme)?;
     Ok(Some(place))
 }

@@ -1,6 +1,7 @@
 //! The signed data in a WIN_CERTIFICATE, where its octets lie.
 
 ghost use Rattle.std.specs.Prelude.{◌≡◌, ◌↔◌, IsTrue, MatchResult};
+ghost use Rattle.der_core.specs.DerElement.{DerElement};
 ghost use Rattle.der_core.specs.Encoding.{IsPaddedEncoding};
 ghost use Rattle.authenticode_core.specs.Basic.{IsPadding, IsMalformedPadded, RefusesValue};
 ghost use Rattle.authenticode_core.specs.Form.{LiesIn};
@@ -17,12 +18,10 @@ use x509_core::CertError;
 /// The most zeros that align a WIN_CERTIFICATE.
 const MOST_PADDING: usize = 7;
 
-/// The signed data in a WIN_CERTIFICATE, and its element. It takes no memory.
-pub(crate) fn read_signed_data<'a>(
-    bytes: &'a [u8],
-) -> Result<(Elem<'a>, SignedView<'a>), CheckError>
+/// The signed data in a WIN_CERTIFICATE. It takes no memory.
+pub(crate) fn read_signed_data<'a>(bytes: &'a [u8]) -> Result<SignedView<'a>, CheckError>
     ensures { MatchResult result
-        (λ found. LiesIn bytes.now found.0.is.0 found.1)
+        (λ found. (element : DerElement) × LiesIn bytes.now element found)
         (RefusesValue bytes.now) }
 {
     let certificate = match certificate_of(bytes) {
@@ -34,7 +33,7 @@ pub(crate) fn read_signed_data<'a>(
         Err(malformed) => return Err(unread(DerError::Malformed(malformed))),
     };
     match SignedView::read(elem) {
-        Some(signed_data) => Ok((elem, signed_data)),
+        Some(signed_data) => Ok(signed_data),
         None => Err(unread(DerError::Shape)),
     }
 }

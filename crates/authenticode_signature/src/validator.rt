@@ -219,5 +219,5 @@ fn check_octets<S: Scheme>(
     let Some(signed_data) = SignedView::read(elem) else {
         unreachable!();
     };
-    check_signed_data(alloc, elem, &signed_data, policy, scheme)
+    check_signed_data(alloc, &signed_data, policy, scheme)
 }

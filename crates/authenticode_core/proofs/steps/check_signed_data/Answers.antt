@@ -1,16 +1,16 @@
 use Rattle.std.proofs.Common.{Err, ap, refl, ◌∙◌}
 use Rattle.std.proofs.lemmas.Result.{err_from_is_err_and}
 use Rattle.cms_types.specs.SignedView.{data_elements}
-use Rattle.authenticode_core.proofs.FormFields.{fields_of_view}
+use Rattle.authenticode_core.proofs.FormFields.{are_spelled}
 use Rattle.x509_core.proofs.NoRefusal.{no_refusal}
 use Rattle.authenticode_core.proofs.PolicyOrder.{basic_refuses, signer_or_not, told_same, without_signer}
 use Rattle.authenticode_core.proofs.steps.check_signed_data.Goals as goal
 
-pub basic_place-requires-clause-spelled : goal.basic_place-requires-clause-spelled
-basic_place-requires-clause-spelled g c = (c.requires.value.signed_data, fields_of_view c.args.elem.is.0 c.args.signed_data.now c.requires)
+pub basic_place-requires : goal.basic_place-requires
+basic_place-requires g c = are_spelled c.requires.0 c.args.signed_data.now c.requires.1
 
 pub expect_signer-requires : goal.expect_signer-requires
-expect_signer-requires g c = (c.requires.value.signed_data, fields_of_view c.args.elem.is.0 c.args.signed_data.now c.requires)
+expect_signer-requires g c = are_spelled c.requires.0 c.args.signed_data.now c.requires.1
 
 pub returns-in_err-signer-clause-answer : goal.returns-in_err-signer-clause-answer
 returns-in_err-signer-clause-answer g c =
