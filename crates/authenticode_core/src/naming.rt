@@ -1,21 +1,24 @@
 //! The certificate of a signer, by its issuer and its serial number, and what its issuer walk asks
 //! for.
 
-ghost use Rattle.std.specs.Prelude.{◌≡◌, List, IsTrue, IfSome, MatchOption};
+ghost use Rattle.std.specs.Prelude.{◌≡◌, ◌↔◌, List, IsTrue, IfSome, MatchOption};
 ghost use Rattle.cms_types.specs.SignedView.{data_elements};
+ghost use Rattle.der_core.specs.DerElement.{DerElement};
 ghost use Rattle.der_core.specs.Encoding.{encoding};
 ghost use Rattle.der_core.specs.Lent.{at_option};
 ghost use Rattle.der_core.specs.Optional.{members_of};
 ghost use Rattle.x509_types.specs.CertificateElements.{CertificateElements, certificate_of};
 ghost use Rattle.x509_types.specs.CertificateView.{view_elements};
 ghost use Rattle.authenticode_core.specs.CertificateBag.{IsBag, IsMember};
-ghost use Rattle.authenticode_core.specs.Naming.{IsFirstOfName, IsNamedAt};
-ghost use Rattle.authenticode_core.specs.Places.{HasNoPlace};
-ghost use Rattle.authenticode_core.specs.SigningRules.{IsBagOf};
-ghost use Rattle.authenticode_core.specs.Wanted.{IsNamedBy};
+ghost use Rattle.authenticode_core.specs.LeftMembers.{left_members};
+ghost use Rattle.authenticode_core.specs.Naming.{AsksNext, FindsNext, IsFirstOfName, IsNamedAt};
+ghost use Rattle.authenticode_core.specs.Places.{HasNoPlace, IsLeastPlace};
+ghost use Rattle.authenticode_core.specs.SigningRules.{AsksForPurposes, IsBagOf};
+ghost use Rattle.authenticode_core.specs.Wanted.{IsNamedBy, IsWanted};
+ghost use Rattle.authenticode_core.specs.WalkCursor.{LooksFrom};
 
 use crate::bag::BagCertificate;
-use crate::code_signing::find_on_walk;
+use crate::issuer_walk::IssuerWalk;
 use crate::signer::{certificate_bag, issuer_walk_of};
 use crate::wanted::Wanted;
 use cms_types::SignedView;
@@ -141,4 +144,57 @@ fn issuer_and_serial_in<'a>(member: Elem<'a>) -> Option<(&'a [u8], &'a [u8])>
     let _algorithm = kids.next()?;
     let issuer = kids.next()?;
     Some((issuer.whole, serial_number))
+}
+
+/// The first certificate of a bag that is wanted, and whether some certificate of the issuer walk
+/// has an extended key usage. The bag is read once, to its end, and no memory is taken.
+fn find_on_walk<'a>(
+    mut walk: IssuerWalk<'a>,
+    wanted: Wanted<'_>,
+) -> (Option<BagCertificate<'a>>, bool)
+    ensures ended { (bag : List CertificateElements)
+        × IsBag (left_members walk.entry.bag.members) bag }
+    ensures found { (bag : List CertificateElements) (subject : DerElement)
+        → LooksFrom walk.entry bag 0 subject
+        → MatchOption result.0 (HasNoPlace bag (IsWanted wanted.entry) 0) (λ found. IsLeastPlace bag
+        (IsWanted wanted.entry) 0 found.place (view_elements found.certificate)) }
+    ensures asks { (bag : List CertificateElements) (signer : CertificateElements)
+        → LooksFrom walk.entry bag 0 signer.tbs.subject
+        → IsTrue result.1 ↔ AsksForPurposes bag signer }
+{
+    let mut found = None;
+    let mut asks = false;
+    while let Some((next, on_walk)) = walk.step() {
+        found = found_next(found, next, wanted);
+        asks = asks_next(asks, on_walk, &next.certificate);
+    }
+    (found, asks)
+}
+
+/// What was found before, or else the next certificate where it is wanted.
+fn found_next<'a>(
+    found: Option<BagCertificate<'a>>,
+    next: BagCertificate<'a>,
+    wanted: Wanted<'_>,
+) -> Option<BagCertificate<'a>>
+    ensures { FindsNext wanted.entry found.entry next.entry result }
+{
+    if found.is_some() {
+        return found;
+    }
+    if wanted.is(&next.certificate) {
+        return Some(next);
+    }
+    None
+}
+
+/// Whether one asked before, or this one of the walk has an extended key usage.
+fn asks_next(asks: bool, on_walk: bool, certificate: &CertView<'_>) -> bool
+    ensures { AsksNext asks on_walk (view_elements certificate.now) result }
+{
+    if on_walk {
+        asks || certificate.has_purposes()
+    } else {
+        asks
+    }
 }

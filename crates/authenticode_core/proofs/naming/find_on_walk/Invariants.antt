@@ -5,7 +5,7 @@ use Rattle.authenticode_core.specs.CertificateBag.{IsBag}
 use Rattle.authenticode_core.specs.LeftMembers.{left_members}
 use Rattle.authenticode_core.specs.WalkCursor.{LooksFrom}
 use Rattle.authenticode_core.proofs.PassedPlaces.{Passed}
-use Rattle.authenticode_core.proofs.code_signing.find_on_walk.Given as goal
+use Rattle.authenticode_core.proofs.naming.find_on_walk.Given as goal
 
 -- a bag of the members that are left is the end of one of all, and what was passed is known
 abbrev pub invariant-loop-next : goal.invariant-loop-next

@@ -1,5 +1,5 @@
 use Rattle.authenticode_core.proofs.PassedPlaces.{passed_none, passed_step, passed_found, passed_asks}
-use Rattle.authenticode_core.proofs.code_signing.find_on_walk.Goals as goal
+use Rattle.authenticode_core.proofs.naming.find_on_walk.Goals as goal
 
 pub loop-next-init : goal.loop-next-init
 loop-next-init c = record { begun = λ others p. (others, p); passed = λ bag subject looks. passed_none bag subject _ _ looks }
