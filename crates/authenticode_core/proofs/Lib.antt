@@ -9,6 +9,7 @@ pub mod BagSteps
 pub mod PlaceSteps
 pub mod WalkSteps
 pub mod SignerSteps
+pub mod KnownSigner
 pub mod FirstAttributes
 pub mod DigestNames
 pub mod SignedMessages

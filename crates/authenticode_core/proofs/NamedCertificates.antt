@@ -38,10 +38,13 @@ by_key : (element : DerElement) (sid : SignerIdentifier) → element ≡ signer_
 by_key element (named.IssuerAndSerialNumber value) is none = absurd (none value is)
 by_key element (named.SubjectKeyIdentifier octets) is none = (octets, is)
 
-pub named_by_key : (f : SignedDataElements) (g : SignerElements) → IsFirstSigner f g → ((value : IssuerAndSerialNumber) → g.sid ≢ issuer_and_serial_number value) → RefusesAuthenticodeBy (IsNamedByKey g ∷ HasNoCertificate f g ∷ []) errors.IncorrectSignerIdentifier
-named_by_key f g first none =
+pub is_named_by_key : (f : SignedDataElements) (g : SignerElements) → IsFirstSigner f g → ((value : IssuerAndSerialNumber) → g.sid ≢ issuer_and_serial_number value) → IsNamedByKey g errors.IncorrectSignerIdentifier
+is_named_by_key f g first none =
     let key = by_key g.sid first.value.sid (sid_is f g first) none in
-    inl (inl (key.0, key.1, refl))
+    (key.0, key.1, refl)
+
+pub named_by_key : (f : SignedDataElements) (g : SignerElements) → IsFirstSigner f g → ((value : IssuerAndSerialNumber) → g.sid ≢ issuer_and_serial_number value) → RefusesAuthenticodeBy (IsNamedByKey g ∷ HasNoCertificate f g ∷ []) errors.IncorrectSignerIdentifier
+named_by_key f g first none = inl (inl (is_named_by_key f g first none))
 
 key_or_name : (octets : List ℕ) (kids : List DerElement) → Primitive 0x80 octets ≡ sequence kids → ⊥
 key_or_name octets kids e = absurd cc

@@ -1,5 +1,6 @@
 -- The rules of a policy: what meets them, that each is told once, and which is broken first.
-use Rattle.std.proofs.Common.{◌≡◌, ℕ, List, [], ◌++◌, Bool, Option, Some, None, Result, Ok, Err, MatchResult, true, false, IsTrue, inl, inr, refl, sym, ap, ◌∙◌}
+use Rattle.std.proofs.Common.{◌≡◌, ℕ, List, [], ◌++◌, Bool, Option, Some, None, Result, Ok, Err, MatchResult, true, false, IsTrue, inl, inr, refl, sym, ap, subst, ◌∙◌}
+use Rattle.std.specs.Prelude.{IfSome}
 use Rattle.cms_types.specs.SignedDataElements.{SignedDataElements}
 use Rattle.der_core.specs.Rules.{Rule, IsFirstBroken}
 use Rattle.der_core.proofs.RuleLists.{AreMet, AreToldOnce, broken_before, broken_behind, met_together, none_broken, told_together}
@@ -7,6 +8,7 @@ use Rattle.key_core.specs.Verifying.{Judge}
 use Rattle.authenticode_core.specs.PolicySteps.{IsPlaceAsked, IsVouchedAt}
 use Rattle.authenticode_core.specs.SignerRules.{IsSignerVouched, signer_rules}
 use Rattle.authenticode_core.specs.SigningRules.{RefusesAuthenticodeBy}
+use Rattle.authenticode_core.specs.SigningSteps.{HasSignerAt}
 use Rattle.authenticode_core.specs.Trusted.{IsBasicallyVouched, IsTrusted, asked, basic_rules, policy_rules, shape_rules}
 use Rattle.authenticode_core.specs.declared.accepted.Accepted.{Accepted}
 use Rattle.authenticode_core.specs.declared.accepted.Excuse.TheVariants as excuses
@@ -92,6 +94,13 @@ module _ (judge : Judge) (policy : Policy) (f : SignedDataElements) where
   place_met : (b : Bool) (told : Option ℕ) → IsPlaceAsked b judge given f told → AreMet (asked b (basic_rules judge f given))
   place_met true told at = basic_met f given judge at.0 at.1
   place_met false told none = tt
+
+  -- the place that basic validation tells is that of the signer's certificate
+  pub place_is_signers : (b : Bool) (told : Option ℕ) → IsPlaceAsked b judge given f told → IfSome told (HasSignerAt f)
+  place_is_signers true told at =
+      let s = at.1.2.signed in
+      subst (λ (t : Option ℕ). IfSome t (HasSignerAt f)) (sym at.2) (s.certificate, (s.bag, s.is_bag, s.is_signer))
+  place_is_signers false told none = subst (λ (t : Option ℕ). IfSome t (HasSignerAt f)) (sym none) tt
 
   -- ---- acceptance
 

@@ -30,6 +30,10 @@ abbrev pub HasSigner : SignedDataElements → ℕ → CertificateElements → Ty
 HasSigner f place c =
     (bag : List CertificateElements) × IsBagOf f bag × IsSignerCertificate f bag place c
 
+-- the certificate of the first signer stands at this place
+abbrev pub HasSignerAt : SignedDataElements → ℕ → Type 0
+HasSignerAt f place = (c : CertificateElements) × HasSigner f place c
+
 -- The certificate of the first signer stands there, and what its issuer walk asks for is known.
 pub record NamesSigner (f : SignedDataElements) (named : Named) : Type 0 where
   pub has : HasSigner f named.certificate.place (view_elements named.certificate.certificate)

@@ -49,7 +49,7 @@ pub(crate) fn named_certificate<'a>(
         × MatchOption result (HasNoPlace bag (IsNamedBy issuer.now serial_number.now) 0)
         (IsNamedAt bag issuer.now serial_number.now) }
 {
-    let Some(first) = first_named(signed_data.certificates(), issuer, serial_number) else {
+    let Some((_, first)) = first_named(signed_data.certificates(), issuer, serial_number) else {
         let _certificates = certificate_bag(signed_data).count();
         return None;
     };
@@ -67,34 +67,57 @@ pub(crate) fn named_certificate<'a>(
     }
 }
 
-/// The first certificate in a field of certificates that is named so.
+/// The first certificate of signed data that is named so, with its place, which is known. No other
+/// certificate is tested.
+pub(crate) fn named_at_place<'a>(
+    signed_data: &SignedView<'a>,
+    issuer: &[u8],
+    serial_number: &[u8],
+    place: usize,
+) -> Option<BagCertificate<'a>>
+    ensures { (bag : List CertificateElements) → IsBagOf (data_elements signed_data.now) bag
+        → MatchOption result (HasNoPlace bag (IsNamedBy issuer.now serial_number.now) 0)
+        (λ named. (named.place ≡ place) × IsFirstOfName bag issuer.now serial_number.now
+        (view_elements named.certificate)) }
+{
+    let (elem, certificate) = first_named(signed_data.certificates(), issuer, serial_number)?;
+    Some(BagCertificate {
+        place,
+        elem,
+        certificate,
+    })
+}
+
+/// The first certificate in a field of certificates that is named so, and its element.
 fn first_named<'a>(
     certificates: Option<Elem<'a>>,
     issuer: &[u8],
     serial_number: &[u8],
-) -> Option<CertView<'a>>
-    ensures { (bag : List CertificateElements)
+) -> Option<(Elem<'a>, CertView<'a>)>
+    ensures is { IfSome result (λ first. first.0.is.0 ≡ certificate_of (view_elements first.1)) }
+    ensures first { (bag : List CertificateElements)
         → IsBag (members_of (at_option certificates.entry)) bag
         → MatchOption result (HasNoPlace bag (IsNamedBy issuer.now serial_number.now) 0)
-        (λ first. IsFirstOfName bag issuer.now serial_number.now (view_elements first)) }
+        (λ first. IsFirstOfName bag issuer.now serial_number.now (view_elements first.1)) }
 {
     let members = Kids::within(certificates?)?;
     first_among(members, issuer, serial_number)
 }
 
-/// The first certificate among the members that is named so.
+/// The first certificate among the members that is named so, and its element.
 fn first_among<'a>(
     mut members: Kids<'a>,
     issuer: &[u8],
     serial_number: &[u8],
-) -> Option<CertView<'a>>
-    ensures { (bag : List CertificateElements) → IsBag members.entry.are.0 bag → MatchOption result
-        (HasNoPlace bag (IsNamedBy issuer.now serial_number.now) 0)
-        (λ first. IsFirstOfName bag issuer.now serial_number.now (view_elements first)) }
+) -> Option<(Elem<'a>, CertView<'a>)>
+    ensures is { IfSome result (λ first. first.0.is.0 ≡ certificate_of (view_elements first.1)) }
+    ensures first { (bag : List CertificateElements) → IsBag members.entry.are.0 bag
+        → MatchOption result (HasNoPlace bag (IsNamedBy issuer.now serial_number.now) 0)
+        (λ first. IsFirstOfName bag issuer.now serial_number.now (view_elements first.1)) }
 {
     while let Some(member) = members.next() {
         if let Some(certificate) = named_at(member, issuer, serial_number) {
-            return Some(certificate);
+            return Some((member, certificate));
         }
     }
     None

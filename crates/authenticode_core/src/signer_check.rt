@@ -1,7 +1,7 @@
 //! Whether the certificate of the first signer is vouched for, or its expiry excused, step by step
 //! (RFC 5280 6.1; Windows Authenticode Portable Executable Signature Format).
 
-ghost use Rattle.std.specs.Prelude.{◌≡◌, ◌↔◌, ℕ, List, Some, IsTrue, MatchResult};
+ghost use Rattle.std.specs.Prelude.{◌≡◌, ◌↔◌, ℕ, List, [], ◌∷◌, Some, IsTrue, IfSome, MatchResult};
 ghost use Rattle.cms_types.specs.SignedView.{data_elements};
 ghost use Rattle.cms_types.specs.SignerView.{signer_elements_at};
 ghost use Rattle.der_core.specs.Rules.{OrMemory};
@@ -18,13 +18,15 @@ ghost use Rattle.authenticode_core.specs.Policy.{window_of};
 ghost use Rattle.authenticode_core.specs.PolicySteps.{IsExpiry, IsUnlinkedPath, TellsExpiry, standing_rules};
 ghost use Rattle.authenticode_core.specs.SignedFields.{IsFirstSigner};
 ghost use Rattle.authenticode_core.specs.SignerRules.{IsKeptSigner, IsPathAsked, IsSignerVouched, IsStanding, LacksSigner, signer_rules};
-ghost use Rattle.authenticode_core.specs.SigningRules.{IsBagOf, RefusesAuthenticodeBy};
+ghost use Rattle.authenticode_core.specs.SigningRules.{HasNoCertificate, IsBagOf, IsNamedByKey, RefusesAuthenticodeBy};
+ghost use Rattle.authenticode_core.specs.SigningSteps.{HasSigner, HasSignerAt};
 
 use crate::accepted::{Accepted, Excuse, Places};
 use crate::bag::BagCertificate;
 use crate::error::AuthenticodeError;
 use crate::excuse::excuse_of;
 use crate::linking::{kept, linked_path};
+use crate::naming::named_at_place;
 use crate::policy::Policy;
 use crate::signing::expect_certificate;
 use crate::token::first_signer_of;
@@ -37,32 +39,28 @@ use x509_types::CertView;
 /// The certificate of the first signer is vouched for under a policy. The first of these is
 /// answered that doesn't hold: there is a signer; some certificate is named; a date is given where
 /// one is asked for; the certificate is valid, or its expiry is excused; where a chain is asked
-/// for, and nothing is excused, the certificates of the issuer path are linked.
+/// for, and nothing is excused, the certificates of the issuer path are linked. The place of the
+/// certificate may be known.
 pub(crate) fn expect_signer<S: Scheme>(
     alloc: Global,
     signed_data: &SignedView<'_>,
+    known: Option<usize>,
     policy: &Policy,
     scheme: &S,
 ) -> Result<Accepted, AuthenticodeError>
-    requires { AreSpelled (data_elements signed_data.now) }
+    requires spelled { AreSpelled (data_elements signed_data.now) }
+    requires known { IfSome known (HasSignerAt (data_elements signed_data.now)) }
     ensures { MatchResult result
         (IsSignerVouched (S.judge scheme.now) policy.now (data_elements signed_data.now))
         (RefusesAuthenticodeBy
         (signer_rules (S.judge scheme.now) policy.now (data_elements signed_data.now))) }
 {
     let first = expect_first(signed_data)?;
-    let named = expect_certificate(alloc, signed_data, &first)?;
+    let named = expect_named(alloc, signed_data, &first, known)?;
     let checks = policy.checks();
     checks.expect_date()?;
-    let signer = kept(alloc, &named.certificate)?;
-    expect_standing(
-        alloc,
-        signed_data,
-        &named.certificate,
-        signer,
-        policy,
-        scheme,
-    )
+    let signer = kept(alloc, &named)?;
+    expect_standing(alloc, signed_data, &named, signer, policy, scheme)
 }
 
 /// The first of the signers.
@@ -75,6 +73,36 @@ fn expect_first<'a>(signed_data: &SignedView<'a>) -> Result<SignerView<'a>, Auth
     match first_signer_of(signed_data) {
         Some(signer) => Ok(signer),
         None => Err(AuthenticodeError::MultipleSignerInfo { count: 0 }),
+    }
+}
+
+/// The certificate that the first signer names. Where its place is known, the bag isn't read to its
+/// end again.
+fn expect_named<'a>(
+    alloc: Global,
+    signed_data: &SignedView<'a>,
+    signer: &SignerView<'a>,
+    known: Option<usize>,
+) -> Result<BagCertificate<'a>, AuthenticodeError>
+    requires first { IsFirstSigner (data_elements signed_data.now) (signer_elements_at signer.now) }
+    requires known { IfSome known (HasSignerAt (data_elements signed_data.now)) }
+    ensures { MatchResult result
+        (λ named. HasSigner (data_elements signed_data.now) named.place
+        (view_elements named.certificate))
+        (RefusesAuthenticodeBy (IsNamedByKey (signer_elements_at signer.now) ∷
+        HasNoCertificate (data_elements signed_data.now) (signer_elements_at signer.now) ∷
+        [])) }
+{
+    let Some(place) = known else {
+        let named = expect_certificate(alloc, signed_data, signer)?;
+        return Ok(named.certificate);
+    };
+    let Some((issuer, serial_number)) = signer.issuer_and_serial() else {
+        unreachable!();
+    };
+    match named_at_place(signed_data, issuer, serial_number, place) {
+        Some(named) => Ok(named),
+        None => unreachable!(),
     }
 }
 

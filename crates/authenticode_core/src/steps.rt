@@ -72,7 +72,7 @@ pub fn check_signed_data<S: Scheme>(
 {
     let signer = basic_place(alloc, signed_data, policy, scheme)?;
     if policy.signing {
-        return expect_signer(alloc, signed_data, policy, scheme);
+        return expect_signer(alloc, signed_data, signer, policy, scheme);
     }
     Ok(Accepted {
         signer,

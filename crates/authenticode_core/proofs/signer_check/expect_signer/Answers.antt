@@ -21,12 +21,12 @@ returns-in_err-named g c =
 pub returns-in_err-expect_date : goal.returns-in_err-expect_date
 returns-in_err-expect_date g c =
     let p = err_from_is_err_and c.from_residual-in_err-expect_date.result c.from_residual-in_err-expect_date.ensures.1 in
-    rw (p.1, p.2) (undated (g.S.Scheme.judge c.args.scheme.now) c.args.policy.now (data_elements c.args.signed_data.now) c.in_ok-named.named.certificate.place (view_elements c.in_ok-named.named.certificate.certificate) c.in_err-expect_date.field-0.0 c.in_ok-named.ensures.has
+    rw (p.1, p.2) (undated (g.S.Scheme.judge c.args.scheme.now) c.args.policy.now (data_elements c.args.signed_data.now) c.in_ok-named.named.place (view_elements c.in_ok-named.named.certificate) c.in_err-expect_date.field-0.0 c.in_ok-named.ensures
     (subst (λ (checks : ChainChecks). LacksDate checks c.in_err-expect_date.field-0.0) c.checks-checks.ensures c.in_err-expect_date.ensures))
 
 pub returns : goal.returns
 returns g c =
-    let s = c.in_ok-named.ensures.has in
-    let is = kept_signer (data_elements c.args.signed_data.now) c.in_ok-named.named.certificate.place (view_elements c.in_ok-named.named.certificate.certificate) c.in_ok-signer.signer s c.in_ok-signer.ensures in
-    vouched_or_not (g.S.Scheme.judge c.args.scheme.now) c.args.policy.now (data_elements c.args.signed_data.now) s.0 c.in_ok-named.named.certificate.place c.in_ok-signer.signer is
+    let s = c.in_ok-named.ensures in
+    let is = kept_signer (data_elements c.args.signed_data.now) c.in_ok-named.named.place (view_elements c.in_ok-named.named.certificate) c.in_ok-signer.signer s c.in_ok-signer.ensures in
+    vouched_or_not (g.S.Scheme.judge c.args.scheme.now) c.args.policy.now (data_elements c.args.signed_data.now) s.0 c.in_ok-named.named.place c.in_ok-signer.signer is
     (subst IsDated c.checks-checks.ensures c.in_ok-expect_date.ensures) c.expect_standing.result (c.expect_standing.ensures s.0 is)

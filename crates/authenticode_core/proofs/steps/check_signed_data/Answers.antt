@@ -3,14 +3,17 @@ use Rattle.std.proofs.lemmas.Result.{err_from_is_err_and}
 use Rattle.cms_types.specs.SignedView.{data_elements}
 use Rattle.authenticode_core.proofs.FormFields.{are_spelled}
 use Rattle.x509_core.proofs.NoRefusal.{no_refusal}
-use Rattle.authenticode_core.proofs.PolicyOrder.{basic_refuses, signer_or_not, told_same, without_signer}
+use Rattle.authenticode_core.proofs.PolicyOrder.{basic_refuses, place_is_signers, signer_or_not, told_same, without_signer}
 use Rattle.authenticode_core.proofs.steps.check_signed_data.Goals as goal
 
 pub basic_place-requires : goal.basic_place-requires
 basic_place-requires g c = are_spelled c.requires.0 c.args.signed_data.now c.requires.1
 
-pub expect_signer-requires : goal.expect_signer-requires
-expect_signer-requires g c = are_spelled c.requires.0 c.args.signed_data.now c.requires.1
+pub expect_signer-requires-clause-known : goal.expect_signer-requires-clause-known
+expect_signer-requires-clause-known g c = place_is_signers (g.S.Scheme.judge c.args.scheme.now) c.args.policy.now (data_elements c.args.signed_data.now) c.args.policy.now.basic c.in_ok-signer.signer c.in_ok-signer.ensures.answer
+
+pub expect_signer-requires-clause-spelled : goal.expect_signer-requires-clause-spelled
+expect_signer-requires-clause-spelled g c = are_spelled c.requires.0 c.args.signed_data.now c.requires.1
 
 pub returns-in_err-signer-clause-answer : goal.returns-in_err-signer-clause-answer
 returns-in_err-signer-clause-answer g c =
