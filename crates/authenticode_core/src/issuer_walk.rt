@@ -1,6 +1,6 @@
 //! The walk from the certificate of a signer to those of its issuers, where their octets lie.
 
-ghost use Rattle.std.specs.Prelude.{◌≡◌, ◌↔◌, ℕ, suc, ◌<◌, List, [], length, None, IsTrue, IfSome, MatchOption};
+ghost use Rattle.std.specs.Prelude.{◌≡◌, ℕ, suc, ◌<◌, List, [], length, None, IfSome, MatchOption};
 ghost use Rattle.der_core.specs.DerElement.{DerElement};
 ghost use Rattle.x509_types.specs.CertificateElements.{CertificateElements};
 ghost use Rattle.x509_types.specs.CertificateView.{view_elements};
@@ -79,13 +79,4 @@ impl<'a> IssuerWalk<'a> {
         };
         Some(next)
     }
-}
-
-/// Whether a certificate of the issuer walk is one of the issuer path: its subject isn't the
-/// signer's.
-pub fn is_on_path(signer: &CertView<'_>, certificate: &CertView<'_>) -> bool
-    ensures { IsTrue result
-        ↔ (HasSubject (view_elements signer.now).tbs.subject (view_elements certificate.now) → ⊥) }
-{
-    !is_same(certificate.subject(), signer.subject())
 }

@@ -5,14 +5,21 @@
 //! ```
 //!
 //! Each line of FILE is signed data in hexadecimal digits. `tools/golden_path.py` makes such a
-//! file, and the answers to it: how many certificates there are, the place of the signer's, and the
-//! places of the issuer walk, those that aren't on the issuer path in parentheses.
+//! file, and the answers to it: how many certificates there are, the place of the signer's, as the
+//! check tells it, and the places of the issuer walk, those that aren't on the issuer path in
+//! parentheses.
 #![tactic(auto)]
 
+ghost use Rattle.cms_types.specs.SignedView.{IsSignedView};
+ghost use Rattle.der_core.specs.DerElement.{DerElement};
+
 use anyhow::{Context, Result};
-use authenticode_core::{BagCertificate, certificate_bag, is_on_path, issuer_walk_of, signer_of};
+use authenticode_core::{
+    BagCertificate, Policy, certificate_bag, check_signed_data, issuer_walk_of,
+};
 use cms_types::SignedView;
-use der_core::whole_element;
+use der_core::{is_same, whole_element};
+use sig_core::DemoScheme;
 use std::alloc::Global;
 use std::io::{BufWriter, Write};
 use std::{env, fs, io};
@@ -46,9 +53,11 @@ fn answer_of(alloc: Global, octets: &[u8]) -> Result<String> {
 }
 
 /// The line for the places in signed data.
-fn places_of(alloc: Global, signed_data: &SignedView<'_>) -> Result<String> {
+fn places_of(alloc: Global, signed_data: &SignedView<'_>) -> Result<String>
+    requires { (element : DerElement) × IsSignedView element signed_data.now }
+{
     let count = certificate_bag(signed_data).count();
-    let Some(signer) = signer_of(signed_data) else {
+    let Some(signer) = signer_of(alloc, signed_data) else {
         return Ok(format!(in alloc; "{count}\n")?);
     };
     let mut line = format!(in alloc; "{count} {}:", signer.place)?;
@@ -61,6 +70,36 @@ fn places_of(alloc: Global, signed_data: &SignedView<'_>) -> Result<String> {
     Ok(line)
 }
 
+/// The certificate of the signer, where the check tells its place. Neither a date nor a chain is
+/// asked for.
+fn signer_of<'a>(alloc: Global, signed_data: &SignedView<'a>) -> Option<BagCertificate<'a>>
+    requires { (element : DerElement) × IsSignedView element signed_data.now }
+{
+    let mut policy = Policy::new(alloc);
+    policy.basic = false;
+    policy.not_before = false;
+    policy.not_after = false;
+    policy.chain = false;
+    match check_signed_data(alloc, signed_data, &policy, &DemoScheme::new()) {
+        Ok(accepted) => certificate_at(signed_data, accepted.signer),
+        Err(_) => None,
+    }
+}
+
+/// The certificate at a place of the bag.
+fn certificate_at<'a>(
+    signed_data: &SignedView<'a>,
+    place: Option<usize>,
+) -> Option<BagCertificate<'a>> {
+    let mut bag = certificate_bag(signed_data);
+    while let Some(next) = bag.next() {
+        if Some(next.place) == place {
+            return Some(next);
+        }
+    }
+    None
+}
+
 /// The place of a certificate of the issuer walk, in parentheses where it isn't on the issuer path.
 fn walk_word(
     alloc: Global,
@@ -68,9 +107,9 @@ fn walk_word(
     next: &BagCertificate<'_>,
 ) -> Result<String> {
     let place = next.place;
-    if is_on_path(&signer.certificate, &next.certificate) {
-        Ok(format!(in alloc; " {place}")?)
-    } else {
+    if is_same(next.certificate.subject(), signer.certificate.subject()) {
         Ok(format!(in alloc; " ({place})")?)
+    } else {
+        Ok(format!(in alloc; " {place}")?)
     }
 }
