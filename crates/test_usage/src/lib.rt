@@ -1,5 +1,5 @@
-//! The callers of `docs/USING.md`, with tests. What they are to give comes from OpenSSL, and the
-//! signature file from `tools/first_path.py`.
+//! The callers of `docs/USING.md`, with tests. What they give is compared with OpenSSL, and with
+//! what the scripts of `tools/` put together from the standards.
 #![tactic(auto)]
 
 #[cfg(test)]
@@ -7,12 +7,20 @@ mod algorithms;
 #[cfg(test)]
 mod certificates;
 #[cfg(test)]
+mod issuing;
+#[cfg(test)]
 mod keys;
 #[cfg(test)]
 mod names;
 #[cfg(test)]
 mod private_keys;
 #[cfg(test)]
+mod reading;
+#[cfg(test)]
 mod schemes;
 #[cfg(test)]
 mod servers;
+#[cfg(test)]
+mod signing;
+#[cfg(test)]
+mod validating;
