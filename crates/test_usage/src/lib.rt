@@ -1,5 +1,6 @@
-//! The callers of `docs/USING.md`, with tests. What they give is compared with OpenSSL, and with
-//! what the scripts of `tools/` put together from the standards.
+//! The callers of `docs/USING.md` and of the libraries' READMEs, with tests. What they give is
+//! compared with OpenSSL, Python's `hashlib`, and what the scripts of `tools/` put together from the
+//! standards.
 #![tactic(auto)]
 
 #[cfg(test)]
@@ -16,6 +17,8 @@ mod names;
 mod private_keys;
 #[cfg(test)]
 mod reading;
+#[cfg(test)]
+mod readme;
 #[cfg(test)]
 mod schemes;
 #[cfg(test)]

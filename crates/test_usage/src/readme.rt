@@ -1,0 +1,12 @@
+//! The callers in the READMEs of the libraries, a module each.
+
+mod of_asn1_types;
+mod of_der_core;
+mod of_extension_types;
+mod of_key_types;
+mod of_name_types;
+mod of_names_core;
+mod of_private_key_types;
+mod of_request_types;
+mod of_sig_core;
+mod of_x509_types;
