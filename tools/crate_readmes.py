@@ -347,7 +347,7 @@ def written(text, crate, crates):
     if lines.count(START) != 1 or lines.count(END) != 1 or lines.index(START) > lines.index(END):
         raise Unusable(f"{readme} needs one line {START} and one line {END} below it")
     first, last = lines.index(START), lines.index(END)
-    lines[first + 1 : last] = ["", *calls_text(crate).splitlines()]
+    lines[first + 1 : last] = ["", *calls_text(crate).splitlines(), ""]
     if "## Example" not in lines:
         raise Unusable(f"{readme} needs a line ## Example")
     example = lines.index("## Example")

@@ -1,22 +1,21 @@
 //! The caller in the README of `names_core`.
 
-use der_core::Structure;
+use der_core::{DerError, Structure};
 use name_types::NameAttr;
 use names_core::DirectoryName;
-use std::alloc::{AllocError, Global};
+use std::alloc::Global;
 use std::test::Fail;
 
-/// The name of a host and of who runs it.
-fn host_name(alloc: Global, host: &str, company: &str) -> Result<DirectoryName, AllocError> {
+/// The encoding of the name of a host and of the company that runs it.
+fn host_name(alloc: Global, host: &str, company: &str) -> Result<Vec<u8>, DerError> {
     let mut name = DirectoryName::new_common_name(alloc, host)?;
     name.add_attr(NameAttr::OrganizationName, company)?;
-    Ok(name)
+    name.to_der(alloc)
 }
 
 #[test]
 fn a_name(rt: HostRuntime) -> Result<(), Fail> {
-    let name = host_name(rt.alloc(), "www.example.org", "Example Ltd")?;
-    let octets = name.to_der(rt.alloc())?;
+    let octets = host_name(rt.alloc(), "www.example.org", "Example Ltd")?;
     let wanted = hex::decode(rt.alloc(), NAME)?;
     assert_eq!(rt; octets.as_slice(), wanted.as_slice());
     Ok(())
