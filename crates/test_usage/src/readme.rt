@@ -1,12 +1,22 @@
 //! The callers in the READMEs of the libraries, a module each.
 
 mod of_asn1_types;
+mod of_authenticode_core;
+mod of_authenticode_parts;
+mod of_authenticode_signature;
+mod of_cms_content;
+mod of_cms_types;
 mod of_der_core;
 mod of_extension_types;
+mod of_key_core;
 mod of_key_types;
 mod of_name_types;
 mod of_names_core;
+mod of_picky_check;
 mod of_private_key_types;
 mod of_request_types;
 mod of_sig_core;
+mod of_wincert_core;
+mod of_x509_core;
+mod of_x509_issuing;
 mod of_x509_types;
