@@ -16,7 +16,7 @@ fn reads(rt: HostRuntime) -> Result<(), Fail> {
     let octets = hex::decode(rt.alloc(), CERTIFICATES_ALONE)?;
     let data = hex::decode(rt.alloc(), "2a864886f70d010701")?;
     assert!(rt; content_type(&octets) == Some(data.as_slice()));
-    assert!(rt; content_type(&data) == None);
+    assert!(rt; content_type(&data).is_none());
     Ok(())
 }
 

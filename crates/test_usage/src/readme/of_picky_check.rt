@@ -9,12 +9,13 @@ use std::test::Fail;
 fn status(
     alloc: Global,
     words: &[String],
-    files: (&[u8], &[u8]),
+    signature: &[u8],
+    table: &str,
     out: &mut MemSink,
 ) -> Result<u8, AllocError> {
     let mut shelf = MemShelf::new(alloc);
-    shelf.add("sig", files.0)?;
-    shelf.add("table", files.1)?;
+    shelf.add("sig", signature)?;
+    shelf.add("table", table.as_bytes())?;
     Ok(run(alloc, words, &mut shelf, out))
 }
 
@@ -23,8 +24,8 @@ fn runs(rt: HostRuntime) -> Result<(), Fail> {
     let file = hex::decode(rt.alloc(), FILE)?;
     let words = words_of(rt.alloc(), &["basic", "sig", "table", HASH])?;
     let mut sink = MemSink::with_room(rt.alloc(), 100)?;
-    let status = status(rt.alloc(), &words, (&file, TABLE.as_bytes()), &mut sink)?;
-    assert!(rt; status == 0 && sink.held() == LINE.as_bytes());
+    assert!(rt; status(rt.alloc(), &words, &file, TABLE, &mut sink)? == 0);
+    assert!(rt; sink.held() == LINE.as_bytes());
     Ok(())
 }
 

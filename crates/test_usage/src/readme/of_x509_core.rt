@@ -9,14 +9,14 @@ use x509_core::{Cert, CertError, CertValidator};
 
 /// Accepts a certificate at a date under its issuers, the nearest first and a root last, or reports
 /// the first rule that is broken. The table has the verdicts on their signatures.
-fn check(
+fn check<'a>(
     alloc: Global,
-    cert: &Cert,
-    issuers: &[Cert],
-    date: &UtcDate,
+    cert: &'a Cert,
+    issuers: &'a [Cert],
+    date: &'a UtcDate,
     table: &VerdictTable,
 ) -> Result<(), CertError> {
-    let validator: CertValidator<'_, '_, Iter<'_, Cert>> = cert.verifier();
+    let validator: CertValidator<'a, 'a, Iter<'a, Cert>> = cert.verifier();
     let validator = validator.exact_date(date).chain(issuers.iter());
     validator.verify(alloc, table)
 }
@@ -24,13 +24,19 @@ fn check(
 #[test]
 fn checks(rt: HostRuntime) -> Result<(), Fail> {
     let leaf = Cert::from_der(rt.alloc(), &hex::decode(rt.alloc(), LEAF)?)?;
-    let root = Cert::from_der(rt.alloc(), &hex::decode(rt.alloc(), ROOT)?)?;
-    let issuers = vec![in rt.alloc(); root]?;
+    let issuers = alone(rt.alloc(), &hex::decode(rt.alloc(), ROOT)?)?;
     let table = VerdictTable::parse(rt.alloc(), TABLE.as_bytes())?;
     assert!(rt; is_accepted_in(rt.alloc(), &leaf, &issuers, 2026, &table));
     assert!(rt; !is_accepted_in(rt.alloc(), &leaf, &issuers, 2027, &table));
     assert!(rt; !is_accepted_in(rt.alloc(), &leaf, &[], 2026, &table));
     Ok(())
+}
+
+/// The one certificate that octets are.
+fn alone(alloc: Global, octets: &[u8]) -> Result<Vec<Cert>, CertError> {
+    let mut certificates = Vec::new(alloc);
+    certificates.push(Cert::from_der(alloc, octets)?)?;
+    Ok(certificates)
 }
 
 /// Whether the certificate is accepted on the 15th of June of a year.

@@ -12,8 +12,8 @@ use x509_issuing::Csr;
 fn request(alloc: Global, name: &str, key: &PrivateKey) -> Result<Vec<u8>, CsrError> {
     let subject = DirectoryName::new_common_name(alloc, name)?;
     let algorithm = SignatureAlgorithm::RsaPkcs1v15(HashAlgorithm::SHA2_256);
-    let request = Csr::generate(alloc, subject, key, algorithm, &DemoScheme::new())?;
-    request.to_der(alloc)
+    let csr = Csr::generate(alloc, subject, key, algorithm, &DemoScheme::new())?;
+    csr.to_der(alloc)
 }
 
 #[test]
