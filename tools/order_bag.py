@@ -16,9 +16,9 @@ attributes, so each is as good as before, and a table for SIG is one for OUT.
 import sys
 from pathlib import Path
 
-from chain_reader import Read, Refused
-from der_reader import Constructed, read_first, write
-from value_reader import dotted
+from judges.chain_reader import Read, Refused
+from judges.der_reader import Constructed, read_first, write
+from judges.value_reader import dotted
 from verdict_table import MICROSOFT_COUNTERSIGNATURE, UNFORMED, NotASignatureFile, signed_data_in
 
 CERTIFICATES, UNSIGNED = 0xA0, 0xA1

@@ -33,10 +33,10 @@ from struct import unpack_from
 from tempfile import TemporaryDirectory
 from typing import NamedTuple
 
-from certificate_making import OpensslError, openssl
-from der_reader import Constructed, Malformed, read_exact, read_first, write
-from value_reader import Shape, certificate, dotted
-from verdict_rows import FIRST_LINE
+from common.openssl import OpensslError, openssl
+from judges.der_reader import Constructed, Malformed, read_exact, read_first, write
+from judges.value_reader import Shape, certificate, dotted
+from judges.verdict_rows import FIRST_LINE
 
 RSA = "1.2.840.113549.1.1.1"
 EC = "1.2.840.10045.2.1"

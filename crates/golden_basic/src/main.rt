@@ -7,8 +7,8 @@
 //! Each line of FILE is a case, its words in hexadecimal digits, `-` for none: a signature file,
 //! the digest that is asked for, the text of a verdict table, and any number of changes. A change
 //! is a place in two octets and the octet that stands there instead. A line is printed for the file
-//! as it is, and one for each change of it. `tools/golden_basic.py` makes such a file, and the
-//! answers to it.
+//! as it is, and one for each change of it. `tools/golden/golden_basic.py` makes such a file, and
+//! the answers to it.
 #![tactic(auto)]
 
 mod case;

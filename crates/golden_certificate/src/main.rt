@@ -9,10 +9,10 @@
 //! certificate OCTETS`, `kept certificate OCTETS`, `written certificate OCTETS ALGORITHM`, `parent
 //! certificate OCTETS OCTETS`, `unlike certificate OCTETS OCTETS`, `both certificate OCTETS`, or
 //! `both certificate BEGIN PART TIMES END`. Octets stand in hexadecimal digits. A line is printed
-//! for each row. `tools/golden_value.py` makes rows and lines.
+//! for each row. `tools/golden/golden_value.py` makes rows and lines.
 //!
 //! With TIMES the file has certificates one after another; each is read so many times, for
-//! `bench/certificates.py`.
+//! `bench/certificates/certificates.py`.
 #![tactic(auto)]
 
 mod both;

@@ -1,4 +1,4 @@
-//! How long certificates take to be read, for `bench/certificates.py`.
+//! How long certificates take to be read, for `bench/certificates/certificates.py`.
 
 use crate::view::{first_in, octets};
 use anyhow::Result;

@@ -13,7 +13,7 @@
 //! basic, `s` for signing, `f` and `l` for the first and the last end of validities, `c` for the
 //! chain; the digest of the file; the date, or the lower end of the dates, as `20250101000000Z`;
 //! the upper end; and a place in the file in two octets with the octet that stands there instead.
-//! `-` stands for none. `tools/golden_check.py` makes such a file, and the answers to it.
+//! `-` stands for none. `tools/golden/golden_check.py` makes such a file, and the answers to it.
 #![tactic(auto)]
 
 mod asked;

@@ -9,9 +9,10 @@
 //! A row is a call and its arguments, a space between: `structure KIND OCTETS`, `both pkcs7
 //! OCTETS`, `unlike KIND OCTETS OCTETS`, `members KIND OCTETS`, `make string TEXT` or `make sha
 //! NAME`. Octets and texts stand in hexadecimal digits, `-` for none. A line is printed for each
-//! row. `tools/golden_value.py` makes rows and lines.
+//! row. `tools/golden/golden_value.py` makes rows and lines.
 //!
-//! With TIMES the file is signed data, which is read so many times, for `bench/signed_data.py`.
+//! With TIMES the file is signed data, which is read so many times, for
+//! `bench/signed_data/signed_data.py`.
 #![tactic(auto)]
 
 mod both;

@@ -1,4 +1,4 @@
-//! How long signed data takes to be read, for `bench/signed_data.py`.
+//! How long signed data takes to be read, for `bench/signed_data/signed_data.py`.
 
 use anyhow::Result;
 use cms_types::{Pkcs7Certificate, SignedView};

@@ -6,8 +6,8 @@
 //! golden_der count FILE
 //! ```
 //!
-//! `tools/compare_readers.py` says what the first two ask for and what is printed. The third prints
-//! how many elements the file has, for `bench/cursor.py`.
+//! `tools/golden/compare_readers.py` says what the first two ask for and what is printed. The third
+//! prints how many elements the file has, for `bench/cursor/cursor.py`.
 #![tactic(auto)]
 
 mod answer;

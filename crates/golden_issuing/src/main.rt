@@ -18,12 +18,12 @@
 //! ```
 //!
 //! Octets stand in hexadecimal digits, `-` for none. KEY is a private key in PKCS #8, a date is the
-//! contents of a GeneralizedTime. A line is printed for each row. `tools/golden_issuing.py` makes
-//! rows and lines.
+//! contents of a GeneralizedTime. A line is printed for each row. `tools/golden/golden_issuing.py`
+//! makes rows and lines.
 //!
 //! With TIMES the file has certificates, a comma between, the first issued by the second and so on,
 //! a date, and the key of the second. The chain is judged and the first is built so many times, for
-//! `bench/issuing.py`.
+//! `bench/issuing/issuing.py`.
 #![tactic(auto)]
 
 mod building;

@@ -1,4 +1,5 @@
-//! How long a chain takes to be judged and a certificate to be built, for `bench/issuing.py`.
+//! How long a chain takes to be judged and a certificate to be built, for
+//! `bench/issuing/issuing.py`.
 
 ghost use Rattle.sig_core.specs.declared.scheme.Verdict.TheVariants.{Accept};
 

@@ -17,11 +17,11 @@
 //!
 //! Octets stand in hexadecimal digits, `-` for none. SCHEME is `demo`, or a message and its
 //! signature, a colon between, KEY a private key in PKCS #8, and DIGEST the name of an algorithm.
-//! `tools/golden_kept.py` makes such a file, and the answers to it. To signed data it is that of
-//! `golden_path`, then the digest of the file, and how many signed and how many unsigned attributes
-//! the first signer has, `-` where there is none; with a token the signed data that is stamped by
-//! it; else signed data with the certificates alone, the signature of a program that is made by
-//! them, and that which a builder makes; or why there is none.
+//! `tools/golden/golden_kept.py` makes such a file, and the answers to it. To signed data it is
+//! that of `golden_path`, then the digest of the file, and how many signed and how many unsigned
+//! attributes the first signer has, `-` where there is none; with a token the signed data that is
+//! stamped by it; else signed data with the certificates alone, the signature of a program that is
+//! made by them, and that which a builder makes; or why there is none.
 #![tactic(auto)]
 
 mod alone;

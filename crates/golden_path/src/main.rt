@@ -4,9 +4,9 @@
 //! golden_path FILE
 //! ```
 //!
-//! Each line of FILE is signed data in hexadecimal digits. `tools/golden_path.py` makes such a
-//! file, and the answers to it: how many certificates there are, the place of the signer's, as the
-//! check tells it, and the places of the issuer walk, those that aren't on the issuer path in
+//! Each line of FILE is signed data in hexadecimal digits. `tools/golden/golden_path.py` makes such
+//! a file, and the answers to it: how many certificates there are, the place of the signer's, as
+//! the check tells it, and the places of the issuer walk, those that aren't on the issuer path in
 //! parentheses.
 #![tactic(auto)]
 

@@ -7,7 +7,7 @@
 //!
 //! A row is a subject, a call and its arguments, a space between. Octets and texts stand in
 //! hexadecimal digits, `-` for none, other numbers in decimal digits. A line is printed for each
-//! row. `tools/golden_value.py` makes rows and lines.
+//! row. `tools/golden/golden_value.py` makes rows and lines.
 #![tactic(auto)]
 
 mod errors;

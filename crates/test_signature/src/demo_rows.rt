@@ -1,4 +1,4 @@
-//! Secrets, keys and signatures of the demonstration scheme, of `tools/demo_signatures.py`.
+//! Secrets, keys and signatures of the demonstration scheme, of `tools/cases/demo_signatures.py`.
 
 use sig_core::SigAlg;
 

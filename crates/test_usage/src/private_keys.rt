@@ -37,7 +37,7 @@ fn is_signed(
 #[rattlefmt::skip]
 const KEY: &str = "3031020100300d06092a864886f70d0101010500041d301b02010002011102010302010502010702010b020101020102020104";
 
-/// Its signature of `message`, by `tools/demo_signatures.py`.
+/// Its signature of `message`, by `tools/cases/demo_signatures.py`.
 const SIGNATURE: &str = "387296ab30c30dc5969134fbbf5bcc6818e878ba18ae4739e780697573b372a7";
 
 /// Whether the signature is one of `message`, and of no longer text.

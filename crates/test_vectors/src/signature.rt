@@ -1,4 +1,4 @@
-//! A signature that is accepted, as `tools/first_path.py` writes it, and runs over it.
+//! A signature that is accepted, as `tools/cases/first_path.py` writes it, and runs over it.
 
 use hex::FromHexError;
 use picky_check::{MemShelf, MemSink, run};

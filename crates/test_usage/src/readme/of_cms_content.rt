@@ -21,7 +21,7 @@ fn reads(rt: HostRuntime) -> Result<(), Fail> {
     Ok(())
 }
 
-/// The content of a PE image with the SHA-256 of `abc`, as `tools/first_path.py` puts it together.
+/// The content of a PE image with the SHA-256 of `abc`, as `tools/cases/first_path.py` puts it together.
 #[rattlefmt::skip]
 const CONTENT: &str = "304c3017060a2b06010401823702010f3009030100a004a20280003031300d060960864801650304020105000420ba7816bf8f01cfea414140de5dae2223b00361a396177a9cb410ff61f20015ad";
 

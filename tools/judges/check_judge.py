@@ -1,0 +1,285 @@
+"""What a signature file is answered under a policy, step by step, as `golden_check` prints it.
+
+This judge exists to be compared with the project's own.  It goes on where
+`basic_judge` ends; whether one certificate may have issued another is what
+`chain_reader` says, and both are written from the rules alone (RFC 5652, RFC 5280,
+the Windows Authenticode Portable Executable Signature Format).
+
+The header and the value are asked under every policy, steps 1 to 13 where it has
+`basic`, and these where it has `signing`:
+
+  14           there is a signer, `MultipleSignerInfo`; the first one is named by
+               issuer and serial number, `IncorrectSignerIdentifier`; and a
+               certificate has both: `NoCertificatesAssociatedWithIssuerAndSerialNumber`;
+  15           where one end of validities is looked at there is a date,
+               `MissingBuilderArgument`; where there is one the signer's certificate
+               is valid then, `CertificateNotYetValid`, `CertificateExpired`; and where
+               the chain is asked for each certificate of the path may have issued
+               the one before it.
+
+The path are the certificates of the issuer walk that have another subject than the
+signer's.  Where the signer's certificate is expired, nothing of the path is looked
+at, and an excuse is looked for:
+
+  lifetime     it names lifetime signing: there is none;
+  bag          a certificate of the signed data names time stamping;
+  token        the first unsigned attribute of the signer is a countersignature of
+               Microsoft's with a first value, some certificate of that token names
+               time stamping, and those of it whose subject isn't that of its first
+               one are a chain above that one, without dates: `InvalidTimestampCert`.
+
+An answer is the line of a report, and behind the name of a refusal its text.
+"""
+
+from typing import NamedTuple
+
+from judges import chain_reader
+from judges.basic_judge import (
+    OTHER_KEYS, Refused, SignedData, Signer, certificate_in, check_basic, issuer_walk, place_of, refuse_unless, signed_data_in, signers_certificate,
+)
+from judges.der_reader import read_exact, write
+from judges.value_reader import dotted, name_text
+from judges.verdict_rows import verdicts
+from verdict_table import EC, ED25519, MICROSOFT_COUNTERSIGNATURE, RSA, SIGNATURES
+
+TIME_STAMPING = "1.3.6.1.5.5.7.3.8"
+LIFETIME_SIGNING = "1.3.6.1.4.1.311.10.3.13"
+X25519 = "1.3.101.110"
+EXPIRED = "InvalidCertificate:CertificateExpired"
+
+
+class Policy(NamedTuple):
+    """What is asked: the digest of the file, None for none; moments in fourteen digits, the upper one None where the lower is the date."""
+
+    basic: bool = False
+    signing: bool = False
+    not_before: bool = False
+    not_after: bool = False
+    chain: bool = False
+    file_hash: bytes | None = None
+    lower: str | None = None
+    upper: str | None = None
+
+
+# Texts of refusals.
+
+TEXTS = {
+    "IncorrectVersion": "the version of the signed data is {1}, and not {0}",
+    "MultipleSignerInfo": "the signed data has {0} signers, and not one",
+    "IncorrectDigestAlgorithmsCount": "the signed data has {0} digest algorithms, and not one",
+    "NoEncapsulatedContentInfo": "the signed data has no content",
+    "NoSpcIndirectDataContent": "what is signed does not stand for a file",
+    "DigestAlgorithmMismatch": "the signed data names several digest algorithms",
+    "MissingExpectedFileHash": "no digest of the file is given",
+    "FileHashMismatch": "the signature is for a file with the digest {0}, but that of the file is {1}",
+    "IncorrectSignerIdentifier": "the signer is named by the identifier of a key, and not by issuer and serial number",
+    "NoCertificatesAssociatedWithIssuerAndSerialNumber": "the signed data has no certificate of the issuer '{1}' with the serial number {0}",
+    "UnsupportedAlgorithmError": "the identifier names no supported digest algorithm",
+    "SignatureError": "signature error: {0}",
+    "NoMessageDigest": "no message digest is among the signed attributes",
+    "UnsupportedHashAlgorithmError": "digests by SHA-224 are not supported",
+    "HashMismatch": "the signed message digest is {0}, but that of the content is {1}",
+    "NoEKUCodeSigning": "the certificate of the signer is not one for code signing",
+    "InvalidTimestampCert": "certificate of the time stamp: {0}",
+}
+
+
+def shown(refusal):
+    """The line of a refusal: its words are the name and the fields, or the name and a text."""
+    name, *fields = refusal.words
+    form = TEXTS.get(name, "{0}")
+    return f"refused {name} {form.format(*(field.replace('-', '', field == '-') for field in fields))}"
+
+
+def moment(digits):
+    """A moment as it is printed."""
+    return f"{digits[:4]}-{digits[4:6]}-{digits[6:8]} {digits[8:10]}:{digits[10:12]}:{digits[12:]}"
+
+
+def invalid(read, cause):
+    return f"invalid certificate '{read.name}': {cause}"
+
+
+# Certificates as `chain_reader` has them, with their names and windows.
+
+class Window(NamedTuple):
+    """Which ends of a validity are looked at, and from when to when."""
+
+    lower: str | None
+    upper: str | None
+    not_before: bool
+    not_after: bool
+
+
+class Dated(chain_reader.Read):
+    """A certificate that is asked whether it is valid in a window, and told by its name."""
+
+    @property
+    def name(self):
+        return name_text(read_exact(self.parts.subject))
+
+    @property
+    def issuer_name(self):
+        return name_text(read_exact(self.parts.issuer))
+
+    def expect_valid(self, window):
+        if window.lower is None:
+            return
+        if window.not_before and self.begins > window.upper:
+            raise Refused("InvalidCertificate:CertificateNotYetValid", invalid(
+                self, f"certificate is not yet valid (not before: {moment(self.begins)}, now: {moment(window.upper)})"))
+        if window.not_after and self.ends < window.lower:
+            raise Refused(EXPIRED, invalid(self, f"certificate expired (not after: {moment(self.ends)}, now: {moment(window.lower)})"))
+
+
+def dated(member):
+    """A certificate of a bag."""
+    return Dated.of(write(member.element))
+
+
+# What `chain_reader` refuses, in words.
+
+def signature_text(parent, child):
+    """Why the signature of a child isn't accepted by the key of its parent."""
+    algorithm, digest = SIGNATURES[child.algorithm]
+    kind, curve = parent.key_names()
+    if algorithm == RSA and kind != RSA:
+        return f"Key error: unsupported algorithm: {OTHER_KEYS[kind]}"
+    if algorithm == EC and kind != EC:
+        return "Key error: EC error: the key is of another kind than one of an elliptic curve"
+    if algorithm == EC and curve is None:
+        return "Key error: EC error: the curve isn't supported"
+    if algorithm == EC and (curve, digest) not in (("p256", "sha256"), ("p384", "sha384"), ("p521", "sha512")):
+        return f"unsupported algorithm: NIST-{curve.upper()} with SHA-{digest.removeprefix('sha')}"
+    if algorithm == ED25519:
+        return edwards_text(kind, parent.key_octets())
+    return "invalid signature"
+
+
+def edwards_text(kind, octets):
+    if OTHER_KEYS.get(kind) != "ED":
+        return "Key error: ED error: the key is of another kind than one of a curve 25519 or 448"
+    if kind == X25519:
+        return "ED error: the key isn't one for signatures"
+    if kind != ED25519:
+        return "Key error: ED error: the algorithm on a curve 25519 or 448 isn't supported"
+    return "invalid signature" if len(octets) == 32 else "ED error: the key hasn't 32 octets"
+
+
+def link_text(name, parent, child, malformed):
+    """The text of what one certificate over another is refused for."""
+    match name.removeprefix("InvalidCertificate:"):
+        case "InvalidChain:IssuerIsNotCA":
+            return f"CA chain error: issuer certificate '{parent.name}' is not a CA"
+        case "InvalidChain:TooDeep":
+            return ("CA chain error: chain depth doesn't satisfy basic constraints extension: "
+                    f"certificate '{parent.name}' has pathlen of {parent.limits.length}")
+        case "ExtensionNotFound":
+            return invalid(parent, "extension not found: subject key identifier")
+        case "InvalidChain:AuthorityKeyIdMismatch":
+            return invalid(child, "CA chain error: authority key id doesn't match "
+                           f"(expected: {child.authority_key.hex()}, got: {parent.subject_key.hex()})")
+        case "InvalidChain:IssuerNameMismatch":
+            return invalid(child, f"CA chain error: issuer name doesn't match (expected: {child.issuer_name}, got: {parent.name})")
+        case "Signature" if name == "Signature":
+            return f"signature error: unsupported algorithm: {child.parts.algorithm}"
+    kind = {RSA: "RSA", EC: "EC", ED25519: "ED"}.get(SIGNATURES[child.parts.algorithm][0])
+    said = f"{kind} error: the signature is malformed" if malformed else signature_text(parent.parts, child.parts)
+    return invalid(child, f"signature error: {said}")
+
+
+def expect_chain(checked, parents, window, table):
+    """Each of the parents may have issued the one before it."""
+    child, rows = checked, verdicts(table)
+    for number, parent in enumerate(parents):
+        try:
+            chain_reader.expect_link(parent, child, number, window, rows)
+        except chain_reader.Refused as refusal:
+            name = str(refusal)
+            malformed = isinstance(refusal, chain_reader.MalformedSignature)
+            raise Refused(name, link_text(name, parent, child, malformed)) from refusal
+        child = parent
+
+
+# The steps.
+
+def signer_of(signed):
+    """Step 14: the first signer, and its certificate."""
+    refuse_unless(signed.signers, "MultipleSignerInfo", 0)
+    signer = Signer(signed.signers[0])
+    return signer, signers_certificate(signer, signed.bag)
+
+
+def path_of(bag, one):
+    """The members of the issuer walk with another subject."""
+    return [member for member in issuer_walk(bag, one) if member.subject != one.subject]
+
+
+def check_signing(signed, policy, table):
+    """Steps 14 and 15: the places of the path, and the excuse."""
+    signer, one = signer_of(signed)
+    refuse_unless(policy.lower or not (policy.not_before or policy.not_after), "MissingBuilderArgument", "missing required builder argument `now`")
+    window = Window(policy.lower, policy.upper or policy.lower, policy.not_before, policy.not_after)
+    try:
+        dated(one).expect_valid(window)
+    except Refused as refusal:
+        if refusal.words[0] != EXPIRED:
+            raise
+        return [], excuse_for(signed.bag, signer, one, refusal, table)
+    if not policy.chain:
+        return [], "none"
+    path = path_of(signed.bag, one)
+    expect_chain(dated(one), map(dated, path), window, table)
+    return [place_of(member, signed.bag) for member in path], "none"
+
+
+# The excuse.
+
+def token_of(signer):
+    """The token in the first unsigned attribute, None where there is none."""
+    if not signer.unsigned:
+        return None
+    kind, values = signer.unsigned[0].kids
+    return values.kids[0] if dotted(kind.contents) == MICROSOFT_COUNTERSIGNATURE and values.kids else None
+
+
+def excuse_for(bag, signer, one, refusal, table):
+    """Why an expired signer is accepted, else the refusal."""
+    if one.names(LIFETIME_SIGNING):
+        raise refusal
+    if any(member.names(TIME_STAMPING) for member in bag):
+        return "bag"
+    token = token_of(signer)
+    if token is None:
+        raise refusal
+    stamped = SignedData(token).bag
+    if not any(member.names(TIME_STAMPING) for member in stamped):
+        raise refusal
+    first, *others = stamped
+    above = [dated(member) for member in others if member.subject != first.subject]
+    try:
+        expect_chain(dated(first), above, Window(None, None, False, False), table)
+    except Refused as bad:
+        raise Refused("InvalidTimestampCert", bad.words[1]) from bad
+    return "token"
+
+
+# The answer.
+
+def accepted(octets, policy, table):
+    """The place of the signer's certificate, those of the path and the excuse, or the first refusal."""
+    signed = signed_data_in(certificate_in(octets))
+    if policy.basic:
+        check_basic(signed, policy.file_hash, table)
+    path, excuse = check_signing(signed, policy, table) if policy.signing else ([], "none")
+    place = place_of(signer_of(signed)[1], signed.bag) if policy.basic or policy.signing else ""
+    return place, path, excuse
+
+
+def answer(octets, policy, table):
+    """The line that is printed of a signature file under a policy, and a table."""
+    try:
+        place, path, excuse = accepted(octets, policy, table)
+    except Refused as refusal:
+        return shown(refusal)
+    return f"accepted signer={place} path={','.join(map(str, path))} excuse={excuse}"
