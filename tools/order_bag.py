@@ -16,6 +16,7 @@ attributes, so each is as good as before, and a table for SIG is one for OUT.
 import sys
 from pathlib import Path
 
+from common import command
 from judges.chain_reader import Read, Refused
 from judges.der_reader import Constructed, read_first, write
 from judges.value_reader import dotted
@@ -121,15 +122,17 @@ def main(arguments):
         print(__doc__.strip())
         return 0
     if len(arguments) != 2:
-        print("usage: order_bag.py SIG OUT", file=sys.stderr)
-        return 2
+        return command.usage(__doc__)
     try:
         Path(arguments[1]).write_bytes(with_ordered_bag(Path(arguments[0]).read_bytes()))
-    except (OSError, NotASignatureFile) as refusal:
+    except OSError as refusal:
+        print(f"order_bag.py: {command.sentence(refusal)}", file=sys.stderr)
+        return 1
+    except NotASignatureFile as refusal:
         print(f"order_bag.py: {arguments[0]}: {refusal}", file=sys.stderr)
         return 1
     return 0
 
 
 if __name__ == "__main__":
-    sys.exit(main(sys.argv[1:]))
+    command.run(main, __doc__)

@@ -4,10 +4,13 @@
     python3 tools/signed_program.py PROGRAM SIG [DIGEST]
 
 writes to SIG the first entry of the program's certificate table, a WIN_CERTIFICATE,
-and prints the digest of the program in hexadecimal digits: by DIGEST, `sha256`
-unless it is given, of all octets but the checksum, the place of the certificate
-table and that table (Windows Authenticode Portable Executable Signature Format,
-"Calculating the PE Image Hash").
+and prints the digest of the program in hexadecimal digits, of all octets but the
+checksum, the place of the certificate table and that table (Windows Authenticode
+Portable Executable Signature Format, "Calculating the PE Image Hash").
+
+The digest algorithm is the one that the signature names beside its digest of the
+program (SpcIndirectDataContent, `messageDigest`), or DIGEST, a name of Python's
+hashlib such as `sha256`, where it is given.
 """
 
 import sys
@@ -15,9 +18,14 @@ from hashlib import new
 from pathlib import Path
 from struct import error, unpack_from
 
+from common import command
+from judges.value_reader import dotted
+from verdict_table import DIGESTS, UNFORMED, NotASignatureFile, content_info_in
+
 CHECKSUM = 64
 # The place of the certificate table, by the magic number of the optional header: after its fixed fields, the fifth pair.
 TABLE_PLACE = {0x10B: 96 + 4 * 8, 0x20B: 112 + 4 * 8}
+INDIRECT_DATA = "1.3.6.1.4.1.311.2.1.4"
 
 
 class NotSigned(Exception):
@@ -44,7 +52,25 @@ def signature(program):
     if length < 8 or at + length > len(program):
         raise NotSigned("it has no certificate table")
     stated, = unpack_from("<I", program, at)
+    if not 8 <= stated <= length:
+        raise NotSigned(f"its certificate table has {length} octets, and the first entry says {stated}")
     return program[at:at + stated]
+
+
+def named_digest(entry):
+    """The digest algorithm of the program that the signature in an entry names."""
+    try:
+        content = content_info_in(entry)[0].kids[1].kids[0].kids[2]
+        if dotted(content.kids[0].contents) != INDIRECT_DATA:
+            raise NotSigned("its signature is of no program; give DIGEST")
+        named = dotted(content.kids[1].kids[0].kids[1].kids[0].kids[0].contents)
+    except NotASignatureFile as refusal:
+        raise NotSigned(f"its signature isn't read, {refusal}; give DIGEST") from refusal
+    except UNFORMED as refusal:
+        raise NotSigned("its signature names no digest algorithm; give DIGEST") from refusal
+    if named not in DIGESTS:
+        raise NotSigned(f"its signature names {named}, a digest algorithm that isn't known here; give DIGEST")
+    return DIGESTS[named]
 
 
 def image_digest(program, digest):
@@ -66,19 +92,21 @@ def main(arguments):
         print(__doc__.strip())
         return 0
     if len(arguments) not in (2, 3):
-        print("usage: signed_program.py PROGRAM SIG [DIGEST]", file=sys.stderr)
-        return 2
+        return command.usage(__doc__)
     try:
         program = Path(arguments[0]).read_bytes()
         entry = signature(program)
-        digest = image_digest(program, *arguments[2:] or ["sha256"])
+        digest = image_digest(program, *arguments[2:] or [named_digest(entry)])
         Path(arguments[1]).write_bytes(entry)
-        print(digest)
-    except (OSError, NotSigned, ValueError) as refusal:
+    except OSError as refusal:
+        print(f"signed_program.py: {command.sentence(refusal)}", file=sys.stderr)
+        return 1
+    except (NotSigned, ValueError) as refusal:
         print(f"signed_program.py: {arguments[0]}: {refusal}", file=sys.stderr)
         return 1
+    print(digest)
     return 0
 
 
 if __name__ == "__main__":
-    sys.exit(main(sys.argv[1:]))
+    command.run(main, __doc__)

@@ -12,8 +12,11 @@ that docs/FORMATS.md gives for verdict tables of version 2:
     its issuer, over its TBSCertificate;
   - of the certificates in the token of a timestamp, the same.
 
-Each CERT is a file with one certificate in DER, the one that is checked first and
-its nearest parent next.  Each line names the signature of one by the key of the next.
+Each CERT is a file with one certificate, in DER or in PEM (RFC 7468 5), the one that
+is checked first and its nearest parent next.  Each line names the signature of one by
+the key of the next.
+
+The digest algorithm of a signature is the one that the signature itself names.
 
 The line says `accept` of a signature that openssl verifies, `malformed` of another
 whose length or form no signature of the algorithm has, and `reject` of any other.
@@ -27,12 +30,14 @@ signatures has no table, and the status is 1.
 """
 
 import sys
+from base64 import b64decode
 from hashlib import sha256
 from pathlib import Path
 from struct import unpack_from
 from tempfile import TemporaryDirectory
 from typing import NamedTuple
 
+from common import command
 from common.openssl import OpensslError, openssl
 from judges.der_reader import Constructed, Malformed, read_exact, read_first, write
 from judges.value_reader import Shape, certificate, dotted
@@ -176,8 +181,8 @@ class Asked(NamedTuple):
 
 # What stands in a file.
 
-def signed_data_in(octets):
-    """The fields of the signed data in a WIN_CERTIFICATE."""
+def content_info_in(octets):
+    """The element in a WIN_CERTIFICATE, and how many octets it has."""
     if octets.startswith(b"MZ"):
         raise NotASignatureFile("it is a program, whose signature tools/signed_program.py takes out")
     if len(octets) < 8:
@@ -186,10 +191,14 @@ def signed_data_in(octets):
     if not 8 <= length <= len(octets):
         raise NotASignatureFile(f"it has {len(octets)} octets, and its header says {length}")
     try:
-        element, _ = read_first(octets[8:length])
+        return read_first(octets[8:length])
     except Malformed as refusal:
         raise NotASignatureFile(f"its certificate isn't one element of DER: {refusal}") from refusal
-    return signed_fields(element)
+
+
+def signed_data_in(octets):
+    """The certificates and the signers of the signed data in a WIN_CERTIFICATE."""
+    return signed_fields(content_info_in(octets)[0])
 
 
 def signed_fields(element):
@@ -266,10 +275,25 @@ def asked_of(octets):
         yield from of_certificates(signed_fields(token)[0], "the token")
 
 
+def der_in(octets):
+    """The octets in DER of a file in DER, or in PEM with one certificate (RFC 7468 5)."""
+    if octets.startswith(b"\x30") or b"-----BEGIN " not in octets:
+        return octets
+    _, *found = octets.split(b"-----BEGIN CERTIFICATE-----")
+    if len(found) != 1:
+        raise NotACertificate(f"it is in PEM and has {len(found)} certificates, and one is asked for")
+    text, end, _ = found[0].partition(b"-----END CERTIFICATE-----")
+    try:
+        if end:
+            return b64decode(b"".join(text.split()), validate=True)
+    except ValueError as refusal:
+        raise NotACertificate("its certificate in PEM isn't base64") from refusal
+    raise NotACertificate("its certificate in PEM has no END line")
+
+
 def certificate_in(octets):
-    """The parts of the certificate that octets are."""
-    if octets.startswith(b"-----BEGIN"):
-        raise NotACertificate("it is in PEM; openssl x509 -outform DER writes it in DER")
+    """The parts of the certificate that octets are, in DER or in PEM."""
+    octets = der_in(octets)
     try:
         element = read_exact(octets)
         certificate(element)
@@ -297,20 +321,12 @@ def chain_table(files, version=1):
     return table_of(asked_of_chain([certificate_in(octets) for octets in files]), version)
 
 
-def octets_of(path):
-    """The octets of a file by its path."""
-    try:
-        return Path(path).read_bytes()
-    except FileNotFoundError as error:
-        raise NotRead(f"{path}: no such file") from error
-
-
 def table_for(paths, of_chain, version=1):
     """The same for files by their paths: one signature file, or certificates."""
     certificates = []
     for path in paths:
         try:
-            octets = octets_of(path)
+            octets = Path(path).read_bytes()
             if not of_chain:
                 return table(octets, version)
             certificates.append(certificate_in(octets))
@@ -350,12 +366,11 @@ def main(arguments):
     arguments = arguments[1:] if version == 1 else arguments
     of_chain = arguments[:1] == ["--chain"]
     if len(arguments) < 2 if of_chain else len(arguments) != 1:
-        print("usage: verdict_table.py [--version-1] SIG | --chain CERT ..", file=sys.stderr)
-        return 2
+        return command.usage(__doc__)
     try:
         lines, lacking = table_for(arguments[1:] if of_chain else arguments, of_chain, version)
     except (OSError, NotRead, TooManyAsked) as error:
-        print(f"verdict_table.py: {error}", file=sys.stderr)
+        print(f"verdict_table.py: {command.sentence(error)}", file=sys.stderr)
         return 1
     for line in lines:
         print(line)
@@ -365,4 +380,4 @@ def main(arguments):
 
 
 if __name__ == "__main__":
-    sys.exit(main(sys.argv[1:]))
+    command.run(main, __doc__)

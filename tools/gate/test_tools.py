@@ -708,14 +708,9 @@ class UsersToolsTest(unittest.TestCase):
 
     def test_other_files(self):
         program = signed_programs.stored()["three"].octets
-        pem = openssl("x509", "-inform", "DER", given=signed_programs.root())
         self.assertEqual(
             self.of(verdict_table, program, "{}"),
             (1, "verdict_table.py: file: it is a program, whose signature tools/signed_program.py takes out"),
-        )
-        self.assertEqual(
-            self.of(verdict_table, pem, "--chain", "{}"),
-            (1, "verdict_table.py: file: it is in PEM; openssl x509 -outform DER writes it in DER"),
         )
         self.assertEqual(
             self.of(verdict_table, bytes.fromhex("3000"), "--chain", "{}"),
@@ -728,7 +723,35 @@ class UsersToolsTest(unittest.TestCase):
 
     def test_missing_files(self):
         for words in ["none"], ["--chain", "none", "other"]:
-            self.assertEqual(self.said(verdict_table, *words), (1, "verdict_table.py: none: no such file"))
+            self.assertEqual(self.said(verdict_table, *words), (1, "verdict_table.py: none: No such file or directory"))
+        for tool in order_bag, signed_program:
+            self.assertEqual(self.said(tool, "none", "/dev/null"), (1, f"{tool.__name__}.py: none: No such file or directory"))
+
+    def test_what_cant_be_written(self):
+        one = signed_programs.stored()["three"]
+        for tool, octets in (order_bag, one.file().octets), (signed_program, one.octets):
+            self.assertEqual(self.of(tool, octets, "{}", "/none/out"), (1, f"{tool.__name__}.py: /none/out: No such file or directory"))
+
+    def test_pem(self):
+        der = signed_programs.root()
+        for words in [], ["-text"]:
+            pem = openssl("x509", "-inform", "DER", *words, given=der)
+            for octets in pem, pem.replace(b"\n", b"\r\n"), b"\n" + pem:
+                self.assertEqual(verdict_table.certificate_in(octets), verdict_table.certificate_in(der))
+                self.assertEqual(self.of(verdict_table, octets, "--chain", "{}"), (0, ""))
+
+    def test_other_pem(self):
+        pem = openssl("x509", "-inform", "DER", given=signed_programs.root())
+        key = openssl("genpkey", "-algorithm", "ed25519")
+        for octets, why in (
+            (pem + pem, "it is in PEM and has 2 certificates, and one is asked for"),
+            (key, "it is in PEM and has 0 certificates, and one is asked for"),
+            (pem[:-5], "its certificate in PEM has no END line"),
+            (pem.replace(b"MII", b"M-I"), "its certificate in PEM isn't base64"),
+            (pem.replace(b"MII", b"MIJ"), "it isn't one element of DER"),
+        ):
+            status, said = self.of(verdict_table, octets, "--chain", "{}")
+            self.assertEqual((status, said.startswith(f"verdict_table.py: file: {why}")), (1, True), said)
 
     def test_nothing_is_written_by_another_digest(self):
         with TemporaryDirectory() as folder:
@@ -881,6 +904,54 @@ class SignedProgramTest(unittest.TestCase):
             entry = signed_program.signature(program)
             self.assertEqual(entry, basic_world.signature_file(self.SIGNED[label]))
             self.assertEqual(signed_program.image_digest(program, digest), basic_world.asked_hash(entry).hex())
+            self.assertEqual(signed_program.named_digest(entry), digest)
+
+    def printed(self, program, *words):
+        """The status, and what is printed, of a program's octets."""
+        with TemporaryDirectory() as folder, patch("sys.stdout", StringIO()) as out, patch("sys.stderr", StringIO()) as errors:
+            file = Path(folder, "program")
+            file.write_bytes(program)
+            status = signed_program.main([str(file), str(Path(folder, "entry")), *words])
+        return status, (out.getvalue() + errors.getvalue()).strip().replace(str(file), "program")
+
+    def test_the_digest_is_the_signature_s(self):
+        for digest in "md5", "sha1", "sha256", "sha384", "sha512":
+            program = self.program(f"program, RSA, {digest}")
+            wanted = 0, basic_world.asked_hash(signed_program.signature(program)).hex()
+            self.assertEqual(self.printed(program), wanted)
+            self.assertEqual(self.printed(program, digest), wanted)
+
+    def test_the_digest_is_given(self):
+        # Python's hashlib over the octets of the format, without the checksum and the place of the table.
+        program = self.program("program, RSA, sha384")
+        optional, place, at, _ = signed_program.parts(program)
+        hashed = program[:optional + 64] + program[optional + 68:optional + place] + program[optional + place + 8:at]
+        self.assertEqual(self.printed(program, "sha256"), (0, sha256(hashed).hexdigest()))
+
+    def test_no_digest_is_named(self):
+        entry = signed_program.signature(self.program("program, RSA, sha256"))
+        digests = [at for at in range(len(entry)) if entry.startswith(bytes.fromhex("0609608648016503040201"), at)]
+        contents = entry.index(bytes.fromhex("060a2b060104018237020104"))
+        data = entry.index(bytes.fromhex("06092a864886f70d010702"))
+        for places, octet, why in (
+            ([at + 10 for at in digests], 9, "its signature names 2.16.840.1.101.3.4.2.9, a digest algorithm that isn't known here; give DIGEST"),
+            ([contents + 11], 9, "its signature is of no program; give DIGEST"),
+            ([data - 4], 0x04, "its signature names no digest algorithm; give DIGEST"),
+            ([8], 0x3f, "its signature isn't read, its certificate isn't one element of DER: HighTag at 0; give DIGEST"),
+        ):
+            changed = bytearray(self.program("program, RSA, sha256"))
+            begin = len(changed) - len(entry)
+            for at in places:
+                changed[begin + at] = octet
+            self.assertEqual(self.printed(bytes(changed)), (1, f"signed_program.py: program: {why}"))
+            self.assertEqual(self.printed(bytes(changed), "sha1")[0], 0)
+
+    def test_another_length(self):
+        program = bytearray(self.program("program, RSA, sha256"))
+        _, _, at, length = signed_program.parts(program)
+        for stated in 0, 7, length + 1:
+            program[at:at + 4] = pack("<I", stated)
+            self.assertEqual(self.printed(bytes(program)), (1, f"signed_program.py: program: its certificate table has {length} octets, and the first entry says {stated}"))
 
     def test_no_signature(self):
         for octets in b"", b"MZ", bytes(100), portable_executable(), self.program("program, RSA, sha1")[:-1]:
