@@ -1,0 +1,284 @@
+"""Tests of the scripts for users: tables, and what they say of files that they can't read.
+
+    python3 -m unittest discover -s tools/gate
+"""
+
+import sys
+import unittest
+from hashlib import sha256
+from io import StringIO
+from pathlib import Path
+from shutil import which
+from struct import pack
+from tempfile import TemporaryDirectory
+from unittest.mock import patch
+
+sys.path.insert(0, str(Path(__file__).resolve().parents[1]))
+
+import order_bag
+import signed_program
+import verdict_table
+from cases import basic_world
+from common.openssl import openssl
+from interop import signed_programs, world_signatures
+from interop.signature_making import portable_executable
+from judges.basic_judge import answer
+from judges.der_reader import write
+from judges.verdict_rows import verdicts
+
+
+@unittest.skipUnless(which("openssl"), "openssl isn't there")
+class VerdictTableTest(unittest.TestCase):
+    @staticmethod
+    def signed(label):
+        """A stored signature file of this label."""
+        octets = next(octets for known, _, octets in world_signatures.stored() if known == label)
+        return pack("<IHH", 8 + len(octets), 0x0200, 2) + octets
+
+    def names(self, label):
+        lines, _ = verdict_table.table(self.signed(label))
+        return [line.split()[0] for line in lines]
+
+    def test_names(self):
+        for label, names in {
+            "program, RSA, sha384": ["rsa-sha384", "rsa-sha256"],
+            "program, P-256, sha256": ["p256-sha256"],
+            "cms, the signer by its key's identifier": ["rsa-sha256"],
+            "program, a counter-signature": ["rsa-sha256"] * 3,
+            "a revocation list alone": [],
+        }.items():
+            self.assertEqual(self.names(label), names, label)
+
+    def test_the_signers_row(self):
+        # Where a signature of the world is accepted, it is by its first row; a signer on a curve has none.
+        for label, file, file_hash, table, _, said in basic_world.rows():
+            if said[0].startswith("accepted"):
+                without = table.split("\n", 1)[1]
+                self.assertEqual(answer(file, bytes.fromhex(file_hash), without), "SignatureError invalid signature", label)
+            if said[0].endswith(" EC"):
+                self.assertIn("the signer: no name in a table", verdict_table.table(file)[1], label)
+
+    def test_stored_tables(self):
+        stored = basic_world.tables()
+        self.assertEqual({label: lines for label, _, lines in basic_world.made()}, stored)
+
+    def test_a_line(self):
+        octets = self.signed("program, RSA, sha256")
+        certificates, signers = verdict_table.signed_data_in(octets)
+        attributes = write(signers[0].kids[3])
+        parts = certificates[0].key_octets(), b"\x31" + attributes[1:], signers[0].kids[5].contents
+        lines, lacking = verdict_table.table(octets)
+        self.assertEqual(lines[0], " ".join(["rsa-sha256", *(sha256(part).hexdigest() for part in parts)]))
+        self.assertEqual(lacking, [])
+
+    def test_a_changed_signature(self):
+        octets = self.signed("program, RSA, sha256")
+        _, signers = verdict_table.signed_data_in(octets)
+        signature = signers[0].kids[5].contents
+        changed = octets.replace(signature, signature[:-1] + bytes([signature[-1] ^ 1]))
+        lines, lacking = verdict_table.table(changed)
+        self.assertEqual([line.split()[0] for line in lines], ["rsa-sha256"])
+        self.assertEqual(lacking, ["the signer: not accepted as rsa-sha256"])
+        rows, told = verdict_table.table(changed, 2)
+        self.assertEqual(rows[0], "picky-verdicts 2")
+        self.assertEqual([row.split()[:2] for row in rows[1:]], [["reject", "rsa-sha256"], ["accept", "rsa-sha256"]])
+        self.assertEqual(rows[2], f"accept {lines[0]}")
+        self.assertEqual(told, lacking)
+
+    def test_malformed(self):
+        # Of the wrong length, and no two numbers.
+        for label, last in (("program, RSA, sha256", b""), ("program, P-256, sha256", b"\0")):
+            one = list(verdict_table.asked_of(self.signed(label)))[-1]
+            self.assertEqual(one.verdict(), "accept", label)
+            self.assertEqual(one._replace(signature=one.signature[:-1] + last).verdict(), "reject" if last else "malformed", label)
+            self.assertEqual(one._replace(signature=one.signature[1:]).verdict(), "malformed", label)
+            self.assertEqual(one._replace(signature=b"").verdict(), "malformed", label)
+
+    def test_verdicts(self):
+        self.assertEqual(verdicts(""), {"": "accept"})
+        self.assertEqual(verdicts("a b\nc\n"), {"a b": "accept", "c": "accept"})
+        self.assertEqual(verdicts("picky-verdicts 2\n"), {})
+        self.assertEqual(verdicts("picky-verdicts 2\nmalformed a\naccept a\nreject b c\n"), {"a": "malformed", "b c": "reject"})
+
+    def test_too_many(self):
+        one = verdict_table.signed_data_in(self.signed("program, RSA, sha256"))[0][0]
+        many = [one._replace(issuer=one.subject, tbs=one.tbs + bytes([place])) for place in range(4)]
+        asked = list(verdict_table.of_certificates(many * 3, "the signed data"))
+        self.assertEqual([(known.what[:13], known.message) for known in asked], [(f"certificate {place}", many[place].tbs) for place in range(4)])
+        with patch.object(verdict_table, "MOST_ASKED", 3), patch.object(verdict_table.Asked, "is_accepted", lambda asked: True):
+            with self.assertRaises(verdict_table.TooManyAsked):
+                verdict_table.table_of(asked)
+            self.assertEqual(len(verdict_table.table_of(asked[:3] * 2)[0]), 3)
+
+    def test_no_signature_file(self):
+        for octets in b"", b"\x09\0\0\0\0\2\2\0", b"\x0a\0\0\0\0\2\2\0\5\0", self.signed("cms, written in pieces"):
+            with self.assertRaises(verdict_table.NotASignatureFile):
+                verdict_table.table(octets)
+
+
+@unittest.skipUnless(which("openssl"), "openssl isn't there")
+class UsersToolsTest(unittest.TestCase):
+    """What the users' tools say of files that they can't read."""
+
+    @staticmethod
+    def said(tool, *words):
+        """The status and what is written to standard error; standard output isn't looked at."""
+        with patch("sys.stderr", StringIO()) as written, patch("sys.stdout", StringIO()):
+            status = tool.main([str(word) for word in words])
+        return status, written.getvalue().strip()
+
+    @classmethod
+    def of(cls, tool, octets, *words):
+        """The same of a file, whose name stands in its words as `{}`."""
+        with TemporaryDirectory() as folder:
+            file = Path(folder, "file")
+            file.write_bytes(octets)
+            status, said = cls.said(tool, *(file if word == "{}" else word for word in words))
+            return status, said.replace(str(file), "file")
+
+    def test_damaged_signers(self):
+        octets = signed_programs.stored()["stamped"].file().octets
+        at = octets.rindex(bytes.fromhex("06 0a 2b 06 01 04 01 82 37 03 03 01"))
+        signer, = verdict_table.signed_data_in(octets)[1]
+        named = octets.rindex(write(signer.kids[1]))
+        changes = [(at, 0x05), (at + 2, 0x80), (named, 0x04), (octets.rindex(write(signer)) + 4, 0x04)]
+        for place, octet in changes:
+            changed = octets[:place] + bytes([octet]) + octets[place + 1:]
+            for tool, words in (verdict_table, ["{}"]), (order_bag, ["{}", "/dev/null"]):
+                status, said = self.of(tool, changed, *words)
+                self.assertIn((status, said.startswith(f"{tool.__name__}.py: file: ")), [(1, True), (0, False)])
+
+    def test_other_files(self):
+        program = signed_programs.stored()["three"].octets
+        self.assertEqual(
+            self.of(verdict_table, program, "{}"),
+            (1, "verdict_table.py: file: it is a program, whose signature tools/signed_program.py takes out"),
+        )
+        self.assertEqual(
+            self.of(verdict_table, bytes.fromhex("3000"), "--chain", "{}"),
+            (1, "verdict_table.py: file: it isn't a certificate of a shape that is read here"),
+        )
+        self.assertEqual(
+            self.of(signed_program, program, "{}", "/dev/null", "shake_128"),
+            (1, "signed_program.py: file: shake_128 has digests of any length"),
+        )
+
+    def test_missing_files(self):
+        for words in ["none"], ["--chain", "none", "other"]:
+            self.assertEqual(self.said(verdict_table, *words), (1, "verdict_table.py: none: No such file or directory"))
+        for tool in order_bag, signed_program:
+            self.assertEqual(self.said(tool, "none", "/dev/null"), (1, f"{tool.__name__}.py: none: No such file or directory"))
+
+    def test_what_cant_be_written(self):
+        one = signed_programs.stored()["three"]
+        for tool, octets in (order_bag, one.file().octets), (signed_program, one.octets):
+            self.assertEqual(self.of(tool, octets, "{}", "/none/out"), (1, f"{tool.__name__}.py: /none/out: No such file or directory"))
+
+    def test_pem(self):
+        der = signed_programs.root()
+        for words in [], ["-text"]:
+            pem = openssl("x509", "-inform", "DER", *words, given=der)
+            for octets in pem, pem.replace(b"\n", b"\r\n"), b"\n" + pem:
+                self.assertEqual(verdict_table.certificate_in(octets), verdict_table.certificate_in(der))
+                self.assertEqual(self.of(verdict_table, octets, "--chain", "{}"), (0, ""))
+
+    def test_other_pem(self):
+        pem = openssl("x509", "-inform", "DER", given=signed_programs.root())
+        key = openssl("genpkey", "-algorithm", "ed25519")
+        for octets, why in (
+            (pem + pem, "it is in PEM and has 2 certificates, and one is asked for"),
+            (key, "it is in PEM and has 0 certificates, and one is asked for"),
+            (pem[:-5], "its certificate in PEM has no END line"),
+            (pem.replace(b"MII", b"M-I"), "its certificate in PEM isn't base64"),
+            (pem.replace(b"MII", b"MIJ"), "it isn't one element of DER"),
+        ):
+            status, said = self.of(verdict_table, octets, "--chain", "{}")
+            self.assertEqual((status, said.startswith(f"verdict_table.py: file: {why}")), (1, True), said)
+
+    def test_nothing_is_written_by_another_digest(self):
+        with TemporaryDirectory() as folder:
+            program, entry = Path(folder, "program"), Path(folder, "entry")
+            program.write_bytes(signed_programs.stored()["three"].octets)
+            for digest in "shake_128", "sha3":
+                self.assertEqual(self.said(signed_program, program, entry, digest)[0], 1)
+                self.assertFalse(entry.exists())
+
+    def test_help(self):
+        for tool in verdict_table, order_bag, signed_program, signed_programs:
+            self.assertEqual(self.said(tool, "--help"), (0, ""))
+
+
+class SignedProgramTest(unittest.TestCase):
+    SIGNED = {label: octets for label, _, octets in world_signatures.stored()}
+
+    def program(self, label):
+        """The program that is signed there, with the signature of this label."""
+        program, entry = bytearray(portable_executable()), basic_world.signature_file(self.SIGNED[label])
+        optional, place, _, _ = signed_program.parts(program)
+        program[optional + place:optional + place + 8] = pack("<II", len(program), len(entry))
+        return bytes(program) + entry
+
+    def test_digests(self):
+        for digest in "md5", "sha1", "sha256", "sha384", "sha512":
+            label = f"program, RSA, {digest}"
+            program = self.program(label)
+            entry = signed_program.signature(program)
+            self.assertEqual(entry, basic_world.signature_file(self.SIGNED[label]))
+            self.assertEqual(signed_program.image_digest(program, digest), basic_world.asked_hash(entry).hex())
+            self.assertEqual(signed_program.named_digest(entry), digest)
+
+    def printed(self, program, *words):
+        """The status, and what is printed, of a program's octets."""
+        with TemporaryDirectory() as folder, patch("sys.stdout", StringIO()) as out, patch("sys.stderr", StringIO()) as errors:
+            file = Path(folder, "program")
+            file.write_bytes(program)
+            status = signed_program.main([str(file), str(Path(folder, "entry")), *words])
+        return status, (out.getvalue() + errors.getvalue()).strip().replace(str(file), "program")
+
+    def test_the_digest_is_the_signature_s(self):
+        for digest in "md5", "sha1", "sha256", "sha384", "sha512":
+            program = self.program(f"program, RSA, {digest}")
+            wanted = 0, basic_world.asked_hash(signed_program.signature(program)).hex()
+            self.assertEqual(self.printed(program), wanted)
+            self.assertEqual(self.printed(program, digest), wanted)
+
+    def test_the_digest_is_given(self):
+        # Python's hashlib over the octets of the format, without the checksum and the place of the table.
+        program = self.program("program, RSA, sha384")
+        optional, place, at, _ = signed_program.parts(program)
+        hashed = program[:optional + 64] + program[optional + 68:optional + place] + program[optional + place + 8:at]
+        self.assertEqual(self.printed(program, "sha256"), (0, sha256(hashed).hexdigest()))
+
+    def test_no_digest_is_named(self):
+        entry = signed_program.signature(self.program("program, RSA, sha256"))
+        digests = [at for at in range(len(entry)) if entry.startswith(bytes.fromhex("0609608648016503040201"), at)]
+        contents = entry.index(bytes.fromhex("060a2b060104018237020104"))
+        data = entry.index(bytes.fromhex("06092a864886f70d010702"))
+        for places, octet, why in (
+            ([at + 10 for at in digests], 9, "its signature names 2.16.840.1.101.3.4.2.9, a digest algorithm that isn't known here; give DIGEST"),
+            ([contents + 11], 9, "its signature is of no program; give DIGEST"),
+            ([data - 4], 0x04, "its signature names no digest algorithm; give DIGEST"),
+            ([8], 0x3f, "its signature isn't read, its certificate isn't one element of DER: HighTag at 0; give DIGEST"),
+        ):
+            changed = bytearray(self.program("program, RSA, sha256"))
+            begin = len(changed) - len(entry)
+            for at in places:
+                changed[begin + at] = octet
+            self.assertEqual(self.printed(bytes(changed)), (1, f"signed_program.py: program: {why}"))
+            self.assertEqual(self.printed(bytes(changed), "sha1")[0], 0)
+
+    def test_another_length(self):
+        program = bytearray(self.program("program, RSA, sha256"))
+        _, _, at, length = signed_program.parts(program)
+        for stated in 0, 7, length + 1:
+            program[at:at + 4] = pack("<I", stated)
+            self.assertEqual(self.printed(bytes(program)), (1, f"signed_program.py: program: its certificate table has {length} octets, and the first entry says {stated}"))
+
+    def test_no_signature(self):
+        for octets in b"", b"MZ", bytes(100), portable_executable(), self.program("program, RSA, sha1")[:-1]:
+            with self.assertRaises(signed_program.NotSigned):
+                signed_program.signature(octets)
+
+
+if __name__ == "__main__":
+    unittest.main()
