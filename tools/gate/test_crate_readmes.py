@@ -1,4 +1,4 @@
-"""Tests of crate_readmes.py: `python3 -m unittest discover -s tools -p test_crate_readmes.py`."""
+"""Tests of crate_readmes.py: `python3 -m unittest discover -s tools/gate -p test_crate_readmes.py`."""
 
 import io
 import sys

@@ -3,8 +3,8 @@
 
 Usage:
 
-    python3 tools/crate_readmes.py CRATES
-    python3 tools/crate_readmes.py --check CRATES
+    python3 tools/gate/crate_readmes.py CRATES
+    python3 tools/gate/crate_readmes.py --check CRATES
 
 writes in each `CRATES/NAME/README.md` two parts from the sources:
 
@@ -33,7 +33,7 @@ NO_LIBRARIES = ("golden", "test_")
 NO_PROMISE = {"Drop", "Model"}
 START, END = "<!-- calls -->", "<!-- /calls -->"
 HEAD = """\
-From the sources, by `tools/crate_readmes.py`. "contract" is one clause without a name; `requires` marks a precondition; a type also keeps the clauses of its traits."""
+From the sources, by `tools/gate/crate_readmes.py`. "contract" is one clause without a name; `requires` marks a precondition; a type also keeps the clauses of its traits."""
 
 COMMENT_OR_TEXT = re.compile(
     r"""//[^\n]*|b?"(?:\\.|[^"\\])*"|b?'(?:\\[^\n']+|[^'\\\n])'""", re.DOTALL
@@ -386,7 +386,7 @@ def main(arguments):
             text = readme.read_text(encoding="utf-8")
             wanted = written(text, crate, crates)
             if wanted != text and is_check:
-                stale.append(f"{readme} is out of date: run tools/crate_readmes.py {crates}")
+                stale.append(f"{readme} is out of date: run tools/gate/crate_readmes.py {crates}")
             elif wanted != text:
                 readme.write_text(wanted, encoding="utf-8")
                 print(f"{readme} is written")
