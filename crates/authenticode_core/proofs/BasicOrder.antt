@@ -8,9 +8,9 @@ use Rattle.der_core.specs.Rules.{IsMet, IsFirstBroken}
 use Rattle.der_core.proofs.RuleLists.{AreMet, AreToldOnce, IsToldOnce, NoneTells, broken_before, broken_behind, met_together, none_broken, none_together, one_broken, one_of_two, told_together}
 use Rattle.key_core.specs.Verifying.{Judge}
 use Rattle.authenticode_core.specs.Basic.{IsRefusedPart, VouchesFor}
-use Rattle.authenticode_core.specs.Form.{IsFormOf}
 use Rattle.authenticode_core.specs.FormRules.{FileDiffers, HasForm, form_rules}
-use Rattle.authenticode_core.specs.PolicySteps.{IsVouchedAt}
+use Rattle.authenticode_core.specs.Inside.Form.{IsFormOf}
+use Rattle.authenticode_core.specs.Inside.PolicySteps.{IsVouchedAt}
 use Rattle.authenticode_core.specs.SignedFields.{HasIndirectData, IndirectData, IsFirstSigner}
 use Rattle.authenticode_core.specs.SigningRules.{IsSigned, RefusesAuthenticodeBy, signing_rules}
 use Rattle.authenticode_core.specs.Trusted.{IsRefusedFor, LacksHash, basic_rules, shape_rules}

@@ -7,8 +7,8 @@ use Rattle.sig_core.proofs.Variants.{identifier_same}
 use Rattle.sig_core.specs.ShaVariant.{digest_identifier, hash_of}
 use Rattle.sig_core.specs.declared.hash.HashAlgorithm.{HashAlgorithm}
 use Rattle.sig_core.specs.declared.sha_variant.ShaVariant.{ShaVariant}
+use Rattle.authenticode_core.specs.Inside.SigningSteps.{IsOfIdentifier}
 use Rattle.authenticode_core.specs.SigningRules.{NamesDigest}
-use Rattle.authenticode_core.specs.SigningSteps.{IsOfIdentifier}
 use Rattle.der_core.specs.Facts.Kept.{one_kept}
 
 identifiers : (s t : List ℕ) (x y : List DerElement) → sequence (Primitive 0x06 s ∷ x) ≡ sequence (Primitive 0x06 t ∷ y) → s ≡ t

@@ -31,7 +31,7 @@ use Rattle.der_core.specs.Elements.{sequence}
 use Rattle.der_core.specs.Facts.Rows.{listed-row}
 use Rattle.key_types.specs.AlgorithmIdentifier.{algorithm_identifier}
 use Rattle.cms_content.specs.SpcAttribute.{spc_attribute}
-use Rattle.authenticode_core.specs.Form.{AreSpelled}
+use Rattle.authenticode_core.specs.Inside.Form.{AreSpelled}
 use Rattle.authenticode_core.specs.SignedFields.{HasVersion, HasSignedContent, HasIndirectData, IndirectData, IsFirstAlgorithm, IsFirstSigner, indirect_kids, signers_of}
 
 -- ---- the fields are those of a value

@@ -20,8 +20,8 @@ use Rattle.der_core.specs.DerElement.{DerElement, Primitive, Constructed, kids_o
 use Rattle.der_core.specs.Elements.{sequence, octet_string}
 use Rattle.der_core.specs.Encoding.{encoding}
 use Rattle.der_core.specs.Rules.{IsFirstBroken}
-use Rattle.authenticode_core.specs.Form.{AreSpelled, IsIndirectContent}
 use Rattle.authenticode_core.specs.FormRules.{HasForm, IsOfOtherVersion, HasOtherSigners, HasOtherAlgorithms, LacksContent, HasOtherContent, form_rules}
+use Rattle.authenticode_core.specs.Inside.Form.{AreSpelled, IsIndirectContent}
 use Rattle.authenticode_core.specs.SameElements.{IsSameElement}
 use Rattle.authenticode_core.specs.SignedFields.{HasVersion, HasSignedContent, IndirectData, IsFirstAlgorithm, IsFirstSigner, digest_algorithms_of, indirect_kids, signers_of}
 use Rattle.authenticode_core.specs.declared.error.AuthenticodeError.{AuthenticodeError}

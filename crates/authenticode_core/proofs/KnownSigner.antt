@@ -8,12 +8,12 @@ use Rattle.cms_types.specs.SignerView.{LendsNamed}
 use Rattle.cms_types.specs.declared.issuer_and_serial.IssuerAndSerialNumber.{IssuerAndSerialNumber}
 use Rattle.x509_types.specs.CertificateElements.{CertificateElements}
 use Rattle.authenticode_core.specs.BagSigner.{IsNamedByFirst}
-use Rattle.authenticode_core.specs.Naming.{IsFirstOfName}
+use Rattle.authenticode_core.specs.Inside.Naming.{IsFirstOfName}
+use Rattle.authenticode_core.specs.Inside.SigningSteps.{HasSigner, HasSignerAt}
+use Rattle.authenticode_core.specs.Inside.Wanted.{IsNamedBy}
 use Rattle.authenticode_core.specs.Places.{HasNoPlace}
 use Rattle.authenticode_core.specs.SignedFields.{IsFirstSigner, signers_of}
 use Rattle.authenticode_core.specs.SigningRules.{IsSignerCertificate}
-use Rattle.authenticode_core.specs.SigningSteps.{HasSigner, HasSignerAt}
-use Rattle.authenticode_core.specs.Wanted.{IsNamedBy}
 use Rattle.authenticode_core.specs.declared.error.AuthenticodeError.TheVariants as errors
 use Rattle.authenticode_core.proofs.NamedCertificates.{is_named_by_key}
 use Rattle.authenticode_core.proofs.NamedMembers.{least_as, named_or_not}

@@ -15,14 +15,14 @@ use Rattle.x509_core.proofs.Chains.{linked_more, last_more, one_more}
 use Rattle.x509_core.proofs.ChainSteps.{linked_none_of}
 use Rattle.x509_types.specs.CertificateElements.{CertificateElements}
 use Rattle.authenticode_core.specs.Excuses.{AreOthersThan, IsLinkedToken, IsUnlinkedToken, any_time}
+use Rattle.authenticode_core.specs.Inside.Linking.{IsBrokenNext, IsLinkedSoFar, IsNextLink, IsNoLink}
+use Rattle.authenticode_core.specs.Inside.OthersCursor.{AreLeft, IsFirstOf}
 use Rattle.authenticode_core.specs.IssuerWalk.{IsIssuerPath}
 use Rattle.authenticode_core.specs.LinkedPath.{StandAt, AreLinkedAt, IsUnlinkedAt}
-use Rattle.authenticode_core.specs.Linking.{IsBrokenNext, IsLinkedSoFar, IsNextLink, IsNoLink}
-use Rattle.authenticode_core.specs.OthersCursor.{AreLeft, IsFirstOf}
 use Rattle.authenticode_core.specs.Places.{StandsAt}
 use Rattle.authenticode_core.specs.SignerRules.{IsVouchedPath}
-use Rattle.authenticode_core.specs.declared.linking.Linking.{Linking}
-use Rattle.authenticode_core.specs.declared.others.Others.{Others}
+use Rattle.authenticode_core.specs.declared.path.Linking.{Linking}
+use Rattle.authenticode_core.specs.declared.path.others.Others.{Others}
 
 -- want of memory may be told whatever else may be
 pub out_of_memory : {A : Type 0} (Good : A → Type 0) (Bad : CertError → Type 0) (r : Result A CertError) (e : CertError) → r ≡ Err e → e ≡ errors.Memory

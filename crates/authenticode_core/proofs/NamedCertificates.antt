@@ -23,9 +23,9 @@ use Rattle.names_core.specs.declared.name.DirectoryName.{DirectoryName}
 use Rattle.x509_types.specs.CertificateElements.{CertificateElements}
 use Rattle.authenticode_core.specs.BagSigner.{HasNoSigner}
 use Rattle.authenticode_core.specs.CertificateBag.{IsBag}
+use Rattle.authenticode_core.specs.Inside.SigningSteps.{TellsName}
 use Rattle.authenticode_core.specs.SignedFields.{IsFirstSigner, signers_of}
 use Rattle.authenticode_core.specs.SigningRules.{HasNoCertificate, IsBagOf, IsNamedByKey, RefusesAuthenticodeBy}
-use Rattle.authenticode_core.specs.SigningSteps.{TellsName}
 use Rattle.authenticode_core.specs.declared.error.AuthenticodeError.{AuthenticodeError}
 use Rattle.authenticode_core.specs.declared.error.AuthenticodeError.TheVariants as errors
 

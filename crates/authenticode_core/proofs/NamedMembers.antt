@@ -17,11 +17,11 @@ use Rattle.x509_types.specs.CertificateView.{view_elements}
 use Rattle.authenticode_core.specs.BagSigner.{IsNamedByFirst}
 use Rattle.authenticode_core.specs.CertificateBag.{IsBag, IsMember}
 use Rattle.authenticode_core.specs.Places.{StandsAt, HoldsOfNone, HasNoPlace, IsLeastPlace}
-use Rattle.authenticode_core.specs.Naming.{IsFirstOfName, IsNamedAt}
+use Rattle.authenticode_core.specs.Inside.Naming.{IsFirstOfName, IsNamedAt}
 use Rattle.authenticode_core.specs.SigningRules.{AsksForPurposes}
-use Rattle.authenticode_core.specs.declared.bag.BagCertificate.{BagCertificate}
+use Rattle.authenticode_core.specs.declared.signer.bag.BagCertificate.{BagCertificate}
+use Rattle.authenticode_core.specs.Inside.Wanted.{IsNamedBy}
 use Rattle.authenticode_core.specs.SignedFields.{IsFirstSigner, signers_of}
-use Rattle.authenticode_core.specs.Wanted.{IsNamedBy}
 use Rattle.authenticode_core.proofs.OneCertificate.{one_certificate}
 use Rattle.authenticode_core.proofs.PlaceSteps.{here, none_behind, none_yet}
 use Rattle.authenticode_core.proofs.WalkSteps.{least_once}

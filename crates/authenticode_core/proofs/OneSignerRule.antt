@@ -12,9 +12,9 @@ use Rattle.x509_core.specs.Window.{IsExpired, window_rules}
 use Rattle.x509_core.specs.declared.window.Window.{Window}
 use Rattle.x509_types.specs.CertificateElements.{CertificateElements}
 use Rattle.authenticode_core.specs.Excuses.{IsExcused}
+use Rattle.authenticode_core.specs.Inside.PolicySteps.{standing_rules}
 use Rattle.authenticode_core.specs.LinkedPath.{IsUnlinkedAt}
 use Rattle.authenticode_core.specs.Policy.{window_of}
-use Rattle.authenticode_core.specs.PolicySteps.{standing_rules}
 use Rattle.authenticode_core.specs.SignerRules.{HasKeyName, HasUnknownName, IsBadlyStamped, IsKeptSigner, IsPathAsked, IsSignerVouched, IsStanding, IsUnbegun, IsUndated, IsUnexcused, IsUnvouched, signer_rules}
 use Rattle.authenticode_core.specs.SigningRules.{HasNoCertificate}
 use Rattle.authenticode_core.specs.declared.accepted.Accepted.{Accepted}

@@ -7,15 +7,15 @@ use Rattle.x509_types.specs.CertificateElements.{CertificateElements}
 use Rattle.x509_types.specs.CertificateView.{view_elements}
 use Rattle.authenticode_core.specs.BagCursor.{StandsIn}
 use Rattle.authenticode_core.specs.Excuses.{places_from}
+use Rattle.authenticode_core.specs.Inside.OthersCursor.{WalksOver, GoesOver, GivesPlaces, AreLeft, IsFirstOf}
 use Rattle.authenticode_core.specs.IssuerWalk.{IsWalkFrom, AreOthers}
 use Rattle.authenticode_core.specs.Names.{HasSubject}
-use Rattle.authenticode_core.specs.OthersCursor.{WalksOver, GoesOver, GivesPlaces, AreLeft, IsFirstOf}
 use Rattle.authenticode_core.specs.Places.{StandsAt, IsLeastPlace}
 use Rattle.authenticode_core.specs.WalkCursor.{LooksFrom}
-use Rattle.authenticode_core.specs.declared.bag.Bag.{Bag}
-use Rattle.authenticode_core.specs.declared.bag.BagCertificate.{BagCertificate}
-use Rattle.authenticode_core.specs.declared.issuer_walk.IssuerWalk.{IssuerWalk}
-use Rattle.authenticode_core.specs.declared.others.Others.{Others}
+use Rattle.authenticode_core.specs.declared.path.issuer_walk.IssuerWalk.{IssuerWalk}
+use Rattle.authenticode_core.specs.declared.path.others.Others.{Others}
+use Rattle.authenticode_core.specs.declared.signer.bag.Bag.{Bag}
+use Rattle.authenticode_core.specs.declared.signer.bag.BagCertificate.{BagCertificate}
 use Rattle.authenticode_core.proofs.WalkSteps.{least_once, same_certificate}
 
 -- ---- an issuer walk

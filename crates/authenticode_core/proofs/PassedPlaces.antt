@@ -5,15 +5,15 @@ use Rattle.std.specs.Prelude.{length}
 use Rattle.der_core.specs.DerElement.{DerElement}
 use Rattle.x509_types.specs.CertificateElements.{CertificateElements}
 use Rattle.x509_types.specs.CertificateView.{view_elements}
+use Rattle.authenticode_core.specs.Inside.Naming.{AsksNext, FindsNext}
+use Rattle.authenticode_core.specs.Inside.Wanted.{IsWanted}
 use Rattle.authenticode_core.specs.IssuerWalk.{IsWalkFrom}
-use Rattle.authenticode_core.specs.Naming.{AsksNext, FindsNext}
 use Rattle.authenticode_core.specs.Places.{StandsAt, HasNoPlace, HoldsOfNone, IsLeastPlace}
 use Rattle.authenticode_core.specs.SigningRules.{AsksForPurposes}
 use Rattle.authenticode_core.specs.WalkCursor.{LooksFrom, StepsTo}
-use Rattle.authenticode_core.specs.Wanted.{IsWanted}
-use Rattle.authenticode_core.specs.declared.bag.BagCertificate.{BagCertificate}
-use Rattle.authenticode_core.specs.declared.issuer_walk.IssuerWalk.{IssuerWalk}
-use Rattle.authenticode_core.specs.declared.wanted.Wanted.{Wanted}
+use Rattle.authenticode_core.specs.declared.path.issuer_walk.IssuerWalk.{IssuerWalk}
+use Rattle.authenticode_core.specs.declared.signer.bag.BagCertificate.{BagCertificate}
+use Rattle.authenticode_core.specs.declared.signer.wanted.Wanted.{Wanted}
 use Rattle.authenticode_core.proofs.PlaceSteps.{none_behind, none_yet}
 use Rattle.authenticode_core.proofs.WalkedPlaces.{Walked, walked_none, walked_step, walked_all}
 

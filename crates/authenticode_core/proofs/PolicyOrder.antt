@@ -5,10 +5,10 @@ use Rattle.cms_types.specs.SignedDataElements.{SignedDataElements}
 use Rattle.der_core.specs.Rules.{Rule, IsFirstBroken}
 use Rattle.der_core.proofs.RuleLists.{AreMet, AreToldOnce, broken_before, broken_behind, met_together, none_broken, told_together}
 use Rattle.key_core.specs.Verifying.{Judge}
-use Rattle.authenticode_core.specs.PolicySteps.{IsPlaceAsked, IsVouchedAt}
+use Rattle.authenticode_core.specs.Inside.PolicySteps.{IsPlaceAsked, IsVouchedAt}
+use Rattle.authenticode_core.specs.Inside.SigningSteps.{HasSignerAt}
 use Rattle.authenticode_core.specs.SignerRules.{IsSignerVouched, signer_rules}
 use Rattle.authenticode_core.specs.SigningRules.{RefusesAuthenticodeBy}
-use Rattle.authenticode_core.specs.SigningSteps.{HasSignerAt}
 use Rattle.authenticode_core.specs.Trusted.{IsBasicallyVouched, IsTrusted, asked, basic_rules, policy_rules, shape_rules}
 use Rattle.authenticode_core.specs.declared.accepted.Accepted.{Accepted}
 use Rattle.authenticode_core.specs.declared.accepted.Excuse.TheVariants as excuses

@@ -23,16 +23,16 @@ use Rattle.x509_core.specs.declared.error.CertError.TheVariants as cert_errors
 use Rattle.x509_core.specs.declared.window.Window.{Window}
 use Rattle.x509_types.specs.CertificateElements.{CertificateElements}
 use Rattle.authenticode_core.specs.ContentRefusal.{of_certificates}
-use Rattle.authenticode_core.specs.Form.{AreSpelled}
+use Rattle.authenticode_core.specs.Inside.Form.{AreSpelled}
 use Rattle.authenticode_core.specs.Excuses.{HasBadStamp, HasNoExcuse, IsExcused}
+use Rattle.authenticode_core.specs.Inside.PolicySteps.{IsExpiry, IsUnlinkedPath, TellsExpiry, standing_rules}
+use Rattle.authenticode_core.specs.Inside.SigningSteps.{HasSigner}
 use Rattle.authenticode_core.specs.IssuerWalk.{IsIssuerPath}
 use Rattle.authenticode_core.specs.LinkedPath.{IsUnlinkedAt}
 use Rattle.authenticode_core.specs.Policy.{policy_checks, window_of}
-use Rattle.authenticode_core.specs.PolicySteps.{IsExpiry, IsUnlinkedPath, TellsExpiry, standing_rules}
 use Rattle.authenticode_core.specs.SignedFields.{IsFirstSigner, signers_of}
 use Rattle.authenticode_core.specs.SignerRules.{HasKeyName, HasUnknownName, IsBadlyStamped, IsKeptSigner, IsPathAsked, IsSignerVouched, IsStanding, IsVouchedPath, IsUnbegun, IsUndated, IsUnexcused, IsUnvouched, LacksSigner, signer_rules}
 use Rattle.authenticode_core.specs.SigningRules.{HasNoCertificate, IsBagOf, IsNamedByKey, IsSignerCertificate, RefusesAuthenticodeBy}
-use Rattle.authenticode_core.specs.SigningSteps.{HasSigner}
 use Rattle.authenticode_core.specs.declared.accepted.Accepted.{Accepted}
 use Rattle.authenticode_core.specs.declared.accepted.Excuse.{Excuse}
 use Rattle.authenticode_core.specs.declared.accepted.Excuse.TheVariants as excuses

@@ -7,9 +7,9 @@ use Rattle.der_core.proofs.RuleLists.{AreMet, broken_before, broken_behind}
 use Rattle.key_core.specs.Verifying.{Judge}
 use Rattle.sig_core.specs.declared.hash.HashAlgorithm.{HashAlgorithm}
 use Rattle.x509_types.specs.CertificateElements.{CertificateElements}
+use Rattle.authenticode_core.specs.Inside.SigningSteps.{HasSigner, IsBoundBy, MayNotSignCode, digest_rules}
 use Rattle.authenticode_core.specs.SignedFields.{IndirectData, IsFirstSigner}
 use Rattle.authenticode_core.specs.SigningRules.{HasNoCertificate, HasUnknownDigest, IsBadlySigned, IsForCodeSigning, IsNamedByKey, IsNotForCodeSigning, IsRefusedUnder, IsSigned, HasSignatureBy, NamesDigest, RefusesAuthenticodeBy, signing_rules}
-use Rattle.authenticode_core.specs.SigningSteps.{HasSigner, IsBoundBy, MayNotSignCode, digest_rules}
 use Rattle.authenticode_core.specs.declared.error.AuthenticodeError.{AuthenticodeError}
 use Rattle.authenticode_core.proofs.OneSigning.{bound_is_met, certificate_is_met, digest_is_met, message_is_met, named_is_met, signature_is_met, supported_is_met}
 

@@ -9,13 +9,13 @@ use Rattle.key_core.specs.Verifying.{Judge}
 use Rattle.x509_types.specs.CertificateElements.{CertificateElements}
 use Rattle.x509_types.specs.CertificateView.{view_elements}
 use Rattle.x509_types.specs.Purposes.{NamesPurpose}
-use Rattle.authenticode_core.specs.ExcuseSteps.{LeadsStamping, TellsUnlinked}
 use Rattle.authenticode_core.specs.Excuses.{HasBadStamp, HasToken, IsForStamping, NamesLifetime, NamesTimeStamping}
+use Rattle.authenticode_core.specs.Inside.ExcuseSteps.{LeadsStamping, TellsUnlinked}
 use Rattle.authenticode_core.specs.Places.{HasNoPlace, IsLeastPlace, StandsAt}
 use Rattle.authenticode_core.specs.SigningRules.{IsBagOf}
-use Rattle.authenticode_core.specs.declared.bag.BagCertificate.{BagCertificate}
 use Rattle.authenticode_core.specs.declared.error.AuthenticodeError.{AuthenticodeError}
 use Rattle.authenticode_core.specs.declared.error.AuthenticodeError.TheVariants as errors
+use Rattle.authenticode_core.specs.declared.signer.bag.BagCertificate.{BagCertificate}
 
 -- ---- a bag that names time stamping
 

@@ -7,13 +7,13 @@ use Rattle.std.proofs.lemmas.List.Elements.{Contains-append_left, Contains-appen
 use Rattle.der_core.specs.DerElement.{DerElement}
 use Rattle.x509_types.specs.CertificateElements.{CertificateElements}
 use Rattle.x509_types.specs.Purposes.{HasPurposes}
+use Rattle.authenticode_core.specs.Inside.Naming.{AsksNext}
 use Rattle.authenticode_core.specs.IssuerWalk.{IsIssuerWalk, IsWalkFrom}
 use Rattle.authenticode_core.specs.Names.{HasSubject}
-use Rattle.authenticode_core.specs.Naming.{AsksNext}
 use Rattle.authenticode_core.specs.Places.{IsLeastPlace, StandsAt}
 use Rattle.authenticode_core.specs.SigningRules.{AsksForPurposes}
 use Rattle.authenticode_core.specs.WalkCursor.{LooksFrom, GoesPast}
-use Rattle.authenticode_core.specs.declared.issuer_walk.IssuerWalk.{IssuerWalk}
+use Rattle.authenticode_core.specs.declared.path.issuer_walk.IssuerWalk.{IssuerWalk}
 use Rattle.authenticode_core.proofs.WalkSteps.{one_walk, same_certificate}
 
 -- A certificate at one of the places has an extended key usage.

@@ -1,33 +1,35 @@
-pub mod Asn1
-pub mod PlainForm
+-- In the order of reading: what the public calls promise, then the rules that they rest on.
+
+-- Promises: when a signature file is accepted under a policy, and when signed data vouches for a digest.
+pub mod Trusted
+pub mod Policy
+pub mod Basic
+-- The certificates of signed data, the signer's index and the issuer walk, and how the cursors go over them.
 pub mod CertificateBag
 pub mod Places
-pub mod SameElements
-pub mod Names
 pub mod BagSigner
 pub mod IssuerWalk
-pub mod SignedFields
-pub mod FormRules
-pub mod SigningRules
-pub mod PlainFields
-pub mod SigningSteps
-pub mod Basic
-pub mod Policy
-pub mod LinkedPath
-pub mod Excuses
-pub mod ExcuseSteps
-pub mod SignerRules
-pub mod Trusted
-pub mod PolicySteps
+pub mod LeftMembers
+pub mod BagCursor
+pub mod WalkCursor
+-- Errors: what becomes of those of other crates, their texts and names.
 pub mod ContentRefusal
 pub mod StampRefusal
 pub mod ErrorText
 pub mod RefusalName
-pub mod LeftMembers
-pub mod BagCursor
-pub mod WalkCursor
-pub mod OthersCursor
-pub mod Linking
-pub mod Wanted
-pub mod Naming
-pub mod Form
+-- The plain form, of which `plain_form_is_judged` is the law.
+pub mod PlainForm
+pub mod PlainFields
+pub mod Asn1
+-- Rules, in the order of the check: form, digest and signature, signer, path, excuse.
+pub mod FormRules
+pub mod SigningRules
+pub mod SignerRules
+pub mod LinkedPath
+pub mod Excuses
+-- What the rules look at.
+pub mod SignedFields
+pub mod Names
+pub mod SameElements
+-- Inside: what serves private functions alone.
+pub mod Inside

@@ -4,15 +4,15 @@ ghost use Rattle.std.specs.Prelude.{◌≡◌, Err, MatchResult};
 ghost use Rattle.cms_types.specs.SignedView.{data_elements};
 ghost use Rattle.der_core.specs.Rules.{IsFirstBroken, OrMemory};
 ghost use Rattle.authenticode_core.specs.Basic.{IsRefusedPart, VouchesFor};
-ghost use Rattle.authenticode_core.specs.Form.{AreSpelled, IsFormOf};
-ghost use Rattle.authenticode_core.specs.PolicySteps.{IsVouchedAt};
+ghost use Rattle.authenticode_core.specs.Inside.Form.{AreSpelled, IsFormOf};
+ghost use Rattle.authenticode_core.specs.Inside.PolicySteps.{IsVouchedAt};
 ghost use Rattle.authenticode_core.specs.SigningRules.{RefusesAuthenticodeBy};
 ghost use Rattle.authenticode_core.specs.Trusted.{basic_rules, shape_rules};
 
 use crate::error::AuthenticodeError;
 use crate::form::{Form, expect_form};
 use crate::policy::Policy;
-use crate::signing::expect_signed;
+use crate::signature::expect_signed;
 use cms_types::SignedView;
 use der_core::{Octets, is_same};
 use sig_core::Scheme;

@@ -5,19 +5,21 @@ ghost use Rattle.cms_types.specs.SignedView.{data_elements};
 ghost use Rattle.der_core.specs.Rules.{OrMemory};
 ghost use Rattle.x509_types.specs.CertificateElements.{CertificateElements};
 ghost use Rattle.x509_types.specs.CertificateView.{view_elements};
-ghost use Rattle.authenticode_core.specs.ExcuseSteps.{LeadsStamping, TellsUnlinked};
 ghost use Rattle.authenticode_core.specs.Excuses.{HasBadStamp, HasNoExcuse, IsExcused, IsForStamping, IsLinkedToken, NamesTimeStamping};
+ghost use Rattle.authenticode_core.specs.Inside.ExcuseSteps.{LeadsStamping, TellsUnlinked};
 ghost use Rattle.authenticode_core.specs.Places.{StandsAt};
 ghost use Rattle.authenticode_core.specs.SigningRules.{IsBagOf};
 ghost use Rattle.authenticode_core.specs.declared.error.AuthenticodeError.TheVariants as errors;
 
+pub(crate) mod token;
+
 use crate::accepted::Excuse;
-use crate::bag::BagCertificate;
 use crate::error::AuthenticodeError;
-use crate::linking::{expect_linked_token, kept};
-use crate::signer::certificate_bag;
-use crate::token::token_of;
-use crate::wanted::Wanted;
+use crate::excuse::token::token_of;
+use crate::path::{expect_linked_token, kept};
+use crate::signer::bag::BagCertificate;
+use crate::signer::certificates::certificate_bag;
+use crate::signer::wanted::Wanted;
 use asn1_types::oids::{KP_LIFETIME_SIGNING, KP_TIME_STAMPING};
 use cms_types::SignedView;
 use sig_core::Scheme;

@@ -8,8 +8,8 @@ ghost use Rattle.der_core.specs.DerElement.{DerElement};
 ghost use Rattle.der_core.specs.Elements.{sequence, octet_string};
 ghost use Rattle.der_core.specs.Optional.{members_of};
 ghost use Rattle.der_core.specs.Rules.{IsFirstBroken};
-ghost use Rattle.authenticode_core.specs.Form.{AreSpelled, IsIndirectContent, IsFormOf};
 ghost use Rattle.authenticode_core.specs.FormRules.{IsOfOtherVersion, HasOtherSigners, HasOtherAlgorithms, LacksContent, HasOtherContent, form_rules};
+ghost use Rattle.authenticode_core.specs.Inside.Form.{AreSpelled, IsIndirectContent, IsFormOf};
 ghost use Rattle.authenticode_core.specs.SignedFields.{HasVersion, IndirectData, IsFirstSigner, digest_algorithms_of, signers_of, indirect_kids};
 
 use crate::error::AuthenticodeError;

@@ -1,39 +1,224 @@
-//! The certificates of signed data, and the issuer walk of one of them, where they lie.
+//! Whether the certificate of the first signer is vouched for, or its expiry excused, step by step
+//! (RFC 5280 6.1; Windows Authenticode Portable Executable Signature Format).
 
-ghost use Rattle.std.specs.Prelude.{◌≡◌, List};
-ghost use Rattle.der_core.specs.Optional.{members_of};
+ghost use Rattle.std.specs.Prelude.{◌≡◌, ◌↔◌, ℕ, List, [], ◌∷◌, Some, IsTrue, IfSome, MatchResult};
 ghost use Rattle.cms_types.specs.SignedView.{data_elements};
+ghost use Rattle.cms_types.specs.SignerView.{signer_elements_at};
+ghost use Rattle.der_core.specs.Rules.{OrMemory};
+ghost use Rattle.x509_core.specs.KeptCertificate.{KeptCertificate};
+ghost use Rattle.x509_core.specs.Link.{IsOutside};
+ghost use Rattle.x509_core.specs.Rules.{Breaks};
+ghost use Rattle.x509_core.specs.Window.{IsExpired};
+ghost use Rattle.x509_core.specs.declared.error.CertError.TheVariants as cert_errors;
 ghost use Rattle.x509_types.specs.CertificateElements.{CertificateElements};
 ghost use Rattle.x509_types.specs.CertificateView.{view_elements};
-ghost use Rattle.authenticode_core.specs.BagCursor.{StandsIn};
-ghost use Rattle.authenticode_core.specs.CertificateBag.{IsBag};
-ghost use Rattle.authenticode_core.specs.LeftMembers.{left_members};
-ghost use Rattle.authenticode_core.specs.WalkCursor.{LooksFrom};
+ghost use Rattle.authenticode_core.specs.Excuses.{IsExcused};
+ghost use Rattle.authenticode_core.specs.Inside.Form.{AreSpelled};
+ghost use Rattle.authenticode_core.specs.Inside.PolicySteps.{IsExpiry, IsUnlinkedPath, TellsExpiry, standing_rules};
+ghost use Rattle.authenticode_core.specs.Inside.SigningSteps.{HasSigner, HasSignerAt};
+ghost use Rattle.authenticode_core.specs.Policy.{window_of};
+ghost use Rattle.authenticode_core.specs.SignedFields.{IsFirstSigner};
+ghost use Rattle.authenticode_core.specs.SignerRules.{IsKeptSigner, IsPathAsked, IsSignerVouched, IsStanding, LacksSigner, signer_rules};
+ghost use Rattle.authenticode_core.specs.SigningRules.{HasNoCertificate, IsBagOf, IsNamedByKey, RefusesAuthenticodeBy};
 
-use crate::bag::Bag;
-use crate::issuer_walk::IssuerWalk;
-use cms_types::SignedView;
+pub(crate) mod bag;
+pub(crate) mod certificates;
+pub(crate) mod naming;
+pub(crate) mod wanted;
+
+use crate::accepted::{Accepted, Excuse, Places};
+use crate::error::AuthenticodeError;
+use crate::excuse::excuse_of;
+use crate::excuse::token::first_signer_of;
+use crate::path::{kept, linked_path};
+use crate::policy::Policy;
+use crate::signature::expect_certificate;
+use crate::signer::bag::BagCertificate;
+use crate::signer::naming::named_at_place;
+use cms_types::{SignedView, SignerView};
+use sig_core::Scheme;
+use std::alloc::Global;
+use x509_core::{Cert, CertCause, CertError};
 use x509_types::CertView;
 
-/// The certificates that signed data carries, before the first of them. It takes no memory.
-pub fn certificate_bag<'a>(signed_data: &SignedView<'a>) -> Bag<'a>
-    ensures members { left_members result.members
-        ≡ members_of (data_elements signed_data.now).certificates }
-    ensures place { result.place ≡ 0 }
-    ensures stands { (bag : List CertificateElements)
-        → IsBag (members_of (data_elements signed_data.now).certificates) bag
-        → StandsIn result bag }
+/// The certificate of the first signer is vouched for under a policy. The first of these is
+/// answered that doesn't hold: there is a signer; some certificate is named; a date is given where
+/// one is asked for; the certificate is valid, or its expiry is excused; where a chain is asked
+/// for, and nothing is excused, the certificates of the issuer path are linked. The place of the
+/// certificate may be known.
+pub(crate) fn expect_signer<S: Scheme>(
+    alloc: Global,
+    signed_data: &SignedView<'_>,
+    known: Option<usize>,
+    policy: &Policy,
+    scheme: &S,
+) -> Result<Accepted, AuthenticodeError>
+    requires spelled { AreSpelled (data_elements signed_data.now) }
+    requires known { IfSome known (HasSignerAt (data_elements signed_data.now)) }
+    ensures { MatchResult result
+        (IsSignerVouched (S.judge scheme.now) policy.now (data_elements signed_data.now))
+        (RefusesAuthenticodeBy
+        (signer_rules (S.judge scheme.now) policy.now (data_elements signed_data.now))) }
 {
-    Bag::of(signed_data.certificates())
+    let first = expect_first(signed_data)?;
+    let named = expect_named(alloc, signed_data, &first, known)?;
+    let checks = policy.checks();
+    checks.expect_date()?;
+    let signer = kept(alloc, &named)?;
+    expect_standing(alloc, signed_data, &named, signer, policy, scheme)
 }
 
-/// The issuer walk of a certificate over the bag of signed data. It takes no memory.
-pub fn issuer_walk_of<'a>(signed_data: &SignedView<'a>, signer: &CertView<'a>) -> IssuerWalk<'a>
-    ensures looks { (bag : List CertificateElements)
-        → IsBag (members_of (data_elements signed_data.now).certificates) bag
-        → LooksFrom result bag 0 (view_elements signer.now).tbs.subject }
-    ensures members { left_members result.bag.members
-        ≡ members_of (data_elements signed_data.now).certificates }
+/// The first of the signers.
+fn expect_first<'a>(signed_data: &SignedView<'a>) -> Result<SignerView<'a>, AuthenticodeError>
+    requires { AreSpelled (data_elements signed_data.now) }
+    ensures { MatchResult result
+        (λ signer. IsFirstSigner (data_elements signed_data.now) (signer_elements_at signer))
+        (LacksSigner (data_elements signed_data.now)) }
 {
-    IssuerWalk::new(certificate_bag(signed_data), signer)
+    match first_signer_of(signed_data) {
+        Some(signer) => Ok(signer),
+        None => Err(AuthenticodeError::MultipleSignerInfo { count: 0 }),
+    }
+}
+
+/// The certificate that the first signer names. Where its place is known, the bag isn't read to its
+/// end again.
+fn expect_named<'a>(
+    alloc: Global,
+    signed_data: &SignedView<'a>,
+    signer: &SignerView<'a>,
+    known: Option<usize>,
+) -> Result<BagCertificate<'a>, AuthenticodeError>
+    requires first { IsFirstSigner (data_elements signed_data.now) (signer_elements_at signer.now) }
+    requires known { IfSome known (HasSignerAt (data_elements signed_data.now)) }
+    ensures { MatchResult result
+        (λ named. HasSigner (data_elements signed_data.now) named.place
+        (view_elements named.certificate))
+        (RefusesAuthenticodeBy (IsNamedByKey (signer_elements_at signer.now) ∷
+        HasNoCertificate (data_elements signed_data.now) (signer_elements_at signer.now) ∷
+        [])) }
+{
+    let Some(place) = known else {
+        let named = expect_certificate(alloc, signed_data, signer)?;
+        return Ok(named.certificate);
+    };
+    let Some((issuer, serial_number)) = signer.issuer_and_serial() else {
+        unreachable!();
+    };
+    match named_at_place(signed_data, issuer, serial_number, place) {
+        Some(named) => Ok(named),
+        None => unreachable!(),
+    }
+}
+
+/// The certificate of the signer is valid, and those of the issuer path are linked where that is
+/// asked for; or it has expired, which is excused. What is kept of it is handed in.
+fn expect_standing<S: Scheme>(
+    alloc: Global,
+    signed_data: &SignedView<'_>,
+    named: &BagCertificate<'_>,
+    signer: Cert,
+    policy: &Policy,
+    scheme: &S,
+) -> Result<Accepted, AuthenticodeError>
+    requires { signer.elements ≡ view_elements named.now.certificate }
+    ensures { (bag : List CertificateElements)
+        → IsKeptSigner (data_elements signed_data.now) bag named.now.place signer
+        → MatchResult result
+        (λ a. (a.signer ≡ Some named.now.place)
+        × IsStanding (S.judge scheme.now) policy.now (data_elements signed_data.now) bag
+        signer a.path a.excuse)
+        (RefusesAuthenticodeBy
+        (standing_rules (S.judge scheme.now) policy.now (data_elements signed_data.now))) }
+{
+    let checks = policy.checks();
+    match signer.expect_valid(alloc, &checks.window) {
+        Ok(()) => {
+            let path = asked_path(alloc, signed_data, signer, policy, scheme)?;
+            Ok(Accepted {
+                signer: Some(named.place),
+                path,
+                excuse: Excuse::None,
+            })
+        }
+        Err(error) => {
+            let excuse = expect_excuse(alloc, signed_data, &named.certificate, error, scheme)?;
+            Ok(Accepted {
+                signer: Some(named.place),
+                path: Places::new(alloc),
+                excuse,
+            })
+        }
+    }
+}
+
+/// The places of the issuer path, where a chain is asked for, and else none.
+fn asked_path<S: Scheme>(
+    alloc: Global,
+    signed_data: &SignedView<'_>,
+    signer: Cert,
+    policy: &Policy,
+    scheme: &S,
+) -> Result<Places, CertError>
+    ensures { (bag : List CertificateElements) → IsBagOf (data_elements signed_data.now) bag
+        → MatchResult result
+        (IsPathAsked policy.now.chain (S.judge scheme.now) (window_of policy.now) bag signer)
+        (OrMemory cert_errors.Memory (λ e. IsTrue policy.now.chain
+        × IsUnlinkedPath (S.judge scheme.now) (window_of policy.now) bag signer e)) }
+{
+    if !policy.chain {
+        return Ok(Places::new(alloc));
+    }
+    let checks = policy.checks();
+    linked_path(alloc, signed_data, signer, &checks.window, scheme)
+}
+
+/// Why the expiry of the signer's certificate is excused, where this error tells that it isn't
+/// valid.
+fn expect_excuse<S: Scheme>(
+    alloc: Global,
+    signed_data: &SignedView<'_>,
+    signer: &CertView<'_>,
+    error: CertError,
+    scheme: &S,
+) -> Result<Excuse, AuthenticodeError>
+    ensures { (policy : Policy) (bag : List CertificateElements) (place : ℕ)
+        (signer' : KeptCertificate)
+        → IsKeptSigner (data_elements signed_data.now) bag place signer'
+        → signer'.elements ≡ view_elements signer.now
+        → Breaks (IsOutside (window_of policy) signer') error
+        → MatchResult result
+        (λ excuse. IsExpired (window_of policy) signer'.elements
+        × IsExcused (S.judge scheme.now) (data_elements signed_data.now) bag signer'.elements
+        excuse)
+        (RefusesAuthenticodeBy
+        (standing_rules (S.judge scheme.now) policy (data_elements signed_data.now))) }
+{
+    if !tells_expiry(&error) {
+        return Err(AuthenticodeError::from(error));
+    }
+    match excuse_of(alloc, signed_data, signer, scheme)? {
+        Some(excuse) => Ok(excuse),
+        None => Err(AuthenticodeError::from(error)),
+    }
+}
+
+/// Whether an error tells of a certificate that has expired.
+fn tells_expiry(error: &CertError) -> bool
+    ensures { IsTrue result ↔ TellsExpiry error.now }
+{
+    match error {
+        CertError::InvalidCertificate { source, .. } => is_expiry(source),
+        _ => false,
+    }
+}
+
+/// Whether the cause is that a certificate has expired.
+fn is_expiry(cause: &CertCause) -> bool
+    ensures { IsTrue result ↔ IsExpiry cause.now }
+{
+    match cause {
+        CertCause::CertificateExpired { .. } => true,
+        _ => false,
+    }
 }

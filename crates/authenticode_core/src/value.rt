@@ -4,7 +4,7 @@ ghost use Rattle.std.specs.Prelude.{◌≡◌, ◌↔◌, IsTrue, MatchResult};
 ghost use Rattle.der_core.specs.DerElement.{DerElement};
 ghost use Rattle.der_core.specs.Encoding.{IsPaddedEncoding};
 ghost use Rattle.authenticode_core.specs.Basic.{IsPadding, IsMalformedPadded, RefusesValue};
-ghost use Rattle.authenticode_core.specs.Form.{LiesIn};
+ghost use Rattle.authenticode_core.specs.Inside.Form.{LiesIn};
 ghost use Rattle.x509_core.specs.declared.error.CertError.{CertError};
 ghost use Rattle.key_core.specs.declared.element.Element.{Element};
 

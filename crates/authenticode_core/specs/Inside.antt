@@ -1,0 +1,9 @@
+-- What serves private functions alone: no public clause cites it. In the order of the check.
+pub mod Form
+pub mod SigningSteps
+pub mod PolicySteps
+pub mod Wanted
+pub mod Naming
+pub mod OthersCursor
+pub mod Linking
+pub mod ExcuseSteps
