@@ -18,6 +18,8 @@ the repetitions: the seconds that processors worked, and the memory that was res
     `check`, where the signer's certificate has it.
   - `parents`: a certificate, and 31 parents of which each has such a name, of a 31st
     of the file each, by `chain`.
+  - `table`: `check` on a signer under a root, with a verdict table of 1 to 16 MiB in
+    either version, of rows of other files in random order before the two of the file.
 
 A run has to answer as it is known that it does, else the status is 1.  Nothing else
 is judged.
@@ -42,6 +44,7 @@ from common import command
 from judges.der_reader import read_exact, write
 
 SIZES = (4, 16)
+TABLE_SIZES = (1, 2, 4, 8, 16)
 DATE = "2025-01-01"
 ABOVE = 0x22
 AUTHORITY = (extension("2.5.29.19", sequence(element(0x01, b"\xff"))),)
@@ -112,6 +115,20 @@ def parents(folder, size):
     yield Job("parents", ["chain", table, DATE, *files], 1, "refused InvalidCertificate:InvalidChain:IssuerNameMismatch\n")
 
 
+def tables(folder, size):
+    root = certificate(subject=b"R", issuer=b"R", serial=b"\x02", key=rsa_key(ABOVE), extensions=AUTHORITY)
+    own = certificate(issuer=b"R")
+    signed = Signed(members=(own, root), named=named(issuer=b"R"))
+    file = written(folder, "signed.bin", signed.file())
+    for version, head, verdict in (1, "", ""), (2, "picky-verdicts 2\n", "accept "):
+        room = (size * MIB - 2048) * 206 // (206 + len(verdict))
+        rows = [*others(room), *(signed.table() + row(ABOVE, own)).splitlines(keepends=True)]
+        text = head + "".join(verdict + line for line in rows)
+        table = written(folder, f"table-{version}-{size}.txt", text.encode())
+        label = f"table of version {version}, rows: {len(rows)}"
+        yield Job(label, ["check", file, table, FILE_HASH.hex(), DATE], 0, "accepted signer=0 path=1 excuse=none\n")
+
+
 def measured(program, job):
     """What a run took, None where it doesn't answer as it has to."""
     done = subprocess.run([*MEASURE, program, *job.words], check=True, stdout=subprocess.PIPE, stderr=subprocess.DEVNULL)
@@ -131,8 +148,8 @@ def main(words):
     program, well = str(options.program.resolve()), True
     print("| files | MiB | s | resident MiB |\n|---|---:|---:|---:|")
     with tempfile.TemporaryDirectory() as name:
-        for made in links, sets, parents:
-            for size in SIZES:
+        for made, sizes in (links, SIZES), (sets, SIZES), (parents, SIZES), (tables, TABLE_SIZES):
+            for size in sizes:
                 for job in made(Path(name), size):
                     runs = [measured(program, job) for _ in range(options.repetitions)]
                     if None in runs:
