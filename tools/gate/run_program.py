@@ -17,8 +17,8 @@ that part, each status from 0 to 6 among them.
 The files of `basic` come from `first_path.py`, which shares nothing with a
 reader here, from the signatures that osslsigncode and openssl wrote, with the
 tables of openssl's arithmetic (`basic_world.py`), and from the rows of every
-refusal (`basic_steps.py`); the answers from the tables of statuses and of
-refusals in docs/FORMATS.md.  The certificates of `chain` are those of `chains.py`,
+refusal (`basic_steps.py`); the answers from the tables of statuses in
+docs/MANUAL.md and of refusals in docs/FORMATS.md.  The certificates of `chain` are those of `chains.py`,
 which openssl made, and the answers to them are those of the reader in
 `chain_reader.py`, and those of `issuing_chains.py`, with answers by hand.  The
 files of `check` are those of `check_rows.py`, whose answers stand there, and
