@@ -18,12 +18,13 @@ The files of `basic` come from `first_path.py`, which shares nothing with a
 reader here, from the signatures that osslsigncode and openssl wrote, with the
 tables of openssl's arithmetic (`basic_world.py`), and from the rows of every
 refusal (`basic_steps.py`); the answers from the tables of statuses in
-docs/MANUAL.md and of refusals in docs/FORMATS.md.  The certificates of `chain` are those of `chains.py`,
-which openssl made, and the answers to them are those of the reader in
-`chain_reader.py`, and those of `issuing_chains.py`, with answers by hand.  The
-files of `check` are those of `check_rows.py`, whose answers stand there, and
-programs that osslsigncode signed (`signed_programs.py`), whose answers are
-those of `check_judge.py`.  Exit status 1 says that a row differs.
+docs/MANUAL.md and of refusals in docs/FORMATS.md.  The certificates of
+`chain` are those of `chains.py`, which openssl made, and the answers to them
+are those of the reader in `chain_reader.py`, and those of
+`issuing_chains.py`, with answers by hand.  The files of `check` are those of
+`check_rows.py`, whose answers stand there, and programs that osslsigncode
+signed (`signed_programs.py`), whose answers are those of `check_judge.py`.
+Exit status 1 says that a row differs.
 """
 
 import os
