@@ -4,6 +4,8 @@
     python3 tools/verdict_table.py [--version-1] SIG > TABLE
     python3 tools/verdict_table.py [--version-1] --chain CERT .. > TABLE
 
+The two options stand in either order.
+
 SIG is a file with a WIN_CERTIFICATE.  Each line names one signature, in the form
 that docs/FORMATS.md gives for verdict tables of version 2:
 
@@ -18,12 +20,22 @@ the key of the next.
 
 The digest algorithm of a signature is the one that the signature itself names.
 
-The line says `accept` of a signature that openssl verifies, `malformed` of another
-whose length or form no signature of the algorithm has, and `reject` of any other.
-Of version 1 are the lines of those that openssl verifies, without a verdict.
+The line says `malformed` of a signature whose length or form none of the algorithm
+has, `accept` of another that openssl verifies, and `reject` of one that openssl finds
+false.  `malformed` are
 
-A signature that openssl doesn't verify, or whose algorithm has no name in a table,
-has a line on standard error, one for all places where it stands.  Nothing is said of
+  - of RSA, a length other than that of the modulus, and a number not below the
+    modulus (RFC 8017 8.2.2, 5.2.2);
+  - of ECDSA, anything but a SEQUENCE of two INTEGERs in DER, each from 1 to n - 1 for
+    the order n of the curve (RFC 3279 2.2.3, SEC 1 4.1.4);
+  - of Ed25519, a length other than 64 octets, and an S that isn't below the order of
+    the group (RFC 8032 5.1.7); its R isn't looked at.
+
+Where openssl can't say, as of a key that it doesn't read, the table has no line.  Of
+version 1 are the lines of signatures that openssl verifies, without a verdict.
+
+A signature that openssl doesn't verify or can't judge, or whose algorithm has no name
+in a table, has a line on standard error, one for all places where it stands.  Nothing is said of
 whether a certificate may be believed: that is for who reads the table.  Many
 certificates of one name ask for each by each: a file that asks for more than 10,000
 signatures has no table, and the status is 1.
@@ -60,10 +72,22 @@ SIGNATURES = {
     "1.2.840.10045.4.3.2": (EC, "sha256"), "1.2.840.10045.4.3.3": (EC, "sha384"), "1.2.840.10045.4.3.4": (EC, "sha512"),
     ED25519: (ED25519, None),
 }
+# The orders of the groups (FIPS 186-4 D.1.2.3 to D.1.2.5, RFC 8032 5.1).
+ORDERS = {
+    "p256": 0xffffffff_00000000_ffffffff_ffffffff_bce6faad_a7179e84_f3b9cac2_fc632551,
+    "p384": 0xffffffff_ffffffff_ffffffff_ffffffff_ffffffff_ffffffff_c7634d81_f4372ddf_581a0db2_48b0a77a_ecec196a_ccc52973,
+    "p521": 0x1ff_ffffffff_ffffffff_ffffffff_ffffffff_ffffffff_ffffffff_ffffffff_fffffffa_51868783_bf2f966b_7fcc0148_f709a5d0_3bb5c9b8_899c47ae_bb6fb71e_91386409,
+    "ed25519": 2**252 + 27742317777372353535851937790883648493,
+}
 NAMES = {f"rsa-{digest}" for digest in DIGESTS.values()} | {"p256-sha256", "p384-sha384", "p521-sha512", "ed25519"}
 MICROSOFT_COUNTERSIGNATURE = "1.3.6.1.4.1.311.3.3.1"
+OPTIONS = "--version-1", "--chain"
 MOST_ASKED = 10_000
 ED25519_LENGTH = 64
+# What openssl prints of a signature that it finds false, by `dgst` and by `pkeyutl`.
+FALSE = "Verification failure", "Signature Verification Failure"
+# Why it prints that of a key that it doesn't compute with.
+NOT_COMPUTED = "modulus too large", "bad e value"
 
 
 class NotASignatureFile(Exception):
@@ -84,6 +108,10 @@ class NotRead(Exception):
 
 class TooManyAsked(Exception):
     """The check of the file may ask for more signatures than a table is made for."""
+
+
+class NotJudged(Exception):
+    """Why openssl doesn't say whether a signature is true."""
 
 
 class Certificate(NamedTuple):
@@ -143,26 +171,24 @@ class Asked(NamedTuple):
         return " ".join([self.name(), *(sha256(part).hexdigest() for part in parts)])
 
     def verdict(self):
-        """What a table says of the signature."""
-        if self.is_accepted():
-            return "accept"
-        return "reject" if self.has_form() else "malformed"
+        """What a table says of the signature; NotJudged where openssl can't say."""
+        # First, since `openssl dgst` passes over octets behind a signature of the greatest length.
+        if not self.has_form():
+            return "malformed"
+        return "accept" if self.is_accepted() else "reject"
 
     def has_form(self):
-        """Whether a signature of the algorithm may be these octets (RFC 8017 8.2.2, RFC 3279 2.2.3, RFC 8032 5.1.7)."""
-        try:
-            if self.algorithm == RSA:
-                modulus, _ = read_exact(self.key.key_octets()).kids
-                return len(self.signature) == len(modulus.contents.lstrip(b"\0"))
-            if self.algorithm == EC:
-                r, s = read_exact(self.signature).kids
-                return all(one.tag == 2 and 0 < int.from_bytes(one.contents, signed=True) for one in (r, s))
-        except (Malformed, AttributeError, ValueError):
-            return False
-        return len(self.signature) == ED25519_LENGTH
+        """Whether a signature of the algorithm may be these octets."""
+        if self.algorithm == RSA:
+            modulus = number(read_exact(self.key.key_octets()).kids[0].contents)
+            return len(self.signature) == (modulus.bit_length() + 7) // 8 and number(self.signature) < modulus
+        if self.algorithm == EC:
+            order = ORDERS[self.key.key_names()[1]]
+            return all(one is not None and 0 < one < order for one in pair_in(self.signature))
+        return len(self.signature) == ED25519_LENGTH and int.from_bytes(self.signature[32:], "little") < ORDERS["ed25519"]
 
     def is_accepted(self):
-        """Whether openssl accepts the signature."""
+        """Whether openssl finds the signature true; NotJudged where it finds nothing."""
         with TemporaryDirectory() as place:
             files = {word: Path(place) / word for word in ("key", "message", "signature")}
             for file, octets in zip(files.values(), (write(self.key.key_info), self.message, self.signature)):
@@ -174,9 +200,37 @@ class Asked(NamedTuple):
                 else:
                     openssl("dgst", f"-{self.digest}", "-verify", files["key"], "-keyform", "DER",
                             "-signature", files["signature"], files["message"])
-            except OpensslError:
-                return False
+            except OpensslError as error:
+                limit = next((one for one in NOT_COMPUTED if one in error.errors), None)
+                if limit is None and any(line in FALSE for line in error.out.splitlines()):
+                    return False
+                why = limit or next(iter(error.errors.splitlines()), "it doesn't say why")
+                raise NotJudged(why.replace(f"{place}/", "the ")) from error
         return True
+
+
+def number(octets):
+    """The number without a sign that octets are, the highest first."""
+    return int.from_bytes(octets, "big")
+
+
+def pair_in(octets):
+    """The two numbers of an Ecdsa-Sig-Value (RFC 3279 2.2.3), each None where it isn't an INTEGER in DER or is negative."""
+    try:
+        element = read_exact(octets)
+    except Malformed:
+        return None, None
+    if element.tag != 0x30 or len(element.kids) != 2:
+        return None, None
+    return [number(one.contents) if is_shortest(one) else None for one in element.kids]
+
+
+def is_shortest(element):
+    """Whether an element is an INTEGER from 0 up in DER (X.690 8.3.2)."""
+    return (
+        element.tag == 0x02 and element.contents != b"" and element.contents[0] < 0x80
+        and (len(element.contents) == 1 or number(element.contents[:2]) >= 0x80)
+    )
 
 
 # What stands in a file.
@@ -189,6 +243,8 @@ def content_info_in(octets):
         raise NotASignatureFile("it has fewer than eight octets")
     length, = unpack_from("<I", octets)
     if not 8 <= length <= len(octets):
+        if b"-----BEGIN " in octets:
+            raise NotASignatureFile("it is PEM; a WIN_CERTIFICATE is its header and DER, as tools/signed_program.py takes it out of a program")
         raise NotASignatureFile(f"it has {len(octets)} octets, and its header says {length}")
     try:
         return read_first(octets[8:length])
@@ -300,7 +356,7 @@ def certificate_in(octets):
     except Malformed as refusal:
         raise NotACertificate(f"it isn't one element of DER: {refusal}") from refusal
     except Shape as refusal:
-        raise NotACertificate("it isn't a certificate of a shape that is read here") from refusal
+        raise NotACertificate(f"it isn't a certificate of a shape that is read here{': ' if str(refusal) else ''}{refusal}") from refusal
     return Certificate.of(element)
 
 
@@ -347,7 +403,11 @@ def table_of(all_asked, version=1):
         if asked.name() is None:
             lacking.append(f"{asked.what}: no name in a table")
             continue
-        verdict, line = asked.verdict(), asked.line()
+        try:
+            verdict, line = asked.verdict(), asked.line()
+        except NotJudged as why:
+            lacking.append(f"{asked.what}: openssl can't verify it: {why}")
+            continue
         if verdict != "accept":
             lacking.append(f"{asked.what}: {'malformed' if verdict == 'malformed' else 'not accepted'} as {asked.name()}")
         # A key may stand in two encodings, of which openssl reads one.
@@ -362,13 +422,14 @@ def main(arguments):
     if arguments[:1] in (["--help"], ["-h"]):
         print(__doc__.strip())
         return 0
-    version = 1 if arguments[:1] == ["--version-1"] else 2
-    arguments = arguments[1:] if version == 1 else arguments
-    of_chain = arguments[:1] == ["--chain"]
-    if len(arguments) < 2 if of_chain else len(arguments) != 1:
+    options, paths = set(), list(arguments)
+    while paths and paths[0] in OPTIONS:
+        options.add(paths.pop(0))
+    of_chain, version = "--chain" in options, 1 if "--version-1" in options else 2
+    if not paths or len(paths) > 1 and not of_chain:
         return command.usage(__doc__)
     try:
-        lines, lacking = table_for(arguments[1:] if of_chain else arguments, of_chain, version)
+        lines, lacking = table_for(paths, of_chain, version)
     except (OSError, NotRead, TooManyAsked) as error:
         print(f"verdict_table.py: {command.sentence(error)}", file=sys.stderr)
         return 1

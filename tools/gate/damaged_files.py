@@ -19,7 +19,7 @@ out, put in or repeated, the rest is cut off, or a tag or a length is another, o
 times.  Half of the signature files state their own length again after that.
 
 `openssl` isn't started: in its place a function accepts a signature by a digest of
-its octets, about every other one.  With `--openssl` it is started, as for users.
+its octets, about every other one, and of one in eight it can't say.  With `--openssl` it is started, as for users.
 """
 
 import argparse
@@ -121,7 +121,7 @@ def heads(octets, begin, end):
         more = octets[begin + 1] & 0x7F if octets[begin + 1] > 0x80 else 0
         if more > 2 or octets[begin + 1] == 0x80:
             return
-        length = int.from_bytes(octets[begin + 2:begin + 2 + more]) if more else octets[begin + 1]
+        length = int.from_bytes(octets[begin + 2:begin + 2 + more], "big") if more else octets[begin + 1]
         yield begin
         if octets[begin] & 0x20:
             yield from heads(octets, begin + 2 + more, min(end, begin + 2 + more + length))
@@ -213,10 +213,13 @@ def is_well(tool, file, status, said):
 
 
 def in_place_of_openssl(*words, given=b""):
-    """Accepts a signature, or not, by a digest of its octets."""
+    """Finds a signature true or false, or fails, by a digest of its octets."""
     option = "-sigfile" if "-sigfile" in words else "-signature"
-    if sha256(Path(words[words.index(option) + 1]).read_bytes()).digest()[0] % 2:
-        raise OpensslError("not accepted")
+    chosen = sha256(Path(words[words.index(option) + 1]).read_bytes()).digest()[0] % 8
+    if chosen == 7:
+        raise OpensslError("no key", errors="Could not read public key")
+    if chosen % 2:
+        raise OpensslError("not accepted", out="Verification failure\n")
     return b""
 
 

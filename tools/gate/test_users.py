@@ -3,6 +3,7 @@
     python3 -m unittest discover -s tools/gate
 """
 
+import re
 import sys
 import unittest
 from hashlib import sha256
@@ -19,11 +20,11 @@ import order_bag
 import signed_program
 import verdict_table
 from cases import basic_world
-from common.openssl import openssl
+from common.openssl import OpensslError, openssl
 from interop import signed_programs, world_signatures
 from interop.signature_making import portable_executable
 from judges.basic_judge import answer
-from judges.der_reader import write
+from judges.der_reader import Constructed, Primitive, read_exact, write
 from judges.verdict_rows import verdicts
 
 
@@ -85,14 +86,104 @@ class VerdictTableTest(unittest.TestCase):
         self.assertEqual(rows[2], f"accept {lines[0]}")
         self.assertEqual(told, lacking)
 
-    def test_malformed(self):
-        # Of the wrong length, and no two numbers.
-        for label, last in (("program, RSA, sha256", b""), ("program, P-256, sha256", b"\0")):
-            one = list(verdict_table.asked_of(self.signed(label)))[-1]
-            self.assertEqual(one.verdict(), "accept", label)
-            self.assertEqual(one._replace(signature=one.signature[:-1] + last).verdict(), "reject" if last else "malformed", label)
-            self.assertEqual(one._replace(signature=one.signature[1:]).verdict(), "malformed", label)
-            self.assertEqual(one._replace(signature=b"").verdict(), "malformed", label)
+    def asked(self, label):
+        """A signature that openssl accepts, of a stored file, by the key and the form of its algorithm."""
+        return list(verdict_table.asked_of(self.signed(label)))[-1]
+
+    @staticmethod
+    def by_new_key(*words):
+        """A signature by openssl with a key that it makes for these words, asked for by the key."""
+        with TemporaryDirectory() as folder:
+            key, message, signature = (Path(folder, name) for name in ("key", "message", "signature"))
+            openssl("genpkey", *words, "-out", key)
+            message.write_bytes(b"message")
+            is_edwards = "ed25519" in words
+            if is_edwards:
+                openssl("pkeyutl", "-sign", "-inkey", key, "-rawin", "-in", message, "-out", signature)
+            digest = None if is_edwards else next((digest for curve, digest in (("P-384", "sha384"), ("P-521", "sha512")) if any(curve in word for word in words)), "sha256")
+            if digest:
+                openssl("dgst", f"-{digest}", "-sign", key, "-out", signature, message)
+            info = read_exact(openssl("pkey", "-in", key, "-pubout", "-outform", "DER"))
+            algorithm = verdict_table.dotted(info.kids[0].kids[0].contents)
+            holder = verdict_table.Certificate(b"", b"", b"", b"", info, algorithm, b"")
+            return verdict_table.Asked("one", holder, algorithm, digest, b"message", signature.read_bytes())
+
+    def assert_verdicts(self, one, rows):
+        self.assertEqual(one.verdict(), "accept")
+        for verdict, signature in rows:
+            with self.subTest(verdict=verdict, signature=signature.hex()):
+                self.assertEqual(one._replace(signature=signature).verdict(), verdict)
+
+    def test_form_of_rsa(self):
+        # RFC 8017 8.2.2 step 1, 5.2.2 step 1: as long as the modulus, and below it.
+        one = self.asked("program, RSA, sha256")
+        modulus = read_exact(one.key.key_octets()).kids[0].contents[1:]
+        below = modulus[:-1] + bytes([modulus[-1] - 1])
+        self.assert_verdicts(one, [
+            ("reject", one.signature[:-1] + bytes([one.signature[-1] ^ 1])), ("reject", bytes(len(modulus))), ("reject", below),
+            ("malformed", modulus), ("malformed", b"\xff" * len(modulus)),
+            ("malformed", one.signature[1:]), ("malformed", b"\0" + one.signature), ("malformed", b""),
+            # `openssl dgst` verifies it, without the last octet.
+            ("malformed", one.signature + b"\0"),
+        ])
+
+    def test_form_of_ecdsa(self):
+        # RFC 3279 2.2.3, SEC 1 4.1.4 step 1: a SEQUENCE of two INTEGERs from 1 to n - 1.
+        def pair(r, s, tag=0x30):
+            contents = b"".join(bytes([2, len(one)]) + one for one in (r, s))
+            length = bytes([len(contents)]) if len(contents) < 0x80 else bytes([0x81, len(contents)])
+            return bytes([tag]) + length + contents
+
+        def shortest(number):
+            return number.to_bytes(number.bit_length() // 8 + 1, "big")
+
+        for curve in "P-256", "P-384", "P-521":
+            one = self.by_new_key("-algorithm", "EC", "-pkeyopt", f"ec_paramgen_curve:{curve}")
+            order = int(re.search(r"Order:([0-9a-f:\s]+)", openssl(
+                "ecparam", "-name", {"P-256": "prime256v1", "P-384": "secp384r1", "P-521": "secp521r1"}[curve],
+                "-param_enc", "explicit", "-text", "-noout").decode())[1].replace(":", "").replace("\n", "").replace(" ", ""), 16)
+            r, s = (kid.contents for kid in read_exact(one.signature).kids)
+            wide = b"\1" * 64 if curve != "P-521" else b"\2" + b"\0" * 65
+            self.assert_verdicts(one, [
+                ("reject", pair(b"\1", b"\1")), ("reject", pair(r, shortest(order - 1))), ("reject", pair(shortest(order - 1), s)),
+                ("malformed", pair(shortest(order), s)), ("malformed", pair(r, shortest(order))), ("malformed", pair(wide, s)),
+                ("malformed", pair(b"\0", s)), ("malformed", pair(r, b"\0")), ("malformed", pair(b"\xff", s)), ("malformed", pair(b"", s)),
+                ("malformed", pair(r, s, tag=0x31)), ("malformed", pair(b"\0\1", s)), ("malformed", pair(r, b"\0\x7f")),
+                ("malformed", one.signature + b"\0"), ("malformed", one.signature[1:]), ("malformed", b""), ("malformed", b"\x30\0"),
+                ("malformed", bytes([0x30, 3 + len(s) + 2, 4, 1, 1, 2, len(s)]) + s),
+            ])
+
+    def test_form_of_ed25519(self):
+        # RFC 8032 5.1.7 step 1: 32 octets for R, and S below L of RFC 8032 5.1, the lowest octet first.
+        one = self.by_new_key("-algorithm", "ed25519")
+        first, order = one.signature[:32], 0x1000000000000000000000000000000014def9dea2f79cd65812631a5cf5d3ed
+        self.assert_verdicts(one, [
+            ("reject", first + bytes(32)), ("reject", first + (order - 1).to_bytes(32, "little")),
+            ("malformed", first + order.to_bytes(32, "little")), ("malformed", b"\xff" * 64),
+            ("malformed", one.signature[1:]), ("malformed", one.signature + b"\0"), ("malformed", b""),
+        ])
+
+    def test_what_openssl_cant_verify(self):
+        # A point that isn't on the curve, and a modulus of 20,000 bits, which openssl doesn't compute with.
+        curve = self.by_new_key("-algorithm", "EC", "-pkeyopt", "ec_paramgen_curve:P-256")
+        info = curve.key.key_info
+        off = info._replace(kids=(info.kids[0], Primitive(3, b"\0\4" + b"\1" * 64)))
+        rsa = self.asked("program, RSA, sha256")
+        info = rsa.key.key_info
+        huge = Constructed(0x30, (Primitive(2, b"\x7f" + b"\xff" * 2499), Primitive(2, b"\1\0\1")))
+        wide = info._replace(kids=(info.kids[0], Primitive(3, b"\0" + write(huge))))
+        for one, key_info, why in (curve, off, "Could not read public key"), (rsa, wide, "modulus too large"):
+            one = one._replace(what="one", key=one.key._replace(key_info=key_info), signature=bytes(2500) if one is rsa else one.signature)
+            for version in 1, 2:
+                lines, lacking = verdict_table.table_of([one], version)
+                self.assertEqual(lines, ["picky-verdicts 2"][:version - 1])
+                self.assertEqual(len(lacking), 1)
+                self.assertTrue(lacking[0].startswith(f"one: openssl can't verify it: {why}"), lacking)
+                self.assertNotIn("\n", lacking[0])
+            # What no signature is needs no key.
+            self.assertEqual(one._replace(signature=b"\1").verdict(), "malformed")
+        with patch.object(verdict_table, "openssl", side_effect=OpensslError("none", errors="no such digest\nmore\n")):
+            self.assertEqual(verdict_table.table_of([rsa]), ([], [f"{rsa.what}: openssl can't verify it: no such digest"]))
 
     def test_verdicts(self):
         self.assertEqual(verdicts(""), {"": "accept"})
@@ -162,6 +253,50 @@ class UsersToolsTest(unittest.TestCase):
             self.of(signed_program, program, "{}", "/dev/null", "shake_128"),
             (1, "signed_program.py: file: shake_128 has digests of any length"),
         )
+
+    def test_options(self):
+        """Both options in either order, and a file of no option."""
+        der = signed_programs.root()
+        with TemporaryDirectory() as folder:
+            file = Path(folder, "file")
+            file.write_bytes(der)
+            for options, lines in (["--chain"], 2), (["--version-1", "--chain"], 1), (["--chain", "--version-1"], 1):
+                with patch("sys.stdout", StringIO()) as out:
+                    self.assertEqual(verdict_table.main([*options, str(file), str(file)]), 0)
+                rows = out.getvalue().splitlines()
+                self.assertEqual((len(rows), rows[-1].split()[-4]), (lines, "rsa-sha256"), options)
+                self.assertEqual(self.said(verdict_table, *options)[0], 2)
+        for words in [], ["--version-1"], ["a", "b"], ["--version-1", "a", "b"]:
+            self.assertEqual(self.said(verdict_table, *words)[0], 2)
+
+    def test_a_signature_in_pem(self):
+        signature = signed_programs.stored()["three"].file().octets
+        pem = openssl("pkcs7", "-inform", "DER", given=write(verdict_table.content_info_in(signature)[0]))
+        why = "it is PEM; a WIN_CERTIFICATE is its header and DER, as tools/signed_program.py takes it out of a program"
+        for octets in pem, b"\n" + pem, b"text\n" + pem:
+            self.assertEqual(self.of(verdict_table, octets, "{}"), (1, f"verdict_table.py: file: {why}"))
+            self.assertEqual(self.of(order_bag, octets, "{}", "/dev/null"), (1, f"order_bag.py: file: {why}"))
+
+    def test_certificates_that_arent_read(self):
+        def made(folder, *words):
+            key = Path(folder, "key")
+            openssl("genpkey", *words, "-out", key)
+            return key
+
+        with TemporaryDirectory() as folder:
+            parameters = Path(folder, "parameters")
+            openssl("genpkey", "-genparam", "-algorithm", "DSA", "-pkeyopt", "dsa_paramgen_bits:1024", "-out", parameters)
+            rsa, curve = ["-algorithm", "RSA"], ["-algorithm", "EC", "-pkeyopt", "ec_paramgen_curve:P-256"]
+            for words, options, why in (
+                (["-paramfile", parameters], [], "its key is of the algorithm 1.2.840.10040.4.1"),
+                (["-algorithm", "RSA-PSS"], [], "its key is of the algorithm 1.2.840.113549.1.1.10"),
+                ([*curve, "-pkeyopt", "ec_param_enc:explicit"], [], "the curve of its key isn't named by an identifier"),
+                (rsa, ["-addext", "basicConstraints=critical,CA:TRUE,pathlen:256"], "its path length isn't from 0 to 255"),
+            ):
+                key = made(folder, *words)
+                der = openssl("req", "-x509", "-new", "-key", key, "-subj", "/CN=one", "-outform", "DER", *options)
+                status, said = self.of(verdict_table, der, "--chain", "{}")
+                self.assertEqual((status, said), (1, f"verdict_table.py: file: it isn't a certificate of a shape that is read here: {why}"))
 
     def test_missing_files(self):
         for words in ["none"], ["--chain", "none", "other"]:

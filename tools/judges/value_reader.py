@@ -53,7 +53,7 @@ TIMES = {0x17: ("Utc", 2), 0x18: ("Generalized", 4)}
 
 
 class Shape(Exception):
-    """The element is none of the structure that is asked for."""
+    """The element is none of the structure that is asked for, and why where that is known."""
 
 
 def word(octets):
@@ -61,9 +61,9 @@ def word(octets):
     return octets.hex() or "-"
 
 
-def need(holds):
+def need(holds, why=""):
     if not holds:
-        raise Shape
+        raise Shape(why)
 
 
 def contents(element, tag):
@@ -272,9 +272,11 @@ def key(element):
         return f"Rsa {shown} {rsa_key(inner(octets[1:]))}"
     if oid == EC:
         need(parameters != "none")
-        dotted(contents(read_exact(bytes.fromhex(parameters)), 6))
+        curve = read_exact(bytes.fromhex(parameters))
+        need(curve.tag == 6, "the curve of its key isn't named by an identifier")
+        dotted(contents(curve, 6))
         return f"Ec {shown} {found}"
-    need(oid in ED | MLDSA)
+    need(oid in ED | MLDSA, f"its key is of the algorithm {oid}")
     return f"{'Ed' if oid in ED else 'Mldsa'} {shown} {found}"
 
 
@@ -383,7 +385,8 @@ def basic_constraints(element):
     if pathlen is not None:
         need(pathlen)
         number = int.from_bytes(pathlen, "big", signed=True)
-        need(0 <= number <= 255 and len(pathlen) == number.bit_length() // 8 + 1)
+        need(0 <= number <= 255, "its path length isn't from 0 to 255")
+        need(len(pathlen) == number.bit_length() // 8 + 1)
         written.append(Primitive(2, pathlen))
         shown = str(number)
     return f"{'none' if ca is None else str(ca).lower()} {shown}", Constructed(0x30, tuple(written))
