@@ -50,6 +50,7 @@ from interop import chains
 from interop.chains import CA, END, IDENTIFIERS, OWN_IDENTIFIER, RSA, Kind, limited
 from interop.signature_making import STAMP_FORM, portable_executable
 from judges.check_judge import Policy, answer
+from judges.verdict_rows import FIRST_LINE
 from order_bag import with_ordered_bag
 
 STORED = folders.CASES / "signed_programs.txt"
@@ -291,9 +292,10 @@ def sample():
 
 
 def sample_files():
-    """The files of the sample by their paths in the crate `picky`."""
+    """The files of the sample by their paths in the crate `picky`, the table in version 2."""
     file = sample().file()
-    return {"data/signed.bin": file.octets, "data/signed_table.txt": file.table.encode("ascii")}
+    rows = [FIRST_LINE, *(f"accept {row}" for row in file.table.splitlines())]
+    return {"data/signed.bin": file.octets, "data/signed_table.txt": "".join(f"{row}\n" for row in rows).encode("ascii")}
 
 
 def main(arguments):
