@@ -85,7 +85,7 @@ OPTIONS = "--version-1", "--chain"
 MOST_ASKED = 10_000
 ED25519_LENGTH = 64
 # What openssl prints of a signature that it finds false, by `dgst` and by `pkeyutl`.
-FALSE = "Verification failure", "Signature Verification Failure"
+FOUND_FALSE = "Verification failure", "Signature Verification Failure"
 # Why it prints that of a key that it doesn't compute with.
 NOT_COMPUTED = "modulus too large", "bad e value"
 
@@ -202,7 +202,7 @@ class Asked(NamedTuple):
                             "-signature", files["signature"], files["message"])
             except OpensslError as error:
                 limit = next((one for one in NOT_COMPUTED if one in error.errors), None)
-                if limit is None and any(line in FALSE for line in error.out.splitlines()):
+                if limit is None and any(line in FOUND_FALSE for line in error.out.splitlines()):
                     return False
                 why = limit or next(iter(error.errors.splitlines()), "it doesn't say why")
                 raise NotJudged(why.replace(f"{place}/", "the ")) from error

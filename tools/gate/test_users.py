@@ -91,22 +91,26 @@ class VerdictTableTest(unittest.TestCase):
         return list(verdict_table.asked_of(self.signed(label)))[-1]
 
     @staticmethod
-    def by_new_key(*words):
+    def by_new_key(digest, *words):
         """A signature by openssl with a key that it makes for these words, asked for by the key."""
         with TemporaryDirectory() as folder:
             key, message, signature = (Path(folder, name) for name in ("key", "message", "signature"))
             openssl("genpkey", *words, "-out", key)
             message.write_bytes(b"message")
-            is_edwards = "ed25519" in words
-            if is_edwards:
+            if digest is None:
                 openssl("pkeyutl", "-sign", "-inkey", key, "-rawin", "-in", message, "-out", signature)
-            digest = None if is_edwards else next((digest for curve, digest in (("P-384", "sha384"), ("P-521", "sha512")) if any(curve in word for word in words)), "sha256")
-            if digest:
+            else:
                 openssl("dgst", f"-{digest}", "-sign", key, "-out", signature, message)
             info = read_exact(openssl("pkey", "-in", key, "-pubout", "-outform", "DER"))
             algorithm = verdict_table.dotted(info.kids[0].kids[0].contents)
             holder = verdict_table.Certificate(b"", b"", b"", b"", info, algorithm, b"")
             return verdict_table.Asked("one", holder, algorithm, digest, b"message", signature.read_bytes())
+
+    @staticmethod
+    def order_of(curve):
+        """The order of a curve, as openssl prints it."""
+        printed = openssl("ecparam", "-name", curve, "-param_enc", "explicit", "-text", "-noout").decode()
+        return int("".join(re.search(r"Order:([0-9a-f:\s]+)", printed)[1].replace(":", " ").split()), 16)
 
     def assert_verdicts(self, one, rows):
         self.assertEqual(one.verdict(), "accept")
@@ -137,13 +141,11 @@ class VerdictTableTest(unittest.TestCase):
         def shortest(number):
             return number.to_bytes(number.bit_length() // 8 + 1, "big")
 
-        for curve in "P-256", "P-384", "P-521":
-            one = self.by_new_key("-algorithm", "EC", "-pkeyopt", f"ec_paramgen_curve:{curve}")
-            order = int(re.search(r"Order:([0-9a-f:\s]+)", openssl(
-                "ecparam", "-name", {"P-256": "prime256v1", "P-384": "secp384r1", "P-521": "secp521r1"}[curve],
-                "-param_enc", "explicit", "-text", "-noout").decode())[1].replace(":", "").replace("\n", "").replace(" ", ""), 16)
+        for curve, digest in ("prime256v1", "sha256"), ("secp384r1", "sha384"), ("secp521r1", "sha512"):
+            one = self.by_new_key(digest, "-algorithm", "EC", "-pkeyopt", f"ec_paramgen_curve:{curve}")
+            order = self.order_of(curve)
             r, s = (kid.contents for kid in read_exact(one.signature).kids)
-            wide = b"\1" * 64 if curve != "P-521" else b"\2" + b"\0" * 65
+            wide = b"\2" + bytes(65)
             self.assert_verdicts(one, [
                 ("reject", pair(b"\1", b"\1")), ("reject", pair(r, shortest(order - 1))), ("reject", pair(shortest(order - 1), s)),
                 ("malformed", pair(shortest(order), s)), ("malformed", pair(r, shortest(order))), ("malformed", pair(wide, s)),
@@ -155,7 +157,7 @@ class VerdictTableTest(unittest.TestCase):
 
     def test_form_of_ed25519(self):
         # RFC 8032 5.1.7 step 1: 32 octets for R, and S below L of RFC 8032 5.1, the lowest octet first.
-        one = self.by_new_key("-algorithm", "ed25519")
+        one = self.by_new_key(None, "-algorithm", "ed25519")
         first, order = one.signature[:32], 0x1000000000000000000000000000000014def9dea2f79cd65812631a5cf5d3ed
         self.assert_verdicts(one, [
             ("reject", first + bytes(32)), ("reject", first + (order - 1).to_bytes(32, "little")),
@@ -164,23 +166,30 @@ class VerdictTableTest(unittest.TestCase):
         ])
 
     def test_what_openssl_cant_verify(self):
-        # A point that isn't on the curve, and a modulus of 20,000 bits, which openssl doesn't compute with.
-        curve = self.by_new_key("-algorithm", "EC", "-pkeyopt", "ec_paramgen_curve:P-256")
-        info = curve.key.key_info
-        off = info._replace(kids=(info.kids[0], Primitive(3, b"\0\4" + b"\1" * 64)))
+        def by_key(one, octets, signature):
+            """The same by a key of other octets."""
+            info = one.key.key_info
+            info = info._replace(kids=(info.kids[0], Primitive(3, b"\0" + octets)))
+            return one._replace(what="one", key=one.key._replace(key_info=info), signature=signature)
+
+        def rsa_key(length, exponent):
+            return write(Constructed(0x30, (Primitive(2, b"\x7f" + b"\xff" * (length - 1)), Primitive(2, exponent))))
+
+        curve = self.by_new_key("sha256", "-algorithm", "EC", "-pkeyopt", "ec_paramgen_curve:P-256")
         rsa = self.asked("program, RSA, sha256")
-        info = rsa.key.key_info
-        huge = Constructed(0x30, (Primitive(2, b"\x7f" + b"\xff" * 2499), Primitive(2, b"\1\0\1")))
-        wide = info._replace(kids=(info.kids[0], Primitive(3, b"\0" + write(huge))))
-        for one, key_info, why in (curve, off, "Could not read public key"), (rsa, wide, "modulus too large"):
-            one = one._replace(what="one", key=one.key._replace(key_info=key_info), signature=bytes(2500) if one is rsa else one.signature)
+        # A point that isn't on the curve; keys of RSA whose modulus or exponent is longer than openssl computes with.
+        for one, why in (
+            (by_key(curve, b"\4" + b"\1" * 64, curve.signature), "Could not read public key"),
+            (by_key(rsa, rsa_key(2500, b"\1\0\1"), bytes(2500)), "modulus too large"),
+            (by_key(rsa, rsa_key(512, b"\1" * 9), bytes(512)), "bad e value"),
+        ):
             for version in 1, 2:
                 lines, lacking = verdict_table.table_of([one], version)
                 self.assertEqual(lines, ["picky-verdicts 2"][:version - 1])
                 self.assertEqual(len(lacking), 1)
                 self.assertTrue(lacking[0].startswith(f"one: openssl can't verify it: {why}"), lacking)
                 self.assertNotIn("\n", lacking[0])
-            # What no signature is needs no key.
+            # For octets that are no signature of the algorithm, openssl isn't needed.
             self.assertEqual(one._replace(signature=b"\1").verdict(), "malformed")
         with patch.object(verdict_table, "openssl", side_effect=OpensslError("none", errors="no such digest\nmore\n")):
             self.assertEqual(verdict_table.table_of([rsa]), ([], [f"{rsa.what}: openssl can't verify it: no such digest"]))
