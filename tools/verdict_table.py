@@ -35,10 +35,10 @@ Where openssl can't say, as of a key that it doesn't read, the table has no line
 version 1 are the lines of signatures that openssl verifies, without a verdict.
 
 A signature that openssl doesn't verify or can't judge, or whose algorithm has no name
-in a table, has a line on standard error, one for all places where it stands.  Nothing is said of
-whether a certificate may be believed: that is for who reads the table.  Many
-certificates of one name ask for each by each: a file that asks for more than 10,000
-signatures has no table, and the status is 1.
+in a table, has a line on standard error, one for all places where it stands.  Nothing
+is said of whether a certificate may be believed: that is for who reads the table.
+Many certificates of one name ask for each by each: a file that asks for more than
+10,000 signatures has no table, and the status is 1.
 """
 
 import sys
