@@ -29,15 +29,15 @@ import sys
 from dataclasses import dataclass, field
 from pathlib import Path
 
-NO_LIBRARIES = ("golden", "test_")
+sys.path.insert(0, str(Path(__file__).resolve().parents[1]))
+
+from common.sources import COMMENT_OR_TEXT, is_library
+
 NO_PROMISE = {"Drop", "Model"}
 START, END = "<!-- calls -->", "<!-- /calls -->"
 HEAD = """\
 From the sources, by `tools/gate/crate_readmes.py`. "contract" is one clause without a name; `requires` marks a precondition; a type also keeps the clauses of its traits."""
 
-COMMENT_OR_TEXT = re.compile(
-    r"""//[^\n]*|b?"(?:\\.|[^"\\])*"|b?'(?:\\[^\n']+|[^'\\\n])'""", re.DOTALL
-)
 CLAUSE = re.compile(r"\b(?P<kind>requires|ensures|decreases)\*?\s*(?P<name>[^\s{}()]*)\s*$")
 FUNCTION = re.compile(r"(?:(?P<public>pub(?P<inside>\([^)]*\))?)\s+)?(?:(?:const|unsafe|final)\s+)*fn\s+(?P<name>\w+)")
 GHOST = re.compile(r"(?:pub(?:\([^)]*\))?\s+)?ghost\s+(?P<name>[^\s:={]+)\s*[:=]")
@@ -377,7 +377,7 @@ def main(arguments):
     stale = []
     try:
         for crate in sorted(crates.iterdir()):
-            if crate.name.startswith(NO_LIBRARIES) or not (crate / "src" / "lib.rt").is_file():
+            if not is_library(crate):
                 continue
             readme = crate / "README.md"
             if not readme.is_file():

@@ -29,14 +29,11 @@ from pathlib import Path
 sys.path.insert(0, str(Path(__file__).resolve().parents[1]))
 
 from common import command
+from common.sources import COMMENT_OR_TEXT, is_library
 
-NO_LIBRARIES = ("golden", "test_")
 # Names that methods of the standard library have too.
 STANDARD = {"chain", "count", "get", "join", "parse", "read"}
 
-COMMENT_OR_TEXT = re.compile(
-    r"""//[^\n]*|b?"(?:\\.|[^"\\])*"|b?'(?:\\.[^']*|[^'\\\n])'""", re.DOTALL
-)
 USE = re.compile(r"^ *(?:ghost )?(?:pub(?:\([a-z]+\))? )?use [^;]*;", re.MULTILINE)
 BLOCK = re.compile(
     r"(?P<trait>(?:pub(?:\([a-z]+\))? )?trait )"
@@ -79,7 +76,7 @@ class Function:
 def functions(crate, file):
     """The functions of a file in order."""
     text = USE.sub("", COMMENT_OR_TEXT.sub('""', file.read_text(encoding="utf-8")))
-    is_library = not crate.name.startswith(NO_LIBRARIES) and (crate / "src" / "lib.rt").is_file()
+    of_library = is_library(crate)
     block, found = None, []
     for line in text.splitlines(keepends=True):
         block = BLOCK.match(line) or (None if line.startswith("}") else block)
@@ -87,7 +84,7 @@ def functions(crate, file):
         if function:
             of_trait = block is not None and (block["trait"] or block["of"])
             of_type = block["type"] if block and block["type"] else ""
-            is_public = is_library and function["public"] is not None and not of_trait
+            is_public = of_library and function["public"] is not None and not of_trait
             found.append([(of_type, function["name"], is_public), line[function.end() :]])
         elif found:
             found[-1][1] += line
