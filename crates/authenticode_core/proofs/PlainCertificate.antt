@@ -18,7 +18,7 @@ use Rattle.key_types.specs.declared.key_info.SubjectPublicKeyInfo.{SubjectPublic
 use Rattle.key_types.specs.declared.public_key.RsaPublicKey.{RsaPublicKey}
 use Rattle.key_types.specs.declared.subject_key.SubjectKey.TheVariants as keys
 use Rattle.x509_types.specs.CertificateElements.{AreCertificateFields, CertificateElements}
-use Rattle.x509_types.specs.declared.version.Version.TheVariants as versions
+use Rattle.x509_types.specs.declared.certificate.version.Version.TheVariants as versions
 use Rattle.authenticode_core.specs.PlainForm.{CertificateParts, IsNewYear, IsPlainKey, algorithm, plain_name, plain_public_key_info, plain_validity}
 use Rattle.authenticode_core.proofs.PlainShape.{algorithm_value, name_value}
 

@@ -27,7 +27,7 @@ use Rattle.key_types.specs.declared.algorithm.AlgorithmIdentifier.{AlgorithmIden
 use Rattle.name_types.specs.declared.attribute.AttributeTypeAndValue.{AttributeTypeAndValue}
 use Rattle.name_types.specs.declared.attribute_value.AttributeValue.TheVariants as strings
 use Rattle.name_types.specs.declared.directory_string.DirectoryString.TheVariants as directory_strings
-use Rattle.x509_types.specs.declared.attribute_values.AttributeValues.TheVariants as values
+use Rattle.x509_types.specs.declared.attribute.values.AttributeValues.TheVariants as values
 use Rattle.x509_types.specs.Attribute.{IsAttribute, AreAttributes}
 use Rattle.authenticode_core.specs.Asn1.{context}
 use Rattle.authenticode_core.specs.Basic.{HasSignedData}

@@ -16,8 +16,8 @@ use Rattle.x509_core.specs.Facts.CertificateParts.{parts_once, spelled_by}
 use Rattle.x509_types.specs.Certificate.{IsCertificate}
 use Rattle.x509_types.specs.CertificateElements.{CertificateElements, certificate_of, AreCertificateFields}
 use Rattle.x509_types.specs.CertificateView.{IsCertView, view_elements}
-use Rattle.x509_types.specs.declared.cert_view.CertView.{CertView}
 use Rattle.x509_types.specs.declared.certificate.Certificate.{Certificate}
+use Rattle.x509_types.specs.declared.certificate.view.CertView.{CertView}
 use Rattle.authenticode_parts.specs.Carried.{elements_of}
 use Rattle.authenticode_core.specs.CertificateBag.{IsBag, IsMember}
 

@@ -18,10 +18,10 @@ use Rattle.x509_types.specs.FirstExtension.{extensions_of, IsFirstValue}
 use Rattle.x509_types.specs.FirstOfValue.{extensions_in, IsFirstWith}
 use Rattle.x509_types.specs.declared.certificate.Certificate.{Certificate}
 use Rattle.x509_types.specs.declared.extension.Extension.{Extension}
-use Rattle.x509_types.specs.declared.extension_kind.ExtensionKind.{ExtensionKind}
-use Rattle.x509_types.specs.declared.extension_kind.ExtensionKind.TheVariants as kinds
-use Rattle.x509_types.specs.declared.extension_view.ExtensionView.{ExtensionView}
-use Rattle.x509_types.specs.declared.extension_view.ExtensionView.TheVariants as views
+use Rattle.x509_types.specs.declared.extension.kind.ExtensionKind.{ExtensionKind}
+use Rattle.x509_types.specs.declared.extension.kind.ExtensionKind.TheVariants as kinds
+use Rattle.x509_types.specs.declared.extension.view.ExtensionView.{ExtensionView}
+use Rattle.x509_types.specs.declared.extension.view.ExtensionView.TheVariants as views
 use Rattle.der_core.specs.Facts.Kept.{one_kept}
 use Rattle.x509_types.proofs.FirstOnes.{listed_each, had, lies}
 use Rattle.x509_core.specs.FirstValue.{HasFirst}

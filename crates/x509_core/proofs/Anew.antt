@@ -9,9 +9,9 @@ use Rattle.x509_types.specs.TbsCertificate.{IsVersion, IsExtensions, AreTbsField
 use Rattle.x509_types.specs.TbsElements.{TbsElements}
 use Rattle.x509_types.specs.Version.{version}
 use Rattle.x509_types.specs.declared.certificate.Certificate.{Certificate}
+use Rattle.x509_types.specs.declared.certificate.tbs_certificate.TbsCertificate.{TbsCertificate}
+use Rattle.x509_types.specs.declared.certificate.version.Version.{Version}
 use Rattle.x509_types.specs.declared.extension.Extension.{Extension}
-use Rattle.x509_types.specs.declared.tbs_certificate.TbsCertificate.{TbsCertificate}
-use Rattle.x509_types.specs.declared.version.Version.{Version}
 use Rattle.x509_types.proofs.Spellings.{list_spelling}
 use Rattle.x509_types.specs.ExtensionSpellings.{IsSpelling}
 use Rattle.x509_core.specs.Spellings.{without_extensions, IsWrittenAlike}

@@ -4,7 +4,7 @@
 ghost use Rattle.std.specs.Prelude.{MatchOption, MatchResult};
 ghost use Rattle.asn1_types.specs.declared.oids.TheConstants.{CE_SUBJECT_KEY_IDENTIFIER, CE_BASIC_CONSTRAINTS, CE_AUTHORITY_KEY_IDENTIFIER};
 ghost use Rattle.x509_types.specs.FirstOfValue.{extensions_in, NoneHas, IsFirstWith};
-ghost use Rattle.x509_types.specs.declared.extension_view.ExtensionView.TheVariants as views;
+ghost use Rattle.x509_types.specs.declared.extension.view.ExtensionView.TheVariants as views;
 ghost use Rattle.x509_core.specs.FirstValue.{HasFirst, IsMissingExtension};
 ghost use Rattle.x509_core.specs.declared.error.ExtName.TheVariants as names;
 

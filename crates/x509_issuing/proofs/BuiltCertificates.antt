@@ -18,9 +18,9 @@ use Rattle.x509_types.specs.Facts.Certificates.{same_three}
 use Rattle.x509_types.specs.FirstOfValue.{extensions_in}
 use Rattle.x509_types.specs.TbsCertificate.{tbs_certificate}
 use Rattle.x509_types.specs.TbsElements.{tbs_of}
+use Rattle.x509_types.specs.declared.certificate.tbs_certificate.TbsCertificate.{TbsCertificate}
 use Rattle.x509_types.specs.declared.extension.Extension.{Extension}
-use Rattle.x509_types.specs.declared.extension_view.ExtensionView.TheVariants as views
-use Rattle.x509_types.specs.declared.tbs_certificate.TbsCertificate.{TbsCertificate}
+use Rattle.x509_types.specs.declared.extension.view.ExtensionView.TheVariants as views
 use Rattle.x509_core.specs.Distinct.{AreDistinct}
 use Rattle.x509_core.specs.FirstValue.{HasFirst}
 use Rattle.x509_core.specs.KeptCertificate.{KeptCertificate}
@@ -29,8 +29,8 @@ use Rattle.x509_core.specs.SaidValues.{NamesKey}
 use Rattle.x509_core.specs.declared.error.CertError.{CertError}
 use Rattle.asn1_types.specs.declared.integer.IntegerAsn1.{IntegerAsn1}
 use Rattle.key_types.specs.declared.algorithm.AlgorithmIdentifier.{AlgorithmIdentifier}
-use Rattle.x509_types.specs.declared.version.Version.TheVariants as versions
-use Rattle.x509_types.specs.declared.validity.Validity.{Validity}
+use Rattle.x509_types.specs.declared.certificate.version.Version.TheVariants as versions
+use Rattle.x509_types.specs.declared.certificate.validity.Validity.{Validity}
 use Rattle.x509_core.proofs.SignedParts.{signed_by, signed_with}
 use Rattle.x509_core.specs.declared.error.CertError.TheVariants as errors
 use Rattle.x509_issuing.specs.BuiltCertificate.{authority_of, IsBuiltBy, IsBuiltFor, IsIdentified, IsTbsBy, IsTbsFor, IsValidityOf, NameSets}

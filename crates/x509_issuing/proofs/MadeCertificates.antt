@@ -16,7 +16,7 @@ use Rattle.x509_types.specs.CertificateElements.{certificate_of}
 use Rattle.x509_types.specs.Facts.Certificates.{certificates}
 use Rattle.x509_types.specs.TbsCertificate.{tbs_certificate, inner_tbs}
 use Rattle.x509_types.specs.declared.certificate.Certificate.{Certificate}
-use Rattle.x509_types.specs.declared.tbs_certificate.TbsCertificate.{TbsCertificate}
+use Rattle.x509_types.specs.declared.certificate.tbs_certificate.TbsCertificate.{TbsCertificate}
 use Rattle.x509_core.specs.CertRefusals.{IsUnwrittenCert}
 use Rattle.x509_core.specs.KeptCertificate.{KeptCertificate, kept_octets, written_octets, written_elements}
 use Rattle.x509_core.specs.declared.error.CertError.{CertError}

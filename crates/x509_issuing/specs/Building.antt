@@ -21,7 +21,7 @@ use Rattle.x509_types.specs.Certificate.{certificate}
 use Rattle.x509_types.specs.CertificateElements.{certificate_of}
 use Rattle.x509_types.specs.TbsCertificate.{tbs_certificate, inner_tbs}
 use Rattle.x509_types.specs.declared.certificate.Certificate.{Certificate}
-use Rattle.x509_types.specs.declared.tbs_certificate.TbsCertificate.{TbsCertificate}
+use Rattle.x509_types.specs.declared.certificate.tbs_certificate.TbsCertificate.{TbsCertificate}
 use Rattle.x509_core.specs.CertRefusals.{IsUnwrittenCert}
 use Rattle.x509_core.specs.KeptCertificate.{KeptCertificate, written_elements}
 use Rattle.x509_core.specs.Link.{signature_refusal}

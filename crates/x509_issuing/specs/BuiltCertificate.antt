@@ -17,11 +17,11 @@ use Rattle.name_types.specs.declared.attribute.AttributeTypeAndValue.{AttributeT
 use Rattle.names_core.specs.Names.{sets_of}
 use Rattle.names_core.specs.UtcDate.{IsTimeOf}
 use Rattle.x509_types.specs.FirstOfValue.{extensions_in}
+use Rattle.x509_types.specs.declared.certificate.tbs_certificate.TbsCertificate.{TbsCertificate}
+use Rattle.x509_types.specs.declared.certificate.version.Version.TheVariants as versions
 use Rattle.x509_types.specs.declared.extension.Extension.{Extension}
-use Rattle.x509_types.specs.declared.extension_view.ExtensionView.TheVariants as views
-use Rattle.x509_types.specs.declared.tbs_certificate.TbsCertificate.{TbsCertificate}
-use Rattle.x509_types.specs.declared.version.Version.TheVariants as versions
-use Rattle.x509_types.specs.declared.validity.Validity.{Validity}
+use Rattle.x509_types.specs.declared.extension.view.ExtensionView.TheVariants as views
+use Rattle.x509_types.specs.declared.certificate.validity.Validity.{Validity}
 use Rattle.x509_core.specs.FirstValue.{HasFirst}
 use Rattle.x509_core.specs.SaidValues.{NamesKey}
 use Rattle.x509_issuing.specs.MadeExtensions.{AreBuilt}

@@ -4,8 +4,8 @@ use Rattle.std.specs.List.{list_any}
 use Rattle.asn1_types.specs.Values.{identifier_contents}
 use Rattle.x509_types.specs.Extension.{extension_id}
 use Rattle.x509_types.specs.declared.attribute.Attribute.{Attribute}
-use Rattle.x509_types.specs.declared.attribute_values.AttributeValues.{AttributeValues}
-use Rattle.x509_types.specs.declared.attribute_values.AttributeValues.TheVariants as values
+use Rattle.x509_types.specs.declared.attribute.values.AttributeValues.{AttributeValues}
+use Rattle.x509_types.specs.declared.attribute.values.AttributeValues.TheVariants as values
 use Rattle.x509_types.specs.declared.extension.Extension.{Extension}
 
 -- the first of the values of an attribute that asks for extensions (RFC 2985 5.4.2), where it has

@@ -6,7 +6,7 @@ use Rattle.key_core.specs.declared.private_key.PrivateKey.{PrivateKey}
 use Rattle.names_core.specs.Names.{name_of_sets}
 use Rattle.x509_types.specs.FirstOfValue.{extensions_in, NoneHas}
 use Rattle.x509_types.specs.declared.extension.Extension.{Extension}
-use Rattle.x509_types.specs.declared.extension_view.ExtensionView.TheVariants as views
+use Rattle.x509_types.specs.declared.extension.view.ExtensionView.TheVariants as views
 use Rattle.x509_core.specs.FirstValue.{HasFirst}
 use Rattle.x509_core.specs.KeptCertificate.{KeptCertificate}
 use Rattle.x509_issuing.specs.declared.builder.CertificateBuilder.{CertificateBuilder}

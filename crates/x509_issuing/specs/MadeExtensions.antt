@@ -8,8 +8,8 @@ use Rattle.extension_types.specs.KeyUsage.{HasBit, usage_bits}
 use Rattle.extension_types.specs.declared.key_usage.KeyUsage.{KeyUsage}
 use Rattle.x509_types.specs.Extension.{extension_id, extension_value, is_critical}
 use Rattle.x509_types.specs.declared.extension.Extension.{Extension}
-use Rattle.x509_types.specs.declared.extension_view.ExtensionView.{ExtensionView}
-use Rattle.x509_types.specs.declared.extension_view.ExtensionView.TheVariants as views
+use Rattle.x509_types.specs.declared.extension.view.ExtensionView.{ExtensionView}
+use Rattle.x509_types.specs.declared.extension.view.ExtensionView.TheVariants as views
 use Rattle.x509_issuing.specs.Inherited.{asked_in, with_others}
 use Rattle.x509_issuing.specs.declared.builder.CertificateBuilder.{CertificateBuilder}
 use Rattle.x509_issuing.specs.declared.builder.IssuerInfos.{IssuerInfos}

@@ -6,7 +6,7 @@ ghost use Rattle.sig_core.specs.declared.hash.HashAlgorithm.TheVariants as hashe
 ghost use Rattle.key_core.specs.declared.key_id.KeyIdGenMethod.TheVariants as methods;
 ghost use Rattle.key_core.specs.declared.signature_algorithm.SignatureAlgorithm.TheVariants as algorithms;
 ghost use Rattle.x509_types.specs.FirstOfValue.{extensions_in, NoneHas};
-ghost use Rattle.x509_types.specs.declared.extension_view.ExtensionView.TheVariants as views;
+ghost use Rattle.x509_types.specs.declared.extension.view.ExtensionView.TheVariants as views;
 ghost use Rattle.x509_core.specs.FirstValue.{HasFirst};
 ghost use Rattle.x509_issuing.specs.IssuedUnder.{IsIssuedUnder};
 ghost use Rattle.x509_issuing.specs.declared.builder.SubjectInfos.TheVariants as subjects;

@@ -17,10 +17,10 @@ use Rattle.name_types.specs.GeneralName.{AreGeneralNames}
 use Rattle.name_types.specs.declared.general_name.RawGeneralName.{RawGeneralName}
 use Rattle.x509_types.specs.ExtensionView.{key_identifier, HoldsNoNames, MayBeKept, IsValueOf}
 use Rattle.x509_types.specs.Facts.ExtensionViews.{HoldsOf, holds_of}
-use Rattle.x509_types.specs.declared.extension_kind.ExtensionKind.{ExtensionKind}
-use Rattle.x509_types.specs.declared.extension_kind.ExtensionKind.TheVariants as kinds
-use Rattle.x509_types.specs.declared.extension_view.ExtensionView.{ExtensionView}
-use Rattle.x509_types.specs.declared.extension_view.ExtensionView.TheVariants as views
+use Rattle.x509_types.specs.declared.extension.kind.ExtensionKind.{ExtensionKind}
+use Rattle.x509_types.specs.declared.extension.kind.ExtensionKind.TheVariants as kinds
+use Rattle.x509_types.specs.declared.extension.view.ExtensionView.{ExtensionView}
+use Rattle.x509_types.specs.declared.extension.view.ExtensionView.TheVariants as views
 
 held : (kind named : ExtensionKind) (octets : List ℕ) (view : ExtensionView) → kind ≡ named → IsValueOf kind octets view → HoldsOf named octets view
 held kind named octets view is of = subst (λ (k : ExtensionKind). HoldsOf k octets view) is (holds_of kind octets view of)

@@ -17,7 +17,7 @@ use Rattle.key_types.specs.declared.subject_key.SubjectKey.TheVariants as keys
 use Rattle.x509_types.specs.CertificateFields.{bits_of}
 use Rattle.x509_types.specs.InnerFields.{key_payload}
 use Rattle.x509_types.specs.Validity.{validity}
-use Rattle.x509_types.specs.declared.validity.Validity.{Validity}
+use Rattle.x509_types.specs.declared.certificate.validity.Validity.{Validity}
 
 same_contents : (tag : ℕ) (x y : List ℕ) → Primitive tag x ≡ Primitive tag y → x ≡ y
 same_contents tag x y e = cc

@@ -10,8 +10,8 @@ use Rattle.x509_types.specs.Version.{version}
 use Rattle.x509_types.specs.Extension.{extension_octets}
 use Rattle.x509_types.specs.Facts.Extensions.{extensions_by_octets}
 use Rattle.x509_types.specs.Facts.Versions.{versions, versions_once}
+use Rattle.x509_types.specs.declared.certificate.version.Version.{Version}
 use Rattle.x509_types.specs.declared.extension.Extension.{Extension}
-use Rattle.x509_types.specs.declared.version.Version.{Version}
 
 pub same_versions : (a b : Option Version) (t : Bool) → t ≡ option_eq (same_octets version) a b → IsTrue t ↔ (a ≡ b)
 same_versions a b t test = by_test t _ (a ≡ b) test (options_same (same_octets version) (octets_same version versions_once versions.formed) a b)

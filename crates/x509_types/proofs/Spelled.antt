@@ -17,11 +17,11 @@ use Rattle.x509_types.specs.TbsCertificate.{IsVersion, IsExtensions, AreTbsField
 use Rattle.x509_types.specs.TbsParts.{IsIssuedBy, IsIssuedTo, AreAdded, issued_by, issued_to, added_fields, tbs_of_parts}
 use Rattle.x509_types.specs.Facts.TbsElements.{same_elements}
 use Rattle.x509_types.specs.Validity.{validity}
-use Rattle.x509_types.specs.declared.tbs_certificate.TbsCertificate.{TbsCertificate}
-use Rattle.x509_types.specs.declared.tbs_parts.IssuedBy.{IssuedBy}
-use Rattle.x509_types.specs.declared.tbs_parts.IssuedTo.{IssuedTo}
-use Rattle.x509_types.specs.declared.tbs_parts.AddedFields.{AddedFields}
-use Rattle.x509_types.specs.declared.validity.Validity.{Validity}
+use Rattle.x509_types.specs.declared.certificate.tbs_certificate.TbsCertificate.{TbsCertificate}
+use Rattle.x509_types.specs.declared.certificate.tbs_parts.IssuedBy.{IssuedBy}
+use Rattle.x509_types.specs.declared.certificate.tbs_parts.IssuedTo.{IssuedTo}
+use Rattle.x509_types.specs.declared.certificate.tbs_parts.AddedFields.{AddedFields}
+use Rattle.x509_types.specs.declared.certificate.validity.Validity.{Validity}
 
 -- the elements of the fields spell the value that the element around them spells
 pub by_fields : (element : DerElement) (f : TbsElements) (tbs : TbsCertificate) → element ≡ tbs_of f → IsTbsCertificate element tbs → AreTbsFields f tbs

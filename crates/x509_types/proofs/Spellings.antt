@@ -22,11 +22,11 @@ use Rattle.x509_types.specs.AttributeValues.{AreAttributeValues}
 use Rattle.x509_types.specs.Attribute.{IsAttribute}
 use Rattle.x509_types.specs.AttributeSpellings.{AreSpelling, IsAttributeSpelling}
 use Rattle.x509_types.specs.declared.attribute.Attribute.{Attribute}
-use Rattle.x509_types.specs.declared.attribute_values.AttributeValues.{AttributeValues}
-use Rattle.x509_types.specs.declared.attribute_values.AttributeValues.TheVariants as variants
+use Rattle.x509_types.specs.declared.attribute.values.AttributeValues.{AttributeValues}
+use Rattle.x509_types.specs.declared.attribute.values.AttributeValues.TheVariants as variants
 use Rattle.x509_types.specs.declared.extension.Extension.{Extension}
-use Rattle.x509_types.specs.declared.extension_view.ExtensionView.{ExtensionView}
-use Rattle.x509_types.specs.declared.extension_view.ExtensionView.TheVariants as views
+use Rattle.x509_types.specs.declared.extension.view.ExtensionView.{ExtensionView}
+use Rattle.x509_types.specs.declared.extension.view.ExtensionView.TheVariants as views
 
 flag_stands : (element oid : DerElement) (critical : Bool) (octets : List ℕ) (flag : List DerElement) → element ≡ sequence (oid ∷ (flag ++ Primitive 0x04 octets ∷ [])) → IsDefaultFalse flag critical
     → (flag ≡ default_false critical) ⊎ HasOtherFlag element oid critical octets

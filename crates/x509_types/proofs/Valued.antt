@@ -19,10 +19,10 @@ use Rattle.asn1_types.specs.Facts.Elements.{same_oid}
 use Rattle.asn1_types.specs.declared.oid.ObjectIdentifier.{ObjectIdentifier}
 use Rattle.x509_types.specs.TbsCertificate.{IsExtensions, extensions, inner_extensions}
 use Rattle.x509_types.specs.AttributeValues.{kind_of_values, attribute_values, AreAttributeValues, AreValuesOf, inner_values}
-use Rattle.x509_types.specs.declared.attribute_kind.AttributeKind.{AttributeKind}
-use Rattle.x509_types.specs.declared.attribute_kind.AttributeKind.TheVariants as kinds
-use Rattle.x509_types.specs.declared.attribute_values.AttributeValues.{AttributeValues}
-use Rattle.x509_types.specs.declared.attribute_values.AttributeValues.TheVariants as values
+use Rattle.x509_types.specs.declared.attribute.kind.AttributeKind.{AttributeKind}
+use Rattle.x509_types.specs.declared.attribute.kind.AttributeKind.TheVariants as kinds
+use Rattle.x509_types.specs.declared.attribute.values.AttributeValues.{AttributeValues}
+use Rattle.x509_types.specs.declared.attribute.values.AttributeValues.TheVariants as values
 use Rattle.x509_types.specs.declared.extension.Extension.{Extension}
 use Rattle.x509_types.proofs.Same.{told, told_same}
 

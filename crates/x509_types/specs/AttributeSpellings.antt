@@ -8,8 +8,8 @@ use Rattle.asn1_types.specs.Elements.{object_identifier}
 use Rattle.x509_types.specs.AttributeValues.{attribute_values}
 use Rattle.x509_types.specs.ExtensionSpellings.{IsSpelling}
 use Rattle.x509_types.specs.declared.attribute.Attribute.{Attribute}
-use Rattle.x509_types.specs.declared.attribute_values.AttributeValues.{AttributeValues}
-use Rattle.x509_types.specs.declared.attribute_values.AttributeValues.TheVariants as variants
+use Rattle.x509_types.specs.declared.attribute.values.AttributeValues.{AttributeValues}
+use Rattle.x509_types.specs.declared.attribute.values.AttributeValues.TheVariants as variants
 
 -- the element of the values is the one that is written, but for the spelling of extensions, each at
 -- its place

@@ -12,10 +12,10 @@ use Rattle.asn1_types.specs.Elements.{object_identifier}
 use Rattle.x509_types.specs.Extension.{value_kinds}
 use Rattle.x509_types.specs.TbsCertificate.{IsExtensions, extensions, inner_extensions}
 use Rattle.x509_types.specs.AttributeKind.{attribute_number}
-use Rattle.x509_types.specs.declared.attribute_kind.AttributeKind.{AttributeKind}
-use Rattle.x509_types.specs.declared.attribute_kind.AttributeKind.TheVariants as kinds
-use Rattle.x509_types.specs.declared.attribute_values.AttributeValues.{AttributeValues}
-use Rattle.x509_types.specs.declared.attribute_values.AttributeValues.TheVariants as values
+use Rattle.x509_types.specs.declared.attribute.kind.AttributeKind.{AttributeKind}
+use Rattle.x509_types.specs.declared.attribute.kind.AttributeKind.TheVariants as kinds
+use Rattle.x509_types.specs.declared.attribute.values.AttributeValues.{AttributeValues}
+use Rattle.x509_types.specs.declared.attribute.values.AttributeValues.TheVariants as values
 
 -- the kind of attributes that have such values
 abbrev pub kind_of_values : AttributeValues → AttributeKind

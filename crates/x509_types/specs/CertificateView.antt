@@ -4,7 +4,7 @@ use Rattle.der_core.specs.DerElement.{DerElement}
 use Rattle.der_core.specs.Structure.{Fits}
 use Rattle.x509_types.specs.CertificateElements.{CertificateElements, certificate_of, AreCertificateFields}
 use Rattle.x509_types.specs.LentCertificate.{lent_elements}
-use Rattle.x509_types.specs.declared.cert_view.CertView.{CertView}
+use Rattle.x509_types.specs.declared.certificate.view.CertView.{CertView}
 
 -- the elements that lie there
 abbrev pub view_elements : CertView → CertificateElements

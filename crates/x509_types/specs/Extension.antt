@@ -12,7 +12,7 @@ use Rattle.x509_types.specs.ExtensionKind.{extension_kind_number, named_kind}
 use Rattle.x509_types.specs.ExtensionView.{kind_of_view, value_octets, IsValueIn, IsValueOf}
 use Rattle.x509_types.specs.ExtensionFields.{IsExtensionOf}
 use Rattle.x509_types.specs.declared.extension.Extension.{Extension}
-use Rattle.x509_types.specs.declared.extension_view.ExtensionView.{ExtensionView}
+use Rattle.x509_types.specs.declared.extension.view.ExtensionView.{ExtensionView}
 
 -- the element that is written: FALSE is left out, TRUE is FF
 abbrev pub extension : Extension → DerElement

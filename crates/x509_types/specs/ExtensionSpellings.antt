@@ -11,8 +11,8 @@ use Rattle.extension_types.specs.declared.basic_constraints.BasicConstraints.{Ba
 use Rattle.x509_types.specs.Extension.{extension, IsExtension}
 use Rattle.x509_types.specs.ExtensionView.{value_octets}
 use Rattle.x509_types.specs.declared.extension.Extension.{Extension}
-use Rattle.x509_types.specs.declared.extension_view.ExtensionView.{ExtensionView}
-use Rattle.x509_types.specs.declared.extension_view.ExtensionView.TheVariants as views
+use Rattle.x509_types.specs.declared.extension.view.ExtensionView.{ExtensionView}
+use Rattle.x509_types.specs.declared.extension.view.ExtensionView.TheVariants as views
 
 -- The flag of an extension stands in another octet than FF: TRUE, against X.690 11.1, or FALSE,
 -- against X.690 11.5.

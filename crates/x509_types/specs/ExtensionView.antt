@@ -15,10 +15,10 @@ use Rattle.extension_types.specs.declared.extended_key_usage.ExtendedKeyUsage.{E
 use Rattle.name_types.specs.GeneralName.{general_names, AreGeneralNames}
 use Rattle.name_types.specs.declared.general_name.RawGeneralName.{RawGeneralName}
 use Rattle.x509_types.specs.ExtensionKind.{extension_kind_number}
-use Rattle.x509_types.specs.declared.extension_kind.ExtensionKind.{ExtensionKind}
-use Rattle.x509_types.specs.declared.extension_kind.ExtensionKind.TheVariants as kinds
-use Rattle.x509_types.specs.declared.extension_view.ExtensionView.{ExtensionView}
-use Rattle.x509_types.specs.declared.extension_view.ExtensionView.TheVariants as views
+use Rattle.x509_types.specs.declared.extension.kind.ExtensionKind.{ExtensionKind}
+use Rattle.x509_types.specs.declared.extension.kind.ExtensionKind.TheVariants as kinds
+use Rattle.x509_types.specs.declared.extension.view.ExtensionView.{ExtensionView}
+use Rattle.x509_types.specs.declared.extension.view.ExtensionView.TheVariants as views
 
 -- the kind of a value
 abbrev pub kind_of_view : ExtensionView → ExtensionKind

@@ -2,7 +2,7 @@
 use Rattle.x509_types.specs.CertificateElements.{CertificateElements}
 use Rattle.x509_types.specs.CertificateFields.{unused_bits}
 use Rattle.x509_types.specs.LentTbs.{elements_at}
-use Rattle.x509_types.specs.declared.cert_parts.CertParts.{CertParts}
+use Rattle.x509_types.specs.declared.certificate.parts.CertParts.{CertParts}
 
 -- the elements that lie there: the fields of what is signed, the algorithm, and the signature's
 -- count of unused bits and octets

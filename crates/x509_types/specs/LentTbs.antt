@@ -2,7 +2,7 @@
 use Rattle.std.specs.Option.{option_copied}
 use Rattle.der_core.specs.Lent.{at_option}
 use Rattle.x509_types.specs.TbsElements.{TbsElements}
-use Rattle.x509_types.specs.declared.tbs_fields.TbsFields.{TbsFields}
+use Rattle.x509_types.specs.declared.certificate.tbs_fields.TbsFields.{TbsFields}
 
 -- the elements that lie there
 abbrev pub elements_at : TbsFields → TbsElements

@@ -14,9 +14,9 @@ use Rattle.x509_types.specs.Extension.{extension, value_kinds, IsExtension}
 use Rattle.der_core.specs.Optional.{SpellsOption, inner_option}
 use Rattle.x509_types.specs.TbsElements.{TbsElements, tbs_of}
 use Rattle.x509_types.specs.Validity.{validity}
+use Rattle.x509_types.specs.declared.certificate.tbs_certificate.TbsCertificate.{TbsCertificate}
+use Rattle.x509_types.specs.declared.certificate.version.Version.{Version}
 use Rattle.x509_types.specs.declared.extension.Extension.{Extension}
-use Rattle.x509_types.specs.declared.tbs_certificate.TbsCertificate.{TbsCertificate}
-use Rattle.x509_types.specs.declared.version.Version.{Version}
 
 -- Version ::= INTEGER
 abbrev pub IsVersion : DerElement → Version → Type 0

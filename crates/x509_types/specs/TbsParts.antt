@@ -9,10 +9,10 @@ use Rattle.der_core.specs.Optional.{SpellsOption}
 use Rattle.x509_types.specs.TbsElements.{TbsElements}
 use Rattle.x509_types.specs.TbsCertificate.{IsVersion, IsExtensions}
 use Rattle.x509_types.specs.Validity.{validity}
-use Rattle.x509_types.specs.declared.tbs_certificate.TbsCertificate.{TbsCertificate}
-use Rattle.x509_types.specs.declared.tbs_parts.IssuedBy.{IssuedBy}
-use Rattle.x509_types.specs.declared.tbs_parts.IssuedTo.{IssuedTo}
-use Rattle.x509_types.specs.declared.tbs_parts.AddedFields.{AddedFields}
+use Rattle.x509_types.specs.declared.certificate.tbs_certificate.TbsCertificate.{TbsCertificate}
+use Rattle.x509_types.specs.declared.certificate.tbs_parts.IssuedBy.{IssuedBy}
+use Rattle.x509_types.specs.declared.certificate.tbs_parts.IssuedTo.{IssuedTo}
+use Rattle.x509_types.specs.declared.certificate.tbs_parts.AddedFields.{AddedFields}
 
 -- Each element spells the field of the first part.
 pub record IsIssuedBy (f : TbsElements) (part : IssuedBy) : Type 0 where

@@ -3,7 +3,7 @@ use Rattle.std.specs.Prelude.{[], ◌∷◌}
 use Rattle.der_core.specs.DerElement.{DerElement}
 use Rattle.der_core.specs.Elements.{sequence}
 use Rattle.asn1_types.specs.Elements.{time}
-use Rattle.x509_types.specs.declared.validity.Validity.{Validity}
+use Rattle.x509_types.specs.declared.certificate.validity.Validity.{Validity}
 
 -- the element of a validity, its times in this order
 abbrev pub validity : Validity → DerElement

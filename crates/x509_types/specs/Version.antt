@@ -2,8 +2,8 @@
 use Rattle.std.specs.Prelude.{ℕ, [], ◌∷◌}
 use Rattle.asn1_types.specs.Elements.{integer_of}
 use Rattle.der_core.specs.DerElement.{DerElement}
-use Rattle.x509_types.specs.declared.version.Version.{Version}
-use Rattle.x509_types.specs.declared.version.Version.TheVariants as versions
+use Rattle.x509_types.specs.declared.certificate.version.Version.{Version}
+use Rattle.x509_types.specs.declared.certificate.version.Version.TheVariants as versions
 
 -- the number of a version
 abbrev pub version_number : Version → ℕ

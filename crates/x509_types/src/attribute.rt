@@ -7,8 +7,11 @@ ghost use Rattle.x509_types.specs.AttributeKind.{named_attribute};
 ghost use Rattle.x509_types.specs.AttributeValues.{kind_of_values};
 ghost use Rattle.x509_types.specs.Facts.AttributeKinds.{same_attribute_kinds};
 
-use crate::attribute_kind::AttributeKind;
-use crate::attribute_values::AttributeValues;
+pub(crate) mod kind;
+pub(crate) mod values;
+
+use crate::attribute::kind::AttributeKind;
+use crate::attribute::values::AttributeValues;
 use crate::extension::Extensions;
 use asn1_types::ObjectIdentifier;
 use asn1_types::oids::EXTENSION_REQUEST;
@@ -31,7 +34,7 @@ pub struct Attribute {
 }
 
 impl Attribute {
-    ghost use Rattle.x509_types.specs.declared.attribute_values.AttributeValues.TheVariants as values;
+    ghost use Rattle.x509_types.specs.declared.attribute.values.AttributeValues.TheVariants as values;
 
     /// The attribute of this identifier and these values, None exactly where the identifier names
     /// attributes of another kind.

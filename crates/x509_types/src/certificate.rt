@@ -2,9 +2,17 @@
 
 ghost use Rattle.std.specs.Prelude.{◌≡◌, ◌↔◌, IsTrue};
 
+mod parts;
+pub(crate) mod tbs_certificate;
+mod tbs_fields;
+mod tbs_parts;
+pub(crate) mod validity;
+pub(crate) mod version;
+pub(crate) mod view;
+
 use crate::AlgorithmIdentifier;
-use crate::cert_view::CertView;
-use crate::tbs_certificate::TbsCertificate;
+use crate::certificate::tbs_certificate::TbsCertificate;
+use crate::certificate::view::CertView;
 use asn1_types::BitString;
 use der_core::tag::SEQUENCE;
 use der_core::{DerError, Elem, NewKids, Structure, Tree, three_kids};

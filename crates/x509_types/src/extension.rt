@@ -9,9 +9,16 @@ ghost use Rattle.x509_types.specs.ExtensionKind.{named_kind};
 ghost use Rattle.x509_types.specs.ExtensionView.{IsOfKind};
 ghost use Rattle.x509_types.specs.Facts.ExtensionViews.{IsOfKind-prop};
 
-use crate::extension_fields::{ExtensionFields, kind_at};
-use crate::extension_kind::ExtensionKind;
-use crate::extension_view::ExtensionView;
+mod fields;
+pub(crate) mod first;
+pub(crate) mod kind;
+pub(crate) mod parts;
+pub(crate) mod purposes;
+pub(crate) mod view;
+
+use crate::extension::fields::{ExtensionFields, kind_at};
+use crate::extension::kind::ExtensionKind;
+use crate::extension::view::ExtensionView;
 use asn1_types::ObjectIdentifier;
 use asn1_types::oids::{
     CE_AUTHORITY_KEY_IDENTIFIER, CE_BASIC_CONSTRAINTS, CE_EXT_KEY_USAGE, CE_ISSUER_ALT_NAME,
@@ -42,8 +49,8 @@ impl Extension {
     ghost use Rattle.extension_types.specs.BasicConstraints.{constraints_with};
     ghost use Rattle.der_core.specs.Refusals.{RefusesShape};
     ghost use Rattle.x509_types.specs.Extension.{IsPlainExtension, IsNamedValue, IsRawExtension};
-    ghost use Rattle.x509_types.specs.declared.extension_view.ExtensionView.{ExtensionView};
-    ghost use Rattle.x509_types.specs.declared.extension_view.ExtensionView.TheVariants as views;
+    ghost use Rattle.x509_types.specs.declared.extension.view.ExtensionView.{ExtensionView};
+    ghost use Rattle.x509_types.specs.declared.extension.view.ExtensionView.TheVariants as views;
 
     /// Whether the key is that of an authority, and how many may stand below it (RFC 5280 4.2.1.9).
     /// The flag is written also where it is false.

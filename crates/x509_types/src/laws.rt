@@ -12,8 +12,8 @@ ghost use Rattle.x509_types.specs.ExtensionSpellings.{IsSpelling};
 ghost use Rattle.x509_types.specs.FirstOfValue.{AreFirstOf};
 ghost use Rattle.x509_types.specs.InnerFields.{AreInnerFields};
 ghost use Rattle.x509_types.specs.declared.attribute.Attribute.{Attribute};
-ghost use Rattle.x509_types.specs.declared.cert_view.CertView.{CertView};
 ghost use Rattle.x509_types.specs.declared.certificate.Certificate.{Certificate};
+ghost use Rattle.x509_types.specs.declared.certificate.view.CertView.{CertView};
 ghost use Rattle.x509_types.specs.declared.extension.Extension.{Extension};
 
 /// What is read of an element as an extension is written as that element, unless its flag or that

@@ -1,41 +1,28 @@
 //! Structures of X.509 (RFC 5280) as values, read from octets or trees and written as trees. Names,
-//! keys, and what extensions hold stand in crates of their own, and are handed on here.
+//! keys, and what extensions hold stand in crates of their own, and are handed on here. A
+//! folder has a structure with its parts: `certificate`, `extension`, `attribute`.
 #![tactic(auto)]
 
 mod attribute;
-mod attribute_kind;
-mod attribute_values;
-mod cert_parts;
-mod cert_view;
 mod certificate;
 mod extension;
-mod extension_fields;
-mod extension_kind;
-mod extension_parts;
-mod extension_view;
-mod first_extension;
-mod inner_fields;
 mod laws;
-mod purposes;
-mod tbs_certificate;
-mod tbs_fields;
-mod tbs_parts;
-mod validity;
-mod version;
-mod view_extensions;
 
 pub use asn1_types::Time;
+pub use attribute::kind::AttributeKind;
+pub use attribute::values::AttributeValues;
 pub use attribute::{Attribute, AttributeList};
-pub use attribute_kind::AttributeKind;
-pub use attribute_values::AttributeValues;
-pub use cert_view::CertView;
 pub use certificate::Certificate;
+pub use certificate::tbs_certificate::TbsCertificate;
+pub use certificate::validity::Validity;
+pub use certificate::version::Version;
+pub use certificate::view::CertView;
+pub use extension::kind::ExtensionKind;
+pub use extension::view::ExtensionView;
 pub use extension::{Extension, Extensions};
-pub use extension_kind::ExtensionKind;
 pub use extension_types::{
     AuthorityKeyIdentifier, BasicConstraints, ExtendedKeyUsage, KeyUsage, OidList,
 };
-pub use extension_view::ExtensionView;
 pub use key_types::{AlgorithmIdentifier, KeyKind, RsaPublicKey, SubjectKey, SubjectPublicKeyInfo};
 pub use laws::{
     attributes_are_written_as_read, extensions_are_written_as_read,
@@ -47,6 +34,3 @@ pub use name_types::{
     OtherName, OtherValue, RawGeneralName, RawGeneralNames, RelativeDistinguishedName,
     email_address_oid, list_has_each_attribute_type,
 };
-pub use tbs_certificate::TbsCertificate;
-pub use validity::Validity;
-pub use version::Version;

@@ -15,8 +15,8 @@ use Rattle.x509_types.specs.Facts.AttributeLists.{small_asked}
 use Rattle.asn1_types.specs.Facts.Elements.{same_identifier}
 use Rattle.x509_types.specs.Facts.Attributes.{same_two, same_kind, attributes_told}
 use Rattle.x509_types.specs.declared.attribute.Attribute.{Attribute}
-use Rattle.x509_types.specs.declared.attribute_values.AttributeValues.{AttributeValues}
-use Rattle.x509_types.specs.declared.attribute_values.AttributeValues.TheVariants as values
+use Rattle.x509_types.specs.declared.attribute.values.AttributeValues.{AttributeValues}
+use Rattle.x509_types.specs.declared.attribute.values.AttributeValues.TheVariants as values
 use Rattle.x509_types.specs.declared.extension.Extension.{Extension}
 
 split_requests : (x y : List (List Extension)) (r s : List ℕ) → map extensions x ≡ map extensions y → kinds_of x ++ r ≡ kinds_of y ++ s → (kinds_of x ≡ kinds_of y) × (r ≡ s)

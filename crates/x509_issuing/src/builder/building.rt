@@ -6,7 +6,7 @@ ghost use Rattle.asn1_types.specs.Values.{integer_contents};
 ghost use Rattle.asn1_types.specs.declared.oids.TheConstants.{CE_BASIC_CONSTRAINTS};
 ghost use Rattle.key_core.specs.SignatureAlgorithm.{IsWrittenAlgorithm, IsUnwritable};
 ghost use Rattle.x509_types.specs.FirstOfValue.{extensions_in};
-ghost use Rattle.x509_types.specs.declared.version.Version.TheVariants as versions;
+ghost use Rattle.x509_types.specs.declared.certificate.version.Version.TheVariants as versions;
 ghost use Rattle.key_core.specs.Signing.{IsKeyPair, arithmetic};
 ghost use Rattle.key_core.specs.Keys.{info_of};
 ghost use Rattle.names_core.specs.Names.{sets_of};

@@ -5,7 +5,7 @@ ghost use Rattle.asn1_types.specs.declared.oids.TheConstants.{CE_SUBJECT_KEY_IDE
 ghost use Rattle.extension_types.specs.AuthorityKeyIdentifier.{key_of_identifier};
 ghost use Rattle.x509_types.specs.Extension.{IsPlainExtension, extension_id, extension_value, is_critical};
 ghost use Rattle.x509_types.specs.declared.extension.Extension.{Extension};
-ghost use Rattle.x509_types.specs.declared.extension_view.ExtensionView.TheVariants as views;
+ghost use Rattle.x509_types.specs.declared.extension.view.ExtensionView.TheVariants as views;
 ghost use Rattle.x509_issuing.specs.BuiltCertificate.{authority_of};
 ghost use Rattle.x509_issuing.specs.MadeExtensions.{AreBuilt, AreWanted, HasUses, IsConstraints, IsForSignatures, wanted_keys, wanted_names, where_given};
 

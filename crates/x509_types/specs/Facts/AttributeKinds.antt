@@ -4,8 +4,8 @@ use Rattle.std.specs.Coded.{Coded-set}
 use Rattle.std.proofs.Common.{sym, ap, ◌∙◌}
 use base.Stored.{Coded, gnum, num}
 use Rattle.x509_types.specs.AttributeKind.{attribute_number}
-use Rattle.x509_types.specs.declared.attribute_kind.AttributeKind.{AttributeKind}
-use Rattle.x509_types.specs.declared.attribute_kind.AttributeKind.TheVariants as kinds
+use Rattle.x509_types.specs.declared.attribute.kind.AttributeKind.{AttributeKind}
+use Rattle.x509_types.specs.declared.attribute.kind.AttributeKind.TheVariants as kinds
 
 abbrev kind_at : ℕ → AttributeKind
 kind_at number =

@@ -22,8 +22,8 @@ use Rattle.x509_types.specs.Facts.AttributeKinds.{attribute_kinds_by_number}
 use Rattle.x509_types.specs.Facts.TbsCertificates.{extension_lists}
 use Rattle.x509_types.specs.Facts.ToldExtensions.{AreSmall, split_before}
 use Rattle.x509_types.specs.Facts.ToldRequests.{requests_told, small_requests}
-use Rattle.x509_types.specs.declared.attribute_values.AttributeValues.{AttributeValues}
-use Rattle.x509_types.specs.declared.attribute_values.AttributeValues.TheVariants as values
+use Rattle.x509_types.specs.declared.attribute.values.AttributeValues.{AttributeValues}
+use Rattle.x509_types.specs.declared.attribute.values.AttributeValues.TheVariants as values
 
 -- ---- a SET OF each kind
 

@@ -17,7 +17,7 @@ use Rattle.x509_types.specs.Facts.AttributeKinds.{same_attribute_kinds}
 use Rattle.x509_types.specs.Facts.AttributeLists.{values_once, values_bounded, values_spelled, values_formed, values_told, small_asked}
 use Rattle.x509_types.specs.Facts.ToldExtensions.{split_before}
 use Rattle.x509_types.specs.declared.attribute.Attribute.{Attribute}
-use Rattle.x509_types.specs.declared.attribute_values.AttributeValues.{AttributeValues}
+use Rattle.x509_types.specs.declared.attribute.values.AttributeValues.{AttributeValues}
 
 abbrev attribute_with : (ty : ObjectIdentifier) (value : AttributeValues) → kind_of_values value ≡ named_attribute (identifier_contents ty) → Attribute
 attribute_with ty value fits = record { ty = ty; value = value; fits = fits }

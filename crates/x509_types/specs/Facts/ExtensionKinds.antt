@@ -4,8 +4,8 @@ use Rattle.std.specs.Coded.{Coded-set}
 use Rattle.std.proofs.Common.{sym, ap, ◌∙◌}
 use base.Stored.{Coded, gnum, num}
 use Rattle.x509_types.specs.ExtensionKind.{extension_kind_number}
-use Rattle.x509_types.specs.declared.extension_kind.ExtensionKind.{ExtensionKind}
-use Rattle.x509_types.specs.declared.extension_kind.ExtensionKind.TheVariants as kinds
+use Rattle.x509_types.specs.declared.extension.kind.ExtensionKind.{ExtensionKind}
+use Rattle.x509_types.specs.declared.extension.kind.ExtensionKind.TheVariants as kinds
 
 abbrev kind_at : ℕ → ExtensionKind
 kind_at number =

@@ -24,10 +24,10 @@ use Rattle.name_types.specs.declared.general_name.RawGeneralName.{RawGeneralName
 use Rattle.x509_types.specs.ExtensionKind.{extension_kind_number}
 use Rattle.x509_types.specs.ExtensionView.{kind_of_view, key_identifier, value_octets, inner_value, view_octets, IsValueIn, HoldsNoNames, MayBeKept, IsOfKind, IsValueOf}
 use Rattle.x509_types.specs.Facts.ExtensionKinds.{same_kinds, kinds_by_number}
-use Rattle.x509_types.specs.declared.extension_kind.ExtensionKind.{ExtensionKind}
-use Rattle.x509_types.specs.declared.extension_kind.ExtensionKind.TheVariants as kinds
-use Rattle.x509_types.specs.declared.extension_view.ExtensionView.{ExtensionView}
-use Rattle.x509_types.specs.declared.extension_view.ExtensionView.TheVariants as views
+use Rattle.x509_types.specs.declared.extension.kind.ExtensionKind.{ExtensionKind}
+use Rattle.x509_types.specs.declared.extension.kind.ExtensionKind.TheVariants as kinds
+use Rattle.x509_types.specs.declared.extension.view.ExtensionView.{ExtensionView}
+use Rattle.x509_types.specs.declared.extension.view.ExtensionView.TheVariants as views
 
 -- ---- values within octets
 

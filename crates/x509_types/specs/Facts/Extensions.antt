@@ -24,7 +24,7 @@ use Rattle.extension_types.specs.Facts.Constraints.{default_is, default_field, d
 use Rattle.x509_types.specs.Facts.ExtensionKinds.{kinds_by_number}
 use Rattle.x509_types.specs.Facts.ExtensionViews.{IsOfKind-prop, values_once, values_by_octets, values_bounded, values_written}
 use Rattle.x509_types.specs.declared.extension.Extension.{Extension}
-use Rattle.x509_types.specs.declared.extension_view.ExtensionView.{ExtensionView}
+use Rattle.x509_types.specs.declared.extension.view.ExtensionView.{ExtensionView}
 
 -- an element has its fields once
 pub fields_once : (element oid oid' : DerElement) (b c : Bool) (v w : List ℕ) → IsExtensionOf element oid b v → IsExtensionOf element oid' c w → (oid ≡ oid') × (b ≡ c) × (v ≡ w)

@@ -29,9 +29,9 @@ use Rattle.der_core.specs.Facts.Optional.{option_once, option_bounded, option_sp
 use Rattle.x509_types.specs.Facts.TbsElements.{same_elements, elements_formed}
 use Rattle.x509_types.specs.Facts.Versions.{versions, versions_once}
 use Rattle.x509_types.specs.Facts.Validities.{validities, validities_once}
+use Rattle.x509_types.specs.declared.certificate.tbs_certificate.TbsCertificate.{TbsCertificate}
+use Rattle.x509_types.specs.declared.certificate.version.Version.{Version}
 use Rattle.x509_types.specs.declared.extension.Extension.{Extension}
-use Rattle.x509_types.specs.declared.tbs_certificate.TbsCertificate.{TbsCertificate}
-use Rattle.x509_types.specs.declared.version.Version.{Version}
 
 pub extension_lists : IsGrammar IsExtensions extensions inner_extensions
 extension_lists = sequences IsExtension extension (λ (e : Extension). inner_value e.extn_value) all_extensions

@@ -14,8 +14,8 @@ use Rattle.x509_types.specs.Extension.{extension, value_kinds}
 use Rattle.x509_types.specs.Facts.ExtensionKinds.{kinds_by_number}
 use Rattle.x509_types.specs.Facts.Extensions.{extensions_told}
 use Rattle.x509_types.specs.declared.extension.Extension.{Extension}
-use Rattle.x509_types.specs.declared.extension_kind.ExtensionKind.{ExtensionKind}
-use Rattle.x509_types.specs.declared.extension_kind.ExtensionKind.TheVariants as kinds
+use Rattle.x509_types.specs.declared.extension.kind.ExtensionKind.{ExtensionKind}
+use Rattle.x509_types.specs.declared.extension.kind.ExtensionKind.TheVariants as kinds
 
 -- ---- extensions by their kinds and elements
 

@@ -8,7 +8,7 @@ use Rattle.asn1_types.specs.Elements.{time}
 use Rattle.asn1_types.specs.Facts.Elements.{times_once, times_formed}
 use Rattle.asn1_types.specs.declared.time.Time.{Time}
 use Rattle.x509_types.specs.Validity.{validity}
-use Rattle.x509_types.specs.declared.validity.Validity.{Validity}
+use Rattle.x509_types.specs.declared.certificate.validity.Validity.{Validity}
 
 abbrev validity_of : Time → Time → Validity
 validity_of before after = record { not_before = before; not_after = after }

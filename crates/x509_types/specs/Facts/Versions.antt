@@ -4,8 +4,8 @@ use Rattle.std.specs.Prelude.{◌==◌, if◌then◌else◌}
 use Rattle.der_core.specs.Structure.{IsGrammar}
 use Rattle.der_core.specs.Facts.Grammars.{printed}
 use Rattle.x509_types.specs.Version.{version, version_number}
-use Rattle.x509_types.specs.declared.version.Version.{Version}
-use Rattle.x509_types.specs.declared.version.Version.TheVariants as named
+use Rattle.x509_types.specs.declared.certificate.version.Version.{Version}
+use Rattle.x509_types.specs.declared.certificate.version.Version.TheVariants as named
 
 abbrev version_of : ℕ → Version
 version_of number = if number == 0 then named.V1 else (if number == 1 then named.V2 else named.V3)

@@ -1,0 +1,13 @@
+use Rattle.std.proofs.Common.{length}
+use Rattle.x509_types.specs.Purposes.{HasSome, IsPurpose}
+use Rattle.x509_types.proofs.extension.purposes.has_identifier.Given as goal
+
+-- one of all is one of those that are left
+abbrev pub invariant-loop-kid : goal.invariant-loop-kid
+invariant-loop-kid l = record {
+  enough : HasSome (IsPurpose l.oid) l.kids.are.0 → HasSome (IsPurpose l.oid) l.initial.kids.are.0;
+  needed : HasSome (IsPurpose l.oid) l.initial.kids.are.0 → HasSome (IsPurpose l.oid) l.kids.are.0;
+}
+
+abbrev pub decreases-loop-kid : goal.decreases-loop-kid
+decreases-loop-kid l = length l.kids.are.0

@@ -1,0 +1,105 @@
+//! What the extensions of a certificate say, where their octets lie.
+
+ghost use Rattle.std.specs.Prelude.{◌≡◌, ◌↔◌, [], List, ℕ, Bool, IsTrue, MatchOption};
+ghost use Rattle.der_core.specs.DerElement.{DerElement};
+ghost use Rattle.x509_types.specs.CertificateView.{view_elements};
+ghost use Rattle.x509_types.specs.FirstExtension.{extensions_of, IsFirstValue};
+ghost use Rattle.x509_types.specs.ExtensionParts.{HasCa, HasPathLength, HasSubjectKey, HasAuthorityKey};
+ghost use Rattle.x509_types.specs.Purposes.{NamesPurpose, HasPurposes};
+
+use crate::certificate::view::CertView;
+use crate::extension::first::first_extension;
+use crate::extension::parts::{flag_at, key_identifier_at, length_at};
+use crate::extension::purposes::has_usage_for;
+use asn1_types::oids::{
+    CE_AUTHORITY_KEY_IDENTIFIER, CE_BASIC_CONSTRAINTS, CE_EXT_KEY_USAGE, CE_SUBJECT_KEY_IDENTIFIER,
+};
+use der_core::tag::OCTET_STRING;
+use der_core::{Elem, Kids, leaf_at, whole_element};
+
+/// Of several extensions of one identifier the first counts, but for the purposes that are named,
+/// which every extended key usage may hold.
+impl<'a> CertView<'a> {
+    /// Whether the key is that of an authority (RFC 5280 4.2.1.9), None where there are no basic
+    /// constraints or their flag is left out, which means FALSE.
+    pub fn ca(&self) -> Option<bool>
+        ensures { MatchOption result
+            ((b : Bool) → HasCa (view_elements self.now) b → ⊥)
+            (λ b. HasCa (view_elements self.now) b) }
+    {
+        let constraints = self.first_value(CE_BASIC_CONSTRAINTS)?;
+        flag_at(constraints)
+    }
+
+    /// How many authorities may stand between this one and the end of a path (RFC 5280 4.2.1.9),
+    /// None where there are no basic constraints, or they set no limit.
+    pub fn path_length(&self) -> Option<u8>
+        ensures { MatchOption result
+            ((number : ℕ) → HasPathLength (view_elements self.now) number → ⊥)
+            (λ number. HasPathLength (view_elements self.now) number) }
+    {
+        let constraints = self.first_value(CE_BASIC_CONSTRAINTS)?;
+        length_at(constraints)
+    }
+
+    /// The identifier of the key of the subject (RFC 5280 4.2.1.2).
+    pub fn subject_key_identifier(&self) -> Option<&'a [u8]>
+        ensures { MatchOption result
+            ((key : List ℕ) → HasSubjectKey (view_elements self.now) key → ⊥)
+            (λ key. HasSubjectKey (view_elements self.now) key.now) }
+    {
+        let value = self.first_value(CE_SUBJECT_KEY_IDENTIFIER)?;
+        leaf_at(value, OCTET_STRING)
+    }
+
+    /// The identifier of the key of the authority (RFC 5280 4.2.1.1), where it is named by that.
+    pub fn authority_key_identifier(&self) -> Option<&'a [u8]>
+        ensures { MatchOption result
+            ((key : List ℕ) → HasAuthorityKey (view_elements self.now) key → ⊥)
+            (λ key. HasAuthorityKey (view_elements self.now) key.now) }
+    {
+        let value = self.first_value(CE_AUTHORITY_KEY_IDENTIFIER)?;
+        key_identifier_at(value)
+    }
+
+    /// Whether some extended key usage holds a purpose, by its contents octets (RFC 5280 4.2.1.12).
+    pub fn names(&self, oid: &[u8]) -> bool
+        ensures { IsTrue result ↔ NamesPurpose (view_elements self.now) oid.now }
+    {
+        match self.extension_kids() {
+            Some(kids) => has_usage_for(kids, oid),
+            None => false,
+        }
+    }
+
+    /// Whether there is an extended key usage.
+    pub fn has_purposes(&self) -> bool
+        ensures { IsTrue result ↔ HasPurposes (view_elements self.now) }
+    {
+        match self.extension_kids() {
+            Some(kids) => first_extension(kids, CE_EXT_KEY_USAGE).is_some(),
+            None => false,
+        }
+    }
+
+    /// The element in the first extension of this identifier, by its contents octets.
+    fn first_value(&self, oid: &[u8]) -> Option<Elem<'a>>
+        ensures { MatchOption result
+            ((element : DerElement) → IsFirstValue (view_elements self.now) oid.now element → ⊥)
+            (λ elem. IsFirstValue (view_elements self.now) oid.now elem.is.0) }
+    {
+        let kids = self.extension_kids()?;
+        let octets = first_extension(kids, oid)?;
+        whole_element(octets)
+    }
+
+    /// The elements in the list of extensions, where there is one.
+    fn extension_kids(&self) -> Option<Kids<'a>>
+        ensures { MatchOption result
+            (extensions_of (view_elements self.now) ≡ [])
+            (λ kids. extensions_of (view_elements self.now) ≡ kids.are.0) }
+    {
+        let list = self.extensions()?;
+        Kids::within(list)
+    }
+}

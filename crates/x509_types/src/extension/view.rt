@@ -1,0 +1,211 @@
+//! The values of extensions.
+
+ghost use Rattle.std.specs.Prelude.{◌≡◌, ◌↔◌, ℕ, false, IfOk, IsTrue, MatchOption, MatchResult};
+ghost use Rattle.der_core.specs.Placed.{AreDer};
+ghost use Rattle.der_core.specs.Refusals.{RefusesShape, RefusesInner};
+ghost use Rattle.der_core.specs.Structure.{IsWithin};
+ghost use Rattle.der_core.specs.declared.error.DerError.TheVariants as errors;
+ghost use Rattle.name_types.specs.GeneralName.{AreGeneralNames};
+ghost use Rattle.x509_types.specs.ExtensionView.{kind_of_view, value_octets, inner_value, HoldsNoNames, IsValueOf};
+ghost use Rattle.x509_types.specs.declared.extension.view.ExtensionView.{ExtensionView};
+
+use crate::extension::kind::ExtensionKind;
+use der_core::{DerError, Octets, Structure, has_within, read_within, write_within};
+use extension_types::{AuthorityKeyIdentifier, BasicConstraints, ExtendedKeyUsage, KeyUsage};
+use name_types::RawGeneralNames;
+use std::alloc::{AllocError, Global};
+
+/// The value of an extension, by the extension's identifier (RFC 5280 4.2).
+#[derive(Debug, Drop)]
+pub enum ExtensionView {
+    /// The identifier of the key (RFC 5280 4.2.1.2).
+    SubjectKeyIdentifier(Octets),
+    /// What the key is for, a bit a purpose (RFC 5280 4.2.1.3).
+    KeyUsage(KeyUsage),
+    /// Further names of the subject (RFC 5280 4.2.1.6).
+    SubjectAltName(RawGeneralNames),
+    /// Further names of the issuer (RFC 5280 4.2.1.7).
+    IssuerAltName(RawGeneralNames),
+    /// Whether the key is that of an authority (RFC 5280 4.2.1.9).
+    BasicConstraints(BasicConstraints),
+    /// Which key the authority signs with (RFC 5280 4.2.1.1).
+    AuthorityKeyIdentifier(AuthorityKeyIdentifier),
+    /// What the key is for, an identifier a purpose (RFC 5280 4.2.1.12).
+    ExtendedKeyUsage(ExtendedKeyUsage),
+    /// The octets of any other as they are, and of further names that are no general names.
+    Raw(Octets),
+}
+
+impl ExtensionView {
+    /// The kind of extensions that have such a value; `Other` for octets that are kept.
+    pub fn kind(&self) -> ExtensionKind
+        ensures { result ≡ kind_of_view self.now }
+    {
+        match self {
+            ExtensionView::SubjectKeyIdentifier(_) => ExtensionKind::SubjectKeyIdentifier,
+            ExtensionView::KeyUsage(_) => ExtensionKind::KeyUsage,
+            ExtensionView::SubjectAltName(_) => ExtensionKind::SubjectAltName,
+            ExtensionView::IssuerAltName(_) => ExtensionKind::IssuerAltName,
+            ExtensionView::BasicConstraints(_) => ExtensionKind::BasicConstraints,
+            ExtensionView::AuthorityKeyIdentifier(_) => ExtensionKind::AuthorityKeyIdentifier,
+            ExtensionView::ExtendedKeyUsage(_) => ExtensionKind::ExtendedKeyUsage,
+            ExtensionView::Raw(_) => ExtensionKind::Other,
+        }
+    }
+
+    /// Whether octets hold a value of the kind, all of them. Any do where others are kept.
+    pub(crate) fn has_value(kind: ExtensionKind, octets: &[u8]) -> bool
+        ensures fits { IsTrue result → (view : ExtensionView) × IsValueOf kind octets.now view }
+        ensures unfit { result ≡ false → (view : ExtensionView) → IsValueOf kind octets.now view
+            → ⊥ }
+    {
+        match kind {
+            ExtensionKind::SubjectKeyIdentifier => has_within::<Octets>(octets),
+            ExtensionKind::KeyUsage => has_within::<KeyUsage>(octets),
+            ExtensionKind::SubjectAltName | ExtensionKind::IssuerAltName => {
+                // Any octets do. Whether they hold names is asked for the contract alone.
+                let _names = has_within::<RawGeneralNames>(octets);
+                true
+            }
+            ExtensionKind::BasicConstraints => has_within::<BasicConstraints>(octets),
+            ExtensionKind::AuthorityKeyIdentifier => has_within::<AuthorityKeyIdentifier>(octets),
+            ExtensionKind::ExtendedKeyUsage => has_within::<ExtendedKeyUsage>(octets),
+            ExtensionKind::Other => true,
+        }
+    }
+
+    /// The value of the kind that octets hold, all of them.
+    pub(crate) fn read(
+        alloc: Global,
+        kind: ExtensionKind,
+        octets: &[u8],
+    ) -> Result<ExtensionView, DerError>
+        ensures { MatchResult result (IsValueOf kind octets.now)
+            (RefusesShape (IsValueOf kind octets.now)) }
+    {
+        match kind {
+            ExtensionKind::SubjectKeyIdentifier => Ok(ExtensionView::SubjectKeyIdentifier(
+                read_within(alloc, octets)?,
+            )),
+            ExtensionKind::KeyUsage => Ok(ExtensionView::KeyUsage(read_within(alloc, octets)?)),
+            ExtensionKind::SubjectAltName => match read_names(alloc, octets)? {
+                Some(names) => Ok(ExtensionView::SubjectAltName(names)),
+                None => Ok(ExtensionView::Raw(Octets::from_slice(alloc, octets)?)),
+            },
+            ExtensionKind::IssuerAltName => match read_names(alloc, octets)? {
+                Some(names) => Ok(ExtensionView::IssuerAltName(names)),
+                None => Ok(ExtensionView::Raw(Octets::from_slice(alloc, octets)?)),
+            },
+            ExtensionKind::BasicConstraints => {
+                Ok(ExtensionView::BasicConstraints(read_within(alloc, octets)?))
+            }
+            ExtensionKind::AuthorityKeyIdentifier => Ok(ExtensionView::AuthorityKeyIdentifier(
+                read_within(alloc, octets)?,
+            )),
+            ExtensionKind::ExtendedKeyUsage => {
+                Ok(ExtensionView::ExtendedKeyUsage(read_within(alloc, octets)?))
+            }
+            ExtensionKind::Other => Ok(ExtensionView::Raw(Octets::from_slice(alloc, octets)?)),
+        }
+    }
+
+    /// The octets of the value.
+    pub(crate) fn write(&self, alloc: Global) -> Result<Vec<u8>, DerError>
+        ensures { MatchResult result
+            (λ octets. (octets.items ≡ value_octets self.now) × AreDer (inner_value self.now))
+            (RefusesInner (inner_value self.now)) }
+    {
+        match self {
+            ExtensionView::SubjectKeyIdentifier(key) => write_within(alloc, key),
+            ExtensionView::KeyUsage(usage) => write_within(alloc, usage),
+            ExtensionView::SubjectAltName(names) => write_within(alloc, names),
+            ExtensionView::IssuerAltName(names) => write_within(alloc, names),
+            ExtensionView::BasicConstraints(constraints) => write_within(alloc, constraints),
+            ExtensionView::AuthorityKeyIdentifier(key) => write_within(alloc, key),
+            ExtensionView::ExtendedKeyUsage(usage) => write_within(alloc, usage),
+            ExtensionView::Raw(octets) => Ok(Vec::from_slice(alloc, octets.as_slice())?),
+        }
+    }
+
+    /// A copy of the value.
+    pub fn try_clone(&self, alloc: Global) -> Result<ExtensionView, AllocError>
+        ensures { IfOk result (λ copy. copy ≡ self.now) }
+    {
+        Ok(match self {
+            ExtensionView::SubjectKeyIdentifier(key) => {
+                ExtensionView::SubjectKeyIdentifier(key.try_clone(alloc)?)
+            }
+            ExtensionView::KeyUsage(usage) => ExtensionView::KeyUsage(usage.try_clone(alloc)?),
+            ExtensionView::SubjectAltName(names) => {
+                ExtensionView::SubjectAltName(names.try_clone(alloc)?)
+            }
+            ExtensionView::IssuerAltName(names) => {
+                ExtensionView::IssuerAltName(names.try_clone(alloc)?)
+            }
+            ExtensionView::BasicConstraints(constraints) => {
+                ExtensionView::BasicConstraints(*constraints)
+            }
+            ExtensionView::AuthorityKeyIdentifier(key) => {
+                ExtensionView::AuthorityKeyIdentifier(key.try_clone(alloc)?)
+            }
+            ExtensionView::ExtendedKeyUsage(usage) => {
+                ExtensionView::ExtendedKeyUsage(usage.try_clone(alloc)?)
+            }
+            ExtensionView::Raw(octets) => ExtensionView::Raw(octets.try_clone(alloc)?),
+        })
+    }
+}
+
+/// The general names that octets hold, all of them, None where they hold none.
+fn read_names(alloc: Global, octets: &[u8]) -> Result<Option<RawGeneralNames>, DerError>
+    ensures { MatchResult result
+        (λ names. MatchOption names (HoldsNoNames octets.now) (IsWithin AreGeneralNames octets.now))
+        (λ e. e ≡ errors.Memory) }
+{
+    if has_within::<RawGeneralNames>(octets) {
+        Ok(Some(read_within(alloc, octets)?))
+    } else {
+        Ok(None)
+    }
+}
+
+/// Values are equal exactly where their kinds and their octets are.
+impl PartialEq for ExtensionView {
+    ghost use Rattle.std.specs.Ordering.{on};
+    ghost use Rattle.std.specs.Cmp.Lexicographic.{nat_list_eq_equiv};
+    ghost use Rattle.std.specs.Cmp.{on_per, partial_equiv_from_equiv};
+    ghost use Rattle.std.specs.Prelude.{bytes_eq};
+    ghost use Rattle.x509_types.specs.ExtensionView.{view_octets};
+
+    ghost eq = { on (λ value. view_octets value) bytes_eq };
+
+    ghost laws = { on_per (λ value. view_octets value)
+        (partial_equiv_from_equiv nat_list_eq_equiv) };
+
+    fn eq(&self, other: &ExtensionView) -> bool
+        ensures octets { result ≡ bytes_eq (view_octets self.now) (view_octets other.now) }
+        ensures same { IsTrue result ↔ (self.now ≡ other.now) }
+    {
+        match (self, other) {
+            (ExtensionView::SubjectKeyIdentifier(a), ExtensionView::SubjectKeyIdentifier(b)) => *a
+                == *b,
+            (ExtensionView::KeyUsage(a), ExtensionView::KeyUsage(b)) => *a == *b,
+            (ExtensionView::SubjectAltName(a), ExtensionView::SubjectAltName(b)) => *a == *b,
+            (ExtensionView::IssuerAltName(a), ExtensionView::IssuerAltName(b)) => *a == *b,
+            (ExtensionView::BasicConstraints(a), ExtensionView::BasicConstraints(b)) => *a == *b,
+            (ExtensionView::AuthorityKeyIdentifier(a), ExtensionView::AuthorityKeyIdentifier(b)) =>
+                *a == *b,
+            (ExtensionView::ExtendedKeyUsage(a), ExtensionView::ExtendedKeyUsage(b)) => *a == *b,
+            (ExtensionView::Raw(a), ExtensionView::Raw(b)) => *a == *b,
+            _ => false,
+        }
+    }
+}
+
+impl Eq for ExtensionView {
+    ghost use Rattle.std.specs.Cmp.Lexicographic.{nat_list_eq_equiv};
+    ghost use Rattle.std.specs.Cmp.{on_equiv};
+    ghost use Rattle.x509_types.specs.ExtensionView.{view_octets};
+
+    ghost laws = { on_equiv (λ value. view_octets value) nat_list_eq_equiv };
+}
