@@ -14,7 +14,7 @@ use Rattle.cms_types.specs.SignerElements.{SignerElements}
 use Rattle.cms_types.specs.SignerInfo.{signer_info, signer_elements}
 use Rattle.cms_types.specs.SignerView.{IsSignerView, signer_elements_at}
 use Rattle.cms_types.specs.declared.signer_info.SignerInfo.{SignerInfo}
-use Rattle.cms_types.specs.declared.signer_view.SignerView.{SignerView}
+use Rattle.cms_types.specs.declared.signer_info.view.SignerView.{SignerView}
 use Rattle.der_core.specs.Optional.{members_of}
 use Rattle.der_core.specs.DerElement.{DerElement, Primitive, Constructed, kids_of}
 use Rattle.der_core.specs.Elements.{sequence, octet_string}

@@ -4,7 +4,7 @@ use Rattle.std.specs.Prelude.{replicate}
 use Rattle.cms_types.specs.Pkcs7.{pkcs7}
 use Rattle.cms_types.specs.SignedDataElements.{SignedDataElements}
 use Rattle.cms_types.specs.SignedView.{data_elements}
-use Rattle.cms_types.specs.declared.signed_view.SignedView.{SignedView}
+use Rattle.cms_types.specs.declared.signed_data.view.SignedView.{SignedView}
 use Rattle.der_core.specs.DerElement.{DerElement}
 use Rattle.der_core.specs.Encoding.{IsPaddedEncoding}
 use Rattle.der_core.specs.Facts.Fronts.{fronts}

@@ -16,7 +16,7 @@ use Rattle.cms_types.specs.SignedData.{signed_data_elements}
 use Rattle.cms_types.specs.SignedDataElements.{SignedDataElements, signed_data_of}
 use Rattle.cms_types.specs.SignerInfo.{signer_elements}
 use Rattle.cms_types.specs.Signers.{IsPkcs7, Pkcs7, Signed, IsSignerInfo, Bare, NoSigners, MoreSigners}
-use Rattle.cms_types.specs.declared.signer_identifier.SignerIdentifier.TheVariants as named
+use Rattle.cms_types.specs.declared.signer_info.identifier.SignerIdentifier.TheVariants as named
 use Rattle.cms_types.specs.declared.version.CmsVersion.TheVariants as versions
 use Rattle.der_core.specs.DerElement.{DerElement}
 use Rattle.der_core.specs.Elements.{sequence, set, null, bit_octets, octet_string}

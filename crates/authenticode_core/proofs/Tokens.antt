@@ -7,10 +7,10 @@ use Rattle.cms_types.specs.SignedView.{IsSignedView, data_elements}
 use Rattle.cms_types.specs.SignerElements.{SignerElements}
 use Rattle.cms_types.specs.SignerInfo.{signer_info}
 use Rattle.cms_types.specs.SignerView.{IsSignerView, signer_elements_at}
-use Rattle.cms_types.specs.declared.pkcs7.Pkcs7Certificate.{Pkcs7Certificate}
-use Rattle.cms_types.specs.declared.signed_view.SignedView.{SignedView}
+use Rattle.cms_types.specs.declared.signed_data.pkcs7.Pkcs7Certificate.{Pkcs7Certificate}
+use Rattle.cms_types.specs.declared.signed_data.view.SignedView.{SignedView}
 use Rattle.cms_types.specs.declared.signer_info.SignerInfo.{SignerInfo}
-use Rattle.cms_types.specs.declared.signer_view.SignerView.{SignerView}
+use Rattle.cms_types.specs.declared.signer_info.view.SignerView.{SignerView}
 use Rattle.der_core.specs.Optional.{members_of}
 use Rattle.der_core.specs.DerElement.{DerElement}
 use Rattle.der_core.specs.Lent.{at_option}

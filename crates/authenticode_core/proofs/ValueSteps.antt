@@ -1,7 +1,7 @@
 -- Why a certificate isn't signed data.
 use Rattle.std.proofs.Common.{◌≡◌, ◌≢◌, ℕ, List, Ok, refl}
 use Rattle.cms_types.specs.Pkcs7.{pkcs7}
-use Rattle.cms_types.specs.declared.pkcs7.Pkcs7Certificate.{Pkcs7Certificate}
+use Rattle.cms_types.specs.declared.signed_data.pkcs7.Pkcs7Certificate.{Pkcs7Certificate}
 use Rattle.der_core.specs.DerElement.{DerElement}
 use Rattle.der_core.specs.Encoding.{IsPaddedEncoding}
 use Rattle.der_core.specs.declared.error.DerError.{DerError}

@@ -5,9 +5,9 @@ use Rattle.asn1_types.specs.Values.{integer_contents}
 use Rattle.name_types.specs.Name.{name}
 use Rattle.x509_types.specs.CertificateElements.{CertificateElements}
 use Rattle.cms_types.specs.SignerInfo.{signer_info}
-use Rattle.cms_types.specs.declared.issuer_and_serial.IssuerAndSerialNumber.{IssuerAndSerialNumber}
-use Rattle.cms_types.specs.declared.signer_identifier.SignerIdentifier.TheVariants as named
 use Rattle.cms_types.specs.declared.signer_info.SignerInfo.{SignerInfo}
+use Rattle.cms_types.specs.declared.signer_info.identifier.SignerIdentifier.TheVariants as named
+use Rattle.cms_types.specs.declared.signer_info.issuer_and_serial.IssuerAndSerialNumber.{IssuerAndSerialNumber}
 use Rattle.authenticode_core.specs.SameElements.{IsSameElement}
 use Rattle.authenticode_core.specs.Places.{IsLeastPlace, HasNoPlace}
 

@@ -9,7 +9,7 @@ use Rattle.der_core.specs.Refusals.{RefusesInner, RefusesShape}
 use Rattle.der_core.specs.declared.error.DerError.{DerError}
 use Rattle.der_core.specs.declared.error.DerError.TheVariants as errors
 use Rattle.cms_types.specs.SignedAttributesElement.{signed_attributes}
-use Rattle.cms_types.specs.declared.signed_attributes.SignedAttributes.{SignedAttributes}
+use Rattle.cms_types.specs.declared.signer_info.signed_attributes.SignedAttributes.{SignedAttributes}
 use Rattle.x509_types.specs.Facts.Attributes.{attribute_lists}
 use Rattle.x509_types.specs.Attribute.{attribute, inner_attributes, AreAttributes}
 use Rattle.x509_types.specs.declared.attribute.Attribute.{Attribute}

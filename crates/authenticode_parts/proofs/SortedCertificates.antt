@@ -3,7 +3,7 @@ use Rattle.std.proofs.Common.{◌≡◌, ◌↔◌, IsTrue, true, false, Result,
 use Rattle.std.proofs.lemmas.List.{map-append}
 use Rattle.der_core.specs.DerElement.{DerElement}
 use Rattle.cms_types.specs.CertificateChoices.{certificate_choice}
-use Rattle.cms_types.specs.declared.certificate_choices.CertificateChoices.{CertificateChoices}
+use Rattle.cms_types.specs.declared.signed_data.certificate_choices.CertificateChoices.{CertificateChoices}
 use Rattle.x509_core.specs.CertType.{IsOfType}
 use Rattle.x509_core.specs.KeptCertificate.{KeptCertificate}
 use Rattle.x509_core.specs.declared.cert_type.CertType.TheVariants as types

@@ -15,10 +15,10 @@ use Rattle.cms_types.specs.SignedDataElements.{SignedDataElements}
 use Rattle.cms_types.specs.SignerElements.{SignerElements, signer_of}
 use Rattle.cms_types.specs.SignerIdentifier.{signer_identifier}
 use Rattle.cms_types.specs.SignerInfo.{signer_elements, signer_info}
-use Rattle.cms_types.specs.declared.pkcs7.Pkcs7Certificate.{Pkcs7Certificate}
-use Rattle.cms_types.specs.declared.signer_identifier.SignerIdentifier.{SignerIdentifier}
-use Rattle.cms_types.specs.declared.signer_identifier.SignerIdentifier.TheVariants as named
+use Rattle.cms_types.specs.declared.signed_data.pkcs7.Pkcs7Certificate.{Pkcs7Certificate}
 use Rattle.cms_types.specs.declared.signer_info.SignerInfo.{SignerInfo}
+use Rattle.cms_types.specs.declared.signer_info.identifier.SignerIdentifier.{SignerIdentifier}
+use Rattle.cms_types.specs.declared.signer_info.identifier.SignerIdentifier.TheVariants as named
 use Rattle.der_core.specs.Optional.{members_of}
 use Rattle.der_core.specs.DerElement.{DerElement, Primitive}
 use Rattle.der_core.specs.Elements.{null, sequence, octet_string}

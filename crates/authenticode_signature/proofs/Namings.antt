@@ -19,10 +19,10 @@ use Rattle.authenticode_parts.specs.Carried.{elements_of}
 use Rattle.authenticode_parts.proofs.KeptNames.{issuer_is, serial_is}
 use Rattle.cms_types.specs.Facts.SignerInfos.{signer_infos}
 use Rattle.cms_types.specs.SignerInfo.{signer_info}
-use Rattle.cms_types.specs.declared.issuer_and_serial.IssuerAndSerialNumber.{IssuerAndSerialNumber}
-use Rattle.cms_types.specs.declared.signer_identifier.SignerIdentifier.{SignerIdentifier}
-use Rattle.cms_types.specs.declared.signer_identifier.SignerIdentifier.TheVariants as named
 use Rattle.cms_types.specs.declared.signer_info.SignerInfo.{SignerInfo}
+use Rattle.cms_types.specs.declared.signer_info.identifier.SignerIdentifier.{SignerIdentifier}
+use Rattle.cms_types.specs.declared.signer_info.identifier.SignerIdentifier.TheVariants as named
+use Rattle.cms_types.specs.declared.signer_info.issuer_and_serial.IssuerAndSerialNumber.{IssuerAndSerialNumber}
 use Rattle.authenticode_core.specs.BagSigner.{IsNamedByFirst, HasNoSigner, HasIssuerAndSerial}
 use Rattle.authenticode_core.specs.Places.{HasNoPlace, HoldsOfNone, IsLeastPlace, StandsAt}
 use Rattle.authenticode_signature.specs.SigningCertificate.{FirstNames, IsNamedOtherwise, IsSigningCertificate}

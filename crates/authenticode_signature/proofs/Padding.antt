@@ -12,7 +12,7 @@ use Rattle.der_core.proofs.Elements.{first_once}
 use Rattle.der_core.proofs.Exact.{no_fault_where_first}
 use Rattle.der_core.proofs.Faults.{refused_as, same_malformed}
 use Rattle.cms_types.specs.Pkcs7.{pkcs7}
-use Rattle.cms_types.specs.declared.pkcs7.Pkcs7Certificate.{Pkcs7Certificate}
+use Rattle.cms_types.specs.declared.signed_data.pkcs7.Pkcs7Certificate.{Pkcs7Certificate}
 use Rattle.authenticode_core.specs.Basic.{IsNoSignedData, IsMalformedPadded}
 use Rattle.authenticode_core.proofs.OneData.{one_element}
 use Rattle.authenticode_core.proofs.Padded.{IsFirst-padded}

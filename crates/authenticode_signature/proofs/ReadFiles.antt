@@ -4,7 +4,7 @@ use Rattle.std.specs.Prelude.{Vec}
 use Rattle.std.specs.declared.alloc.Global.{Global}
 use Rattle.cms_types.specs.Facts.SignedDatas.{pkcs7s}
 use Rattle.cms_types.specs.Pkcs7.{pkcs7}
-use Rattle.cms_types.specs.declared.pkcs7.Pkcs7Certificate.{Pkcs7Certificate}
+use Rattle.cms_types.specs.declared.signed_data.pkcs7.Pkcs7Certificate.{Pkcs7Certificate}
 use Rattle.der_core.specs.DerElement.{DerElement}
 use Rattle.der_core.specs.Encoding.{encoding, IsDer, IsPaddedEncoding}
 use Rattle.der_core.specs.declared.error.DerError.{DerError}

@@ -2,7 +2,7 @@
 use Rattle.std.proofs.Common.{◌≡◌, ◌≢◌, ℕ, List, [], ◌∷◌, Result, Ok, Err, MatchResult, inl, inr, refl, sym, ap, subst, ◌∙◌}
 use Rattle.cms_types.specs.SignedDataElements.{SignedDataElements}
 use Rattle.cms_types.specs.SignedView.{IsSignedView, data_elements}
-use Rattle.cms_types.specs.declared.signed_view.SignedView.{SignedView}
+use Rattle.cms_types.specs.declared.signed_data.view.SignedView.{SignedView}
 use Rattle.der_core.specs.DerElement.{DerElement}
 use Rattle.der_core.specs.Encoding.{IsDer}
 use Rattle.der_core.specs.Facts.Kept.{one_kept}

@@ -8,7 +8,7 @@ use Rattle.cms_types.specs.DigestAlgorithm.{digest_algorithm}
 use Rattle.cms_types.specs.SignedDataElements.{SignedDataElements}
 use Rattle.cms_types.specs.SignerIdentifier.{issuer_and_serial_number}
 use Rattle.cms_types.specs.UnsignedAttribute.{unsigned_attribute}
-use Rattle.cms_types.specs.declared.issuer_and_serial.IssuerAndSerialNumber.{IssuerAndSerialNumber}
+use Rattle.cms_types.specs.declared.signer_info.issuer_and_serial.IssuerAndSerialNumber.{IssuerAndSerialNumber}
 use Rattle.cms_types.specs.declared.unsigned_attribute.UnsignedAttribute.{UnsignedAttribute}
 use Rattle.der_core.specs.DerElement.{DerElement}
 use Rattle.der_core.specs.Each.{list_element}

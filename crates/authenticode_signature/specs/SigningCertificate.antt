@@ -1,10 +1,10 @@
 -- The signer's certificate among others (RFC 5652 5.3, 10.2.4).
 use Rattle.std.specs.Prelude.{◌≡◌, ⊤, ℕ, List, [], ◌∷◌, Some, map, slice_get}
 use Rattle.cms_types.specs.SignerInfo.{signer_info}
-use Rattle.cms_types.specs.declared.issuer_and_serial.IssuerAndSerialNumber.{IssuerAndSerialNumber}
-use Rattle.cms_types.specs.declared.signer_identifier.SignerIdentifier.{SignerIdentifier}
-use Rattle.cms_types.specs.declared.signer_identifier.SignerIdentifier.TheVariants as named
 use Rattle.cms_types.specs.declared.signer_info.SignerInfo.{SignerInfo}
+use Rattle.cms_types.specs.declared.signer_info.identifier.SignerIdentifier.{SignerIdentifier}
+use Rattle.cms_types.specs.declared.signer_info.identifier.SignerIdentifier.TheVariants as named
+use Rattle.cms_types.specs.declared.signer_info.issuer_and_serial.IssuerAndSerialNumber.{IssuerAndSerialNumber}
 use Rattle.names_core.specs.Names.{sets_of}
 use Rattle.x509_core.specs.KeptCertificate.{KeptCertificate}
 use Rattle.authenticode_parts.specs.Carried.{elements_of}

@@ -8,12 +8,12 @@ use Rattle.key_core.specs.declared.element.Element.TheVariants as structures
 use Rattle.x509_core.specs.CertRefusals.{unwritten}
 use Rattle.cms_types.specs.SignerInfo.{signer_info}
 use Rattle.cms_types.specs.UnsignedAttribute.{signer_values}
-use Rattle.cms_types.specs.declared.certificate_choices.CertificateChoices.{CertificateChoices}
 use Rattle.cms_types.specs.declared.signed_data.SignedData.{SignedData}
+use Rattle.cms_types.specs.declared.signed_data.certificate_choices.CertificateChoices.{CertificateChoices}
 use Rattle.cms_types.specs.declared.signer_info.SignerInfo.{SignerInfo}
-use Rattle.cms_types.specs.declared.signer_values.SignerValues.{SignerValues}
 use Rattle.cms_types.specs.declared.unsigned_attribute.UnsignedAttribute.{UnsignedAttribute}
 use Rattle.cms_types.specs.declared.unsigned_attribute.UnsignedAttribute.TheVariants as attributes
+use Rattle.cms_types.specs.declared.unsigned_attribute.signer_values.SignerValues.{SignerValues}
 use Rattle.authenticode_core.specs.declared.timestamp_error.TimestampError.{TimestampError}
 use Rattle.authenticode_core.specs.declared.timestamp_error.TimestampError.TheVariants as errors
 use Rattle.authenticode_signature.specs.Pkcs7.{signer_infos_of}

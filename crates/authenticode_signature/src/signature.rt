@@ -11,7 +11,7 @@ ghost use Rattle.der_core.specs.declared.error.DerError.{DerError};
 ghost use Rattle.der_core.specs.declared.error.DerError.TheVariants as der_errors;
 ghost use Rattle.der_core.specs.declared.fault.DerFault.{DerFault};
 ghost use Rattle.cms_types.specs.Pkcs7.{pkcs7};
-ghost use Rattle.cms_types.specs.declared.pkcs7.Pkcs7Certificate.{Pkcs7Certificate};
+ghost use Rattle.cms_types.specs.declared.signed_data.pkcs7.Pkcs7Certificate.{Pkcs7Certificate};
 ghost use Rattle.authenticode_signature.specs.Pkcs7.{IsPkcs7Of, signer_infos_of, written};
 ghost use Rattle.authenticode_signature.specs.Refusals.{IsUnreadPkcs7, IsUnwrittenPkcs7, TellsOfSignedData, of_signed_data, unread};
 ghost use Rattle.authenticode_signature.specs.SignedFields.{file_hash_in, signed_attributes_in, unsigned_attributes_in};

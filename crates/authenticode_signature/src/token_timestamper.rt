@@ -12,7 +12,7 @@ ghost use Rattle.der_core.specs.declared.fault.DerFault.{DerFault};
 ghost use Rattle.key_core.specs.declared.element.Element.TheVariants as elements;
 ghost use Rattle.x509_core.specs.CertRefusals.{IsUnwrittenCert};
 ghost use Rattle.cms_types.specs.Pkcs7.{pkcs7};
-ghost use Rattle.cms_types.specs.declared.pkcs7.Pkcs7Certificate.{Pkcs7Certificate};
+ghost use Rattle.cms_types.specs.declared.signed_data.pkcs7.Pkcs7Certificate.{Pkcs7Certificate};
 ghost use Rattle.authenticode_core.specs.StampRefusal.{token_refusal};
 ghost use Rattle.authenticode_core.specs.declared.timestamp_error.TimestampError.TheVariants as errors;
 ghost use Rattle.authenticode_signature.specs.Pkcs7.{IsPkcs7Of, signer_infos_of};

@@ -9,10 +9,10 @@ use Rattle.der_core.specs.declared.error.DerError.TheVariants as errors
 use Rattle.cms_types.specs.Members.{element_of_kept}
 use Rattle.cms_types.specs.Pkcs7.{pkcs7}
 use Rattle.cms_types.specs.SignerInfo.{signer_info}
-use Rattle.cms_types.specs.declared.pkcs7.Pkcs7Certificate.{Pkcs7Certificate}
+use Rattle.cms_types.specs.declared.signed_data.pkcs7.Pkcs7Certificate.{Pkcs7Certificate}
 use Rattle.cms_types.specs.declared.signer_info.SignerInfo.{SignerInfo}
-use Rattle.cms_types.specs.declared.signer_values.SignerValues.{SignerValues}
-use Rattle.cms_types.specs.declared.token_values.TokenValues.{TokenValues}
+use Rattle.cms_types.specs.declared.unsigned_attribute.signer_values.SignerValues.{SignerValues}
+use Rattle.cms_types.specs.declared.unsigned_attribute.token_values.TokenValues.{TokenValues}
 use Rattle.cms_types.proofs.SignerLaws.{signer_reads, token_reads, only_memory}
 
 -- what the member at the place is written as

@@ -14,8 +14,8 @@ use Rattle.cms_types.specs.OpusInfo.{opus_info_of, opus_info}
 use Rattle.cms_types.specs.Facts.SpcStrings.{spc_strings}
 use Rattle.cms_types.specs.Facts.SpcLinks.{spc_links}
 use Rattle.cms_types.specs.Facts.OpusInfos.{fields_once}
-use Rattle.cms_types.specs.declared.spc_string.SpcString.{SpcString}
-use Rattle.cms_types.specs.declared.spc_link.SpcLink.{SpcLink}
+use Rattle.cms_types.specs.declared.opus_info.spc_string.SpcString.{SpcString}
+use Rattle.cms_types.specs.declared.opus_info.spc_link.SpcLink.{SpcLink}
 use Rattle.cms_types.specs.declared.opus_info.SpcSpOpusInfo.{SpcSpOpusInfo}
 
 -- an element of these fields is one of a value exactly where they are those of its fields

@@ -41,18 +41,18 @@ use Rattle.cms_types.specs.Pkcs7.{pkcs7}
 use Rattle.cms_types.specs.Levels.{OfOption, IsConstructed, IsSignerOf, IsSignedDataOf, IsUnsignedOf}
 use Rattle.cms_types.specs.Signers.{IsSignerInfo, Bare, WithUnsigned, IsUnsignedAttribute, Counter, MsCounter, Any, IsSignedData, Signed, IsPkcs7, Pkcs7, AreSignerInfos, NoSigners, MoreSigners, AreUnsignedAttributes, NoUnsigned, MoreUnsigned, ArePkcs7s, NoPkcs7s, MorePkcs7s}
 use Rattle.cms_types.specs.Facts.SignerElements.{signer_tail, signer_kids, data_tail, data_kids}
-use Rattle.cms_types.specs.declared.certificate_choices.CertificateChoices.{CertificateChoices}
-use Rattle.cms_types.specs.declared.certificate_choices.CertificateChoices.TheVariants as choices
-use Rattle.cms_types.specs.declared.pkcs7.Pkcs7Certificate.{Pkcs7Certificate}
-use Rattle.cms_types.specs.declared.signer_values.SignerValues.{SignerValues}
-use Rattle.cms_types.specs.declared.token_values.TokenValues.{TokenValues}
-use Rattle.cms_types.specs.declared.signed_attributes.SignedAttributes.{SignedAttributes}
+use Rattle.cms_types.specs.declared.signed_data.certificate_choices.CertificateChoices.{CertificateChoices}
+use Rattle.cms_types.specs.declared.signed_data.certificate_choices.CertificateChoices.TheVariants as choices
+use Rattle.cms_types.specs.declared.signed_data.pkcs7.Pkcs7Certificate.{Pkcs7Certificate}
+use Rattle.cms_types.specs.declared.unsigned_attribute.signer_values.SignerValues.{SignerValues}
+use Rattle.cms_types.specs.declared.unsigned_attribute.token_values.TokenValues.{TokenValues}
 use Rattle.cms_types.specs.declared.signed_data.SignedData.{SignedData}
 use Rattle.cms_types.specs.declared.signer_info.SignerInfo.{SignerInfo}
+use Rattle.cms_types.specs.declared.signer_info.signed_attributes.SignedAttributes.{SignedAttributes}
 use Rattle.cms_types.specs.declared.unsigned_attribute.UnsignedAttribute.{UnsignedAttribute}
 use Rattle.cms_types.specs.declared.unsigned_attribute.UnsignedAttribute.TheVariants as attributes
-use Rattle.cms_types.specs.declared.unsigned_kind.UnsignedKind.{UnsignedKind}
-use Rattle.cms_types.specs.declared.unsigned_kind.UnsignedKind.TheVariants as kinds
+use Rattle.cms_types.specs.declared.unsigned_attribute.kind.UnsignedKind.{UnsignedKind}
+use Rattle.cms_types.specs.declared.unsigned_attribute.kind.UnsignedKind.TheVariants as kinds
 use Rattle.cms_types.proofs.Signers.{first_signer, first_pkcs7}
 
 -- ---- elements in bounds can be kept

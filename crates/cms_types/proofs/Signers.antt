@@ -7,8 +7,8 @@ use Rattle.asn1_types.specs.Elements.{object_identifier}
 use Rattle.asn1_types.specs.Values.{identifier_contents}
 use Rattle.asn1_types.specs.declared.oid.ObjectIdentifier.{ObjectIdentifier}
 use Rattle.cms_types.specs.UnsignedKind.{named_unsigned}
-use Rattle.cms_types.specs.declared.unsigned_kind.UnsignedKind.{UnsignedKind}
-use Rattle.cms_types.specs.declared.unsigned_kind.UnsignedKind.TheVariants as kinds
+use Rattle.cms_types.specs.declared.unsigned_attribute.kind.UnsignedKind.{UnsignedKind}
+use Rattle.cms_types.specs.declared.unsigned_attribute.kind.UnsignedKind.TheVariants as kinds
 use Rattle.cms_types.specs.SignerElements.{SignerElements}
 use Rattle.cms_types.specs.SignedDataElements.{SignedDataElements}
 use Rattle.cms_types.specs.Pkcs7Elements.{pkcs7_of}

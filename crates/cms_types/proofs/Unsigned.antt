@@ -19,10 +19,10 @@ use Rattle.x509_types.specs.Attribute.{AreAttributes}
 use Rattle.cms_types.specs.SignedAttributesElement.{signed_attributes}
 use Rattle.cms_types.specs.AttributeElement.{attribute_of}
 use Rattle.cms_types.specs.UnsignedAttribute.{unsigned_attribute}
-use Rattle.cms_types.specs.declared.signed_attributes.SignedAttributes.{SignedAttributes}
+use Rattle.cms_types.specs.declared.signer_info.signed_attributes.SignedAttributes.{SignedAttributes}
 use Rattle.cms_types.specs.declared.unsigned_attribute.UnsignedAttribute.{UnsignedAttribute}
-use Rattle.cms_types.specs.declared.unsigned_kind.UnsignedKind.{UnsignedKind}
-use Rattle.cms_types.specs.declared.unsigned_kind.UnsignedKind.TheVariants as kinds
+use Rattle.cms_types.specs.declared.unsigned_attribute.kind.UnsignedKind.{UnsignedKind}
+use Rattle.cms_types.specs.declared.unsigned_attribute.kind.UnsignedKind.TheVariants as kinds
 use Rattle.cms_types.proofs.Signers.{unsigned_level, counter_values, ms_counter_values}
 use Rattle.cms_types.proofs.SignerLaws.{keep_all, unsigned_of_value, of_counter, of_ms_counter, no_value}
 

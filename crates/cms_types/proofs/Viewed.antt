@@ -20,7 +20,7 @@ use Rattle.cms_types.specs.Pkcs7Elements.{pkcs7_of}
 use Rattle.cms_types.specs.Pkcs7.{pkcs7}
 use Rattle.cms_types.specs.SignedData.{signed_data_elements, signed_data}
 use Rattle.cms_types.specs.SignerInfo.{signer_elements, signer_info}
-use Rattle.cms_types.specs.declared.pkcs7.Pkcs7Certificate.{Pkcs7Certificate}
+use Rattle.cms_types.specs.declared.signed_data.pkcs7.Pkcs7Certificate.{Pkcs7Certificate}
 use Rattle.cms_types.specs.declared.signer_info.SignerInfo.{SignerInfo}
 use Rattle.cms_types.proofs.Signers.{data_signers}
 use Rattle.cms_types.proofs.SignerLaws.{level_of_data, data_of_value, value_of_data, level_of_signer, signer_of_value, no_value}

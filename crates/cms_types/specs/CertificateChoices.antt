@@ -3,8 +3,8 @@
 -- AttributeCertificateV2, other [3] IMPLICIT OtherCertificateFormat } (RFC 5652 10.2.2): any
 -- element, told by its tag
 use Rattle.der_core.specs.DerElement.{DerElement}
-use Rattle.cms_types.specs.declared.certificate_choices.CertificateChoices.{CertificateChoices}
-use Rattle.cms_types.specs.declared.certificate_choices.CertificateChoices.TheVariants as choices
+use Rattle.cms_types.specs.declared.signed_data.certificate_choices.CertificateChoices.{CertificateChoices}
+use Rattle.cms_types.specs.declared.signed_data.certificate_choices.CertificateChoices.TheVariants as choices
 
 -- the element of a member of the certificates
 abbrev pub certificate_choice : CertificateChoices → DerElement

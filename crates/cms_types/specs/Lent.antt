@@ -2,8 +2,8 @@
 use Rattle.der_core.specs.Lent.{at_option}
 use Rattle.cms_types.specs.SignerElements.{SignerElements}
 use Rattle.cms_types.specs.SignedDataElements.{SignedDataElements}
-use Rattle.cms_types.specs.declared.signer_fields.SignerFields.{SignerFields}
-use Rattle.cms_types.specs.declared.signed_data_fields.SignedDataFields.{SignedDataFields}
+use Rattle.cms_types.specs.declared.signer_info.fields.SignerFields.{SignerFields}
+use Rattle.cms_types.specs.declared.signed_data.fields.SignedDataFields.{SignedDataFields}
 
 -- the elements that lie there
 abbrev pub signer_at : SignerFields → SignerElements

@@ -2,7 +2,7 @@
 use Rattle.std.specs.Prelude.{List}
 use Rattle.der_core.specs.DerElement.{DerElement}
 use Rattle.x509_types.specs.declared.attribute.Attribute.{Attribute}
-use Rattle.cms_types.specs.declared.signed_attributes.SignedAttributes.{SignedAttributes}
+use Rattle.cms_types.specs.declared.signer_info.signed_attributes.SignedAttributes.{SignedAttributes}
 
 -- the element of signed attributes
 abbrev pub signed_attributes : SignedAttributes → DerElement

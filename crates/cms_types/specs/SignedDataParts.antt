@@ -10,8 +10,8 @@ use Rattle.cms_types.specs.Levels.{IsAlgorithm, IsContentInfo}
 use Rattle.cms_types.specs.SignedDataElements.{SignedDataElements}
 use Rattle.cms_types.specs.SignerInfo.{signer_info}
 use Rattle.cms_types.specs.declared.signed_data.SignedData.{SignedData}
-use Rattle.cms_types.specs.declared.signed_data_parts.CarriedPart.{CarriedPart}
-use Rattle.cms_types.specs.declared.signed_data_parts.SignedPart.{SignedPart}
+use Rattle.cms_types.specs.declared.signed_data.parts.CarriedPart.{CarriedPart}
+use Rattle.cms_types.specs.declared.signed_data.parts.SignedPart.{SignedPart}
 use Rattle.cms_types.specs.declared.version.CmsVersion.{CmsVersion}
 
 -- Each element spells the field of the first part.

@@ -6,8 +6,8 @@ use Rattle.cms_types.specs.Levels.{AreSignedDataFields}
 use Rattle.cms_types.specs.SignedDataElements.{SignedDataElements, signed_data_of}
 use Rattle.cms_types.specs.Pkcs7Elements.{pkcs7_of}
 use Rattle.cms_types.specs.Pkcs7.{pkcs7}
-use Rattle.cms_types.specs.declared.pkcs7.Pkcs7Certificate.{Pkcs7Certificate}
-use Rattle.cms_types.specs.declared.signed_view.SignedView.{SignedView}
+use Rattle.cms_types.specs.declared.signed_data.pkcs7.Pkcs7Certificate.{Pkcs7Certificate}
+use Rattle.cms_types.specs.declared.signed_data.view.SignedView.{SignedView}
 
 -- the elements that lie there
 abbrev pub data_elements : SignedView → SignedDataElements

@@ -6,8 +6,8 @@ use Rattle.cms_types.specs.SignedAttributesElement.{signed_attributes}
 use Rattle.cms_types.specs.SignerElements.{SignerElements}
 use Rattle.cms_types.specs.UnsignedAttribute.{unsigned_attribute}
 use Rattle.cms_types.specs.declared.signer_info.SignerInfo.{SignerInfo}
-use Rattle.cms_types.specs.declared.signer_parts.SignatureFields.{SignatureFields}
-use Rattle.cms_types.specs.declared.signer_parts.SignedBy.{SignedBy}
+use Rattle.cms_types.specs.declared.signer_info.parts.SignatureFields.{SignatureFields}
+use Rattle.cms_types.specs.declared.signer_info.parts.SignedBy.{SignedBy}
 use Rattle.cms_types.specs.declared.version.CmsVersion.{CmsVersion}
 
 -- Each element spells the field of the first part.

@@ -9,7 +9,7 @@ use Rattle.cms_types.specs.Levels.{AreSignerFields}
 use Rattle.cms_types.specs.SignerElements.{SignerElements, signer_of}
 use Rattle.cms_types.specs.SignerInfo.{signer_info}
 use Rattle.cms_types.specs.declared.signer_info.SignerInfo.{SignerInfo}
-use Rattle.cms_types.specs.declared.signer_view.SignerView.{SignerView}
+use Rattle.cms_types.specs.declared.signer_info.view.SignerView.{SignerView}
 
 -- the elements that lie there
 abbrev pub signer_elements_at : SignerView → SignerElements

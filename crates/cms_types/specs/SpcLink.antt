@@ -2,7 +2,7 @@
 -- [2] EXPLICIT SpcString } (Windows Authenticode Portable Executable Signature Format): the first
 -- of the three alone, of any octets
 use Rattle.der_core.specs.DerElement.{DerElement, Primitive}
-use Rattle.cms_types.specs.declared.spc_link.SpcLink.{SpcLink}
+use Rattle.cms_types.specs.declared.opus_info.spc_link.SpcLink.{SpcLink}
 
 -- the element of a link, which is a url
 abbrev pub spc_link : SpcLink → DerElement

@@ -5,9 +5,9 @@ use Rattle.asn1_types.specs.Values.{identifier_contents}
 use Rattle.asn1_types.specs.declared.oids.TheConstants.{COUNTERSIGNATURE, RFC3161_COUNTER_SIGN}
 use Rattle.cms_types.specs.Members.{elements_of_kept}
 use Rattle.cms_types.specs.AttributeElement.{attribute_of}
-use Rattle.cms_types.specs.declared.signer_values.SignerValues.{SignerValues}
 use Rattle.cms_types.specs.declared.unsigned_attribute.UnsignedAttribute.{UnsignedAttribute}
 use Rattle.cms_types.specs.declared.unsigned_attribute.UnsignedAttribute.TheVariants as attributes
+use Rattle.cms_types.specs.declared.unsigned_attribute.signer_values.SignerValues.{SignerValues}
 
 -- the values of an attribute are written as they are kept
 abbrev pub unsigned_attribute : UnsignedAttribute → DerElement

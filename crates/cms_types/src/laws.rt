@@ -10,11 +10,11 @@ ghost use Rattle.cms_types.specs.SignerInfo.{signer_info, signer_elements};
 ghost use Rattle.cms_types.specs.SignerView.{signer_elements_at, IsSignerView};
 ghost use Rattle.cms_types.specs.Signers.{IsSignerInfo, IsUnsignedAttribute, IsSignedData, IsPkcs7};
 ghost use Rattle.cms_types.specs.UnsignedAttribute.{unsigned_attribute};
-ghost use Rattle.cms_types.specs.declared.pkcs7.Pkcs7Certificate.{Pkcs7Certificate};
 ghost use Rattle.cms_types.specs.declared.signed_data.SignedData.{SignedData};
-ghost use Rattle.cms_types.specs.declared.signed_view.SignedView.{SignedView};
+ghost use Rattle.cms_types.specs.declared.signed_data.pkcs7.Pkcs7Certificate.{Pkcs7Certificate};
+ghost use Rattle.cms_types.specs.declared.signed_data.view.SignedView.{SignedView};
 ghost use Rattle.cms_types.specs.declared.signer_info.SignerInfo.{SignerInfo};
-ghost use Rattle.cms_types.specs.declared.signer_view.SignerView.{SignerView};
+ghost use Rattle.cms_types.specs.declared.signer_info.view.SignerView.{SignerView};
 ghost use Rattle.cms_types.specs.declared.unsigned_attribute.UnsignedAttribute.{UnsignedAttribute};
 
 /// What signers, unsigned attributes and signed data are is said on elements alone, since they hold

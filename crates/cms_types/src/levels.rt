@@ -5,9 +5,9 @@ ghost use Rattle.der_core.specs.DerElement.{DerElement};
 ghost use Rattle.der_core.specs.Elements.{sequence, set};
 ghost use Rattle.cms_types.specs.Levels.{IsUnsignedOf};
 ghost use Rattle.cms_types.specs.Pkcs7Elements.{pkcs7_of};
-ghost use Rattle.cms_types.specs.declared.unsigned_kind.UnsignedKind.{UnsignedKind};
+ghost use Rattle.cms_types.specs.declared.unsigned_attribute.kind.UnsignedKind.{UnsignedKind};
 
-use crate::unsigned_kind::UnsignedKind;
+use crate::unsigned_attribute::kind::UnsignedKind;
 use asn1_types::ObjectIdentifier;
 use asn1_types::oids::SIGNED_DATA;
 use der_core::tag::{OBJECT_IDENTIFIER, SEQUENCE, SET};

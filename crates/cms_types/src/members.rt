@@ -6,11 +6,11 @@ ghost use Rattle.der_core.specs.Refusals.{RefusesInner};
 ghost use Rattle.der_core.specs.declared.error.DerError.TheVariants as errors;
 ghost use Rattle.cms_types.specs.Members.{elements_of_kept, all_inner};
 
-use crate::pkcs7::Pkcs7Certificate;
-use crate::raw_unsigned::RawList;
+use crate::signed_data::pkcs7::Pkcs7Certificate;
 use crate::signer_info::SignerInfo;
-use crate::signer_values::SignerValues;
-use crate::token_values::TokenValues;
+use crate::unsigned_attribute::raw::RawList;
+use crate::unsigned_attribute::signer_values::SignerValues;
+use crate::unsigned_attribute::token_values::TokenValues;
 use der_core::{DerError, ListOf, Raw, Structure};
 use std::alloc::{AllocError, Global};
 

@@ -5,8 +5,11 @@ ghost use Rattle.der_core.specs.DerElement.{DerElement};
 ghost use Rattle.der_core.specs.Lent.{at_option};
 ghost use Rattle.cms_types.specs.OpusInfo.{opus_info, opus_info_of};
 
-use crate::spc_link::SpcLink;
-use crate::spc_string::SpcString;
+pub(crate) mod spc_link;
+pub(crate) mod spc_string;
+
+use crate::opus_info::spc_link::SpcLink;
+use crate::opus_info::spc_string::SpcString;
 use der_core::tag::SEQUENCE;
 use der_core::{
     DerError, Elem, Kids, NewKids, Structure, Tree, copy_option, has_option, push_explicit,

@@ -7,9 +7,9 @@ ghost use Rattle.cms_types.specs.SignerSet.{IsSetOfSigners};
 ghost use Rattle.cms_types.specs.Signers.{IsSignerInfo, IsUnsignedAttribute, IsSignedData, IsPkcs7, AreSignerInfos, AreUnsignedAttributes, ArePkcs7s};
 
 use crate::levels::{UnsignedFields, signed_data_in};
-use crate::signed_data_fields::SignedDataFields;
-use crate::signer_fields::{SignerFields, UNSIGNED_ATTRIBUTES};
-use crate::unsigned_kind::UnsignedKind;
+use crate::signed_data::fields::SignedDataFields;
+use crate::signer_info::fields::{SignerFields, UNSIGNED_ATTRIBUTES};
+use crate::unsigned_attribute::kind::UnsignedKind;
 use der_core::tag::SET;
 use der_core::{Elem, Kids};
 

@@ -2,13 +2,20 @@
 
 ghost use Rattle.std.specs.Prelude.{◌≡◌, ◌↔◌, IsTrue};
 
-use crate::certificate_choices::CertificateChoices;
+pub(crate) mod certificate_choices;
+pub(crate) mod fields;
+mod parts;
+pub(crate) mod pkcs7;
+pub(crate) mod raw_certificate;
+pub(crate) mod view;
+
 use crate::list_fields::{push_list, push_values};
-use crate::raw_unsigned::RawList;
 use crate::shapes::is_signed_data;
-use crate::signed_data_fields::{CERTIFICATES, REVOCATION_LISTS, SignedDataFields};
-use crate::signed_data_parts::{CarriedPart, SignedPart, join};
+use crate::signed_data::certificate_choices::CertificateChoices;
+use crate::signed_data::fields::{CERTIFICATES, REVOCATION_LISTS, SignedDataFields};
+use crate::signed_data::parts::{CarriedPart, SignedPart, join};
 use crate::signer_info::SignerInfo;
+use crate::unsigned_attribute::raw::RawList;
 use crate::version::CmsVersion;
 use cms_content::EncapsulatedContentInfo;
 use der_core::tag::{SEQUENCE, SET};

@@ -2,12 +2,19 @@
 
 ghost use Rattle.std.specs.Prelude.{◌≡◌, ◌↔◌, IsTrue};
 
+pub(crate) mod fields;
+pub(crate) mod identifier;
+pub(crate) mod issuer_and_serial;
+mod parts;
+pub(crate) mod signed_attributes;
+pub(crate) mod view;
+
 use crate::list_fields::push_list;
 use crate::shapes::is_signer_info;
-use crate::signed_attributes::SignedAttributes;
-use crate::signer_fields::{SignerFields, UNSIGNED_ATTRIBUTES};
-use crate::signer_identifier::SignerIdentifier;
-use crate::signer_parts::{SignatureFields, SignedBy, join};
+use crate::signer_info::fields::{SignerFields, UNSIGNED_ATTRIBUTES};
+use crate::signer_info::identifier::SignerIdentifier;
+use crate::signer_info::parts::{SignatureFields, SignedBy, join};
+use crate::signer_info::signed_attributes::SignedAttributes;
 use crate::unsigned_attribute::UnsignedAttributeList;
 use crate::version::CmsVersion;
 use der_core::tag::SEQUENCE;

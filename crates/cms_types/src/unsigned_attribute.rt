@@ -1,11 +1,16 @@
 //! Unsigned attributes of signers.
 
+pub(crate) mod kind;
+pub(crate) mod raw;
+pub(crate) mod signer_values;
+pub(crate) mod token_values;
+
 use crate::levels::UnsignedFields;
-use crate::raw_unsigned::{RawUnsignedAttribute, write_attribute};
 use crate::shapes::{are_pkcs7s, are_signer_infos, is_unsigned_attribute};
-use crate::signer_values::SignerValues;
-use crate::token_values::TokenValues;
-use crate::unsigned_kind::UnsignedKind;
+use crate::unsigned_attribute::kind::UnsignedKind;
+use crate::unsigned_attribute::raw::{RawUnsignedAttribute, write_attribute};
+use crate::unsigned_attribute::signer_values::SignerValues;
+use crate::unsigned_attribute::token_values::TokenValues;
 use asn1_types::ObjectIdentifier;
 use asn1_types::oids::{COUNTERSIGNATURE, RFC3161_COUNTER_SIGN};
 use der_core::{DerError, Elem, ListOf, Structure, Tree, read_each};

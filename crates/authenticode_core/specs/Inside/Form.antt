@@ -5,7 +5,7 @@ use Rattle.cms_types.specs.SignedDataElements.{SignedDataElements}
 use Rattle.cms_types.specs.SignedView.{IsSignedView}
 use Rattle.cms_types.specs.SignerView.{signer_elements_at}
 use Rattle.cms_types.specs.declared.signed_data.SignedData.{SignedData}
-use Rattle.cms_types.specs.declared.signed_view.SignedView.{SignedView}
+use Rattle.cms_types.specs.declared.signed_data.view.SignedView.{SignedView}
 use Rattle.der_core.specs.DerElement.{DerElement}
 use Rattle.der_core.specs.Elements.{sequence}
 use Rattle.der_core.specs.Encoding.{IsPaddedEncoding}

@@ -8,10 +8,10 @@ use Rattle.der_core.specs.Structure.{IsGrammar}
 use Rattle.der_core.specs.Facts.Grammars.{printed}
 use Rattle.der_core.specs.Facts.Kept.{same_kept}
 use Rattle.cms_types.specs.CertificateChoices.{certificate_choice}
-use Rattle.cms_types.specs.declared.raw_certificate.RawCertificate.{RawCertificate}
-use Rattle.cms_types.specs.declared.raw_certificate.OtherCertificate.{OtherCertificate}
-use Rattle.cms_types.specs.declared.certificate_choices.CertificateChoices.{CertificateChoices}
-use Rattle.cms_types.specs.declared.certificate_choices.CertificateChoices.TheVariants as choices
+use Rattle.cms_types.specs.declared.signed_data.raw_certificate.RawCertificate.{RawCertificate}
+use Rattle.cms_types.specs.declared.signed_data.raw_certificate.OtherCertificate.{OtherCertificate}
+use Rattle.cms_types.specs.declared.signed_data.certificate_choices.CertificateChoices.{CertificateChoices}
+use Rattle.cms_types.specs.declared.signed_data.certificate_choices.CertificateChoices.TheVariants as choices
 
 abbrev certificate_with : (element : KeptElement) → tag_of element.element ≡ 0x30 → RawCertificate
 certificate_with element tagged = record { element = element; tagged = tagged }

@@ -12,8 +12,8 @@ use Rattle.cms_types.specs.SpcLink.{spc_link}
 use Rattle.cms_types.specs.OpusInfo.{opus_info_of, opus_info}
 use Rattle.cms_types.specs.Facts.SpcStrings.{spc_strings}
 use Rattle.cms_types.specs.Facts.SpcLinks.{spc_links}
-use Rattle.cms_types.specs.declared.spc_string.SpcString.{SpcString}
-use Rattle.cms_types.specs.declared.spc_link.SpcLink.{SpcLink}
+use Rattle.cms_types.specs.declared.opus_info.spc_string.SpcString.{SpcString}
+use Rattle.cms_types.specs.declared.opus_info.spc_link.SpcLink.{SpcLink}
 use Rattle.cms_types.specs.declared.opus_info.SpcSpOpusInfo.{SpcSpOpusInfo}
 
 other_tag : (more_info : Option DerElement) → BeginsOtherwise 0xA0 (optional_explicit 0xA1 more_info)

@@ -15,7 +15,7 @@ use Rattle.x509_types.specs.Attribute.{attribute_octets, AreAttributes}
 use Rattle.x509_types.specs.Facts.Attributes.{attribute_lists, attributes_by_octets}
 use Rattle.x509_types.specs.declared.attribute.Attribute.{Attribute}
 use Rattle.cms_types.specs.SignedAttributesElement.{signed_attributes}
-use Rattle.cms_types.specs.declared.signed_attributes.SignedAttributes.{SignedAttributes}
+use Rattle.cms_types.specs.declared.signer_info.signed_attributes.SignedAttributes.{SignedAttributes}
 
 -- attributes are told by octets
 told : Attribute → Attribute → Bool

@@ -26,9 +26,9 @@ use Rattle.cms_types.specs.Facts.Options.{options_formed}
 use Rattle.cms_types.specs.Facts.SignerElements.{IsToldData, same_data, data_formed}
 use Rattle.cms_types.specs.Facts.SignerInfos.{signer_infos}
 use Rattle.cms_types.specs.Facts.Versions.{versions, versions_once}
-use Rattle.cms_types.specs.declared.certificate_choices.CertificateChoices.{CertificateChoices}
-use Rattle.cms_types.specs.declared.pkcs7.Pkcs7Certificate.{Pkcs7Certificate}
 use Rattle.cms_types.specs.declared.signed_data.SignedData.{SignedData}
+use Rattle.cms_types.specs.declared.signed_data.certificate_choices.CertificateChoices.{CertificateChoices}
+use Rattle.cms_types.specs.declared.signed_data.pkcs7.Pkcs7Certificate.{Pkcs7Certificate}
 use Rattle.cms_types.specs.declared.signer_info.SignerInfo.{SignerInfo}
 
 list_tags : {X : Type 0} (tag : ℕ) (written : X → DerElement) (a : Option (List X)) → OfOption (λ e. tag_of e ≡ tag) (option_map (list_element tag written) a)

@@ -8,9 +8,9 @@ use Rattle.asn1_types.specs.Facts.Elements.{integers}
 use Rattle.name_types.specs.Name.{name}
 use Rattle.name_types.specs.Facts.Names.{names}
 use Rattle.cms_types.specs.SignerIdentifier.{issuer_and_serial_number, signer_identifier}
-use Rattle.cms_types.specs.declared.issuer_and_serial.IssuerAndSerialNumber.{IssuerAndSerialNumber}
-use Rattle.cms_types.specs.declared.signer_identifier.SignerIdentifier.{SignerIdentifier}
-use Rattle.cms_types.specs.declared.signer_identifier.SignerIdentifier.TheVariants as named
+use Rattle.cms_types.specs.declared.signer_info.identifier.SignerIdentifier.{SignerIdentifier}
+use Rattle.cms_types.specs.declared.signer_info.identifier.SignerIdentifier.TheVariants as named
+use Rattle.cms_types.specs.declared.signer_info.issuer_and_serial.IssuerAndSerialNumber.{IssuerAndSerialNumber}
 
 issuers_once : (a b : IssuerAndSerialNumber) → issuer_and_serial_number a ≡ issuer_and_serial_number b → a ≡ b
 issuers_once a b e =

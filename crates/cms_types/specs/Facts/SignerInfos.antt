@@ -25,8 +25,8 @@ use Rattle.cms_types.specs.Facts.UnsignedAttributes.{unsigned_attributes}
 use Rattle.cms_types.specs.Facts.Versions.{versions, versions_once}
 use Rattle.der_core.specs.Facts.Optional.{options_once}
 use Rattle.cms_types.specs.Facts.Options.{options_formed}
-use Rattle.cms_types.specs.declared.signed_attributes.SignedAttributes.{SignedAttributes}
 use Rattle.cms_types.specs.declared.signer_info.SignerInfo.{SignerInfo}
+use Rattle.cms_types.specs.declared.signer_info.signed_attributes.SignedAttributes.{SignedAttributes}
 use Rattle.cms_types.specs.declared.unsigned_attribute.UnsignedAttribute.{UnsignedAttribute}
 
 tag_prop : (x : DerElement) → IsProp (tag_of x ≡ 0xA0)

@@ -3,7 +3,7 @@ use Rattle.std.proofs.Common.{◌≡◌, ℕ, List, [], refl, ap, arith}
 use Rattle.der_core.specs.Structure.{IsGrammar}
 use Rattle.der_core.specs.Facts.Grammars.{printed}
 use Rattle.cms_types.specs.SpcLink.{spc_link}
-use Rattle.cms_types.specs.declared.spc_link.SpcLink.{SpcLink}
+use Rattle.cms_types.specs.declared.opus_info.spc_link.SpcLink.{SpcLink}
 
 pub same_link : (a b : SpcLink) → a.url ≡ b.url → a ≡ b
 same_link a b e = ap (λ (x : List ℕ). record { url = x }) e

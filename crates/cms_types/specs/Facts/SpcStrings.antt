@@ -5,7 +5,7 @@ use Rattle.der_core.specs.Structure.{IsGrammar}
 use Rattle.der_core.specs.Facts.Grammars.{printed}
 use Rattle.cms_types.specs.Units.{AreUnits}
 use Rattle.cms_types.specs.SpcString.{spc_string}
-use Rattle.cms_types.specs.declared.spc_string.SpcString.{SpcString}
+use Rattle.cms_types.specs.declared.opus_info.spc_string.SpcString.{SpcString}
 
 AreUnits-prop : (octets : List ℕ) → IsProp (AreUnits octets)
 AreUnits-prop octets = hlevel props

@@ -19,12 +19,12 @@ use Rattle.cms_types.specs.UnsignedKind.{named_unsigned}
 use Rattle.cms_types.specs.AttributeElement.{attribute_of}
 use Rattle.cms_types.specs.UnsignedAttribute.{unsigned_attribute}
 use Rattle.cms_types.specs.Facts.UnsignedKinds.{same_unsigned_kinds}
-use Rattle.cms_types.specs.declared.raw_unsigned.RawUnsignedAttribute.{RawUnsignedAttribute}
-use Rattle.cms_types.specs.declared.signer_values.SignerValues.{SignerValues}
-use Rattle.cms_types.specs.declared.token_values.TokenValues.{TokenValues}
 use Rattle.cms_types.specs.declared.unsigned_attribute.UnsignedAttribute.{UnsignedAttribute}
 use Rattle.cms_types.specs.declared.unsigned_attribute.UnsignedAttribute.TheVariants as attributes
-use Rattle.cms_types.specs.declared.unsigned_kind.UnsignedKind.TheVariants as kinds
+use Rattle.cms_types.specs.declared.unsigned_attribute.kind.UnsignedKind.TheVariants as kinds
+use Rattle.cms_types.specs.declared.unsigned_attribute.raw.RawUnsignedAttribute.{RawUnsignedAttribute}
+use Rattle.cms_types.specs.declared.unsigned_attribute.signer_values.SignerValues.{SignerValues}
+use Rattle.cms_types.specs.declared.unsigned_attribute.token_values.TokenValues.{TokenValues}
 
 -- ---- elements that are kept
 

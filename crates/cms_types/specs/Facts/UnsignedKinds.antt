@@ -3,8 +3,8 @@ use Rattle.std.specs.Prelude.{◌≡◌, ℕ, ◌==◌, if◌then◌else◌, ref
 use Rattle.std.specs.Coded.{Coded-set}
 use Rattle.std.proofs.Common.{sym, ap, ◌∙◌}
 use base.Stored.{Coded, gnum, num}
-use Rattle.cms_types.specs.declared.unsigned_kind.UnsignedKind.{UnsignedKind}
-use Rattle.cms_types.specs.declared.unsigned_kind.UnsignedKind.TheVariants as kinds
+use Rattle.cms_types.specs.declared.unsigned_attribute.kind.UnsignedKind.{UnsignedKind}
+use Rattle.cms_types.specs.declared.unsigned_attribute.kind.UnsignedKind.TheVariants as kinds
 
 -- a number for each kind
 abbrev unsigned_number : UnsignedKind → ℕ

@@ -4,7 +4,7 @@ use Rattle.authenticode_parts.specs.Carried.{elements_of}
 use Rattle.cms_content.specs.IndirectData.{indirect_data_content}
 use Rattle.cms_types.specs.SignedData.{signed_data_elements}
 use Rattle.cms_types.specs.SignedAttributesElement.{signed_attributes}
-use Rattle.cms_types.specs.declared.pkcs7.Pkcs7Certificate.{Pkcs7Certificate}
+use Rattle.cms_types.specs.declared.signed_data.pkcs7.Pkcs7Certificate.{Pkcs7Certificate}
 use Rattle.authenticode_signature.specs.MadeProgram.{program_for}
 use Rattle.authenticode_signature.proofs.MadeSteps.{no_attributes_of, no_content, sealed_program, sealed_taken, unsealed}
 use Rattle.authenticode_signature.proofs.making.signed.Goals as goal

@@ -3,7 +3,7 @@ use Rattle.der_core.specs.Lent.{at_option}
 use Rattle.cms_types.specs.Lent.{signer_at, signed_data_at}
 use Rattle.cms_types.specs.Levels.{IsUnsignedOf}
 use Rattle.cms_types.specs.Signers.{Bare, WithUnsigned, Counter, MsCounter, Any, Signed, Pkcs7, AreUnsignedAttributes, NoUnsigned, MoreUnsigned, AreSignerInfos, NoSigners, MoreSigners, ArePkcs7s, NoPkcs7s, MorePkcs7s}
-use Rattle.cms_types.specs.declared.unsigned_kind.UnsignedKind.{UnsignedKind}
+use Rattle.cms_types.specs.declared.unsigned_attribute.kind.UnsignedKind.{UnsignedKind}
 use Rattle.cms_types.proofs.Signers.{first_signer, first_unsigned, first_pkcs7, signer_unsigned, unsigned_level, counter_values, ms_counter_values, data_signers, pkcs7_level, first_count}
 use Rattle.cms_types.proofs.shapes.+signers.Goals as goal
 

@@ -1,5 +1,5 @@
 use Rattle.std.proofs.Common.{◌≡◌, Result, Ok, Err, ap, ◌∙◌}
-use Rattle.cms_types.specs.declared.pkcs7.Pkcs7Certificate.{Pkcs7Certificate}
+use Rattle.cms_types.specs.declared.signed_data.pkcs7.Pkcs7Certificate.{Pkcs7Certificate}
 use Rattle.der_core.specs.declared.error.DerError.{DerError}
 use Rattle.authenticode_signature.specs.Refusals.{unread}
 use Rattle.authenticode_signature.proofs.pkcs7.Pkcs7.from_der.Goals as goal

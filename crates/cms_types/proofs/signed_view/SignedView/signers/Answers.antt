@@ -1,5 +1,0 @@
-use Rattle.cms_types.proofs.Viewed.{signers_bit}
-use Rattle.cms_types.proofs.signed_view.SignedView.signers.Goals as goal
-
-pub kids_of-requires : goal.kids_of-requires
-kids_of-requires c = signers_bit _ c.args.self.now.fits

@@ -1,5 +1,0 @@
-use Rattle.cms_types.proofs.Viewed.{signer_has_signature}
-use Rattle.cms_types.proofs.signer_view.SignerView.signature.Goals as goal
-
-pub unreachable-requires : goal.unreachable-requires
-unreachable-requires c = signer_has_signature _ c.args.self.now.fits c.in-None.ensures

@@ -1,0 +1,13 @@
+use Rattle.std.proofs.Common.{refl, rules}
+use Rattle.std.proofs.lemmas.Option.{slice_get_read}
+use Rattle.cms_types.specs.Pkcs7.{pkcs7}
+use Rattle.cms_types.proofs.MemberLaws.{member_found, token_refused}
+use Rattle.cms_types.proofs.unsigned_attribute.token_values.TokenValues.get.Goals as goal
+
+pub want_of_memory-requires : goal.want_of_memory-requires
+want_of_memory-requires c =
+    token_refused c.args.self.now _ _ _ _ _ c.as_slice.ensures (slice_get_read c.as_slice.result.now _ c.args.place c.in-Some.member.now refl (search rules) c.in-Some.ensures.lookup.1) c.elem.ensures c.in-Err.ensures
+
+pub returns-in-Ok-clause-found : goal.returns-in-Ok-clause-found
+returns-in-Ok-clause-found c =
+    member_found pkcs7 c.args.self.now.items _ _ _ _ c.in-Ok.token c.as_slice.ensures (slice_get_read c.as_slice.result.now _ c.args.place c.in-Some.member.now refl (search rules) c.in-Some.ensures.lookup.1) c.elem.ensures c.in-Ok.ensures
