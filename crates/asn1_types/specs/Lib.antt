@@ -1,3 +1,6 @@
+-- Promises, which public contracts cite: all but those named below.
+-- Rules, which the promises rest on: `Subidentifier`, `Values`.
+-- Inside, which no public contract cites: `Facts`.
 pub mod Contents
 pub mod Integer
 pub mod BitString

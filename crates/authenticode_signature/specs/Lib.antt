@@ -1,3 +1,5 @@
+-- Promises, which public contracts cite: all but those named below; first `Pkcs7`, `Making`, `Building`.
+-- Inside, which no public contract cites: `MadeProgram`, `BuilderParts`, `Facts`.
 pub mod Unread
 pub mod Pkcs7
 pub mod Refusals

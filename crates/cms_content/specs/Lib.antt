@@ -1,3 +1,6 @@
+-- Promises, which public contracts cite: all but those named below.
+-- Rules, which the promises rest on: `ContentInfoElements`.
+-- Inside, which no public contract cites: `Facts`.
 pub mod CtlKind
 pub mod HeldPurposes
 pub mod HeldPurposesElement

@@ -1,3 +1,6 @@
+-- Promises, which public contracts cite: all but those named below; first `SignedData`, `SignerInfo`, `SignedView`.
+-- Rules, which the promises rest on: `Pkcs7Elements`, `AttributeElement`.
+-- Inside, which no public contract cites: `Optional`, `SignerSet`, `SignerParts`, `SignedDataParts`, `Facts`.
 pub mod DigestAlgorithm
 pub mod Units
 pub mod SpcString

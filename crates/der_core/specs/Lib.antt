@@ -1,3 +1,7 @@
+-- Promises, which public contracts cite: all but those named below.
+-- Rules, which the promises rest on: `Causes`.
+-- Words of the crates above: `Lending`, `Rules`, `Steps`, `Counts`.
+-- Inside, which no public contract cites: `Facts`.
 pub mod DerElement
 pub mod Encoding
 pub mod TreeView

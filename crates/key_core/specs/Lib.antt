@@ -1,3 +1,7 @@
+-- Promises, which public contracts cite: all but those named below; first `Verifying`, `Signing`.
+-- Rules, which the promises rest on: `PrivateKeyVersion`, `KeyAlgorithm`, `PrivateKeyFields`, `SchemeNames`.
+-- Words of the crates above: `Keys`.
+-- Inside, which no public contract cites: `Facts`.
 pub mod PrivateKeyVersion
 pub mod PrivateKeyValue
 pub mod KeyAlgorithm

@@ -1,3 +1,6 @@
+-- Promises, which public contracts cite: all but those named below; first `Run`, `Vouched`.
+-- Rules, which the promises rest on: `Stored`, `DateWord`, `Options`, `Policies`, `Answer`, `ChainAnswer`, `Headline`, `ChainHeadline`.
+-- Inside, which no public contract cites: `Jobs`, `Stops`, `Inquiry`.
 pub mod Shelf
 pub mod Sink
 pub mod Limits

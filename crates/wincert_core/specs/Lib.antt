@@ -1,3 +1,4 @@
+-- Promises alone: public contracts cite each of these.
 pub mod Kinds
 pub mod WinCert
 pub mod Refusal

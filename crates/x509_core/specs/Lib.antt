@@ -1,3 +1,6 @@
+-- Promises, which public contracts cite: all but those named below; first `Window`, `Link`, `Chain`.
+-- Words of the crates above: `Distinct`.
+-- Inside, which no public contract cites: `KeylessParts`, `Facts`.
 pub mod Keyless
 pub mod KeylessParts
 pub mod KeptCertificate

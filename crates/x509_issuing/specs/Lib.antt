@@ -1,3 +1,6 @@
+-- Promises, which public contracts cite: all but those named below.
+-- Rules, which the promises rest on: `Inherited`, `BuildRefusals`.
+-- Inside, which no public contract cites: `Facts`.
 pub mod KeptRequest
 pub mod CsrRefusals
 pub mod SelfSigned
