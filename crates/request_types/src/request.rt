@@ -1,4 +1,12 @@
-//! Requests for certificates.
+//! Requests for certificates (RFC 2986 4.2).
+//!
+//! ```text
+//! CertificationRequest ::= SEQUENCE {
+//!      certificationRequestInfo CertificationRequestInfo,
+//!      signatureAlgorithm AlgorithmIdentifier{{ SignatureAlgorithms }},
+//!      signature          BIT STRING
+//! }
+//! ```
 
 ghost use Rattle.std.specs.Prelude.{◌≡◌, ◌↔◌, IsTrue, MatchOption};
 ghost use Rattle.der_core.specs.Structure.{Fits};

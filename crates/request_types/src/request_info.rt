@@ -1,4 +1,17 @@
-//! What is signed of a request for a certificate.
+//! What is signed of a request for a certificate (RFC 2986 4.1).
+//!
+//! ```text
+//! CertificationRequestInfo ::= SEQUENCE {
+//!      version       INTEGER { v1(0) } (v1,...),
+//!      subject       Name,
+//!      subjectPKInfo SubjectPublicKeyInfo{{ PKInfoAlgorithms }},
+//!      attributes    [0] Attributes{{ CRIAttributes }}
+//! }
+//!
+//! Attributes { ATTRIBUTE:IOSet } ::= SET OF Attribute{{ IOSet }}
+//! ```
+//!
+//! Only v1 is read. `attributes` may be left out.
 
 ghost use Rattle.std.specs.Prelude.{◌≡◌, ◌≢◌, ◌↔◌, ◌++◌, IsTrue, IfOk, MatchOption, MatchResult, Option, List, option_to_list};
 ghost use Rattle.std.specs.Option.{option_map};

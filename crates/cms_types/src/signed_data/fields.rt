@@ -1,4 +1,22 @@
-//! The fields of signed data, where their octets lie.
+//! The fields of signed data, where their octets lie (RFC 5652 5.1).
+//!
+//! ```text
+//! SignedData ::= SEQUENCE {
+//!   version CMSVersion,
+//!   digestAlgorithms DigestAlgorithmIdentifiers,
+//!   encapContentInfo EncapsulatedContentInfo,
+//!   certificates [0] IMPLICIT CertificateSet OPTIONAL,
+//!   crls [1] IMPLICIT RevocationInfoChoices OPTIONAL,
+//!   signerInfos SignerInfos }
+//!
+//! DigestAlgorithmIdentifiers ::= SET OF DigestAlgorithmIdentifier
+//!
+//! SignerInfos ::= SET OF SignerInfo
+//! ```
+//!
+//! In PKCS #7 the third field is `contentInfo ContentInfo`, whose content is of the kind that its
+//! type says (RFC 2315 7, 9.1), and so it is read. Members of `certificates` and `crls` are any
+//! elements. A SET OF may be in any order, and the version needn't fit the other fields.
 
 ghost use Rattle.std.specs.Prelude.{◌≢◌, MatchOption};
 ghost use Rattle.der_core.specs.DerElement.{DerElement};

@@ -1,4 +1,29 @@
-//! The fields of a signer, where their octets lie.
+//! The fields of a signer, where their octets lie (RFC 5652 5.3).
+//!
+//! ```text
+//! SignerInfo ::= SEQUENCE {
+//!   version CMSVersion,
+//!   sid SignerIdentifier,
+//!   digestAlgorithm DigestAlgorithmIdentifier,
+//!   signedAttrs [0] IMPLICIT SignedAttributes OPTIONAL,
+//!   signatureAlgorithm SignatureAlgorithmIdentifier,
+//!   signature SignatureValue,
+//!   unsignedAttrs [1] IMPLICIT UnsignedAttributes OPTIONAL }
+//!
+//! SignerIdentifier ::= CHOICE {
+//!   issuerAndSerialNumber IssuerAndSerialNumber,
+//!   subjectKeyIdentifier [0] SubjectKeyIdentifier }
+//!
+//! SignedAttributes ::= SET SIZE (1..MAX) OF Attribute
+//!
+//! UnsignedAttributes ::= SET SIZE (1..MAX) OF Attribute
+//!
+//! SignatureValue ::= OCTET STRING
+//! ```
+//!
+//! In PKCS #7 the fields from the fourth on are `authenticatedAttributes`,
+//! `digestEncryptionAlgorithm`, `encryptedDigest` and `unauthenticatedAttributes` (RFC 2315 9.2).
+//! Sets of attributes may be empty and in any order.
 
 ghost use Rattle.std.specs.Prelude.{MatchOption};
 ghost use Rattle.der_core.specs.Each.{IsListOf};

@@ -1,4 +1,33 @@
-//! The fields of a TBSCertificate, where their octets lie.
+//! The fields of a TBSCertificate, where their octets lie (RFC 5280 4.1).
+//!
+//! ```text
+//! TBSCertificate  ::=  SEQUENCE  {
+//!      version         [0]  EXPLICIT Version DEFAULT v1,
+//!      serialNumber         CertificateSerialNumber,
+//!      signature            AlgorithmIdentifier,
+//!      issuer               Name,
+//!      validity             Validity,
+//!      subject              Name,
+//!      subjectPublicKeyInfo SubjectPublicKeyInfo,
+//!      issuerUniqueID  [1]  IMPLICIT UniqueIdentifier OPTIONAL,
+//!                           -- If present, version MUST be v2 or v3
+//!      subjectUniqueID [2]  IMPLICIT UniqueIdentifier OPTIONAL,
+//!                           -- If present, version MUST be v2 or v3
+//!      extensions      [3]  EXPLICIT Extensions OPTIONAL
+//!                           -- If present, version MUST be v3
+//!      }
+//!
+//! Version  ::=  INTEGER  {  v1(0), v2(1), v3(2)  }
+//!
+//! CertificateSerialNumber  ::=  INTEGER
+//!
+//! UniqueIdentifier  ::=  BIT STRING
+//!
+//! Extensions  ::=  SEQUENCE SIZE (1..MAX) OF Extension
+//! ```
+//!
+//! Also read: an explicit v1, unique identifiers and extensions in any version, unique identifiers
+//! of any octets, and an empty list of extensions.
 
 ghost use Rattle.std.specs.Prelude.{◌≡◌, ◌≢◌, MatchOption, MatchResult};
 ghost use Rattle.der_core.specs.Refusals.{RefusesShape};

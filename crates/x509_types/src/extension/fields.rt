@@ -1,4 +1,17 @@
-//! Extensions, where their octets lie.
+//! Extensions, where their octets lie (RFC 5280 4.1).
+//!
+//! ```text
+//! Extension  ::=  SEQUENCE  {
+//!      extnID      OBJECT IDENTIFIER,
+//!      critical    BOOLEAN DEFAULT FALSE,
+//!      extnValue   OCTET STRING
+//!                  -- contains the DER encoding of an ASN.1 value
+//!                  -- corresponding to the extension type identified
+//!                  -- by extnID
+//!      }
+//! ```
+//!
+//! Also read: an explicit FALSE, and TRUE as any octet but 00.
 
 ghost use Rattle.std.specs.Prelude.{◌≡◌, ◌≢◌, ℕ, Bool, List, MatchOption};
 ghost use Rattle.der_core.specs.DerElement.{DerElement};
