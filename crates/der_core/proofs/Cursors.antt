@@ -31,7 +31,7 @@ deep_first : (elements : DerElements) (element : DerElement) (others : DerElemen
 deep_first Nil element others der are = absurd cc
 deep_first (Cons kid kids) element others der are = let same : kid ≡ element = cc in omega (arith, der.nested, ap nesting same)
 
--- the first of the elements that octets are is what they begin with
+-- the first of the elements that octets encode is what they begin with
 pub begins_there : (level : ℕ) (octets whole : List ℕ) (tag : ℕ) (content : List ℕ) (elements : List DerElement) (element : DerElement) (others : List DerElement) → AreElems octets elements → IsElem whole tag content element
     → 1 < level → level ≤ 2 → WereTested level octets → elements ≡ element ∷ others → BeginsAt level octets element (length whole)
 begins_there level octets whole tag content elements element others k e inner low tested are =
@@ -50,6 +50,6 @@ after_first (Cons kid kids) element octets rest are spelled der parts =
     let f = fronts kid element (encodings kids) rest are.formed.0 der.formed are.short.0 der.short (sym spelled ∙ parts) in
     (kids, record { formed = are.formed.1; nested = omega (arith, are.nested); short = are.short.1 }, sym f.1)
 
--- octets that were tested are so after their first element
+-- tested octets are still tested after their first element
 pub tested_after : (level : ℕ) (octets rest : List ℕ) (element : DerElement) → WereTested level octets → IsDer element → octets ≡ encoding element ++ rest → WereTested level rest
 tested_after level octets rest element tested der parts = λ inner. let t = tested inner in after_first t.0 element octets rest t.1 t.2 der parts

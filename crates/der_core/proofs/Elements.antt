@@ -13,7 +13,7 @@ use Rattle.der_core.proofs.Heads.{head_again}
 
 -- ---- what is read
 
--- a head is one wherever a level is left
+-- a head is the same wherever a level is left
 pub at_level : {tag : ℕ} {octets contents rest : List ℕ} (levels : ℕ) → 0 < levels → HasHead 64 octets tag contents rest → HasHead levels octets tag contents rest
 at_level levels some head = record { parts = head.parts; is_tag = head.is_tag; short = head.short; some = some }
 
@@ -35,7 +35,7 @@ pub encodings_push : (kids : List DerElement) (kid : DerElement) → encodings (
 encodings_push [] kid = append-nil (encoding kid)
 encodings_push (first ∷ kids) kid = ap (λ (o : List ℕ). encoding first ++ o) (encodings_push kids kid) ∙ sym (append_assoc (encoding first) (encodings (row kids)) (encoding kid))
 
--- ---- where nothing is read
+-- ---- if nothing is read
 
 pub no_head : (levels : ℕ) (octets : List ℕ) (fault : DerFault) → head_at levels octets ≡ Err fault → HasElement levels octets → ⊥
 no_head levels octets fault failed has =

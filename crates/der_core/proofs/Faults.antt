@@ -13,7 +13,7 @@ use Rattle.der_core.specs.Reading.{HasElementsWithin, IsFaultFrom}
 use Rattle.der_core.proofs.Begins.{HasElement}
 use Rattle.der_core.proofs.Elements.{no_head, no_kids, no_first, rest_goes_on}
 
--- ---- there is no element where there is a fault
+-- ---- no element if there is a fault
 
 one_less : (levels : ℕ) (octets : List ℕ) → HasElementsWithin (suc levels - 1) octets → HasElementsWithin levels octets
 one_less levels octets has =
@@ -62,7 +62,7 @@ mutual
       let both = one_kids_fault levels j k y e f (subst (λ (o : List ℕ). KidsFault levels o j e) same.1 more) more' in
       (is-m ∙ ap (λ (t : DerElement). length (encoding t) + j) same.0 ∙ ap (λ (i : ℕ). length (encoding b) + i) both.0 ∙ sym is-n, both.1)
 
--- ---- a fault at a start is the one of all the octets
+-- ---- a fault at a start is a fault of all the octets
 
 some_head : (levels : ℕ) (octets : List ℕ) (x : ℕ × List ℕ × List ℕ) → head_at levels octets ≡ Ok x → 0 < length octets
 unfolding head_at
@@ -74,7 +74,7 @@ at_most all place levels octets Outermost = omega arith
 at_most all place levels octets (Within {place = p} {octets = o} start head bit some) = omega (arith, at_most all p (suc levels) o start)
 at_most all place levels octets (After {place = p} {octets = o} start inner der parts some) = omega (arith, inner)
 
--- The outermost element has a fault itself, and an inner one as the first of its siblings.
+-- The outermost element has the fault itself, and an inner one as the first of its siblings.
 record StartFault (levels n : ℕ) (octets : List ℕ) (fault : DerFault) : Type 0 where
   outermost : levels ≡ 64 → ElementFault levels octets n fault
   inner : levels < 64 → KidsFault levels octets n fault
@@ -99,7 +99,7 @@ outermost_fault all place fault first =
     let here : ElementFault first.levels first.octets 0 fault = Here first.fails in
     subst (λ (k : ℕ). ElementFault 64 all k fault) (add-zero place) (outwards all place first.levels 0 first.octets fault first.start (record { outermost = λ e. here; inner = λ below. First (inner_some all place first.levels first.octets first.start below) here }))
 
--- ---- and the other way round
+-- ---- and the converse
 
 some_kids : {levels n : ℕ} {octets : List ℕ} {fault : DerFault} → KidsFault levels octets n fault → 0 < length octets
 some_kids (First some there) = some
@@ -148,7 +148,7 @@ kids_refused {levels} {tag} {octets} {contents} {rest} at m found head bit refus
     fault_in at (at + (length octets - length rest - length contents)) (KidsFault (levels - 1) contents) (ElementFault levels octets) m
     (λ k fault kids. (header_length contents + k, omega arith, fault_of_kids levels tag k octets contents rest fault found head.some bit kids)) refused
 
--- ---- the answer of a reader of the first element
+-- ---- the result of a reader of the first element
 
 pub same_malformed : (m : Malformed) (at : ℕ) (fault : DerFault) → m.at ≡ at → m.fault ≡ fault → m ≡ record { at = at; fault = fault }
 same_malformed m at fault p q =
@@ -158,7 +158,7 @@ same_malformed m at fault p q =
 pub refused_first : (at : ℕ) (octets : List ℕ) (m : Malformed) → IsFaultFrom at (ElementFault 64 octets) m → IsFaultFrom at (IsFirstFault octets) m
 refused_first at octets m refused = (refused.0, refused.1, first_fault octets refused.0 m.fault refused.2)
 
--- a fault counted from the beginning is at its place
+-- a fault counted from the beginning is at its offset
 pub from_beginning : (P : ℕ → DerFault → Type 0) (m : Malformed) → IsFaultFrom 0 P m → P m.at m.fault
 from_beginning P m there = subst (λ (k : ℕ). P k m.fault) (sym (zero-add there.0) ∙ sym there.1) there.2
 
@@ -166,13 +166,13 @@ from_beginning P m there = subst (λ (k : ℕ). P k m.fault) (sym (zero-add ther
 pub first_fault_once : (octets : List ℕ) (p q : ℕ) (e f : DerFault) → IsFirstFault octets p e → IsFirstFault octets q f → (p ≡ q) × (e ≡ f)
 first_fault_once octets p q e f first second = one_fault 64 p q octets e f (outermost_fault octets p e first) (outermost_fault octets q f second)
 
--- so a refusal with it is the one with any
+-- so the one reported is it
 pub refused_as : (octets : List ℕ) (at : ℕ) (fault : DerFault) (m : Malformed) → IsFirstFault octets at fault → IsFirstFault octets m.at m.fault → m ≡ record { at = at; fault = fault }
 refused_as octets at fault m first refused =
     let same = first_fault_once octets m.at at m.fault fault refused first in
     same_malformed m at fault same.0 same.1
 
--- a refusal that counts from a place on is the one with any first fault
+-- and so is one that is reported from an offset on
 pub refused_from : (octets : List ℕ) (place k : ℕ) (fault : DerFault) (m : Malformed) → IsFirstFault octets k fault → IsFaultFrom place (IsFirstFault octets) m → m ≡ record { at = place + k; fault = fault }
 refused_from octets place k fault m first refused =
     let same = first_fault_once octets refused.0 k m.fault fault refused.2 first in

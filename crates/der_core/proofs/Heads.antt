@@ -1,4 +1,4 @@
--- A head that is read is that of an encoding, and that of an encoding is read.
+-- A head that is read is the head of an encoding, and the head of an encoding is read.
 use Rattle.std.proofs.Common.{◌≡◌, ℕ, suc, ◌%◌, ◌^◌, ◌<◌, ◌≤◌, false, cond, ltb, eqb, List, [], ◌∷◌, ◌++◌, length, take, drop, Result, Ok, Err, refl, sym, ap, subst, ◌∙◌, append_assoc, arith}
 use Rattle.std.proofs.lemmas.Bool.{ltb-false, le-ltb, eqb-false, ne_eqb}
 use Rattle.std.proofs.lemmas.List.{take_at, drop_at, take-append-drop, length-append, length-take-le}
@@ -32,7 +32,7 @@ pub head_again : (levels : ℕ) (a : DerElement) (rest : List ℕ) → IsDerWith
 head_again levels (Primitive tag content) rest der = framed_again levels tag content rest der.nested der.formed.0 der.short
 head_again levels (Constructed tag kids) rest der = framed_again levels tag (encodings kids) rest (omega (arith, der.nested)) der.formed.0 der.short.0
 
--- ---- what was read is as it was written
+-- ---- what was read is as written
 
 record HasContents (octets contents rest : List ℕ) : Type 0 where
   parts : octets ≡ (length_octets (length contents) ++ contents) ++ rest
@@ -81,7 +81,7 @@ head_taken levels (first ∷ octets) tag contents rest fits e =
     subst (λ (p : ℕ × List ℕ × List ℕ). HasHead levels (first ∷ octets) p.0 p.1 p.2) (ok_is made found b.2)
     (contents_then levels (past_bound levels) first octets b.0.0 b.0.1 (omega arith) fits b.1 (fits 0, eqb-false _ _ z.0, eqb-false _ _ h.0))
 
--- ---- a head of which no test fails
+-- ---- a head that passes all tests
 
 -- the length in such a head, and what is read by it
 pub record IsKnownHead (octets : List ℕ) (tag : ℕ) (after : List ℕ) (n : ℕ) (rest : List ℕ) : Type 0 where
@@ -130,6 +130,6 @@ no_head_at : (h : ℕ × List ℕ × List ℕ) → head_at 64 [] ≡ Ok h → �
 unfolding head_at
 no_head_at h e = absurd cc
 
--- nothing begins with no octets
+-- empty octets begin with no head
 pub none_begins : (octets : List ℕ) → octets ≡ [] → BeginsWithHead octets → ⊥
 none_begins octets none begins = no_head_at (begins.0, begins.1, begins.2) (rw none at begins.3)

@@ -1,4 +1,4 @@
--- Elements where they lie in octets: their kids, and the first of several.
+-- Borrowed elements: their kids, and the first of several.
 use Rattle.std.proofs.Common.{◌≡◌, ℕ, ◌-◌, List, [], ◌∷◌, ◌++◌, length, take, Some, None, Ok, refl, sym, ap, subst, ◌∙◌, arith}
 use Rattle.std.proofs.lemmas.List.{append-nil, length-append, take_at}
 use Rattle.der_core.specs.DerElement.{DerElement, Primitive, Constructed, Nil, Cons, row, listed, tag_of, kids_of}
@@ -45,7 +45,7 @@ none_left octets k e = no_octets k.0 (sym k.1.1 ∙ e)
 pub some_left : (octets : List ℕ) (k : HasElems octets) → k.0 ≡ [] → octets ≡ []
 some_left octets k e = k.1.1 ∙ ap (λ elements. encodings (row elements)) e
 
--- where there are elements the octets begin with the head of one
+-- if there are elements, the octets begin with the head of one
 head_left' : (octets : List ℕ) (elements : List DerElement) → AreElems octets elements → (elements ≡ [] → ⊥) → BeginsWithHead octets
 head_left' octets [] are some = absurd (some refl)
 head_left' octets (a ∷ elements) are some =
@@ -90,7 +90,7 @@ first_of' octets (a ∷ elements) tag contents after are head =
 pub first_there : (octets : List ℕ) (k : HasElems octets) (tag : ℕ) (contents after : List ℕ) → head_at 64 octets ≡ Ok (tag, contents, after) → IsNext octets k.0 (length octets - length after) tag contents after
 first_there octets k tag contents after head = first_of' octets k.0 tag contents after k.1 head
 
--- whatever the reasons are, the elements are the first and those after it
+-- the elements are the first and those after it, whatever the proof
 pub next_are : (octets : List ℕ) (k : HasElems octets) (tag : ℕ) (contents after whole : List ℕ) (element : DerElement) (others : List DerElement) → head_at 64 octets ≡ Ok (tag, contents, after)
     → whole ≡ take (length octets - length after) octets → IsElem whole tag contents element → AreElems after others → k.0 ≡ element ∷ others
 next_are octets k tag contents after whole element others head front e l =
@@ -99,7 +99,7 @@ next_are octets k tag contents after whole element others head front e l =
     let then : HasElems after = (n.others, n.left) in
     n.are ∙ ap (λ (h : HasElem whole tag contents). h.0 ∷ n.others) (HasElem-prop whole tag contents here (element, e)) ∙ ap (λ (h : HasElems after). element ∷ h.0) (HasElems-prop after then (others, l))
 
--- octets of no length are none
+-- octets of length 0 are empty
 pub no_length : (octets : List ℕ) → length octets ≡ 0 → octets ≡ []
 no_length [] e = refl
 no_length (o ∷ octets) e = absurd (omega (arith, e))
@@ -115,7 +115,7 @@ no_elements levels octets none = (Nil, record { formed = tt; nested = omega arit
 
 -- ---- the first element of octets that were tested
 
--- the one element in a front of the octets is the first of them
+-- the one element in a prefix of the octets is the first of them
 pub first_elem : (octets rest front whole : List ℕ) (tag : ℕ) (content : List ℕ) (a : DerElement) (elements : List DerElement) (k : AreElems front elements) (element : DerElement) (e : IsElem whole tag content element) (others : List DerElement) → IsDer a → octets ≡ encoding a ++ rest
     → front ≡ take (length octets - length rest) octets → elements ≡ element ∷ others → IsFirst octets element (length whole)
 first_elem octets rest front whole tag content a elements k element e others der parts is are =
@@ -130,7 +130,7 @@ first_elem octets rest front whole tag content a elements k element e others der
       front = ap (λ n. take n octets) (ap length whole_is) ∙ ap (take (length (encoding a))) parts ∙ take_at (encoding a) rest (length (encoding a)) refl ∙ sym (ap encoding same);
     }
 
--- a front of the octets that is the encoding of an element holds that element
+-- a prefix of the octets that is the encoding of an element holds that element
 pub one_alone : (octets rest front : List ℕ) (a : DerElement) → IsDer a → octets ≡ encoding a ++ rest → front ≡ take (length octets - length rest) octets → HasElems front
 one_alone octets rest front a der parts is =
     let many : length (encoding a) ≡ length octets - length rest = omega (arith, ap length parts, length-append (encoding a) rest) in
@@ -142,7 +142,7 @@ not_none octets rest front a elements k parts is none =
     let here : front ≡ encoding a = is ∙ ap (take (length octets - length rest)) parts ∙ take_at (encoding a) rest (length octets - length rest) many in
     omega (arith, some_octets a, ap length here, ap length (some_left front (elements, k) none))
 
--- ---- octets that are kept
+-- ---- owned octets
 
 pub one_kept : (octets lent : List ℕ) → Kept octets → lent ≡ octets → HasElems lent
 one_kept octets lent kept same = (kept.0 ∷ [], ((kept.1.0, tt), same ∙ kept.1.1 ∙ sym (append-nil (encoding kept.0))))

@@ -1,4 +1,4 @@
--- Elements that are written into strings of a value: those of a part are among those of the whole.
+-- Elements wrapped in strings of a value: those of a part are among those of the whole.
 use Rattle.std.proofs.Common.{◌≡◌, List, [], ◌∷◌, ◌++◌, refl, sym, ◌∙◌, ap, subst, append_assoc, append-nil}
 use Rattle.der_core.specs.DerElement.{DerElement}
 use Rattle.der_core.specs.declared.error.DerError.{DerError}
@@ -14,7 +14,7 @@ first_among before inner after e der (b, element, a, parts, der', refused) =
     let whole : before ++ (inner ++ after) ≡ (before ++ b) ++ element ∷ (a ++ after) = ap (λ i. before ++ i) inside ∙ sym (append_assoc before b (element ∷ (a ++ after))) in
     (before ++ b, element, a ++ after, whole, AreDer-append before b der der', refused)
 
--- what keeps a part from being written keeps the whole from it, where all before can be written
+-- what prevents a part from being written prevents the whole, if all before it can be written
 pub refuses_among : (before inner after : List DerElement) (e : DerError) → AreDer before → RefusesInner inner e → RefusesInner (before ++ (inner ++ after)) e
 refuses_among before inner after errors.TooDeep der refused = first_among before inner after errors.TooDeep der refused
 refuses_among before inner after errors.TooLong der refused = first_among before inner after errors.TooLong der refused
@@ -30,11 +30,11 @@ refuses_alone element errors.Memory refused = tt
 refuses_alone element (errors.Malformed malformed) refused = refused
 refuses_alone element errors.Shape refused = refused
 
--- what keeps the elements before from being written keeps them all from it
+-- what prevents the elements before from being written prevents them all
 pub refuses_before : (inner after : List DerElement) (e : DerError) → RefusesInner inner e → RefusesInner (inner ++ after) e
 refuses_before inner after e refused = refuses_among [] inner after e tt refused
 
--- what keeps the last from being written keeps them all from it
+-- what prevents the last from being written prevents them all
 pub refuses_last : (before inner : List DerElement) (e : DerError) → AreDer before → RefusesInner inner e → RefusesInner (before ++ inner) e
 refuses_last before inner e der refused =
     subst (λ i. RefusesInner (before ++ i) e) (append-nil inner) (refuses_among before inner [] e der refused)

@@ -1,4 +1,4 @@
--- A length that is read is spelled as it is written.
+-- A length that is read is encoded as it is written.
 use Rattle.std.proofs.Common.{◌≡◌, ℕ, suc, ◌+◌, ◌-◌, ◌/◌, ◌%◌, ◌^◌, ◌<◌, ◌≤◌, Bool, true, false, cond, ltb, eqb, List, [], ◌∷◌, ◌++◌, length, take, drop, Result, Ok, Err, refl, sym, ap, ◌∙◌, arith, inl, inr, ◌⊎◌}
 use Rattle.std.proofs.lemmas.Bool.{cases_lt, cases_Bool, ltb-true, ltb-false, lt-ltb, le-ltb, eqb-true}
 use Rattle.std.proofs.lemmas.List.{take-append-drop, length-take-le, get_or_append_left, get_or_past}
@@ -21,7 +21,7 @@ pub guard_ok : {A : Type 0} (b : Bool) (fault : DerFault) (x : Result A DerFault
 guard_ok true fault x y e = absurd cc
 guard_ok false fault x y e = (refl, e)
 
--- so many digits, and a number that is not below the least with so many
+-- so many digits, and a number that is at least the least one with so many
 record Digits (count least : ℕ) (octets : List ℕ) (n : ℕ) (rest : List ℕ) : Type 0 where
   digits : List ℕ
   parts : octets ≡ digits ++ rest
@@ -113,7 +113,7 @@ written_4 (a ∷ b ∷ c ∷ d ∷ []) n len fits value enough =
     (rw (f7, f8, f16, f24) (cc), omega arith)
 written_4 (a ∷ b ∷ c ∷ d ∷ e ∷ more) n len fits value enough = absurd (omega arith)
 
--- a length that was read from the front of octets
+-- a length that was read from the beginning of octets
 pub record HasLength (octets : List ℕ) (n : ℕ) (rest : List ℕ) : Type 0 where
   pub parts : octets ≡ length_octets n ++ rest
   pub short : n < 2 ^ 32
@@ -177,7 +177,7 @@ length_taken past (first ∷ octets) n rest fits e =
 
 -- ---- a length of the long form
 
--- its first octet tells how many write it
+-- its first octet says how many encode it
 pub record IsLongForm (first : ℕ) (rest : List ℕ) (n : ℕ) (after : List ℕ) : Type 0 where
   pub few : first - 128 ≤ 4
   pub there : first - 128 ≤ length rest
@@ -224,7 +224,7 @@ long_there past first rest n after long e =
           ]
     ]
 
--- where a length is known, and how it goes on where it is of the long form
+-- a length that is known, and what follows it in the long form
 pub long_known : (octets : List ℕ) (first : ℕ) (rest : List ℕ) → octets ≡ first ∷ rest → 128 ≤ first → BeginsWithLength octets → IsLongForm first rest (number_from 0 (take (first - 128) rest)) (drop (first - 128) rest)
 long_known octets first rest are long begins =
     let form = long_there Truncated first rest begins.0 begins.1 long (rw are at begins.2) in

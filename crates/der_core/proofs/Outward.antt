@@ -1,4 +1,4 @@
--- Octets of elements that are gone through where they lie, with those after each element that holds them.
+-- Borrowed octets of elements that are traversed, with the octets after each enclosing element.
 use Rattle.std.proofs.Common.{◌≡◌, ◌≢◌, ℕ, ◌+◌, ◌-◌, ◌<◌, ◌≤◌, List, [], ◌∷◌, ◌++◌, length, take, drop, set, get_or, refl, sym, ap, subst, ◌∙◌, append_assoc, arith}
 use Rattle.std.proofs.lemmas.List.{length-append, length-set, take_at, drop_at, get_or-set_same, get_or-set_other}
 use Rattle.der_core.specs.DerElement.{Primitive, Constructed}
@@ -19,12 +19,13 @@ abbrev pub AreLengths : List ℕ → ℕ → List (List ℕ) → Type 0
 AreLengths lengths n [] = n ≡ 0
 AreLengths lengths n (after ∷ others) = (0 < n) × (get_or lengths (n - 1) 0 ≡ length after) × AreLengths lengths (n - 1) others
 
--- Each are elements, the innermost of so many levels, and each next of one more.
+-- All of them are elements, the innermost with so many levels, and each next with one more.
 abbrev pub AreOutward : ℕ → List (List ℕ) → Type 0
 AreOutward levels [] = Unit {0}
 AreOutward levels (after ∷ others) = HasElementsWithin levels after × AreOutward (levels + 1) others
 
--- Within n elements stand the current octets, of which so many are left. Where they are elements, and those after each of the n, all octets are.
+-- Within n elements are the current octets, of which so many are left. If they are elements, and so
+-- are those after each of the n, all octets are.
 pub record GoesOn (octets rest : List ℕ) (left : ℕ) (lengths : List ℕ) (n : ℕ) : Type 0 where
   pub current : List ℕ
   pub outer : List (List ℕ)
@@ -67,7 +68,7 @@ outward octets rest current lengths n (after ∷ others) parts none kept some fe
 pub after_last : {octets rest lengths : List ℕ} {left n : ℕ} → GoesOn octets rest left lengths n → left ≡ 0 → 0 < n → GoesOn octets rest (get_or lengths (n - 1) 0) lengths (n - 1)
 after_last {octets} {rest} {lengths} {left} {n} on none some = outward octets rest on.current lengths n on.outer on.parts (on.many ∙ none) on.kept some on.few on.room on.elements
 
--- ---- an element more
+-- ---- one more element
 
 -- as many octets as are left
 pub current_is : {octets rest lengths : List ℕ} {left n : ℕ} (on : GoesOn octets rest left lengths n) → take left rest ≡ on.current

@@ -1,4 +1,4 @@
--- Rules that are asked for in order.
+-- Rules checked in order.
 use Rattle.std.proofs.Common.{◌≡◌, List, [], ◌∷◌, ◌++◌, inl, inr}
 use Rattle.std.specs.Prelude.{⊤}
 use Rattle.der_core.specs.Rules.{IsMet, IsFirstBroken}
@@ -8,7 +8,7 @@ abbrev pub AreMet : {E : Type 0} → List (E → Type 0) → Type 0
 AreMet [] = ⊤
 AreMet (rule ∷ rules) = IsMet rule × AreMet rules
 
--- at most one error tells that a rule is broken
+-- at most one error reports that a rule is broken
 abbrev pub IsToldOnce : {E : Type 0} → (E → Type 0) → Type 0
 IsToldOnce {E} rule = (a b : E) → rule a → rule b → a ≡ b
 
@@ -34,7 +34,7 @@ broken_before [] others e p = absurd p
 broken_before (rule ∷ rules) others e (inl p) = inl p
 broken_before (rule ∷ rules) others e (inr p) = inr (p.0, broken_before rules others e p.1)
 
--- more rules after the last change nothing of what is broken before them
+-- more rules after the last don't change what is broken before them
 pub early_in : {E : Type 0} (rules : List (E → Type 0)) (last : E → Type 0)
     (more : List (E → Type 0)) (e : E) → IsFirstBroken (rules ++ last ∷ []) e
     → IsFirstBroken (rules ++ last ∷ more) e
@@ -52,7 +52,7 @@ left_broken [] others e met p = p
 left_broken (rule ∷ rules) others e met (inl p) = absurd (met.0 e p)
 left_broken (rule ∷ rules) others e met (inr p) = left_broken rules others e met.1 p.1
 
--- an error that none of them tells
+-- an error that none of them reports
 abbrev pub NoneTells : {E : Type 0} → List (E → Type 0) → E → Type 0
 NoneTells [] e = ⊤
 NoneTells (rule ∷ rules) e = (rule e → ⊥) × NoneTells rules e

@@ -1,4 +1,5 @@
--- Values in order and the elements that spell them: one more, none left, and one that has no value.
+-- Values in order and the elements that encode them: one more, none left, and one that encodes no
+-- value.
 use Rattle.std.proofs.Common.{◌≡◌, ℕ, Result, Ok, Err, MatchResult, List, [], ◌∷◌, ◌++◌, refl, sym, ◌∙◌, ap, subst, append_assoc, append-nil, map, flat_map}
 use Rattle.std.proofs.lemmas.List.{map-append}
 use Rattle.std.proofs.lemmas.Grind.{flat_map-append}
@@ -29,7 +30,7 @@ first_more spells all rest rest' values values' element value so_far next one pu
   each = subst (AreEach spells (so_far.first ++ element ∷ [])) (sym pushed) (each_more spells so_far.first values element value so_far.each one);
 }
 
--- where nothing is left, all are given
+-- if nothing is left, all are returned
 pub first_all : {X : Type 0} (spells : DerElement → X → Type 0) (all rest : List DerElement) (values : List X)
     → AreFirst spells all rest values → rest ≡ [] → AreEach spells all values
 first_all spells all rest values so_far none =
@@ -42,7 +43,7 @@ each_without spells [] element after (v ∷ values) each none = none v each.0
 each_without spells (e ∷ before) element after [] each none = each
 each_without spells (e ∷ before) element after (v ∷ values) each none = each_without spells before element after values each.1 none
 
--- where the next element spells no value, all elements together spell none
+-- if the next element encodes no value, all elements together encode none
 pub first_without : {X : Type 0} (spells : DerElement → X → Type 0) (all rest rest' : List DerElement) (values values' : List X) (element : DerElement)
     → AreFirst spells all rest values → rest ≡ element ∷ rest' → ((value : X) → spells element value → ⊥) → AreEach spells all values' → ⊥
 first_without spells all rest rest' values values' element so_far next none each =
@@ -71,13 +72,13 @@ written_more written inner all rest rest' elements elements' value element so_fa
       };
     }
 
--- where nothing is left, all are written
+-- if nothing is left, all are written
 pub written_all : {X : Type 0} (written : X → DerElement) (inner : X → List DerElement) (all rest : List X) (elements : List DerElement)
     → AreFirstWritten written inner all rest elements → rest ≡ [] → AreWritten written inner all elements
 written_all written inner all rest elements so_far none =
     subst (λ values. AreWritten written inner values elements) (sym (so_far.parts ∙ ap (λ r. so_far.first ++ r) none ∙ append-nil so_far.first)) so_far.done
 
--- what keeps the next value from being written keeps all of them from it
+-- what prevents the next value from being written prevents all of them
 pub written_not : {X : Type 0} (written : X → DerElement) (inner : X → List DerElement) (all rest rest' : List X) (elements : List DerElement) (value : X) (e : DerError)
     → AreFirstWritten written inner all rest elements → rest ≡ value ∷ rest' → RefusesInner (inner value) e → RefusesInner (flat_map inner all) e
 written_not written inner all rest rest' elements value e so_far next refused =
@@ -98,7 +99,7 @@ list_around spells t tag kids holds (Err e) refused =
 
 -- ---- tests of all elements
 
--- the elements spell values where those that are left do
+-- the elements encode values if those that are left do
 pub first_fits : {X : Type 0} (spells : DerElement → X → Type 0) (all rest rest' : List DerElement) (element : DerElement)
     → (Fits (AreEach spells) rest → Fits (AreEach spells) all) → rest ≡ element ∷ rest' → Fits spells element → Fits (AreEach spells) rest' → Fits (AreEach spells) all
 first_fits spells all rest rest' element goes_on next one more = goes_on (one.0 ∷ more.0, subst (λ es. AreEach spells es (one.0 ∷ more.0)) (sym next) (one.1, more.1))

@@ -25,7 +25,7 @@ with_kids (Constructed t ks) tag kids same e =
     let these : listed ks ≡ kids = cc in
     ap (λ s. Constructed s ks) (sym same) ∙ ap (Constructed tag) (sym (row-listed ks) ∙ ap row these)
 
--- an element of the tag by its kids, where it has any
+-- an element of the tag by its kids, if it has any
 pub of_tag : {X : Type 0} (found : Option X) (kids : X → List DerElement) (t : DerElement) (tag : ℕ) → tag ≡ tag_of t → MatchOption found (kids_of t ≡ None) (λ x. kids_of t ≡ Some (kids x))
     → MatchOption found ((ks : DerElements) → t ≢ Constructed tag ks) (λ x. t ≡ Constructed tag (row (kids x)))
 of_tag None kids t tag same none = without_kids t none tag

@@ -1,4 +1,5 @@
--- Steps in a row: the first that can't be taken is that of the first part, or all of that part are taken.
+-- Steps in order: the first that can't be taken is that of the first part, or all of that part are
+-- taken.
 use Rattle.std.specs.Prelude.{⊤}
 use Rattle.std.proofs.Common.{◌≡◌, List, [], ◌∷◌, ◌++◌, inl, inr}
 use Rattle.der_core.specs.Steps.{Step, IsFirstUntaken, AreTaken, RefusesBySteps}
@@ -29,9 +30,9 @@ pub refused_within : {E : Type 0} (memory : E) (a b c : List (Step E)) (e : E) �
 refused_within memory a b c e (inl first) = inl (untaken_within a b c e first)
 refused_within memory a b c e (inr out) = inr out
 
--- ---- steps that tell one error each
+-- ---- steps with one error each
 
--- a step has one error, and none where it is taken
+-- a step has one error, and none if it can be taken
 pub record HasOneError {E : Type 0} (step : Step E) : Type 0 where
   pub one : (e other : E) → step.refused e → step.refused other → e ≡ other
   pub none : (e : E) → step.taken → step.refused e → ⊥

@@ -9,7 +9,7 @@ use Rattle.der_core.specs.Structure.{IsWithin}
 use Rattle.der_core.proofs.Exact.{whole_once}
 use Rattle.der_core.proofs.Parts.{refuses_as}
 
--- the value in the octets is that of the element that they are
+-- the value in the octets is that of the element that they encode
 pub within_here : {X : Type 0} (spells : DerElement → X → Type 0) (octets : List ℕ) (element : DerElement) (value : X) → IsDer element → octets ≡ encoding element → IsWithin spells octets value → spells element value
 within_here spells octets element value der is within =
     subst (λ e. spells e value) (whole_once octets within.element element within.der der within.encoded is) within.spelled

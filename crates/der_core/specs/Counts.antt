@@ -1,5 +1,5 @@
--- Counts of what happened: a count never falls, and stops at its last value. They are those of
--- timestampers, shelves and sinks, in the crates above.
+-- Counters: a count never falls, and stops at its last value. They count events of timestampers,
+-- shelves and sinks, in the crates above.
 use Rattle.std.specs.Prelude.{◌≡◌, ◌⊎◌, ◌<◌, ◌≤◌, ◌+◌, ℕ, min, max}
 
 -- the last value of a count of 64 bits
@@ -11,7 +11,7 @@ pub record GoesOn (before now : ℕ) : Type 0 where
   pub no_fall : before ≤ now
   pub fits : now ≤ last_count
 
--- it rose, or stands at its last value
+-- it rose, or is at its last value
 abbrev pub HasRisen : ℕ → ℕ → Type 0
 HasRisen before now = (before < now) ⊎ (now ≡ last_count)
 
@@ -19,7 +19,7 @@ HasRisen before now = (before < now) ⊎ (now ≡ last_count)
 abbrev pub RisesBy : (number before now : ℕ) → Type 0
 RisesBy number before now = now ≡ max before (min (before + number) last_count)
 
--- At most one of the calls failed: then the result reports it, and else the count stands.
+-- At most one of the calls failed: then the result reports it, and else the count is unchanged.
 pub record FailsOnce (HasFailed : Type 0) (before now : ℕ) : Type 0 where
   pub once : now ≤ before + 1
   pub reported : HasFailed ⊎ (now ≡ before)

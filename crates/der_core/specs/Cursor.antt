@@ -1,4 +1,4 @@
--- Octets read element by element where they lie.
+-- Borrowed octets, read element by element.
 use Rattle.std.specs.Prelude.{◌≡◌, ℕ, ◌+◌, ◌-◌, ◌≤◌, ◌<◌, List, ◌++◌, length}
 use Rattle.der_core.specs.DerElement.{DerElement}
 use Rattle.der_core.specs.Encoding.{nesting, most_levels}
@@ -10,7 +10,7 @@ pub record BeginsAt (level : ℕ) (octets : List ℕ) (element : DerElement) (n 
   pub first : IsFirst octets element n
   pub nested : nesting element + level ≤ most_levels + 1
 
--- An element goes from the octets that are left, and the place is the one after it.
+-- An element is taken off the octets that are left, and the offset moves past it.
 pub record MovesPast (whole rest rest_now : List ℕ) (place place_now : ℕ) : Type 0 where
   pub gone : rest ≡ whole ++ rest_now
   pub placed : place_now ≡ place + length whole

@@ -1,5 +1,5 @@
--- Data values of X.690 as data: an element is primitive, with contents octets, or constructed, with
--- elements in order (X.690 8.1.1).
+-- Elements (X.690 8.1.1): an element is primitive, with contents octets, or constructed, with
+-- elements in order.
 use Rattle.std.specs.Prelude.{ℕ, ◌+◌, List, [], ◌∷◌, Option, Some, None}
 
 -- An element's tag is its identifier octet.
@@ -37,7 +37,7 @@ abbrev pub kids_of : DerElement → Option (List DerElement)
 kids_of (Primitive tag content) = None
 kids_of (Constructed tag kids) = Some (listed kids)
 
--- how many elements there are, itself among them
+-- how many elements there are, itself included
 abbrev mutual
   pub element_count : DerElement → ℕ
   element_count (Primitive tag content) = 1

@@ -1,4 +1,4 @@
--- Values of one structure in order, and the elements that spell them.
+-- Values of one structure in order, and the elements that encode them.
 use Rattle.std.specs.Prelude.{◌≡◌, ⊤, ℕ, List, [], ◌∷◌, map, flat_map}
 use Rattle.der_core.specs.DerElement.{DerElement, Constructed, row}
 use Rattle.der_core.specs.Encoding.{IsWellFormed}
@@ -8,7 +8,7 @@ use Rattle.der_core.specs.Placed.{AreDer}
 abbrev pub Prints : {X : Type 0} → (X → DerElement) → DerElement → X → Type 0
 Prints written element value = element ≡ written value
 
--- each element spells the value at its place, and there are as many of them
+-- each element encodes the value at its index, and there are as many of them
 abbrev pub AreEach : {X : Type 0} → (DerElement → X → Type 0) → List DerElement → List X → Type 0
 AreEach spells [] [] = ⊤
 AreEach spells [] (value ∷ values) = ⊥

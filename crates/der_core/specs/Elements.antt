@@ -7,7 +7,7 @@ use Rattle.der_core.specs.DerElement.{DerElement, Primitive, Constructed, row}
 abbrev pub sequence : List DerElement → DerElement
 sequence kids = Constructed 0x30 (row kids)
 
--- SET OF, its members in the order that stands (X.690 8.12)
+-- SET OF, its members in the order given (X.690 8.12)
 abbrev pub set : List DerElement → DerElement
 set kids = Constructed 0x31 (row kids)
 
@@ -27,12 +27,12 @@ octet_string octets = Primitive 0x04 octets
 abbrev pub explicit : ℕ → DerElement → DerElement
 explicit tag kid = Constructed tag (row (kid ∷ []))
 
--- a primitive element of the tag, where there are contents
+-- a primitive element of the tag, if there are contents
 abbrev pub optional_leaf : ℕ → Option (List ℕ) → List DerElement
 optional_leaf tag None = []
 optional_leaf tag (Some content) = Primitive tag content ∷ []
 
--- an element under the explicit tag, where there is one
+-- the element under the explicit tag, if there is one
 abbrev pub optional_explicit : ℕ → Option DerElement → List DerElement
 optional_explicit tag None = []
 optional_explicit tag (Some kid) = explicit tag kid ∷ []

@@ -30,11 +30,11 @@ abbrev mutual
 abbrev pub IsTag : ℕ → Type 0
 IsTag tag = (tag < 256) × (tag ≢ 0) × (tag % 32 ≢ 31)
 
--- Bit 6 of the identifier octet says which form an element has (X.690 8.1.2.5).
+-- Bit 6 of the identifier octet says whether an element is constructed (X.690 8.1.2.5).
 abbrev pub form_bit : ℕ → ℕ
 form_bit tag = tag / 32 % 2
 
--- each tag is one, and says the form that its element has
+-- each tag is valid, and has the form of its element
 abbrev mutual
   pub IsWellFormed : DerElement → Type 0
   IsWellFormed (Primitive tag content) = IsTag tag × (form_bit tag ≡ 0)
@@ -44,7 +44,7 @@ abbrev mutual
   AreWellFormed Nil = Unit {0}
   AreWellFormed (Cons kid kids) = IsWellFormed kid × AreWellFormed kids
 
--- A primitive element and an empty constructed one have nesting 1, another one more than its
+-- A primitive element and an empty constructed one have nesting 1, any other one more than its
 -- deepest kid.
 abbrev mutual
   pub nesting : DerElement → ℕ
@@ -55,7 +55,7 @@ abbrev mutual
   deepest Nil = 0
   deepest (Cons kid kids) = max (nesting kid) (deepest kids)
 
--- no contents pass 4,294,967,295 octets
+-- no contents have more than 4,294,967,295 octets
 abbrev mutual
   pub IsShort : DerElement → Type 0
   IsShort (Primitive tag content) = length content < 2 ^ 32
@@ -72,16 +72,16 @@ pub record IsDerWithin (levels : ℕ) (element : DerElement) : Type 0 where
   pub nested : nesting element ≤ levels
   pub short : IsShort element
 
--- how many levels elements have at most, one within the other
+-- the most levels of an element, itself included
 abbrev pub most_levels : ℕ
 most_levels = 64
 
--- Well formed and in bounds: at most so many levels.
+-- Well formed and within limits: at most so many levels.
 abbrev pub IsDer : DerElement → Type 0
 IsDer element = IsDerWithin most_levels element
 
--- The octets are the encoding of the element, and at most seven zeros after it, as the alignment of
--- a WIN_CERTIFICATE leaves them.
+-- The octets are the encoding of the element and at most seven zeros after it, the padding of a
+-- WIN_CERTIFICATE.
 abbrev pub IsPaddedEncoding : List ℕ → DerElement → Type 0
 IsPaddedEncoding octets element =
     IsDer element × (zeros : ℕ) × (zeros ≤ 7) × (octets ≡ encoding element ++ replicate zeros 0)

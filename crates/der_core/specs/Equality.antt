@@ -1,4 +1,4 @@
--- Values are compared by the octets of the elements that are written for them.
+-- Values are compared by their encodings.
 use Rattle.std.specs.Prelude.{Bool, bytes_eq}
 use Rattle.std.specs.Ordering.{on}
 use Rattle.der_core.specs.DerElement.{DerElement}

@@ -7,7 +7,7 @@ use Rattle.der_core.specs.declared.fault.DerFault.{DerFault}
 use Rattle.der_core.specs.declared.fault.DerFault.TheVariants as faults
 use Rattle.der_core.specs.declared.fault.Malformed.{Malformed}
 
--- what the first test that octets fail is called
+-- the text of each fault
 abbrev pub fault_text : DerFault → List ℕ
 fault_text faults.Truncated = codes "the octets end within the element"
 fault_text faults.ReservedTag = codes "the reserved tag 0"
@@ -19,7 +19,7 @@ fault_text faults.TooDeep = codes "an element nested deeper than 64 levels"
 fault_text faults.Overrun = codes "an element that runs past the end of the one around it"
 fault_text faults.Trailing = codes "octets after the element"
 
--- the fault, and its place
+-- the fault and its offset
 abbrev pub malformed_text : Malformed → List ℕ
 malformed_text malformed = fault_text malformed.fault ++ codes " at octet " ++ decimal malformed.at
 

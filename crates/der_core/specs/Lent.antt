@@ -1,15 +1,15 @@
--- Elements that may be left out, where their octets lie and as they are kept.
+-- Elements that may be absent, borrowed and owned.
 use Rattle.std.specs.Prelude.{Option, Some, None}
 use Rattle.der_core.specs.DerElement.{DerElement}
 use Rattle.der_core.specs.Kept.{KeptElement}
 use Rattle.der_core.specs.declared.elem.Elem.{Elem}
 
--- the element that lies there
+-- the borrowed element
 abbrev pub at_option : Option Elem → Option DerElement
 at_option None = None
 at_option (Some elem) = Some elem.is.0
 
--- the element that is kept
+-- the owned element
 abbrev pub kept_option : Option KeptElement → Option DerElement
 kept_option None = None
 kept_option (Some kept) = Some kept.element

@@ -1,4 +1,4 @@
--- What octets begin with, as far as a reader of trees asks.
+-- What octets begin with, for a reader of trees.
 use Rattle.std.specs.Prelude.{◌≡◌, ℕ, ◌+◌, ◌<◌, ◌≤◌, ◌⊎◌, List, ◌++◌, length, take}
 use Rattle.der_core.specs.declared.error.DerError.{DerError}
 use Rattle.der_core.specs.declared.fault.DerFault.{DerFault}
@@ -26,33 +26,32 @@ pub record IsFirst (octets : List ℕ) (element : DerElement) (n : ℕ) : Type 0
   pub many : n ≡ length (encoding element)
   pub front : take n octets ≡ encoding element
 
--- No front of the octets is the encoding of an element that is read.
+-- No prefix of the octets is the encoding of an element that is read.
 abbrev pub HasNoFirst : List ℕ → Type 0
 HasNoFirst octets = (element : DerElement) (n : ℕ) → IsFirst octets element n → ⊥
 
--- Octets follow the first element, from a place on.
+-- Octets follow the first element; this is the offset of the first of them.
 pub record HasTrailing (octets : List ℕ) (place : ℕ) : Type 0 where
   pub element : DerElement
   pub first : IsFirst octets element place
   pub more : place < length octets
 
--- What is wrong with octets that are not one element: their first fault, or octets after the
--- element.
+-- What is wrong with octets that aren't one element: their first fault, or trailing octets.
 abbrev pub IsExactFault : List ℕ → ℕ → DerFault → Type 0
 IsExactFault octets place fault =
     IsFirstFault octets place fault ⊎ ((fault ≡ Trailing) × HasTrailing octets place)
 
--- No encoding is a proper front of another: where two encodings begin the same octets they are of
+-- No encoding is a proper prefix of another: if two encodings begin the same octets, they are of
 -- one element.
 abbrev pub IsPrefixFree : Type 0
 IsPrefixFree =
     (a b : DerElement) (x y : List ℕ) → IsDer a → IsDer b → encoding a ++ x ≡ encoding b ++ y
     → (a ≡ b) × (x ≡ y)
 
--- The fault is at a place, counted from where its octets begin.
+-- The reported offset is `at` plus the offset of the fault in its octets.
 abbrev pub IsFaultFrom : ℕ → (ℕ → DerFault → Type 0) → Malformed → Type 0
 IsFaultFrom at Fault m = (k : ℕ) × (m.at ≡ at + k) × Fault k m.fault
 
--- A reader refuses for want of memory, or with a fault at a place.
+-- The error of a reader is out of memory, or a fault at an offset.
 abbrev pub RefusesMalformed : (ℕ → DerFault → Type 0) → DerError → Type 0
 RefusesMalformed Fault = Refuses Fault ⊥ ⊥ ⊥

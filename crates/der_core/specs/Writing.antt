@@ -1,4 +1,4 @@
--- What writing a tree answers.
+-- The errors of writing a tree.
 use Rattle.std.specs.Prelude.{◌<◌, ◌≤◌}
 use Rattle.der_core.specs.DerElement.{DerElement}
 use Rattle.der_core.specs.Causes.{NoFault, Refuses}
@@ -11,6 +11,6 @@ RefusesToWrite element =
     Refuses NoFault ⊥ (most_levels < nesting element)
     ((nesting element ≤ most_levels) × (IsShort element → ⊥))
 
--- Only long contents and want of memory keep a part from being written.
+-- Only contents that are too long, or out of memory, prevent a part from being written.
 abbrev pub RefusesLong : Type 0 → DerError → Type 0
 RefusesLong short = Refuses NoFault ⊥ ⊥ (short → ⊥)

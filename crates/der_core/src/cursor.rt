@@ -1,4 +1,4 @@
-//! Octets read element by element where they lie.
+//! A cursor over DER elements in borrowed octets.
 
 ghost use Rattle.std.specs.Prelude.{◌≡◌, ◌≢◌, ◌↔◌, ℕ, ◌+◌, ◌<◌, ◌≤◌, ◌^◌, [], length, Ok, Err, Some, None, IfOk, IfSome, IfErr, IsOk, MatchOption, MatchResult};
 ghost use Rattle.der_core.specs.DerElement.{DerElement};
@@ -15,9 +15,9 @@ use crate::header::is_constructed;
 use crate::kids::Kids;
 use crate::testing::first_from;
 
-/// Octets that are read element by element where they lie, without memory: those that are left,
-/// the place of the first of them, and the level of the elements: 1 where octets were handed in, 2
-/// within an element that was tested, however deep.
+/// Borrowed octets, read element by element without allocating: the octets that are left, the
+/// offset of the first of them, and the level of the elements: 1 for octets that were handed in, 2
+/// inside an element that was tested, however deep.
 #[derive(Clone, Copy, Debug)]
 pub struct Cursor<'a> {
     rest: &'a [u8],
@@ -29,7 +29,7 @@ pub struct Cursor<'a> {
 }
 
 impl<'a> Cursor<'a> {
-    /// All of the octets, at place 0 and level 1.
+    /// A cursor over all of the octets, at offset 0 and level 1.
     pub fn new(bytes: &'a [u8]) -> Cursor<'a>
         ensures rest { result.rest.now ≡ bytes.now }
         ensures place { result.place ≡ 0 }
@@ -49,14 +49,14 @@ impl<'a> Cursor<'a> {
         self.rest
     }
 
-    /// How many octets stood before those that are left.
+    /// The offset of the octets that are left: how many were read before them.
     pub fn place(&self) -> usize
         ensures { result ≡ self.now.place }
     {
         self.place
     }
 
-    /// The level of the elements: 1 where octets were handed in, 2 within an element that was
+    /// The level of the elements: 1 for octets that were handed in, 2 inside an element that was
     /// tested, however deep.
     pub fn level(&self) -> u8
         ensures { result ≡ self.now.level }
@@ -64,22 +64,22 @@ impl<'a> Cursor<'a> {
         self.level
     }
 
-    /// The next element, `None` exactly where no octets are left. Octets that begin with none are
-    /// refused with their first fault, and again by the next call. What was tested isn't tested
-    /// again: of the contents of an element the heads alone are read, and nothing is refused.
+    /// The next element, `None` exactly if no octets are left. Octets that don't begin with an
+    /// element are refused with their first fault, again on each further call. Inside an element
+    /// that was tested only heads are read, and nothing is refused.
     pub fn next(&mut self) -> Result<Option<Elem<'a>>, Malformed>
         ensures end { (result ≡ Ok None) ↔ (self.old.rest.now ≡ []) }
-        // What is given is the element that the octets begin with.
+        // The element returned is the one that the octets begin with.
         ensures given { IfOk result (λ next. IfSome next (λ elem. BeginsAt self.old.level
             self.old.rest.now elem.is.0 (length elem.whole.now))) }
         ensures moved { IfOk result (λ next. IfSome next (λ elem. MovesPast elem.whole.now
             self.old.rest.now self.new.rest.now self.old.place self.new.place)) }
-        // The element that the octets begin with is given.
+        // If the octets begin with an element, it is returned.
         ensures only { (element : DerElement) (n : ℕ)
             → BeginsAt self.old.level self.old.rest.now element n
             → IsOk result
             × IfOk result (λ next. (next ≢ None) × IfSome next (λ elem. elem.is.0 ≡ element)) }
-        // It refuses with the first fault, its place counted on from the cursor's.
+        // The error is the first fault; its offset counts from where the cursor began.
         ensures refused { IfErr result
             (IsFaultFrom self.old.place (IsFirstFault self.old.rest.now)) }
         ensures faulty { (k : ℕ) (fault : DerFault) → self.old.rest.now ≢ []
@@ -87,7 +87,7 @@ impl<'a> Cursor<'a> {
             → result ≡ Err (record { at = self.old.place + k; fault = fault }) }
         ensures never { 1 < self.old.level → IsOk result }
         ensures level { self.new.level ≡ self.old.level }
-        // Where no element is given, nothing changes.
+        // If no element is returned, nothing changes.
         ensures none { result ≡ Ok None
             → (self.new.rest.now ≡ self.old.rest.now) × (self.new.place ≡ self.old.place) }
         ensures stays { IfErr result
@@ -126,8 +126,8 @@ impl<'a> Cursor<'a> {
 }
 
 impl<'a> Elem<'a> {
-    /// The contents octets as elements, `None` exactly for a primitive element. Their places count
-    /// from the first of the contents octets.
+    /// The contents octets as elements, `None` exactly for a primitive element. Offsets count from
+    /// the first contents octet.
     pub fn kids(&self) -> Option<Cursor<'a>>
         ensures { MatchOption result (form_bit self.now.tag ≢ 1)
             (λ cursor. (form_bit self.now.tag ≡ 1) × (cursor.rest.now ≡ self.now.content.now)

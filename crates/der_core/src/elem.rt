@@ -1,10 +1,10 @@
-//! Elements where their octets lie.
+//! Borrowed elements.
 
 ghost use Rattle.der_core.specs.Placed.{HasElem};
 ghost use Rattle.der_core.specs.Facts.Placed.{HasElem-prop};
 
-/// An element in bounds where its octets lie: its identifier octet, all of its octets, and its
-/// contents octets (X.690 8.1.1).
+/// A borrowed element within limits: its identifier octet, all of its octets, and its contents
+/// octets (X.690 8.1.1).
 #[derive(Clone, Copy, Debug)]
 pub struct Elem<'a> {
     pub tag: u8,

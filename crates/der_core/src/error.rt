@@ -1,4 +1,4 @@
-//! Why octets are not read, or a tree is not written.
+//! Why octets aren't read, or a tree isn't written.
 
 ghost use Rattle.std.specs.Prelude.{◌≡◌, Some};
 ghost use Rattle.der_core.specs.ErrorText.{der_error_text};
@@ -9,18 +9,18 @@ use std::alloc::{AllocError, AllocFailed};
 use std::fmt;
 use thiserror::Error;
 
-/// Why octets are not read, or a tree is not written.
+/// Why octets aren't read, or a tree isn't written.
 #[derive(Clone, Copy, Debug, PartialEq, Eq, Error)]
 pub enum DerError {
-    /// The octets are no element of the distinguished encoding rules.
+    /// The octets aren't a DER element (X.690).
     Malformed(Malformed),
-    /// The element is not of the structure that is read.
+    /// The element doesn't have the structure that is read.
     Shape,
     /// The tree to be written has more than 64 levels.
     TooDeep,
-    /// Some contents of the tree to be written pass 4,294,967,295 octets.
+    /// Some contents in the tree to be written have more than 4,294,967,295 octets.
     TooLong,
-    /// There was no memory left.
+    /// Out of memory.
     Memory,
 }
 

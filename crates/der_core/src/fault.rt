@@ -1,4 +1,4 @@
-//! What is wrong with octets that are not an element, and where.
+//! What is wrong with octets that aren't an element, and where.
 
 ghost use Rattle.std.specs.Prelude.{Some};
 ghost use Rattle.der_core.specs.ErrorText.{fault_text, malformed_text};
@@ -6,31 +6,31 @@ ghost use Rattle.der_core.specs.ErrorText.{fault_text, malformed_text};
 use std::fmt;
 use thiserror::Error;
 
-/// The first test that octets fail: of an element, or that none follow it.
+/// The first test that fails: a test of an element, or that no octets follow it.
 #[derive(Clone, Copy, Debug, PartialEq, Eq, Error)]
 pub enum DerFault {
-    /// The octets end within the outermost element.
+    /// The octets end inside the outermost element.
     Truncated,
-    /// The identifier octet is zero.
+    /// The identifier octet is 00 (X.690 8.1.5).
     ReservedTag,
-    /// The tag number is 31 or above.
+    /// The tag number is 31 or above (X.690 8.1.2.4).
     HighTag,
-    /// The length is left open.
+    /// The length has the indefinite form (X.690 8.1.3.6).
     Indefinite,
-    /// The length has more octets than it needs.
+    /// The length isn't in its shortest form (X.690 10.1).
     NotShortest,
-    /// The length has more than four further octets.
+    /// The length has more than four subsequent octets (X.690 8.1.3.5).
     WideLength,
-    /// The element has 64 others around it.
+    /// The element is nested in 64 others.
     TooDeep,
-    /// An inner element runs over the contents that it is in.
+    /// An inner element runs past the end of the contents that it is in.
     Overrun,
     /// Octets follow the element.
     Trailing,
 }
 
-/// The first fault from left to right, and the place of the element that has it; of octets after
-/// the element theirs.
+/// The first fault from left to right, and the offset of the element that has it; for trailing
+/// octets, the offset of the first of them.
 #[derive(Clone, Copy, Debug, PartialEq, Eq, Error)]
 pub struct Malformed {
     pub at: usize,

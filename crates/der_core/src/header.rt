@@ -8,7 +8,7 @@ ghost use Rattle.der_core.specs.declared.fault.DerFault.TheVariants.{Truncated};
 use crate::fault::{DerFault, Malformed};
 use crate::tree::MAX_NESTING;
 
-/// An element as far as its head tells it, and the octets after it.
+/// An element as its head describes it, and the octets after it.
 #[derive(Clone, Copy)]
 pub struct Head<'a> {
     pub tag: u8,
@@ -32,8 +32,8 @@ pub fn is_constructed(tag: u8) -> bool
     tag >> 5 & 1 == 1
 }
 
-/// The head of the element that octets at a place begin with, or the first test of it that fails.
-/// The octets end where the element has to end at the latest.
+/// The head of the element that the octets, which are at offset `at`, begin with, or the first of
+/// its tests that fails. The element must end within `octets`.
 pub fn head_of(octets: &[u8], at: usize, levels: u8) -> Result<Head<'_>, Malformed>
     ensures { MatchResult result
         (λ head. (head_at levels octets.now ≡ Ok (head.tag, head.contents.now, head.rest.now))
@@ -46,9 +46,9 @@ pub fn head_of(octets: &[u8], at: usize, levels: u8) -> Result<Head<'_>, Malform
     }
 }
 
-/// The head that octets begin with, with all levels left, where no test of it fails, and whether
-/// the element is constructed. Which test fails is what `head_of` says: here the tag is tested
-/// last. The octets end where the element has to end at the latest.
+/// The head that the octets begin with, all levels being left, and whether the element is
+/// constructed; `None` if a test fails. `head_of` says which one: here the tag is tested last. The
+/// element must end within `octets`.
 #[inline(always)]
 pub fn sound_head(octets: &[u8]) -> Option<(Head<'_>, bool)>
     ensures { IfSome result
@@ -66,9 +66,8 @@ pub fn sound_head(octets: &[u8]) -> Option<(Head<'_>, bool)>
     Some((head, is_constructed))
 }
 
-/// Whether an element of this tag is constructed (X.690 8.1.2.5); `None` for 00 and for tags of the
-/// high form. Most tags are told by one test: they are those of primitive elements of the universal
-/// class.
+/// Whether an element of this tag is constructed (X.690 8.1.2.5); `None` for 00 and for tags in the
+/// high form. One test covers most tags: those of primitive elements of the universal class.
 #[inline(always)]
 fn sound_form(tag: u8) -> Option<bool>
     ensures { IfSome result (λ constructed. IsTag tag × (IsTrue constructed ↔ (form_bit tag ≡ 1))) }
@@ -77,7 +76,7 @@ fn sound_form(tag: u8) -> Option<bool>
     if tag.wrapping_sub(1) < 0x1E {
         return Some(false);
     }
-    // Those with bit 6 and a number below 31.
+    // Tags with bit 6 and a number below 31.
     if (tag & 0x3F).wrapping_sub(0x20) < 0x1F {
         return Some(true);
     }
@@ -87,7 +86,7 @@ fn sound_form(tag: u8) -> Option<bool>
     Some(false)
 }
 
-/// The head of the element that octets are known to begin with: no test of it is made again.
+/// The head of the element that the octets are known to begin with: nothing is tested again.
 #[inline(always)]
 pub fn known_head(octets: &[u8]) -> Head<'_>
     requires { BeginsWithHead octets.now }
@@ -124,7 +123,7 @@ fn known_length(octets: &[u8]) -> (usize, &[u8])
     (long_length(digits), rest)
 }
 
-/// The length that the octets of its long form write (X.690 8.1.3.5), most often one or two.
+/// The length in the subsequent octets of the long form (X.690 8.1.3.5), most often one or two.
 #[inline(always)]
 fn long_length(digits: &[u8]) -> usize
     requires { length digits.now ≤ 4 }
@@ -137,7 +136,7 @@ fn long_length(digits: &[u8]) -> usize
     }
 }
 
-/// The same of any few, apart from where heads are read.
+/// The same for any few octets, out of line.
 #[cold]
 #[inline(never)]
 fn rare_length(digits: &[u8]) -> usize
@@ -176,7 +175,7 @@ fn tested_head(octets: &[u8], levels: u8) -> Result<Head<'_>, DerFault>
     })
 }
 
-/// What octets past the bound are a fault of.
+/// The fault of octets that run past the bound.
 #[inline(always)]
 fn past_bound_of(levels: u8) -> DerFault
     ensures { result ≡ past_bound levels }
@@ -188,7 +187,7 @@ fn past_bound_of(levels: u8) -> DerFault
     }
 }
 
-/// The length that octets begin with, contents of that length, and the octets after them.
+/// The contents of the length that the octets begin with, and the octets after them.
 #[tactic(auto, unfolding(crate::specs::Head::contents_at))]
 #[inline(always)]
 fn contents_within(octets: &[u8], past: DerFault) -> Result<(&[u8], &[u8]), DerFault>
@@ -203,7 +202,7 @@ fn contents_within(octets: &[u8], past: DerFault) -> Result<(&[u8], &[u8]), DerF
     Ok(octets.split_at(length))
 }
 
-/// The same where no test fails: contents, and the octets after them.
+/// The contents and the octets after them, `None` if a test fails.
 #[tactic(auto, unfolding(crate::specs::Head::contents_at))]
 #[inline(always)]
 fn sound_contents(octets: &[u8]) -> Option<(&[u8], &[u8])>
@@ -216,8 +215,8 @@ fn sound_contents(octets: &[u8]) -> Option<(&[u8], &[u8])>
     Some(octets.split_at(length))
 }
 
-/// The length that octets begin with, and the octets after it, where no test of it fails. Most
-/// lengths have one octet, three or two, which are looked for in this order.
+/// The length that the octets begin with, and the octets after it; `None` if a test fails. Most
+/// lengths have one octet, three or two, which are tried in this order.
 #[tactic(auto, unfolding(crate::specs::Head::length_at))]
 #[inline(always)]
 fn sound_length(octets: &[u8]) -> Option<(usize, &[u8])>
@@ -236,7 +235,7 @@ fn sound_length(octets: &[u8]) -> Option<(usize, &[u8])>
     length_of(octets, DerFault::Truncated).ok()
 }
 
-/// The length that octets begin with, and the octets after it (X.690 8.1.3).
+/// The length that the octets begin with, and the octets after it (X.690 8.1.3).
 #[tactic(auto, unfolding(crate::specs::Head::length_at))]
 #[inline(always)]
 fn length_of(octets: &[u8], past: DerFault) -> Result<(usize, &[u8]), DerFault>
@@ -260,7 +259,8 @@ fn length_of(octets: &[u8], past: DerFault) -> Result<(usize, &[u8]), DerFault>
     }
 }
 
-/// A length in `count` octets, which has to be at least the one that needs so many (X.690 10.1).
+/// A length in `count` octets, which must be at least the least number that needs so many (X.690
+/// 10.1).
 #[tactic(auto, unfolding(crate::specs::Head::long_length_at))]
 #[inline(always)]
 fn long_length_of(
@@ -285,7 +285,7 @@ fn long_length_of(
     Ok((length, rest))
 }
 
-/// The number that a few octets write, the most significant first.
+/// The number that a few octets encode, the most significant first.
 #[inline(always)]
 fn number_of(digits: &[u8]) -> usize
     requires { length digits.now ≤ 4 }

@@ -1,4 +1,4 @@
-//! The elements in an element, where their octets lie.
+//! The elements in a borrowed element.
 
 ghost use Rattle.std.specs.Prelude.{◌≡◌, ◌≢◌, ◌↔◌, IsTrue, [], ◌∷◌, Some, None, MatchOption};
 ghost use Rattle.der_core.specs.DerElement.{DerElement, DerElements, Primitive, Constructed, row, tag_of, kids_of};
@@ -17,7 +17,7 @@ use crate::structure::Structure;
 use crate::tag::BOOLEAN;
 use crate::tagging::explicit_at;
 
-/// Elements in bounds, one after another, that aren't read yet.
+/// Borrowed elements within limits, one after another, that aren't read yet.
 #[derive(Clone, Copy, Debug)]
 pub struct Kids<'a> {
     pub(crate) rest: &'a [u8],
@@ -25,7 +25,7 @@ pub struct Kids<'a> {
 }
 
 impl<'a> Kids<'a> {
-    /// The elements in an element, `None` exactly for a primitive one.
+    /// The elements in an element, `None` exactly for a primitive element.
     pub fn within(elem: Elem<'a>) -> Option<Kids<'a>>
         ensures { MatchOption result
             (kids_of elem.entry.is.0 ≡ None)
@@ -45,8 +45,8 @@ impl<'a> Kids<'a> {
         self.rest.is_empty()
     }
 
-    /// How many elements are left, to make room for them: nothing is promised of it. Their heads
-    /// alone are read.
+    /// How many elements are left, to reserve capacity: nothing is promised. Only their heads are
+    /// read.
     pub(crate) fn room(mut self) -> usize {
         let mut count = 0usize;
         while self.next().is_some() {
@@ -55,7 +55,7 @@ impl<'a> Kids<'a> {
         count
     }
 
-    /// The next element. Its head alone is read.
+    /// The next element, `None` if none is left. Only its head is read.
     #[inline(always)]
     pub fn next(&mut self) -> Option<Elem<'a>>
         ensures { MatchOption result
@@ -75,7 +75,7 @@ impl<'a> Kids<'a> {
         })
     }
 
-    /// The elements in a constructed element of this tag.
+    /// The elements in a constructed element of this tag, `None` for any other element.
     pub fn of(elem: Elem<'a>, tag: u8) -> Option<Kids<'a>>
         ensures { MatchOption result
             ((kids : DerElements) → elem.entry.is.0 ≢ Constructed tag kids)
@@ -87,7 +87,7 @@ impl<'a> Kids<'a> {
         Kids::within(elem)
     }
 
-    /// The next element, where it has this tag. One of another tag is left.
+    /// The next element if it has this tag, else `None`; then nothing is consumed.
     #[inline(always)]
     pub fn next_tagged(&mut self, tag: u8) -> Option<Elem<'a>>
         ensures { MatchOption result
@@ -103,7 +103,8 @@ impl<'a> Kids<'a> {
         Some(elem)
     }
 
-    /// The next element, where it has the shape of a structure. One of another shape is left.
+    /// The next element if it has the shape of the structure, else `None`; then nothing is
+    /// consumed.
     #[inline(always)]
     pub fn next_as<T: Structure>(&mut self) -> Option<Elem<'a>>
         ensures { MatchOption result
@@ -119,8 +120,9 @@ impl<'a> Kids<'a> {
         Some(elem)
     }
 
-    /// The flag of a BOOLEAN DEFAULT FALSE, given or left out (X.690 8.2, 11.5). FALSE is read
-    /// where it is given, too, and TRUE in any octet but 00. A BOOLEAN of another length is left.
+    /// The flag of a BOOLEAN DEFAULT FALSE, present or absent (X.690 8.2, 11.5). An encoded FALSE
+    /// is accepted, too, and any octet but 00 for TRUE. `None` for a BOOLEAN of another length,
+    /// which isn't consumed.
     pub fn next_default_false(&mut self) -> Option<bool>
         ensures { MatchOption result
             ((self.new.are.0 ≡ self.old.are.0) × HasBadFlag self.old.are.0)
@@ -135,8 +137,8 @@ impl<'a> Kids<'a> {
         Some(b)
     }
 
-    /// The contents octets of the next element, where it has this tag, which is one of primitive
-    /// elements. One of another tag is left.
+    /// The contents octets of the next element if it has this tag, which is of primitive elements;
+    /// else `None`, and nothing is consumed.
     pub fn next_leaf(&mut self, tag: u8) -> Option<&'a [u8]>
         requires { form_bit tag ≡ 0 }
         ensures { MatchOption result
@@ -147,8 +149,8 @@ impl<'a> Kids<'a> {
         Some(elem.content)
     }
 
-    /// The element in the next one, where that has this explicit tag; `Some(None)` where there is
-    /// none of the tag. One of the tag that doesn't hold one element is left.
+    /// The element inside the next one if that has this explicit tag; `Some(None)` if the tag is
+    /// absent. `None` if it doesn't hold exactly one element; then nothing is consumed.
     pub fn next_explicit(&mut self, tag: u8) -> Option<Option<Elem<'a>>>
         ensures { MatchOption result
             ((self.new.are.0 ≡ self.old.are.0) × HasBadTagging tag self.old.are.0)
@@ -163,7 +165,7 @@ impl<'a> Kids<'a> {
         Some(Some(inner))
     }
 
-    /// There are no further elements.
+    /// `Some` if no elements are left.
     pub fn end(&self) -> Option<()>
         ensures { MatchOption result (HasMore self.now.are.0) (λ _. self.now.are.0 ≡ []) }
     {
@@ -171,7 +173,7 @@ impl<'a> Kids<'a> {
     }
 }
 
-/// The elements in a constructed element of this tag that holds two.
+/// The two elements in a constructed element of this tag, `None` for any other element.
 #[inline(always)]
 pub fn two_kids<'a>(elem: Elem<'a>, tag: u8) -> Option<(Elem<'a>, Elem<'a>)>
     ensures { MatchOption result
@@ -186,7 +188,7 @@ pub fn two_kids<'a>(elem: Elem<'a>, tag: u8) -> Option<(Elem<'a>, Elem<'a>)>
     Some((first, second))
 }
 
-/// The elements in a constructed element of this tag that holds three.
+/// The three elements in a constructed element of this tag, `None` for any other element.
 #[inline(always)]
 pub fn three_kids<'a>(elem: Elem<'a>, tag: u8) -> Option<(Elem<'a>, Elem<'a>, Elem<'a>)>
     ensures { MatchOption result

@@ -18,12 +18,12 @@ use crate::tree::Tree;
 use crate::writing::write;
 use std::alloc::Global;
 
-/// No encoding is a proper front of another.
+/// No encoding is a proper prefix of another.
 pub fn no_encoding_begins_another()
     ensures { IsPrefixFree }
 {}
 
-/// Octets have at most one first fault, and they have one exactly where they begin with no element.
+/// Octets have at most one first fault, and have one exactly if they don't begin with an element.
 pub fn one_first_fault()
     ensures at_most_one { (octets : List ℕ) (p q : ℕ) (e f : DerFault) → IsFirstFault octets p e
         → IsFirstFault octets q f → (p ≡ q) × (e ≡ f) }
@@ -33,8 +33,8 @@ pub fn one_first_fault()
         → (p : ℕ) × (e : DerFault) × IsFirstFault octets p e }
 {}
 
-/// The tests of an element's head hold of exactly those octets that begin with a tag, the shortest
-/// length of some contents, and these.
+/// The tests of a head pass for exactly those octets that begin with a tag, the shortest form of a
+/// length, and contents of that length.
 pub fn tests_of_a_head()
     ensures only_of_a_head { (levels tag : ℕ) (octets contents rest : List ℕ) → IsOctets octets
         → head_at levels octets ≡ Ok (tag, contents, rest)
@@ -44,7 +44,7 @@ pub fn tests_of_a_head()
         → head_at levels octets ≡ Ok (tag, contents, rest) }
 {}
 
-/// What is written is read as the same tree.
+/// Reading what was written gives the same tree.
 pub fn read_back(alloc: Global, tree: &Tree) -> Result<Tree, DerError>
     requires { IsWellFormed tree.now }
     ensures back { MatchResult result (λ again. IsDer tree.now × (again ≡ tree.now))
@@ -55,8 +55,8 @@ pub fn read_back(alloc: Global, tree: &Tree) -> Result<Tree, DerError>
     read_exact(alloc, &octets)
 }
 
-/// Values of a structure are equal exactly where their octets are, and the octets that are written
-/// for a value spell it.
+/// Values of a structure are equal exactly if their encodings are, and the octets that are written
+/// for a value encode it.
 pub fn values_are_their_octets<T: Structure>()
     ensures equal { (a b : T) → AreDer (T.inner a) → AreDer (T.inner b)
         → (encoding (T.written a) ≡ encoding (T.written b)) ↔ (a ≡ b) }

@@ -1,4 +1,4 @@
-//! Primitive elements: their contents, and elements of contents.
+//! Primitive elements.
 
 ghost use Rattle.std.specs.Prelude.{◌≡◌, ◌≢◌, IfOk, List, ℕ, Bool, MatchOption};
 ghost use Rattle.der_core.specs.DerElement.{Primitive};
@@ -13,7 +13,7 @@ use crate::tag::{BIT_STRING, BOOLEAN};
 use crate::tree::Tree;
 use std::alloc::{AllocError, Global};
 
-/// The contents octets of a primitive element of this tag.
+/// The contents octets of a primitive element of this tag, `None` for any other element.
 pub fn leaf_at<'a>(elem: Elem<'a>, tag: u8) -> Option<&'a [u8]>
     ensures { MatchOption result
         ((content : List ℕ) → elem.entry.is.0 ≢ Primitive tag content)
@@ -28,7 +28,7 @@ pub fn leaf_at<'a>(elem: Elem<'a>, tag: u8) -> Option<&'a [u8]>
     }
 }
 
-/// The element is primitive, of this tag and these contents octets.
+/// `Some` if the element is primitive and has this tag and these contents octets.
 pub fn expect_leaf(elem: Elem<'_>, tag: u8, content: &[u8]) -> Option<()>
     ensures { MatchOption result
         (elem.entry.is.0 ≢ Primitive tag content.now)
@@ -42,7 +42,8 @@ pub fn expect_leaf(elem: Elem<'_>, tag: u8, content: &[u8]) -> Option<()>
     }
 }
 
-/// The octets of a BIT STRING whose last octet has no unused bits (X.690 8.6.2.2).
+/// The octets of a BIT STRING with no unused bits in its last octet (X.690 8.6.2.2), `None` for any
+/// other element.
 pub fn bit_octets_at<'a>(elem: Elem<'a>) -> Option<&'a [u8]>
     ensures { MatchOption result
         ((octets : List ℕ) → elem.entry.is.0 ≢ bit_octets octets)
@@ -54,7 +55,8 @@ pub fn bit_octets_at<'a>(elem: Elem<'a>) -> Option<&'a [u8]>
     }
 }
 
-/// The value of a BOOLEAN: one octet, zero for false, any other for true (X.690 8.2).
+/// The value of a BOOLEAN: one octet, zero for false, any other for true (X.690 8.2); `None` for
+/// any other element.
 pub fn boolean_at(elem: Elem<'_>) -> Option<bool>
     ensures { MatchOption result
         ((b : Bool) → IsBoolean elem.entry.is.0 b → ⊥)
@@ -67,7 +69,7 @@ pub fn boolean_at(elem: Elem<'_>) -> Option<bool>
     }
 }
 
-/// The primitive element of a tag and contents octets.
+/// The primitive element with this tag and a copy of the contents octets.
 pub fn leaf(alloc: Global, tag: u8, content: &[u8]) -> Result<Tree, AllocError>
     requires { IsTag tag × (form_bit tag ≡ 0) }
     ensures { IfOk result (λ tree. (tree ≡ Primitive tag content.now) × IsWellFormed tree) }
@@ -75,7 +77,7 @@ pub fn leaf(alloc: Global, tag: u8, content: &[u8]) -> Result<Tree, AllocError>
     Ok(Tree::leaf(tag, Octets::from_slice(alloc, content)?))
 }
 
-/// The BOOLEAN of a flag: FF for TRUE (X.690 11.1).
+/// The BOOLEAN element of a flag: FF for TRUE (X.690 11.1).
 pub fn write_boolean(alloc: Global, b: bool) -> Result<Tree, AllocError>
     ensures { IfOk result (λ tree. (tree ≡ boolean b) × IsWellFormed tree) }
 {

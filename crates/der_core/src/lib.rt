@@ -1,7 +1,7 @@
 //! The distinguished encoding rules of ASN.1 (X.690), as far as certificates and signatures need
 //! them: elements of definite length with tag numbers below 31, at most 64 levels deep. Elements
-//! are tested and lent where their octets lie, kept as octets, or built as trees; structures are
-//! read from octets by one grammar each, and written as trees.
+//! are tested and borrowed without copying, owned as raw octets, or built as trees; each structure
+//! has one grammar, by which it is read from octets and written as trees.
 #![tactic(auto)]
 
 mod cursor;

@@ -19,8 +19,8 @@ use std::alloc::{AllocError, Global};
 use std::marker::Model;
 use std::slice::Iter;
 
-/// Values in order. As a structure of its own a list is a SEQUENCE OF (X.690 8.10); a field that
-/// holds one may give it another tag. Contracts see the list of the values.
+/// Values of one structure in order: SEQUENCE OF (X.690 8.10), unless a field gives the list
+/// another tag. Contracts see the list of the values.
 #[derive(Debug, Drop)]
 pub struct ListOf<T> {
     items: Vec<T>,
@@ -38,7 +38,7 @@ impl<T> Model for ListOf<T> {
 }
 
 impl<T> ListOf<T> {
-    /// No values.
+    /// An empty list.
     pub fn new(alloc: Global) -> ListOf<T>
         ensures { result ≡ [] }
     {
@@ -47,7 +47,7 @@ impl<T> ListOf<T> {
         }
     }
 
-    /// No values, with room for so many.
+    /// An empty list with room for `capacity` values.
     pub fn with_capacity(alloc: Global, capacity: usize) -> Result<ListOf<T>, AllocError>
         ensures { IfOk result (λ list. list ≡ []) }
     {
@@ -67,7 +67,7 @@ impl<T> ListOf<T> {
         Ok(())
     }
 
-    /// Where the list takes its memory.
+    /// The allocator of the list.
     pub fn allocator(&self) -> Global {
         *self.items.allocator()
     }
@@ -104,7 +104,7 @@ impl<T> ListOf<T> {
 }
 
 impl<T: Structure> ListOf<T> {
-    /// A copy of the value.
+    /// A copy of the list.
     pub fn try_clone(&self, alloc: Global) -> Result<ListOf<T>, AllocError>
         ensures { IfOk result (λ copy. copy ≡ self.now) }
     {
@@ -126,7 +126,7 @@ impl<T: Eq> Eq for ListOf<T> {
     ghost laws = { lists_equiv T.Eq.laws };
 }
 
-/// Whether each of the elements spells a value.
+/// Whether each of the elements encodes a value.
 pub fn has_each<T: Structure>(mut kids: Kids<'_>) -> bool
     ensures fits { IsTrue result → Fits (AreEach T.spells) kids.entry.are.0 }
     ensures unfit { result ≡ false → (values : List T) → AreEach T.spells kids.entry.are.0 values
@@ -140,7 +140,8 @@ pub fn has_each<T: Structure>(mut kids: Kids<'_>) -> bool
     true
 }
 
-/// The values of the elements, one for each.
+/// The values of the elements, in order. Fails with `Shape`, if an element encodes none, or
+/// `Memory`.
 pub fn read_each<T: Structure>(alloc: Global, mut kids: Kids<'_>) -> Result<ListOf<T>, DerError>
     ensures { MatchResult result (AreEach T.spells kids.entry.are.0)
         (RefusesShape (AreEach T.spells kids.entry.are.0)) }
@@ -152,7 +153,8 @@ pub fn read_each<T: Structure>(alloc: Global, mut kids: Kids<'_>) -> Result<List
     Ok(values)
 }
 
-/// The elements of the values, one for each.
+/// The elements of the values, in order. Fails as `Structure::write` does for the first value that
+/// can't be written.
 pub fn write_each<T: Structure>(alloc: Global, values: &ListOf<T>) -> Result<NewKids, DerError>
     ensures { MatchResult result (λ new. AreWritten T.written T.inner values.now new.kids)
         (RefusesInner (flat_map T.inner values.now)) }
@@ -166,7 +168,7 @@ pub fn write_each<T: Structure>(alloc: Global, values: &ListOf<T>) -> Result<New
     Ok(kids)
 }
 
-/// A copy of each value.
+/// A copy of the list.
 pub fn copy_each<T: Structure>(alloc: Global, values: &ListOf<T>) -> Result<ListOf<T>, AllocError>
     ensures { IfOk result (λ copies. copies ≡ values.now) }
 {
@@ -177,7 +179,8 @@ pub fn copy_each<T: Structure>(alloc: Global, values: &ListOf<T>) -> Result<List
     Ok(copies)
 }
 
-/// Whether the element is a SEQUENCE OF or a SET OF such values, by its tag.
+/// Whether the element has this tag, of a SEQUENCE OF or a SET OF, and holds encodings of such
+/// values.
 pub fn has_list<T: Structure>(elem: Elem<'_>, tag: u8) -> bool
     ensures fits { IsTrue result → Fits (IsListOf tag T.spells) elem.entry.is.0 }
     ensures unfit { result ≡ false → (values : List T)
@@ -189,7 +192,8 @@ pub fn has_list<T: Structure>(elem: Elem<'_>, tag: u8) -> bool
     }
 }
 
-/// The values in a SEQUENCE OF or a SET OF, by its tag.
+/// The values in a SEQUENCE OF or a SET OF with this tag. Fails with `Shape` for any other element,
+/// or with `Memory`.
 pub fn read_list<T: Structure>(
     alloc: Global,
     elem: Elem<'_>,
@@ -204,7 +208,7 @@ pub fn read_list<T: Structure>(
     }
 }
 
-/// The SEQUENCE OF or the SET OF the values, by its tag.
+/// The SEQUENCE OF or the SET OF the values, with this tag. Fails as `write_each` does.
 pub fn write_list<T: Structure>(
     alloc: Global,
     values: &ListOf<T>,

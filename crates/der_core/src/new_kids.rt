@@ -8,7 +8,7 @@ ghost use Rattle.der_core.specs.Facts.InBounds.{AreWellFormed-prop};
 use crate::tree::{Tree, Trees};
 use std::alloc::{AllocError, Global};
 
-/// Elements in order, each well formed, of a constructed element that is being written.
+/// Well-formed elements in order, of a constructed element that is being written.
 #[derive(Drop)]
 pub struct NewKids {
     pub(crate) kids: Trees,
@@ -34,7 +34,7 @@ impl NewKids {
         self.kids.push(kid)
     }
 
-    /// The element around them.
+    /// The constructed element of this tag that holds them.
     pub fn into_branch(self, tag: u8) -> Tree
         requires { IsTag tag × (form_bit tag ≡ 1) }
         ensures branch { result ≡ Constructed tag (row self.kids) }

@@ -1,4 +1,4 @@
-//! Octets that a value owns.
+//! Owned octets.
 
 ghost use Rattle.std.specs.Prelude.{◌≡◌, ◌↔◌, IfOk, IsTrue, bytes_eq};
 ghost use Rattle.std.specs.Cmp.Lexicographic.{nat_list_eq_equiv};
@@ -7,7 +7,7 @@ ghost use Rattle.std.specs.Cmp.{partial_equiv_from_equiv};
 use std::alloc::{AllocError, Global};
 use std::marker::Model;
 
-/// Octets, seen by contracts as the list of them.
+/// Owned octets. Contracts see the list of them.
 #[derive(Debug, Drop)]
 pub struct Octets {
     bytes: Vec<u8>,
@@ -31,6 +31,7 @@ impl Octets {
         })
     }
 
+    /// The octets.
     pub fn as_slice(&self) -> &[u8]
         ensures { result.now ≡ self.now }
     {
@@ -44,14 +45,14 @@ impl Octets {
         Octets::from_slice(alloc, self.as_slice())
     }
 
-    /// Writes zeros over the octets, as over those of a secret, before they are given back.
+    /// Overwrites the octets with zeros before they are freed, for secrets.
     pub fn overwrite(self) {
         let Octets { mut bytes } = self;
         bytes.fill(0);
     }
 }
 
-/// The octets of a vector, which are not copied.
+/// Takes the vector's octets without copying them.
 impl From<Vec<u8>> for Octets {
     ghost from_gives = { λ bytes octets. octets ≡ bytes.items };
 
@@ -77,7 +78,7 @@ impl Eq for Octets {
     ghost laws = { nat_list_eq_equiv };
 }
 
-/// Whether the octets are the same.
+/// Whether the octets are equal.
 pub fn is_same(a: &[u8], b: &[u8]) -> bool
     ensures { IsTrue result ↔ (a.now ≡ b.now) }
 {

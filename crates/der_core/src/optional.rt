@@ -1,4 +1,4 @@
-//! Fields that are there, and fields that may be left out.
+//! Required and OPTIONAL fields.
 
 ghost use Rattle.std.specs.Prelude.{◌≡◌, ◌++◌, ◌∷◌, [], false, IsTrue, IfOk, OnOk, OnErr, MatchOption, MatchResult, Option};
 ghost use Rattle.std.specs.Option.{option_map, option_copied};
@@ -19,7 +19,7 @@ use crate::structure::Structure;
 use crate::tagging::explicit;
 use std::alloc::{AllocError, Global};
 
-/// Whether the element, where there is one, spells a value.
+/// Whether the element, if there is one, encodes a value.
 pub fn has_option<T: Structure>(elem: Option<Elem<'_>>) -> bool
     ensures fits { IsTrue result → Fits (SpellsOption T.spells) (at_option elem.entry) }
     ensures unfit { result ≡ false → (value : Option T)
@@ -31,7 +31,7 @@ pub fn has_option<T: Structure>(elem: Option<Elem<'_>>) -> bool
     }
 }
 
-/// The element spells a value.
+/// `Some` if the element encodes a value.
 pub fn expect<T: Structure>(elem: Elem<'_>) -> Option<()>
     ensures { MatchOption result
         ((value : T) → T.spells elem.entry.is.0 value → ⊥)
@@ -40,7 +40,7 @@ pub fn expect<T: Structure>(elem: Elem<'_>) -> Option<()>
     if T::has_shape(elem) { Some(()) } else { None }
 }
 
-/// The element, where there is one, spells a value.
+/// `Some` if the element encodes a value or there is none.
 pub fn expect_option<T: Structure>(elem: Option<Elem<'_>>) -> Option<()>
     ensures { MatchOption result
         ((value : Option T) → SpellsOption T.spells (at_option elem.entry) value → ⊥)
@@ -53,7 +53,8 @@ pub fn expect_option<T: Structure>(elem: Option<Elem<'_>>) -> Option<()>
     }
 }
 
-/// The value that the element spells, where there is one.
+/// The value that the element encodes, if there is one. Fails with `Shape`, if it encodes none, or
+/// `Memory`.
 pub fn read_option<T: Structure>(
     alloc: Global,
     elem: Option<Elem<'_>>,
@@ -68,7 +69,7 @@ pub fn read_option<T: Structure>(
     }
 }
 
-/// A copy of the value, where there is one.
+/// A copy of the value, if there is one.
 pub fn copy_option<T: Structure>(alloc: Global, value: &Option<T>) -> Result<Option<T>, AllocError>
     ensures { IfOk result (λ copy. copy ≡ value.now) }
 {
@@ -78,7 +79,7 @@ pub fn copy_option<T: Structure>(alloc: Global, value: &Option<T>) -> Result<Opt
     }
 }
 
-/// A copy of the octets, where there are any.
+/// A copy of the octets, unless they are `None`.
 pub fn copy_octets(alloc: Global, octets: Option<&[u8]>) -> Result<Option<Octets>, AllocError>
     ensures { IfOk result (λ copy. copy ≡ option_copied octets.entry) }
 {
@@ -88,7 +89,7 @@ pub fn copy_octets(alloc: Global, octets: Option<&[u8]>) -> Result<Option<Octets
     }
 }
 
-/// Appends the element of the value.
+/// Appends the element of the value. Fails as `Structure::write` does; then nothing is appended.
 pub fn push_value<T: Structure>(
     alloc: Global,
     kids: &mut NewKids,
@@ -103,7 +104,8 @@ pub fn push_value<T: Structure>(
     Ok(kids.push(value.write(alloc)?)?)
 }
 
-/// Appends the element of the value under an explicit tag, where there is one.
+/// Appends the element of the value under an explicit tag, unless the value is `None`. Fails as
+/// `Structure::write` does; then nothing is appended.
 pub fn push_explicit<T: Structure>(
     alloc: Global,
     kids: &mut NewKids,
@@ -124,7 +126,7 @@ pub fn push_explicit<T: Structure>(
     Ok(())
 }
 
-/// Appends a primitive element of the octets, where there are any.
+/// Appends a primitive element with these contents octets, unless they are `None`.
 pub fn push_leaf(
     alloc: Global,
     kids: &mut NewKids,

@@ -1,4 +1,4 @@
-//! Elements that are kept as octets.
+//! Elements owned as raw octets.
 
 ghost use Rattle.std.specs.Prelude.{◌≡◌, ◌↔◌, ◌<◌, Err, IfOk, IsTrue, MatchResult};
 ghost use Rattle.der_core.specs.DerElement.{tag_of};
@@ -20,7 +20,7 @@ use crate::writing::write;
 use std::alloc::{AllocError, Global};
 use std::marker::Model;
 
-/// One element, kept with its octets. Contracts see it as the element, which is in bounds.
+/// One element, owned as its raw octets. Contracts see the element, which is within limits.
 #[derive(Debug, Drop)]
 pub struct Raw {
     octets: Vec<u8>,
@@ -39,25 +39,25 @@ impl Model for Raw {
 }
 
 impl Raw {
-    /// The element of a tree, kept as its encoding. It is refused as `write` refuses it.
+    /// The encoding of the tree. The errors are those of `write`.
     pub fn from_tree(alloc: Global, tree: &Tree) -> Result<Raw, DerError>
         requires { IsWellFormed tree.now }
         ensures kept { MatchResult result (λ raw. IsDer tree.now × (raw.element ≡ tree.now))
             (RefusesToWrite tree.now) }
-        // Depth is looked at before memory is asked for.
+        // The depth is checked before memory is allocated.
         ensures deep { most_levels < nesting tree.now → result ≡ Err errors.TooDeep }
     {
         Ok(Raw::keep(write(alloc, tree)?))
     }
 
-    /// The element that lies in octets, kept as a copy of them.
+    /// A copy of the octets of a borrowed element.
     pub fn from_elem(alloc: Global, elem: Elem<'_>) -> Result<Raw, AllocError>
         ensures { IfOk result (λ raw. raw.element ≡ elem.entry.is.0) }
     {
         Ok(Raw::keep(Vec::from_slice(alloc, elem.whole)?))
     }
 
-    /// The kept element, where its octets lie.
+    /// The element, borrowed.
     pub fn elem(&self) -> Elem<'_>
         ensures { result.is.0 ≡ self.now.element }
     {
@@ -68,28 +68,28 @@ impl Raw {
         }
     }
 
-    /// The tree that was kept.
+    /// The element as a tree.
     pub fn tree(&self, alloc: Global) -> Result<Tree, AllocError>
         ensures { IfOk result (λ tree. tree ≡ self.now.element) }
     {
         tree_of(alloc, self.elem())
     }
 
-    /// The octets of the kept element.
+    /// The octets of the element.
     pub fn as_bytes(&self) -> &[u8]
         ensures { result.now ≡ encoding self.now.element }
     {
         &self.octets
     }
 
-    /// The identifier octet of the kept element.
+    /// The identifier octet of the element.
     pub fn tag(&self) -> u8
         ensures { result ≡ tag_of self.now.element }
     {
         self.elem().tag
     }
 
-    /// How many levels the kept element has.
+    /// How many levels the element has.
     pub fn nesting(&self) -> u8
         ensures { result ≡ nesting self.now.element }
     {
@@ -103,7 +103,7 @@ impl Raw {
         Ok(Raw::keep(Vec::from_slice(alloc, &self.octets)?))
     }
 
-    /// Octets that are the encoding of an element in bounds.
+    /// Takes octets that are the encoding of an element within limits.
     fn keep(octets: Vec<u8>) -> Raw
         requires { Kept octets.items }
         ensures { IsKept octets.items result.element }
@@ -112,7 +112,7 @@ impl Raw {
     }
 }
 
-/// Any element, kept as it is.
+/// Any element, as its raw octets.
 impl Structure for Raw {
     ghost use Rattle.der_core.specs.Facts.Kept.{same_kept};
     ghost use Rattle.der_core.specs.Facts.Grammars.{printed};
@@ -140,7 +140,7 @@ impl Structure for Raw {
     ghost grammar = { printed (λ raw. raw.element) same_kept (λ raw. raw.der.formed) };
 }
 
-/// Elements are equal exactly where their octets are.
+/// Elements are equal exactly if their octets are.
 impl PartialEq for Raw {
     ghost eq = { same_octets (λ kept. kept.element) };
 
@@ -158,7 +158,7 @@ impl Eq for Raw {
     ghost laws = { same_octets_equiv (λ kept. kept.element) };
 }
 
-/// How many levels an element has, itself among them.
+/// How many levels the element has, itself included.
 fn nesting_at(elem: Elem<'_>) -> u8
     ensures { result ≡ nesting elem.entry.is.0 }
 {

@@ -1,4 +1,4 @@
-//! Octets as trees.
+//! Reading octets as trees.
 
 ghost use Rattle.std.specs.Prelude.{◌≡◌, ℕ, Err, MatchResult, IfOk};
 ghost use Rattle.der_core.specs.Encoding.{encoding, IsDer};
@@ -15,13 +15,14 @@ use crate::testing::{exact_elem, first_of};
 use crate::tree::{Tree, Trees};
 use std::alloc::{AllocError, Global};
 
-/// The first element of the octets as a tree, and how many octets it takes.
+/// The first element of the octets as a tree, and its length in octets. The octets may go on after
+/// it.
 pub fn read_first(alloc: Global, bytes: &[u8]) -> Result<(Tree, usize), DerError>
-    // What is read is the element that the octets begin with. It refuses for want of memory, or
-    // with the first fault from left to right.
+    // The tree is the element that the octets begin with. The error is out of memory, or the first
+    // fault from left to right.
     ensures answer { MatchResult result (λ x. IsFirst bytes.now x.0 x.1)
         (RefusesMalformed (IsFirstFault bytes.now)) }
-    // Octets with a fault are refused with it, whatever memory there is.
+    // Octets with a fault are refused with it, even if memory runs out.
     ensures faulty { (at : ℕ) (fault : DerFault) → IsFirstFault bytes.now at fault
         → result ≡ Err (errors.Malformed (record { at = at; fault = fault })) }
 {
@@ -30,14 +31,13 @@ pub fn read_first(alloc: Global, bytes: &[u8]) -> Result<(Tree, usize), DerError
     Ok((tree, elem.whole.len()))
 }
 
-/// The element that the octets are, as a tree.
+/// The octets as a tree: all of them are one element.
 pub fn read_exact(alloc: Global, bytes: &[u8]) -> Result<Tree, DerError>
-    // What is read is the element whose encoding the octets are. It refuses for want of memory,
-    // with the first fault, or at the first octet after the element.
+    // The tree is the element whose encoding the octets are. The error is out of memory, the first
+    // fault, or the first trailing octet.
     ensures answer { MatchResult result (λ t. IsDer t × (bytes.now ≡ encoding t))
         (RefusesMalformed (IsExactFault bytes.now)) }
-    // Octets with a fault, or with more of them than the element, are refused so, whatever memory
-    // there is.
+    // Octets with a fault or trailing octets are refused with that, even if memory runs out.
     ensures faulty { (at : ℕ) (fault : DerFault) → IsExactFault bytes.now at fault
         → result ≡ Err (errors.Malformed (record { at = at; fault = fault })) }
 {

@@ -1,4 +1,4 @@
-//! Tags of elements by name (X.680 8.4, table 1).
+//! Identifier octets by name (X.680 8.4, table 1).
 
 pub const BOOLEAN: u8 = 0x01;
 

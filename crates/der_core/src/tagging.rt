@@ -11,7 +11,7 @@ use crate::new_kids::NewKids;
 use crate::tree::Tree;
 use std::alloc::{AllocError, Global};
 
-/// The element in a constructed element of this tag that holds one.
+/// The one element in a constructed element of this tag, `None` for any other element.
 pub fn explicit_at<'a>(elem: Elem<'a>, tag: u8) -> Option<Elem<'a>>
     ensures { MatchOption result
         ((kid : DerElement) → elem.entry.is.0 ≢ explicit tag kid)
@@ -23,7 +23,7 @@ pub fn explicit_at<'a>(elem: Elem<'a>, tag: u8) -> Option<Elem<'a>>
     Some(kid)
 }
 
-/// The constructed element of this tag around one element.
+/// The constructed element of this tag that holds one element.
 pub fn explicit(alloc: Global, tag: u8, kid: Tree) -> Result<Tree, AllocError>
     requires { IsTag tag × (form_bit tag ≡ 1) × IsWellFormed kid }
     ensures { IfOk result (λ tree. (tree ≡ explicit tag kid) × IsWellFormed tree) }

@@ -1,4 +1,4 @@
-//! Octets tested for elements where they lie, without memory.
+//! Testing octets for elements without copying or allocating.
 
 ghost use Rattle.std.specs.Prelude.{◌≡◌, ◌+◌, ◌-◌, ◌^◌, ◌<◌, ◌++◌, length, IfSome, IsTrue, MatchOption, MatchResult};
 ghost use Rattle.der_core.specs.DerElement.{DerElement};
@@ -14,7 +14,7 @@ use crate::header::{head_of, sound_head};
 use crate::kids::Kids;
 use crate::tree::MAX_NESTING;
 
-/// The element that octets begin with, or their first fault.
+/// The element that the octets begin with, or their first fault.
 pub(crate) fn first_of(bytes: &[u8]) -> Result<Elem<'_>, Malformed>
     ensures { MatchResult result
         (λ elem. IsFirst bytes.now elem.is.0 (length elem.whole.now))
@@ -23,7 +23,7 @@ pub(crate) fn first_of(bytes: &[u8]) -> Result<Elem<'_>, Malformed>
     first_from(bytes, 0)
 }
 
-/// The element that octets at a place begin with, or their first fault.
+/// The element that the octets, which are at offset `at`, begin with, or their first fault.
 pub(crate) fn first_from(bytes: &[u8], at: usize) -> Result<Elem<'_>, Malformed>
     requires { at + length bytes.now < 2 ^ 64 }
     ensures { MatchResult result
@@ -39,8 +39,8 @@ pub(crate) fn first_from(bytes: &[u8], at: usize) -> Result<Elem<'_>, Malformed>
     }
 }
 
-/// The element that octets are, all of them; else their first fault, or octets after the element.
-/// It takes no memory.
+/// The octets as one element; else their first fault, or the first trailing octet. It doesn't
+/// allocate.
 pub fn exact_elem(bytes: &[u8]) -> Result<Elem<'_>, Malformed>
     ensures { MatchResult result
         (λ elem. bytes.now ≡ encoding elem.is.0)
@@ -56,7 +56,7 @@ pub fn exact_elem(bytes: &[u8]) -> Result<Elem<'_>, Malformed>
     Ok(elem)
 }
 
-/// The element that octets are, all of them. Why others are none is what `exact_elem` says.
+/// The octets as one element, else `None`. `exact_elem` says what is wrong.
 pub fn whole_element(octets: &[u8]) -> Option<Elem<'_>>
     ensures { MatchOption result
         ((element : DerElement) → IsKept octets.now element → ⊥)
@@ -68,7 +68,7 @@ pub fn whole_element(octets: &[u8]) -> Option<Elem<'_>>
     }
 }
 
-/// The octets after the element that octets at a place begin with, or their first fault.
+/// The octets after the first element, or the first fault. The octets are at offset `at`.
 fn after_first(bytes: &[u8], at: usize) -> Result<&[u8], Malformed>
     requires { at + length bytes.now < 2 ^ 64 }
     ensures { MatchResult result
@@ -81,8 +81,8 @@ fn after_first(bytes: &[u8], at: usize) -> Result<&[u8], Malformed>
     }
 }
 
-/// The octets after the element that octets begin with, where they begin with one. No place is kept
-/// for a fault, which makes it quicker.
+/// The octets after the first element, `None` if there is none. It tracks no offset for a fault,
+/// which makes it quicker.
 fn after_sound(bytes: &[u8]) -> Option<&[u8]>
     ensures { IfSome result
         (λ rest. (t : DerElement) × IsDer t × (bytes.now ≡ encoding t ++ rest.now)) }
@@ -98,17 +98,17 @@ fn after_sound(bytes: &[u8]) -> Option<&[u8]>
     }
 }
 
-/// How many elements may hold one another between the outermost one and the innermost: with these
-/// two there are `MAX_NESTING` levels.
+/// How many elements may be nested between the outermost and the innermost: with these two there
+/// are `MAX_NESTING` levels.
 const MOST_OUTER: usize = 62;
 
-/// Whether octets are elements of at most 63 levels, as those in the outermost element have to be.
-/// Of a constructed element within so many others it says no even where it is empty: octets of
-/// which it says no are looked at again, for their first fault.
+/// Whether the octets are elements of at most 63 levels, as those in the outermost element must be.
+/// A constructed element nested in too many others gives false even if it is empty: after false the
+/// octets are tested again for their first fault.
 fn are_elements(octets: &[u8]) -> bool
     ensures { IsTrue result → HasElementsWithin (most_levels - 1) octets.now }
 {
-    // How many octets stand after each element that is gone through, in the one that holds it.
+    // How many octets follow each enclosing element within its parent.
     let mut after = [0; MOST_OUTER];
     let mut outer = 0;
     let mut rest = octets;
@@ -142,7 +142,7 @@ fn are_elements(octets: &[u8]) -> bool
     }
 }
 
-/// The octets after the element that octets at a place begin with, of at most `levels` levels.
+/// The octets after the first element, which has at most `levels` levels, or the first fault.
 #[cycle(testing)]
 fn after_element(octets: &[u8], at: usize, levels: u8) -> Result<&[u8], Malformed>
     requires { at + length octets.now < 2 ^ 64 }
@@ -160,7 +160,7 @@ fn after_element(octets: &[u8], at: usize, levels: u8) -> Result<&[u8], Malforme
     }
 }
 
-/// Tests that octets at a place are elements, each of at most `levels` levels.
+/// Tests that the octets, which are at offset `at`, are elements of at most `levels` levels each.
 #[cycle(testing)]
 fn test_elements(octets: &[u8], at: usize, levels: u8) -> Result<(), Malformed>
     requires { at + length octets.now < 2 ^ 64 }

@@ -11,7 +11,8 @@ use std::marker::Model;
 /// How many levels an element may have.
 pub const MAX_NESTING: u8 = 64;
 
-/// One element of X.690: a leaf of a tag and contents octets, or a branch of a tag and kids.
+/// One element (X.690 8.1.1): a leaf with a tag and contents octets, or a branch with a tag and
+/// kids.
 #[cycle(tree)]
 #[derive(Debug, Drop)]
 pub struct Tree {
@@ -45,7 +46,7 @@ impl Model for Tree {
 }
 
 impl Tree {
-    /// The primitive element of a tag and contents octets.
+    /// The primitive element with this tag and these contents octets.
     pub fn leaf(tag: u8, content: Octets) -> Tree
         ensures { result ≡ Primitive tag content }
     {
@@ -54,7 +55,7 @@ impl Tree {
         }
     }
 
-    /// The constructed element of a tag and the elements in it.
+    /// The constructed element with this tag and these elements in it.
     pub fn branch(tag: u8, kids: Trees) -> Tree
         ensures { result ≡ Constructed tag (row kids) }
     {
@@ -82,7 +83,7 @@ impl Tree {
         }
     }
 
-    /// The elements in a branch in order, `None` exactly for a leaf.
+    /// The elements in a branch, in order, `None` exactly for a leaf.
     #[tactic(auto, using(crate::specs::Facts::Rows::kid_lists))]
     pub fn kids(&self) -> Option<&[Tree]>
         ensures { option_copied result ≡ kids_of self.now }
@@ -93,7 +94,7 @@ impl Tree {
         }
     }
 
-    /// A copy of the value.
+    /// A copy of the tree.
     pub fn try_clone(&self, alloc: Global) -> Result<Tree, AllocError>
         ensures { IfOk result (λ copy. copy ≡ self.now) }
     {
@@ -123,7 +124,7 @@ fn copies_of(alloc: Global, kids: &[Tree]) -> Result<Trees, AllocError>
     Ok(copies)
 }
 
-/// Trees in order, seen by contracts as the list of them.
+/// Trees in order. Contracts see the list of them.
 #[derive(Debug, Drop)]
 pub struct Trees {
     items: Vec<Tree>,
@@ -143,7 +144,7 @@ impl Model for Trees {
 }
 
 impl Trees {
-    /// No trees.
+    /// An empty list.
     pub fn new(alloc: Global) -> Trees
         ensures { result ≡ [] }
     {
@@ -152,6 +153,7 @@ impl Trees {
         }
     }
 
+    /// Appends a tree.
     pub fn push(&mut self, item: Tree) -> Result<(), AllocError>
         ensures ok { OnOk result (self.new ≡ self.old ++ item ∷ []) }
         ensures err { OnErr result (self.new ≡ self.old) }
@@ -160,13 +162,14 @@ impl Trees {
         Ok(())
     }
 
+    /// The trees in order.
     pub fn as_slice(&self) -> &[Tree]
         ensures { result.now ≡ self.now }
     {
         &self.items
     }
 
-    /// A copy of the value.
+    /// A copy of the list.
     pub fn try_clone(&self, alloc: Global) -> Result<Trees, AllocError>
         ensures { IfOk result (λ copy. copy ≡ self.now) }
     {

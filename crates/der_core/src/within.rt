@@ -1,4 +1,4 @@
-//! Elements inside strings.
+//! Elements wrapped in strings.
 
 ghost use Rattle.std.specs.Prelude.{◌≡◌, ◌∷◌, ◌++◌, [], false, ℕ, IsTrue, MatchResult};
 ghost use Rattle.der_core.specs.Encoding.{encoding, IsDer};
@@ -11,7 +11,7 @@ use crate::structure::Structure;
 use crate::testing::exact_elem;
 use std::alloc::Global;
 
-/// Whether octets of a string are the encoding of one element that spells a value.
+/// Whether the octets of a string are the encoding of a value.
 pub fn has_within<T: Structure>(octets: &[u8]) -> bool
     ensures fits { IsTrue result → FitsWithin T.spells octets.now }
     ensures unfit { result ≡ false → (value : T) → IsWithin T.spells octets.now value → ⊥ }
@@ -22,7 +22,8 @@ pub fn has_within<T: Structure>(octets: &[u8]) -> bool
     }
 }
 
-/// The value in a string, whose octets are the encoding of one element.
+/// The value whose encoding the octets of a string are. Fails with `Shape` for all other octets,
+/// malformed ones too, or with `Memory`.
 pub fn read_within<T: Structure>(alloc: Global, octets: &[u8]) -> Result<T, DerError>
     ensures { MatchResult result (IsWithin T.spells octets.now)
         (RefusesShape (IsWithin T.spells octets.now)) }
@@ -33,7 +34,8 @@ pub fn read_within<T: Structure>(alloc: Global, octets: &[u8]) -> Result<T, DerE
     }
 }
 
-/// The encoding of the element of a value, for a string to hold.
+/// The encoding of the value, as the contents of a string. The errors are those of
+/// `Structure::to_der`.
 pub fn write_within<T: Structure>(alloc: Global, value: &T) -> Result<Vec<u8>, DerError>
     ensures { MatchResult result
         (λ octets. (octets.items ≡ encoding (T.written value.now)) × IsDer (T.written value.now)

@@ -1,7 +1,7 @@
-//! The one encoding of a tree.
+//! Writing a tree as its one encoding.
 //!
-//! The length of an element stands before its contents, so an element is put down from its last
-//! octet to its first, and the whole is turned round once.
+//! A length comes before its contents, so an element is put down from its last octet to its first,
+//! and the whole is reversed once.
 
 ghost use Rattle.std.specs.Prelude.{◌≡◌, ◌≤◌, ◌<◌, ◌^◌, ◌++◌, ◌↔◌, ◌∷◌, [], length, reverse, IsTrue, IfOk, OnOk, MatchResult, All, Err};
 ghost use Rattle.der_core.specs.DerElement.{DerElement, row};
@@ -15,13 +15,13 @@ use std::alloc::{AllocError, Global};
 
 /// Writes a tree in DER, each length in its shortest form (X.690 8.1, 10.1).
 ///
-/// A tree of more than 64 levels is refused as `TooDeep`, else one with some contents of more than
-/// 4,294,967,295 octets as `TooLong`.
+/// It fails with `TooDeep` for a tree of more than 64 levels, else with `TooLong` if some contents
+/// have more than 4,294,967,295 octets.
 pub fn write(alloc: Global, tree: &Tree) -> Result<Vec<u8>, DerError>
     requires { IsWellFormed tree.now }
     ensures written { MatchResult result
         (λ octets. IsDer tree.now × (octets.items ≡ encoding tree.now)) (RefusesToWrite tree.now) }
-    // Depth is looked at before memory is asked for.
+    // The depth is checked before memory is allocated.
     ensures deep { most_levels < nesting tree.now → result ≡ Err errors.TooDeep }
 {
     if !is_nested_within(tree, MAX_NESTING) {
@@ -94,7 +94,7 @@ fn put_backwards(out: &mut Vec<u8>, octets: &[u8]) -> Result<(), AllocError>
     Ok(())
 }
 
-/// Puts the length of contents and the identifier octet before it.
+/// Puts the length of the contents, and the identifier octet before it.
 fn put_header(out: &mut Vec<u8>, tag: u8, length: usize) -> Result<(), DerError>
     ensures { MatchResult result
         (λ _. (length < 2 ^ 32)

@@ -1,4 +1,4 @@
--- What is known of an answer by whether there is one.
+-- What is known of a result by whether there is one.
 use Rattle.std.specs.Prelude.{◌≡◌, Option, Some, None, MatchOption, true, false}
 use Rattle.std.specs.Option.{is_some}
 

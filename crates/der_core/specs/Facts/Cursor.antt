@@ -1,4 +1,4 @@
--- That octets were tested is a fact for one reason.
+-- That octets were tested has at most one proof.
 use Rattle.std.specs.Prelude.{◌≡◌, ℕ, ◌-◌, List}
 use Rattle.std.specs.Coded.{×_prop, le_prop}
 use Rattle.std.proofs.Common.{sym, ap, ◌∙◌}
@@ -13,7 +13,7 @@ use Rattle.der_core.specs.Cursor.{WereTested}
 AreDerWithin-prop : (levels : ℕ) (elements : DerElements) → IsProp (AreDerWithin levels elements)
 AreDerWithin-prop levels elements = hlevel (le_prop, AreWellFormed-prop elements, AreShort-prop elements)
 
--- elements with what they are, a pair in a pair
+-- elements paired with what they are
 abbrev Nested : List ℕ → Type 0
 Nested octets = (elements : DerElements) × (AreDerWithin (most_levels - 1) elements × (octets ≡ encodings elements))
 

@@ -1,4 +1,4 @@
--- Values are equal where their octets are.
+-- Values are equal if their octets are.
 use Rattle.std.specs.Prelude.{◌≡◌, ◌↔◌, IsTrue, Bool, true, false, Option, Some, None, List, [], ◌∷◌, bytes_eq, refl}
 use Rattle.std.proofs.Common.{ap, sym, ◌∙◌}
 use Rattle.std.specs.Option.{option_eq}
@@ -23,7 +23,7 @@ same_tests false false p q = refl
 pub by_test : (t u : Bool) (P : Type 0) → t ≡ u → (IsTrue u ↔ P) → IsTrue t ↔ P
 by_test t u P test same = (λ w. same.0 (sym test ∙ w), λ p. test ∙ same.1 p)
 
--- A test that holds exactly where two values are the same is that of their octets.
+-- A test that holds exactly if two values are the same is the test of their octets.
 pub octets_decide : {X : Type 0} (written : X → DerElement) → ((a b : X) → written a ≡ written b → a ≡ b) → ((value : X) → IsWellFormed (written value))
     → (a b : X) (test : Bool) → (IsTrue test ↔ (a ≡ b)) → test ≡ bytes_eq (encoding (written a)) (encoding (written b))
 octets_decide written one formed a b test same =
@@ -33,7 +33,7 @@ octets_decide written one formed a b test same =
       λ e. decides.1 (ap (λ v. encoding (written v)) e),
     )
 
--- Lists are equal value by value exactly where they are the same, if the values are.
+-- Lists are equal value by value exactly if they are the same, if the values are.
 pub pointwise_same : {X : Type 0} (eq : X → X → Bool) → ((a b : X) → IsTrue (eq a b) ↔ (a ≡ b)) → (xs ys : List X) → IsTrue (pointwise eq xs ys) ↔ (xs ≡ ys)
 pointwise_same eq one [] [] = (λ t. refl, λ e. refl)
 pointwise_same eq one [] (y ∷ ys) = (λ t. absurd cc, λ e. absurd cc)
@@ -56,7 +56,7 @@ pointwise_same eq one (x ∷ xs) (y ∷ ys) =
 pub same_whole : {X Y : Type 0} (make : X → Y) → ((a b : X) → make a ≡ make b → a ≡ b) → (s o : Y) (a b : X) (t : Bool) → s ≡ make a → o ≡ make b → (IsTrue t ↔ (a ≡ b)) → IsTrue t ↔ (s ≡ o)
 same_whole make one s o a b t p q same = (λ w. p ∙ ap make (same.0 w) ∙ sym q, λ e. same.1 (one a b (sym p ∙ e ∙ q)))
 
--- a test that fails is one of what isn't so
+-- a test that fails tests something false
 pub unlike : {P : Type 0} → (P → ⊥) → IsTrue false ↔ P
 unlike none = (λ t. absurd cc, λ p. absurd (none p))
 
@@ -77,12 +77,12 @@ kept_same a b =
     let decides = bytes_eq-Decides (encoding a.element) (encoding b.element) in
     (λ t. same_kept a b (same_encoded a.element b.element a.der b.der (decides.0 t)), λ e. decides.1 (ap (λ (k : KeptElement). encoding k.element) e))
 
--- ---- the comparison by octets is one of equals
+-- ---- the comparison by octets is an equivalence
 
--- it goes both ways, and on from one to the next
+-- it is symmetric and transitive
 abbrev pub same_octets_per : {X : Type 0} (written : X → DerElement) → IsPartialEquivalence (same_octets written)
 same_octets_per written = on_per (λ value. encoding (written value)) (partial_equiv_from_equiv nat_list_eq_equiv)
 
--- and it holds of a value and itself
+-- and reflexive
 abbrev pub same_octets_equiv : {X : Type 0} (written : X → DerElement) → IsEquivalence (same_octets written)
 same_octets_equiv written = on_equiv (λ value. encoding (written value)) nat_list_eq_equiv

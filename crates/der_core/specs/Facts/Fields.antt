@@ -1,4 +1,4 @@
--- Elements that may be left out are told by their tags.
+-- Elements that may be absent are recognised by their tags.
 use Rattle.std.specs.Prelude.{◌≡◌, ⊤, ℕ, List, [], ◌∷◌, ◌++◌, refl}
 use Rattle.std.proofs.Common.{sym, ap, subst}
 use Rattle.der_core.specs.DerElement.{DerElement, tag_of}
@@ -13,7 +13,7 @@ IsField tag (kid ∷ more ∷ kids) = ⊥
 begins_with : (tag : ℕ) (kids : List DerElement) (kid : DerElement) (rest : List DerElement) → kids ≡ kid ∷ rest → BeginsOtherwise tag kids → tag_of kid ≡ tag → ⊥
 begins_with tag kids kid rest e other is = subst (BeginsOtherwise tag) e other is
 
--- elements begin with a field of the tag in one way
+-- the field of the tag that elements begin with is unambiguous
 pub split : (tag : ℕ) (a b xs ys : List DerElement) → IsField tag a → IsField tag b → (a ≡ [] → BeginsOtherwise tag xs) → (b ≡ [] → BeginsOtherwise tag ys)
     → a ++ xs ≡ b ++ ys → (a ≡ b) × (xs ≡ ys)
 split tag [] [] xs ys f g p q e = (refl, e)

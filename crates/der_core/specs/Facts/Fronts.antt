@@ -1,4 +1,5 @@
--- No encoding is a front of another: the octets of a length say where it ends, and a length where its contents end (X.690 8.1.1.4).
+-- No encoding is a prefix of another: the octets of a length say where it ends, and a length where
+-- its contents end (X.690 8.1.1.4).
 use Rattle.std.specs.Prelude.{◌≡◌, ℕ, ◌/◌, ◌%◌, ◌^◌, ◌<◌, ◌≤◌, true, false, List, [], ◌∷◌, ◌++◌, length, take, drop, Result, Ok, refl}
 use Rattle.std.proofs.Common.{ltb, sym, ap, ◌∙◌, append_assoc, arith, inl, inr}
 use Rattle.std.proofs.lemmas.Bool.{cases_lt, lt-ltb, le-ltb}
@@ -111,6 +112,6 @@ fronts a b x y formed formed' short short' e = formed_fronts a b x y formed form
 pub same_kids : (ks ls : DerElements) → AreWellFormed ks → AreWellFormed ls → AreShort ks → AreShort ls → encodings ks ≡ encodings ls → ks ≡ ls
 same_kids ks ls formed formed' short short' e = formed_kids ks ls formed formed' e
 
--- elements that are well formed have unlike encodings, however long
+-- well-formed elements have different encodings, however long
 pub formed_encoding_once : (a b : DerElement) → IsWellFormed a → IsWellFormed b → encoding a ≡ encoding b → a ≡ b
 formed_encoding_once a b formed formed' e = (formed_fronts a b [] [] formed formed' (ap (λ (o : List ℕ). o ++ []) e)).0

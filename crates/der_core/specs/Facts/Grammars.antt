@@ -1,4 +1,4 @@
--- Grammars of structures that are written in one way, and of lists.
+-- Grammars of structures with one encoding a value, and of lists.
 use Rattle.std.specs.Prelude.{◌≡◌, ℕ, List, [], ◌∷◌, ◌++◌, map, flat_map, refl}
 use Rattle.std.proofs.Common.{sym, ◌∙◌, ap, subst, arith}
 use Rattle.der_core.specs.DerElement.{DerElement, Constructed, row, listed}
@@ -9,7 +9,8 @@ use Rattle.der_core.specs.Elements.{sequence}
 use Rattle.der_core.specs.Each.{AreEach, IsListOf, list_element}
 use Rattle.der_core.specs.Structure.{IsGrammar}
 
--- An element is the one of a value where it is the one that is written for it, and unlike values have unlike elements.
+-- An element encodes a value if it is the one that is written for it, and different values have
+-- different elements.
 pub printed : {X : Type 0} (written : X → DerElement) → ((a b : X) → written a ≡ written b → a ≡ b) → ((value : X) → IsWellFormed (written value)) → IsGrammar (λ element value. element ≡ written value) written (λ value. [])
 printed written one formed = record {
   once = λ element a b p q. one a b (sym p ∙ q);
@@ -85,16 +86,16 @@ lists tag spells written inner is_tag constructed grammar = record {
   formed = λ values. (is_tag, constructed, each_formed written grammar.formed values);
 }
 
--- a list is told by what is written for its values
+-- a list is determined by what is written for its values
 pub list_once : {X : Type 0} (tag : ℕ) (written : X → DerElement) → ((a b : X) → written a ≡ written b → a ≡ b) → (xs ys : List X) → list_element tag written xs ≡ list_element tag written ys → xs ≡ ys
 list_once tag written one xs ys e = each_printed written one xs ys (same_list (list_element tag written xs) tag (map written xs) (map written ys) refl e)
 
--- The grammar of a list of values that are written in one way.
+-- The grammar of a list of values with one encoding each.
 pub printed_lists : {X : Type 0} (tag : ℕ) (written : X → DerElement) → IsTag tag → form_bit tag ≡ 1 → ((a b : X) → written a ≡ written b → a ≡ b) → ((value : X) → IsWellFormed (written value))
     → IsGrammar (λ element values. element ≡ list_element tag written values) (list_element tag written) (λ values. [])
 printed_lists tag written is_tag constructed one formed = printed (list_element tag written) (list_once tag written one) (λ values. (is_tag, constructed, each_formed written formed values))
 
--- a sequence has its kids once
+-- sequences are the same only if their kids are
 pub same_fields : (kids kids' : List DerElement) → sequence kids ≡ sequence kids' → kids ≡ kids'
 same_fields kids kids' e = same_list (sequence kids) 0x30 kids kids' refl e
 

@@ -1,4 +1,4 @@
--- That an element is in bounds is a fact for one reason.
+-- That an element is within limits has at most one proof.
 use Rattle.std.specs.Prelude.{◌≡◌, ℕ, List}
 use Rattle.std.specs.Coded.{Coded-set, coded_ℕ, coded_list, ×_prop, Unit-prop, le_prop}
 use Rattle.der_core.specs.DerElement.{DerElement, Primitive, Constructed, DerElements, Nil, Cons}

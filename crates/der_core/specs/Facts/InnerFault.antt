@@ -1,4 +1,4 @@
--- The fault of a part of octets, counted from where the part begins, as a reader meets it.
+-- The fault of a part of the octets, counted from the beginning of the part, as a reader meets it.
 use Rattle.std.specs.Prelude.{◌≡◌, ℕ, suc, ◌+◌, ◌<◌, List, ◌++◌, length, Ok, Err}
 use Rattle.der_core.specs.declared.fault.DerFault.{DerFault}
 use Rattle.der_core.specs.DerElement.{DerElement}
@@ -6,7 +6,8 @@ use Rattle.der_core.specs.Encoding.{encoding, form_bit, IsDerWithin}
 use Rattle.der_core.specs.Fault.{header_length}
 use Rattle.der_core.specs.Head.{head_at}
 
--- A fault of an element is its own, or one of its kids; one of kids is that of the first, or of those after it.
+-- A fault of an element is its own or one of its kids; one of its kids is of the first, or of those
+-- after it.
 mutual
   pub data ElementFault : ℕ → List ℕ → ℕ → DerFault → Type 0 where
     Here : {levels : ℕ} {octets : List ℕ} {fault : DerFault} → head_at levels octets ≡ Err fault → ElementFault levels octets 0 fault

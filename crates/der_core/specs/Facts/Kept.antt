@@ -1,4 +1,4 @@
--- Octets are those of one element, for one reason, and elements that are kept have codes.
+-- That octets encode an element has at most one proof, and owned elements have codes.
 use Rattle.std.specs.Prelude.{◌≡◌, ℕ, List, [], ◌++◌}
 use Rattle.std.specs.Coded.{×_prop}
 use Rattle.std.proofs.Common.{sym, ap, subst, ◌∙◌}
@@ -14,7 +14,7 @@ use Rattle.der_core.specs.Facts.InBounds.{octets-set, IsDerWithin-prop}
 IsKept-prop : (octets : List ℕ) (element : DerElement) → IsProp (IsKept octets element)
 IsKept-prop octets element = ×_prop (IsDerWithin-prop most_levels element) (octets-set octets (encoding element))
 
--- octets are the encoding of one element in bounds at most
+-- octets are the encoding of at most one element within limits
 pub same_encoded : (a b : DerElement) → IsDer a → IsDer b → encoding a ≡ encoding b → a ≡ b
 same_encoded a b der der' same = (fronts a b [] [] der.formed der'.formed der.short der'.short (ap (λ o. o ++ []) same)).0
 
@@ -27,7 +27,7 @@ kept_of element der = record { element = element; der = der }
 pub same_kept : (a b : KeptElement) → a.element ≡ b.element → a ≡ b
 same_kept a b e = subst (λ (x : DerElement). (h : IsDer x) → a ≡ kept_of x h) e (λ h. ap (kept_of a.element) (IsDerWithin-prop most_levels a.element a.der h)) b.der
 
--- octets are kept as one element
+-- owned octets are of one element
 pub one_kept : (octets : List ℕ) (a b : DerElement) → IsKept octets a → IsKept octets b → a ≡ b
 one_kept octets a b p q = same_encoded a b p.0 q.0 (sym p.1 ∙ q.1)
 

@@ -1,4 +1,4 @@
--- What lies in octets can be kept, and what is kept may be left out.
+-- A borrowed element can be owned, and an owned one can be absent.
 use Rattle.std.specs.Prelude.{◌≡◌, Option, Some, None, refl, option_to_list}
 use Rattle.std.proofs.Common.{ap}
 use Rattle.der_core.specs.Kept.{KeptElement}

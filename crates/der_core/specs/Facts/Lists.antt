@@ -1,4 +1,5 @@
--- Lists of values that are written in one way: an element spells them where it is the one that is written for them.
+-- Lists of values with one encoding each: an element encodes them if it is the one that is written
+-- for them.
 use Rattle.std.proofs.Common.{◌≡◌, ◌↔◌, IsTrue, Bool, ℕ, Result, Ok, Err, MatchResult, List, [], ◌∷◌, map, flat_map, refl, sym, ap, subst, ◌∙◌}
 use Rattle.std.specs.Cmp.Lexicographic.{pointwise}
 use Rattle.der_core.specs.DerElement.{DerElement, Constructed, row}
@@ -45,14 +46,14 @@ none_inner (v ∷ values) = none_inner values
 pub none_refused : {X : Type 0} (values : List X) (e : DerError) → RefusesInner (flat_map (λ (value : X). no_element) values) e → RefusesInner [] e
 none_refused values e refused = subst (λ inner. RefusesInner inner e) (none_inner values) refused
 
--- a list of values without inner elements is written as it is
+-- a list of values with nothing wrapped in strings is written as it is
 pub plain_list : {X : Type 0} (written : X → DerElement) (tag : ℕ) (values whole : List X) → values ≡ whole
     → (r : Result DerElement DerError) → MatchResult r (IsWrittenList tag written (λ value. no_element) values) (RefusesInner (flat_map (λ value. no_element) values))
     → MatchResult r (λ tree. (tree ≡ list_element tag written whole) × IsWellFormed tree × AreDer []) (RefusesInner [])
 plain_list written tag values whole same (Ok tree) list = (list.is ∙ ap (list_element tag written) same, list.formed, tt)
 plain_list written tag values whole same (Err e) refused = subst (λ inner. RefusesInner inner e) (none_inner values) refused
 
--- lists are equal value by value exactly where they are the same
+-- lists are equal value by value exactly if they are the same
 pub lists_equal : {X : Type 0} (eq : X → X → Bool) → ((a b : X) → IsTrue (eq a b) ↔ (a ≡ b)) → (xs ys xs' ys' : List X) (t : Bool) → xs ≡ xs' → ys ≡ ys' → t ≡ pointwise eq xs ys → IsTrue t ↔ (xs' ≡ ys')
 lists_equal eq one xs ys xs' ys' t p q test =
     let each = pointwise_same eq one xs ys in

@@ -1,4 +1,4 @@
--- Strings of octets: unlike ones have unlike elements, each well formed.
+-- Strings of octets: different ones have different elements, each well formed.
 use Rattle.std.proofs.Common.{◌≡◌, ℕ, List, [], refl, arith}
 use Rattle.der_core.specs.Elements.{octet_string}
 use Rattle.der_core.specs.Structure.{IsGrammar}

@@ -1,4 +1,5 @@
--- Fields that may be left out: what holds of a value holds of one that may be left out, and each field is told by its tag.
+-- OPTIONAL fields: what holds of a value holds of one that may be absent, and each field is
+-- recognised by its tag.
 use Rattle.std.specs.Prelude.{◌≡◌, ⊤, ℕ, List, [], ◌++◌, Option, Some, None, refl, option_to_list}
 use Rattle.std.proofs.Common.{ap, sym, subst}
 use Rattle.std.specs.Option.{option_map}
@@ -33,14 +34,14 @@ pub option_spelled : {X : Type 0} (spells : DerElement → X → Type 0) (writte
 option_spelled spells written inner spelled None der = tt
 option_spelled spells written inner spelled (Some x) der = spelled x der
 
--- values that are written in one way are told by what is written
+-- values with one encoding are determined by what is written
 pub options_once : {X : Type 0} (written : X → DerElement) → ((a b : X) → written a ≡ written b → a ≡ b) → (a b : Option X) → option_map written a ≡ option_map written b → a ≡ b
 options_once written one None None e = refl
 options_once written one None (Some y) e = absurd cc
 options_once written one (Some x) None e = absurd cc
 options_once written one (Some x) (Some y) e = let same : written x ≡ written y = cc in ap Some (one x y same)
 
--- such a value is spelled by what is written for it
+-- such a value is encoded by what is written for it
 pub printed_option : {X : Type 0} (written : X → DerElement) (e : Option DerElement) (v : Option X) → SpellsOption (Prints written) e v → e ≡ option_map written v
 printed_option written None None s = refl
 printed_option written None (Some v) s = absurd s
@@ -53,13 +54,13 @@ option_printed written None (Some v) e = absurd cc
 option_printed written (Some x) None e = absurd cc
 option_printed written (Some x) (Some v) e = cc
 
--- a value that is there
+-- a value that is present
 pub some_spells : {X : Type 0} (spells : DerElement → X → Type 0) (e : Option DerElement) (element : DerElement) (value : X) → e ≡ Some element → spells element value → SpellsOption spells e (Some value)
 some_spells spells e element value is s = subst (λ (o : Option DerElement). SpellsOption spells o (Some value)) (sym is) s
 
 -- ---- elements
 
--- the element, where there is one, is well formed
+-- the element, if there is one, is well formed
 abbrev pub IsFormedOption : Option DerElement → Type 0
 IsFormedOption None = ⊤
 IsFormedOption (Some element) = IsWellFormed element
@@ -90,7 +91,7 @@ explicit_none : (tag : ℕ) (kid : Option DerElement) → optional_explicit tag 
 explicit_none tag None e = refl
 explicit_none tag (Some kid) e = absurd cc
 
--- elements begin with such a field in one way
+-- the field that elements begin with is unambiguous
 pub explicit_split : (tag : ℕ) (a b : Option DerElement) (xs ys : List DerElement) → (a ≡ None → BeginsOtherwise tag xs) → (b ≡ None → BeginsOtherwise tag ys)
     → optional_explicit tag a ++ xs ≡ optional_explicit tag b ++ ys → (a ≡ b) × (xs ≡ ys)
 explicit_split tag a b xs ys f g e =
@@ -122,7 +123,7 @@ leaf_none : (tag : ℕ) (content : Option (List ℕ)) → optional_leaf tag cont
 leaf_none tag None e = refl
 leaf_none tag (Some content) e = absurd cc
 
--- elements begin with such a field in one way
+-- the field that elements begin with is unambiguous
 pub leaf_split : (tag : ℕ) (a b : Option (List ℕ)) (xs ys : List DerElement) → (a ≡ None → BeginsOtherwise tag xs) → (b ≡ None → BeginsOtherwise tag ys)
     → optional_leaf tag a ++ xs ≡ optional_leaf tag b ++ ys → (a ≡ b) × (xs ≡ ys)
 leaf_split tag a b xs ys f g e =

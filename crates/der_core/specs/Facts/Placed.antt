@@ -1,4 +1,4 @@
--- Octets are those of one element, or of one list of elements, for one reason.
+-- That octets encode one element, or one list of elements, has at most one proof.
 use Rattle.std.specs.Prelude.{◌≡◌, ℕ, List, [], ◌∷◌, ◌++◌}
 use Rattle.std.specs.Coded.{×_prop, Unit-prop}
 use Rattle.std.proofs.Common.{sym, ap, ◌∙◌, arith, length-append}
@@ -39,7 +39,7 @@ AreElems-prop octets elements = ×_prop (AreDer-prop elements) (octets-set octet
 pub HasElems-prop : (octets : List ℕ) → IsProp (HasElems octets)
 HasElems-prop octets a b = Σ_prop_path (AreElems-prop octets) (same_elements a.0 b.0 a.1.0 b.1.0 (sym a.1.1 ∙ b.1.1))
 
--- the elements in one in bounds are in bounds
+-- the elements in one within limits are within limits
 pub kids_in_bounds : (tag : ℕ) (kids : DerElements) → IsDer (Constructed tag kids) → AreDer (listed kids)
 kids_in_bounds tag Nil der = tt
 kids_in_bounds tag (Cons kid kids) der =

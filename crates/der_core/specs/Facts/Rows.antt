@@ -1,4 +1,4 @@
--- Kids as elements in a row and as a list.
+-- Kids as a chain of elements and as a list.
 use Rattle.std.specs.Prelude.{◌≡◌, List, [], ◌∷◌, refl}
 use Rattle.std.proofs.Common.{ap}
 use Rattle.der_core.specs.DerElement.{DerElement, DerElements, Nil, Cons, row, listed}

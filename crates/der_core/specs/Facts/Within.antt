@@ -1,4 +1,4 @@
--- Values within strings: octets hold at most one, and what is written for a value holds it.
+-- Values wrapped in strings: octets encode at most one, and what is written for a value encodes it.
 use Rattle.std.specs.Prelude.{◌≡◌, ℕ, List, [], ◌∷◌, refl}
 use Rattle.std.proofs.Common.{sym, subst, ◌∙◌}
 use Rattle.der_core.specs.Each.{Prints}
@@ -8,17 +8,17 @@ use Rattle.der_core.specs.Placed.{AreDer}
 use Rattle.der_core.specs.Structure.{IsWithin, IsGrammar}
 use Rattle.der_core.specs.Facts.Fronts.{formed_encoding_once}
 
--- octets hold at most one value
+-- octets encode at most one value
 pub within_once : {X : Type 0} (spells : DerElement → X → Type 0) → ((element : DerElement) (a b : X) → spells element a → spells element b → a ≡ b) → (octets : List ℕ) (a b : X) → IsWithin spells octets a → IsWithin spells octets b → a ≡ b
 within_once spells once octets a b p q =
     let same = formed_encoding_once p.element q.element p.der.formed q.der.formed (sym p.encoded ∙ q.encoded) in
     once q.element a b (subst (λ (e : DerElement). spells e a) same p.spelled) q.spelled
 
--- the encoding of what is written for a value holds it
+-- the encoding of what is written for a value encodes it
 pub within_written : {X : Type 0} (spells : DerElement → X → Type 0) (written : X → DerElement) → IsGrammar spells written (λ x. []) → (value : X) → AreDer (written value ∷ []) → IsWithin spells (encoding (written value)) value
 within_written spells written grammar value der = record { element = written value; der = der.0; encoded = refl; spelled = grammar.spelled value tt }
 
--- a value that is written in one way is in bounds where it was read
+-- a value with one encoding is within limits if it was read
 pub within_bounds : {X : Type 0} (written : X → DerElement) (octets : List ℕ) (value : X) → IsWithin (Prints written) octets value → AreDer (written value ∷ [])
 within_bounds written octets value p = (subst IsDer p.spelled p.der, tt)
 

@@ -5,7 +5,7 @@ use Rattle.std.proofs.lemmas.List.{at_drop_more}
 use Rattle.der_core.specs.Head.{number_from}
 use Rattle.der_core.proofs.header.number_of.Goals as goal
 
--- Four digits are fewer than 2 ^ 32 numbers, and three fewer than 2 ^ 24.
+-- A number of at most three digits is below 2 ^ 24.
 few_digits : (i n : ℕ) → n < 2 ^ (8 * i) → i < 4 → n < 2 ^ 24
 few_digits i n below few =
     let at_most : 8 * i ≤ 24 = omega arith in

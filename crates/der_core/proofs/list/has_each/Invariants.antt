@@ -3,7 +3,7 @@ use Rattle.der_core.specs.Each.{AreEach}
 use Rattle.der_core.specs.Structure.{Fits}
 use Rattle.der_core.proofs.list.has_each.Given as goal
 
--- the elements spell values exactly where those that are left do
+-- the elements encode values exactly if those that are left do
 abbrev pub invariant-loop-kid : goal.invariant-loop-kid
 invariant-loop-kid g l = record {
   enough : Fits (AreEach g.T.Structure.spells) l.kids.are.0 → Fits (AreEach g.T.Structure.spells) l.initial.kids.are.0;

@@ -10,7 +10,7 @@ decreases-after_element l = 2 * l.levels
 abbrev pub decreases-test_elements : goal.decreases-test_elements
 decreases-test_elements l = 2 * l.levels + 1
 
--- Where the rest are elements, so are the octets, and a fault of the rest is one of the octets.
+-- If the rest are elements, so are the octets, and a fault of the rest is one of the octets.
 abbrev pub invariant-test_elements-loop-rest : goal.invariant-test_elements-loop-rest
 invariant-test_elements-loop-rest l = record {
   shorter : length l.rest ≤ length l.octets;
