@@ -69,7 +69,7 @@ issuer_names : (kind : ExtensionKind) (octets : List ℕ) (names : Bool) → kin
 issuer_names kind octets true is fits unfit = let fit = fits refl in (views.IssuerAltName fit.0, (is, fit.1))
 issuer_names kind octets false is fits unfit = (views.Raw octets, (subst (λ (k : ExtensionKind). MayBeKept k octets) is (unfit refl), refl))
 
--- under the two kinds any octets hold names, or are kept
+-- under the two kinds any octets encode names, or are raw
 pub names_fit : (kind : ExtensionKind) (octets : List ℕ) (names : Bool)
     → (kind ≡ kinds.SubjectAltName) ⊎ (kind ≡ kinds.IssuerAltName)
     → (IsTrue names → FitsWithin AreGeneralNames octets) → (names ≡ false → HoldsNoNames octets)
@@ -77,7 +77,7 @@ pub names_fit : (kind : ExtensionKind) (octets : List ℕ) (names : Bool)
 names_fit kind octets names (inl is) fits unfit = subject_names kind octets names (sym is) fits unfit
 names_fit kind octets names (inr is) fits unfit = issuer_names kind octets names (sym is) fits unfit
 
--- octets that hold no names are kept under their kind
+-- octets that encode no names are raw under their kind
 pub subject_kept : (kind : ExtensionKind) (octets kept : List ℕ)
     (names : Option (List RawGeneralName)) → kind ≡ kinds.SubjectAltName → names ≡ None
     → MatchOption names (HoldsNoNames octets) (IsWithin AreGeneralNames octets) → kept ≡ octets
@@ -92,7 +92,7 @@ pub issuer_kept : (kind : ExtensionKind) (octets kept : List ℕ)
 issuer_kept kind octets kept None is none held same = (subst (λ (k : ExtensionKind). MayBeKept k kept) (sym is) (subst HoldsNoNames (sym same) held), sym same)
 issuer_kept kind octets kept (Some names) is none held same = absurd cc
 
--- what holds names is refused only when out of memory
+-- octets that encode names are refused only when out of memory
 pub names_refused : (octets : List ℕ) (e : DerError) → FitsWithin AreGeneralNames octets → RefusesShape (IsWithin AreGeneralNames octets) e → e ≡ errors.Memory
 names_refused octets errors.Memory fit refused = refl
 names_refused octets errors.Shape fit refused = absurd (refused fit.0 fit.1)

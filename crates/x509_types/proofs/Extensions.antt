@@ -20,7 +20,7 @@ bad_in (k ∷ []) octets b kid rest e is tagged none =
     none b (subst (λ (x : DerElement). IsBoolean x b) same is)
 bad_in (k ∷ m ∷ ks) octets b kid rest e is tagged none = is
 
--- a bad flag is that of no extension
+-- an element with a bad flag is no extension
 pub bad_critical : (element : DerElement) (all rest : List DerElement) (first oid : DerElement)
     (b : Bool) (octets : List ℕ) → element ≡ sequence all → all ≡ first ∷ rest → HasBadFlag rest
     → IsExtensionOf element oid b octets → ⊥
@@ -29,7 +29,7 @@ bad_critical element all rest first oid b octets holds are bad is =
     let behind : rest ≡ is.flag ++ Primitive 0x04 octets ∷ [] = cc in
     bad_in is.flag octets b bad.kid bad.rest (sym bad.are ∙ behind) is.flagged bad.tagged bad.none
 
--- the first field of an extension is its identifier
+-- the first field of an extension is its OID
 pub first_field : (element : DerElement) (all rest : List DerElement) (first oid : DerElement)
     (b : Bool) (octets : List ℕ) → element ≡ sequence all → all ≡ first ∷ rest
     → IsExtensionOf element oid b octets → first ≡ oid

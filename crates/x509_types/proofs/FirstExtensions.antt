@@ -1,4 +1,4 @@
--- The first extension of an identifier: found here, found later, and found once.
+-- The first extension with an OID: found here, found later, and found once.
 use Rattle.std.proofs.Common.{◌≡◌, ◌↔◌, IsTrue, Bool, ℕ, List, [], ◌∷◌, ◌++◌, Option, Some, None, MatchOption, refl, sym, ap, subst, ◌∙◌}
 use Rattle.std.specs.Option.{is_some}
 use Rattle.der_core.specs.Optional.{members_of}
@@ -29,7 +29,7 @@ pub lent_kids : {K : Type 0} (now : K → List DerElement) (r : Option K) (lent 
 lent_kids now None lent elem given e is none = ap members_of (sym e ∙ ap at_option is) ∙ none_listed elem.is.0 none
 lent_kids now (Some k) lent elem given e is kids = ap members_of (sym e ∙ ap at_option is) ∙ listed_of elem.is.0 (now k) kids
 
--- ---- the first of an identifier
+-- ---- the first with an OID
 
 pub first_here : (oid : List ℕ) (all rest : List DerElement) (kid : DerElement) (octets : List ℕ) → all ≡ kid ∷ rest → IsNamed oid kid octets → IsFirstNamed oid all octets
 first_here oid all rest kid octets are named = record { before = []; extension = kid; after = rest; are = are; first = tt; named = named }

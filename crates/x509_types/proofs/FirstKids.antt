@@ -11,7 +11,7 @@ use Rattle.extension_types.specs.BasicConstraints.{small_integer}
 use Rattle.extension_types.specs.Facts.Constraints.{default_field}
 use Rattle.x509_types.specs.ExtensionParts.{HasFirstElement, EndsWithLength}
 
--- nothing begins a sequence of none
+-- an empty sequence begins with nothing
 pub none_begins : {X : Type 0} (part : DerElement → X → Type 0) (element : DerElement) (all : List DerElement) (x : X) → element ≡ sequence all → all ≡ [] → HasFirstElement part element x → ⊥
 none_begins part element all x holds none b =
     let kids : [] ≡ b.kid ∷ b.kids = sym none ∙ same_fields all (b.kid ∷ b.kids) (sym holds ∙ b.is) in
@@ -39,12 +39,12 @@ bad_in (k ∷ m ∷ ks) more b kid rest e is tagged none other = is
 no_flag : (number : ℕ) → BeginsOtherwise 0x01 (small_integer number ∷ [])
 no_flag number = λ e. omega (arith, e)
 
--- a bad flag stands before no path length
+-- no path length follows a bad flag
 pub bad_flag : (element : DerElement) (all : List DerElement) (number : ℕ) → element ≡ sequence all → HasBadFlag all → EndsWithLength element number → ⊥
 bad_flag element all number holds bad l =
     bad_in l.flag (small_integer number ∷ []) l.ca bad.kid bad.rest (sym bad.are ∙ same_fields all (l.flag ++ small_integer number ∷ []) (sym holds ∙ l.is)) l.flagged bad.tagged bad.none (no_flag number)
 
--- behind the flag stands the path length alone
+-- only the path length follows the flag
 pub behind_flag : (element : DerElement) (all rest : List DerElement) (b : Bool) (number : ℕ) → element ≡ sequence all → TakesDefault all b rest → EndsWithLength element number → rest ≡ small_integer number ∷ []
 behind_flag element all rest b number holds takes l =
     (split 0x01 takes.flag l.flag rest (small_integer number ∷ []) (default_field takes.flag b takes.is) (default_field l.flag l.ca l.flagged) takes.once (λ e. no_flag number)

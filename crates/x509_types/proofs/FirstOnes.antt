@@ -1,4 +1,4 @@
--- The first extension of an identifier among elements is that among the values that they spell.
+-- The first extension with an OID among elements is the first among the values that they encode.
 use Rattle.std.proofs.Common.{◌≡◌, ℕ, List, [], ◌∷◌, ◌++◌, Option, Some, None, refl, sym, ap, subst, ◌∙◌}
 use Rattle.der_core.specs.DerElement.{DerElement, Primitive}
 use Rattle.der_core.specs.Each.{AreEach}
@@ -18,11 +18,11 @@ use Rattle.x509_types.specs.declared.extension.Extension.{Extension}
 same_contents : (x y : List ℕ) → Primitive 0x06 x ≡ Primitive 0x06 y → x ≡ y
 same_contents x y e = cc
 
--- an element that spells an extension is one of its identifier
+-- an element that encodes an extension has its OID
 is_named : (oid : List ℕ) (element : DerElement) (e : Extension) (is : IsExtension element e) → identifier_contents e.extn_id ≡ oid → IsNamed oid element is.octets
 is_named oid element e is same = (e.critical, subst (λ (o : List ℕ). IsExtensionOf element (Primitive 0x06 o) e.critical is.octets) same is.fields)
 
--- and of no other, with no other octets
+-- and no other, with no other octets
 same_named : (oid : List ℕ) (element : DerElement) (e : Extension) (octets : List ℕ) (is : IsExtension element e) → IsNamed oid element octets → (identifier_contents e.extn_id ≡ oid) × (is.octets ≡ octets)
 same_named oid element e octets is named =
     let fields = fields_once element (object_identifier e.extn_id) (Primitive 0x06 oid) e.critical named.0 is.octets octets is.fields named.1 in
@@ -76,7 +76,7 @@ lies_in oid (k ∷ elements) (b ∷ before) e after each first named =
       rest.2,
     )
 
--- the elements in the list spell the extensions
+-- the elements in the list encode the extensions
 pub listed_each : (given : Option DerElement) (extensions : Option (List Extension)) → SpellsOption IsExtensions given extensions → AreEach IsExtension (members_of given) (extensions_in extensions)
 listed_each None None is = tt
 listed_each None (Some extensions) is = absurd is

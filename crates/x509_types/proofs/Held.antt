@@ -23,7 +23,7 @@ usage_held now extension octets (Some e) named holds = (octets, named, holds)
 usage_once : (extension a b : DerElement) → IsUsage extension a → IsUsage extension b → a ≡ b
 usage_once extension a b p q = one_kept q.0 a b (subst (λ (o : List ℕ). IsKept o a) (named_once CE_EXT_KEY_USAGE.now extension p.0 q.0 p.1 q.1) p.2) q.2
 
--- the purposes of the element that it holds are its own
+-- the KeyPurposeIds of the element in it are its own
 pub usage_holds : (oid : List ℕ) (extension element : DerElement) (t : Bool)
     → IsUsage extension element → (IsTrue t ↔ HoldsPurpose oid element)
     → IsTrue t ↔ IsUsageFor oid extension
@@ -32,7 +32,7 @@ usage_holds oid extension element t usage test = (
   λ held. test.1 (subst (HoldsPurpose oid) (usage_once extension held.0 element held.1 usage) held.2),
 )
 
--- the purposes among the elements of a sequence are those that it holds
+-- the KeyPurposeIds among the elements of a sequence are those in it
 pub purposes_held : (oid : List ℕ) (element : DerElement) (kids : List DerElement) (t : Bool)
     → element ≡ sequence kids → (IsTrue t ↔ HasSome (IsPurpose oid) kids)
     → IsTrue t ↔ HoldsPurpose oid element

@@ -1,4 +1,4 @@
--- Fields that may be left out are compared.
+-- OPTIONAL fields are compared.
 use Rattle.std.proofs.Common.{◌≡◌, ◌↔◌, IsTrue, Bool, ℕ, List, Option, ap}
 use Rattle.std.specs.Prelude.{bytes_eq}
 use Rattle.std.specs.Cmp.Lexicographic.{pointwise}

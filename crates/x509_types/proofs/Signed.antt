@@ -1,4 +1,4 @@
--- What an element spells as a certificate, by the three elements in it.
+-- The certificate that an element encodes, by the three elements in it.
 use Rattle.std.proofs.Common.{◌≡◌, [], ◌∷◌, refl, sym, ap, subst, ◌∙◌}
 use Rattle.der_core.specs.DerElement.{DerElement}
 use Rattle.der_core.specs.Elements.{sequence}

@@ -1,4 +1,4 @@
--- What an element spells by the elements of its fields.
+-- What an element encodes, by the elements of its fields.
 use Rattle.std.proofs.Common.{◌≡◌, Result, Ok, Err, MatchResult, refl, sym, subst, ◌∙◌}
 use Rattle.der_core.specs.DerElement.{DerElement}
 use Rattle.der_core.specs.Refusals.{RefusesShape}
@@ -23,11 +23,11 @@ use Rattle.x509_types.specs.declared.certificate.tbs_parts.IssuedTo.{IssuedTo}
 use Rattle.x509_types.specs.declared.certificate.tbs_parts.AddedFields.{AddedFields}
 use Rattle.x509_types.specs.declared.certificate.validity.Validity.{Validity}
 
--- the elements of the fields spell the value that the element around them spells
+-- the elements of the fields encode the value that the element around them encodes
 pub by_fields : (element : DerElement) (f : TbsElements) (tbs : TbsCertificate) → element ≡ tbs_of f → IsTbsCertificate element tbs → AreTbsFields f tbs
 by_fields element f tbs is spelled = subst (λ (g : TbsElements). AreTbsFields g tbs) (same_elements spelled.elements f (sym spelled.is ∙ is)) spelled.spelled
 
--- and the other way around
+-- and conversely
 pub of_fields : (element : DerElement) (f : TbsElements) (tbs : TbsCertificate) → element ≡ tbs_of f → AreTbsFields f tbs → IsTbsCertificate element tbs
 of_fields element f tbs is spelled = record { elements = f; is = is; spelled = spelled }
 
@@ -37,7 +37,7 @@ pub read_of_fields : (element : DerElement) (f : TbsElements) (r : Result TbsCer
 read_of_fields element f (Ok tbs) is spelled = of_fields element f tbs is spelled
 read_of_fields element f (Err e) is refused = list_refused (AreTbsFields f) (IsTbsCertificate element) e (λ tbs p. (tbs, by_fields element f tbs is p)) refused
 
--- what each element spells are the fields of one value
+-- the values that the elements encode are the fields of one value
 pub all_fit : (f : TbsElements) → Fits (SpellsOption IsVersion) f.version
     → (value : IntegerAsn1) × (f.serial_number ≡ integer_contents value)
     → (a : AlgorithmIdentifier) × (f.signature ≡ algorithm_identifier a)
@@ -71,7 +71,7 @@ all_fit f version serial signature issuer valid subject key extensions = (
   },
 )
 
--- what three parts of the fields spell is spelled by all
+-- the value of which three groups of elements encode the parts is encoded by all of them
 pub parts_join : (f : TbsElements) (by : IssuedBy) (to : IssuedTo) (added : AddedFields)
     → IsIssuedBy f by → IsIssuedTo f to → AreAdded f added → AreTbsFields f (tbs_of_parts by to added)
 parts_join f by to added b t a = record {
@@ -87,7 +87,7 @@ parts_join f by to added b t a = record {
   extensions = a.extensions;
 }
 
--- where a part spells nothing, nothing is spelled by all
+-- if a part encodes nothing, the whole encodes nothing
 pub no_issued_by : (f : TbsElements) (e : DerError) → RefusesShape (IsIssuedBy f) e → RefusesShape (AreTbsFields f) e
 no_issued_by f e =
     list_refused (IsIssuedBy f) (AreTbsFields f) e

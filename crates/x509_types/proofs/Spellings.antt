@@ -1,4 +1,4 @@
--- How the elements of extensions and attributes may stand.
+-- How extensions and attributes may be encoded.
 use Rattle.std.proofs.Common.{◌≡◌, ◌⊎◌, inl, inr, ℕ, List, [], ◌∷◌, ◌++◌, refl, sym, ap, subst, ◌∙◌}
 use Rattle.std.specs.Prelude.{Bool}
 use Rattle.der_core.specs.DerElement.{DerElement, Primitive}

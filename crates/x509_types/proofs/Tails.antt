@@ -1,4 +1,4 @@
--- What is left of the fields of a TBSCertificate as they are taken off the front.
+-- The fields of a TBSCertificate that are left as they are taken off the beginning.
 use Rattle.std.proofs.Common.{◌≡◌, ℕ, List, [], ◌∷◌, ◌++◌, Option, Some, None, MatchOption, refl, sym, subst, ◌∙◌, arith}
 use Rattle.std.proofs.Common.{append-nil}
 use Rattle.der_core.specs.DerElement.{DerElement, Primitive}
@@ -10,7 +10,7 @@ use Rattle.der_core.specs.Facts.Grammars.{same_fields}
 use Rattle.x509_types.specs.TbsElements.{TbsElements, tbs_tail, tbs_of}
 use Rattle.x509_types.specs.Facts.TbsElements.{no_issuer, no_subject, behind}
 
--- what is behind an element that may be left out
+-- what follows an element that may be absent
 pub explicit_gone : (tag : ℕ) (all rest after : List DerElement) (kid given : Option DerElement)
     → TakesExplicit tag all kid rest → all ≡ optional_explicit tag given ++ after
     → (given ≡ None → BeginsOtherwise tag after) → rest ≡ after
@@ -25,7 +25,7 @@ leaf_gone now tag None all rest after (Some content) taken is other = absurd (su
 leaf_gone now tag (Some x) all rest after None taken is other = absurd (subst (BeginsOtherwise tag) (sym is ∙ taken) other refl)
 leaf_gone now tag (Some x) all rest after (Some content) taken is other = cc (taken, is)
 
--- the six fields that are always there
+-- the six required fields
 pub six_gone : (all a b c d e rest after : List DerElement)
     (k l m n o p k' l' m' n' o' p' : DerElement) → all ≡ k ∷ a → a ≡ l ∷ b → b ≡ m ∷ c → c ≡ n ∷ d
     → d ≡ o ∷ e → e ≡ p ∷ rest
@@ -54,7 +54,7 @@ pub behind_subject : {R : Type 0} (now : R → List ℕ) (found : Option R) (all
     → rest ≡ optional_explicit 0xA3 f.extensions
 behind_subject now found all rest f taken is = leaf_gone now 0x82 found all rest (optional_explicit 0xA3 f.extensions) f.subject_unique_id taken is (no_subject f.extensions)
 
--- an element of the tag that doesn't hold one isn't that of extensions
+-- an element of the tag that doesn't hold exactly one isn't that of extensions
 pub no_bad_tagging : (all : List DerElement) (given : Option DerElement) → HasBadTagging 0xA3 all → all ≡ optional_explicit 0xA3 given → ⊥
 no_bad_tagging all None bad is = let e : bad.kid ∷ bad.rest ≡ [] = sym bad.are ∙ is in absurd cc
 no_bad_tagging all (Some x) bad is =

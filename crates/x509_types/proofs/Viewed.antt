@@ -1,4 +1,4 @@
--- What is known of a certificate where it lies.
+-- What is known of a borrowed certificate.
 use Rattle.std.proofs.Common.{◌≡◌, ℕ, List, [], ◌∷◌, length, refl, sym, ap, ◌∙◌, arith}
 use Rattle.std.proofs.Math.Logic.{∥∥₁_elim}
 use Rattle.std.proofs.lemmas.Grind.{merely}
@@ -52,7 +52,7 @@ by_certificate element f c is spelled =
           c.signature_value refl three.2;
     }
 
--- the three elements in one that stands around fields
+-- the three elements in a certificate with these fields
 pub three_parts : (element tbs algorithm value : DerElement) (f : CertificateElements) → element ≡ sequence (tbs ∷ algorithm ∷ value ∷ []) → element ≡ certificate_of f
     → (tbs ≡ tbs_of f.tbs) × (algorithm ≡ f.algorithm) × (value ≡ Primitive 0x03 (f.unused ∷ f.signature))
 three_parts element tbs algorithm value f is around = same_three tbs algorithm value (tbs_of f.tbs) f.algorithm (Primitive 0x03 (f.unused ∷ f.signature)) (sym is ∙ around)
@@ -64,6 +64,6 @@ pub no_bits : (value : DerElement) (contents : List ℕ) (unused : ℕ) (payload
     → length contents ≡ 0 → value ≡ Primitive 0x03 contents → value ≡ Primitive 0x03 (unused ∷ payload) → ⊥
 no_bits value contents unused payload empty p q = omega (arith, empty, ap length (same_contents value contents (unused ∷ payload) p q))
 
--- what is known of an element is known of the fields that it stands around
+-- what is known of an element is known of its fields
 pub known_fits : (element : DerElement) (f : CertificateElements) → element ≡ certificate_of f → ∥ Fits IsCertificate element ∥₁ → ∥ Fits AreCertificateFields f ∥₁
 known_fits element f is known = ∥∥₁_elim known (λ a b. squash₁ a b) (λ fit. merely (fit.0, by_certificate element f fit.0 is fit.1))

@@ -13,14 +13,14 @@ use Rattle.x509_types.specs.declared.attribute.Attribute.{Attribute}
 abbrev pub attribute : Attribute → DerElement
 attribute a = sequence (object_identifier a.ty ∷ attribute_values a.value ∷ [])
 
--- The element spells the attribute.
+-- The element encodes the attribute.
 pub record IsAttribute (element : DerElement) (a : Attribute) : Type 0 where
   pub values : DerElement
   pub is : element ≡ sequence (object_identifier a.ty ∷ values ∷ [])
   pub spelled : AreAttributeValues values a.value
 
--- [0] IMPLICIT SET OF Attribute, as a request has it (RFC 2986 4.1) and a signer (RFC 5652 5.3):
--- the element holds the attributes, each its own
+-- [0] IMPLICIT SET OF Attribute of a request (RFC 2986 4.1) and of a signer (RFC 5652 5.3): each
+-- member encodes the attribute at its index
 abbrev pub AreAttributes : DerElement → List Attribute → Type 0
 AreAttributes = IsListOf 0xA0 IsAttribute
 
@@ -28,10 +28,10 @@ AreAttributes = IsListOf 0xA0 IsAttribute
 abbrev pub attribute_list : List Attribute → DerElement
 attribute_list = list_element 0xA0 attribute
 
--- what is written into strings of them
+-- what they wrap in strings
 abbrev pub inner_attributes : List Attribute → List DerElement
 inner_attributes = flat_map (λ a. inner_values a.value)
 
--- the kinds of the values of extensions in it, and the octets that are written
+-- the kinds of the extension values in it, and its encoding
 abbrev pub attribute_octets : Attribute → List ℕ
 attribute_octets a = asked_kinds a.value ++ encoding (attribute a)

@@ -1,10 +1,10 @@
--- The kinds of attributes, by their identifiers.
+-- The kinds of attributes, by OID.
 use Rattle.std.specs.Prelude.{ℕ, List, if◌then◌else◌, bytes_eq}
 use Rattle.asn1_types.specs.declared.oids.TheConstants.{CONTENT_TYPE, MESSAGE_DIGEST, EXTENSION_REQUEST}
 use Rattle.x509_types.specs.declared.attribute.kind.AttributeKind.{AttributeKind}
 use Rattle.x509_types.specs.declared.attribute.kind.AttributeKind.TheVariants as kinds
 
--- the kind that an identifier names, by its contents octets (RFC 2985 5.3.1, 5.3.2, 5.4.2)
+-- the kind that an OID identifies, by its contents octets (RFC 2985 5.3.1, 5.3.2, 5.4.2)
 abbrev pub named_attribute : List ℕ → AttributeKind
 named_attribute oid =
     if bytes_eq oid CONTENT_TYPE.now then kinds.ContentType

@@ -1,5 +1,5 @@
--- In what an attribute that is written anew may be another than the one that was read: in the
--- extensions that it asks for.
+-- How the written encoding of an attribute may differ from the one that was read: in the extensions
+-- that it requests.
 use Rattle.std.specs.Prelude.{◌≡◌, [], ◌∷◌}
 use Rattle.der_core.specs.DerElement.{DerElement}
 use Rattle.der_core.specs.Each.{IsListOf}
@@ -11,8 +11,8 @@ use Rattle.x509_types.specs.declared.attribute.Attribute.{Attribute}
 use Rattle.x509_types.specs.declared.attribute.values.AttributeValues.{AttributeValues}
 use Rattle.x509_types.specs.declared.attribute.values.AttributeValues.TheVariants as variants
 
--- the element of the values is the one that is written, but for the spelling of extensions, each at
--- its place
+-- the element of the values is the one that is written, but for the encodings of extensions, index
+-- by index
 abbrev pub AreSpelling : DerElement → AttributeValues → Type 0
 AreSpelling element (variants.ContentType types) =
     element ≡ attribute_values (variants.ContentType types)

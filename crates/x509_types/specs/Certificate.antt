@@ -11,8 +11,7 @@ use Rattle.x509_types.specs.CertificateElements.{CertificateElements, certificat
 use Rattle.x509_types.specs.TbsCertificate.{tbs_certificate, inner_tbs}
 use Rattle.x509_types.specs.declared.certificate.Certificate.{Certificate}
 
--- The element spells the certificate: it has its fields, and each spells the field that it stands
--- for.
+-- The element encodes the certificate: it has its fields, and each of them encodes its value.
 pub record IsCertificate (element : DerElement) (c : Certificate) : Type 0 where
   pub elements : CertificateElements
   pub is : element ≡ certificate_of elements
@@ -24,10 +23,10 @@ certificate c =
     sequence (tbs_certificate c.tbs_certificate ∷ algorithm_identifier c.signature_algorithm ∷
     bit_string c.signature_value ∷ [])
 
--- the elements that are written into strings of it
+-- the elements that it wraps in strings
 abbrev pub inner_certificate : Certificate → List DerElement
 inner_certificate c = inner_tbs c.tbs_certificate
 
--- the kinds of the values of its extensions, and the octets that are written
+-- the kinds of its extension values, and its encoding
 abbrev pub certificate_octets : Certificate → List ℕ
 certificate_octets c = value_kinds c.tbs_certificate.extensions ++ encoding (certificate c)

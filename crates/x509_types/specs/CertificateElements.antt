@@ -1,4 +1,4 @@
--- The fields of a Certificate as the elements that stand for them (RFC 5280 4.1, 4.1.1).
+-- The fields of a Certificate as elements (RFC 5280 4.1, 4.1.1).
 use Rattle.std.specs.Prelude.{◌≡◌, ℕ, List, [], ◌∷◌}
 use Rattle.der_core.specs.DerElement.{DerElement, Primitive}
 use Rattle.der_core.specs.Elements.{sequence}
@@ -8,7 +8,7 @@ use Rattle.x509_types.specs.TbsElements.{TbsElements, tbs_of}
 use Rattle.x509_types.specs.TbsCertificate.{AreTbsFields}
 use Rattle.x509_types.specs.declared.certificate.Certificate.{Certificate}
 
--- The elements in what is signed, that of the algorithm beside it, and of the signature the count
+-- The elements in what is signed, that of the algorithm beside it, and the signature as its count
 -- of unused bits and the octets that hold the bits.
 pub record CertificateElements : Type 0 where
   pub tbs : TbsElements
@@ -21,7 +21,7 @@ abbrev pub certificate_of : CertificateElements → DerElement
 certificate_of f =
     sequence (tbs_of f.tbs ∷ f.algorithm ∷ Primitive 0x03 (f.unused ∷ f.signature) ∷ [])
 
--- Each spells the field that it stands for.
+-- Each element encodes the value of its field.
 pub record AreCertificateFields (f : CertificateElements) (c : Certificate) : Type 0 where
   pub tbs : AreTbsFields f.tbs c.tbs_certificate
   pub algorithm : f.algorithm ≡ algorithm_identifier c.signature_algorithm

@@ -1,10 +1,10 @@
--- The kinds of extensions, by their identifiers.
+-- The kinds of extensions, by OID.
 use Rattle.std.specs.Prelude.{ℕ, List, if◌then◌else◌, bytes_eq}
 use Rattle.asn1_types.specs.declared.oids.TheConstants.{CE_SUBJECT_KEY_IDENTIFIER, CE_KEY_USAGE, CE_SUBJECT_ALT_NAME, CE_ISSUER_ALT_NAME, CE_BASIC_CONSTRAINTS, CE_AUTHORITY_KEY_IDENTIFIER, CE_EXT_KEY_USAGE}
 use Rattle.x509_types.specs.declared.extension.kind.ExtensionKind.{ExtensionKind}
 use Rattle.x509_types.specs.declared.extension.kind.ExtensionKind.TheVariants as kinds
 
--- the kind that an identifier names, by its contents octets (RFC 5280 4.2.1.1 to 4.2.1.3, 4.2.1.6,
+-- the kind that an OID identifies, by its contents octets (RFC 5280 4.2.1.1 to 4.2.1.3, 4.2.1.6,
 -- 4.2.1.7, 4.2.1.9, 4.2.1.12)
 abbrev pub named_kind : List ℕ → ExtensionKind
 named_kind oid =

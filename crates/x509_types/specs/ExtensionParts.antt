@@ -1,5 +1,5 @@
--- What a certificate says of its key by the first extension of an identifier (RFC 5280 4.2.1.1,
--- 4.2.1.2, 4.2.1.9).
+-- What a certificate says in the first extension with an OID: the CA flag, the path length and key
+-- identifiers (RFC 5280 4.2.1.1, 4.2.1.2, 4.2.1.9).
 use Rattle.std.specs.Prelude.{◌≡◌, ℕ, Bool, List, [], ◌∷◌, ◌++◌}
 use Rattle.der_core.specs.DerElement.{DerElement, Primitive}
 use Rattle.der_core.specs.Elements.{sequence}
@@ -10,7 +10,7 @@ use Rattle.x509_types.specs.ExtensionView.{key_identifier}
 use Rattle.x509_types.specs.CertificateElements.{CertificateElements}
 use Rattle.x509_types.specs.FirstExtension.{Says}
 
--- A SEQUENCE begins with an element that says the value.
+-- A SEQUENCE begins with an element that encodes the value.
 pub record HasFirstElement {X : Type 0} (part : DerElement → X → Type 0) (element : DerElement)
     (value : X) : Type 0 where
   pub kid : DerElement
@@ -18,8 +18,8 @@ pub record HasFirstElement {X : Type 0} (part : DerElement → X → Type 0) (el
   pub is : element ≡ sequence (kid ∷ kids)
   pub says : part kid value
 
--- pathLenConstraint INTEGER (0..MAX) OPTIONAL of BasicConstraints, behind the flag where that is
--- given
+-- pathLenConstraint INTEGER (0..MAX) OPTIONAL of BasicConstraints, after the flag if that is
+-- present
 pub record EndsWithLength (element : DerElement) (number : ℕ) : Type 0 where
   pub flag : List DerElement
   pub ca : Bool
@@ -34,7 +34,7 @@ IsAuthorityKeyIdentifier element key = element ≡ Primitive 0x80 key
 abbrev pub IsSubjectKeyIdentifier : DerElement → List ℕ → Type 0
 IsSubjectKeyIdentifier element key = element ≡ key_identifier key
 
--- basic constraints have this flag, cA BOOLEAN DEFAULT FALSE, and it is given
+-- basic constraints have this flag, cA BOOLEAN DEFAULT FALSE, and it is present
 abbrev pub HasCa : CertificateElements → Bool → Type 0
 HasCa = Says CE_BASIC_CONSTRAINTS.now (HasFirstElement IsBoolean)
 
@@ -42,10 +42,10 @@ HasCa = Says CE_BASIC_CONSTRAINTS.now (HasFirstElement IsBoolean)
 abbrev pub HasPathLength : CertificateElements → ℕ → Type 0
 HasPathLength = Says CE_BASIC_CONSTRAINTS.now EndsWithLength
 
--- the key of the subject has this identifier
+-- the subject key identifier has these octets
 abbrev pub HasSubjectKey : CertificateElements → List ℕ → Type 0
 HasSubjectKey = Says CE_SUBJECT_KEY_IDENTIFIER.now IsSubjectKeyIdentifier
 
--- the key of the authority is named by this identifier
+-- the authority key identifier has this keyIdentifier
 abbrev pub HasAuthorityKey : CertificateElements → List ℕ → Type 0
 HasAuthorityKey = Says CE_AUTHORITY_KEY_IDENTIFIER.now (HasFirstElement IsAuthorityKeyIdentifier)

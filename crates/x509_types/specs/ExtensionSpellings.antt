@@ -1,5 +1,5 @@
--- The two ways in which an element that spells an extension is another than the one that is written
--- for it.
+-- The two ways in which an element that encodes an extension can differ from the one that is
+-- written for it.
 use Rattle.std.specs.Prelude.{◌≡◌, ◌≢◌, ◌⊎◌, ℕ, ◌==◌, Bool, not, List, [], ◌∷◌}
 use Rattle.der_core.specs.DerElement.{DerElement, Primitive}
 use Rattle.der_core.specs.Encoding.{encoding}
@@ -14,8 +14,8 @@ use Rattle.x509_types.specs.declared.extension.Extension.{Extension}
 use Rattle.x509_types.specs.declared.extension.view.ExtensionView.{ExtensionView}
 use Rattle.x509_types.specs.declared.extension.view.ExtensionView.TheVariants as views
 
--- The flag of an extension stands in another octet than FF: TRUE, against X.690 11.1, or FALSE,
--- against X.690 11.5.
+-- The flag of an extension is another octet than FF: TRUE, against X.690 11.1, or FALSE, against
+-- X.690 11.5.
 pub record HasOtherFlag (element oid : DerElement) (critical : Bool)
     (octets : List ℕ) : Type 0 where
   pub octet : ℕ
@@ -23,7 +23,7 @@ pub record HasOtherFlag (element oid : DerElement) (critical : Bool)
   pub flagged : critical ≡ not (octet == 0)
   pub is : element ≡ sequence (oid ∷ Primitive 0x01 (octet ∷ []) ∷ octet_string octets ∷ [])
 
--- The octets hold basic constraints whose TRUE stands in another octet than FF, against X.690 11.1.
+-- The octets encode basic constraints whose TRUE is another octet than FF, against X.690 11.1.
 pub record HasOtherConstraints (octets : List ℕ) (view : ExtensionView) : Type 0 where
   pub element : DerElement
   pub constraints : BasicConstraints
@@ -31,9 +31,9 @@ pub record HasOtherConstraints (octets : List ℕ) (view : ExtensionView) : Type
   pub valued : view ≡ views.BasicConstraints constraints
   pub are : octets ≡ encoding element
 
--- The element spells the extension. Its flag stands as it is written, or in another octet; and,
--- whichever it is, the octets of its value are the written ones, or have another TRUE. Where both
--- are as they are written, so is the element.
+-- The element encodes the extension. Its flag is as it is written, or another octet; independently,
+-- the octets of its value are the written ones, or have another TRUE. If both are as they are
+-- written, so is the element.
 pub record IsSpelling (element : DerElement) (e : Extension) : Type 0 where
   pub is : IsExtension element e
   pub flag : (is.fields.flag ≡ default_false e.critical)

@@ -1,4 +1,4 @@
--- The values of extensions, which an OCTET STRING holds (RFC 5280 4.1, 4.2.1).
+-- The values of extensions, wrapped in an OCTET STRING (RFC 5280 4.1, 4.2.1).
 use Rattle.std.specs.Prelude.{◌≡◌, ⊤, ℕ, List, [], ◌∷◌}
 use Rattle.der_core.specs.Each.{Prints}
 use Rattle.der_core.specs.DerElement.{DerElement}
@@ -36,8 +36,7 @@ kind_of_view (views.Raw octets) = kinds.Other
 abbrev pub key_identifier : List ℕ → DerElement
 key_identifier = octet_string
 
--- the octets that are written for a value: the encoding of its element, but for one that is kept as
--- octets
+-- the octets that are written for a value: the encoding of its element, or its raw octets
 abbrev pub value_octets : ExtensionView → List ℕ
 value_octets (views.SubjectKeyIdentifier key) = encoding (key_identifier key)
 value_octets (views.KeyUsage usage) = encoding (key_usage usage)
@@ -48,7 +47,7 @@ value_octets (views.AuthorityKeyIdentifier key) = encoding (authority_key_identi
 value_octets (views.ExtendedKeyUsage usage) = encoding (extended_key_usage usage)
 value_octets (views.Raw octets) = octets
 
--- what is written into these octets as an element of its own
+-- what these octets wrap as an element of its own
 abbrev pub inner_value : ExtensionView → List DerElement
 inner_value (views.SubjectKeyIdentifier key) = key_identifier key ∷ []
 inner_value (views.KeyUsage usage) = key_usage usage ∷ []
@@ -59,8 +58,8 @@ inner_value (views.AuthorityKeyIdentifier key) = authority_key_identifier key �
 inner_value (views.ExtendedKeyUsage usage) = extended_key_usage usage ∷ []
 inner_value (views.Raw octets) = []
 
--- The octets hold the value: the encoding of one element that spells it, and nothing more, or the
--- octets that are kept.
+-- The octets hold the value: the encoding of one element that encodes it, and nothing more, or its
+-- raw octets.
 abbrev pub IsValueIn : List ℕ → ExtensionView → Type 0
 IsValueIn octets (views.SubjectKeyIdentifier key) = IsWithin (Prints key_identifier) octets key
 IsValueIn octets (views.KeyUsage usage) = IsWithin (Prints key_usage) octets usage
@@ -73,12 +72,12 @@ IsValueIn octets (views.AuthorityKeyIdentifier key) =
 IsValueIn octets (views.ExtendedKeyUsage usage) = IsWithin (Prints extended_key_usage) octets usage
 IsValueIn octets (views.Raw kept) = octets ≡ kept
 
--- the octets hold no general names
+-- the octets encode no general names
 abbrev pub HoldsNoNames : List ℕ → Type 0
 HoldsNoNames octets = (names : List RawGeneralName) → IsWithin AreGeneralNames octets names → ⊥
 
--- octets are kept where the identifier names no kind, and under the two of alternative names where
--- they hold no general names
+-- octets are raw if the OID is of no known kind, and under the two kinds of alternative names if
+-- they encode no general names
 abbrev pub MayBeKept : ExtensionKind → List ℕ → Type 0
 MayBeKept kinds.SubjectKeyIdentifier octets = ⊥
 MayBeKept kinds.KeyUsage octets = ⊥
@@ -89,7 +88,7 @@ MayBeKept kinds.AuthorityKeyIdentifier octets = ⊥
 MayBeKept kinds.ExtendedKeyUsage octets = ⊥
 MayBeKept kinds.Other octets = ⊤
 
--- an extension whose identifier names the kind may have the value
+-- an extension whose OID is of the kind may have the value
 abbrev pub IsOfKind : ExtensionKind → ExtensionView → Type 0
 IsOfKind kind (views.SubjectKeyIdentifier key) = kinds.SubjectKeyIdentifier ≡ kind
 IsOfKind kind (views.KeyUsage usage) = kinds.KeyUsage ≡ kind

@@ -1,4 +1,4 @@
--- The times and the key of a certificate's value are those that stand further within its elements.
+-- The times and the key of a certificate's value are those nested in its elements.
 use Rattle.std.specs.Prelude.{◌≡◌, ℕ, List, Some}
 use Rattle.der_core.specs.Encoding.{encoding}
 use Rattle.asn1_types.specs.Values.{payload_of}
@@ -11,7 +11,7 @@ use Rattle.x509_types.specs.CertificateElements.{CertificateElements}
 use Rattle.x509_types.specs.CertificateFields.{not_before_of, not_after_of, key_algorithm_of, key_octets_of}
 use Rattle.x509_types.specs.declared.certificate.Certificate.{Certificate}
 
--- the octets that hold the bits of a key: for one of RSA the encoding of an RSAPublicKey (RFC 3279
+-- the octets that hold the bits of a key: for an RSA key the encoding of an RSAPublicKey (RFC 3279
 -- 2.3.1)
 abbrev pub key_payload : SubjectKey → List ℕ
 key_payload (keys.Rsa key) = encoding (rsa_public_key key)
@@ -19,7 +19,7 @@ key_payload (keys.Ec bits) = payload_of bits
 key_payload (keys.Ed bits) = payload_of bits
 key_payload (keys.Mldsa bits) = payload_of bits
 
--- Each stands where its path leads.
+-- Each field is at the end of its path.
 pub record AreInnerFields (f : CertificateElements) (c : Certificate) : Type 0 where
   pub not_before : not_before_of f ≡ Some (time c.tbs_certificate.validity.not_before)
   pub not_after : not_after_of f ≡ Some (time c.tbs_certificate.validity.not_after)

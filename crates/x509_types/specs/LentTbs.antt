@@ -1,10 +1,10 @@
--- The fields of a TBSCertificate where their octets lie.
+-- The fields of a borrowed TBSCertificate.
 use Rattle.std.specs.Option.{option_copied}
 use Rattle.der_core.specs.Lent.{at_option}
 use Rattle.x509_types.specs.TbsElements.{TbsElements}
 use Rattle.x509_types.specs.declared.certificate.tbs_fields.TbsFields.{TbsFields}
 
--- the elements that lie there
+-- the borrowed elements
 abbrev pub elements_at : TbsFields → TbsElements
 elements_at f = record {
   version = at_option f.version;

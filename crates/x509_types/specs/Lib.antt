@@ -1,4 +1,5 @@
--- Promises, which public contracts cite: all but those named below; first `Certificate`, `CertificateView`, `Extension`, `Attribute`.
+-- Promises, which public contracts cite: all but those named below; first `Certificate`,
+-- `CertificateView`, `Extension`, `Attribute`.
 -- Rules, which the promises rest on: `ExtensionFields`, `LentTbs`, `FirstExtension`.
 -- Inside, which no public contract cites: `TbsParts`, `Facts`.
 pub mod ExtensionKind

@@ -1,4 +1,4 @@
--- The purposes that the extended key usages of a certificate hold (RFC 5280 4.2.1.12).
+-- The KeyPurposeIds in the extended key usages of a certificate (RFC 5280 4.2.1.12).
 use Rattle.std.specs.Prelude.{◌≡◌, ℕ, List, ◌∷◌, ◌++◌}
 use Rattle.asn1_types.specs.Elements.{object_identifier_of}
 use Rattle.der_core.specs.DerElement.{DerElement}
@@ -16,11 +16,11 @@ pub record HasSome (Is : DerElement → Type 0) (elements : List DerElement) : T
   pub are : elements ≡ before ++ element ∷ after
   pub is : Is element
 
--- the OBJECT IDENTIFIER of a purpose, by its contents octets
+-- the OBJECT IDENTIFIER of a KeyPurposeId, by its contents octets
 abbrev pub IsPurpose : List ℕ → DerElement → Type 0
 IsPurpose oid element = element ≡ object_identifier_of oid
 
--- ExtKeyUsageSyntax ::= SEQUENCE SIZE (1..MAX) OF KeyPurposeId: the purpose is one of them
+-- ExtKeyUsageSyntax ::= SEQUENCE SIZE (1..MAX) OF KeyPurposeId: this is one of them
 abbrev pub HoldsPurpose : List ℕ → DerElement → Type 0
 HoldsPurpose oid element =
     (kids : List DerElement) × (element ≡ sequence kids) × HasSome (IsPurpose oid) kids
@@ -30,15 +30,15 @@ abbrev pub IsUsage : DerElement → DerElement → Type 0
 IsUsage extension element =
     (octets : List ℕ) × IsNamed CE_EXT_KEY_USAGE.now extension octets × IsKept octets element
 
--- An extension is an extended key usage that holds the purpose.
+-- An extension is an extended key usage with this KeyPurposeId.
 abbrev pub IsUsageFor : List ℕ → DerElement → Type 0
 IsUsageFor oid extension =
     (element : DerElement) × IsUsage extension element × HoldsPurpose oid element
 
--- some extended key usage holds the purpose
+-- some extended key usage has this KeyPurposeId
 abbrev pub NamesPurpose : CertificateElements → List ℕ → Type 0
 NamesPurpose f oid = HasSome (IsUsageFor oid) (extensions_of f)
 
--- an extended key usage stands
+-- there is an extended key usage
 abbrev pub HasPurposes : CertificateElements → Type 0
 HasPurposes f = (octets : List ℕ) × IsFirstNamed CE_EXT_KEY_USAGE.now (extensions_of f) octets

@@ -1,4 +1,4 @@
--- Which element spells a TBSCertificate (RFC 5280 4.1, 4.1.2).
+-- Which element encodes a TBSCertificate (RFC 5280 4.1, 4.1.2).
 use Rattle.std.specs.Prelude.{◌≡◌, ℕ, List, ◌++◌, flat_map}
 use Rattle.std.specs.Option.{option_map}
 use Rattle.der_core.specs.DerElement.{DerElement}
@@ -22,7 +22,7 @@ use Rattle.x509_types.specs.declared.extension.Extension.{Extension}
 abbrev pub IsVersion : DerElement → Version → Type 0
 IsVersion element value = element ≡ version value
 
--- Extensions ::= SEQUENCE SIZE (1..MAX) OF Extension: an empty one is read, too
+-- Extensions ::= SEQUENCE SIZE (1..MAX) OF Extension: an empty one is accepted, too
 abbrev pub IsExtensions : DerElement → List Extension → Type 0
 IsExtensions = IsListOf 0x30 IsExtension
 
@@ -30,11 +30,11 @@ IsExtensions = IsListOf 0x30 IsExtension
 abbrev pub extensions : List Extension → DerElement
 extensions = list_element 0x30 extension
 
--- the elements that are written into strings of extensions
+-- the elements that extensions wrap in strings
 abbrev pub inner_extensions : List Extension → List DerElement
 inner_extensions = flat_map (λ e. inner_value e.extn_value)
 
--- Each element spells the field that it stands for.
+-- Each element encodes the value of its field.
 pub record AreTbsFields (f : TbsElements) (tbs : TbsCertificate) : Type 0 where
   pub version : SpellsOption IsVersion f.version tbs.version
   pub serial_number : f.serial_number ≡ integer_contents tbs.serial_number
@@ -48,14 +48,14 @@ pub record AreTbsFields (f : TbsElements) (tbs : TbsCertificate) : Type 0 where
   pub subject_unique_id : f.subject_unique_id ≡ tbs.subject_unique_id
   pub extensions : SpellsOption IsExtensions f.extensions tbs.extensions
 
--- The fields that may be left out are the same of both.
+-- Both have the same OPTIONAL fields.
 pub record HasSameOptions (a b : TbsCertificate) : Type 0 where
   pub version : a.version ≡ b.version
   pub issuer_unique_id : a.issuer_unique_id ≡ b.issuer_unique_id
   pub subject_unique_id : a.subject_unique_id ≡ b.subject_unique_id
   pub extensions : a.extensions ≡ b.extensions
 
--- The element spells the TBSCertificate.
+-- The element encodes the TBSCertificate.
 pub record IsTbsCertificate (element : DerElement) (tbs : TbsCertificate) : Type 0 where
   pub elements : TbsElements
   pub is : element ≡ tbs_of elements
@@ -80,12 +80,12 @@ tbs_elements tbs = record {
 abbrev pub tbs_certificate : TbsCertificate → DerElement
 tbs_certificate tbs = tbs_of (tbs_elements tbs)
 
--- the elements that are written into strings of it: that of the key, then those of the extensions
+-- the elements that it wraps in strings: that of the key, then those of the extensions
 abbrev pub inner_tbs : TbsCertificate → List DerElement
 inner_tbs tbs =
     inner_key tbs.subject_public_key_info.subject_public_key
     ++ inner_option inner_extensions tbs.extensions
 
--- the kinds of the values of its extensions, and the octets that are written
+-- the kinds of its extension values, and its encoding
 abbrev pub tbs_octets : TbsCertificate → List ℕ
 tbs_octets tbs = value_kinds tbs.extensions ++ encoding (tbs_certificate tbs)

@@ -1,11 +1,10 @@
--- The fields of a TBSCertificate as the elements that stand for them (RFC 5280 4.1).
+-- The fields of a TBSCertificate as elements (RFC 5280 4.1).
 use Rattle.std.specs.Prelude.{ℕ, List, ◌∷◌, ◌++◌, Option}
 use Rattle.asn1_types.specs.Elements.{integer_of}
 use Rattle.der_core.specs.DerElement.{DerElement}
 use Rattle.der_core.specs.Elements.{sequence, optional_explicit, optional_leaf}
 
--- Any element for each field, but of the serial number and of unique identifiers the contents
--- octets.
+-- Any element for each field; contents octets for the serial number and the unique identifiers.
 pub record TbsElements : Type 0 where
   pub version : Option DerElement
   pub serial_number : List ℕ
@@ -18,9 +17,9 @@ pub record TbsElements : Type 0 where
   pub subject_unique_id : Option (List ℕ)
   pub extensions : Option DerElement
 
--- the fields behind the key, which may be left out: issuerUniqueID [1] IMPLICIT UniqueIdentifier
--- OPTIONAL, subjectUniqueID [2] IMPLICIT UniqueIdentifier OPTIONAL, extensions [3] EXPLICIT
--- Extensions OPTIONAL
+-- the OPTIONAL fields after the key: issuerUniqueID [1] IMPLICIT UniqueIdentifier OPTIONAL,
+-- subjectUniqueID [2] IMPLICIT UniqueIdentifier OPTIONAL, extensions [3] EXPLICIT Extensions
+-- OPTIONAL
 abbrev pub tbs_tail : TbsElements → List DerElement
 tbs_tail f =
     optional_leaf 0x81 f.issuer_unique_id
@@ -28,7 +27,7 @@ tbs_tail f =
 
 -- TBSCertificate ::= SEQUENCE { version [0] EXPLICIT Version DEFAULT v1, serialNumber
 -- CertificateSerialNumber, signature AlgorithmIdentifier, issuer Name, validity Validity, subject
--- Name, subjectPublicKeyInfo SubjectPublicKeyInfo, and those behind it }
+-- Name, subjectPublicKeyInfo SubjectPublicKeyInfo, and the OPTIONAL ones }
 abbrev pub tbs_of : TbsElements → DerElement
 tbs_of f =
     sequence (optional_explicit 0xA0 f.version

@@ -14,21 +14,21 @@ use Rattle.x509_types.specs.declared.certificate.tbs_parts.IssuedBy.{IssuedBy}
 use Rattle.x509_types.specs.declared.certificate.tbs_parts.IssuedTo.{IssuedTo}
 use Rattle.x509_types.specs.declared.certificate.tbs_parts.AddedFields.{AddedFields}
 
--- Each element spells the field of the first part.
+-- Each element encodes its field of the first part.
 pub record IsIssuedBy (f : TbsElements) (part : IssuedBy) : Type 0 where
   pub version : SpellsOption IsVersion f.version part.version
   pub serial_number : f.serial_number ≡ integer_contents part.serial_number
   pub signature : f.signature ≡ algorithm_identifier part.signature
   pub issuer : IsName f.issuer part.issuer
 
--- Each element spells the field of the second part.
+-- Each element encodes its field of the second part.
 pub record IsIssuedTo (f : TbsElements) (part : IssuedTo) : Type 0 where
   pub validity : f.validity ≡ validity part.validity
   pub subject : IsName f.subject part.subject
   pub subject_public_key_info : IsPublicKeyInfo f.subject_public_key_info
       part.subject_public_key_info
 
--- Each element spells the field of the third part.
+-- Each element encodes its field of the third part.
 pub record AreAdded (f : TbsElements) (part : AddedFields) : Type 0 where
   pub issuer_unique_id : f.issuer_unique_id ≡ part.issuer_unique_id
   pub subject_unique_id : f.subject_unique_id ≡ part.subject_unique_id
@@ -59,7 +59,7 @@ added_fields tbs = record {
   extensions = tbs.extensions;
 }
 
--- the TBSCertificate of its parts
+-- the TBSCertificate with these parts
 abbrev pub tbs_of_parts : IssuedBy → IssuedTo → AddedFields → TbsCertificate
 tbs_of_parts by to added = record {
   version = by.version;

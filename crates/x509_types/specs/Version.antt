@@ -11,6 +11,6 @@ version_number versions.V1 = 0
 version_number versions.V2 = 1
 version_number versions.V3 = 2
 
--- the INTEGER of it, in its shortest contents (X.690 8.3.2)
+-- its INTEGER, with the fewest contents octets (X.690 8.3.2)
 abbrev pub version : Version → DerElement
 version value = integer_of (version_number value ∷ [])

@@ -22,9 +22,8 @@ use std::alloc::{AllocError, Global};
 /// Attributes in order.
 pub type AttributeList = ListOf<Attribute>;
 
-/// An attribute: its identifier, and its values, which are of the kind that the identifier names
-/// (RFC 2986 4.1, RFC 5652 5.3). An attribute of a known kind whose values don't all read is none:
-/// it is `Shape`.
+/// An attribute: its OID, and its values, whose kind the OID determines (RFC 2986 4.1, RFC 5652
+/// 5.3). An attribute of a known kind with a value that doesn't parse is refused as `Shape`.
 #[derive(Debug, Drop)]
 pub struct Attribute {
     pub ty: ObjectIdentifier,
@@ -36,8 +35,8 @@ pub struct Attribute {
 impl Attribute {
     ghost use Rattle.x509_types.specs.declared.attribute.values.AttributeValues.TheVariants as values;
 
-    /// The attribute of this identifier and these values, None exactly where the identifier names
-    /// attributes of another kind.
+    /// The attribute with this OID and these values, `None` exactly if the OID is that of another
+    /// kind.
     pub fn new(ty: ObjectIdentifier, value: AttributeValues) -> Option<Attribute>
         ensures { MatchOption result
             (kind_of_values value ≢ named_attribute (identifier_contents ty))
@@ -50,7 +49,7 @@ impl Attribute {
         }
     }
 
-    /// The attribute of a request that asks for these extensions (RFC 2985 5.4.2).
+    /// The attribute by which a request asks for these extensions (RFC 2985 5.4.2).
     pub fn new_extension_request(
         alloc: Global,
         extensions: Extensions,
@@ -117,8 +116,8 @@ impl Structure for Attribute {
     ghost grammar = { attributes };
 }
 
-/// Attributes are equal exactly where the kinds of the values of extensions in them are, and the
-/// octets that are written for them; the octets alone decide where they can be written.
+/// Attributes are equal exactly if the kinds of the extension values in them and their encodings
+/// are; if both can be written, the encodings alone decide.
 impl PartialEq for Attribute {
     ghost use Rattle.std.specs.Ordering.{on};
     ghost use Rattle.std.specs.Cmp.Lexicographic.{nat_list_eq_equiv};

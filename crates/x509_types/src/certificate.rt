@@ -26,8 +26,8 @@ use der_core::{DerError, Elem, NewKids, Structure, Tree, three_kids};
 use std::alloc::{AllocError, Global};
 
 /// A certificate: what is signed, the algorithm of the signature, and the signature (RFC 5280
-/// 4.1.1). The algorithm stands a second time in what is signed; that both are the same isn't asked
-/// of what is read.
+/// 4.1.1). The algorithm is also in what is signed; a reader doesn't require the two to be the
+/// same.
 #[derive(Debug, Drop)]
 pub struct Certificate {
     pub tbs_certificate: TbsCertificate,
@@ -55,7 +55,7 @@ impl Structure for Certificate {
         };
         let signature_value = BitString::read_at(alloc, value)?;
         let signature_algorithm = AlgorithmIdentifier::read_at(alloc, algorithm)?;
-        // Last, so that nothing of it has to be freed where another fails.
+        // Last, so that it needn't be freed if another field fails.
         let tbs_certificate = TbsCertificate::read_at(alloc, tbs)?;
         Ok(Certificate {
             tbs_certificate,
@@ -83,8 +83,8 @@ impl Structure for Certificate {
     ghost grammar = { certificates };
 }
 
-/// Certificates are equal exactly where the kinds of the values of their extensions are, and the
-/// octets that are written for them; the octets alone decide where they can be written.
+/// Certificates are equal exactly if the kinds of their extension values and their encodings are;
+/// if both can be written, the encodings alone decide.
 impl PartialEq for Certificate {
     ghost use Rattle.std.specs.Ordering.{on};
     ghost use Rattle.std.specs.Cmp.Lexicographic.{nat_list_eq_equiv};

@@ -33,9 +33,9 @@ use std::alloc::{AllocError, Global};
 /// Extensions in order (RFC 5280 4.1).
 pub type Extensions = ListOf<Extension>;
 
-/// An extension: its identifier, whether it is critical, and its value, which is of the kind that
-/// the identifier names (RFC 5280 4.1, 4.2). An extension of a known kind whose value doesn't read
-/// is none: it is `Shape`. Alternative names alone are kept as octets where they don't read.
+/// An extension: its OID, whether it is critical, and its value, whose kind the OID determines (RFC
+/// 5280 4.1, 4.2). An extension of a known kind whose value doesn't parse is refused as `Shape`;
+/// only alternative names that don't parse are raw.
 #[derive(Debug, Drop)]
 pub struct Extension {
     extn_id: ObjectIdentifier,
@@ -52,8 +52,8 @@ impl Extension {
     ghost use Rattle.x509_types.specs.declared.extension.view.ExtensionView.{ExtensionView};
     ghost use Rattle.x509_types.specs.declared.extension.view.ExtensionView.TheVariants as views;
 
-    /// Whether the key is that of an authority, and how many may stand below it (RFC 5280 4.2.1.9).
-    /// The flag is written also where it is false.
+    /// Basic constraints, not critical: whether the subject is a CA, and the path length (RFC 5280
+    /// 4.2.1.9). The flag is written even if it is false. Fails only with `Memory`.
     pub fn new_basic_constraints(
         alloc: Global,
         ca: bool,
@@ -69,7 +69,8 @@ impl Extension {
         Ok(Extension::plain(alloc, CE_BASIC_CONSTRAINTS, value)?)
     }
 
-    /// What the key is for, a bit a purpose (RFC 5280 4.2.1.3).
+    /// Key usage, not critical: what the key may be used for, as bits (RFC 5280 4.2.1.3). Fails
+    /// only with `Memory`.
     pub fn new_key_usage(alloc: Global, usage: KeyUsage) -> Result<Extension, DerError>
         ensures { MatchResult result
             (λ e. IsPlainExtension e CE_KEY_USAGE.now (views.KeyUsage usage))
@@ -79,7 +80,8 @@ impl Extension {
         Ok(Extension::plain(alloc, CE_KEY_USAGE, value)?)
     }
 
-    /// What the key is for, an identifier a purpose (RFC 5280 4.2.1.12).
+    /// Extended key usage, not critical: what the key may be used for, as OIDs (RFC 5280 4.2.1.12).
+    /// Fails only with `Memory`.
     pub fn new_extended_key_usage(
         alloc: Global,
         usage: ExtendedKeyUsage,
@@ -92,7 +94,7 @@ impl Extension {
         Ok(Extension::plain(alloc, CE_EXT_KEY_USAGE, value)?)
     }
 
-    /// Further names of the subject (RFC 5280 4.2.1.6).
+    /// Alternative names of the subject, not critical (RFC 5280 4.2.1.6). Fails only with `Memory`.
     pub fn new_subject_alt_name(
         alloc: Global,
         names: RawGeneralNames,
@@ -105,7 +107,7 @@ impl Extension {
         Ok(Extension::plain(alloc, CE_SUBJECT_ALT_NAME, value)?)
     }
 
-    /// Further names of the issuer (RFC 5280 4.2.1.7).
+    /// Alternative names of the issuer, not critical (RFC 5280 4.2.1.7). Fails only with `Memory`.
     pub fn new_issuer_alt_name(alloc: Global, names: RawGeneralNames) -> Result<Extension, DerError>
         ensures { MatchResult result
             (λ e. IsPlainExtension e CE_ISSUER_ALT_NAME.now (views.IssuerAltName names))
@@ -115,7 +117,8 @@ impl Extension {
         Ok(Extension::plain(alloc, CE_ISSUER_ALT_NAME, value)?)
     }
 
-    /// The identifier of the key (RFC 5280 4.2.1.2).
+    /// The subject key identifier with these octets, not critical (RFC 5280 4.2.1.2). Fails only
+    /// with `Memory`.
     pub fn new_subject_key_identifier(alloc: Global, key: &[u8]) -> Result<Extension, DerError>
         ensures { MatchResult result
             (λ e. IsPlainExtension e CE_SUBJECT_KEY_IDENTIFIER.now
@@ -126,7 +129,8 @@ impl Extension {
         Ok(Extension::plain(alloc, CE_SUBJECT_KEY_IDENTIFIER, value)?)
     }
 
-    /// Which key the authority signs with, by its identifier (RFC 5280 4.2.1.1).
+    /// The authority key identifier with this keyIdentifier alone, not critical (RFC 5280 4.2.1.1).
+    /// Fails only with `Memory`.
     pub fn new_authority_key_identifier(alloc: Global, key: &[u8]) -> Result<Extension, DerError>
         ensures { MatchResult result
             (λ e. IsPlainExtension e CE_AUTHORITY_KEY_IDENTIFIER.now
@@ -138,7 +142,7 @@ impl Extension {
         Ok(Extension::plain(alloc, CE_AUTHORITY_KEY_IDENTIFIER, value)?)
     }
 
-    /// The extension of a known identifier and a value of its kind, not critical.
+    /// The extension with a known OID and a value of its kind, not critical.
     fn plain(alloc: Global, oid: &[u8], extn_value: ExtensionView) -> Result<Extension, AllocError>
         requires { IsTrue (is_known oid.now) × IsOfKind (named_kind oid.now) extn_value }
         ensures { IfOk result (λ e. IsPlainExtension e oid.now extn_value) }
@@ -151,9 +155,9 @@ impl Extension {
         })
     }
 
-    /// The extension of an identifier whose OCTET STRING holds these octets, not critical. The
-    /// octets are read where the identifier names a known kind, and `Shape` exactly where they have
-    /// to read and don't; alternative names that don't read are kept.
+    /// The extension with this OID and with these octets in its OCTET STRING, not critical. The
+    /// octets are parsed if the OID is of a known kind, and refused as `Shape` if that fails;
+    /// alternative names that don't parse are raw.
     pub fn new_raw(
         alloc: Global,
         oid: ObjectIdentifier,
@@ -162,7 +166,7 @@ impl Extension {
         ensures made { MatchResult result
             (λ e. IsRawExtension e oid value.now)
             (RefusesShape (IsNamedValue oid value.now)) }
-        // Whatever memory there is.
+        // Even if memory runs out.
         ensures shapeless { ((view : ExtensionView) → IsNamedValue oid value.now view → ⊥)
             → result ≡ Err errors.Shape }
     {
@@ -178,7 +182,7 @@ impl Extension {
         })
     }
 
-    /// Whether the identifiers and the flags are the same.
+    /// Whether the OIDs and the flags are the same.
     fn has_same_id_and_flag(&self, other: &Extension) -> bool
         ensures { IsTrue result
             ↔ ((self.now.extn_id ≡ other.now.extn_id) × (self.now.critical ≡ other.now.critical)) }
@@ -186,7 +190,8 @@ impl Extension {
         self.extn_id == other.extn_id && self.critical == other.critical
     }
 
-    /// The extension, critical: who doesn't know it must not accept the certificate (RFC 5280 4.2).
+    /// The extension, critical: a system that doesn't recognize it must reject the certificate (RFC
+    /// 5280 4.2).
     pub fn into_critical(self) -> Extension
         ensures { (result.extn_id ≡ self.extn_id) × (result.critical ≡ true)
             × (result.extn_value ≡ self.extn_value) }
@@ -220,7 +225,7 @@ impl Extension {
         }
     }
 
-    /// The identifier of the extension.
+    /// The OID of the extension.
     pub fn extn_id(&self) -> &ObjectIdentifier
         ensures { result.now ≡ self.now.extn_id }
     {
@@ -299,8 +304,8 @@ impl Structure for Extension {
     ghost grammar = { all_extensions };
 }
 
-/// Extensions are equal exactly where the kinds of their values are, and the octets that are
-/// written for them; the octets alone decide where they can be written.
+/// Extensions are equal exactly if the kinds of their values and their encodings are; if both can
+/// be written, the encodings alone decide.
 impl PartialEq for Extension {
     ghost use Rattle.std.specs.Ordering.{on};
     ghost use Rattle.std.specs.Cmp.Lexicographic.{nat_list_eq_equiv};

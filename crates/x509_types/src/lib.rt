@@ -1,6 +1,6 @@
 //! Structures of X.509 (RFC 5280) as values, read from octets or trees and written as trees. Names,
-//! keys, and what extensions hold stand in crates of their own, and are handed on here. A
-//! folder has a structure with its parts: `certificate`, `extension`, `attribute`.
+//! keys and extension values are crates of their own, re-exported here. Each folder has a structure
+//! and its parts: `certificate`, `extension`, `attribute`.
 #![tactic(auto)]
 
 mod attribute;

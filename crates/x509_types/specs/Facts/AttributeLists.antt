@@ -1,4 +1,5 @@
--- Values of attributes: an element spells at most one list of a kind, and what is written for one spells it.
+-- Values of attributes: an element encodes at most one list of a kind, and what is written for one
+-- encodes it.
 use Rattle.std.proofs.Common.{◌≡◌, ℕ, List, [], ◌∷◌, ◌++◌, flat_map, refl, ap, arith}
 use Rattle.der_core.specs.DerElement.{DerElement}
 use Rattle.der_core.specs.Elements.{octet_string}

@@ -1,4 +1,4 @@
--- Attributes: an element spells at most one, and what is written for one spells it.
+-- Attributes: an element encodes at most one, and what is written for one encodes it.
 use Rattle.std.proofs.Common.{◌≡◌, [], ◌∷◌, refl, ap, sym, subst, ◌∙◌, arith}
 use Rattle.der_core.specs.DerElement.{DerElement}
 use Rattle.der_core.specs.Elements.{sequence}
@@ -29,11 +29,11 @@ same_attribute a b ty value =
     (λ h. ap (attribute_with a.ty a.value) (same_attribute_kinds (kind_of_values a.value) (named_attribute (identifier_contents a.ty)) a.fits h)) in
     subst (λ (i : ObjectIdentifier). (h : kind_of_values b.value ≡ named_attribute (identifier_contents i)) → a ≡ attribute_with i b.value h) ty with_value b.fits
 
--- attributes of one identifier have values of one kind
+-- attributes with one OID have values of one kind
 pub same_kind : (a b : Attribute) → a.ty ≡ b.ty → kind_of_values a.value ≡ kind_of_values b.value
 same_kind a b ty = a.fits ∙ ap (λ (i : ObjectIdentifier). named_attribute (identifier_contents i)) ty ∙ sym b.fits
 
--- two elements stand in a sequence once
+-- sequences of two are the same only if both elements are
 pub same_two : (s t x y : DerElement) → sequence (s ∷ t ∷ []) ≡ sequence (x ∷ y ∷ []) → (s ≡ x) × (t ≡ y)
 same_two s t x y e = (cc, cc)
 
@@ -60,7 +60,7 @@ attributes = record {
   formed = attributes_formed;
 }
 
--- attributes in a set are so, too
+-- the same for attributes in a set
 pub attribute_lists : IsGrammar AreAttributes attribute_list inner_attributes
 attribute_lists = lists 0xA0 IsAttribute attribute (λ (a : Attribute). inner_values a.value) (omega arith, omega arith, omega arith) refl attributes
 

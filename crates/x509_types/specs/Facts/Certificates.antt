@@ -1,4 +1,4 @@
--- Certificates: an element spells at most one, and what is written for one spells it.
+-- Certificates: an element encodes at most one, and what is written for one encodes it.
 use Rattle.std.proofs.Common.{◌≡◌, ℕ, List, [], ◌∷◌, refl, sym, ap, subst, ◌∙◌, arith}
 use Rattle.der_core.specs.DerElement.{DerElement, DerElements, Primitive, row}
 use Rattle.der_core.specs.Encoding.{IsWellFormed}
@@ -31,11 +31,11 @@ same_bits a b e = bit_strings.once (bit_string a) a b refl e
 pub same_certificate : (a b : Certificate) → a.tbs_certificate ≡ b.tbs_certificate → a.signature_algorithm ≡ b.signature_algorithm → a.signature_value ≡ b.signature_value → a ≡ b
 same_certificate a b tbs algorithm value i = record { tbs_certificate = tbs i; signature_algorithm = algorithm i; signature_value = value i }
 
--- three elements stand in a sequence once
+-- sequences of three are the same only if all elements are
 pub same_three : (s t u x y z : DerElement) → sequence (s ∷ t ∷ u ∷ []) ≡ sequence (x ∷ y ∷ z ∷ []) → (s ≡ x) × (t ≡ y) × (u ≡ z)
 same_three s t u x y z e = (cc, cc, cc)
 
--- the three elements in one that spells a certificate
+-- the three elements in one that encodes a certificate
 pub three_of : (element : DerElement) (c : Certificate) (p : IsCertificate element c)
     → element ≡ sequence (tbs_of p.elements.tbs ∷ algorithm_identifier c.signature_algorithm ∷ bit_string c.signature_value ∷ [])
 three_of element c p =
@@ -44,7 +44,7 @@ three_of element c p =
     ∙ ap (λ (x : DerElement). sequence (tbs_of f.tbs ∷ x ∷ Primitive 0x03 (f.unused ∷ f.signature) ∷ [])) p.spelled.algorithm
     ∙ ap (λ (octets : List ℕ). sequence (tbs_of f.tbs ∷ algorithm_identifier c.signature_algorithm ∷ Primitive 0x03 octets ∷ [])) p.spelled.signature
 
--- the first of them spells what is signed
+-- the first of them encodes what is signed
 pub signed_in : (element : DerElement) (c : Certificate) (p : IsCertificate element c) → IsTbsCertificate (tbs_of p.elements.tbs) c.tbs_certificate
 signed_in element c p = record { elements = p.elements.tbs; is = refl; spelled = p.spelled.tbs }
 

@@ -1,4 +1,4 @@
--- Kinds of extensions are the same for one reason.
+-- That two kinds of extensions are the same has at most one proof.
 use Rattle.std.specs.Prelude.{◌≡◌, ℕ, ◌==◌, if◌then◌else◌, refl}
 use Rattle.std.specs.Coded.{Coded-set}
 use Rattle.std.proofs.Common.{sym, ap, ◌∙◌}

@@ -1,4 +1,5 @@
--- Values of extensions: octets hold at most one of a kind, and what is written for it holds it.
+-- Values of extensions: octets hold at most one of a kind, and what is written for a value holds
+-- it.
 use Rattle.std.proofs.Common.{◌≡◌, ◌⊎◌, inl, inr, ℕ, List, [], refl, ap, sym, subst, ◌∙◌}
 use Rattle.std.proofs.Props.{props}
 use Rattle.der_core.specs.Each.{Prints}
@@ -34,7 +35,7 @@ use Rattle.x509_types.specs.declared.extension.view.ExtensionView.TheVariants as
 printed_once : {X : Type 0} (written : X → DerElement) → IsGrammar (Prints written) written (λ x. []) → (a b : X) → encoding (written a) ≡ encoding (written b) → a ≡ b
 printed_once written grammar = encoded_once written (λ a b e. grammar.once (written a) a b refl e) grammar.formed
 
--- ---- values are of their kinds for one reason
+-- ---- that values are of their kinds has at most one proof
 
 MayBeKept-prop : (kind : ExtensionKind) (octets : List ℕ) → IsProp (MayBeKept kind octets)
 MayBeKept-prop kinds.SubjectKeyIdentifier octets = hlevel props
@@ -62,7 +63,7 @@ IsOfKind-prop kind (views.Raw x) = MayBeKept-prop kind x
 abbrev IsHeld : {X : Type 0} → (X → ExtensionView) → (List ℕ → X → Type 0) → List ℕ → ExtensionView → Type 0
 IsHeld {X} named held octets view = (value : X) × (view ≡ named value) × held octets value
 
--- general names, or octets that are kept
+-- general names, or raw octets
 abbrev AreNames : (List RawGeneralName → ExtensionView) → List ℕ → ExtensionView → Type 0
 AreNames named octets view = IsHeld named (IsWithin AreGeneralNames) octets view ⊎ ((view ≡ views.Raw octets) × HoldsNoNames octets)
 
@@ -120,7 +121,7 @@ holds_once kinds.Other octets a b p q = p ∙ sym q
 pub values_once : (kind : ExtensionKind) (octets : List ℕ) (a b : ExtensionView) → IsValueOf kind octets a → IsValueOf kind octets b → a ≡ b
 values_once kind octets a b p q = holds_once kind octets a b (holds_of kind octets a p) (holds_of kind octets b q)
 
--- ---- a value is told by its kind and its octets
+-- ---- a value is determined by its kind and its octets
 
 -- the octets are those of the value's element
 abbrev IsEncoded : {X : Type 0} → (X → DerElement) → List ℕ → X → Type 0

@@ -1,4 +1,4 @@
--- Extensions: an element spells at most one, and what is written for one spells it.
+-- Extensions: an element encodes at most one, and what is written for one encodes it.
 use Rattle.std.proofs.Common.{◌≡◌, ℕ, List, [], ◌∷◌, ◌++◌, refl, ap, sym, subst, ◌∙◌, arith}
 use Rattle.std.specs.Prelude.{◌↔◌, IsTrue, Bool, true, false, bytes_eq}
 use Rattle.std.proofs.lemmas.Slice.Eq.{bytes_eq-Decides}
@@ -26,7 +26,7 @@ use Rattle.x509_types.specs.Facts.ExtensionViews.{IsOfKind-prop, values_once, va
 use Rattle.x509_types.specs.declared.extension.Extension.{Extension}
 use Rattle.x509_types.specs.declared.extension.view.ExtensionView.{ExtensionView}
 
--- an element has its fields once
+-- the fields of an element are unique
 pub fields_once : (element oid oid' : DerElement) (b c : Bool) (v w : List ℕ) → IsExtensionOf element oid b v → IsExtensionOf element oid' c w → (oid ≡ oid') × (b ≡ c) × (v ≡ w)
 fields_once element oid oid' b c v w p q =
     let kids : oid ∷ (p.flag ++ Primitive 0x04 v ∷ []) ≡ oid' ∷ (q.flag ++ Primitive 0x04 w ∷ []) =
@@ -96,7 +96,8 @@ extensions_by_octets a b e =
     (kind_of_view b.extn_value) numbers) (formed_encoding_once (extension a) (extension b)
     (extensions_formed a) (extensions_formed b) octets)
 
--- A test that holds exactly where two values are the same is that of their octets, where these can be written.
+-- A test that holds exactly if two values are the same compares their encodings, if these can be
+-- written.
 pub writable_decide : {X : Type 0} (spells : DerElement → X → Type 0) (written : X → DerElement) (inner : X → List DerElement) → IsGrammar spells written inner
     → (a b : X) (test : Bool) → (IsTrue test ↔ (a ≡ b)) → AreDer (inner a) → AreDer (inner b) → test ≡ bytes_eq (encoding (written a)) (encoding (written b))
 writable_decide {X} spells written inner grammar a b test same der der' =

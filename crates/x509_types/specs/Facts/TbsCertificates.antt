@@ -1,4 +1,4 @@
--- TBSCertificates: an element spells at most one, and what is written for one spells it.
+-- TBSCertificates: an element encodes at most one, and what is written for one encodes it.
 use Rattle.std.proofs.Common.{◌≡◌, Option, Some, None, refl, ap, sym, subst, ◌∙◌}
 use Rattle.std.specs.Option.{option_map}
 use Rattle.der_core.specs.DerElement.{DerElement, Primitive}
@@ -66,7 +66,7 @@ same_tbs a b same i = record {
   extensions = same.extensions i;
 }
 
--- the same elements spell the same fields
+-- the same elements encode the same fields
 fields_once : (f : TbsElements) (a b : TbsCertificate) → AreTbsFields f a → AreTbsFields f b → a ≡ b
 fields_once f a b p q =
     same_tbs a b (record {
@@ -82,7 +82,7 @@ fields_once f a b p q =
       extensions = option_once IsExtensions extension_lists.once f.extensions a.extensions b.extensions p.extensions q.extensions;
     })
 
--- an element spells at most one
+-- an element encodes at most one
 tbs_once : (element : DerElement) (a b : TbsCertificate) → IsTbsCertificate element a → IsTbsCertificate element b → a ≡ b
 tbs_once element a b p q =
     let same = same_elements p.elements q.elements (sym p.is ∙ q.is) in
@@ -99,7 +99,7 @@ version_spelled : (value : Option Version) → SpellsOption IsVersion (option_ma
 version_spelled None = tt
 version_spelled (Some value) = refl
 
--- what is written spells the fields
+-- what is written encodes the fields
 tbs_spelled : (tbs : TbsCertificate) → AreDer (inner_tbs tbs) → AreTbsFields (tbs_elements tbs) tbs
 tbs_spelled tbs der =
     let key = inner_key tbs.subject_public_key_info.subject_public_key in
@@ -117,7 +117,7 @@ tbs_spelled tbs der =
       extensions = option_spelled IsExtensions extensions inner_extensions extension_lists.spelled tbs.extensions (AreDer-back key others der);
     }
 
--- values whose extensions have values of the same kinds are told by their elements
+-- values whose extension values have the same kinds are determined by their elements
 pub tbs_told : (a b : TbsCertificate) → value_kinds a.extensions ≡ value_kinds b.extensions → tbs_certificate a ≡ tbs_certificate b → a ≡ b
 tbs_told a b kinds e =
     let same = same_elements (tbs_elements a) (tbs_elements b) e in

@@ -1,4 +1,5 @@
--- The fields of a TBSCertificate: unlike ones have unlike elements, and the element around well-formed ones is well formed.
+-- The fields of a TBSCertificate: different ones have different elements, and the element around
+-- well-formed ones is well formed.
 use Rattle.std.proofs.Common.{◌≡◌, ℕ, List, ◌∷◌, ◌++◌, Option, Some, None, refl, arith}
 use Rattle.der_core.specs.DerElement.{DerElement, Primitive}
 use Rattle.der_core.specs.Encoding.{IsWellFormed}
@@ -9,12 +10,12 @@ use Rattle.x509_types.specs.TbsElements.{TbsElements, tbs_tail, tbs_of}
 use Rattle.der_core.specs.Facts.Fields.{split}
 use Rattle.der_core.specs.Facts.Optional.{IsFormedOption, leaf_field, leaf_once, leaf_formed, explicit_field, explicit_once, explicit_formed, last_formed}
 
--- extensions aren't the identifier of the subject
+-- extensions aren't the subject's unique identifier
 pub no_subject : (extensions : Option DerElement) → BeginsOtherwise 0x82 (optional_explicit 0xA3 extensions)
 no_subject None = tt
 no_subject (Some kid) = λ e. omega (arith, e)
 
--- what is behind the identifier of the issuer isn't that
+-- what follows the issuer's unique identifier isn't that
 pub no_issuer : (subject : Option (List ℕ)) (extensions : Option DerElement) → BeginsOtherwise 0x81 (optional_leaf 0x82 subject ++ optional_explicit 0xA3 extensions)
 no_issuer None None = tt
 no_issuer None (Some kid) = λ e. omega (arith, e)
@@ -45,11 +46,11 @@ same_tail f g e =
       extensions = explicit_once 0xA3 f.extensions g.extensions subjects.1;
     }
 
--- the fields behind the version
+-- the fields after the version
 abbrev pub behind : TbsElements → List DerElement
 behind f = Primitive 0x02 f.serial_number ∷ f.signature ∷ f.issuer ∷ f.validity ∷ f.subject ∷ f.subject_public_key_info ∷ tbs_tail f
 
--- an element has its fields once
+-- the fields of an element are unique
 pub same_elements : (f g : TbsElements) → tbs_of f ≡ tbs_of g → f ≡ g
 same_elements f g e =
     let versions = split 0xA0 (optional_explicit 0xA0 f.version) (optional_explicit 0xA0 g.version)

@@ -1,4 +1,4 @@
--- Extensions are told by the kinds of their values and by what is written for them.
+-- Extensions are determined by the kinds of their values and by what is written for them.
 use Rattle.std.proofs.Common.{◌≡◌, ℕ, ◌<◌, List, [], ◌∷◌, ◌++◌, map, Option, Some, None, refl, ap, ◌∙◌, arith}
 use Rattle.std.specs.Prelude.{⊤, ◌↔◌, IsTrue, Bool, bytes_eq}
 use Rattle.std.specs.Option.{option_map}
@@ -79,7 +79,7 @@ pub kinds_and_octets : (x y : Option (List Extension)) (ks ls : DerElements) →
     → (value_kinds x ≡ value_kinds y) × (encoding (Constructed 0x30 ks) ≡ encoding (Constructed 0x30 ls))
 kinds_and_octets x y ks ls e = split_before 0x30 (omega arith) (value_kinds x) (value_kinds y) _ _ _ _ refl refl (small_kinds x) (small_kinds y) e
 
--- A test that holds exactly where two values are the same is that of octets by which they are told.
+-- A test that holds exactly if two values are the same compares the octets that determine them.
 pub told_decide : {X : Type 0} (octets : X → List ℕ) → ((a b : X) → octets a ≡ octets b → a ≡ b)
     → (a b : X) (test : Bool) → (IsTrue test ↔ (a ≡ b)) → test ≡ bytes_eq (octets a) (octets b)
 told_decide {X} octets one a b test same =

@@ -1,4 +1,4 @@
--- Lists of extensions are told by the kinds of their values and by what is written for them.
+-- Lists of extensions are determined by the kinds of their values and by what is written for them.
 use Rattle.std.proofs.Common.{◌≡◌, ℕ, List, [], ◌∷◌, ◌++◌, map, flat_map, Some, refl, ap, sym, ◌∙◌}
 use Rattle.der_core.specs.DerElement.{DerElement, Constructed, row, listed}
 use Rattle.der_core.specs.Each.{list_element}
@@ -12,7 +12,7 @@ use Rattle.x509_types.specs.declared.extension.Extension.{Extension}
 abbrev pub kinds_of : List (List Extension) → List ℕ
 kinds_of requests = flat_map (λ (request : List Extension). value_kinds (Some request)) requests
 
--- where the same is written for extensions, there are as many kinds of both
+-- if the same is written for two lists of extensions, they have equally many kinds
 pub split_kinds : (x y : List Extension) (r s : List ℕ) → map extension x ≡ map extension y → map number_of x ++ r ≡ map number_of y ++ s → (map number_of x ≡ map number_of y) × (r ≡ s)
 split_kinds [] [] r s w e = (refl, e)
 split_kinds [] (b ∷ y) r s w e = absurd cc
@@ -35,7 +35,7 @@ each_told (x ∷ a) (y ∷ b) k e =
     let parts = split_kinds x y (kinds_of a) (kinds_of b) written k in
     ap (λ v. v ∷ a) (lists_told x y parts.0 written) ∙ ap (λ vs. y ∷ vs) (each_told a b parts.1 others)
 
--- a set has its members once
+-- sets are the same only if their members are
 pub same_members : (kids kids' : List DerElement) → Constructed 0x31 (row kids) ≡ Constructed 0x31 (row kids') → kids ≡ kids'
 same_members kids kids' e =
     let same : row kids ≡ row kids' = cc in

@@ -1,4 +1,4 @@
--- Unlike validities have unlike elements, each well formed.
+-- Different validities have different elements, each well formed.
 use Rattle.std.proofs.Common.{◌≡◌, [], ◌∷◌, refl, ap, ◌∙◌, arith}
 use Rattle.der_core.specs.DerElement.{DerElement}
 use Rattle.der_core.specs.Elements.{sequence}

@@ -1,4 +1,4 @@
-//! The kinds of attributes, by their identifiers.
+//! The kinds of attributes, by OID.
 
 ghost use Rattle.std.specs.Prelude.{◌≡◌, ◌≢◌, MatchOption};
 ghost use Rattle.asn1_types.specs.Elements.{object_identifier};
@@ -14,18 +14,18 @@ use der_core::{Elem, leaf_at};
 /// A kind of attributes.
 #[derive(Clone, Copy, Debug, PartialEq, Eq)]
 pub enum AttributeKind {
-    /// What the signed content is (RFC 2985 5.3.1).
+    /// The type of the signed content (RFC 2985 5.3.1).
     ContentType,
     /// The digest of the signed content (RFC 2985 5.3.2).
     MessageDigest,
-    /// Extensions that a certificate is asked to have (RFC 2985 5.4.2).
+    /// The extensions that a certificate is requested to have (RFC 2985 5.4.2).
     ExtensionRequest,
-    /// Any other.
+    /// Any other kind.
     Other,
 }
 
 impl AttributeKind {
-    /// The kind of attributes that an identifier names, by its contents octets.
+    /// The kind that an OID, given as contents octets, identifies.
     pub fn named(oid: &[u8]) -> AttributeKind
         ensures { result ≡ named_attribute oid.now }
     {
@@ -41,7 +41,7 @@ impl AttributeKind {
         AttributeKind::Other
     }
 
-    /// The kind of attributes that the element of an identifier names.
+    /// The kind that the element of an OID identifies.
     pub(crate) fn at(oid: Elem<'_>) -> Option<AttributeKind>
         ensures { MatchOption result
             ((id : ObjectIdentifier) → oid.entry.is.0 ≢ object_identifier id)

@@ -18,17 +18,17 @@ use der_core::{
 use extension_types::OidList;
 use std::alloc::{AllocError, Global};
 
-/// The values of an attribute, a SET OF (RFC 2986 4.1, RFC 5652 5.3), by the attribute's
-/// identifier. Of each kind any number of values are read, also none, in the order that stands.
+/// The values of an attribute, a SET OF (RFC 2986 4.1, RFC 5652 5.3), by the attribute's OID. Any
+/// number of values is accepted, zero too, in the order given.
 #[derive(Debug, Drop)]
 pub enum AttributeValues {
-    /// What the signed content is (RFC 2985 5.3.1).
+    /// The type of the signed content (RFC 2985 5.3.1).
     ContentType(OidList),
     /// The digest of the signed content (RFC 2985 5.3.2).
     MessageDigest(ListOf<Octets>),
-    /// Extensions that a certificate is asked to have (RFC 2985 5.4.2).
+    /// The extensions that a certificate is requested to have (RFC 2985 5.4.2).
     Extensions(ListOf<Extensions>),
-    /// The values of any other attribute as they are.
+    /// The values of any other attribute, raw.
     Raw(ListOf<Raw>),
 }
 
@@ -45,7 +45,7 @@ impl AttributeValues {
         }
     }
 
-    /// Whether an element holds values of the kind.
+    /// Whether the element holds values of the kind.
     pub(crate) fn has_shape_of(kind: AttributeKind, elem: Elem<'_>) -> bool
         ensures fits { IsTrue result
             → (values : AttributeValues) × AreValuesOf kind elem.entry.is.0 values }
@@ -60,7 +60,7 @@ impl AttributeValues {
         }
     }
 
-    /// The values of the kind that an element holds.
+    /// The values of the kind in the element.
     pub(crate) fn read_at(
         alloc: Global,
         kind: AttributeKind,
@@ -117,8 +117,8 @@ impl AttributeValues {
     }
 }
 
-/// Values are equal exactly where their kind, the kinds of the values of extensions in them, and
-/// the octets that are written for them are.
+/// Values are equal exactly if their kind, the kinds of the extension values in them, and their
+/// encodings are.
 impl PartialEq for AttributeValues {
     ghost use Rattle.std.specs.Ordering.{on};
     ghost use Rattle.std.specs.Cmp.Lexicographic.{nat_list_eq_equiv};

@@ -1,4 +1,4 @@
-//! The parts of a certificate, where their octets lie.
+//! The parts of a borrowed certificate.
 
 ghost use Rattle.std.specs.Prelude.{◌≡◌, ◌∷◌};
 ghost use Rattle.std.specs.Coded.{Coded-set};
@@ -14,7 +14,8 @@ use asn1_types::BitString;
 use der_core::tag::{BIT_STRING, SEQUENCE};
 use der_core::{Elem, expect, leaf_at, three_kids};
 
-/// The parts of a certificate, each any element, but of the signature the octets of the bits, too.
+/// The parts of a certificate, each as any element; of the signature also the octets that hold its
+/// bits.
 #[derive(Clone, Copy)]
 pub(crate) struct CertParts<'a> {
     pub tbs: Elem<'a>,
@@ -33,7 +34,7 @@ impl<'a> CertParts<'a> {
     ghost use Rattle.x509_types.specs.LentCertificate.{lent_elements};
     ghost use Rattle.x509_types.specs.declared.certificate.Certificate.{Certificate};
 
-    /// The parts of an element. Heads alone are read.
+    /// The parts of the element. Only heads are read.
     pub fn of(elem: Elem<'a>) -> Option<CertParts<'a>>
         ensures { MatchOption result
             ((f : CertificateElements) → elem.entry.is.0 ≢ certificate_of f)
@@ -54,7 +55,7 @@ impl<'a> CertParts<'a> {
         })
     }
 
-    /// Each part has its shape.
+    /// `Some` if each part has its shape.
     pub fn expect_shapes(&self) -> Option<()>
         ensures { MatchOption result
             ((c : Certificate) → AreCertificateFields (lent_elements self.now) c → ⊥)

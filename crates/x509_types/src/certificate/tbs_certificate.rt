@@ -1,4 +1,4 @@
-//! What is signed of a certificate.
+//! The signed part of a certificate.
 
 ghost use Rattle.std.specs.Prelude.{◌≡◌, ◌↔◌, IsTrue};
 ghost use Rattle.der_core.specs.Placed.{AreDer};
@@ -16,8 +16,8 @@ use der_core::{
 };
 use std::alloc::{AllocError, Global};
 
-/// What is signed of a certificate (RFC 5280 4.1.2). A version that is left out, which means V1,
-/// and one that is given are told apart. The unique identifiers are kept as contents octets.
+/// The signed part of a certificate (RFC 5280 4.1.2). An absent version, which means V1, and an
+/// explicit one are different values. The unique identifiers are owned contents octets.
 #[derive(Debug, Drop)]
 pub struct TbsCertificate {
     pub version: Option<Version>,
@@ -35,7 +35,7 @@ pub struct TbsCertificate {
 impl TbsCertificate {
     ghost use Rattle.x509_types.specs.TbsCertificate.{HasSameOptions};
 
-    /// Whether the fields that may be left out are the same.
+    /// Whether the OPTIONAL fields are the same.
     fn has_same_options(&self, other: &TbsCertificate) -> bool
         ensures { IsTrue result ↔ HasSameOptions self.now other.now }
     {
@@ -46,21 +46,21 @@ impl TbsCertificate {
     }
 }
 
-/// Whether the versions are the same, each given or left out.
+/// Whether the versions are the same, each present or absent.
 fn is_same_version(a: &Option<Version>, b: &Option<Version>) -> bool
     ensures { IsTrue result ↔ (a.now ≡ b.now) }
 {
     a == b
 }
 
-/// Whether the unique identifiers are the same, each given or left out.
+/// Whether the unique identifiers are the same, each present or absent.
 fn is_same_id(a: &Option<Octets>, b: &Option<Octets>) -> bool
     ensures { IsTrue result ↔ (a.now ≡ b.now) }
 {
     a == b
 }
 
-/// Whether the extensions are the same, each given or left out.
+/// Whether the extensions are the same, each present or absent.
 fn are_same_extensions(a: &Option<Extensions>, b: &Option<Extensions>) -> bool
     ensures { IsTrue result ↔ (a.now ≡ b.now) }
 {
@@ -116,8 +116,8 @@ impl Structure for TbsCertificate {
     ghost grammar = { tbs_certificates };
 }
 
-/// TBSCertificates are equal exactly where the kinds of the values of their extensions are, and the
-/// octets that are written for them; the octets alone decide where they can be written.
+/// TBSCertificates are equal exactly if the kinds of their extension values and their encodings
+/// are; if both can be written, the encodings alone decide.
 impl PartialEq for TbsCertificate {
     ghost use Rattle.std.specs.Ordering.{on};
     ghost use Rattle.std.specs.Cmp.Lexicographic.{nat_list_eq_equiv};

@@ -1,4 +1,4 @@
-//! The fields of a TBSCertificate, where their octets lie (RFC 5280 4.1).
+//! The fields of a borrowed TBSCertificate (RFC 5280 4.1).
 //!
 //! ```text
 //! TBSCertificate  ::=  SEQUENCE  {
@@ -26,8 +26,8 @@
 //! Extensions  ::=  SEQUENCE SIZE (1..MAX) OF Extension
 //! ```
 //!
-//! Also read: an explicit v1, unique identifiers and extensions in any version, unique identifiers
-//! of any octets, and an empty list of extensions.
+//! Also accepted: an explicit v1, unique identifiers and extensions in any version, unique
+//! identifiers of any octets, and an empty list of extensions.
 
 ghost use Rattle.std.specs.Prelude.{◌≡◌, ◌≢◌, MatchOption, MatchResult};
 ghost use Rattle.der_core.specs.Refusals.{RefusesShape};
@@ -47,7 +47,7 @@ use der_core::tag::{INTEGER, SEQUENCE};
 use der_core::{DerError, Elem, Kids, expect, expect_option, leaf_at};
 use std::alloc::Global;
 
-/// The tag around the version.
+/// The explicit tag of the version.
 pub(crate) const VERSION: u8 = 0xA0;
 
 /// The tag of the unique identifier of the issuer.
@@ -56,11 +56,11 @@ pub(crate) const ISSUER_UNIQUE_ID: u8 = 0x81;
 /// The tag of the unique identifier of the subject.
 pub(crate) const SUBJECT_UNIQUE_ID: u8 = 0x82;
 
-/// The tag around the extensions.
+/// The explicit tag of the extensions.
 pub(crate) const EXTENSIONS: u8 = 0xA3;
 
-/// The fields of a TBSCertificate, each any element, but of the serial number and of the unique
-/// identifiers the contents octets.
+/// The fields of a TBSCertificate, each as any element; the serial number and the unique
+/// identifiers as contents octets.
 #[derive(Clone, Copy)]
 pub(crate) struct TbsFields<'a> {
     pub version: Option<Elem<'a>>,
@@ -110,7 +110,7 @@ impl<'a> TbsFields<'a> {
         })
     }
 
-    /// Each field has its shape.
+    /// `Some` if each field has its shape.
     pub fn expect_shapes(&self) -> Option<()>
         ensures { MatchOption result
             ((tbs : TbsCertificate) → AreTbsFields (elements_at self.now) tbs → ⊥)
@@ -140,7 +140,7 @@ impl<'a> TbsFields<'a> {
     }
 }
 
-/// The octets are the contents of an integer.
+/// `Some` if the octets are the contents of an INTEGER.
 fn expect_integer(contents: &[u8]) -> Option<()>
     ensures { MatchOption result
         ((value : IntegerAsn1) → contents.now ≢ integer_contents value)

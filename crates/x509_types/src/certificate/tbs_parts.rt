@@ -13,7 +13,7 @@ use asn1_types::IntegerAsn1;
 use der_core::{DerError, Octets, Structure, copy_octets, copy_option, read_option};
 use std::alloc::{AllocError, Global};
 
-/// How a certificate was issued, and by whom (RFC 5280 4.1.2.1 to 4.1.2.4).
+/// Version, serial number, signature algorithm and issuer (RFC 5280 4.1.2.1 to 4.1.2.4).
 #[derive(Drop)]
 pub(crate) struct IssuedBy {
     pub version: Option<Version>,
@@ -22,7 +22,7 @@ pub(crate) struct IssuedBy {
     pub issuer: Name,
 }
 
-/// Who holds it, for how long, and by which key (RFC 5280 4.1.2.5 to 4.1.2.7).
+/// Validity, subject and key (RFC 5280 4.1.2.5 to 4.1.2.7).
 #[derive(Drop)]
 pub(crate) struct IssuedTo {
     pub validity: Validity,
@@ -30,7 +30,7 @@ pub(crate) struct IssuedTo {
     pub subject_public_key_info: SubjectPublicKeyInfo,
 }
 
-/// What later versions added (RFC 5280 4.1.2.8, 4.1.2.9).
+/// The fields that later versions added (RFC 5280 4.1.2.8, 4.1.2.9).
 #[derive(Drop)]
 pub(crate) struct AddedFields {
     pub issuer_unique_id: Option<Octets>,
@@ -39,7 +39,7 @@ pub(crate) struct AddedFields {
 }
 
 impl IssuedBy {
-    /// The part that the elements spell.
+    /// The part that the elements encode.
     pub fn read(alloc: Global, fields: &TbsFields<'_>) -> Result<IssuedBy, DerError>
         ensures { MatchResult result
             (IsIssuedBy (elements_at fields.now))
@@ -67,7 +67,7 @@ impl IssuedBy {
 }
 
 impl IssuedTo {
-    /// The part that the elements spell.
+    /// The part that the elements encode.
     pub fn read(alloc: Global, fields: &TbsFields<'_>) -> Result<IssuedTo, DerError>
         ensures { MatchResult result
             (IsIssuedTo (elements_at fields.now))
@@ -94,7 +94,7 @@ impl IssuedTo {
 }
 
 impl AddedFields {
-    /// The part that the elements spell.
+    /// The part that the elements encode.
     pub fn read(alloc: Global, fields: &TbsFields<'_>) -> Result<AddedFields, DerError>
         ensures { MatchResult result
             (AreAdded (elements_at fields.now))
@@ -119,7 +119,7 @@ impl AddedFields {
     }
 }
 
-/// The TBSCertificate of its parts.
+/// The TBSCertificate with these parts.
 pub(crate) fn join(by: IssuedBy, to: IssuedTo, added: AddedFields) -> TbsCertificate
     ensures { result ≡ tbs_of_parts by to added }
 {

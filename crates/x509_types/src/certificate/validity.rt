@@ -1,4 +1,4 @@
-//! The time that a certificate is valid.
+//! The validity period of a certificate.
 
 ghost use Rattle.std.specs.Prelude.{◌≡◌, ◌↔◌, IsTrue};
 
@@ -7,8 +7,8 @@ use der_core::tag::SEQUENCE;
 use der_core::{DerError, Elem, NewKids, Structure, Tree, two_kids};
 use std::alloc::{AllocError, Global};
 
-/// From when until when a certificate is valid, both times among them (RFC 5280 4.1.2.5). The first
-/// may lie past the second.
+/// The period in which a certificate is valid, both times included (RFC 5280 4.1.2.5). The first
+/// may be later than the second.
 #[derive(Debug, Drop)]
 pub struct Validity {
     pub not_before: Time,
@@ -60,7 +60,7 @@ impl Structure for Validity {
     ghost grammar = { validities };
 }
 
-/// Validities are equal exactly where their octets are.
+/// Validities are equal exactly if their encodings are.
 impl PartialEq for Validity {
     ghost use Rattle.x509_types.specs.Validity.{validity};
     ghost use Rattle.der_core.specs.Equality.{same_octets};

@@ -21,7 +21,7 @@ pub enum Version {
 impl Version {
     ghost use Rattle.x509_types.specs.declared.certificate.version.Version.{Version};
 
-    /// The number that is written for the version, one less than that of its name.
+    /// The number that encodes the version, one less than in its name.
     pub fn number(self) -> u8
         ensures { result ≡ version_number self }
     {
@@ -32,7 +32,7 @@ impl Version {
         }
     }
 
-    /// The version that an element spells, which takes no memory.
+    /// The version that the element encodes. It doesn't allocate.
     fn at(elem: Elem<'_>) -> Option<Version>
         ensures { MatchOption result
             ((value : Version) → elem.entry.is.0 ≢ version value)
@@ -73,7 +73,7 @@ impl Structure for Version {
     ghost grammar = { versions };
 }
 
-/// Versions are equal exactly where their octets are.
+/// Versions are equal exactly if their encodings are.
 impl PartialEq for Version {
     ghost use Rattle.der_core.specs.Equality.{same_octets};
     ghost use Rattle.der_core.specs.Facts.Equality.{same_octets_per};

@@ -1,4 +1,4 @@
-//! Certificates, where their octets lie.
+//! Borrowed certificates.
 
 ghost use Rattle.der_core.specs.Structure.{Fits};
 ghost use Rattle.x509_types.specs.CertificateElements.{AreCertificateFields};
@@ -12,7 +12,7 @@ use crate::certificate::parts::CertParts;
 use crate::certificate::view::inner_fields::{first_time, key_parts, second_time};
 use der_core::Elem;
 
-/// A certificate where its octets lie (RFC 5280 4.1). It takes no memory.
+/// A borrowed certificate (RFC 5280 4.1). It doesn't allocate.
 #[derive(Clone, Copy)]
 pub struct CertView<'a> {
     parts: CertParts<'a>,
@@ -31,7 +31,7 @@ impl<'a> CertView<'a> {
     ghost use Rattle.x509_types.specs.TbsElements.{tbs_of};
     ghost use Rattle.x509_types.specs.declared.certificate.Certificate.{Certificate};
 
-    /// The certificate that an element spells.
+    /// The certificate that the element encodes, `None` if it encodes none.
     pub fn read(elem: Elem<'a>) -> Option<CertView<'a>>
         ensures { MatchOption result
             ((c : Certificate) → IsCertificate elem.entry.is.0 c → ⊥)
@@ -42,8 +42,8 @@ impl<'a> CertView<'a> {
         Some(CertView { parts })
     }
 
-    /// The certificate that an element spells, where it is known to spell one. Heads alone are
-    /// read, and no shape is tested again.
+    /// The certificate in an element that is known to encode one. Only heads are read, and no shape
+    /// is tested again.
     pub fn of_known(elem: Elem<'a>) -> CertView<'a>
         requires { ∥ Fits IsCertificate elem.is.0 ∥₁ }
         ensures { IsKnownView elem.entry.is.0 result }
@@ -82,14 +82,14 @@ impl<'a> CertView<'a> {
         self.parts.fields.serial_number
     }
 
-    /// The INTEGER of the version, where it is given (RFC 5280 4.1.2.1).
+    /// The INTEGER of the version, if it is present (RFC 5280 4.1.2.1).
     pub fn version(&self) -> Option<Elem<'a>>
         ensures { at_option result ≡ (view_elements self.now).tbs.version }
     {
         self.parts.fields.version
     }
 
-    /// The encoding of the AlgorithmIdentifier of the signature that stands in what is signed (RFC
+    /// The encoding of the AlgorithmIdentifier of the signature, the one in what is signed (RFC
     /// 5280 4.1.2.3).
     pub fn inner_algorithm(&self) -> &'a [u8]
         ensures { result.now ≡ encoding (view_elements self.now).tbs.signature }
@@ -97,7 +97,7 @@ impl<'a> CertView<'a> {
         self.parts.fields.signature.whole
     }
 
-    /// The element of the Validity, the times between which the certificate is valid (RFC 5280
+    /// The element of the Validity, the period in which the certificate is valid (RFC 5280
     /// 4.1.2.5).
     pub fn validity(&self) -> Elem<'a>
         ensures { result.is.0 ≡ (view_elements self.now).tbs.validity }
@@ -105,7 +105,7 @@ impl<'a> CertView<'a> {
         self.parts.fields.validity
     }
 
-    /// The time from which on the certificate is valid (RFC 5280 4.1.2.5).
+    /// The notBefore time: the certificate is valid from it on, inclusive (RFC 5280 4.1.2.5).
     pub fn not_before(&self) -> Time
         ensures { not_before_of (view_elements self.now) ≡ Some (time result) }
     {
@@ -115,7 +115,7 @@ impl<'a> CertView<'a> {
         not_before
     }
 
-    /// The time up to which the certificate is valid (RFC 5280 4.1.2.5).
+    /// The notAfter time: the certificate is valid up to it, inclusive (RFC 5280 4.1.2.5).
     pub fn not_after(&self) -> Time
         ensures { not_after_of (view_elements self.now) ≡ Some (time result) }
     {
@@ -153,32 +153,32 @@ impl<'a> CertView<'a> {
         }
     }
 
-    /// The contents octets of the unique identifier of the issuer, a BIT STRING, where it is given
-    /// (RFC 5280 4.1.2.8).
+    /// The contents octets of the issuer's unique identifier, a BIT STRING, if it is present (RFC
+    /// 5280 4.1.2.8).
     pub fn issuer_unique_id(&self) -> Option<&'a [u8]>
         ensures { option_copied result ≡ (view_elements self.now).tbs.issuer_unique_id }
     {
         self.parts.fields.issuer_unique_id
     }
 
-    /// The contents octets of the unique identifier of the subject, a BIT STRING, where it is given
-    /// (RFC 5280 4.1.2.8).
+    /// The contents octets of the subject's unique identifier, a BIT STRING, if it is present (RFC
+    /// 5280 4.1.2.8).
     pub fn subject_unique_id(&self) -> Option<&'a [u8]>
         ensures { option_copied result ≡ (view_elements self.now).tbs.subject_unique_id }
     {
         self.parts.fields.subject_unique_id
     }
 
-    /// The element of the Extensions, without the explicit tag around it, where they are given (RFC
-    /// 5280 4.1.2.9).
+    /// The element of the Extensions, without its explicit tag, if they are present (RFC 5280
+    /// 4.1.2.9).
     pub fn extensions(&self) -> Option<Elem<'a>>
         ensures { at_option result ≡ (view_elements self.now).tbs.extensions }
     {
         self.parts.fields.extensions
     }
 
-    /// The encoding of the AlgorithmIdentifier of the signature that stands beside what is signed
-    /// (RFC 5280 4.1.1.2).
+    /// The encoding of the AlgorithmIdentifier of the signature, the one beside what is signed (RFC
+    /// 5280 4.1.1.2).
     pub fn algorithm(&self) -> &'a [u8]
         ensures { result.now ≡ encoding (view_elements self.now).algorithm }
     {

@@ -1,4 +1,4 @@
-//! Extensions, where their octets lie (RFC 5280 4.1).
+//! Borrowed extensions (RFC 5280 4.1).
 //!
 //! ```text
 //! Extension  ::=  SEQUENCE  {
@@ -11,7 +11,7 @@
 //!      }
 //! ```
 //!
-//! Also read: an explicit FALSE, and TRUE as any octet but 00.
+//! Also accepted: an explicit FALSE, and TRUE as any octet but 00.
 
 ghost use Rattle.std.specs.Prelude.{◌≡◌, ◌≢◌, ℕ, Bool, List, MatchOption};
 ghost use Rattle.der_core.specs.DerElement.{DerElement};
@@ -26,8 +26,7 @@ use asn1_types::ObjectIdentifier;
 use der_core::tag::{OBJECT_IDENTIFIER, OCTET_STRING, SEQUENCE};
 use der_core::{Elem, Kids, leaf_at};
 
-/// The fields of an Extension: its identifier as any element, its flag, and the octets of its
-/// value.
+/// The fields of an Extension: its OID as any element, its flag, and the octets of its value.
 #[derive(Clone, Copy)]
 pub(crate) struct ExtensionFields<'a> {
     pub oid: Elem<'a>,
@@ -57,7 +56,7 @@ impl<'a> ExtensionFields<'a> {
     }
 }
 
-/// The kind of extensions that the element of an identifier names.
+/// The kind that the element of an OID identifies.
 pub(crate) fn kind_at(oid: Elem<'_>) -> Option<ExtensionKind>
     ensures { MatchOption result ((id : ObjectIdentifier) → oid.entry.is.0 ≢ object_identifier id)
         (λ kind. (id : ObjectIdentifier) × (oid.entry.is.0 ≡ object_identifier id)

@@ -1,4 +1,4 @@
-//! Extensions of an identifier, where their octets lie.
+//! Finding a borrowed extension by its OID.
 
 ghost use Rattle.std.specs.Prelude.{List, ℕ, MatchOption};
 ghost use Rattle.x509_types.specs.FirstExtension.{IsNamed, IsFirstNamed};
@@ -7,13 +7,13 @@ use crate::extension::fields::ExtensionFields;
 use der_core::tag::{OBJECT_IDENTIFIER, SEQUENCE};
 use der_core::{Elem, Kids, expect_leaf};
 
-/// The octets that an element holds as an extension of this identifier, by its contents octets.
+/// The octets in the element if it is an extension with this OID, given as contents octets.
 pub(crate) fn octets_named<'a>(extension: Elem<'a>, oid: &[u8]) -> Option<&'a [u8]>
     ensures { MatchOption result
         ((octets : List ℕ) → IsNamed oid.now extension.entry.is.0 octets → ⊥)
         (λ octets. IsNamed oid.now extension.entry.is.0 octets.now) }
 {
-    // The identifier stands first. Most extensions have another one, and no more is read of them.
+    // The OID comes first. Most extensions have another one, and no more of them is read.
     let mut kids = Kids::of(extension, SEQUENCE)?;
     let first = kids.next()?;
     expect_leaf(first, OBJECT_IDENTIFIER, oid)?;
@@ -21,7 +21,7 @@ pub(crate) fn octets_named<'a>(extension: Elem<'a>, oid: &[u8]) -> Option<&'a [u
     Some(fields.value)
 }
 
-/// The octets that the first extension of this identifier holds.
+/// The octets in the first extension with this OID.
 pub(crate) fn first_extension<'a>(mut kids: Kids<'a>, oid: &[u8]) -> Option<&'a [u8]>
     ensures { MatchOption result
         ((octets : List ℕ) → IsFirstNamed oid.now kids.entry.are.0 octets → ⊥)

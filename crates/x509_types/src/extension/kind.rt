@@ -1,4 +1,4 @@
-//! The kinds of extensions, by their identifiers.
+//! The kinds of extensions, by OID.
 
 ghost use Rattle.std.specs.Prelude.{◌≡◌};
 ghost use Rattle.x509_types.specs.ExtensionKind.{named_kind};
@@ -11,26 +11,26 @@ use asn1_types::oids::{
 /// A kind of extensions.
 #[derive(Clone, Copy, Debug, PartialEq, Eq)]
 pub enum ExtensionKind {
-    /// The identifier of the key (RFC 5280 4.2.1.2).
+    /// Subject key identifier (RFC 5280 4.2.1.2).
     SubjectKeyIdentifier,
-    /// What the key is for, a bit a purpose (RFC 5280 4.2.1.3).
+    /// Key usage: what the key may be used for, as bits (RFC 5280 4.2.1.3).
     KeyUsage,
-    /// Further names of the subject (RFC 5280 4.2.1.6).
+    /// Alternative names of the subject (RFC 5280 4.2.1.6).
     SubjectAltName,
-    /// Further names of the issuer (RFC 5280 4.2.1.7).
+    /// Alternative names of the issuer (RFC 5280 4.2.1.7).
     IssuerAltName,
-    /// Whether the key is that of an authority (RFC 5280 4.2.1.9).
+    /// Basic constraints: whether the subject is a CA (RFC 5280 4.2.1.9).
     BasicConstraints,
-    /// Which key the authority signs with (RFC 5280 4.2.1.1).
+    /// Authority key identifier: the key that signed the certificate (RFC 5280 4.2.1.1).
     AuthorityKeyIdentifier,
-    /// What the key is for, an identifier a purpose (RFC 5280 4.2.1.12).
+    /// Extended key usage: what the key may be used for, as OIDs (RFC 5280 4.2.1.12).
     ExtendedKeyUsage,
-    /// Any other.
+    /// Any other kind.
     Other,
 }
 
 impl ExtensionKind {
-    /// The kind of extensions that an identifier names, by its contents octets.
+    /// The kind that an OID, given as contents octets, identifies.
     pub fn named(oid: &[u8]) -> ExtensionKind
         ensures { result ≡ named_kind oid.now }
     {

@@ -1,4 +1,4 @@
-//! Parts of the values of extensions, where their octets lie.
+//! Parts of borrowed extension values.
 
 ghost use Rattle.std.specs.Prelude.{List, ℕ, Bool, MatchOption};
 ghost use Rattle.der_core.specs.Default.{IsBoolean};
@@ -8,10 +8,10 @@ use der_core::tag::SEQUENCE;
 use der_core::{Elem, Kids, boolean_at, leaf_at};
 use extension_types::small_integer_at;
 
-/// The tag of the key's identifier in an AuthorityKeyIdentifier.
+/// The tag of the keyIdentifier in an AuthorityKeyIdentifier.
 const KEY_IDENTIFIER: u8 = 0x80;
 
-/// The flag of basic constraints, where it is given.
+/// The cA flag of basic constraints, if it is present.
 pub(crate) fn flag_at(elem: Elem<'_>) -> Option<bool>
     ensures { MatchOption result
         ((b : Bool) → HasFirstElement IsBoolean elem.entry.is.0 b → ⊥)
@@ -22,7 +22,7 @@ pub(crate) fn flag_at(elem: Elem<'_>) -> Option<bool>
     boolean_at(first)
 }
 
-/// The path length of basic constraints, where it is given.
+/// The path length of basic constraints, if it is present.
 pub(crate) fn length_at(elem: Elem<'_>) -> Option<u8>
     ensures { MatchOption result
         ((number : ℕ) → EndsWithLength elem.entry.is.0 number → ⊥)
@@ -35,7 +35,7 @@ pub(crate) fn length_at(elem: Elem<'_>) -> Option<u8>
     small_integer_at(last)
 }
 
-/// The identifier of the key that an AuthorityKeyIdentifier names, where it is given.
+/// The keyIdentifier of an AuthorityKeyIdentifier, if it is present.
 pub(crate) fn key_identifier_at<'a>(elem: Elem<'a>) -> Option<&'a [u8]>
     ensures { MatchOption result
         ((key : List ℕ) → HasFirstElement IsAuthorityKeyIdentifier elem.entry.is.0 key → ⊥)

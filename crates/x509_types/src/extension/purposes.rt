@@ -1,4 +1,4 @@
-//! The purposes of extended key usages, where their octets lie.
+//! The KeyPurposeIds of borrowed extended key usages.
 
 ghost use Rattle.std.specs.Prelude.{◌↔◌, IsTrue, MatchOption};
 ghost use Rattle.der_core.specs.DerElement.{DerElement};
@@ -9,7 +9,7 @@ use asn1_types::oids::CE_EXT_KEY_USAGE;
 use der_core::tag::{OBJECT_IDENTIFIER, SEQUENCE};
 use der_core::{Elem, Kids, expect_leaf, whole_element};
 
-/// Whether some of the extensions is an extended key usage that holds a purpose, by its contents
+/// Whether one of the extensions is an extended key usage with this KeyPurposeId, given as contents
 /// octets.
 pub(crate) fn has_usage_for(mut kids: Kids<'_>, oid: &[u8]) -> bool
     ensures { IsTrue result ↔ HasSome (IsUsageFor oid.now) kids.entry.are.0 }
@@ -22,7 +22,7 @@ pub(crate) fn has_usage_for(mut kids: Kids<'_>, oid: &[u8]) -> bool
     false
 }
 
-/// Whether the extension is an extended key usage that holds the purpose.
+/// Whether the extension is an extended key usage with this KeyPurposeId.
 fn is_usage_for(extension: Elem<'_>, oid: &[u8]) -> bool
     ensures { IsTrue result ↔ IsUsageFor oid.now extension.entry.is.0 }
 {
@@ -32,7 +32,7 @@ fn is_usage_for(extension: Elem<'_>, oid: &[u8]) -> bool
     }
 }
 
-/// The element that an extended key usage holds.
+/// The element in an extended key usage.
 fn usage_at<'a>(extension: Elem<'a>) -> Option<Elem<'a>>
     ensures { MatchOption result
         ((element : DerElement) → IsUsage extension.entry.is.0 element → ⊥)
@@ -42,7 +42,7 @@ fn usage_at<'a>(extension: Elem<'a>) -> Option<Elem<'a>>
     whole_element(octets)
 }
 
-/// Whether the element holds the purpose.
+/// Whether the element holds this KeyPurposeId.
 fn holds_purpose(usage: Elem<'_>, oid: &[u8]) -> bool
     ensures { IsTrue result ↔ HoldsPurpose oid.now usage.entry.is.0 }
 {
@@ -52,7 +52,7 @@ fn holds_purpose(usage: Elem<'_>, oid: &[u8]) -> bool
     }
 }
 
-/// Whether some of the elements is this identifier.
+/// Whether one of the elements is this OID.
 fn has_identifier(mut kids: Kids<'_>, oid: &[u8]) -> bool
     ensures { IsTrue result ↔ HasSome (IsPurpose oid.now) kids.entry.are.0 }
 {

@@ -15,29 +15,29 @@ use extension_types::{AuthorityKeyIdentifier, BasicConstraints, ExtendedKeyUsage
 use name_types::RawGeneralNames;
 use std::alloc::{AllocError, Global};
 
-/// The value of an extension, by the extension's identifier (RFC 5280 4.2).
+/// The value of an extension, by the extension's OID (RFC 5280 4.2).
 #[derive(Debug, Drop)]
 pub enum ExtensionView {
-    /// The identifier of the key (RFC 5280 4.2.1.2).
+    /// Subject key identifier (RFC 5280 4.2.1.2).
     SubjectKeyIdentifier(Octets),
-    /// What the key is for, a bit a purpose (RFC 5280 4.2.1.3).
+    /// Key usage: what the key may be used for, as bits (RFC 5280 4.2.1.3).
     KeyUsage(KeyUsage),
-    /// Further names of the subject (RFC 5280 4.2.1.6).
+    /// Alternative names of the subject (RFC 5280 4.2.1.6).
     SubjectAltName(RawGeneralNames),
-    /// Further names of the issuer (RFC 5280 4.2.1.7).
+    /// Alternative names of the issuer (RFC 5280 4.2.1.7).
     IssuerAltName(RawGeneralNames),
-    /// Whether the key is that of an authority (RFC 5280 4.2.1.9).
+    /// Basic constraints: whether the subject is a CA (RFC 5280 4.2.1.9).
     BasicConstraints(BasicConstraints),
-    /// Which key the authority signs with (RFC 5280 4.2.1.1).
+    /// Authority key identifier: the key that signed the certificate (RFC 5280 4.2.1.1).
     AuthorityKeyIdentifier(AuthorityKeyIdentifier),
-    /// What the key is for, an identifier a purpose (RFC 5280 4.2.1.12).
+    /// Extended key usage: what the key may be used for, as OIDs (RFC 5280 4.2.1.12).
     ExtendedKeyUsage(ExtendedKeyUsage),
-    /// The octets of any other as they are, and of further names that are no general names.
+    /// The raw octets of any other extension, or of alternative names that don't parse.
     Raw(Octets),
 }
 
 impl ExtensionView {
-    /// The kind of extensions that have such a value; `Other` for octets that are kept.
+    /// The kind of extensions that have such a value; `Other` for raw octets.
     pub fn kind(&self) -> ExtensionKind
         ensures { result ≡ kind_of_view self.now }
     {
@@ -53,7 +53,7 @@ impl ExtensionView {
         }
     }
 
-    /// Whether octets hold a value of the kind, all of them. Any do where others are kept.
+    /// Whether the octets encode a value of the kind. Any octets do if the kind may be raw.
     pub(crate) fn has_value(kind: ExtensionKind, octets: &[u8]) -> bool
         ensures fits { IsTrue result → (view : ExtensionView) × IsValueOf kind octets.now view }
         ensures unfit { result ≡ false → (view : ExtensionView) → IsValueOf kind octets.now view
@@ -63,7 +63,7 @@ impl ExtensionView {
             ExtensionKind::SubjectKeyIdentifier => has_within::<Octets>(octets),
             ExtensionKind::KeyUsage => has_within::<KeyUsage>(octets),
             ExtensionKind::SubjectAltName | ExtensionKind::IssuerAltName => {
-                // Any octets do. Whether they hold names is asked for the contract alone.
+                // Any octets do. The contract alone needs to know whether they encode names.
                 let _names = has_within::<RawGeneralNames>(octets);
                 true
             }
@@ -74,7 +74,7 @@ impl ExtensionView {
         }
     }
 
-    /// The value of the kind that octets hold, all of them.
+    /// The value of the kind that the octets encode.
     pub(crate) fn read(
         alloc: Global,
         kind: ExtensionKind,
@@ -156,7 +156,7 @@ impl ExtensionView {
     }
 }
 
-/// The general names that octets hold, all of them, None where they hold none.
+/// The general names that the octets encode, `None` if they encode none.
 fn read_names(alloc: Global, octets: &[u8]) -> Result<Option<RawGeneralNames>, DerError>
     ensures { MatchResult result
         (λ names. MatchOption names (HoldsNoNames octets.now) (IsWithin AreGeneralNames octets.now))
@@ -169,7 +169,7 @@ fn read_names(alloc: Global, octets: &[u8]) -> Result<Option<RawGeneralNames>, D
     }
 }
 
-/// Values are equal exactly where their kinds and their octets are.
+/// Values are equal exactly if their kinds and their octets are.
 impl PartialEq for ExtensionView {
     ghost use Rattle.std.specs.Ordering.{on};
     ghost use Rattle.std.specs.Cmp.Lexicographic.{nat_list_eq_equiv};

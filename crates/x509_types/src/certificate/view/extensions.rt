@@ -1,4 +1,4 @@
-//! What the extensions of a certificate say, where their octets lie.
+//! What the extensions of a borrowed certificate say.
 
 ghost use Rattle.std.specs.Prelude.{◌≡◌, ◌↔◌, [], List, ℕ, Bool, IsTrue, MatchOption};
 ghost use Rattle.der_core.specs.DerElement.{DerElement};
@@ -17,11 +17,11 @@ use asn1_types::oids::{
 use der_core::tag::OCTET_STRING;
 use der_core::{Elem, Kids, leaf_at, whole_element};
 
-/// Of several extensions of one identifier the first counts, but for the purposes that are named,
-/// which every extended key usage may hold.
+/// If several extensions have the same OID, the first counts; but `names` looks in every extended
+/// key usage.
 impl<'a> CertView<'a> {
-    /// Whether the key is that of an authority (RFC 5280 4.2.1.9), None where there are no basic
-    /// constraints or their flag is left out, which means FALSE.
+    /// Whether the subject is a CA (RFC 5280 4.2.1.9); `None` without basic constraints, or if
+    /// their flag is absent, which means FALSE.
     pub fn ca(&self) -> Option<bool>
         ensures { MatchOption result
             ((b : Bool) → HasCa (view_elements self.now) b → ⊥)
@@ -31,8 +31,8 @@ impl<'a> CertView<'a> {
         flag_at(constraints)
     }
 
-    /// How many authorities may stand between this one and the end of a path (RFC 5280 4.2.1.9),
-    /// None where there are no basic constraints, or they set no limit.
+    /// How many non-self-issued intermediate certificates may follow this one in a path (RFC 5280
+    /// 4.2.1.9); `None` without basic constraints, or if they set no limit.
     pub fn path_length(&self) -> Option<u8>
         ensures { MatchOption result
             ((number : ℕ) → HasPathLength (view_elements self.now) number → ⊥)
@@ -42,7 +42,7 @@ impl<'a> CertView<'a> {
         length_at(constraints)
     }
 
-    /// The identifier of the key of the subject (RFC 5280 4.2.1.2).
+    /// The octets of the subject key identifier (RFC 5280 4.2.1.2), `None` if there is none.
     pub fn subject_key_identifier(&self) -> Option<&'a [u8]>
         ensures { MatchOption result
             ((key : List ℕ) → HasSubjectKey (view_elements self.now) key → ⊥)
@@ -52,7 +52,8 @@ impl<'a> CertView<'a> {
         leaf_at(value, OCTET_STRING)
     }
 
-    /// The identifier of the key of the authority (RFC 5280 4.2.1.1), where it is named by that.
+    /// The octets of the keyIdentifier in the authority key identifier (RFC 5280 4.2.1.1), `None`
+    /// if there is none.
     pub fn authority_key_identifier(&self) -> Option<&'a [u8]>
         ensures { MatchOption result
             ((key : List ℕ) → HasAuthorityKey (view_elements self.now) key → ⊥)
@@ -62,7 +63,8 @@ impl<'a> CertView<'a> {
         key_identifier_at(value)
     }
 
-    /// Whether some extended key usage holds a purpose, by its contents octets (RFC 5280 4.2.1.12).
+    /// Whether an extended key usage holds this KeyPurposeId, given as contents octets (RFC 5280
+    /// 4.2.1.12).
     pub fn names(&self, oid: &[u8]) -> bool
         ensures { IsTrue result ↔ NamesPurpose (view_elements self.now) oid.now }
     {
@@ -72,7 +74,7 @@ impl<'a> CertView<'a> {
         }
     }
 
-    /// Whether there is an extended key usage.
+    /// Whether there is an extended key usage (RFC 5280 4.2.1.12).
     pub fn has_purposes(&self) -> bool
         ensures { IsTrue result ↔ HasPurposes (view_elements self.now) }
     {
@@ -82,7 +84,7 @@ impl<'a> CertView<'a> {
         }
     }
 
-    /// The element in the first extension of this identifier, by its contents octets.
+    /// The element in the first extension with this OID, given as contents octets.
     fn first_value(&self, oid: &[u8]) -> Option<Elem<'a>>
         ensures { MatchOption result
             ((element : DerElement) → IsFirstValue (view_elements self.now) oid.now element → ⊥)
@@ -93,7 +95,7 @@ impl<'a> CertView<'a> {
         whole_element(octets)
     }
 
-    /// The elements in the list of extensions, where there is one.
+    /// The elements in the list of extensions, if it is present.
     fn extension_kids(&self) -> Option<Kids<'a>>
         ensures { MatchOption result
             (extensions_of (view_elements self.now) ≡ [])

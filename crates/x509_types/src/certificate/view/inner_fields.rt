@@ -1,4 +1,4 @@
-//! The times and the key of a certificate, where their octets lie.
+//! The times and the key of a borrowed certificate.
 
 ghost use Rattle.std.specs.Prelude.{◌≡◌, ◌≢◌, Some, MatchOption};
 ghost use Rattle.asn1_types.specs.Elements.{time};
@@ -35,7 +35,7 @@ pub(crate) fn second_time(elem: Elem<'_>) -> Option<Time>
     Some(not_after)
 }
 
-/// The time that an element spells, which takes no memory.
+/// The time that the element encodes. It doesn't allocate.
 fn time_at(elem: Elem<'_>) -> Option<Time>
     ensures { MatchOption result
         ((value : Time) → elem.entry.is.0 ≢ time value)
@@ -48,7 +48,7 @@ fn time_at(elem: Elem<'_>) -> Option<Time>
     Some(Time::Generalized(GeneralizedTime::from_content(contents)?))
 }
 
-/// The algorithm of a key, and the octets that hold the key's bits.
+/// The algorithm of a key, and the octets that hold the bits of the key.
 pub(crate) fn key_parts<'a>(elem: Elem<'a>) -> Option<(Elem<'a>, &'a [u8])>
     ensures { MatchOption result
         ((info : SubjectPublicKeyInfo) → IsPublicKeyInfo elem.entry.is.0 info → ⊥)

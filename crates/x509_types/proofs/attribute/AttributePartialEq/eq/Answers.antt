@@ -7,7 +7,7 @@ use Rattle.x509_types.specs.Facts.Attributes.{same_attribute, attributes, attrib
 use Rattle.x509_types.specs.declared.attribute.Attribute.{Attribute}
 use Rattle.x509_types.proofs.attribute.AttributePartialEq.eq.Goals as goal
 
--- attributes of one identifier are told by their values
+-- attributes with one OID are determined by their values
 by_value : (a b : Attribute) (t : Bool) → a.ty ≡ b.ty → (IsTrue t ↔ (a.value ≡ b.value)) → IsTrue t ↔ (a ≡ b)
 by_value a b t ty value = (λ w. same_attribute a b ty (value.0 w), λ e. value.1 (ap (λ (x : Attribute). x.value) e))
 

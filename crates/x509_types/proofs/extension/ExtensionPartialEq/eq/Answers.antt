@@ -8,7 +8,7 @@ use Rattle.x509_types.specs.Facts.Extensions.{same_extension, extensions_by_octe
 use Rattle.x509_types.specs.declared.extension.Extension.{Extension}
 use Rattle.x509_types.proofs.extension.ExtensionPartialEq.eq.Goals as goal
 
--- extensions of one identifier and one flag are told by their values
+-- extensions with one OID and one flag are determined by their values
 by_value : (a b : Extension) (t : Bool) → (a.extn_id ≡ b.extn_id) × (a.critical ≡ b.critical) → (IsTrue t ↔ (a.extn_value ≡ b.extn_value)) → IsTrue t ↔ (a ≡ b)
 by_value a b t alike value = (λ w. same_extension a b alike.0 alike.1 (value.0 w), λ e. value.1 (ap (λ (x : Extension). x.extn_value) e))
 
