@@ -1,4 +1,4 @@
--- Decimal digits of numbers up to 128 bits: how they begin, and which numerals they are.
+-- Decimal digits of numbers up to 128 bits: how they begin, and which of them are numerals.
 use Rattle.std.proofs.Common.{◌≡◌, ◌≢◌, ℕ, ◌+◌, ◌*◌, ◌/◌, ◌%◌, ◌^◌, ◌<◌, ◌≤◌, List, [], ◌∷◌, ◌++◌, length, length-append, get_or, drop, append_assoc, append-nil, Option, Result, Ok, Err, sym, ap, subst, ◌∙◌, inl, inr, arith}
 use Rattle.std.specs.Char.{digit_value}
 use Rattle.std.specs.Fmt.{decimal}
@@ -56,7 +56,7 @@ decimal_after n (c ∷ cs) positive all small =
     ∙ ap (λ x. x ++ cs) (decimal_step_wide m (omega arith) (omega (arith, after_ge m cs)) ∙ (λ i. decimal (front i) ++ (last i ∷ [])))
     ∙ append_assoc (decimal n) (c ∷ []) cs
 
--- digits that are one, or begin with 1 to 9, are those of the number that they write
+-- one digit, or digits that begin with 1 to 9, are the digits of their number
 numeral_is : (digits : List ℕ) → IsNumeral 10 digits → (1 < length digits → 49 ≤ get_or digits 0 0)
     → digits_value 10 digits < 10 ^ 64 → decimal (digits_value 10 digits) ≡ digits
 numeral_is [] numeral lead small = absurd (omega (arith, numeral.0))
@@ -75,7 +75,7 @@ unsigned : (digits : List ℕ) → IsNumeral 10 digits → get_or digits 0 0 ≢
 unsigned [] numeral plus = absurd (omega (arith, numeral.0))
 unsigned (c ∷ cs) numeral plus = let range = digit_from_value c numeral.1.0 in absurd (omega arith)
 
--- `parse` of a text that doesn't begin as no number's digits do
+-- `parse` of a text that doesn't begin like the digits of a number
 pub parsed : {E : Type 0} (text : List ℕ) (r : Result ℕ E) (o : Option ℕ) → ParsesUnsigned 128 10 text r
     → (1 < length text → 49 ≤ get_or text 0 0) → o ≡ result_ok r
     → MatchOption o ((arc : ℕ) → IsSubidentifier arc → text ≢ decimal arc) (λ arc. IsSubidentifier arc × (text ≡ decimal arc))
@@ -99,7 +99,7 @@ parsed text (Err x) o refused lead e = rw e (λ n bounded printed.
     let value : digits_value 10 (without_leading_plus text) ≡ n = ap (digits_value 10) (bare ∙ printed) ∙ read.1 in
     refused (subst (IsNumeral 10) (sym bare) numeral, omega arith))
 
--- digits tell the number
+-- a number is determined by its digits
 pub decimal_once : (m n : ℕ) → IsSubidentifier m → IsSubidentifier n → decimal m ≡ decimal n → m ≡ n
 decimal_once m n h k e =
     sym (decimal_is_IsNumeral_wide m (omega arith)).1 ∙ ap (digits_value 10) e

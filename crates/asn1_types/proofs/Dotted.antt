@@ -1,4 +1,5 @@
--- The dotted text of arcs is read in one way, piece by piece; and it is printed from contents octets arc by arc.
+-- The dotted text of arcs parses unambiguously, piece by piece, and is printed from contents octets
+-- arc by arc.
 use Rattle.std.proofs.Common.{◌≡◌, ◌≢◌, ℕ, ◌+◌, ◌*◌, ◌<◌, zero, suc, Bool, false, eqb, List, [], ◌∷◌, ◌++◌, map, length, get_or, take, append_assoc, append-nil, refl, sym, ap, ap₂, subst, ◌∙◌, arith}
 use Rattle.std.specs.List.{All, AllByRecursion, flat_map, slice_split, join_with_byte}
 use Rattle.std.specs.Fmt.{decimal}
@@ -50,7 +51,7 @@ arcs_bounded (x ∷ y ∷ xs) h =
     let bounded = h.0.bounded in
     (omega arith, (omega arith, h.1))
 
--- the pieces of an identifier's text
+-- the pieces of an OID's text
 arc_pieces : (text arcs : List ℕ) → IsArcs arcs → text ≡ dotted arcs → slice_split is_dot text ≡ map decimal arcs
 arc_pieces text [] h e = absurd h
 arc_pieces text (x ∷ xs) h e = ap (slice_split is_dot) e ∙ pieces_are x xs (arcs_bounded (x ∷ xs) h)
@@ -65,7 +66,7 @@ decimals_once (x ∷ xs) (y ∷ ys) h k e =
     let more : map decimal xs ≡ map decimal ys = cc in
     ap₂ (λ n ns. n ∷ ns) (decimal_once x y h.0 k.0 digits) (decimals_once xs ys h.1 k.1 more)
 
--- arcs whose text is that of an identifier are its arcs
+-- arcs with the text of an OID are its arcs
 pub arcs_once : (arcs : List ℕ) (text : List ℕ) → text ≡ dotted arcs → AllByRecursion IsSubidentifier arcs → IsDottedText text → IsArcs arcs
 arcs_once arcs text e all t = by_arcs arcs all t.arcs t.are_arcs (sym e ∙ t.printed)
   where
@@ -89,7 +90,7 @@ piece_at [] place piece all within at no_arc = absurd (omega arith)
 piece_at (x ∷ xs) zero piece all within at no_arc = no_arc x all.0 at
 piece_at (x ∷ xs) (suc place) piece all within at no_arc = piece_at xs place piece all.1 (omega arith) at no_arc
 
--- a piece that is no number's digits stands in no identifier's text
+-- a piece that isn't the digits of a number is in no OID's text
 pub bad_piece : (text : List ℕ) (place : ℕ) (piece : List ℕ) → place < length (slice_split is_dot text)
     → piece ≡ get_or (slice_split is_dot text) place piece → ((arc : ℕ) → IsSubidentifier arc → piece ≢ decimal arc)
     → IsDottedText text → ⊥
@@ -193,7 +194,7 @@ identifier_begins contents identifier begins = by_arcs identifier.arcs identifie
     by_arcs (x ∷ []) h e = h
     by_arcs (x ∷ y ∷ xs) h e = begins (40 * x + y) (flat_map subidentifier xs) h.0.bounded e
 
--- ---- answers of the readers
+-- ---- results of the parsers
 
 -- a refusal of a larger form is one of a smaller
 pub refused_as : (P Q : Type 0) → (Q → P) → (e : TextError) → RefusesText P e → RefusesText Q e

@@ -1,4 +1,4 @@
--- The first two of the arcs that the pieces of a text are, as they are seen one after another.
+-- The first two arcs among the pieces of a text, found one after the other.
 use Rattle.std.proofs.Common.{◌≡◌, ◌↔◌, IsTrue, Bool, not, ap, ℕ, List, [], ◌∷◌, ◌++◌, ◌+◌, ◌<◌, Option, Some, None, true, false, get_or, length, map, take, refl, subst}
 use Rattle.std.specs.Prelude.{MatchOption}
 use Rattle.std.specs.Fmt.{decimal}
@@ -17,7 +17,7 @@ second_arc [] = None
 second_arc (x ∷ []) = None
 second_arc (x ∷ y ∷ xs) = Some y
 
--- So many pieces are arcs, of which these are the first and the second.
+-- So many pieces are arcs, and these are the first and the second.
 pub record AreSeen (text : List ℕ) (count : ℕ) (first second : Option ℕ) : Type 0 where
   pub arcs : List ℕ
   pub bounded : AllByRecursion IsSubidentifier arcs
@@ -25,7 +25,7 @@ pub record AreSeen (text : List ℕ) (count : ℕ) (first second : Option ℕ) :
   pub first_is : first_arc arcs ≡ first
   pub second_is : second_arc arcs ≡ second
 
--- an arc behind none, behind one, and behind two or more
+-- an arc after none, after one, and after two or more
 pub behind_none : (arcs : List ℕ) (arc : ℕ) → first_arc arcs ≡ None → (first_arc (arcs ++ arc ∷ []) ≡ Some arc) × (second_arc (arcs ++ arc ∷ []) ≡ second_arc arcs)
 behind_none [] arc none = (refl, refl)
 behind_none (x ∷ xs) arc none = absurd cc
@@ -52,7 +52,7 @@ one_more_seen text count next first second now then piece arc seen bounded withi
   second_is = kept.1;
 }
 
--- what a test for nothing tells
+-- what a test for nothing shows
 pub none_of : (o : Option ℕ) (test : Bool) → is_some o ≡ not test → test ≡ true → o ≡ None
 none_of None test e is = refl
 none_of (Some x) test e is = absurd (cc (ap not is))
@@ -77,7 +77,7 @@ root_are (a ∷ b ∷ more) x y p q all h =
     let other : y ≡ b = cc in
     (subst (λ (n : ℕ). IsRoot n b) one (subst (IsRoot x) other h), all.1.1)
 
--- where all pieces were seen, the text is that of an identifier exactly where the two make a number
+-- if all pieces were seen, the text is that of an OID exactly if the first two arcs make a number
 pub dotted_by_root : (text arcs : List ℕ) (x y : ℕ) (root : Option ℕ) → map decimal arcs ≡ slice_split is_dot text → AllByRecursion IsSubidentifier arcs → first_arc arcs ≡ Some x → second_arc arcs ≡ Some y
     → MatchOption root (IsRoot x y → ⊥) (λ n. IsRoot x y) → IsTrue (is_some root) ↔ IsDottedText text
 dotted_by_root text arcs x y None are all p q none = (λ w. absurd cc, λ t. absurd (none (are_root arcs x y p q (arcs_once arcs text (dotted_from_pieces text arcs are) all t))))
@@ -91,7 +91,7 @@ no_arcs [] none h = h
 no_arcs (a ∷ []) none h = h
 no_arcs (a ∷ b ∷ more) none h = absurd cc
 
--- and not where there is no second
+-- and isn't if there is no second arc
 pub not_dotted : (text arcs : List ℕ) → map decimal arcs ≡ slice_split is_dot text → AllByRecursion IsSubidentifier arcs → second_arc arcs ≡ None → IsDottedText text → ⊥
 not_dotted text arcs are all none t = no_arcs arcs none (arcs_once arcs text (dotted_from_pieces text arcs are) all t)
 

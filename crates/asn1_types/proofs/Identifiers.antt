@@ -1,4 +1,4 @@
--- Octets are the contents of an identifier where they are subidentifiers, one at least.
+-- Octets are the contents of an OID if they are subidentifiers, at least one.
 use Rattle.std.proofs.Common.{◌≡◌, ◌≢◌, ◌↔◌, ℕ, Bool, true, false, not, IsTrue, eqb, length, refl, ◌+◌, ◌-◌, ◌*◌, ◌/◌, ◌%◌, ◌<◌, ◌≤◌, List, [], ◌∷◌, ◌++◌, suc, get_or, take, drop, sym, ap, ap₂, subst, ◌∙◌, inl, inr, arith}
 use Rattle.std.proofs.lemmas.Bool.{cases_lt, eqb-true, eqb-false, false≢true}
 use Rattle.std.proofs.lemmas.List.{nil_from_length, take_all}
@@ -10,7 +10,7 @@ use Rattle.asn1_types.specs.declared.oid.ObjectIdentifier.{ObjectIdentifier}
 use Rattle.asn1_types.specs.Facts.OneIdentifier.{contents_once, IsIdentifier-prop}
 use Rattle.asn1_types.proofs.Subidentifiers.{AreSubidentifiers, are_none}
 
--- the identifier whose first two arcs make a number
+-- the OID whose first two arcs make a number
 from_numbers : (octets : List ℕ) (n : ℕ) (ns : List ℕ) → AllByRecursion IsSubidentifier (n ∷ ns)
     → octets ≡ flat_map subidentifier (n ∷ ns) → IsIdentifier octets
 from_numbers octets n ns all spelled =
@@ -34,7 +34,7 @@ numbers_of octets (x ∷ y ∷ xs) h e = (
   λ none. subidentifier_some (40 * x + y) (flat_map subidentifier xs) (sym e ∙ none),
 )
 
--- contents octets are subidentifiers, and not none
+-- contents octets are subidentifiers, at least one
 pub contents_are : (octets : List ℕ) → IsIdentifier octets → AreSubidentifiers octets × (octets ≢ [])
 contents_are octets identifier = numbers_of octets identifier.arcs identifier.are_arcs identifier.spelled
 
@@ -45,7 +45,7 @@ contents_from octets are some = by_numbers are.numbers are.bounded are.spelled
     by_numbers [] all spelled = absurd (some spelled)
     by_numbers (n ∷ ns) all spelled = from_numbers octets n ns all spelled
 
--- all octets are subidentifiers: they are the contents of an identifier unless there are none
+-- all octets are subidentifiers: they are the contents of an OID unless there are none
 pub all_read : (octets : List ℕ) (empty : Bool) → empty ≡ eqb (length octets) 0 → AreSubidentifiers octets
     → IsTrue (not empty) ↔ IsIdentifier octets
 all_read octets true e are =
@@ -54,20 +54,20 @@ all_read octets true e are =
 all_read octets false e are =
     (λ t. contents_from octets are (λ none. eqb-false _ _ (sym e) (ap length none)), λ identifier. refl)
 
--- octets are left that begin with no subidentifier
+-- octets are left that don't begin with a subidentifier
 pub some_left : (octets rest : List ℕ) (empty : Bool) → empty ≡ eqb (length rest) 0 → empty ≡ false
     → BeginsWithNoSubidentifier rest → (AreSubidentifiers octets → AreSubidentifiers rest) → IsTrue empty ↔ IsIdentifier octets
 some_left octets rest empty e left begins down =
     let some : rest ≢ [] = λ none. eqb-false _ _ (sym e ∙ left) (ap length none) in
     (λ t. absurd (false≢true (sym left ∙ t)), λ identifier. absurd (are_none rest begins some (down (contents_are octets identifier).0)))
 
--- arcs with the contents octets of an identifier are its arcs
+-- arcs with the contents octets of an OID are its arcs
 pub arcs_are : (contents : List ℕ) (identifier : IsIdentifier contents) (arcs : List ℕ) → IsArcs arcs → contents ≡ contents_of arcs
     → identifier.arcs ≡ arcs
 arcs_are contents identifier arcs h e =
     contents_once identifier.arcs arcs identifier.are_arcs h (sym identifier.spelled ∙ e)
 
--- each number of a list is in bounds
+-- each number of a list is within limits
 pub bounded_from : (numbers : List ℕ) → ((i : ℕ) → IsSubidentifier (get_or numbers i 0)) → AllByRecursion IsSubidentifier numbers
 bounded_from [] each = tt
 bounded_from (n ∷ ns) each = (each 0, bounded_from ns (λ i. each (suc i)))
@@ -85,12 +85,12 @@ arcs_made (x ∷ y ∷ xs) octets root two is_root made each e =
 abbrev identifier_of : (contents : List ℕ) → IsIdentifier contents → ObjectIdentifier
 identifier_of contents identifier = record { contents = contents; formed = identifier }
 
--- identifiers of the same contents octets are the same
+-- OIDs with the same contents octets are the same
 pub same_identifier : (a b : ObjectIdentifier) → a.contents ≡ b.contents → a ≡ b
 same_identifier a b e =
     subst (λ (contents : List ℕ). (h : IsIdentifier contents) → a ≡ identifier_of contents h) e
     (λ h. ap (identifier_of a.contents) (IsIdentifier-prop a.contents a.formed h)) b.formed
 
--- The same contents octets are those of the same arcs.
+-- The same contents octets have the same arcs.
 pub one_list_of_arcs : (a b : List ℕ) (x : IsIdentifier a) (y : IsIdentifier b) → a ≡ b → x.arcs ≡ y.arcs
 one_list_of_arcs a b x y e = contents_once x.arcs y.arcs x.are_arcs y.are_arcs (sym x.spelled ∙ e ∙ y.spelled)

@@ -1,4 +1,5 @@
--- The rows of the table are computed: each text and its contents octets are of the same arcs, and no two rows share a column.
+-- The rows of the table are computed: each text and its contents octets have the same arcs, and no
+-- two rows share a column.
 use Rattle.std.proofs.Common.{◌≡◌, ◌≢◌, ℕ, zero, suc, ◌+◌, ◌*◌, ◌^◌, Bool, true, false, ◌&&◌, ◌||◌, not, nat_lt, nat_le, eqb, List, [], ◌∷◌, map, refl, sym, ap, ap₂, ◌∙◌, arith, inl, inr}
 use Rattle.std.specs.List.{AllByRecursion, AllPairs, All, slice_split, list_all, list_any}
 use Rattle.std.specs.Fmt.{digits}
@@ -153,7 +154,7 @@ known_among contents (row ∷ rows) all e = elim (or_cases (bytes_eq row.content
   | inr later ↦ known_among contents rows (λ k d within. all (suc k) d (omega arith)) later
 ]
 
--- the contents octets of a row are those of an identifier
+-- the contents octets of a row are those of an OID
 pub known_is : (contents : List ℕ) → is_known contents ≡ true → IsIdentifier contents
 unfolding known_rows
 known_is contents e = known_among contents known_rows each_agrees e

@@ -1,4 +1,4 @@
--- The number that octets write, and its one shortest contents.
+-- The number that octets encode, and its shortest contents.
 use Rattle.std.proofs.Common.{◌≡◌, ℕ, suc, ◌+◌, ◌*◌, ◌^◌, ◌<◌, ◌≤◌, List, [], ◌∷◌, length, slice_index, refl, sym, ap, ◌∙◌, add_comm, arith, inl, inr}
 use Rattle.std.proofs.lemmas.Bool.{cases_lt}
 use Rattle.std.proofs.lemmas.Nat.{mul-add-lt, mul-le, pow-add}
@@ -12,7 +12,7 @@ tail_IsOctets octet octets fit = λ i. fit (suc i)
 wider : (n : ℕ) → 256 ^ suc n ≡ 256 * 256 ^ n
 wider n = omega (arith, pow-add 256 1 n, add_comm 1 n, ap (λ k. 256 ^ k) (add_comm 1 n))
 
--- Each octet counts 256 to the number of octets after it.
+-- Each octet counts as a power of 256 by the number of octets after it.
 abbrev positional : List ℕ → ℕ
 positional [] = 0
 positional (octet ∷ octets) = octet * 256 ^ length octets + positional octets
@@ -30,7 +30,7 @@ positional_from n (octet ∷ octets) =
 positional_is : (octets : List ℕ) → number_of octets ≡ positional octets
 positional_is octets = positional_from 0 octets ∙ omega arith
 
--- A number is below 256 to the count of the octets that write it.
+-- A number is below 256 to the number of its octets.
 below : (octets : List ℕ) → IsOctets octets → positional octets < 256 ^ length octets
 below [] fit = omega arith
 below (octet ∷ octets) fit =
@@ -50,7 +50,7 @@ digits_are a b m n w small small' e =
     ] in
     (first, omega (arith, ap (λ d. d * w) first))
 
--- As many octets that write the same number are the same.
+-- Equally many octets that encode the same number are the same.
 same_octets : (a b : List ℕ) → IsOctets a → IsOctets b → length a ≡ length b → positional a ≡ positional b → a ≡ b
 same_octets [] [] fit fit' many e = refl
 same_octets [] (y ∷ ys) fit fit' many e = absurd (omega arith)
@@ -74,7 +74,7 @@ at_least first second octets not_zeros =
       | inr high ↦ omega (arith, mul-le 128 (256 ^ length octets) second (256 ^ length octets) high (omega arith))
     ]
 
--- Octets that begin with a bit of 0 write a number of so few bits.
+-- Octets whose first bit is 0 encode a number of so few bits.
 at_most : (octet : ℕ) (octets : List ℕ) → IsOctets (octet ∷ octets) → octet < 128 → positional (octet ∷ octets) < 128 * 256 ^ length octets
 at_most octet octets fit low =
     omega (arith, mul-add-lt octet (256 ^ length octets) (positional octets) 128 low (below octets (tail_IsOctets octet octets fit)))

@@ -1,4 +1,4 @@
--- What holes padded with zeros write.
+-- What format specifiers padded with zeros write.
 use Rattle.std.proofs.Common.{◌≡◌, ℕ, ◌+◌, ◌-◌, ◌^◌, ◌<◌, ◌≤◌, ◌/◌, ◌%◌, false, [], ◌∷◌, ◌++◌, arith, ⊎_elim}
 use Rattle.std.specs.Fmt.{decimal, styled_decimal, padded_integral, format_spec, char_count}
 use Rattle.std.proofs.lemmas.Fmt.{decimal_digit, decimal_step}

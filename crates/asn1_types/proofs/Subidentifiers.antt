@@ -73,7 +73,7 @@ abbrev at_octet : ℕ → ℕ → List ℕ → Bool → Option (ℕ × List ℕ)
 at_octet number octet rest t =
     cond t (Some (number * 128 + octet, rest)) (read_after (number * 128 + (octet - 128)) rest)
 
--- what is read holds the number that was read so far
+-- the number is at least the one that was read so far
 read_holds : (number : ℕ) (octets : List ℕ) (n : ℕ) (after : List ℕ) → read_after number octets ≡ Some (n, after) → number * 128 ≤ n
 read_holds number [] n after e = cc
 read_holds number (octet ∷ rest) n after e =
@@ -91,7 +91,7 @@ read_holds number (octet ∷ rest) n after e =
     first_of_found : (m n : ℕ) (x y : List ℕ) → found m x ≡ found n y → m ≡ n
     first_of_found m n x y e = ap (λ (r : Option (ℕ × List ℕ)). elim r [ None ↦ m | Some p ↦ p.0 ]) e
 
--- what reading says of octets that begin with a subidentifier
+-- what a reader returns for octets that begin with a subidentifier
 begun : (octets rest after : List ℕ) (number n : ℕ) → octets ≡ leading_octets number ++ rest
     → octets ≡ subidentifier n ++ after → read_after number rest ≡ Some (n, after)
 begun octets rest after number n read spelled =
@@ -115,7 +115,7 @@ first_above : (digits after : List ℕ) → 0 < length digits → get_or (map (�
 first_above [] after some = absurd (omega arith)
 first_above (digit ∷ digits) after some = refl
 
--- no subidentifier begins with 80
+-- no subidentifier begins with octet 80
 pub none_padded : (octets rest after : List ℕ) (number octet : ℕ) → octets ≡ leading_octets number ++ rest
     → rest ≡ octet ∷ after → number ≡ 0 → octet ≡ 128 → BeginsWithNoSubidentifier octets
 unfolding subidentifier
@@ -137,7 +137,7 @@ none_padded octets rest after number octet read next none padding n behind bound
           absurd (omega arith)
     ]
 
--- a subidentifier has octets, so what is behind it is shorter
+-- a subidentifier has octets, so what follows it is shorter
 pub after_shorter : (octets after : List ℕ) (n : ℕ) → octets ≡ subidentifier n ++ after → length after < length octets
 unfolding subidentifier
 after_shorter octets after n e =
@@ -145,7 +145,7 @@ after_shorter octets after n e =
     let parts = length-append (leading_octets (n / 128)) (n % 128 ∷ after) in
     omega arith
 
--- octets that begin with a subidentifier are subidentifiers where the octets after it are
+-- octets that begin with a subidentifier are subidentifiers if the octets after it are
 pub are_where_rest : (octets after : List ℕ) (n : ℕ) → IsSubidentifier n → octets ≡ subidentifier n ++ after
     → AreSubidentifiers octets ↔ AreSubidentifiers after
 are_where_rest octets after n bounded e = (
@@ -165,7 +165,7 @@ are_where_rest octets after n bounded e = (
       spelled = (subidentifier_once n m after (flat_map subidentifier ms) (sym e ∙ spelled)).1;
     }
 
--- octets that begin with no subidentifier are none, unless there are no octets
+-- octets that don't begin with a subidentifier aren't subidentifiers, unless there are none
 pub are_none : (octets : List ℕ) → BeginsWithNoSubidentifier octets → octets ≢ [] → AreSubidentifiers octets → ⊥
 are_none octets begins some are = by_numbers are.numbers are.bounded are.spelled
   where

@@ -1,4 +1,4 @@
--- Times of the same fields are the same, and pairs of digits are read as one time.
+-- Times with the same fields are the same, and pairs of digits are read as one time.
 use Rattle.std.proofs.Common.{◌≡◌, ℕ, ◌+◌, ◌*◌, ◌/◌, ◌%◌, List, [], ◌∷◌, length, get_or, slice_index, Option, None, Some, IsSome, IfSome, MatchOption, ◌≢◌, ◌↔◌, arith, sym, ap, subst, ◌∙◌}
 use Rattle.asn1_types.specs.Calendar.{IsUtcYear}
 use Rattle.asn1_types.specs.declared.generalized_time.GeneralizedTime.{GeneralizedTime}
@@ -8,13 +8,13 @@ use Rattle.asn1_types.specs.Time.{IsPair, generalized_contents, generalized_fiel
 
 -- ---- fields
 
--- What is made of the fields of a time is that time.
+-- The time made of the fields of a time is that time.
 pub generalized_made : (made : Option GeneralizedTime) (t : GeneralizedTime) (xs : List ℕ) → (IsSome made ↔ AreMoment xs) → IfSome made (λ v. generalized_fields v ≡ xs) → generalized_fields t ≡ xs → made ≡ Some t
 generalized_made None t xs exists given e =
     let made = exists.1 (subst AreMoment e t.exists) in absurd (cc)
 generalized_made (Some v) t xs exists given e = ap Some (same_generalized v t (given ∙ sym e))
 
--- The same, the year being one of 1950 to 2049.
+-- The same for years from 1950 to 2049.
 pub utc_made : (made : Option UTCTime) (t : UTCTime) (xs : List ℕ) → (IsSome made ↔ (AreMoment xs × IsUtcYear (get_or xs 0 0))) → IfSome made (λ v. utc_fields v ≡ xs) → utc_fields t ≡ xs → made ≡ Some t
 utc_made None t xs exists given e =
     let made = exists.1 (subst (λ ys. AreMoment ys × IsUtcYear (get_or ys 0 0)) e (t.time.exists, t.of_years)) in absurd (cc)
@@ -51,12 +51,12 @@ generalized_read bs t year century of_century month day hour minute second whole
     let years : t.year ≡ year = omega arith in
     cc
 
--- What is read of octets alone is all that is read.
+-- A reader that reads the contents octets of all times, and only those, is exact.
 pub read_or_not : {T : Type 0} (contents fields : T → List ℕ) (bs xs : List ℕ) (read : Option T) → ((t : T) → bs ≡ contents t → read ≡ Some t) → ((t : T) → fields t ≡ xs → bs ≡ contents t) → IfSome read (λ t. fields t ≡ xs) → MatchOption read ((t : T) → bs ≢ contents t) (λ t. bs ≡ contents t)
 read_or_not contents fields bs xs None only spelled given = λ t e. let read = only t e in absurd (cc)
 read_or_not contents fields bs xs (Some t) only spelled given = spelled t given
 
--- The same two for the years 1950 to 2049.
+-- The same two for years from 1950 to 2049.
 pub utc_spelled : (bs : List ℕ) (v : UTCTime) (year last month day hour minute second : ℕ) → year % 100 ≡ last → length bs ≡ 13 → slice_index bs 12 ≡ 90
     → IsPair bs 0 last → IsPair bs 2 month → IsPair bs 4 day → IsPair bs 6 hour → IsPair bs 8 minute → IsPair bs 10 second
     → utc_fields v ≡ year ∷ month ∷ day ∷ hour ∷ minute ∷ second ∷ [] → bs ≡ utc_contents v
@@ -81,7 +81,7 @@ utc_read bs t year last month day hour minute second within same p0 p2 p4 p6 p8 
     let years : t.time.year ≡ year = omega arith in
     cc
 
--- an answer that is there is what is read
+-- a result that is present is what is read
 pub some_read : {T : Type 0} (P : T → Type 0) (N : Type 0) (r : Option T) → IsSome r → MatchOption r N P → (t : T) × P t
 some_read P N None there m = absurd cc
 some_read P N (Some t) there m = (t, m)

@@ -1,8 +1,8 @@
 -- The contents octets of a BIT STRING (X.690 8.6).
 use Rattle.std.specs.Prelude.{◌≡◌, ℕ, ◌≤◌, List, [], ◌∷◌}
 
--- How many bits of the last octet aren't used: at most seven, and none where there is no octet
--- (X.690 8.6.2.2, 8.6.2.3).
+-- How many bits of the last octet are unused: at most seven, and none if there is no octet (X.690
+-- 8.6.2.2, 8.6.2.3).
 pub record IsBitString (unused : ℕ) (payload : List ℕ) : Type 0 where
   pub at_most_seven : unused ≤ 7
   pub none_of_nothing : payload ≡ [] → unused ≡ 0

@@ -2,8 +2,7 @@
 -- second (ISO 8601, X.680 46).
 use Rattle.std.specs.Prelude.{ℕ, ◌%◌, ◌≤◌, Bool, ◌&&◌, ◌||◌, ◌==◌, not, if◌then◌else◌}
 
--- Each fourth year has a leap day, year 0 too, but of the years that end a century each fourth
--- alone.
+-- A year that 4 divides is a leap year, year 0 too, but one that 100 divides only if 400 does.
 abbrev pub is_leap_year : ℕ → Bool
 is_leap_year year = (year % 4 == 0) && (not (year % 100 == 0) || (year % 400 == 0))
 
@@ -22,14 +21,14 @@ pub record IsCalendarDate (year month day : ℕ) : Type 0 where
   pub first_day : 1 ≤ day
   pub last_day : day ≤ days_in_month year month
 
--- The day exists, and clocks show this time on it: there is no hour 24 and no leap second.
+-- The day exists, and so does this time of day: there is no hour 24 and no leap second.
 pub record IsMoment (year month day hour minute second : ℕ) : Type 0 where
   pub date : IsCalendarDate year month day
   pub last_hour : hour ≤ 23
   pub last_minute : minute ≤ 59
   pub last_second : second ≤ 59
 
--- A year that its last two digits stand for: 50 to 99 mean 19YY, 00 to 49 mean 20YY (RFC 5280
+-- The years that two digits can represent: 50 to 99 mean 19YY, 00 to 49 mean 20YY (RFC 5280
 -- 4.1.2.5.1).
 pub record IsUtcYear (year : ℕ) : Type 0 where
   pub first_year : 1950 ≤ year

@@ -1,4 +1,4 @@
--- Elements of the values (X.690 8): a tag and the contents octets.
+-- Elements of the values (X.690 8): a tag and contents octets.
 use Rattle.std.specs.Prelude.{ℕ, List}
 use Rattle.der_core.specs.DerElement.{DerElement, Primitive}
 use Rattle.asn1_types.specs.Values.{identifier_contents, integer_contents, bit_string_contents, ia5_contents}
@@ -12,7 +12,7 @@ use Rattle.asn1_types.specs.declared.generalized_time.GeneralizedTime.{Generaliz
 use Rattle.asn1_types.specs.declared.time.Time.{Time}
 use Rattle.asn1_types.specs.declared.time.Time.TheVariants as times
 
--- an INTEGER of these contents octets (X.690 8.3)
+-- an INTEGER with these contents octets (X.690 8.3)
 abbrev pub integer_of : List ℕ → DerElement
 integer_of contents = Primitive 0x02 contents
 
@@ -24,7 +24,7 @@ integer value = Primitive 0x02 (integer_contents value)
 abbrev pub bit_string : BitString → DerElement
 bit_string value = Primitive 0x03 (bit_string_contents value)
 
--- an OBJECT IDENTIFIER of these contents octets (X.690 8.19)
+-- an OBJECT IDENTIFIER with these contents octets (X.690 8.19)
 abbrev pub object_identifier_of : List ℕ → DerElement
 object_identifier_of contents = Primitive 0x06 contents
 

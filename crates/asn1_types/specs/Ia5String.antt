@@ -4,12 +4,11 @@ use Rattle.std.specs.List.{All}
 use Rattle.asn1_types.specs.declared.error.CharSetError.{CharSetError}
 use Rattle.asn1_types.specs.declared.error.CharSetError.TheVariants as errors
 
--- IA5 is the alphabet of seven bits: no octet is past 127.
+-- IA5 is a seven-bit alphabet: no octet is above 127.
 abbrev pub IsIa5 : List ℕ → Type 0
 IsIa5 text = All (λ octet. octet ≤ 127) text
 
--- A text is refused as outside the character set exactly where it is; besides there is want of
--- memory.
+-- The error is `CharSet`, for a text outside the character set, or out of memory.
 abbrev pub RefusesCharSet : Type 0 → CharSetError → Type 0
 RefusesCharSet inside errors.CharSet = inside → ⊥
 RefusesCharSet inside errors.Memory = ⊤

@@ -1,4 +1,4 @@
--- The table of identifiers: names, dotted texts and contents octets.
+-- The table of OIDs: names, dotted texts and contents octets.
 use Rattle.std.specs.Prelude.{◌≡◌, ◌≢◌, ℕ, Bool, List, map}
 use Rattle.std.specs.List.{Any, list_any}
 use Rattle.std.specs.Str.{bytes_eq}
@@ -11,7 +11,7 @@ pub record KnownRow : Type 0 where
   pub text : List ℕ
   pub contents : List ℕ
 
--- The row of a name, a text and contents octets.
+-- The row with this name, text and contents octets.
 abbrev pub known_row : List ℕ → List ℕ → List ℕ → KnownRow
 known_row name text contents = record { name = name; text = text; contents = contents }
 
@@ -23,11 +23,11 @@ known_rows = map (λ row. known_row row.0.now row.1.now row.2.now) TABLE
 abbrev pub HasRow : List KnownRow → List ℕ → List ℕ → List ℕ → Type 0
 HasRow rows name text contents = Any (λ row. row ≡ known_row name text contents) rows
 
--- Whether octets are the contents of a row.
+-- Whether octets are the contents octets of a row.
 abbrev pub is_known : List ℕ → Bool
 is_known contents = list_any (λ row. bytes_eq row.2.now contents) TABLE
 
--- The text and the contents octets of a row are those of one identifier.
+-- The text and the contents octets of a row are those of one OID.
 pub record IsOfOneIdentifier (row : KnownRow) : Type 0 where
   pub arcs : List ℕ
   pub are_arcs : IsArcs arcs

@@ -1,4 +1,4 @@
--- The names of identifiers, as the documents beside the constants of `oids` define them.
+-- The names of OIDs, as defined in the documents cited at the constants of `oids`.
 use Rattle.std.specs.Prelude.{List, [], ◌∷◌, codes}
 use Rattle.asn1_types.specs.declared.oids.TheConstants as octets
 use Rattle.asn1_types.specs.KnownIdentifiers.{KnownRow, known_row}

@@ -2,12 +2,13 @@
 use Rattle.std.specs.Prelude.{◌≡◌, ◌≢◌, ℕ, ◌+◌, ◌/◌, ◌%◌, ◌^◌, ◌<◌, List, [], ◌∷◌, ◌++◌, map}
 use Rattle.std.specs.Int.Digits.{digits_of}
 
--- A number that a subidentifier holds here. X.690 sets no bound; this library reads 128 bits.
+-- The numbers that a subidentifier may encode here. X.690 sets no limit; this library reads 128
+-- bits.
 abbrev pub IsSubidentifier : ℕ → Type 0
 IsSubidentifier number = number < 2 ^ 128
 
 -- The octets before the last one: the digits of a number in base 128, the most significant first
--- and no zero in front, each with bit 8 set.
+-- and without leading zeros, each with bit 8 set.
 abbrev pub leading_octets : ℕ → List ℕ
 leading_octets number = map (λ digit. 128 + digit) (digits_of 128 number)
 

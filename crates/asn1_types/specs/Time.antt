@@ -8,7 +8,7 @@ use Rattle.asn1_types.specs.declared.utc_time.UTCTime.{UTCTime}
 abbrev pub two_digits : ℕ → List ℕ
 two_digits n = (48 + n / 10) ∷ (48 + n % 10) ∷ []
 
--- Two of the octets, from a place on, are the digits of this number.
+-- Two of the octets, from an index on, are the digits of this number.
 abbrev pub IsPair : List ℕ → ℕ → ℕ → Type 0
 IsPair octets at n =
     (n < 100) × (two_digits n ≡ slice_index octets at ∷ slice_index octets (at + 1) ∷ [])

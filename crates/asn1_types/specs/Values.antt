@@ -1,4 +1,4 @@
--- What contracts see of a value: the contents octets of each type, and the arcs of an identifier.
+-- What contracts see of a value: its contents octets, and the arcs of an OID.
 use Rattle.std.specs.Prelude.{ℕ, List, ◌∷◌}
 use Rattle.asn1_types.specs.declared.oid.ObjectIdentifier.{ObjectIdentifier}
 use Rattle.asn1_types.specs.declared.oid.lent.LentIdentifier.{LentIdentifier}
@@ -6,19 +6,19 @@ use Rattle.asn1_types.specs.declared.integer.IntegerAsn1.{IntegerAsn1}
 use Rattle.asn1_types.specs.declared.bit_string.BitString.{BitString}
 use Rattle.asn1_types.specs.declared.ia5_string.Ia5String.{Ia5String}
 
--- The arcs of an identifier.
+-- The arcs of an OID.
 abbrev pub arcs_of : ObjectIdentifier → List ℕ
 arcs_of identifier = identifier.formed.arcs
 
--- The contents octets of an identifier (X.690 8.19).
+-- The contents octets of an OID (X.690 8.19).
 abbrev pub identifier_contents : ObjectIdentifier → List ℕ
 identifier_contents identifier = identifier.contents
 
--- The arcs of an identifier that is lent.
+-- The arcs of a borrowed OID.
 abbrev pub lent_arcs : LentIdentifier → List ℕ
 lent_arcs identifier = identifier.formed.arcs
 
--- The contents octets of an identifier that is lent.
+-- The contents octets of a borrowed OID.
 abbrev pub lent_contents : LentIdentifier → List ℕ
 lent_contents identifier = identifier.contents.now
 
@@ -26,7 +26,7 @@ lent_contents identifier = identifier.contents.now
 abbrev pub integer_contents : IntegerAsn1 → List ℕ
 integer_contents integer = integer.contents
 
--- How many bits of the last octet of a bit string aren't used.
+-- How many bits of the last octet of a bit string are unused.
 abbrev pub unused_of : BitString → ℕ
 unused_of bits = bits.unused
 

@@ -11,7 +11,7 @@ use std::alloc::{AllocError, Global};
 
 const MAX_UNUSED: u8 = 7;
 
-/// A BIT STRING: octets, and how many bits of the last one aren't used (X.690 8.6).
+/// A BIT STRING: octets, and how many bits of the last one are unused (X.690 8.6).
 #[derive(Debug, Drop)]
 pub struct BitString {
     unused: u8,
@@ -20,20 +20,21 @@ pub struct BitString {
 }
 
 impl BitString {
-    /// Whether octets are the contents of a bit string. The first is a count of unused bits, which
-    /// is at most seven and zero where nothing follows (X.690 8.6.2).
+    /// Whether the octets are the contents of a BIT STRING: a count of unused bits, at most seven
+    /// and zero if nothing follows, then the octets that hold the bits (X.690 8.6.2).
     pub fn is_content(bytes: &[u8]) -> bool
         ensures formed { IsTrue result ↔ HasBitString bytes.now }
     {
         parts(bytes).is_some()
     }
 
-    /// The string of these contents octets, `Shape` exactly where they are those of none.
+    /// The BIT STRING with these contents octets, `Shape` exactly if they are invalid (X.690
+    /// 8.6.2).
     pub fn from_content(alloc: Global, bytes: &[u8]) -> Result<BitString, DerError>
         ensures read { MatchResult result
             (λ bits. bytes.now ≡ bits.unused ∷ bits.payload)
             (RefusesContents (HasBitString bytes.now)) }
-        // A refusal comes before memory is asked for.
+        // A refusal comes before memory is allocated.
         ensures refused { (HasBitString bytes.now → ⊥) → result ≡ Err DerError.Shape }
     {
         let Some((unused, payload)) = parts(bytes) else {
@@ -56,15 +57,15 @@ impl BitString {
         Ok(Octets::from(content))
     }
 
-    /// The string of all bits of the octets.
+    /// The BIT STRING of all bits of the octets.
     pub fn with_bytes(alloc: Global, bytes: &[u8]) -> Result<BitString, AllocError>
         ensures { IfOk result (λ bits. (bits.unused ≡ 0) × (bits.payload ≡ bytes.now)) }
     {
         BitString::with_unused(alloc, bytes, 0)
     }
 
-    /// The string of the bits of the octets but for the last `unused` ones: at most 7, and none
-    /// where there are no octets (X.690 8.6.2.2, 8.6.2.3).
+    /// The BIT STRING of all bits of the octets but the last `unused` ones: at most 7, and none if
+    /// there are no octets (X.690 8.6.2.2, 8.6.2.3).
     pub fn with_unused(alloc: Global, bytes: &[u8], unused: u8) -> Result<BitString, AllocError>
         requires { IsBitString unused bytes.now }
         ensures { IfOk result (λ bits. (bits.unused ≡ unused) × (bits.payload ≡ bytes.now)) }
@@ -82,14 +83,14 @@ impl BitString {
         self.payload.as_slice()
     }
 
-    /// How many bits of the last octet aren't used.
+    /// How many bits of the last octet are unused.
     pub fn unused(&self) -> u8
         ensures { result ≡ self.now.unused }
     {
         self.unused
     }
 
-    /// A copy of the value.
+    /// A copy of the string.
     pub fn try_clone(&self, alloc: Global) -> Result<BitString, AllocError>
         ensures { IfOk result (λ copy. copy ≡ self.now) }
     {

@@ -1,11 +1,11 @@
-//! Which moments exist. The calendar is asked of `jiff_core`, the part of `jiff` that has it.
+//! Which moments exist. `jiff_core`, the part of `jiff` with the calendar, decides.
 
 ghost use Rattle.std.specs.Prelude.{◌≡◌, ◌↔◌, IsTrue};
 ghost use Rattle.asn1_types.specs.Calendar.{IsCalendarDate, IsMoment};
 
 use jiff_core::civil::Date;
 
-/// Whether the moment exists. A second past 59 is refused before the calendar is asked.
+/// Whether the moment exists. A second above 59 is refused before `jiff_core` is called.
 pub fn is_moment(year: u16, month: u8, day: u8, hour: u8, minute: u8, second: u8) -> bool
     ensures { IsTrue result ↔ IsMoment year month day hour minute second }
 {

@@ -1,4 +1,4 @@
-//! Two decimal digits, of which the contents octets of both times are made.
+//! Two decimal digits, as in the contents octets of both times.
 
 ghost use Rattle.std.specs.Prelude.{◌≡◌, ◌+◌, ◌<◌, ℕ, length, MatchOption};
 ghost use Rattle.asn1_types.specs.Time.{two_digits, IsPair};
@@ -11,7 +11,8 @@ pub fn digits_of(number: u8) -> [u8; 2]
     [b'0' + number / 10, b'0' + number % 10]
 }
 
-/// The number that two octets of a slice are the digits of, None exactly where one is no digit.
+/// The number whose digits are two octets of the slice, from index `at` on; `None` exactly if one
+/// isn't a digit.
 pub fn number_at(bytes: &[u8], at: usize) -> Option<u8>
     requires { at + 1 < length bytes.now }
     ensures { MatchOption result

@@ -1,4 +1,4 @@
-//! The values as elements of their universal tags (X.690 8).
+//! The values as elements with their universal tags (X.690 8).
 
 ghost use Rattle.std.specs.Prelude.{◌≡◌, []};
 

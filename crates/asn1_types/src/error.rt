@@ -1,4 +1,4 @@
-//! Why a text is not a value.
+//! Why a text isn't a value.
 
 ghost use Rattle.std.specs.Prelude.{◌≡◌, Some};
 ghost use Rattle.asn1_types.specs.ErrorText.{char_set_error_text, text_error_text};
@@ -9,21 +9,21 @@ use std::alloc::{AllocError, AllocFailed};
 use std::fmt;
 use thiserror::Error;
 
-/// Why a text is no object identifier.
+/// Why a text isn't an object identifier.
 #[derive(Clone, Copy, Debug, PartialEq, Eq, Error)]
 pub enum TextError {
-    /// The text is not the dotted decimal form of an identifier.
+    /// The text isn't the dotted decimal form of an OID.
     BadText,
-    /// There was no memory left.
+    /// Out of memory.
     Memory,
 }
 
-/// Why a text is not in the character set of a string type.
+/// Why a text isn't in the character set of a string type.
 #[derive(Clone, Copy, Debug, PartialEq, Eq, Error)]
 pub enum CharSetError {
     /// A character is outside the character set.
     CharSet,
-    /// There was no memory left.
+    /// Out of memory.
     Memory,
 }
 

@@ -1,4 +1,4 @@
-//! Times with all four digits of the year.
+//! Times with a year of four digits.
 
 ghost use Rattle.std.specs.Prelude.{◌≡◌, ◌≢◌, ◌↔◌, [], ◌∷◌, IsSome, IfSome, MatchOption, Some};
 ghost use Rattle.asn1_types.specs.Calendar.{IsMoment};
@@ -8,8 +8,8 @@ use crate::digits::{digits_of, number_at};
 use crate::utc_time::UTCTime;
 use std::fmt;
 
-/// A GeneralizedTime as certificates have it: universal time of the years 0 to 9999, to the second
-/// (X.690 11.7, RFC 5280 4.1.2.5.2).
+/// A GeneralizedTime of certificates: UTC, years 0 to 9999, to the second (X.690 11.7, RFC 5280
+/// 4.1.2.5.2).
 #[derive(Clone, Copy, PartialEq, Eq, PartialOrd, Ord, Hash, Debug)]
 pub struct GeneralizedTime {
     year: u16,
@@ -25,7 +25,7 @@ impl GeneralizedTime {
     ghost use Rattle.asn1_types.specs.declared.generalized_time.GeneralizedTime.{GeneralizedTime};
     ghost use Rattle.asn1_types.specs.Time.{generalized_contents, generalized_fields};
 
-    /// The time with these fields, None exactly where the moment doesn't exist.
+    /// The time with these fields, `None` exactly if the moment doesn't exist.
     pub fn new(year: u16, month: u8, day: u8, hour: u8, minute: u8, second: u8) -> Option<Self>
         ensures exists { IsSome result ↔ IsMoment year month day hour minute second }
         ensures given { IfSome result
@@ -44,7 +44,7 @@ impl GeneralizedTime {
         })
     }
 
-    /// The time with these contents octets, None exactly where they are those of no time.
+    /// The time with these contents octets, `None` exactly if they aren't those of a time.
     pub fn from_content(bytes: &[u8]) -> Option<Self>
         ensures read { MatchOption result
             ((time : GeneralizedTime) → bytes.now ≢ generalized_contents time)

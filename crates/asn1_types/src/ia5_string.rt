@@ -1,4 +1,4 @@
-//! Strings of the seven-bit alphabet.
+//! Strings of a seven-bit alphabet.
 
 ghost use Rattle.std.specs.Prelude.{◌≡◌, ◌↔◌, IfOk, IsTrue, MatchResult, Err, bytes_eq};
 ghost use Rattle.std.proofs.Common.{rules};
@@ -12,7 +12,7 @@ use der_core::{DerError, Octets};
 use std::alloc::{AllocError, Global};
 use std::str;
 
-/// An IA5String: octets of at most 127 each (X.680 41), which are a text.
+/// An IA5String: a text of octets of at most 127 each (X.680 41).
 #[derive(Debug, Drop)]
 pub struct Ia5String {
     text: Octets,
@@ -20,12 +20,12 @@ pub struct Ia5String {
 }
 
 impl Ia5String {
-    /// The string of this text, `CharSet` exactly where an octet of it is past 127.
+    /// The string with this text, `CharSet` exactly if one of its octets is above 127.
     pub fn from_string(alloc: Global, text: &str) -> Result<Ia5String, CharSetError>
         ensures made { MatchResult result
             (λ string. string.text ≡ text.now)
             (RefusesCharSet (IsIa5 text.now)) }
-        // A refusal comes before memory is asked for.
+        // A refusal comes before memory is allocated.
         ensures refused { (IsIa5 text.now → ⊥) → result ≡ Err CharSetError.CharSet }
     {
         if !text.is_ascii() {
@@ -36,19 +36,19 @@ impl Ia5String {
         })
     }
 
-    /// Whether octets are the contents of an IA5String: none is past 127.
+    /// Whether octets are the contents of an IA5String: none is above 127.
     pub fn is_content(bytes: &[u8]) -> bool
         ensures formed { IsTrue result ↔ IsIa5 bytes.now }
     {
         bytes.is_ascii()
     }
 
-    /// The string of these contents octets, `Shape` exactly where one is past 127.
+    /// The string with these contents octets, `Shape` exactly if one is above 127.
     pub fn from_content(alloc: Global, bytes: &[u8]) -> Result<Ia5String, DerError>
         ensures read { MatchResult result
             (λ string. string.text ≡ bytes.now)
             (RefusesContents (IsIa5 bytes.now)) }
-        // A refusal comes before memory is asked for.
+        // A refusal comes before memory is allocated.
         ensures refused { (IsIa5 bytes.now → ⊥) → result ≡ Err DerError.Shape }
     {
         if !Ia5String::is_content(bytes) {
@@ -63,11 +63,11 @@ impl Ia5String {
     pub fn as_str(&self) -> &str
         ensures { result.now ≡ self.now.text }
     {
-        // SAFETY: an octet of at most 127 is a character of UTF-8.
+        // SAFETY: octets of at most 127 are valid UTF-8.
         unsafe { str::from_utf8_unchecked(self.text.as_slice()) }
     }
 
-    /// A copy of the value.
+    /// A copy of the string.
     pub fn try_clone(&self, alloc: Global) -> Result<Ia5String, AllocError>
         ensures { IfOk result (λ copy. copy ≡ self.now) }
     {

@@ -18,19 +18,19 @@ pub struct IntegerAsn1 {
 }
 
 impl IntegerAsn1 {
-    /// Whether octets are the contents of an integer: there is one at least (X.690 8.3.1).
+    /// Whether octets are the contents of an INTEGER: there is at least one (X.690 8.3.1).
     pub fn is_content(bytes: &[u8]) -> bool
         ensures formed { IsTrue result ↔ IsInteger bytes.now }
     {
         !bytes.is_empty()
     }
 
-    /// The integer of these contents octets, `Shape` exactly where there are none (X.690 8.3.1).
+    /// The INTEGER with these contents octets, `Shape` exactly if there are none (X.690 8.3.1).
     pub fn from_content(alloc: Global, bytes: &[u8]) -> Result<IntegerAsn1, DerError>
         ensures read { MatchResult result
             (λ integer. integer.contents ≡ bytes.now)
             (RefusesContents (IsInteger bytes.now)) }
-        // A refusal comes before memory is asked for.
+        // A refusal comes before memory is allocated.
         ensures refused { (IsInteger bytes.now → ⊥) → result ≡ Err DerError.Shape }
     {
         if !IntegerAsn1::is_content(bytes) {
@@ -41,9 +41,9 @@ impl IntegerAsn1 {
         })
     }
 
-    /// The number that the octets write, the most significant first, in its shortest contents:
-    /// zeros before the number are dropped, no octets are the number 0, and a zero is put before a
-    /// first octet of 0x80 or more, as the first bit is the sign (X.690 8.3.2, 8.3.3).
+    /// The number that big-endian octets encode, with the shortest contents: leading zeros are
+    /// dropped, no octets are the number 0, and a zero octet is prepended to a first octet of 0x80
+    /// or more, whose first bit would be the sign (X.690 8.3.2, 8.3.3).
     pub fn from_bytes_be_unsigned(alloc: Global, bytes: &[u8]) -> Result<IntegerAsn1, AllocError>
         ensures { IfOk result
             (λ integer. IsUnsignedInteger (number_of bytes.now) integer.contents) }
@@ -60,8 +60,8 @@ impl IntegerAsn1 {
         })
     }
 
-    /// The contents octets without a first octet of zero where more than one stands. Read without a
-    /// sign they write the same number.
+    /// The contents octets without a leading zero octet, unless it is the only one. As an unsigned
+    /// number they have the same value.
     pub fn as_unsigned_bytes_be(&self) -> &[u8]
         ensures octets { result.now ≡ unsigned_octets self.now.contents }
         ensures number { number_of result.now ≡ number_of self.now.contents }
@@ -79,7 +79,7 @@ impl IntegerAsn1 {
         self.contents.as_slice()
     }
 
-    /// A copy of the value.
+    /// A copy of the integer.
     pub fn try_clone(&self, alloc: Global) -> Result<IntegerAsn1, AllocError>
         ensures { IfOk result (λ copy. copy ≡ self.now) }
     {
@@ -88,7 +88,7 @@ impl IntegerAsn1 {
         })
     }
 
-    /// Writes zeros over the octets, as over those of a secret, before they are given back.
+    /// Overwrites the octets with zeros before they are freed, for secrets.
     pub fn overwrite(self) {
         let IntegerAsn1 { contents } = self;
         contents.overwrite();
@@ -124,8 +124,8 @@ fn without_zeros(octets: &[u8]) -> &[u8]
     rest
 }
 
-/// A number that isn't negative has one shortest contents, and none of its contents are shorter: no
-/// zeros stand before it but the one that 0 is, or that a first octet of 0x80 or more needs.
+/// A non-negative number has one shortest contents, and no shorter ones: they have no leading zeros
+/// but the one that is the number 0 or that a first octet of 0x80 or more needs.
 pub fn one_shortest_integer()
     ensures one { (number : ℕ) (a b : List ℕ) → IsOctets a → IsOctets b → IsUnsignedInteger number a
         → IsUnsignedInteger number b → a ≡ b }

@@ -1,4 +1,4 @@
-//! Values of ASN.1 by their contents octets (X.690 section 8): object identifiers, integers, bit
+//! ASN.1 values by their contents octets (X.690 section 8): object identifiers, integers, bit
 //! strings, IA5 strings and both times.
 #![tactic(auto)]
 

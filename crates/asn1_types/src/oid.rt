@@ -27,13 +27,13 @@ pub struct ObjectIdentifier {
 }
 
 impl ObjectIdentifier {
-    /// The identifier of a text: its arcs in decimal digits without leading zeros, joined by dots.
-    /// `BadText` exactly where the text is that of no identifier.
+    /// The OID with this text: arcs in decimal digits without leading zeros, joined by dots.
+    /// `BadText` exactly if the text isn't an OID's.
     pub fn from_text(alloc: Global, text: &str) -> Result<ObjectIdentifier, TextError>
         ensures read { MatchResult result
             (λ identifier. text.now ≡ dotted identifier.formed.arcs)
             (RefusesText (IsDottedText text.now)) }
-        // A refusal comes before memory is asked for.
+        // A refusal comes before memory is allocated.
         ensures refused { (IsDottedText text.now → ⊥) → result ≡ Err TextError.BadText }
     {
         if !is_dotted(text) {
@@ -43,7 +43,7 @@ impl ObjectIdentifier {
         ObjectIdentifier::from_arcs(alloc, &arcs)
     }
 
-    /// Whether octets are the contents of an identifier.
+    /// Whether octets are the contents of an OID.
     pub fn is_content(bytes: &[u8]) -> bool
         ensures formed { IsTrue result ↔ IsIdentifier bytes.now }
     {
@@ -54,12 +54,12 @@ impl ObjectIdentifier {
         rest.is_empty() && !bytes.is_empty()
     }
 
-    /// The identifier of these contents octets, `Shape` exactly where there is none.
+    /// The OID with these contents octets, `Shape` exactly if they aren't an OID's.
     pub fn from_content(alloc: Global, bytes: &[u8]) -> Result<ObjectIdentifier, DerError>
         ensures read { MatchResult result
             (λ identifier. identifier.contents ≡ bytes.now)
             (RefusesContents (IsIdentifier bytes.now)) }
-        // A refusal comes before memory is asked for.
+        // A refusal comes before memory is allocated.
         ensures refused { (IsIdentifier bytes.now → ⊥) → result ≡ Err DerError.Shape }
     {
         if !ObjectIdentifier::is_content(bytes) {
@@ -70,7 +70,7 @@ impl ObjectIdentifier {
         })
     }
 
-    /// The identifier of a row of the table, by the row's contents octets.
+    /// The OID of a row of the table, by the row's contents octets.
     pub fn from_known(alloc: Global, contents: &[u8]) -> Result<ObjectIdentifier, AllocError>
         requires { IsTrue (is_known contents.now) }
         ensures { IfOk result (λ identifier. identifier.contents ≡ contents.now) }
@@ -111,7 +111,7 @@ impl ObjectIdentifier {
         self.contents.as_slice()
     }
 
-    /// The identifier, its contents octets lent.
+    /// The OID, with borrowed contents octets.
     pub fn lent(&self) -> LentIdentifier<'_>
         ensures { result.contents.now ≡ self.now.contents }
     {
@@ -120,7 +120,7 @@ impl ObjectIdentifier {
         }
     }
 
-    /// A copy of the value.
+    /// A copy of the OID.
     pub fn try_clone(&self, alloc: Global) -> Result<ObjectIdentifier, AllocError>
         ensures { IfOk result (λ copy. copy ≡ self.now) }
     {
@@ -130,8 +130,8 @@ impl ObjectIdentifier {
     }
 }
 
-/// Two identifiers have the same text exactly where they have the same contents octets. So a text
-/// whose octets are read again prints as it was, and octets whose text is read again are the same.
+/// Two OIDs have the same text exactly if they have the same contents octets. So parsing a printed
+/// text, or printing a parsed one, gives the original back.
 pub fn text_and_contents_agree(a: &ObjectIdentifier, b: &ObjectIdentifier)
     ensures { (dotted a.now.formed.arcs ≡ dotted b.now.formed.arcs)
         ↔ (a.now.contents ≡ b.now.contents) }

@@ -1,14 +1,14 @@
-//! The table of identifiers that this library knows: names, dotted texts and contents octets.
+//! The table of OIDs that this library knows: names, dotted texts and contents octets.
 
 ghost use Rattle.std.specs.Prelude.{◌≡◌, ◌≢◌, map, MatchOption};
 ghost use Rattle.std.specs.List.{All, AllPairs};
 ghost use Rattle.asn1_types.specs.KnownIdentifiers.{known_row, known_rows, HasRow, IsOfOneIdentifier, Differ};
 ghost use Rattle.asn1_types.specs.NamedIdentifiers.{named_identifiers};
 
-/// An identifier with its name.
+/// An OID with its name.
 #[derive(Clone, Copy, Debug)]
 pub struct KnownOid {
-    /// The name in the document that defines the identifier.
+    /// The name in the document that defines the OID.
     pub name: &'static str,
     /// The dotted text.
     pub text: &'static str,
@@ -20,7 +20,7 @@ pub struct KnownOid {
 /// name a constant of structs that hold references.
 pub type TableRow = (&'static str, &'static str, &'static [u8]);
 
-/// What the table has for these contents octets.
+/// The row with these contents octets, `None` exactly if there is none.
 pub fn by_contents(contents: &[u8]) -> Option<KnownOid>
     ensures { MatchOption result (All (λ row. row.contents ≢ contents.now) known_rows)
         (λ known. HasRow known_rows known.name.now known.text.now known.contents.now
@@ -29,7 +29,7 @@ pub fn by_contents(contents: &[u8]) -> Option<KnownOid>
     with_contents(rows(), contents)
 }
 
-/// What the table has for this name.
+/// The row with this name, `None` exactly if there is none.
 pub fn by_name(name: &str) -> Option<KnownOid>
     ensures { MatchOption result (All (λ row. row.name ≢ name.now) known_rows)
         (λ known. HasRow known_rows known.name.now known.text.now known.contents.now
@@ -81,9 +81,9 @@ fn with_name(rows: &[TableRow], wanted: &str) -> Option<KnownOid>
     None
 }
 
-/// The rows are those of the list of named identifiers, and each name has a constant. The text and
-/// the contents octets of each row are those of one identifier, and no two rows have a name, a text
-/// or contents octets in common.
+/// The rows are those of the list of named OIDs, and each name has a constant. The text and the
+/// contents octets of each row are those of one OID, and no two rows have a name, a text or
+/// contents octets in common.
 pub fn rows_agree()
     ensures named { known_rows ≡ named_identifiers }
     ensures each { All IsOfOneIdentifier known_rows }

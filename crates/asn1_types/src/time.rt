@@ -6,8 +6,8 @@ use crate::{GeneralizedTime, UTCTime};
 use der_core::{DerError, Elem, Structure, Tree};
 use std::alloc::{AllocError, Global};
 
-/// A time in one of its two forms (RFC 5280 4.1.2.5). Which form belongs to which years is not
-/// asked of what is read.
+/// A time in one of its two forms (RFC 5280 4.1.2.5). A reader doesn't require the form that
+/// belongs to the year.
 #[derive(Debug, Drop)]
 pub enum Time {
     /// A UTCTime, of the years 1950 to 2049 (RFC 5280 4.1.2.5.1).
@@ -52,7 +52,7 @@ impl Structure for Time {
     ghost grammar = { times };
 }
 
-/// Times are equal exactly where their octets are.
+/// Times are equal exactly if their encodings are.
 impl PartialEq for Time {
     ghost use Rattle.asn1_types.specs.Elements.{time};
     ghost use Rattle.der_core.specs.Equality.{same_octets};

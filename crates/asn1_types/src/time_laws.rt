@@ -11,7 +11,7 @@ ghost use Rattle.asn1_types.specs.Time.{generalized_fields, utc_fields};
 use crate::{GeneralizedTime, UTCTime};
 use std::hash::Hash;
 
-/// A time is its fields: times are ordered by them, the year first, equal times are the same, and
+/// Times are ordered by their fields, the year first; times that compare equal are the same, and
 /// all fields are hashed.
 pub fn times_are_their_fields()
     ensures order { (a b : GeneralizedTime) → ⟦<GeneralizedTime as Ord>⟧.cmp a b

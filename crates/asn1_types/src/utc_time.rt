@@ -1,4 +1,4 @@
-//! Times with two digits of the year.
+//! Times with a year of two digits.
 
 ghost use Rattle.std.specs.Prelude.{◌≡◌, ◌≢◌, ◌↔◌, ◌%◌, ◌<◌, [], ◌∷◌, IsSome, IfSome, MatchOption, Some};
 ghost use Rattle.asn1_types.specs.Calendar.{IsMoment, IsUtcYear};
@@ -8,15 +8,15 @@ use crate::digits::{digits_of, number_at};
 use std::fmt;
 use std::ops::Deref;
 
-/// A UTCTime as certificates have it: universal time of the years 1950 to 2049, to the second
-/// (X.690 11.8, RFC 5280 4.1.2.5.1). It has the fields of a GeneralizedTime.
+/// A UTCTime of certificates: UTC, years 1950 to 2049, to the second (X.690 11.8, RFC 5280
+/// 4.1.2.5.1). It has the fields of a GeneralizedTime.
 #[derive(Clone, Copy, PartialEq, Eq, PartialOrd, Ord, Hash, Debug)]
 pub struct UTCTime {
     time: GeneralizedTime,
     pub ghost of_years: { IsUtcYear time.year },
 }
 
-// The year that its last two digits stand for.
+// The year with these last two digits.
 fn full_year(last_digits: u8) -> u16
     requires { last_digits < 100 }
     ensures of_years { IsUtcYear result }
@@ -33,8 +33,8 @@ impl UTCTime {
     ghost use Rattle.asn1_types.specs.declared.utc_time.UTCTime.{UTCTime};
     ghost use Rattle.asn1_types.specs.Time.{utc_contents, utc_fields};
 
-    /// The time with these fields, None exactly where the moment doesn't exist or the year isn't
-    /// one of 1950 to 2049.
+    /// The time with these fields, `None` exactly if the moment doesn't exist or the year isn't in
+    /// 1950 to 2049.
     pub fn new(year: u16, month: u8, day: u8, hour: u8, minute: u8, second: u8) -> Option<UTCTime>
         ensures exists { IsSome result
             ↔ (IsMoment year month day hour minute second × IsUtcYear year) }
@@ -48,7 +48,7 @@ impl UTCTime {
         Some(UTCTime { time })
     }
 
-    /// The time with these contents octets, None exactly where they are those of no time.
+    /// The time with these contents octets, `None` exactly if they aren't those of a time.
     pub fn from_content(bytes: &[u8]) -> Option<Self>
         ensures read { MatchOption result
             ((time : UTCTime) → bytes.now ≢ utc_contents time)

@@ -1,4 +1,4 @@
--- Unlike values have unlike elements, each well formed.
+-- Different values have different elements, each well formed.
 use Rattle.std.proofs.Common.{◌≡◌, ℕ, List, [], refl, ap, subst, arith}
 use Rattle.std.proofs.Props.{props}
 use Rattle.der_core.specs.DerElement.{DerElement, Primitive, tag_of}
@@ -19,7 +19,7 @@ use Rattle.asn1_types.specs.declared.ia5_string.Ia5String.{Ia5String}
 use Rattle.asn1_types.specs.declared.time.Time.{Time}
 use Rattle.asn1_types.specs.declared.time.Time.TheVariants as forms
 
--- ---- values with a fact are the same where what the fact is of is
+-- ---- values with a proof about their data are the same if their data is
 
 abbrev oid_of : (contents : List ℕ) → IsIdentifier contents → ObjectIdentifier
 oid_of contents formed = record { contents = contents; formed = formed }
@@ -89,7 +89,7 @@ generalized_times = printed generalized_time (λ a b e. generalized_once a b (le
 
 -- ---- a time in one of its two forms
 
--- elements of unlike tags are unlike
+-- elements with different tags are different
 pub unlike_tags : (x y : DerElement) → (tag_of x ≡ tag_of y → ⊥) → x ≡ y → ⊥
 unlike_tags x y apart e = apart (ap tag_of e)
 

@@ -1,4 +1,4 @@
--- Contents octets are those of one identifier at most.
+-- Contents octets are of at most one OID.
 use Rattle.std.specs.Prelude.{◌≡◌, ℕ, ◌+◌, ◌*◌, ◌<◌, ◌≤◌, List, [], ◌∷◌}
 use Rattle.std.specs.List.{AllByRecursion-prop}
 use Rattle.std.specs.Coded.{Coded-set, coded_ℕ, coded_list, ×_prop, le_prop}
@@ -8,7 +8,7 @@ use Rattle.asn1_types.specs.Subidentifier.{IsSubidentifier}
 use Rattle.asn1_types.specs.Facts.SubidentifierReading.{subidentifiers_once}
 use Rattle.asn1_types.specs.ObjectIdentifier.{IsRoot, IsArcs, IsIdentifier, subidentifiers_of, contents_of}
 
--- The first two arcs stand in the number that they make.
+-- The number that the first two arcs make determines them.
 pub first_two : (a b c d : ℕ) → IsRoot a b → IsRoot c d → 40 * a + b ≡ 40 * c + d → (a ≡ c) × (b ≡ d)
 first_two a b c d h k e = both h.first_low k.first_low h.second_low k.second_low
   where
@@ -47,7 +47,7 @@ Named-prop contents arcs = ×_prop (IsArcs-prop arcs) (Coded-set (coded_list cod
 abbrev named : (contents : List ℕ) → (arcs : List ℕ) × Named contents arcs → IsIdentifier contents
 named contents n = record { arcs = n.0; are_arcs = n.1.0; spelled = n.1.1 }
 
--- An identifier is one value, with its arcs.
+-- That contents octets are of an OID has at most one proof, with its arcs.
 pub IsIdentifier-prop : (contents : List ℕ) → IsProp (IsIdentifier contents)
 IsIdentifier-prop contents a b =
     let left : (arcs : List ℕ) × Named contents arcs = (a.arcs, (a.are_arcs, a.spelled)) in

@@ -1,4 +1,4 @@
--- Subidentifiers are read in one way: bit 8 says where each ends, and its octets what number it holds.
+-- Subidentifiers parse unambiguously: bit 8 says where each ends, and its octets encode one number.
 use Rattle.std.specs.Prelude.{◌≡◌, ◌≢◌, ℕ, zero, suc, ◌+◌, ◌-◌, ◌*◌, ◌/◌, ◌%◌, ◌<◌, ◌≤◌, cond, true, false, Option, Some, None, List, [], ◌∷◌, ◌++◌, map, refl}
 use Rattle.std.proofs.Common.{ltb, sym, ap, ap₂, ◌∙◌, append_assoc, arith}
 use Rattle.std.proofs.lemmas.Bool.{lt-ltb, le-ltb}
@@ -8,8 +8,8 @@ use Rattle.std.specs.List.{flat_map}
 use Rattle.std.specs.Int.Digits.{digits_of}
 use Rattle.asn1_types.specs.Subidentifier.{leading_octets, subidentifier}
 
--- What is read from octets where the leading octets of a number stand before them: the number of the subidentifier, and
--- what is behind it.
+-- What is read from octets after the leading octets of a number: the number of the subidentifier,
+-- and the octets after it.
 abbrev pub read_after : ℕ → List ℕ → Option (ℕ × List ℕ)
 read_after number [] = None
 read_after number (octet ∷ rest) =
@@ -42,7 +42,7 @@ pub read_leading : (number : ℕ) (rest : List ℕ)
     → read_after 0 (leading_octets number ++ rest) ≡ read_after number rest
 read_leading number rest = read_leading_by number number rest (omega arith)
 
--- A subidentifier is read as its number, and what is behind it is left.
+-- A subidentifier is read as its number, and what follows it is left.
 pub read_subidentifier : (number : ℕ) (rest : List ℕ)
     → read_after 0 (subidentifier number ++ rest) ≡ Some (number, rest)
 unfolding subidentifier
@@ -54,7 +54,7 @@ read_subidentifier number rest =
     ∙ ap (λ t. cond t (Some (number / 128 * 128 + number % 128, rest)) (read_after (number / 128 * 128 + (number % 128 - 128)) rest)) low
     ∙ ap (λ n. Some (n, rest)) whole
 
--- Octets begin with one subidentifier at most.
+-- Octets begin with at most one subidentifier.
 pub subidentifier_once : (m n : ℕ) (x y : List ℕ)
     → subidentifier m ++ x ≡ subidentifier n ++ y → (m ≡ n) × (x ≡ y)
 subidentifier_once m n x y e =
@@ -67,7 +67,7 @@ subidentifier_once m n x y e =
 pub subidentifier_some : (n : ℕ) (x : List ℕ) → subidentifier n ++ x ≢ []
 subidentifier_some n x e = let same = sym (read_subidentifier n x) ∙ ap (read_after 0) e in cc
 
--- Octets are those of one list of subidentifiers at most.
+-- Octets encode at most one list of subidentifiers.
 pub subidentifiers_once : (ms ns : List ℕ) → flat_map subidentifier ms ≡ flat_map subidentifier ns → ms ≡ ns
 subidentifiers_once [] [] e = refl
 subidentifiers_once [] (n ∷ ns) e = absurd (subidentifier_some n (flat_map subidentifier ns) (sym e))

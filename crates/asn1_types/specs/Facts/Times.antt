@@ -1,4 +1,4 @@
--- Times of the same fields are the same, and so are times of the same contents octets.
+-- Times with the same fields are the same, and so are times with the same contents octets.
 use Rattle.std.proofs.Common.{◌≡◌, ℕ, ◌+◌, ◌<◌, ◌/◌, ◌%◌, List, get_or, rules, arith, ap, subst}
 use Rattle.std.specs.Coded.{le_prop}
 use Rattle.asn1_types.specs.Calendar.{IsMoment, IsUtcYear}
@@ -40,7 +40,7 @@ same_utc s t e =
     subst (λ (time : GeneralizedTime). (h : IsUtcYear time.year) → s ≡ utc_of time h) (same_generalized s.time t.time e)
     (λ h. ap (utc_of s.time) (year-prop s.time s.of_years h)) t.of_years
 
--- Digits are those of one number.
+-- Digits encode one number.
 pub same_number : (m n : ℕ) → m < 100 → n < 100 → two_digits m ≡ two_digits n → m ≡ n
 same_number m n hm hn e =
     let tens : 48 + m / 10 ≡ 48 + n / 10 = cc in

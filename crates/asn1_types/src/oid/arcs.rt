@@ -1,4 +1,4 @@
-//! The arcs of an identifier, in its text and in its first subidentifier.
+//! The arcs of an OID, in its text and in its first subidentifier.
 
 ghost use Rattle.std.specs.Prelude.{◌≡◌, ◌≢◌, ◌↔◌, List, ℕ, [], ◌∷◌, ◌+◌, ◌*◌, IsTrue, MatchOption, MatchResult};
 ghost use Rattle.std.specs.Fmt.{decimal};
@@ -9,7 +9,7 @@ ghost use Rattle.asn1_types.specs.ObjectIdentifier.{IsRoot, dotted, IsDottedText
 use crate::TextError;
 use std::alloc::Global;
 
-/// Whether the text is that of an identifier.
+/// Whether the text is that of an OID.
 pub fn is_dotted(text: &str) -> bool
     ensures { IsTrue result ↔ IsDottedText text.now }
 {
@@ -31,7 +31,7 @@ pub fn is_dotted(text: &str) -> bool
     root_of(first, second).is_some()
 }
 
-/// The numbers whose dotted text this is, `BadText` only where it is that of no identifier.
+/// The numbers whose dotted text this is, `BadText` only if it isn't an OID's.
 pub fn parse_arcs(alloc: Global, text: &str) -> Result<Vec<u128>, TextError>
     ensures { MatchResult result
         (λ arcs. AllByRecursion IsSubidentifier arcs.items × (text.now ≡ dotted arcs.items))
@@ -53,7 +53,7 @@ fn arc_of(text: &str) -> Option<u128>
         ((arc : ℕ) → IsSubidentifier arc → text.now ≢ decimal arc)
         (λ arc. IsSubidentifier arc × (text.now ≡ decimal arc)) }
 {
-    // `parse` also reads a sign, and zeros before other digits.
+    // `parse` also accepts a sign, and zeros before other digits.
     if text.len() > 1 && text.as_bytes()[0] < b'1' {
         return None;
     }
@@ -72,7 +72,7 @@ pub fn root_of(first: u128, second: u128) -> Option<u128>
     (40 * first).checked_add(second)
 }
 
-/// The first two arcs that make a number.
+/// The first two arcs, which make this number.
 pub fn first_arcs(root: u128) -> (u128, u128)
     ensures { IsRoot result.0 result.1 × (root ≡ 40 * result.0 + result.1) }
 {

@@ -1,4 +1,4 @@
-//! Object identifiers where their contents octets lie.
+//! Borrowed object identifiers.
 
 ghost use Rattle.std.specs.Prelude.{◌≡◌, Some, IfOk, MatchOption};
 ghost use Rattle.asn1_types.specs.ObjectIdentifier.{IsIdentifier, dotted};
@@ -11,7 +11,7 @@ use der_core::Octets;
 use std::alloc::{AllocError, Global};
 use std::fmt;
 
-/// An OBJECT IDENTIFIER whose contents octets are lent (X.690 8.19).
+/// An OBJECT IDENTIFIER with borrowed contents octets (X.690 8.19).
 #[derive(Clone, Copy, Debug)]
 pub struct LentIdentifier<'a> {
     pub(super) contents: &'a [u8],
@@ -19,7 +19,7 @@ pub struct LentIdentifier<'a> {
 }
 
 impl<'a> LentIdentifier<'a> {
-    /// The identifier of these contents octets, where they are those of one.
+    /// The OID with these contents octets, `None` if they aren't an OID's.
     pub fn of(contents: &'a [u8]) -> Option<LentIdentifier<'a>>
         ensures { MatchOption result
             (IsIdentifier contents.now → ⊥)
@@ -39,7 +39,7 @@ impl<'a> LentIdentifier<'a> {
         self.contents
     }
 
-    /// The identifier with octets of its own.
+    /// The OID with a copy of the octets.
     pub fn to_identifier(&self, alloc: Global) -> Result<ObjectIdentifier, AllocError>
         ensures { IfOk result (λ identifier. identifier.contents ≡ self.now.contents.now) }
     {
@@ -49,7 +49,7 @@ impl<'a> LentIdentifier<'a> {
     }
 }
 
-/// It prints as its dotted text.
+/// Prints the dotted text.
 impl fmt::Display for LentIdentifier<'_> {
     ghost output = { λ identifier. Some (dotted identifier.formed.arcs) };
 

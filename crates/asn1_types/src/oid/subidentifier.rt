@@ -1,4 +1,4 @@
-//! Subidentifiers, of which the contents octets of an identifier consist (X.690 8.19.2).
+//! Subidentifiers, the parts of an OID's contents octets (X.690 8.19.2).
 
 ghost use Rattle.std.specs.Prelude.{◌≡◌, List, ℕ, [], ◌∷◌, ◌++◌, IfOk, OnOk, MatchOption};
 ghost use Rattle.std.specs.List.{flat_map};
@@ -6,10 +6,10 @@ ghost use Rattle.asn1_types.specs.Subidentifier.{IsSubidentifier, leading_octets
 
 use std::alloc::{AllocError, Global};
 
-/// The greatest number of a subidentifier behind which another octet has room.
+/// The greatest number of a subidentifier that another octet can follow.
 const GREATEST_LEADING: u128 = u128::MAX >> 7;
 
-/// The number of the subidentifier that begins the octets, and the octets after it.
+/// The number of the subidentifier that the octets begin with, and the octets after it.
 pub fn split_subidentifier(octets: &[u8]) -> Option<(u128, &[u8])>
     ensures { MatchOption result (BeginsWithNoSubidentifier octets.now)
         (λ split. IsSubidentifier split.0 × (octets.now ≡ subidentifier split.0 ++ split.1.now)) }
@@ -17,7 +17,7 @@ pub fn split_subidentifier(octets: &[u8]) -> Option<(u128, &[u8])>
     let mut number: u128 = 0;
     let mut rest = octets;
     while let Some((octet, after)) = rest.split_first() {
-        // Octets 80 in front would be zeros before the first digit.
+        // Leading octets 80 would be zeros before the first digit.
         if number == 0 && *octet == 0x80 {
             return None;
         }
@@ -33,14 +33,14 @@ pub fn split_subidentifier(octets: &[u8]) -> Option<(u128, &[u8])>
     None
 }
 
-/// The octets after the subidentifier that begins the octets.
+/// The octets after the subidentifier that the octets begin with.
 #[inline(always)]
 pub fn after_subidentifier(octets: &[u8]) -> Option<&[u8]>
     ensures { MatchOption result (BeginsWithNoSubidentifier octets.now)
         (λ after. BeginsWithSubidentifier octets.now after.now) }
 {
     match octets {
-        // Most are of one to three octets, and their number isn't asked for.
+        // Most have one to three octets, and their number isn't needed.
         [last, after @ ..] if *last < 0x80 => Some(after),
         [first, last, after @ ..] if *first > 0x80 && *last < 0x80 => Some(after),
         [first, next, last, after @ ..] if *first > 0x80 && *next >= 0x80 && *last < 0x80 => {

@@ -1,4 +1,4 @@
-//! Identifiers print as their dotted text, and compare and hash as their contents octets.
+//! OIDs print as their dotted text, and compare and hash as their contents octets.
 
 ghost use Rattle.std.specs.Prelude.{◌≡◌, ◌↔◌, IsTrue, Some, bytes_eq};
 ghost use Rattle.std.proofs.Common.{rules};

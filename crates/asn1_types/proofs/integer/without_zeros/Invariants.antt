@@ -2,7 +2,7 @@ use Rattle.std.proofs.Common.{◌≡◌, length}
 use Rattle.asn1_types.specs.Integer.{number_of}
 use Rattle.asn1_types.proofs.integer.without_zeros.Given as goal
 
--- What is dropped is zeros, which don't change the number.
+-- Only zeros are dropped, which doesn't change the number.
 abbrev pub invariant-loop-rest : goal.invariant-loop-rest
 invariant-loop-rest l = number_of l.rest ≡ number_of l.octets
 

@@ -8,7 +8,7 @@ use Rattle.asn1_types.proofs.Dotted.{arcs_once, refused_as}
 use Rattle.asn1_types.proofs.Identifiers.{arcs_are}
 use Rattle.asn1_types.proofs.oid.ObjectIdentifier.from_text.Goals as goal
 
--- the identifier of the arcs is that of the text whose arcs they are
+-- the OID with these arcs is that of their text
 of_text : (text arcs : List ℕ) (r : Result ObjectIdentifier TextError) → text ≡ dotted arcs → AllByRecursion IsSubidentifier arcs
     → MatchResult r (λ identifier. IsArcs arcs × (identifier.contents ≡ contents_of arcs)) (RefusesText (IsArcs arcs))
     → MatchResult r (λ identifier. text ≡ dotted identifier.formed.arcs) (RefusesText (IsDottedText text))

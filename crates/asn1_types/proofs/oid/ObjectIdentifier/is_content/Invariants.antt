@@ -2,7 +2,7 @@ use Rattle.std.proofs.Common.{◌↔◌, length}
 use Rattle.asn1_types.proofs.Subidentifiers.{AreSubidentifiers}
 use Rattle.asn1_types.proofs.oid.ObjectIdentifier.is_content.Given as goal
 
--- the octets are subidentifiers where the rest is
+-- the octets are subidentifiers if the rest is
 abbrev pub invariant-loop-after : goal.invariant-loop-after
 invariant-loop-after l = AreSubidentifiers l.bytes ↔ AreSubidentifiers l.rest
 
