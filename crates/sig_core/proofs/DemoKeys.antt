@@ -1,4 +1,4 @@
--- The key of a secret of RSA is told by the secret.
+-- The key of an RSA secret is determined by the secret.
 use Rattle.std.proofs.Common.{◌≡◌, ◌⊎◌, inl, inr, List, ℕ, Some, None, refl, sym, ap, ◌∙◌}
 use Rattle.der_core.specs.Encoding.{encoding}
 use Rattle.der_core.specs.Facts.Fronts.{formed_encoding_once}
@@ -8,7 +8,7 @@ use Rattle.sig_core.specs.DemoScheme.{rsa_key, demo_key}
 use Rattle.sig_core.specs.Facts.RsaSecrets.{rsa_secret_or_none}
 use Rattle.sig_core.proofs.SecretKids.{kids_of_key, same_kids}
 
--- unlike numbers have unlike keys
+-- different numbers have different keys
 numbers_once : (a b : RsaNumbers) → rsa_private_element a ≡ rsa_private_element b
     → (a.modulus ≡ b.modulus) × (a.public_exponent ≡ b.public_exponent)
 numbers_once a b e =

@@ -1,4 +1,4 @@
--- The digits of a digest are read in one way.
+-- The digits of a digest parse unambiguously.
 use Rattle.std.proofs.Common.{◌≡◌, ℕ, ◌<◌, List, ◌∷◌, ◌++◌, length, take, drop, sym, ◌∙◌, ap, subst, arith, length-append, ap₂, Ok, Err, Some, None}
 use Rattle.std.specs.Prelude.{Option, Result, MatchResult, OnOk}
 use Rattle.std.specs.Result.{result_ok}
@@ -18,7 +18,7 @@ pub digits_same : (a b : List ℕ) → IsDigest a → IsDigest b → encode_lowe
 digits_same a b ha hb e =
     decode_of-same (encode_lower a) a b (decode_of-encode_lower a ha.1) (ap decode_of e ∙ decode_of-encode_lower b hb.1)
 
--- the digits at the front of a text
+-- the digits at the beginning of a text
 pub take-digits : (digest rest text : List ℕ) → IsDigest digest → text ≡ encode_lower digest ++ rest
     → take 64 text ≡ encode_lower digest
 take-digits digest rest text h e =
@@ -50,7 +50,7 @@ length-digits-end digest after text end h e =
     let t = ap length e in
     omega (arith, n, l, t)
 
--- what was decoded, where decoding succeeded
+-- what was decoded, if decoding succeeded
 pub decoded_back : (digits out : List ℕ) (o : Option (Unit {0})) (r : Result (Unit {0}) FromHexError) (x : Unit {0})
     → o ≡ Some x → o ≡ result_ok r
     → MatchResult (decode_sized digits 32) (λ bytes. (r ≡ Ok tt) × (out ≡ bytes)) (λ e. r ≡ Err e)
@@ -70,11 +70,11 @@ IsDigest-decoded digits out e =
     let ok = decode_of-ok digits out same in
     (omega (arith, n, ok.2), ok.3)
 
--- a call that gave no value has failed
+-- a call that returned no value has failed
 pub no_value : (o : Option (Unit {0})) (r : Result (Unit {0}) FromHexError) → o ≡ None → o ≡ result_ok r → r ≡ Ok tt → ⊥
 no_value o r none value ok = cc
 
--- what holds where a call succeeded, at a call that gave a value
+-- what holds if a call succeeded, for a call that returned a value
 pub at_value : (o : Option (Unit {0})) (r : Result (Unit {0}) FromHexError) (x : Unit {0}) {P : Type 0}
     → o ≡ Some x → o ≡ result_ok r → OnOk r P → P
 at_value o (Ok u) x some value p = p
@@ -86,6 +86,6 @@ pub parts_joined : (text digits rest digest back : List ℕ) (next end : ℕ) �
 parts_joined text digits rest digest back next end front tail split same spelled =
     sym (take-append-drop 64 text) ∙ ap₂ (λ x y. x ++ y) (sym front ∙ spelled) (sym tail ∙ split ∙ ap (λ n. n ∷ back) same)
 
--- the octets at one place are one
+-- the octet at an offset is unique
 pub same_head : (rest back tail after : List ℕ) (next end : ℕ) → rest ≡ next ∷ back → rest ≡ tail → tail ≡ end ∷ after → next ≡ end
 same_head rest back tail after next end e f g = cc

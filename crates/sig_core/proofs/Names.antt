@@ -1,4 +1,4 @@
--- An algorithm and its name give each other, and a name ends at the first space.
+-- An algorithm and its name determine each other, and a name ends at the first space.
 use Rattle.std.proofs.Common.{◌≡◌, ℕ, ◌<◌, ◌==◌, Bool, List, ◌∷◌, ◌++◌, length, take, refl, sym, ◌∙◌, ap, subst, arith, lit<, length-append, Some}
 use Rattle.std.specs.Prelude.{Option, Contains, find, position}
 use Rattle.std.specs.List.{position_or_len}
@@ -24,7 +24,7 @@ has_each P384Sha384 = (7, lit< tt, refl)
 has_each P521Sha512 = (8, lit< tt, refl)
 has_each Ed25519 = (9, lit< tt, refl)
 
--- the algorithm of a name
+-- the algorithm with this name
 abbrev pub named : List ℕ → Option SigAlg
 named name = find (λ alg. bytes_eq (name_of alg) name) ALL
 
@@ -40,7 +40,7 @@ named-name_of P384Sha384 = refl
 named-name_of P521Sha512 = refl
 named-name_of Ed25519 = refl
 
--- no two algorithms have one name
+-- no two algorithms have the same name
 pub name_of_same : (a b : SigAlg) → name_of a ≡ name_of b → a ≡ b
 name_of_same a b e = let n = sym (named-name_of a) ∙ ap named e ∙ named-name_of b in cc
 
@@ -58,7 +58,7 @@ position_or_len-name P384Sha384 after = refl
 position_or_len-name P521Sha512 after = refl
 position_or_len-name Ed25519 after = refl
 
--- the first space stands behind the name
+-- the first space follows the name
 pub position-name : (alg : SigAlg) (after text : List ℕ) → text ≡ name_of alg ++ space ∷ after
     → position (λ octet. octet == space) text ≡ Some (length (name_of alg))
 position-name alg after text e =
@@ -74,7 +74,7 @@ pub take-name : (alg : SigAlg) (after text : List ℕ) → text ≡ name_of alg 
     → take (length (name_of alg)) text ≡ name_of alg
 take-name alg after text e = ap (take (length (name_of alg))) e ∙ take-append_seam (name_of alg) (space ∷ after)
 
--- a name and a space are read in one way
+-- a name and a space parse unambiguously
 pub name_once : (a b : SigAlg) (x y : List ℕ) → name_of a ++ space ∷ x ≡ name_of b ++ space ∷ y → (a ≡ b) × (x ≡ y)
 name_once a b x y e =
     let pa = position-name a x _ refl in

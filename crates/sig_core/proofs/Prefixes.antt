@@ -1,4 +1,4 @@
--- What `strip_prefix` says of texts, and that each verdict is in the list of verdicts.
+-- What `strip_prefix` returns for texts, and that each verdict is in the list of verdicts.
 use Rattle.std.proofs.Common.{◌≡◌, ℕ, true, List, ◌++◌, length, take, drop, refl, sym, ◌∙◌, ap₂, bytes_eq, Contains, lit<}
 use Rattle.std.proofs.lemmas.List.{take-append-drop}
 use Rattle.std.proofs.lemmas.Slice.Eq.{bytes_eq-Decides}

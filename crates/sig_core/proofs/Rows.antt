@@ -1,4 +1,4 @@
--- The line of a row is read in one way, and so are the lines of a table.
+-- The line of a row parses unambiguously, and so do the lines of a table.
 use Rattle.std.proofs.Common.{◌≡◌, ◌≢◌, ℕ, List, [], ◌∷◌, ◌++◌, length, refl, sym, ◌∙◌, ap, ap₂, append_assoc, length-append, get_or, arith}
 use Rattle.std.specs.List.{AllByRecursion}
 use Rattle.std.proofs.lemmas.List.{append_cancel_left}
@@ -15,7 +15,7 @@ use Rattle.sig_core.specs.VerdictTable.{IsDigest, AreDigests, IsRow, AdmitsVerdi
 use Rattle.sig_core.proofs.Names.{name_once}
 use Rattle.sig_core.proofs.Lines.{digits_same, take-digits, drop-digits}
 
--- what stands behind the name in a line, behind the first digest, and behind the second
+-- what follows the name in a line, the first digest, and the second
 abbrev pub after_name : SignatureDigests → List ℕ → List ℕ
 after_name signature after =
     encode_lower signature.key ++ space ∷ (encode_lower signature.msg ++ space ∷ (encode_lower signature.sig ++ newline ∷ after))
@@ -31,7 +31,7 @@ signature_parts signature after = joined (name_of signature.alg) (encode_lower s
         ∙ append_assoc (n ++ space ∷ k) (space ∷ m) (space ∷ (s ++ newline ∷ after))
         ∙ append_assoc n (space ∷ k) (space ∷ (m ++ space ∷ (s ++ newline ∷ after)))
 
--- digits and an octet are read in one way
+-- digits and an octet parse unambiguously
 pub digits_once : (a b x y : List ℕ) (end : ℕ) → IsDigest a → IsDigest b
     → encode_lower a ++ end ∷ x ≡ encode_lower b ++ end ∷ y → (a ≡ b) × (x ≡ y)
 digits_once a b x y end ha hb e =
@@ -39,7 +39,7 @@ digits_once a b x y end ha hb e =
     let tails = sym (drop-digits a (end ∷ x) _ ha refl) ∙ drop-digits b (end ∷ y) _ hb e in
     (digits_same a b ha hb digits, cc)
 
--- after the name and the first digest no digest stands
+-- no digest follows the name and the first digest
 pub no_message : (text t1 t2 key : List ℕ) (alg : SigAlg) → text ≡ name_of alg ++ space ∷ t1
     → IsDigest key → t1 ≡ encode_lower key ++ space ∷ t2
     → ((digest after : List ℕ) → IsDigest digest → t2 ≢ encode_lower digest ++ space ∷ after) → BeginsWithNoSignature text
@@ -48,7 +48,7 @@ no_message text t1 t2 key alg e hk ek none signature after h begins =
     let two = digits_once key signature.key t2 _ space hk h.0 (sym ek ∙ one.1) in
     none signature.msg _ h.1 two.1
 
--- after the name and two digests no digest stands
+-- no digest follows the name and two digests
 pub no_signature : (text t1 t2 t3 key msg : List ℕ) (alg : SigAlg) → text ≡ name_of alg ++ space ∷ t1
     → IsDigest key → t1 ≡ encode_lower key ++ space ∷ t2
     → IsDigest msg → t2 ≡ encode_lower msg ++ space ∷ t3
@@ -59,13 +59,13 @@ no_signature text t1 t2 t3 key msg alg e hk ek hm em none signature after h begi
     let three = digits_once msg signature.msg t3 _ space hm h.1 (sym em ∙ two.1) in
     none signature.sig _ h.2 three.1
 
--- signatures with the same parts are one
+-- signatures with the same parts are the same
 pub same_parts : (a b : SignatureDigests) → a.alg ≡ b.alg → a.key ≡ b.key → a.msg ≡ b.msg → a.sig ≡ b.sig → a ≡ b
 same_parts a b alg key msg sig =
     ap (λ x. record a { alg = x }) alg ∙ ap (λ x. record a { alg = b.alg; key = x }) key
     ∙ ap (λ x. record b { msg = x; sig = a.sig }) msg ∙ ap (λ x. record b { sig = x }) sig
 
--- a line is read in one way
+-- a line parses unambiguously
 pub signature_once : (a b : SignatureDigests) (x y : List ℕ) → AreDigests a → AreDigests b → signature_line a ++ x ≡ signature_line b ++ y → (a ≡ b) × (x ≡ y)
 signature_once a b x y ha hb e =
     let one = name_once a.alg b.alg _ _ (sym (signature_parts a x) ∙ e ∙ signature_parts b y) in
@@ -74,7 +74,7 @@ signature_once a b x y ha hb e =
     let four = digits_once a.sig b.sig x y newline ha.2 hb.2 three.1 in
     (same_parts a b one.0 two.0 three.0 four.0, four.1)
 
--- and so is the word before it
+-- and so does the word before it
 words_once : (version : TableVersion) (a b : Verdict) (x y : List ℕ) → AdmitsVerdict version a → AdmitsVerdict version b
     → verdict_word version a ++ x ≡ verdict_word version b ++ y → (a ≡ b) × (x ≡ y)
 words_once One a b x y ha hb e = (ha ∙ sym hb, e)
@@ -88,7 +88,7 @@ words_once Two Reject Malformed x y ha hb e = let first : 114 ≡ 109 = ap (λ t
 words_once Two Malformed Accept x y ha hb e = let first : 109 ≡ 97 = ap (λ t. get_or t 0 0) e in absurd (omega (arith, first))
 words_once Two Malformed Reject x y ha hb e = let first : 109 ≡ 114 = ap (λ t. get_or t 0 0) e in absurd (omega (arith, first))
 
--- a row is read in one way
+-- a row parses unambiguously
 pub line_once : (version : TableVersion) (a b : VerdictRow) (x y : List ℕ) → IsRow version a → IsRow version b
     → line_of version a ++ x ≡ line_of version b ++ y → (a ≡ b) × (x ≡ y)
 line_once version a b x y ha hb e =
@@ -97,14 +97,14 @@ line_once version a b x y ha hb e =
     let line = signature_once a.signature b.signature x y ha.1 hb.1 word.1 in
     (ap (λ v. record a { verdict = v }) word.0 ∙ ap (λ s. record b { signature = s }) line.0, line.1)
 
--- where no verdict stands, no row does
+-- without a verdict there is no row
 pub no_verdict : (version : TableVersion) (text : List ℕ)
     → ((verdict : Verdict) (after : List ℕ) → AdmitsVerdict version verdict → text ≢ verdict_word version verdict ++ after)
     → BeginsWithNoLine version text
 no_verdict version text none row after h begins =
     none row.verdict _ h.0 (begins ∙ append_assoc (verdict_word version row.verdict) (signature_line row.signature) after)
 
--- nor where no signature stands behind it
+-- nor without a signature after it
 pub no_named : (version : TableVersion) (verdict : Verdict) (text rest : List ℕ) → AdmitsVerdict version verdict
     → text ≡ verdict_word version verdict ++ rest → BeginsWithNoSignature rest → BeginsWithNoLine version text
 no_named version verdict text rest h e none row after is begins =
@@ -112,7 +112,7 @@ no_named version verdict text rest h e none row after is begins =
     (sym e ∙ begins ∙ append_assoc (verdict_word version row.verdict) (signature_line row.signature) after) in
     none row.signature after is.1 word.1
 
--- lines are read in one way, up to where no line begins
+-- lines parse unambiguously, up to where no line begins
 pub lines_once : (version : TableVersion) (ps qs : List VerdictRow) (x y : List ℕ) → AllByRecursion (IsRow version) ps → AllByRecursion (IsRow version) qs
     → BeginsWithNoLine version x → BeginsWithNoLine version y → lines_of version ps ++ x ≡ lines_of version qs ++ y → (ps ≡ qs) × (x ≡ y)
 lines_once version [] [] x y hp hq nx ny e = (refl, e)

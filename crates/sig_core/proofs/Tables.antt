@@ -11,7 +11,7 @@ use Rattle.sig_core.specs.declared.verdict_table.TableError.TheVariants.{BadLine
 use Rattle.sig_core.specs.VerdictTable.{IsTable, IsFirstBadLine, IsCause, IsRow, IsOfVersion, BeginsWithLine, BeginsWithNoLine, first_line, first_number, line_of, lines_of, version_2_text}
 use Rattle.sig_core.proofs.Rows.{lines_once, nothing_begins, rows_of_two}
 
--- a text has one version, and is read in one way up to where no line begins
+-- a text has one version, and parses unambiguously up to where no line begins
 once : (text : List ℕ) (v w : TableVersion) (ps qs : List VerdictRow) (x y : List ℕ) → IsOfVersion text v → IsOfVersion text w
     → AllByRecursion (IsRow v) ps → AllByRecursion (IsRow w) qs → BeginsWithNoLine v x → BeginsWithNoLine w y
     → text ≡ first_line v ++ lines_of v ps ++ x → text ≡ first_line w ++ lines_of w qs ++ y → (v ≡ w) × (ps ≡ qs) × (x ≡ y)
@@ -44,7 +44,7 @@ bad_line_once text m n a b =
     let same = once text a.version b.version a.before b.before a.rest b.rest a.of_version b.of_version a.are_rows b.are_rows a.bad b.bad a.spelled b.spelled in
     a.counted ∙ ap₂ (λ rows version. length rows + first_number version) same.1 same.0 ∙ sym b.counted
 
--- where a row stands behind the rows so far, the text begins with a row
+-- if a row follows the rows so far, the text begins with a row
 pub begins_with_line : (text : List ℕ) (version : TableVersion) (rows : List VerdictRow) (rest : List ℕ) (row : VerdictRow) (after : List ℕ)
     → AllByRecursion (IsRow version) rows → text ≡ first_line version ++ lines_of version rows ++ rest → IsRow version row → rest ≡ line_of version row ++ after
     → BeginsWithLine text
@@ -56,12 +56,12 @@ begins_with_line text version (first ∷ others) rest row after are_rows spelled
     parts : (a b c d : List ℕ) → a ++ (b ++ c) ++ d ≡ a ++ b ++ (c ++ d)
     parts a b c d = ap (λ l. l ++ d) (sym (append_assoc a b c)) ∙ append_assoc (a ++ b) c d
 
--- what refuses a table is want of memory
+-- a table is only refused when out of memory
 pub cause_at_table : (text : List ℕ) (rows : List VerdictRow) (e : TableError) → IsTable text rows → IsCause text e → e ≡ Memory
 cause_at_table text rows (BadLine number) h bad = absurd (no_bad_line text rows number h bad)
 cause_at_table text rows Memory h cause = refl
 
--- what refuses a text with a bad line is that line, or want of memory
+-- a text with a bad line is refused for that line, or when out of memory
 pub cause_at_bad_line : (text : List ℕ) (number : ℕ) (e : TableError) → IsFirstBadLine text number → IsCause text e
     → (e ≡ BadLine number) ⊎ (e ≡ Memory)
 cause_at_bad_line text number (BadLine other) h bad = inl (ap BadLine (bad_line_once text other number bad h))
@@ -73,7 +73,7 @@ begins_where_some text [] table some = absurd (some refl)
 begins_where_some text (row ∷ others) table some =
     record { version = table.version; row = row; after = lines_of table.version others; is_row = table.are_rows.0; spelled = table.spelled ∙ sym (append_assoc (first_line table.version) (line_of table.version row) (lines_of table.version others)) }
 
--- the text that has some rows is a table of them
+-- the text written for some rows is a table of them
 pub text_is_table : (rows : List VerdictRow) → AllByRecursion (IsRow Two) rows → IsTable (version_2_text rows) rows
 text_is_table rows h = record { version = Two; of_version = (lines_of Two rows, refl); are_rows = h; spelled = refl }
 

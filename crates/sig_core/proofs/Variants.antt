@@ -1,4 +1,4 @@
--- A variant and its identifier give each other.
+-- A variant and its OID determine each other.
 use Rattle.std.proofs.Common.{◌≡◌, IsTrue, ℕ, List, refl, sym, ◌∙◌, ap, lit<, Some}
 use Rattle.std.specs.Prelude.{Option, Contains, find}
 use Rattle.std.specs.Str.{bytes_eq}
@@ -17,7 +17,7 @@ has_each SHA2_256 = (3, lit< tt, refl)
 has_each SHA2_384 = (4, lit< tt, refl)
 has_each SHA2_512 = (5, lit< tt, refl)
 
--- the variant of an identifier
+-- the variant with this OID
 abbrev identified : List ℕ → Option ShaVariant
 identified contents = find (λ variant. bytes_eq (digest_identifier variant) contents) ALL
 
@@ -29,12 +29,12 @@ identified-identifier SHA2_256 = refl
 identified-identifier SHA2_384 = refl
 identified-identifier SHA2_512 = refl
 
--- no two variants have one identifier
+-- no two variants have the same OID
 pub identifier_same : (a b : ShaVariant) → digest_identifier a ≡ digest_identifier b → a ≡ b
 identifier_same a b e =
     let n = sym (identified-identifier a) ∙ ap identified e ∙ identified-identifier b in cc
 
--- the table of identifiers has each of them
+-- the table of OIDs has each of them
 pub is_known-variant : (variant : ShaVariant) → IsTrue (is_known (digest_identifier variant))
 is_known-variant MD5 = refl
 is_known-variant SHA1 = refl

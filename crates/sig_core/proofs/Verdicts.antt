@@ -1,4 +1,4 @@
--- The first row decides, and a map keeps what it says.
+-- The first row decides, and a map agrees with it.
 use Rattle.std.proofs.Common.{◌≡◌, ◌++◌, ◌∙◌, Bool, true, false, cond, List, [], ◌∷◌, Option, Some, None, refl, sym, ap, find, option_map}
 use Rattle.std.specs.Bool.{Decides, one_answer}
 use Rattle.std.specs.BTreeMap.{BTreeMap, get, is_at}
@@ -19,7 +19,7 @@ use Rattle.sig_core.specs.VerdictTable.{is_same_signature, first_verdict}
 use Rattle.sig_core.proofs.Names.{name_of_same}
 use Rattle.sig_core.proofs.Rows.{same_parts}
 
--- the test tells whether two signatures are one
+-- the test decides whether two signatures are the same
 pub is_same_signature-Decides : (a b : SignatureDigests) → Decides (is_same_signature a b) (a ≡ b)
 is_same_signature-Decides a b =
     let alg = bytes_eq-Decides (name_of a.alg) (name_of b.alg) in
@@ -31,7 +31,7 @@ is_same_signature-Decides a b =
     (λ e. (((ap (λ r. name_of r.alg) e, ap (λ r. r.key) e), ap (λ r. r.msg) e), ap (λ r. r.sig) e))
     (Decides-and _ _ (Decides-and _ _ (Decides-and _ _ alg key) msg) sig)
 
--- what a further row adds
+-- what one more row adds
 more : (rows : List VerdictRow) (row : VerdictRow) (q : SignatureDigests)
     → first_verdict (rows ++ row ∷ []) q ≡ option_or (first_verdict rows q) (cond (is_same_signature q row.signature) (Some row.verdict) None)
 more rows row q =
@@ -60,7 +60,7 @@ module _ (cmp : SignatureDigests → SignatureDigests → Ordering) (order : IsT
       (λ t. sym (same a q ((Equal-is (cmp a q)).0 t)), λ e. ap (is_at (cmp a)) e ∙ ap is_eq (tied_itself order a))
       (is_same_signature-Decides q a)
 
-  -- a row more, where its verdict is put unless the map has one
+  -- one more row, whose verdict is inserted unless the map has one
   pub kept : (m n : BTreeMap SignatureDigests Verdict) (rows : List VerdictRow) (row : VerdictRow) (v : Verdict) → HasFirstVerdicts cmp rows m
       → v ≡ unwrap_or (get cmp m row.signature) row.verdict
       → ((q : SignatureDigests) → get cmp n q ≡ cond (is_at (cmp row.signature) q) (Some v) (get cmp m q))
@@ -75,7 +75,7 @@ module _ (cmp : SignatureDigests → SignatureDigests → Ordering) (order : IsT
           ap Some (is ∙ ap (λ o. unwrap_or o row.verdict) (has row.signature ∙ ap (first_verdict rows) (sym one))) ∙ kept_verdict (first_verdict rows q) row.verdict
       by false e = has q ∙ none_more (first_verdict rows q)
 
--- what is compared as equal is the same, where a test that the comparison agrees with tells so
+-- what compares as equal is the same, if a test that agrees with the comparison says so
 pub one_of_equals : {X : Type 0} (test : X → X → Bool) (cmp : X → X → Ordering) → ((a b : X) → Decides (test a b) (a ≡ b))
     → ((a b : X) → test a b ≡ is_eq (cmp a b)) → (a b : X) → cmp a b ≡ Equal → a ≡ b
 one_of_equals test cmp decides ties a b equal = (decides a b).0 (ties a b ∙ ap is_eq equal)

@@ -1,4 +1,5 @@
--- The demonstration scheme, which has no security: the keys of secrets, and what a signature is.
+-- The demonstration scheme, which has no security: the keys of secrets, and the accepted
+-- signatures.
 use Rattle.std.specs.Prelude.{◌⊎◌, ℕ, ◌==◌, Bool, if◌then◌else◌, List, ◌∷◌, ◌++◌, length, Option, Some, None, is_some, bytes_eq}
 use Rattle.std.proofs.Common.{inl, inr}
 use Rattle.sha2.specs.Sha256.{sha256}
@@ -12,20 +13,20 @@ use Rattle.sig_core.specs.Algorithm.{name_of, kind_of_algorithm}
 use Rattle.sig_core.specs.RsaSecret.{rsa_public_element, IsRsaSecret}
 use Rattle.sig_core.specs.Facts.RsaSecrets.{rsa_secret_or_none}
 
--- the key of a secret of RSA: the encoding of the RSAPublicKey with its modulus and public exponent
+-- the key of an RSA secret: the encoding of the RSAPublicKey with its modulus and public exponent
 abbrev pub rsa_key : {secret : List ℕ} → IsRsaSecret secret ⊎ (IsRsaSecret secret → ⊥)
     → Option (List ℕ)
 rsa_key (inl rsa) =
     Some (encoding (rsa_public_element rsa.numbers.modulus rsa.numbers.public_exponent))
 rsa_key (inr none) = None
 
--- the key where the secret has so many octets
+-- the key if the secret has so many octets
 abbrev pub key_of_length : ℕ → List ℕ → List ℕ → Option (List ℕ)
 key_of_length size secret key = if length secret == size then Some key else None
 
--- the key of a secret, where it has one. That of a curve begins as an uncompressed point (SEC 1
--- 2.3.3) and has the secret, of the length of the field, in the place of both coordinates; that of
--- curve 25519 is the digest of 32 octets
+-- the key of a secret, if it has one. For a named curve it is in the form of an uncompressed point
+-- (SEC 1 2.3.3), with the secret, which has the length of the field, as both coordinates; for curve
+-- 25519 it is the digest of 32 octets
 abbrev pub demo_key : SchemeKind → List ℕ → Option (List ℕ)
 demo_key Rsa secret = rsa_key (rsa_secret_or_none secret)
 demo_key P256 secret = key_of_length 32 secret (0x04 ∷ secret ++ secret)

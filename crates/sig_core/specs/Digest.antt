@@ -25,7 +25,7 @@ digest_size SHA2_256 = 32
 digest_size SHA2_384 = 48
 digest_size SHA2_512 = 64
 
--- what an algorithm is called (RFC 1321, FIPS 180-4)
+-- the name of an algorithm (RFC 1321, FIPS 180-4)
 abbrev pub digest_name : HashAlgorithm → List ℕ
 digest_name MD5 = codes "MD5"
 digest_name SHA1 = codes "SHA-1"

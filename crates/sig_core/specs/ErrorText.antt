@@ -8,22 +8,22 @@ use Rattle.sig_core.specs.declared.scheme.SchemeError.TheVariants as scheme
 use Rattle.sig_core.specs.declared.verdict_table.TableError.{TableError}
 use Rattle.sig_core.specs.declared.verdict_table.TableError.TheVariants as table
 
--- what is told of a text that is no verdict table
+-- why a text isn't a verdict table
 abbrev pub table_error_text : TableError → List ℕ
 table_error_text (table.BadLine number) =
     codes "line " ++ decimal number ++ codes " of the verdict table is not a row"
 table_error_text table.Memory = codes "out of memory"
 
--- what is told of a scheme that gives no signature, or no key
+-- why a scheme returns no signature, or no key
 abbrev pub scheme_error_text : SchemeError → List ℕ
 scheme_error_text scheme.Refused = codes "the signature scheme refused"
 scheme_error_text scheme.Memory = codes "out of memory"
 
--- what is told of a digest algorithm that isn't converted
+-- why a digest algorithm isn't converted
 abbrev pub unsupported_hash_text : UnsupportedHashAlgorithmError → List ℕ
 unsupported_hash_text error =
     codes "digests by " ++ digest_name error.algorithm ++ codes " are not supported"
 
--- what is told of an identifier that names no digest algorithm
+-- why an OID is refused as that of no digest algorithm
 abbrev pub unsupported_algorithm_text : List ℕ
 unsupported_algorithm_text = codes "the identifier names no supported digest algorithm"

@@ -1,4 +1,4 @@
--- The map that a table keeps beside its rows, so that a verdict is found without a walk of them.
+-- The map of a table beside its rows, by which a verdict is found without a search in them.
 use Rattle.std.specs.Prelude.{◌≡◌, List}
 use Rattle.std.specs.BTreeMap.{BTreeMap, get}
 use Rattle.std.specs.declared.cmp.Ordering.{Ordering}

@@ -1,4 +1,4 @@
--- Secrets of RSA, by the numbers that they hold.
+-- RSA secrets, by the numbers in them.
 use Rattle.std.specs.Prelude.{◌≡◌, ℕ, List, [], ◌∷◌}
 use Rattle.der_core.specs.DerElement.{DerElement}
 use Rattle.der_core.specs.Elements.{sequence}
@@ -6,7 +6,7 @@ use Rattle.der_core.specs.Encoding.{encoding, IsDer}
 use Rattle.asn1_types.specs.Elements.{integer_of}
 use Rattle.asn1_types.specs.Integer.{IsInteger}
 
--- the numbers of a private key of two primes, each by its contents octets
+-- the numbers of a private key with two primes, each by its contents octets
 pub record RsaNumbers : Type 0 where
   pub modulus : List ℕ
   pub public_exponent : List ℕ
@@ -30,7 +30,7 @@ pub record AreIntegers (numbers : RsaNumbers) : Type 0 where
 
 -- RSAPrivateKey ::= SEQUENCE { version Version, modulus, publicExponent, privateExponent, prime1,
 -- prime2, exponent1, exponent2, coefficient, each an INTEGER, otherPrimeInfos OtherPrimeInfos
--- OPTIONAL } (RFC 8017 A.1.2): of two primes alone, whose version is 0
+-- OPTIONAL } (RFC 8017 A.1.2): only with two primes, of version 0
 abbrev pub rsa_private_element : RsaNumbers → DerElement
 rsa_private_element numbers =
     sequence (integer_of (0 ∷ []) ∷ integer_of numbers.modulus ∷

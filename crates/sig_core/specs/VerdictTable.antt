@@ -25,11 +25,11 @@ IsDigest digest = (length digest ≡ 32) × IsBytes digest
 abbrev pub AreDigests : SignatureDigests → Type 0
 AreDigests signature = IsDigest signature.key × IsDigest signature.msg × IsDigest signature.sig
 
--- what stands between the words of a line
+-- the octet between the words of a line
 abbrev pub space : ℕ
 space = 0x20
 
--- what ends a line
+-- the octet at the end of a line
 abbrev pub newline : ℕ
 newline = 0x0A
 
@@ -46,7 +46,7 @@ BeginsWithNoSignature text =
     (signature : SignatureDigests) (after : List ℕ) → AreDigests signature
     → text ≢ signature_line signature ++ after
 
--- how a table begins: version 2 with a line of its own, version 1 with its rows
+-- the beginning of a table: version 2 has a line of its own, version 1 begins with its rows
 abbrev pub first_line : TableVersion → List ℕ
 first_line One = []
 first_line Two = codes "picky-verdicts 2" ++ newline ∷ []
@@ -56,7 +56,7 @@ abbrev pub first_number : TableVersion → ℕ
 first_number One = 1
 first_number Two = 2
 
--- a text is of version 2 where it begins with the line of that version, else of version 1
+-- a text is of version 2 if it begins with the line of that version, else of version 1
 abbrev pub IsOfVersion : List ℕ → TableVersion → Type 0
 IsOfVersion text One = (after : List ℕ) → text ≢ first_line Two ++ after
 IsOfVersion text Two = (after : List ℕ) × (text ≡ first_line Two ++ after)
@@ -70,7 +70,7 @@ AdmitsVerdict Two verdict = ⊤
 abbrev pub IsRow : TableVersion → VerdictRow → Type 0
 IsRow version row = AdmitsVerdict version row.verdict × AreDigests row.signature
 
--- how the line of a row begins: in version 2 with the word of its verdict
+-- the beginning of a row's line: in version 2 the word of its verdict
 abbrev pub verdict_word : TableVersion → Verdict → List ℕ
 verdict_word One verdict = []
 verdict_word Two Accept = codes "accept "
@@ -99,7 +99,7 @@ BeginsWithNoLine version text =
 
 -- the line of this number is the first that isn't the line of a row: after the lines of the rows
 -- before it something is left, and that doesn't begin with the line of a row. Lines are counted
--- from 1, the first line of version 2 among them
+-- from 1, the first line of version 2 included
 pub record IsFirstBadLine (text : List ℕ) (number : ℕ) : Type 0 where
   pub version : TableVersion
   pub before : List VerdictRow
@@ -131,13 +131,13 @@ abbrev pub first_verdict : List VerdictRow → SignatureDigests → Option Verdi
 first_verdict rows signature =
     option_map (λ row. row.verdict) (find (λ row. is_same_signature signature row.signature) rows)
 
--- the verdict of a table: that of the first row that names the signature. What no row names is
--- rejected
+-- the verdict of a table: that of the first row that names the signature. A signature that no row
+-- names is rejected
 abbrev pub verdict_of : List VerdictRow → SigAlg → List ℕ → List ℕ → List ℕ → Verdict
 verdict_of rows alg key msg sig =
     unwrap_or (first_verdict rows (signature_of alg key msg sig)) Reject
 
--- behind its first line, if it has one, the text begins with the line of a row
+-- after its first line, if it has one, the text begins with the line of a row
 pub record BeginsWithLine (text : List ℕ) : Type 0 where
   pub version : TableVersion
   pub row : VerdictRow
@@ -145,7 +145,7 @@ pub record BeginsWithLine (text : List ℕ) : Type 0 where
   pub is_row : IsRow version row
   pub spelled : text ≡ first_line version ++ line_of version row ++ after
 
--- why a text gives no table. Memory is asked for where there is a row
+-- why a text isn't parsed. Memory runs out only if there is a row
 abbrev pub IsCause : List ℕ → TableError → Type 0
 IsCause text (BadLine number) = IsFirstBadLine text number
 IsCause text Memory = BeginsWithLine text

@@ -1,4 +1,4 @@
-//! The algorithms of signatures.
+//! Signature algorithms.
 
 ghost use Rattle.std.specs.Prelude.{◌≡◌, IfSome};
 ghost use Rattle.sig_core.specs.declared.algorithm.SigAlg.{SigAlg};
@@ -15,7 +15,7 @@ pub enum SchemeKind {
     X25519,
 }
 
-/// The algorithms of signatures: a kind of key and the digest that it signs.
+/// The signature algorithms: a kind of key and the digest that is signed.
 #[derive(Clone, Copy, PartialEq, Eq, PartialOrd, Ord, Debug)]
 pub enum SigAlg {
     RsaMd5,
@@ -45,7 +45,7 @@ impl SigAlg {
         SigAlg::Ed25519,
     ];
 
-    /// The algorithm of this name, as `name` gives it, if one has it.
+    /// The algorithm with this name, as `name` returns it; `None` if there is none.
     pub fn from_name(name: &[u8]) -> Option<SigAlg>
         ensures named { (alg : SigAlg) → name_of alg ≡ name.now → result ≡ Some alg }
         ensures name { IfSome result (λ alg. name_of alg ≡ name.now) }

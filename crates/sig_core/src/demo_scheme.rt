@@ -12,14 +12,14 @@ use crate::scheme::{Scheme, SchemeError, Verdict};
 use sha2::{Digest, Sha256};
 use std::alloc::{AllocError, Global};
 
-/// The octets of a signature.
+/// The length of a signature in octets.
 const SIGNATURE_LEN: usize = 32;
 
 /// The demonstration scheme. It has no security: whoever knows a public key can make every
 /// signature that is accepted under it.
 ///
 /// A signature is the SHA-256 of the name of the algorithm, an octet 00, the SHA-256 of the key
-/// bytes, and the message. The key of an RSA secret is the RSAPublicKey (RFC 8017 A.1.1) of its
+/// bytes, and the message. The key of an RSA secret is the RSAPublicKey (RFC 8017 A.1.1) with its
 /// modulus and exponent; that of a named curve is 04 and the secret twice; that of curve 25519 is
 /// the SHA-256 of the secret.
 #[derive(Clone, Copy, Debug)]
@@ -53,7 +53,7 @@ impl Scheme for DemoScheme {
     ) -> Result<Verdict, AllocError>
         ensures verdict { IfOk result
             (λ verdict. verdict ≡ demo_verdict alg key.now msg.now sig.now) }
-        // No memory is asked for.
+        // It doesn't allocate.
         ensures never_memory { IsOk result }
     {
         if sig.len() != SIGNATURE_LEN {
@@ -131,7 +131,7 @@ fn rsa_key(alloc: Global, secret: &[u8]) -> Result<Vec<u8>, SchemeError>
     }
 }
 
-/// The key of a secret for a curve whose field has so many octets.
+/// The key of a secret for a curve with a field of so many octets.
 fn point(alloc: Global, secret: &[u8], field: usize) -> Result<Vec<u8>, SchemeError>
     ensures derived { IfOk result
         (λ key. key_of_length field secret.now (0x04 ∷ secret.now ++ secret.now) ≡ Some key.items) }

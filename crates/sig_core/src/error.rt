@@ -1,4 +1,4 @@
-//! Why a digest algorithm is not one that is asked for.
+//! Why a digest algorithm isn't supported.
 
 ghost use Rattle.std.specs.Prelude.{Some};
 ghost use Rattle.sig_core.specs.ErrorText.{unsupported_hash_text, unsupported_algorithm_text};
@@ -8,7 +8,7 @@ use std::fmt;
 use thiserror::Error;
 
 /// A digest algorithm that isn't converted between `HashAlgorithm` and `ShaVariant`: SHA-224. Both
-/// types have it, it has an identifier, and signatures of RSA may be made with it.
+/// types have it, it has an OID, and RSA signatures may be made with it.
 #[derive(Clone, Copy, PartialEq, Eq, Debug, Error)]
 pub struct UnsupportedHashAlgorithmError {
     /// The algorithm.
@@ -23,7 +23,7 @@ impl fmt::Display for UnsupportedHashAlgorithmError {
     }
 }
 
-/// An identifier that names no digest algorithm.
+/// The OID isn't that of a digest algorithm.
 #[derive(Clone, Copy, PartialEq, Eq, Debug, Error)]
 pub struct UnsupportedAlgorithmError;
 

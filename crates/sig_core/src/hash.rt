@@ -59,7 +59,7 @@ impl HashAlgorithm {
         }
     }
 
-    /// What the algorithm is called.
+    /// The name of the algorithm.
     pub fn name(self) -> &'static str
         ensures { result.now ≡ digest_name self }
     {

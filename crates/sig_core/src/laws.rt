@@ -15,9 +15,9 @@ ghost use Rattle.sig_core.specs.declared.sha_variant.TheConstants.ShaVariant as 
 ghost use Rattle.sig_core.specs.declared.verdict_row.VerdictRow.{VerdictRow};
 ghost use Rattle.sig_core.specs.ShaVariant.{digest_identifier};
 
-/// A text is the table of at most one list of rows, so there is the table that a text is. It has at
-/// most one first bad line, and none where it is a table. The rows of a table of either version
-/// have a text of version 2, so a table of version 1 is carried over.
+/// A text is the table of at most one list of rows. It has at most one first bad line, and none if
+/// it is a table. The rows of a table of either version can be written in version 2, so a table of
+/// version 1 can be converted.
 pub fn one_table()
     ensures one_list { (text : List ℕ) (a b : List VerdictRow)
         → IsTable text a → IsTable text b → a ≡ b }
@@ -29,8 +29,8 @@ pub fn one_table()
         → IsTable text rows → IsTable (version_2_text rows) rows }
 {}
 
-/// The key that the demonstration scheme derives from a secret of RSA is the public key in it, and
-/// there is none exactly where the secret is no private key of RSA.
+/// The key that the demonstration scheme derives from an RSA secret is the public key in it; there
+/// is none exactly if the secret isn't an RSA private key.
 pub fn demo_keys_of_rsa()
     ensures derived { (secret : List ℕ) (rsa : IsRsaSecret secret)
         → demo_key Rsa secret
@@ -38,8 +38,8 @@ pub fn demo_keys_of_rsa()
     ensures none { (secret : List ℕ) → (IsRsaSecret secret → ⊥) → demo_key Rsa secret ≡ None }
 {}
 
-/// No two digest algorithms have one identifier. So the identifier that is written for a variant is
-/// read as that variant again.
+/// No two digest algorithms have the same OID. So the OID written for a variant is read as that
+/// variant again.
 pub fn one_identifier_each()
     ensures { (a b : ShaVariant) → digest_identifier a ≡ digest_identifier b → a ≡ b }
 {}

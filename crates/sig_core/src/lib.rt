@@ -1,8 +1,9 @@
-//! Digests, the algorithms of signatures, and what it means for a signature to be accepted.
+//! Digests, signature algorithms, and signature schemes.
 //!
-//! Whether a signature belongs to a key and a message is never computed here: a `Scheme` says so.
-//! `VerdictTable` gives the verdict of the first row that names a signature, and rejects what no
-//! row names. `DemoScheme` makes signatures that anyone could make, for demonstrations and tests.
+//! This crate never verifies a signature by arithmetic: a `Scheme` decides whether one belongs to a
+//! key and a message. `VerdictTable` returns the verdict of the first row that names a signature,
+//! and rejects a signature that no row names. `DemoScheme` makes signatures that anyone could make,
+//! for demonstrations and tests.
 #![tactic(auto)]
 
 mod algorithm;

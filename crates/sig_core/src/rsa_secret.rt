@@ -1,4 +1,4 @@
-//! What an RSA private key says of its public key, where its octets lie.
+//! The public key in a borrowed RSA private key.
 
 ghost use Rattle.std.specs.Prelude.{◌≡◌, ◌≢◌, [], ◌∷◌, ℕ, List, IfOk, IfErr, MatchOption};
 ghost use Rattle.asn1_types.specs.Elements.{integer_of};
@@ -13,7 +13,7 @@ use der_core::tag::{INTEGER, SEQUENCE};
 use der_core::{Elem, Kids, NewKids, expect_leaf, leaf, leaf_at, whole_element, write};
 use std::alloc::Global;
 
-/// The contents octets of the modulus and of the public exponent in an RSA private key of two
+/// The contents octets of the modulus and of the public exponent in an RSA private key with two
 /// primes (RFC 8017 A.1.2).
 #[derive(Clone, Copy)]
 pub(crate) struct RsaSecret<'a> {
@@ -22,7 +22,7 @@ pub(crate) struct RsaSecret<'a> {
 }
 
 impl<'a> RsaSecret<'a> {
-    /// What the secret says, where it is the encoding of such a key.
+    /// The public numbers of the secret, `None` if it isn't the encoding of such a key.
     pub(crate) fn of(secret: &'a [u8]) -> Option<RsaSecret<'a>>
         ensures { MatchOption result (IsRsaSecret secret.now → ⊥)
             (λ rsa. (is : IsRsaSecret secret.now) × (is.numbers.modulus ≡ rsa.modulus.now)
@@ -35,7 +35,7 @@ impl<'a> RsaSecret<'a> {
         }
     }
 
-    /// What the element of such a key says.
+    /// The public numbers in the element of such a key.
     fn within(elem: Elem<'a>) -> Option<RsaSecret<'a>>
         ensures { MatchOption result
             ((numbers : RsaNumbers) → AreIntegers numbers
@@ -46,7 +46,7 @@ impl<'a> RsaSecret<'a> {
             × (numbers.public_exponent ≡ rsa.public_exponent.now)) }
     {
         let mut kids = Kids::of(elem, SEQUENCE)?;
-        // The version of keys of two primes.
+        // The version of keys with two primes.
         expect_leaf(kids.next()?, INTEGER, &[0])?;
         let modulus = next_integer(&mut kids)?;
         let public_exponent = next_integer(&mut kids)?;
@@ -80,7 +80,7 @@ impl<'a> RsaSecret<'a> {
     }
 }
 
-/// The contents octets of the next element, where it is an INTEGER.
+/// The contents octets of the next element if it is an INTEGER.
 fn next_integer<'a>(kids: &mut Kids<'a>) -> Option<&'a [u8]>
     ensures { MatchOption result
         ((contents : List ℕ) (rest : List DerElement) → IsInteger contents

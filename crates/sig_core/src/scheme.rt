@@ -1,4 +1,4 @@
-//! What a signature scheme is: a verdict on a signature, and what its calls owe.
+//! Signature schemes: a verdict on each signature, and what the calls must satisfy.
 
 ghost use Rattle.std.specs.Prelude.{◌≡◌, false, Some, IsTrue, IfOk, OnOk, IsErrOf};
 ghost use Rattle.sig_core.specs.Algorithm.{kind_of_algorithm};
@@ -10,23 +10,23 @@ use std::alloc::{AllocError, AllocFailed, Global};
 use std::fmt;
 use thiserror::Error;
 
-/// What a scheme says of a signature.
+/// The verdict of a scheme on a signature.
 #[derive(Clone, Copy, PartialEq, Eq, Debug)]
 pub enum Verdict {
     /// The signature belongs to the key and the message.
     Accept,
-    /// It does not.
+    /// The signature doesn't.
     Reject,
-    /// It has no form that a signature of the algorithm could have.
+    /// The signature doesn't have the form of a signature of the algorithm.
     Malformed,
 }
 
-/// Why a scheme gives no signature, or no public key.
+/// Why a scheme returns no signature, or no public key.
 #[derive(Clone, Copy, PartialEq, Eq, Debug, Error)]
 pub enum SchemeError {
-    /// The scheme does not sign with this secret, or derives no key from it.
+    /// The scheme doesn't sign with this secret, or derives no key from it.
     Refused,
-    /// No memory was left.
+    /// Out of memory.
     Memory,
 }
 
@@ -57,23 +57,23 @@ impl<T: Drop> From<AllocFailed<T>> for SchemeError {
     }
 }
 
-/// A signature scheme, in place of arithmetic of its own.
+/// A signature scheme, which replaces the arithmetic of keys.
 ///
-/// Key bytes are the payload of the BIT STRING of a key. Secret bytes are the encoded
-/// RSAPrivateKey for RSA, else the secret octets.
+/// Key bytes are the payload of the BIT STRING of a key. Secret bytes are the encoded RSAPrivateKey
+/// for RSA, else the secret octets.
 pub trait Scheme {
     ghost use Rattle.std.specs.Prelude.{◌≡◌, ℕ, Bool, List, Option, Some};
     ghost use Rattle.sig_core.specs.declared.algorithm.SigAlg.{SigAlg};
     ghost use Rattle.sig_core.specs.declared.algorithm.SchemeKind.{SchemeKind};
     ghost use Rattle.sig_core.specs.declared.scheme.Verdict.{Verdict};
 
-    // The verdict on a signature, of an algorithm, key bytes, a message and the signature.
+    // The verdict on a signature, by algorithm, key bytes, message and signature.
     ghost judge: { Self → SigAlg → List ℕ → List ℕ → List ℕ → Verdict };
 
-    // Whether the scheme signs, of an algorithm, a secret and a message.
+    // Whether the scheme signs, by algorithm, secret and message.
     ghost signs: { Self → SigAlg → List ℕ → List ℕ → Bool };
 
-    // The public key of a secret, where the scheme has one.
+    // The public key of a secret, if the scheme has one.
     ghost derives: { Self → SchemeKind → List ℕ → Option (List ℕ) };
 
     // The key, named first, and the secret belong together.

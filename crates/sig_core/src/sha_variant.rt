@@ -1,4 +1,4 @@
-//! The digest algorithms by their identifiers.
+//! The digest algorithms by their OIDs.
 
 ghost use Rattle.std.specs.Prelude.{◌≡◌, ◌≢◌, ℕ, List, Ok, IfOk, MatchOption};
 ghost use Rattle.asn1_types.specs.Values.{identifier_contents};
@@ -9,7 +9,7 @@ use crate::hash::HashAlgorithm;
 use asn1_types::{ObjectIdentifier, oids};
 use std::alloc::{AllocError, Global};
 
-/// The digest algorithms that have an identifier (RFC 8017 appendix B.1).
+/// The digest algorithms that have an OID (RFC 8017 appendix B.1).
 #[derive(Clone, Copy, PartialEq, Eq, Debug)]
 pub enum ShaVariant {
     MD5,
@@ -31,7 +31,7 @@ impl ShaVariant {
         ShaVariant::SHA2_512,
     ];
 
-    /// The variant that an identifier names, refused exactly where it names none.
+    /// The variant with this OID, an error exactly if there is none.
     pub fn from_oid(oid: &ObjectIdentifier) -> Result<ShaVariant, UnsupportedAlgorithmError>
         ensures named { (variant : ShaVariant)
             → digest_identifier variant ≡ identifier_contents oid.now → result ≡ Ok variant }
@@ -44,7 +44,8 @@ impl ShaVariant {
         }
     }
 
-    /// The variant whose identifier has these contents octets (RFC 8017 appendix B.1).
+    /// The variant whose OID has these contents octets (RFC 8017 appendix B.1), `None` if there is
+    /// none.
     pub fn named(contents: &[u8]) -> Option<ShaVariant>
         ensures { MatchOption result
             ((variant : ShaVariant) → digest_identifier variant ≢ contents.now)
@@ -72,14 +73,14 @@ impl ShaVariant {
         }
     }
 
-    /// The identifier of the variant.
+    /// The OID of the variant.
     pub fn to_oid(self, alloc: Global) -> Result<ObjectIdentifier, AllocError>
         ensures { IfOk result (λ oid. identifier_contents oid ≡ digest_identifier self) }
     {
         ObjectIdentifier::from_known(alloc, self.oid_contents())
     }
 
-    /// The contents octets of the identifier.
+    /// The contents octets of the OID.
     pub fn oid_contents(self) -> &'static [u8]
         ensures { result.now ≡ digest_identifier self }
     {
@@ -112,7 +113,7 @@ impl TryFrom<HashAlgorithm> for ShaVariant {
     }
 }
 
-/// The algorithm of the variant. SHA-224 is refused, as the other way round.
+/// The algorithm of the variant. SHA-224 is refused, as in the other direction.
 impl TryFrom<ShaVariant> for HashAlgorithm {
     type Error = UnsupportedHashAlgorithmError;
 

@@ -11,13 +11,13 @@ use crate::algorithm::SigAlg;
 use crate::scheme::Verdict;
 use std::alloc::{AllocError, Global};
 
-/// The octets of a digest in a row.
+/// The length of a digest in octets.
 const DIGEST_LEN: usize = 32;
 
-/// The hexadecimal digits of a digest in a line.
+/// How many hexadecimal digits a digest has in a line.
 const DIGITS_LEN: usize = 64;
 
-/// How a table of version 2 begins.
+/// The beginning of a table of version 2.
 pub const FIRST_LINE: &[u8] = b"picky-verdicts 2\n";
 
 /// Version 1 lists accepted signatures; version 2 gives each a verdict.
@@ -28,7 +28,7 @@ pub enum TableVersion {
 }
 
 impl TableVersion {
-    /// The version of a table, and the text behind the line that tells it.
+    /// The version of a table, and the text after the line that names it.
     pub fn split_from(text: &[u8]) -> (TableVersion, &[u8])
         ensures version { IsOfVersion text.now result.0 }
         ensures rest { text.now ≡ first_line result.0 ++ result.1.now }
@@ -62,7 +62,7 @@ pub struct SignatureDigests {
 }
 
 impl SignatureDigests {
-    /// The signature whose line begins the text, and the text after that line.
+    /// The signature whose line the text begins with, and the text after that line.
     fn split_first(text: &[u8]) -> Option<(SignatureDigests, &[u8])>
         ensures { MatchOption result (BeginsWithNoSignature text.now)
             (λ split. AreDigests split.0 × (text.now ≡ signature_line split.0 ++ split.1.now)) }
@@ -74,7 +74,7 @@ impl SignatureDigests {
         Some((SignatureDigests { alg, key, msg, sig }, text))
     }
 
-    /// Writes the line of the signature behind the text.
+    /// Appends the line of the signature to the text.
     fn write(&self, alloc: Global, text: &mut Vec<u8>) -> Result<(), AllocError>
         ensures { OnOk result (text.new.items ≡ text.old.items ++ signature_line self.now) }
     {
@@ -95,7 +95,7 @@ pub struct VerdictRow {
 }
 
 impl VerdictRow {
-    /// The row whose line begins the text, and the text after that line.
+    /// The row whose line the text begins with, and the text after that line.
     pub fn split_first(version: TableVersion, text: &[u8]) -> Option<(VerdictRow, &[u8])>
         ensures { MatchOption result (BeginsWithNoLine version text.now)
             (λ split. IsRow version split.0
@@ -106,7 +106,7 @@ impl VerdictRow {
         Some((VerdictRow { verdict, signature }, text))
     }
 
-    /// Writes the line of the row in version 2 behind the text.
+    /// Appends the line of the row, in version 2, to the text.
     pub fn write(&self, alloc: Global, text: &mut Vec<u8>) -> Result<(), AllocError>
         ensures { OnOk result
             (text.new.items ≡ text.old.items ++ line_of TableVersion.Two self.now) }
@@ -119,7 +119,7 @@ impl VerdictRow {
 /// The verdicts, in the order of the enum.
 const VERDICTS: [Verdict; 3] = [Verdict::Accept, Verdict::Reject, Verdict::Malformed];
 
-/// How the line of a row of version 2 with this verdict begins.
+/// The word that the line of a row of version 2 with this verdict begins with.
 fn word_of(verdict: Verdict) -> &'static str
     ensures { result.now ≡ verdict_word TableVersion.Two verdict }
 {
@@ -130,8 +130,8 @@ fn word_of(verdict: Verdict) -> &'static str
     }
 }
 
-/// The verdict whose word begins the text, and the text behind it. In version 1 no word stands
-/// there, and the verdict is acceptance.
+/// The verdict whose word the text begins with, and the text after it. Version 1 has no word, and
+/// the verdict is `Accept`.
 fn split_verdict(version: TableVersion, text: &[u8]) -> Option<(Verdict, &[u8])>
     ensures { MatchOption result
         ((verdict : Verdict) (after : List ℕ) → AdmitsVerdict version verdict
@@ -145,7 +145,7 @@ fn split_verdict(version: TableVersion, text: &[u8]) -> Option<(Verdict, &[u8])>
     }
 }
 
-/// The same of version 2.
+/// The same for version 2.
 fn split_word(text: &[u8]) -> Option<(Verdict, &[u8])>
     ensures { MatchOption result
         ((verdict : Verdict) (after : List ℕ)
@@ -160,7 +160,7 @@ fn split_word(text: &[u8]) -> Option<(Verdict, &[u8])>
     None
 }
 
-/// The algorithm whose name begins the text, and the text after the space behind it.
+/// The algorithm whose name the text begins with, and the text after the space that follows.
 fn split_algorithm(text: &[u8]) -> Option<(SigAlg, &[u8])>
     ensures { MatchOption result
         ((alg : SigAlg) (after : List ℕ) → text.now ≢ name_of alg ++ space ∷ after)
@@ -177,7 +177,7 @@ fn first_space(text: &[u8]) -> Option<usize>
     text.iter().position(|octet| *octet == b' ')
 }
 
-/// The digest whose digits begin the text, and the text after the octet `end` behind them.
+/// The digest whose digits the text begins with, and the text after the octet `end` that follows.
 fn split_digest(text: &[u8], end: u8) -> Option<([u8; DIGEST_LEN], &[u8])>
     ensures { MatchOption result
         ((digest : List ℕ) (after : List ℕ) → IsDigest digest
@@ -210,7 +210,7 @@ fn digest_of_digits(digits: &[u8]) -> Option<[u8; DIGEST_LEN]>
     }
 }
 
-/// Writes a space and the digits of the digest behind the text.
+/// Appends a space and the digits of the digest to the text.
 fn write_digest(
     alloc: Global,
     text: &mut Vec<u8>,

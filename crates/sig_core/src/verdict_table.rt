@@ -1,4 +1,4 @@
-//! A signature scheme that is a list of verdicts.
+//! A signature scheme by a list of verdicts.
 
 ghost use Rattle.std.specs.Prelude.{◌≡◌, ◌⊎◌, ◌↔◌, ℕ, List, [], length, Err, Some, IfOk, IfErr, IsOk, IsTrue, MatchResult};
 ghost use Rattle.std.specs.Cmp.Lexicographic.{pointwise, lists_per, lists_equiv};
@@ -18,12 +18,12 @@ use std::fmt;
 use std::marker::Model;
 use thiserror::Error;
 
-/// Why a text is no verdict table.
+/// Why a text isn't a verdict table.
 #[derive(Clone, Copy, PartialEq, Eq, Debug, Error)]
 pub enum TableError {
-    /// The first line that isn't the line of a row, counted from 1.
+    /// The number of the first line that isn't the line of a row, counted from 1.
     BadLine { number: u64 },
-    /// No memory was left.
+    /// Out of memory.
     Memory,
 }
 
@@ -57,8 +57,8 @@ impl<T: Drop> From<AllocFailed<T>> for TableError {
     }
 }
 
-/// A table of verdicts, seen by contracts as the list of its rows. The first verdict on each
-/// signature is kept a second time, so that one is found without a walk of the rows.
+/// A table of verdicts. Contracts see the list of its rows. A map has the first verdict on each
+/// signature, so that one is found without a search in the rows.
 #[derive(Debug, Drop)]
 pub struct VerdictTable {
     rows: Vec<VerdictRow>,
@@ -88,9 +88,9 @@ impl VerdictTable {
     /// further one begins with `accept`, `reject` or `malformed` and a space.
     pub fn parse(alloc: Global, bytes: &[u8]) -> Result<VerdictTable, TableError>
         ensures table { IfOk result (λ table. IsTable bytes.now table) }
-        // Memory runs out only where the text begins with a row.
+        // Memory runs out only if the text begins with a row.
         ensures cause { IfErr result (IsCause bytes.now) }
-        // A table is read as its rows.
+        // A table is parsed as its rows.
         ensures each_table { (rows : List VerdictRow) → IsTable bytes.now rows
             → MatchResult result (λ table. table ≡ rows) (λ e. e ≡ TableError.Memory) }
         // A text with a bad line is refused at that line.
@@ -140,7 +140,7 @@ impl VerdictTable {
     }
 }
 
-/// Tables are equal where they have the same rows in the same order.
+/// Tables are equal if they have the same rows in the same order.
 impl PartialEq for VerdictTable {
     ghost eq = { pointwise ⟦<VerdictRow as PartialEq>⟧.eq };
 
@@ -188,7 +188,7 @@ fn first_verdicts(
 ) -> Result<BTreeMap<SignatureDigests, Verdict>, AllocError>
     ensures first { IfOk result
         (HasFirstVerdicts ⟦<SignatureDigests as Ord>⟧.cmp rows.now) }
-    // Nothing is asked for where there are no rows.
+    // Nothing is allocated if there are no rows.
     ensures none { rows.now ≡ [] → IsOk result }
 {
     let mut verdicts = BTreeMap::new(alloc);
@@ -224,7 +224,7 @@ impl Scheme for VerdictTable {
     ) -> Result<Verdict, AllocError>
         ensures verdict { IfOk result (λ verdict.
             verdict ≡ verdict_of self.now alg key.now msg.now sig.now) }
-        // No memory is asked for.
+        // It doesn't allocate.
         ensures never_memory { IsOk result }
     {
         let signature = SignatureDigests {
@@ -248,10 +248,10 @@ impl Scheme for VerdictTable {
         _secret: &[u8],
         _msg: &[u8],
     ) -> Result<Vec<u8>, SchemeError>
-        // No memory is asked for.
+        // It doesn't allocate.
         ensures always { result ≡ Err SchemeError.Refused }
     {
-        // Rows name signatures, and make none.
+        // Rows name signatures; they don't make any.
         Err(SchemeError::Refused)
     }
 
@@ -261,10 +261,10 @@ impl Scheme for VerdictTable {
         _kind: SchemeKind,
         _secret: &[u8],
     ) -> Result<Vec<u8>, SchemeError>
-        // No memory is asked for.
+        // It doesn't allocate.
         ensures always { result ≡ Err SchemeError.Refused }
     {
-        // Nor do they know the keys of secrets.
+        // Nor do they have the keys of secrets.
         Err(SchemeError::Refused)
     }
 }

@@ -1,4 +1,4 @@
--- Whether octets are a secret of RSA can be told.
+-- Whether octets are an RSA secret can be decided.
 use Rattle.std.specs.Prelude.{◌≡◌, ◌⊎◌, ℕ, zero, suc, ◌^◌, ◌<◌, nat_lt, Bool, true, false, ◌&&◌, List, [], ◌∷◌, ◌++◌, length, take, drop, Result, Ok, Err, refl}
 use Rattle.std.specs.Str.{bytes_eq}
 use Rattle.std.proofs.Common.{sym, ap, ◌∙◌, subst, append_assoc, append-nil, arith, inl, inr, ltb}
@@ -14,14 +14,14 @@ use Rattle.der_core.specs.Facts.Fronts.{length_again}
 use Rattle.der_core.specs.Head.{length_at}
 use Rattle.sig_core.specs.RsaSecret.{RsaNumbers, rsa_private_element, IsRsaSecret}
 
--- octets begin with a tag, the length of contents, and these
+-- octets begin with a tag, a length, and contents of that length
 record Begins (tag : ℕ) (octets : List ℕ) : Type 0 where
   contents : List ℕ
   rest : List ℕ
   short : length contents < 2 ^ 32
   parts : octets ≡ framed tag contents ++ rest
 
--- the contents and what is left, where there is a length
+-- the contents and what is left, if there is a length
 abbrev parts_by : Result (ℕ × List ℕ) DerFault → List ℕ × List ℕ
 parts_by (Ok (n, after)) = (take n after, drop n after)
 parts_by (Err fault) = ([], [])
@@ -35,7 +35,7 @@ parts_again tag contents rest short =
     let regrouped : (length_octets (length contents) ++ contents) ++ rest ≡ length_octets (length contents) ++ (contents ++ rest) = append_assoc (length_octets (length contents)) contents rest in
     rw (regrouped, length_again Truncated (length contents) (contents ++ rest) short, take_at contents rest (length contents) refl, drop_at contents rest (length contents) refl) refl
 
--- they are told by the octets
+-- they are determined by the octets
 parts_told : (s t : ℕ) (left right : List ℕ) → left ≡ right → (a : Begins s left) (b : Begins t right) → (a.contents ≡ b.contents) × (a.rest ≡ b.rest)
 parts_told s t left right e a b =
     let same = sym (parts_again s a.contents a.rest a.short) ∙ ap parts_of (sym a.parts ∙ e ∙ b.parts) ∙ parts_again t b.contents b.rest b.short in

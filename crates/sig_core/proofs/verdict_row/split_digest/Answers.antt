@@ -19,13 +19,13 @@ returns-in_err-next c =
     let part = c.in_ok-digits.ensures.cases in
     absurd (omega (arith, long, short, part.4)))
 
--- another octet stands behind the digits
+-- another octet follows the digits
 pub returns-then-next-end : goal.returns-then-next-end
 returns-then-next-end c digest after h e =
     c.if-next-end.true (same_head _ _ _ _ _ _ c.in_ok-next.ensures.cases.0 c.in_ok-digits.ensures.cases.2
     (drop-digits digest _ _ h e))
 
--- the digits are those of no digest
+-- the digits encode no digest
 pub returns-in_err-digest : goal.returns-in_err-digest
 returns-in_err-digest c =
     rw c.from_residual-in_err-digest.ensures (λ digest after h e.

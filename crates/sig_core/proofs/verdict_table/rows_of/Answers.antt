@@ -2,7 +2,7 @@ use Rattle.std.proofs.lemmas.Result.{err_from_is_err_and}
 use Rattle.sig_core.proofs.Tables.{begins_with_line}
 use Rattle.sig_core.proofs.verdict_table.rows_of.Goals as goal
 
--- memory is asked for behind a row
+-- memory is only allocated after a row
 pub returns-in_err-push-clause-cause : goal.returns-in_err-push-clause-cause
 returns-in_err-push-clause-cause c =
     let p = err_from_is_err_and c.from_residual.result c.from_residual.ensures.1 in

@@ -5,7 +5,7 @@ use Rattle.std.proofs.lemmas.Slice.Eq.{slice_eq-Decides}
 use Rattle.sig_core.specs.declared.verdict_row.VerdictRow.{VerdictRow}
 use Rattle.sig_core.proofs.verdict_table.VerdictTablePartialEq.eq.Goals as goal
 
--- what a test of the rows tells of the tables that are seen as them
+-- what a test of the rows says of the tables that contracts see as them
 told : {E : VerdictRow → VerdictRow → Bool} → ((x y : VerdictRow) → Decides (E x y) (x ≡ y))
     → (xs ys a b : List VerdictRow) (r : Bool) → xs ≡ a → ys ≡ b → r ≡ pointwise E xs ys → Decides r (a ≡ b)
 told {E} decides xs ys a b r seen seen' test =
