@@ -1,4 +1,4 @@
--- Identifiers of authorities' keys by their fields.
+-- Authority key identifiers by their fields.
 use Rattle.std.proofs.Common.{◌≡◌, ◌↔◌, IsTrue, Bool, ℕ, List, Option, sym, ap, subst, ◌∙◌}
 use Rattle.std.specs.Prelude.{bytes_eq}
 use Rattle.std.specs.Option.{option_eq}
@@ -29,7 +29,7 @@ same_octets a b = options_same bytes_eq (λ (x y : List ℕ). bytes_eq-Decides x
 pub same_issuers : (a b : Option KeptElement) → IsTrue (option_eq (λ (x y : KeptElement). bytes_eq (encoding x.element) (encoding y.element)) a b) ↔ (a ≡ b)
 same_issuers a b = options_same (λ (x y : KeptElement). bytes_eq (encoding x.element) (encoding y.element)) kept_same a b
 
--- where the other fields are the same, the number decides
+-- if the other fields are the same, the number decides
 pub by_number : (a b : AuthorityKeyIdentifier) (t : Bool) → a.key_identifier ≡ b.key_identifier → a.issuer ≡ b.issuer → t ≡ option_eq bytes_eq a.serial_number b.serial_number → IsTrue t ↔ (a ≡ b)
 by_number a b t key issuer test =
     let same = same_octets a.serial_number b.serial_number in

@@ -12,7 +12,7 @@ use Rattle.der_core.specs.Facts.Fields.{split}
 use Rattle.extension_types.specs.Facts.Constraints.{optional_field, no_flag}
 use Rattle.extension_types.specs.declared.basic_constraints.BasicConstraints.{BasicConstraints}
 
--- a BOOLEAN in front of elements is that flag
+-- a BOOLEAN before other elements is that flag
 pub boolean_taken : (all : List DerElement) (kid : DerElement) (rest : List DerElement) (b : Bool) → all ≡ kid ∷ rest → IsBoolean kid b → TakesBoolean all (Some b) rest
 boolean_taken all kid rest b are is = record { flag = kid ∷ []; is = (kid, refl, is); are = are; once = λ e. absurd cc }
 
@@ -26,12 +26,12 @@ bad_in flag more (Some b) kid rest e is tagged none other =
     let same : is.0 ≡ kid = cc in
     none b (subst (λ (k : DerElement). IsBoolean k b) same is.2)
 
--- a bad flag is that of no constraints
+-- no constraints have a bad flag
 pub bad_flag : (element : DerElement) (kids : List DerElement) (b : BasicConstraints) → element ≡ sequence kids → HasBadFlag kids → IsBasicConstraints element b → ⊥
 bad_flag element kids b holds bad is =
     bad_in is.flag (optional_integer b.pathlen) b.ca bad.kid bad.rest (sym bad.are ∙ same_fields kids (is.flag ++ optional_integer b.pathlen) (sym holds ∙ is.is)) is.flagged bad.tagged bad.none (no_flag b.pathlen)
 
--- what is behind the flag is the path length
+-- what follows the flag is the path length
 behind : (element : DerElement) (kids rest : List DerElement) (ca : Option Bool) (b : BasicConstraints) → element ≡ sequence kids → TakesBoolean kids ca rest → IsBasicConstraints element b → rest ≡ optional_integer b.pathlen
 behind element kids rest ca b holds takes is =
     (split 0x01 takes.flag is.flag rest (optional_integer b.pathlen) (optional_field takes.flag ca takes.is) (optional_field is.flag b.ca is.flagged) takes.once (λ e. no_flag b.pathlen)
@@ -56,7 +56,7 @@ pub more_kids : (element : DerElement) (kids rest last : List DerElement) (ca : 
     → element ≡ sequence kids → TakesBoolean kids ca rest → TakesLength rest m last → HasMore last → IsBasicConstraints element b → ⊥
 more_kids element kids rest last ca m b holds takes length more is = more_number rest last m b.pathlen length more (behind element kids rest ca b holds takes is)
 
--- nothing is behind them
+-- nothing follows them
 pub all_kids : (element : DerElement) (kids rest last : List DerElement) (b : BasicConstraints)
     → element ≡ sequence kids → TakesBoolean kids b.ca rest → TakesLength rest b.pathlen last → last ≡ [] → IsBasicConstraints element b
 all_kids element kids rest last b holds takes length none = record {

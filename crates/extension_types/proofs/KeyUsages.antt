@@ -1,4 +1,4 @@
--- Bits of usages by their numbers.
+-- The bits of key usages by their numbers.
 use Rattle.std.proofs.Common.{◌≡◌, ℕ, ◌+◌, ◌-◌, ◌*◌, ◌/◌, ◌%◌, ◌^◌, ◌<◌, ◌≤◌, zero, suc, List, [], ◌∷◌, length, refl, sym, ap, subst, ◌∙◌, arith, inl, inr}
 use Rattle.std.specs.Int.{w8, reverse_bits, reverse_bits_onto, trailing_zeros}
 use Rattle.std.proofs.lemmas.Nat.Bits.{bit_at-trailing_zeros}
@@ -37,7 +37,7 @@ HasFirst flags first = (n : ℕ) → n < 8 → first / 2 ^ (7 - n) % 2 ≡ flags
 pub first_octet : (flags first : ℕ) → first ≡ reverse_bits w8 (flags % 256) → HasFirst flags first
 first_octet flags first is n lt = ap (λ (o : ℕ). o / 2 ^ (7 - n) % 2) is ∙ turned_bit (flags % 256) n lt ∙ low_bit flags n lt
 
--- a bit that is not 1 is 0
+-- a bit that isn't 1 is 0
 pub clear : (tested n : ℕ) → tested ≡ n % 2 → (tested ≡ 1 → ⊥) → n % 2 ≡ 0
 clear tested n is none = elim (cases_lt (n % 2) 1) [
   | inl lt ↦ omega (arith, lt)
@@ -52,11 +52,11 @@ one_bit first = below_8 (λ n. octet_bit (first ∷ []) n ≡ first / 2 ^ (7 - n
 two_bit : (first second : ℕ) (n : ℕ) → n < 8 → octet_bit (first ∷ second ∷ []) n ≡ first / 2 ^ (7 - n) % 2
 two_bit first second = below_8 (λ n. octet_bit (first ∷ second ∷ []) n ≡ first / 2 ^ (7 - n) % 2) refl refl refl refl refl refl refl refl
 
--- the second octet is 80, of which the first bit alone is 1
+-- the second octet is 80, of which only the first bit is 1
 second_bit : (first : ℕ) (n : ℕ) → n < 8 → octet_bit (first ∷ 128 ∷ []) (8 + n) ≡ 1 → n ≡ 0
 second_bit first = below_8 (λ n. octet_bit (first ∷ 128 ∷ []) (8 + n) ≡ 1 → n ≡ 0) (λ e. refl) (λ e. absurd cc) (λ e. absurd cc) (λ e. absurd cc) (λ e. absurd cc) (λ e. absurd cc) (λ e. absurd cc) (λ e. absurd cc)
 
--- ---- usages
+-- ---- key usages
 
 no_bit : (n : ℕ) → n < 8 → 0 / 2 ^ (7 - n) % 2 ≡ 0
 no_bit = below_8 (λ n. 0 / 2 ^ (7 - n) % 2 ≡ 0) refl refl refl refl refl refl refl refl

@@ -1,8 +1,8 @@
--- The issuer's names of an AuthorityKeyIdentifier (RFC 5280 4.2.1.1).
+-- The authorityCertIssuer of an AuthorityKeyIdentifier (RFC 5280 4.2.1.1).
 use Rattle.std.specs.Prelude.{◌≡◌, ⊤, Option, Some, None}
 use Rattle.der_core.specs.DerElement.{DerElement, tag_of}
 
--- names, where there are any, stand under the tag [1] of a constructed element
+-- names, if there are any, have the tag [1] of a constructed element
 abbrev pub HasIssuerTag : Option DerElement → Type 0
 HasIssuerTag None = ⊤
 HasIssuerTag (Some issuer) = tag_of issuer ≡ 0xA1

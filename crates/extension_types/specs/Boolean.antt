@@ -4,7 +4,7 @@ use Rattle.der_core.specs.DerElement.{DerElement}
 use Rattle.der_core.specs.Default.{IsBoolean, boolean}
 use Rattle.der_core.specs.Structure.{BeginsOtherwise}
 
--- BOOLEAN OPTIONAL as it is written: FALSE stands where it is given
+-- BOOLEAN OPTIONAL as it is written: a FALSE that is present is written
 abbrev pub optional_boolean : Option Bool → List DerElement
 optional_boolean None = []
 optional_boolean (Some b) = boolean b ∷ []
@@ -14,7 +14,7 @@ abbrev pub IsOptionalBoolean : List DerElement → Option Bool → Type 0
 IsOptionalBoolean flag None = flag ≡ []
 IsOptionalBoolean flag (Some b) = (kid : DerElement) × (flag ≡ kid ∷ []) × IsBoolean kid b
 
--- The flag that may be left out was taken off the front of the elements.
+-- The flag, which may be absent, was taken off the beginning of the elements.
 pub record TakesBoolean (all : List DerElement) (b : Option Bool)
     (rest : List DerElement) : Type 0 where
   pub flag : List DerElement

@@ -1,4 +1,4 @@
-//! Identifiers of an authority's key, where their octets lie.
+//! The fields of a borrowed AuthorityKeyIdentifier.
 
 ghost use Rattle.std.specs.Prelude.{List, ℕ, Option, MatchOption};
 ghost use Rattle.std.specs.Option.{option_copied};
@@ -9,16 +9,16 @@ ghost use Rattle.extension_types.specs.AuthorityKeyIdentifier.{IsAuthorityKeyOf}
 use der_core::tag::SEQUENCE;
 use der_core::{Elem, Kids};
 
-/// The tag of the key's identifier.
+/// The tag of the keyIdentifier.
 pub(crate) const KEY_IDENTIFIER: u8 = 0x80;
 
-/// The tag of the issuer's names.
+/// The tag of the authorityCertIssuer.
 pub(crate) const ISSUER: u8 = 0xA1;
 
-/// The tag of the serial number.
+/// The tag of the authorityCertSerialNumber.
 pub(crate) const SERIAL_NUMBER: u8 = 0x82;
 
-/// The fields of an AuthorityKeyIdentifier, the issuer's names as any element of their tag.
+/// The fields of an AuthorityKeyIdentifier, the issuer's names as any element with their tag.
 #[derive(Clone, Copy)]
 pub(crate) struct AuthorityKeyFields<'a> {
     pub key_identifier: Option<&'a [u8]>,

@@ -1,4 +1,4 @@
-//! Which key an authority signs with (RFC 5280 4.2.1.1).
+//! Authority key identifiers (RFC 5280 4.2.1.1).
 
 ghost use Rattle.std.specs.Prelude.{◌≡◌, ◌↔◌, IfOk, IsTrue};
 ghost use Rattle.std.specs.Option.{option_copied};
@@ -13,9 +13,9 @@ use der_core::{
 };
 use std::alloc::{AllocError, Global};
 
-/// Which key an authority signs with: by an identifier, or by the names of the issuer of its
-/// certificate and the serial number (RFC 5280 4.2.1.1). The names are kept as an element of the
-/// tag [1], the number as contents octets of any length.
+/// The key that signed a certificate: its key identifier, or the issuer and serial number of the
+/// CA's certificate (RFC 5280 4.2.1.1). The issuer is a raw element with the tag [1], the serial
+/// number contents octets of any length.
 #[derive(Debug, Drop)]
 pub struct AuthorityKeyIdentifier {
     key_identifier: Option<Octets>,
@@ -27,7 +27,7 @@ pub struct AuthorityKeyIdentifier {
 impl AuthorityKeyIdentifier {
     ghost use Rattle.extension_types.specs.AuthorityKeyIdentifier.{key_of_identifier};
 
-    /// The key of this identifier.
+    /// The authority key identifier with this keyIdentifier alone.
     pub fn from_key_identifier(
         alloc: Global,
         key_identifier: &[u8],
@@ -41,21 +41,22 @@ impl AuthorityKeyIdentifier {
         })
     }
 
-    /// The identifier of the key.
+    /// The octets of the keyIdentifier, `None` if it is absent.
     pub fn key_identifier(&self) -> Option<&[u8]>
         ensures { option_copied result ≡ self.now.key_identifier }
     {
         self.key_identifier.as_ref().map(Octets::as_slice)
     }
 
-    /// The names of the issuer of the authority's certificate, under the tag [1].
+    /// The raw element of the issuer of the CA's certificate, with the tag [1], `None` if it is
+    /// absent.
     pub fn issuer(&self) -> Option<&Raw>
         ensures { option_copied result ≡ self.now.issuer }
     {
         self.issuer.as_ref()
     }
 
-    /// The contents octets of the serial number of the authority's certificate.
+    /// The contents octets of the serial number of the CA's certificate, `None` if it is absent.
     pub fn serial_number(&self) -> Option<&[u8]>
         ensures { option_copied result ≡ self.now.serial_number }
     {
@@ -63,7 +64,7 @@ impl AuthorityKeyIdentifier {
     }
 }
 
-/// A copy of an element that may be left out.
+/// A copy of an element that may be absent.
 fn keep_elem(alloc: Global, elem: Option<Elem<'_>>) -> Result<Option<Raw>, AllocError>
     ensures { IfOk result (λ kept. kept_option kept ≡ at_option elem.entry) }
 {
@@ -123,7 +124,7 @@ impl Structure for AuthorityKeyIdentifier {
     ghost grammar = { authority_key_identifiers };
 }
 
-/// Identifiers are equal exactly where their octets are.
+/// Authority key identifiers are equal exactly if their encodings are.
 impl PartialEq for AuthorityKeyIdentifier {
     ghost use Rattle.der_core.specs.Equality.{same_octets};
     ghost use Rattle.der_core.specs.Facts.Equality.{same_octets_per};

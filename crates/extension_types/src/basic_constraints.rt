@@ -1,4 +1,4 @@
-//! Whether a certificate is that of an authority (RFC 5280 4.2.1.9).
+//! Basic constraints (RFC 5280 4.2.1.9).
 
 ghost use Rattle.std.specs.Prelude.{◌≡◌, ◌≢◌, ◌↔◌, ℕ, IfOk, IsTrue, MatchOption};
 ghost use Rattle.der_core.specs.Encoding.{IsWellFormed};
@@ -9,8 +9,8 @@ use der_core::tag::{INTEGER, SEQUENCE};
 use der_core::{DerError, Elem, Kids, NewKids, Structure, Tree, leaf, leaf_at, write_boolean};
 use std::alloc::{AllocError, Global};
 
-/// Whether a key is that of an authority, and how many authorities may stand below it (RFC 5280
-/// 4.2.1.9). A flag that is left out and one that is given as FALSE are told apart.
+/// Whether the subject of a certificate is a CA, and how long paths below it may be (RFC 5280
+/// 4.2.1.9). An absent flag and an explicit FALSE are different values.
 #[derive(Clone, Copy, Debug)]
 pub struct BasicConstraints {
     ca: Option<bool>,
@@ -20,28 +20,29 @@ pub struct BasicConstraints {
 impl BasicConstraints {
     ghost use Rattle.extension_types.specs.declared.basic_constraints.BasicConstraints.{BasicConstraints};
 
-    /// The constraints of this flag and this path length.
+    /// The constraints with this flag and this path length.
     pub fn new(ca: Option<bool>, pathlen: Option<u8>) -> BasicConstraints
         ensures { result ≡ constraints_with ca pathlen }
     {
         BasicConstraints { ca, pathlen }
     }
 
-    /// Whether the key is that of an authority, None where the flag is left out, which means FALSE.
+    /// Whether the subject is a CA, `None` if the flag is absent, which means FALSE.
     pub fn ca(&self) -> Option<bool>
         ensures { result ≡ self.now.ca }
     {
         self.ca
     }
 
-    /// How many authorities may stand between this one and the end of a path, None for any number.
+    /// How many non-self-issued intermediate certificates may follow this one in a path, `None` for
+    /// no limit.
     pub fn pathlen(&self) -> Option<u8>
         ensures { result ≡ self.now.pathlen }
     {
         self.pathlen
     }
 
-    /// The constraints that an element spells, which take no memory.
+    /// The constraints that the element encodes. It doesn't allocate.
     fn at(elem: Elem<'_>) -> Option<BasicConstraints>
         ensures { MatchOption result
             ((b : BasicConstraints) → IsBasicConstraints elem.entry.is.0 b → ⊥)
@@ -55,7 +56,7 @@ impl BasicConstraints {
     }
 }
 
-/// The path length, which may be left out.
+/// The path length, which may be absent.
 fn next_length(kids: &mut Kids<'_>) -> Option<Option<u8>>
     ensures { MatchOption result
         (HasBadLength kids.old.are.0)
@@ -67,8 +68,8 @@ fn next_length(kids: &mut Kids<'_>) -> Option<Option<u8>>
     Some(Some(small_integer_at(elem)?))
 }
 
-/// The number of an INTEGER from 0 to 255 in its shortest contents (X.690 8.3.2); None of any other
-/// element.
+/// The number of an INTEGER from 0 to 255 with the shortest contents (X.690 8.3.2), `None` for any
+/// other element.
 pub fn small_integer_at(elem: Elem<'_>) -> Option<u8>
     ensures { MatchOption result
         ((number : ℕ) → elem.entry.is.0 ≢ small_integer number)
@@ -81,7 +82,7 @@ pub fn small_integer_at(elem: Elem<'_>) -> Option<u8>
     }
 }
 
-/// The INTEGER of a number in its shortest contents (X.690 8.3.2).
+/// The INTEGER of a number, with the shortest contents (X.690 8.3.2).
 fn write_small_integer(alloc: Global, number: u8) -> Result<Tree, AllocError>
     ensures { IfOk result (λ tree. (tree ≡ small_integer number) × IsWellFormed tree) }
 {
@@ -126,7 +127,7 @@ impl Structure for BasicConstraints {
     ghost grammar = { all_basic_constraints };
 }
 
-/// Constraints are equal exactly where their octets are.
+/// Constraints are equal exactly if their encodings are.
 impl PartialEq for BasicConstraints {
     ghost use Rattle.der_core.specs.Equality.{same_octets};
     ghost use Rattle.der_core.specs.Facts.Equality.{same_octets_per};

@@ -1,4 +1,4 @@
-//! Flags that may be left out (X.690 8.2).
+//! OPTIONAL flags (X.690 8.2).
 
 ghost use Rattle.std.specs.Prelude.{MatchOption};
 ghost use Rattle.der_core.specs.Default.{HasBadFlag};
@@ -7,7 +7,7 @@ ghost use Rattle.extension_types.specs.Boolean.{TakesBoolean};
 use der_core::tag::BOOLEAN;
 use der_core::{Kids, boolean_at};
 
-/// The flag of a BOOLEAN that may be left out. A BOOLEAN of another length is none.
+/// The flag of a BOOLEAN that may be absent, `None` for a BOOLEAN of another length.
 pub(crate) fn next_boolean(kids: &mut Kids<'_>) -> Option<Option<bool>>
     ensures { MatchOption result
         (HasBadFlag kids.old.are.0)

@@ -1,4 +1,4 @@
-//! What a key is for, by identifiers (RFC 5280 4.2.1.12).
+//! Extended key usages (RFC 5280 4.2.1.12).
 
 ghost use Rattle.std.specs.Prelude.{◌≡◌, ◌↔◌, IfOk, IsTrue, bytes_eq};
 ghost use Rattle.std.specs.List.{list_any};
@@ -11,32 +11,32 @@ use der_core::{
 };
 use std::alloc::{AllocError, Global};
 
-/// Identifiers in order.
+/// OIDs in order.
 pub type OidList = ListOf<ObjectIdentifier>;
 
-/// What a key is for, an identifier a purpose (RFC 5280 4.2.1.12). No purposes at all are read,
-/// too.
+/// What a key may be used for, as OIDs, its KeyPurposeIds (RFC 5280 4.2.1.12). An empty list is
+/// accepted, too.
 #[derive(Debug, Drop)]
 pub struct ExtendedKeyUsage {
     purposes: OidList,
 }
 
 impl ExtendedKeyUsage {
-    /// The usage of these purposes.
+    /// The extended key usage with these KeyPurposeIds.
     pub fn new(list: OidList) -> ExtendedKeyUsage
         ensures { result.purposes ≡ list }
     {
         ExtendedKeyUsage { purposes: list }
     }
 
-    /// The purposes in order.
+    /// The KeyPurposeIds in order.
     pub fn as_slice(&self) -> &[ObjectIdentifier]
         ensures { result.now ≡ self.now.purposes }
     {
         self.purposes.as_slice()
     }
 
-    /// Whether an identifier is among the purposes, by its contents octets.
+    /// Whether this KeyPurposeId, given as contents octets, is in the list.
     pub fn contains(&self, oid: &[u8]) -> bool
         ensures { result ≡ list_any (λ purpose. bytes_eq (identifier_contents purpose) oid.now)
             self.now.purposes }
@@ -78,7 +78,7 @@ impl Structure for ExtendedKeyUsage {
     ghost grammar = { extended_key_usages };
 }
 
-/// Usages are equal exactly where their octets are.
+/// Extended key usages are equal exactly if their encodings are.
 impl PartialEq for ExtendedKeyUsage {
     ghost use Rattle.der_core.specs.Equality.{same_octets};
     ghost use Rattle.der_core.specs.Facts.Equality.{same_octets_per};

@@ -1,4 +1,4 @@
-//! What a key is for (RFC 5280 4.2.1.3).
+//! Key usages (RFC 5280 4.2.1.3).
 
 ghost use Rattle.extension_types.specs.KeyUsage.{HasBit, IsUsageOf};
 ghost use Rattle.std.specs.Prelude.{◌≡◌, ◌↔◌, IfOk, IsTrue};
@@ -7,16 +7,16 @@ use asn1_types::BitString;
 use der_core::{DerError, Elem, Structure, Tree};
 use std::alloc::{AllocError, Global};
 
-/// What a key is for, a bit a purpose (RFC 5280 4.2.1.3). Bits are kept as they stand.
+/// What a key may be used for, as bits (RFC 5280 4.2.1.3). The bits stay as they were read.
 #[derive(Debug, Drop)]
 pub struct KeyUsage {
     bits: BitString,
 }
 
 impl KeyUsage {
-    /// The usage of flags: the purpose of number i stands for `1 << i`, i at most 8. Other flags
-    /// are passed over. The string ends with its last bit that is 1 (X.690 11.2.2), so it is empty
-    /// where there is none.
+    /// The key usage with these flags: `1 << i` sets bit i, for i at most 8; other flags are
+    /// ignored. The string ends with its last bit that is 1 (X.690 11.2.2), so it is empty if there
+    /// is none.
     pub fn new(alloc: Global, flags: u16) -> Result<KeyUsage, AllocError>
         ensures { IfOk result (λ usage. IsUsageOf flags usage.bits) }
     {
@@ -39,7 +39,7 @@ impl KeyUsage {
         &self.bits
     }
 
-    /// Whether the key is for signatures other than those on certificates and revocation lists:
+    /// Whether the key may verify signatures other than those on certificates and CRLs:
     /// `digitalSignature`.
     pub fn digital_signature(&self) -> bool
         ensures { IsTrue result ↔ HasBit self.now.bits 0 }
@@ -47,7 +47,7 @@ impl KeyUsage {
         self.has_bit(0)
     }
 
-    /// Whether the key is for signatures that their signer cannot deny: `nonRepudiation`, also
+    /// Whether the key may verify signatures that their signer can't deny: `nonRepudiation`, also
     /// called `contentCommitment`.
     pub fn non_repudiation(&self) -> bool
         ensures { IsTrue result ↔ HasBit self.now.bits 1 }
@@ -55,56 +55,56 @@ impl KeyUsage {
         self.has_bit(1)
     }
 
-    /// Whether the key is for enciphering keys: `keyEncipherment`.
+    /// Whether the key may encipher keys: `keyEncipherment`.
     pub fn key_encipherment(&self) -> bool
         ensures { IsTrue result ↔ HasBit self.now.bits 2 }
     {
         self.has_bit(2)
     }
 
-    /// Whether the key is for enciphering data: `dataEncipherment`.
+    /// Whether the key may encipher data: `dataEncipherment`.
     pub fn data_encipherment(&self) -> bool
         ensures { IsTrue result ↔ HasBit self.now.bits 3 }
     {
         self.has_bit(3)
     }
 
-    /// Whether the key is for agreeing on keys: `keyAgreement`.
+    /// Whether the key may be used for key agreement: `keyAgreement`.
     pub fn key_agreement(&self) -> bool
         ensures { IsTrue result ↔ HasBit self.now.bits 4 }
     {
         self.has_bit(4)
     }
 
-    /// Whether the key is for signatures on certificates: `keyCertSign`.
+    /// Whether the key may verify signatures on certificates: `keyCertSign`.
     pub fn key_cert_sign(&self) -> bool
         ensures { IsTrue result ↔ HasBit self.now.bits 5 }
     {
         self.has_bit(5)
     }
 
-    /// Whether the key is for signatures on revocation lists: `cRLSign`.
+    /// Whether the key may verify signatures on CRLs: `cRLSign`.
     pub fn crl_sign(&self) -> bool
         ensures { IsTrue result ↔ HasBit self.now.bits 6 }
     {
         self.has_bit(6)
     }
 
-    /// Whether the key is for enciphering alone while agreeing on keys: `encipherOnly`.
+    /// Whether the key may only encipher while performing key agreement: `encipherOnly`.
     pub fn encipher_only(&self) -> bool
         ensures { IsTrue result ↔ HasBit self.now.bits 7 }
     {
         self.has_bit(7)
     }
 
-    /// Whether the key is for deciphering alone while agreeing on keys: `decipherOnly`.
+    /// Whether the key may only decipher while performing key agreement: `decipherOnly`.
     pub fn decipher_only(&self) -> bool
         ensures { IsTrue result ↔ HasBit self.now.bits 8 }
     {
         self.has_bit(8)
     }
 
-    /// Whether the bit of a number, counted from the highest of the first octet, is 1.
+    /// Whether the bit at this index, counted from the highest bit of the first octet, is 1.
     fn has_bit(&self, number: usize) -> bool
         ensures { IsTrue result ↔ HasBit self.now.bits number }
     {
@@ -153,7 +153,7 @@ impl Structure for KeyUsage {
     ghost grammar = { key_usages };
 }
 
-/// Usages are equal exactly where their octets are.
+/// Key usages are equal exactly if their encodings are.
 impl PartialEq for KeyUsage {
     ghost use Rattle.der_core.specs.Equality.{same_octets};
     ghost use Rattle.der_core.specs.Facts.Equality.{same_octets_per};

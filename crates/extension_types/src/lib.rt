@@ -1,4 +1,4 @@
-//! What extensions of certificates hold (RFC 5280 4.2), as values.
+//! The values of certificate extensions (RFC 5280 4.2).
 #![tactic(auto)]
 
 mod authority_key_fields;

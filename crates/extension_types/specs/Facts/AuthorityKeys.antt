@@ -1,4 +1,4 @@
--- Identifiers of authorities' keys: unlike ones have unlike elements, each well formed.
+-- Authority key identifiers: different ones have different elements, each well formed.
 use Rattle.std.proofs.Common.{◌≡◌, ℕ, List, [], ◌++◌, Option, Some, None, refl, ap, subst, ◌∙◌, arith}
 use Rattle.std.specs.Prelude.{option_to_list}
 use Rattle.der_core.specs.DerElement.{DerElement}

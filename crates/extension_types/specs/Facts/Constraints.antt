@@ -1,4 +1,4 @@
--- Basic constraints: unlike ones have unlike elements, each well formed and in bounds.
+-- Basic constraints: different ones have different elements, each well formed and within limits.
 use Rattle.std.proofs.Common.{◌≡◌, ◌≢◌, ◌⊎◌, inl, inr, ℕ, zero, suc, List, [], ◌∷◌, ◌++◌, Option, Some, None, refl, ap, sym, subst, ◌∙◌, arith}
 use Rattle.std.specs.Prelude.{Bool, true, false, not, ◌==◌, nat_lt, if◌then◌else◌}
 use Rattle.std.proofs.lemmas.Bool.{cases_eq, ne_eqb}
@@ -37,7 +37,7 @@ default_field [] b is = tt
 default_field (kid ∷ []) b is = ap tag_of is.1
 default_field (kid ∷ more ∷ kids) b is = absurd is
 
--- a BOOLEAN is one flag
+-- a BOOLEAN encodes one flag
 pub boolean_once : (element : DerElement) (b c : Bool) → IsBoolean element b → IsBoolean element c → b ≡ c
 boolean_once element b c p q =
     let octets : p.0 ≡ q.0 = cc (p.1, q.1) in
@@ -144,9 +144,9 @@ given_der (Some b) (Some n) = record { formed = formed_of (Some b) (Some n); nes
 pub constraints_der : (b : BasicConstraints) → IsDer (basic_constraints b)
 constraints_der b = given_der b.ca b.pathlen
 
--- ---- other spellings
+-- ---- other encodings
 
--- a BOOLEAN is the one that is written, or stands in another octet than FF
+-- a BOOLEAN is the one that is written, or another octet than FF
 pub boolean_stands : (kid : DerElement) (b : Bool) (is : IsBoolean kid b) → (kid ≡ boolean true) × (b ≡ true) ⊎ (is.0 ≢ 0xFF)
 boolean_stands kid b is =
     elim (cases_eq is.0 0xFF) [
@@ -154,7 +154,7 @@ boolean_stands kid b is =
       | inr other ↦ inr other
     ]
 
--- a flag in an octet is FALSE for 00 alone
+-- a flag in an octet is FALSE only for 00
 octet_spelled : (element : DerElement) (octet : ℕ) (b : BasicConstraints) (c : Bool) → b.ca ≡ Some c → c ≡ not (octet == 0) → octet ≢ 0xFF → element ≡ sequence (Primitive 0x01 (octet ∷ []) ∷ optional_integer b.pathlen)
     → (element ≡ basic_constraints b) ⊎ HasOtherTrue element b
 octet_spelled element zero b c given flagged other is =
@@ -180,6 +180,6 @@ flag_spelled element b (Some c) flag given is (kid, one, flagged) =
       | inr other ↦ octet_spelled element flagged.0 b c given flagged.2 other (are ∙ ap (λ (k : DerElement). sequence (k ∷ optional_integer b.pathlen)) flagged.1)
     ]
 
--- constraints are spelled as they are written, or by another TRUE
+-- constraints are encoded as they are written, or by another TRUE
 pub constraints_spelled : (element : DerElement) (b : BasicConstraints) → IsBasicConstraints element b → (element ≡ basic_constraints b) ⊎ HasOtherTrue element b
 constraints_spelled element b is = flag_spelled element b b.ca is.flag refl is.is is.flagged

@@ -1,4 +1,4 @@
--- The tag of the issuer's names is a fact for one reason.
+-- That the issuer's names have their tag has at most one proof.
 use Rattle.std.specs.Prelude.{Option, Some, None}
 use Rattle.std.specs.Coded.{Unit-prop, Coded-set, coded_ℕ}
 use Rattle.der_core.specs.DerElement.{DerElement, tag_of}

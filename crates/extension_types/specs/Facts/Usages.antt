@@ -1,4 +1,4 @@
--- Usages of keys: unlike ones have unlike elements, each well formed.
+-- Key usages: different ones have different elements, each well formed.
 use Rattle.std.proofs.Common.{◌≡◌, List, [], refl, ap, arith}
 use Rattle.der_core.specs.Structure.{IsGrammar}
 use Rattle.der_core.specs.Facts.Grammars.{printed, list_once, each_formed}
