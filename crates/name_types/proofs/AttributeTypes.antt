@@ -1,4 +1,4 @@
--- An attribute type and its identifier give each other.
+-- An attribute type and its OID determine each other.
 use Rattle.std.proofs.Common.{◌≡◌, ◌↔◌, IsTrue, ℕ, ◌<◌, List, [], ◌∷◌, get_or, refl, sym, ap, ◌∙◌, lit<, arith, Some}
 use Rattle.asn1_types.specs.Subidentifier.{subidentifier}
 use Rattle.asn1_types.specs.ObjectIdentifier.{IsArcs, IsIdentifier, contents_of}
@@ -8,7 +8,7 @@ use Rattle.name_types.specs.declared.name_attr.NameAttr.{NameAttr}
 use Rattle.name_types.specs.declared.name_attr.NameAttr.TheVariants.{CommonName, Surname, SerialNumber, CountryName, LocalityName, StateOrProvinceName, StreetName, OrganizationName, OrganizationalUnitName, GivenName}
 use Rattle.name_types.specs.NameAttr.{attribute_arc, attribute_arcs, attribute_type, attribute_types}
 
--- the contents octets of the identifiers
+-- the contents octets of the OIDs
 pub contents_of-type : (attr : NameAttr) → 0x55 ∷ 0x04 ∷ attribute_arc attr ∷ [] ≡ contents_of (attribute_arcs attr)
 unfolding subidentifier
 contents_of-type CommonName = refl
@@ -34,13 +34,13 @@ attribute_arc-below OrganizationName = lit< tt
 attribute_arc-below OrganizationalUnitName = lit< tt
 attribute_arc-below GivenName = lit< tt
 
--- they are arcs of an identifier
+-- they are the arcs of an OID
 pub IsArcs-type : (attr : NameAttr) → IsArcs (attribute_arcs attr)
 IsArcs-type attr =
     let below = attribute_arc-below attr in
     (record { first_low = omega arith; second_low = λ _. omega arith; bounded = omega arith }, (omega arith, (omega arith, tt)))
 
--- the contents octets of an identifier say its arcs
+-- the contents octets of an OID determine its arcs
 pub arcs_from_contents : (contents arcs : List ℕ) (identifier : IsIdentifier contents) → IsArcs arcs → contents ≡ contents_of arcs → identifier.arcs ≡ arcs
 arcs_from_contents contents arcs identifier are spelled =
     contents_once identifier.arcs arcs identifier.are_arcs are (sym identifier.spelled ∙ spelled)
@@ -50,7 +50,7 @@ pub type_by_contents : (attr : NameAttr) (contents : List ℕ) (identifier : IsI
 type_by_contents attr contents identifier =
     (λ same. arcs_from_contents contents (attribute_arcs attr) identifier (IsArcs-type attr) same, λ same. identifier.spelled ∙ ap contents_of same)
 
--- where each stands among them
+-- the index of each among them
 abbrev pub place : NameAttr → ℕ
 place CommonName = 0
 place Surname = 1
@@ -87,7 +87,7 @@ get_or-place OrganizationName d = refl
 get_or-place OrganizationalUnitName d = refl
 get_or-place GivenName d = refl
 
--- the arcs of a type are those of no other
+-- no other type has the arcs of a type
 pub attribute_type-arcs : (attr : NameAttr) → attribute_type (attribute_arcs attr) ≡ Some attr
 attribute_type-arcs CommonName = refl
 attribute_type-arcs Surname = refl
@@ -100,14 +100,14 @@ attribute_type-arcs OrganizationName = refl
 attribute_type-arcs OrganizationalUnitName = refl
 attribute_type-arcs GivenName = refl
 
--- no two types have one identifier
+-- no two types have the same OID
 pub types_by_contents : (a b : NameAttr) → contents_of (attribute_arcs a) ≡ contents_of (attribute_arcs b) → a ≡ b
 types_by_contents a b e =
     let arcs = contents_once (attribute_arcs a) (attribute_arcs b) (IsArcs-type a) (IsArcs-type b) e in
     let n = sym (attribute_type-arcs a) ∙ ap attribute_type arcs ∙ attribute_type-arcs b in
     cc
 
--- the table of identifiers has each of them
+-- the table of OIDs has each of them
 pub is_known-type : (attr : NameAttr) → IsTrue (is_known (contents_of (attribute_arcs attr)))
 unfolding subidentifier
 is_known-type CommonName = refl

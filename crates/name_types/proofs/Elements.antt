@@ -21,7 +21,7 @@ pub primitive_at : (whole : List ℕ) (tag : ℕ) (content : List ℕ) (element 
 primitive_at whole tag content (Primitive t c) is bit = ap (λ s. Primitive s c) (sym is.2) ∙ ap (Primitive tag) (sym is.3)
 primitive_at whole tag content (Constructed t kids) is bit = absurd (omega (arith, is.0.formed.1, ap form_bit is.2))
 
--- a primitive element of a string's tag is that string
+-- a primitive element with the tag of a string is that string
 pub string_at : (tag : ℕ) (content : List ℕ) → IsStringTag tag → (string : DirectoryString) × (Primitive tag content ≡ directory_string string)
 string_at tag content (inl (inl (inl e))) = (strings.Utf8String content, ap (λ t. Primitive t content) e)
 string_at tag content (inl (inl (inr e))) = (strings.PrintableString content, ap (λ t. Primitive t content) e)

@@ -1,4 +1,4 @@
--- Texts with an octet between.
+-- Texts joined by an octet.
 use Rattle.std.proofs.Common.{◌≡◌, ℕ, List, [], ◌∷◌, ◌++◌, map, sym, ap, ◌∙◌, append-nil, length, take, take_all, ◌≤◌}
 use Rattle.std.specs.Prelude.{flat_map}
 use Rattle.std.specs.List.{join_with_byte}

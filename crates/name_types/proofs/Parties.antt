@@ -29,7 +29,7 @@ same_octets a b = bytes_eq (encoding (directory_string a)) (encoding (directory_
 assigners_same : (a b : Option DirectoryString) → IsTrue (option_eq same_octets a b) ↔ (a ≡ b)
 assigners_same = options_same same_octets (octets_same directory_string (λ a b e. directory_strings.once (directory_string a) a b refl e) directory_strings.formed)
 
--- the assigners are the same, so the names are where the parties are
+-- the assigners are the same, so the names are if the parties are
 pub by_party : (a b : EdiPartyName) (first t : Bool) → first ≡ option_eq same_octets a.name_assigner b.name_assigner → IsTrue first → (IsTrue t ↔ (a.party_name ≡ b.party_name)) → IsTrue t ↔ (a ≡ b)
 by_party a b first t test w party = (
   λ v. same_party a.name_assigner b.name_assigner a.party_name b.party_name ((assigners_same a.name_assigner b.name_assigner).0 (sym test ∙ w)) (party.0 v),

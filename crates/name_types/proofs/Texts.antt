@@ -1,4 +1,4 @@
--- What is written of the texts of strings.
+-- The texts of strings as they are written.
 use Rattle.name_types.specs.Text.{utf8_text, ascii_text, bmp_text, question_mark}
 use Rattle.std.proofs.Common.{◌≡◌, ℕ, List, [], ◌∷◌, length, ◌<◌, arith, true, false, refl}
 use Rattle.std.specs.Str.{IsUtf8, is_utf8}
@@ -14,7 +14,7 @@ utf8_marked octets other = go (is_utf8 octets) refl
     go true e = absurd (other (IsUtf8-from_is_utf8 octets e))
     go false e = rw e refl
 
--- fewer than two octets and more than none
+-- one octet: fewer than two and more than none
 pub one_octet_left : (octets : List ℕ) → length octets < 2 → (length octets ≡ 0 → ⊥) → bmp_text octets ≡ question_mark ∷ []
 one_octet_left [] few some = absurd (some refl)
 one_octet_left (a ∷ []) few some = refl

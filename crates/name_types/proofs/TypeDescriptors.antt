@@ -1,4 +1,4 @@
--- The descriptors of attribute types, by the contents octets of their identifiers.
+-- The descriptors of attribute types, by the contents octets of their OIDs.
 use Rattle.std.proofs.Common.{◌≡◌, ◌↔◌, ℕ, Bool, true, List, [], ◌∷◌, rules, refl, sym, ap, ◌∙◌, None}
 use Rattle.std.specs.Prelude.{find, bytes_eq, if◌then◌else◌, codes}
 use Rattle.std.proofs.lemmas.Bool.{false_from_ne_true}
@@ -17,7 +17,7 @@ descriptor_of_type attr contents identifier named =
     let arcs = arcs_from_contents contents (attribute_arcs attr) identifier (IsArcs-type attr) (sym named) in
     ap type_descriptor arcs ∙ ap (λ found. descriptor_or_dotted found (attribute_arcs attr)) (attribute_type-arcs attr)
 
--- what passes nowhere is found nowhere
+-- nothing is found if nothing passes the test
 find_none : {X : Type 0} (test : X → Bool) (xs : List X) → ((x : X) → test x ≡ true → ⊥) → find test xs ≡ None
 find_none test [] fails = refl
 find_none test (x ∷ xs) fails = rw (false_from_ne_true (test x) (fails x)) (find_none test xs fails)

@@ -1,6 +1,6 @@
 -- DirectoryString ::= CHOICE { teletexString TeletexString, printableString PrintableString,
 -- universalString UniversalString, utf8String UTF8String, bmpString BMPString } (RFC 5280 4.1.2.4),
--- without universalString. Empty strings are read, too.
+-- without universalString. Empty strings are accepted, too.
 use Rattle.std.specs.Prelude.{◌≡◌, ◌⊎◌, ℕ, List}
 use Rattle.der_core.specs.DerElement.{DerElement, Primitive}
 use Rattle.name_types.specs.declared.directory_string.DirectoryString.{DirectoryString}

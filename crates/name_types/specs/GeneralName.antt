@@ -1,4 +1,4 @@
--- GeneralName ::= CHOICE of nine forms, each under a tag of its own (RFC 5280 4.2.1.6), without
+-- GeneralName ::= CHOICE of nine forms, each with a tag of its own (RFC 5280 4.2.1.6), without
 -- x400Address [3]
 use Rattle.std.specs.Prelude.{◌≡◌, List, [], ◌∷◌, ◌++◌, Option, Some, None}
 use Rattle.der_core.specs.DerElement.{DerElement, Primitive, Constructed, row}
@@ -29,7 +29,7 @@ abbrev pub edi_party_name_of : Option DerElement → DerElement → DerElement
 edi_party_name_of assigner party =
     Constructed 0xA5 (row (optional_explicit 0xA0 assigner ++ explicit 0xA1 party ∷ []))
 
--- the element of a string that may be left out
+-- the element of a string that may be absent
 abbrev pub string_option : Option DirectoryString → Option DerElement
 string_option None = None
 string_option (Some string) = Some (directory_string string)
@@ -39,8 +39,8 @@ abbrev pub edi_party_name : EdiPartyName → DerElement
 edi_party_name name =
     edi_party_name_of (string_option name.name_assigner) (directory_string name.party_name)
 
--- The tags are [0] to [8] (RFC 5280 A.2). Those of a text, an address and an identifier stand in
--- place of their own, that of a Name, which is a choice, around its own.
+-- The tags are [0] to [8] (RFC 5280 A.2). Those of a text, an address and an OID are implicit; that
+-- of a Name, which is a choice, is explicit.
 abbrev pub general_name : RawGeneralName → DerElement
 general_name (forms.OtherName other) = other_name other
 general_name (forms.Rfc822Name text) = Primitive 0x81 (ia5_contents text)
@@ -51,10 +51,10 @@ general_name (forms.Uri text) = Primitive 0x86 (ia5_contents text)
 general_name (forms.IpAddress address) = Primitive 0x87 address
 general_name (forms.RegisteredId id) = Primitive 0x88 (identifier_contents id)
 
--- GeneralNames ::= SEQUENCE SIZE (1..MAX) OF GeneralName; an empty one is read, too
+-- GeneralNames ::= SEQUENCE SIZE (1..MAX) OF GeneralName; an empty one is accepted, too
 abbrev pub general_names : List RawGeneralName → DerElement
 general_names = list_element 0x30 general_name
 
--- An element spells general names by being the one that is written for them.
+-- An element encodes general names if it is the one that is written for them.
 abbrev pub AreGeneralNames : DerElement → List RawGeneralName → Type 0
 AreGeneralNames element names = element ≡ general_names names

@@ -13,8 +13,8 @@ abbrev pub attribute_type_and_value : AttributeTypeAndValue → DerElement
 attribute_type_and_value attribute =
     sequence (object_identifier attribute.ty ∷ attribute_value attribute.value ∷ [])
 
--- RelativeDistinguishedName ::= SET SIZE (1..MAX) OF AttributeTypeAndValue; an empty one is read,
--- too
+-- RelativeDistinguishedName ::= SET SIZE (1..MAX) OF AttributeTypeAndValue; an empty one is
+-- accepted, too
 abbrev pub relative_distinguished_name : List AttributeTypeAndValue → DerElement
 relative_distinguished_name = list_element 0x31 attribute_type_and_value
 
@@ -22,10 +22,10 @@ relative_distinguished_name = list_element 0x31 attribute_type_and_value
 abbrev pub name : List (List AttributeTypeAndValue) → DerElement
 name = list_element 0x30 relative_distinguished_name
 
--- Elements spell attributes, sets and names by being those that are written for them.
+-- Elements encode attributes, sets and names if they are those that are written for them.
 abbrev pub IsRelativeDistinguishedName : DerElement → List AttributeTypeAndValue → Type 0
 IsRelativeDistinguishedName element members = element ≡ relative_distinguished_name members
 
--- the element is a name of these sets
+-- the element is a name with these sets
 abbrev pub IsName : DerElement → List (List AttributeTypeAndValue) → Type 0
 IsName element sets = element ≡ name sets

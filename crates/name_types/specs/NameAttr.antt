@@ -1,10 +1,10 @@
--- The attribute types that print by a descriptor, most of them of RFC 4514 3; the rest are a
+-- The attribute types that print as a descriptor, most of them of RFC 4514 3; the rest are a
 -- profile.
 use Rattle.name_types.specs.declared.name_attr.NameAttr.{NameAttr}
 use Rattle.name_types.specs.declared.name_attr.NameAttr.TheVariants as attributes
 use Rattle.std.specs.Prelude.{ℕ, Option, List, [], ◌∷◌, find, bytes_eq, codes}
 
--- the last arc of the identifier, under id-at of X.520 (RFC 5280 A.1; RFC 4519 2.34 for the street)
+-- the last arc of the OID, under id-at of X.520 (RFC 5280 A.1; RFC 4519 2.34 for the street)
 abbrev pub attribute_arc : NameAttr → ℕ
 attribute_arc attributes.CommonName = 3
 attribute_arc attributes.Surname = 4
@@ -17,7 +17,7 @@ attribute_arc attributes.OrganizationName = 10
 attribute_arc attributes.OrganizationalUnitName = 11
 attribute_arc attributes.GivenName = 42
 
--- the identifier
+-- the OID
 abbrev pub attribute_arcs : NameAttr → List ℕ
 attribute_arcs attr = 2 ∷ 5 ∷ 4 ∷ attribute_arc attr ∷ []
 

@@ -36,18 +36,18 @@ abbrev pub attribute_text : AttributeTypeAndValue → List ℕ
 attribute_text attribute =
     type_descriptor (arcs_of attribute.ty) ++ codes "=" ++ value_text attribute.value
 
--- what stands between sets
+-- the separator between sets
 abbrev pub comma : ℕ
 comma = 44
 
--- what stands between the members of a set
+-- the separator between the members of a set
 abbrev pub plus : ℕ
 plus = 43
 
--- the members with `+` between
+-- the members joined by `+`
 abbrev pub set_text : List AttributeTypeAndValue → List ℕ
 set_text members = join_with_byte plus (map attribute_text members)
 
--- the sets with `,` between
+-- the sets joined by `,`
 abbrev pub name_text : List (List AttributeTypeAndValue) → List ℕ
 name_text sets = join_with_byte comma (map set_text sets)

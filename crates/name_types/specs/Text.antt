@@ -5,7 +5,7 @@ use Rattle.std.specs.Prelude.{ℕ, ◌+◌, ◌*◌, nat_le, nat_lt, Bool, ◌&&
 use Rattle.std.specs.Char.{encode_utf8}
 use Rattle.std.specs.Str.{is_utf8}
 
--- what is printed for what is no character
+-- the replacement for what isn't a character
 abbrev pub question_mark : ℕ
 question_mark = 63
 
@@ -21,7 +21,7 @@ ascii_text octets = map ascii_or_mark octets
 abbrev pub utf8_text : List ℕ → List ℕ
 utf8_text octets = if is_utf8 octets then octets else ascii_text octets
 
--- a half of a character that is written as two units (Unicode 3.8)
+-- one half of a surrogate pair (Unicode 3.8)
 abbrev pub is_surrogate : ℕ → Bool
 is_surrogate unit = nat_le 0xD800 unit && nat_lt unit 0xE000
 
@@ -29,8 +29,8 @@ is_surrogate unit = nat_le 0xD800 unit && nat_lt unit 0xE000
 abbrev pub unit_character : ℕ → ℕ
 unit_character unit = if is_surrogate unit then question_mark else unit
 
--- A BMPString has units of two octets, the higher first (X.690 8.23.8); an octet that is left is
--- printed as `?`.
+-- A BMPString has units of two octets, the most significant first (X.690 8.23.8); an odd last octet
+-- is printed as `?`.
 abbrev pub bmp_text : List ℕ → List ℕ
 bmp_text [] = []
 bmp_text (last ∷ []) = question_mark ∷ []

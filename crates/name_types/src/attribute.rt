@@ -57,7 +57,7 @@ impl Structure for AttributeTypeAndValue {
     ghost grammar = { attributes };
 }
 
-/// Attributes are equal exactly where their octets are.
+/// Attributes are equal exactly if their encodings are.
 impl PartialEq for AttributeTypeAndValue {
     ghost use Rattle.der_core.specs.Equality.{same_octets};
     ghost use Rattle.der_core.specs.Facts.Equality.{same_octets_per};

@@ -1,4 +1,4 @@
-//! Values of the attributes that names are made of.
+//! The values of attributes in names.
 
 ghost use Rattle.std.specs.Prelude.{◌≡◌, ◌↔◌, IsTrue};
 
@@ -8,15 +8,15 @@ use asn1_types::Ia5String;
 use der_core::{DerError, Elem, Structure, Tree};
 use std::alloc::{AllocError, Global};
 
-/// The value of an attribute of a name (RFC 5280 4.1.2.4): a string of a type that is known here,
-/// or any other element.
+/// The value of an attribute in a name (RFC 5280 4.1.2.4): a string of a known type, or any other
+/// element.
 #[derive(Debug, Drop)]
 pub enum AttributeValue {
     /// A DirectoryString (RFC 5280 4.1.2.4).
     DirectoryString(DirectoryString),
-    /// An IA5String, as an e-mail address or a domain component has it (RFC 5280 4.1.2.4, 4.1.2.6).
+    /// An IA5String, as in an email address or a domain component (RFC 5280 4.1.2.4, 4.1.2.6).
     Ia5String(Ia5String),
-    /// Any other element, as an IA5String with an octet past 127.
+    /// Any other element, such as an IA5String with an octet above 127.
     Other(OtherValue),
 }
 
@@ -68,7 +68,7 @@ impl Structure for AttributeValue {
     ghost grammar = { attribute_values };
 }
 
-/// Values are equal exactly where their octets are.
+/// Values are equal exactly if their encodings are.
 impl PartialEq for AttributeValue {
     ghost use Rattle.der_core.specs.Equality.{same_octets};
     ghost use Rattle.der_core.specs.Facts.Equality.{same_octets_per};

@@ -7,8 +7,8 @@ use der_core::tag::{BMP_STRING, PRINTABLE_STRING, TELETEX_STRING, UTF8_STRING};
 use der_core::{DerError, Elem, Octets, Structure, Tree, leaf};
 use std::alloc::{AllocError, Global};
 
-/// A string of a name by its type, with its contents octets as they are (RFC 5280 4.1.2.4). A
-/// UniversalString isn't among them: it is kept as another value.
+/// A string in a name by its type, with its contents octets as they are (RFC 5280 4.1.2.4). A
+/// UniversalString isn't among them: it is an `OtherValue`.
 #[derive(Debug, Drop)]
 pub enum DirectoryString {
     /// A PrintableString (X.680 41).
@@ -107,14 +107,14 @@ impl Structure for DirectoryString {
     ghost grammar = { directory_strings };
 }
 
-/// Whether the tag is that of a string of names.
+/// Whether the tag is that of a string in names.
 fn is_string_tag(tag: u8) -> bool
     ensures { IsTrue result ↔ IsStringTag tag }
 {
     tag == UTF8_STRING || tag == PRINTABLE_STRING || tag == TELETEX_STRING || tag == BMP_STRING
 }
 
-/// Strings are equal exactly where their octets are.
+/// Strings are equal exactly if their encodings are.
 impl PartialEq for DirectoryString {
     ghost use Rattle.der_core.specs.Equality.{same_octets};
     ghost use Rattle.der_core.specs.Facts.Equality.{same_octets_per};

@@ -15,7 +15,7 @@ const NAME_ASSIGNER: u8 = 0xA0;
 
 const PARTY_NAME: u8 = 0xA1;
 
-/// The name of a party, and who assigned it (RFC 5280 4.2.1.6). As an element it is the alternative
+/// The name of a party, and who assigned it (RFC 5280 4.2.1.6). Its element is the alternative
 /// \[5\] of GeneralName.
 #[derive(Debug, Drop)]
 pub struct EdiPartyName {
@@ -23,7 +23,7 @@ pub struct EdiPartyName {
     pub party_name: DirectoryString,
 }
 
-/// The strings of an element, each any element.
+/// The strings in the element, each as any element.
 fn fields_of<'a>(elem: Elem<'a>) -> Option<(Option<Elem<'a>>, Elem<'a>)>
     ensures { MatchOption result
         ((assigner : Option DerElement) (party : DerElement)
@@ -93,7 +93,7 @@ impl Structure for EdiPartyName {
     ghost grammar = { edi_party_names };
 }
 
-/// Names are equal exactly where their octets are.
+/// Names are equal exactly if their encodings are.
 impl PartialEq for EdiPartyName {
     ghost use Rattle.der_core.specs.Equality.{same_octets};
     ghost use Rattle.der_core.specs.Facts.Equality.{same_octets_per};

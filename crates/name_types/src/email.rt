@@ -9,14 +9,14 @@ use asn1_types::oids::EMAIL_ADDRESS;
 use der_core::is_same;
 use std::alloc::{AllocError, Global};
 
-/// The identifier of emailAddress.
+/// The OID of emailAddress.
 pub fn email_address_oid(alloc: Global) -> Result<ObjectIdentifier, AllocError>
     ensures { IfOk result (λ identifier. arcs_of identifier ≡ email_address) }
 {
     ObjectIdentifier::from_known(alloc, EMAIL_ADDRESS)
 }
 
-/// Whether the identifier is emailAddress.
+/// Whether the OID is emailAddress.
 pub fn is_email_address(ty: &ObjectIdentifier) -> bool
     ensures { IsTrue result ↔ (arcs_of ty.now ≡ email_address) }
 {

@@ -27,12 +27,12 @@ const IP_ADDRESS: u8 = 0x87;
 
 const REGISTERED_ID: u8 = 0x88;
 
-/// A name in one of eight of the nine forms (RFC 5280 4.2.1.6), all but the x400Address. What a
-/// text or an address means is not asked of what is read.
+/// A name in one of eight of the nine forms (RFC 5280 4.2.1.6), all but the x400Address. A reader
+/// doesn't check the syntax of texts and addresses.
 #[derive(Debug, Drop)]
 pub enum RawGeneralName {
     OtherName(OtherName),
-    /// A mailbox (RFC 5280 4.2.1.6, RFC 2821 4.1.2).
+    /// An email address (RFC 5280 4.2.1.6, RFC 2821 4.1.2).
     Rfc822Name(Ia5String),
     DnsName(Ia5String),
     DirectoryName(Name),
@@ -129,7 +129,7 @@ impl Structure for RawGeneralName {
     ghost grammar = { general_name_forms };
 }
 
-/// Whether the element is a name under its tag.
+/// Whether the element is a Name under its explicit tag.
 fn has_directory_name(elem: Elem<'_>) -> bool
     ensures fits { IsTrue result
         → (sets : List (List AttributeTypeAndValue))
@@ -143,7 +143,7 @@ fn has_directory_name(elem: Elem<'_>) -> bool
     }
 }
 
-/// The name under its tag.
+/// The Name under its explicit tag.
 fn read_directory_name(alloc: Global, elem: Elem<'_>) -> Result<Name, DerError>
     ensures { MatchResult result (λ sets. elem.entry.is.0 ≡ explicit 0xA4 (name sets))
         (RefusesShape (λ (sets : List (List AttributeTypeAndValue)). elem.entry.is.0 ≡ explicit 0xA4
@@ -155,7 +155,7 @@ fn read_directory_name(alloc: Global, elem: Elem<'_>) -> Result<Name, DerError>
     }
 }
 
-/// Whether the names have the same form, and in it the same value.
+/// Whether the names have the same form and the same value.
 fn is_same(one: &RawGeneralName, other: &RawGeneralName) -> bool
     ensures { IsTrue result ↔ (one.now ≡ other.now) }
 {
@@ -172,7 +172,7 @@ fn is_same(one: &RawGeneralName, other: &RawGeneralName) -> bool
     }
 }
 
-/// Names are equal exactly where their octets are.
+/// Names are equal exactly if their encodings are.
 impl PartialEq for RawGeneralName {
     ghost use Rattle.der_core.specs.Equality.{same_octets};
     ghost use Rattle.der_core.specs.Facts.Equality.{same_octets_per};

@@ -1,4 +1,4 @@
-//! General names in a row (RFC 5280 4.2.1.6).
+//! Lists of general names (RFC 5280 4.2.1.6).
 
 ghost use Rattle.std.specs.Prelude.{◌≡◌, ◌↔◌, ◌++◌, ◌∷◌, [], length, IfOk, OnOk, OnErr, IsTrue};
 ghost use Rattle.std.specs.Slice.Iter.{iter_rest};
@@ -13,7 +13,7 @@ use std::alloc::{AllocError, Global};
 use std::marker::Model;
 use std::slice::Iter;
 
-/// General names in order (RFC 5280 4.2.1.6), which may be none. Contracts see the list of them.
+/// General names in order (RFC 5280 4.2.1.6), possibly none. Contracts see the list of them.
 #[derive(Debug, Drop)]
 pub struct RawGeneralNames {
     names: ListOf<RawGeneralName>,
@@ -32,7 +32,7 @@ impl Model for RawGeneralNames {
 }
 
 impl RawGeneralNames {
-    /// No names.
+    /// An empty list.
     pub fn new(alloc: Global) -> RawGeneralNames
         ensures { result ≡ [] }
     {
@@ -79,7 +79,7 @@ impl RawGeneralNames {
         self.names.is_empty()
     }
 
-    /// Where the list takes its memory.
+    /// The allocator of the list.
     pub fn allocator(&self) -> Global {
         self.names.allocator()
     }
@@ -116,7 +116,7 @@ impl Structure for RawGeneralNames {
     ghost grammar = { general_name_lists };
 }
 
-/// Lists of names are equal exactly where their octets are.
+/// Lists of names are equal exactly if their encodings are.
 impl PartialEq for RawGeneralNames {
     ghost use Rattle.der_core.specs.Equality.{same_octets};
     ghost use Rattle.der_core.specs.Facts.Equality.{same_octets_per};

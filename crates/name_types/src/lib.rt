@@ -1,5 +1,5 @@
-//! Names as the Directory has them (X.501, RFC 5280 4.1.2.4), and general names (RFC 5280 4.2.1.6),
-//! as values, read from octets or trees and written as trees.
+//! Names of the Directory (X.501, RFC 5280 4.1.2.4) and general names (RFC 5280 4.2.1.6), as
+//! values, read from octets or trees and written as trees.
 #![tactic(auto)]
 
 mod attribute;

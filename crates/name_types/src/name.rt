@@ -33,7 +33,7 @@ impl Model for Name {
 }
 
 impl Name {
-    /// No sets.
+    /// The empty name.
     pub fn new(alloc: Global) -> Name
         ensures { result ≡ [] }
     {
@@ -80,7 +80,7 @@ impl Name {
         self.sets.is_empty()
     }
 
-    /// Where the list takes its memory.
+    /// The allocator of the name.
     pub fn allocator(&self) -> Global {
         self.sets.allocator()
     }
@@ -117,7 +117,7 @@ impl Structure for Name {
     ghost grammar = { names };
 }
 
-/// Names are equal exactly where their octets are.
+/// Names are equal exactly if their encodings are.
 impl PartialEq for Name {
     ghost use Rattle.der_core.specs.Equality.{same_octets};
     ghost use Rattle.der_core.specs.Facts.Equality.{same_octets_per};

@@ -1,4 +1,4 @@
-//! Attribute types of names.
+//! Attribute types in names.
 
 ghost use Rattle.std.specs.Prelude.{◌≡◌, ◌↔◌, IsTrue, [], ◌∷◌, IfOk, IfSome, Some, Contains, length};
 ghost use Rattle.asn1_types.specs.ObjectIdentifier.{contents_of};
@@ -11,7 +11,7 @@ use asn1_types::{ObjectIdentifier, oids};
 use der_core::is_same;
 use std::alloc::{AllocError, Global};
 
-/// An attribute type that names are made of, under id-at of X.520 (RFC 5280 A.1).
+/// An attribute type of names, under id-at of X.520 (RFC 5280 A.1).
 #[derive(Clone, Copy, PartialEq, Eq, Debug)]
 pub enum NameAttr {
     CommonName,
@@ -41,7 +41,7 @@ impl NameAttr {
         NameAttr::GivenName,
     ];
 
-    /// The attribute type that an identifier names, by its contents octets.
+    /// The attribute type whose OID has these contents octets, `None` if there is none.
     pub fn from_contents(contents: &[u8]) -> Option<NameAttr>
         ensures named { (attr : NameAttr) → contents_of (attribute_arcs attr) ≡ contents.now
             → result ≡ Some attr }
@@ -55,28 +55,28 @@ impl NameAttr {
         None
     }
 
-    /// Whether the identifier is that of the attribute type.
+    /// Whether the OID is that of the attribute type.
     pub fn is_type(self, ty: &ObjectIdentifier) -> bool
         ensures { IsTrue result ↔ (arcs_of ty.now ≡ attribute_arcs self) }
     {
         is_same(ty.as_bytes(), self.oid_contents())
     }
 
-    /// The contents octets of the identifier.
+    /// The contents octets of the OID.
     pub fn oid_contents(self) -> &'static [u8]
         ensures { result.now ≡ contents_of (attribute_arcs self) }
     {
         self.row().0
     }
 
-    /// The descriptor that is printed for the type.
+    /// The descriptor that the type prints as.
     pub fn descriptor(self) -> &'static str
         ensures { result.now ≡ attribute_descriptor self }
     {
         self.row().1
     }
 
-    /// The contents octets of the identifier, and the descriptor.
+    /// The contents octets of the OID, and the descriptor.
     fn row(self) -> (&'static [u8], &'static str)
         ensures octets { result.0.now ≡ 0x55 ∷ 0x04 ∷ attribute_arc self ∷ [] }
         ensures descriptor { result.1.now ≡ attribute_descriptor self }
@@ -95,7 +95,7 @@ impl NameAttr {
         }
     }
 
-    /// The identifier.
+    /// The OID of the attribute type.
     pub fn to_oid(self, alloc: Global) -> Result<ObjectIdentifier, AllocError>
         ensures { IfOk result (λ identifier. arcs_of identifier ≡ attribute_arcs self) }
     {

@@ -49,7 +49,7 @@ impl fmt::Display for AttributeTypeAndValue {
     }
 }
 
-/// The descriptor of an attribute type, or its identifier's dotted text.
+/// The descriptor of an attribute type, or the dotted text of its OID.
 fn write_type<W: fmt::Write>(ty: &ObjectIdentifier, f: &mut fmt::Formatter<W>) -> fmt::Result
     ensures { WritesOnOk W.write_str_gives f.old result (type_descriptor (arcs_of ty.now)) f.new }
 {
@@ -78,7 +78,8 @@ impl fmt::Display for RelativeDistinguishedName {
     }
 }
 
-/// A name as people read it, nothing escaped: two names may print alike, so no rule rests on it.
+/// Prints the name for people, without escapes. Different names may print alike, so no rule depends
+/// on the text.
 impl fmt::Display for Name {
     ghost output = { λ sets. Some (name_text sets) };
 

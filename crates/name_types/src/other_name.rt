@@ -1,4 +1,4 @@
-//! Names of forms that are known by an identifier.
+//! Names of forms that an OID identifies.
 
 ghost use Rattle.std.specs.Prelude.{◌≡◌, ◌≢◌, ◌↔◌, IsTrue, MatchOption};
 ghost use Rattle.der_core.specs.DerElement.{DerElement};
@@ -12,15 +12,15 @@ pub(crate) const OTHER_NAME: u8 = 0xA0;
 
 const VALUE: u8 = 0xA0;
 
-/// A name of a form that its identifier tells, with any element as its value (RFC 5280 4.2.1.6). As
-/// an element it is the alternative \[0\] of GeneralName.
+/// A name of a form that an OID identifies, with any element as its value (RFC 5280 4.2.1.6). Its
+/// element is the alternative \[0\] of GeneralName.
 #[derive(Debug, Drop)]
 pub struct OtherName {
     pub type_id: ObjectIdentifier,
     pub value: Raw,
 }
 
-/// The identifier and the value in the element of another name.
+/// The OID and the value in the element of an OtherName.
 fn fields_of<'a>(elem: Elem<'a>) -> Option<(Elem<'a>, Elem<'a>)>
     ensures { MatchOption result
         ((type_id value : DerElement) → elem.entry.is.0 ≢ other_name_of type_id value)
@@ -72,7 +72,7 @@ impl Structure for OtherName {
     ghost grammar = { other_names };
 }
 
-/// Names are equal exactly where their octets are.
+/// Names are equal exactly if their encodings are.
 impl PartialEq for OtherName {
     ghost use Rattle.der_core.specs.Equality.{same_octets};
     ghost use Rattle.der_core.specs.Facts.Equality.{same_octets_per};

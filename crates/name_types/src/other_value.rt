@@ -1,4 +1,4 @@
-//! Values that are no string of a known type.
+//! Values that aren't a string of a known type.
 
 ghost use Rattle.name_types.specs.OtherValue.{IsOtherValue};
 ghost use Rattle.std.specs.Prelude.{◌≡◌, IfOk, ◌↔◌, IsTrue, MatchOption};
@@ -8,7 +8,7 @@ use asn1_types::Ia5String;
 use der_core::{Elem, Raw, Structure};
 use std::alloc::{AllocError, Global};
 
-/// An element that is neither a DirectoryString nor an IA5String, kept as it is.
+/// A raw element that is neither a DirectoryString nor an IA5String.
 #[derive(Debug, Drop)]
 pub struct OtherValue {
     element: Raw,
@@ -16,7 +16,7 @@ pub struct OtherValue {
 }
 
 impl OtherValue {
-    /// The element as a value, None where it is a DirectoryString or an IA5String (RFC 5280
+    /// The element as a value, `None` if it is a DirectoryString or an IA5String (RFC 5280
     /// 4.1.2.4).
     pub fn new(element: Raw) -> Option<OtherValue>
         ensures { MatchOption result
@@ -32,7 +32,7 @@ impl OtherValue {
         Some(OtherValue { element })
     }
 
-    /// The element that lies in octets, kept as it is.
+    /// A copy of the borrowed element.
     pub(crate) fn keep(alloc: Global, elem: Elem<'_>) -> Result<OtherValue, AllocError>
         requires { IsOtherValue elem.is.0 }
         ensures { IfOk result (λ value. value.element.element ≡ elem.entry.is.0) }
@@ -59,7 +59,7 @@ impl OtherValue {
     }
 }
 
-/// Values are equal exactly where their octets are.
+/// Values are equal exactly if their encodings are.
 impl PartialEq for OtherValue {
     ghost use Rattle.der_core.specs.Equality.{same_octets};
     ghost use Rattle.der_core.specs.Facts.Equality.{same_octets_per};

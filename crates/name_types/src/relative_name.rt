@@ -13,8 +13,8 @@ use std::alloc::{AllocError, Global};
 use std::marker::Model;
 use std::slice::Iter;
 
-/// A set of attributes, its members in the order that stands (RFC 5280 4.1.2.4). An empty one is
-/// read, too. Contracts see the list of the members.
+/// A set of attributes, its members in the order given (RFC 5280 4.1.2.4). An empty one is
+/// accepted, too. Contracts see the list of the members.
 #[derive(Debug, Drop)]
 pub struct RelativeDistinguishedName {
     members: ListOf<AttributeTypeAndValue>,
@@ -33,7 +33,7 @@ impl Model for RelativeDistinguishedName {
 }
 
 impl RelativeDistinguishedName {
-    /// No members.
+    /// An empty set.
     pub fn new(alloc: Global) -> RelativeDistinguishedName
         ensures { result ≡ [] }
     {
@@ -42,8 +42,8 @@ impl RelativeDistinguishedName {
         }
     }
 
-    /// Appends a member. Members are written in the order that stands: DER asks for that of their
-    /// encodings (X.690 11.6), which is the caller's to keep.
+    /// Appends a member. Members are written in the order given; DER requires that of their
+    /// encodings (X.690 11.6), which the caller must ensure.
     pub fn push(&mut self, item: AttributeTypeAndValue) -> Result<(), AllocError>
         ensures ok { OnOk result (self.new ≡ self.old ++ item ∷ []) }
         ensures err { OnErr result (self.new ≡ self.old) }
@@ -81,7 +81,7 @@ impl RelativeDistinguishedName {
         self.members.is_empty()
     }
 
-    /// Where the list takes its memory.
+    /// The allocator of the set.
     pub fn allocator(&self) -> Global {
         self.members.allocator()
     }
@@ -118,7 +118,7 @@ impl Structure for RelativeDistinguishedName {
     ghost grammar = { relative_distinguished_names };
 }
 
-/// Sets are equal exactly where their octets are.
+/// Sets are equal exactly if their encodings are.
 impl PartialEq for RelativeDistinguishedName {
     ghost use Rattle.der_core.specs.Equality.{same_octets};
     ghost use Rattle.der_core.specs.Facts.Equality.{same_octets_per};

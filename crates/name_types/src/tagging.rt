@@ -1,4 +1,4 @@
-//! Values under the tag of a context in place of their own (X.690 8.14.3).
+//! Values under implicit tags (X.690 8.14.3).
 
 ghost use Rattle.std.specs.Prelude.{◌≡◌, ◌≢◌, false, IsTrue, MatchResult};
 ghost use Rattle.der_core.specs.DerElement.{Primitive};
@@ -11,7 +11,7 @@ use asn1_types::{Ia5String, ObjectIdentifier};
 use der_core::{DerError, Elem, leaf_at};
 use std::alloc::Global;
 
-/// Whether the element is an IA5String under this tag in place of its own.
+/// Whether the element is an IA5String under this implicit tag.
 pub(crate) fn has_text(elem: Elem<'_>, tag: u8) -> bool
     ensures fits { IsTrue result
         → (text : Ia5String) × (elem.entry.is.0 ≡ Primitive tag (ia5_contents text)) }
@@ -24,7 +24,7 @@ pub(crate) fn has_text(elem: Elem<'_>, tag: u8) -> bool
     }
 }
 
-/// The IA5String under this tag in place of its own.
+/// The IA5String under this implicit tag.
 pub(crate) fn read_text(alloc: Global, elem: Elem<'_>, tag: u8) -> Result<Ia5String, DerError>
     ensures { MatchResult result
         (λ text. elem.entry.is.0 ≡ Primitive tag (ia5_contents text))
@@ -36,7 +36,7 @@ pub(crate) fn read_text(alloc: Global, elem: Elem<'_>, tag: u8) -> Result<Ia5Str
     }
 }
 
-/// Whether the element is an OBJECT IDENTIFIER under this tag in place of its own.
+/// Whether the element is an OBJECT IDENTIFIER under this implicit tag.
 pub(crate) fn has_identifier(elem: Elem<'_>, tag: u8) -> bool
     ensures fits { IsTrue result
         → (id : ObjectIdentifier) × (elem.entry.is.0 ≡ Primitive tag (identifier_contents id)) }
@@ -49,7 +49,7 @@ pub(crate) fn has_identifier(elem: Elem<'_>, tag: u8) -> bool
     }
 }
 
-/// The OBJECT IDENTIFIER under this tag in place of its own.
+/// The OBJECT IDENTIFIER under this implicit tag.
 pub(crate) fn read_identifier(
     alloc: Global,
     elem: Elem<'_>,

@@ -10,8 +10,9 @@ use std::alloc::{AllocError, Global};
 use std::{fmt, str};
 
 impl DirectoryString {
-    /// The text of the string, with `?` for an octet past 127 that isn't one of a UTF8String in
-    /// UTF-8, for a surrogate, and for a last octet of a BMPString that has no second.
+    /// The text of the string in UTF-8. `?` replaces octets above 127 in a PrintableString, a
+    /// TeletexString, or a UTF8String that isn't valid UTF-8; in a BMPString it replaces surrogates
+    /// and an odd last octet.
     pub fn to_utf8_lossy(&self, alloc: Global) -> Result<String, AllocError>
         ensures { IfOk result (λ text. string_bytes text ≡ text_of self.now) }
     {
@@ -64,7 +65,7 @@ fn write_bmp<W: fmt::Write>(octets: &[u8], f: &mut fmt::Formatter<W>) -> fmt::Re
     f.write_char('?')
 }
 
-/// The character of the first two octets, and the others.
+/// The character of the first two octets, and the octets after them.
 fn split_unit(octets: &[u8]) -> Option<(char, &[u8])>
     ensures { MatchOption result (length octets.now < 2)
         (λ x. (length octets.now ≡ length x.1.now + 2)

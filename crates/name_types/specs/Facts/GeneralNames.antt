@@ -1,4 +1,4 @@
--- General names: unlike values have unlike elements, each well formed.
+-- General names: different values have different elements, each well formed.
 use Rattle.std.proofs.Common.{◌≡◌, ℕ, List, [], Option, Some, None, refl, sym, ap, ◌∙◌, arith}
 use base.Stored.{Coded}
 use Rattle.der_core.specs.Facts.Codes.{stored, stored_inj}

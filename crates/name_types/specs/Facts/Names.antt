@@ -1,4 +1,4 @@
--- Names and their parts: unlike values have unlike elements, each well formed.
+-- Names and their parts: different values have different elements, each well formed.
 use Rattle.std.proofs.Common.{◌≡◌, ℕ, List, [], refl, sym, ap, subst, ◌∙◌, arith, inl, inr}
 use Rattle.std.specs.Prelude.{◌==◌, if◌then◌else◌}
 use Rattle.std.proofs.Props.{props}

@@ -4,6 +4,6 @@ use Rattle.name_types.specs.declared.name_attr.NameAttr.{NameAttr}
 use Rattle.name_types.specs.NameAttr.{attribute_arcs}
 use Rattle.name_types.proofs.name_attr.NameAttr.from_contents.Given as goal
 
--- no attribute type so far has the identifier
+-- no attribute type so far has the OID
 abbrev pub invariant-loop-attr : goal.invariant-loop-attr
 invariant-loop-attr l = (k : ℕ) (d : NameAttr) → k < l.attr-index → contents_of (attribute_arcs (get_or l.attr-items k d)) ≢ l.contents
