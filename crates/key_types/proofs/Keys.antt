@@ -1,4 +1,4 @@
--- A key of RSA and the bits that hold it.
+-- An RSA key and the bits that encode it.
 use Rattle.std.proofs.Common.{◌≡◌, ℕ, List, Result, Ok, Err, MatchResult, refl, ◌∙◌, ap, subst}
 use Rattle.der_core.specs.DerElement.{DerElement}
 use Rattle.der_core.specs.Elements.{bit_octets}

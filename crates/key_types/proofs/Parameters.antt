@@ -24,12 +24,12 @@ pub null_octets : encoding null ≡ 5 ∷ 0 ∷ []
 unfolding length_octets
 null_octets = refl
 
--- NULL is known by its octets
+-- NULL is recognised by its octets
 pub null_by_octets : (element : DerElement) → IsDer element → encoding element ≡ 5 ∷ 0 ∷ [] → element ≡ null
 null_by_octets element der same =
     (fronts element null [] [] der.formed null_is_well_formed der.short (omega arith) (ap (λ o. o ++ []) (same ∙ sym null_octets))).0
 
--- an element that spells an identifier is an OBJECT IDENTIFIER
+-- an element that encodes an OID is an OBJECT IDENTIFIER
 pub oid_fits : (element : DerElement) (value : ObjectIdentifier) → element ≡ object_identifier value → IsOid element
 oid_fits element value is = subst IsOid (sym is) (refl, value.formed)
 
@@ -41,7 +41,7 @@ pub decided : (b : Bool) → (b ≡ false → ⊥) → IsTrue b
 decided true none = refl
 decided false none = absurd (none refl)
 
--- an algorithm is for keys of a kind where the fields of its element say so
+-- an algorithm is for keys of a kind if the fields of its element say so
 pub of_fields : (element oid : DerElement) (parameters : Option DerElement) (contents : List ℕ) (a : AlgorithmIdentifier) (kind : KeyKind)
     → element ≡ algorithm_of oid parameters → oid ≡ Primitive 0x06 contents → element ≡ algorithm_identifier a → IsAlgorithmWith kind contents parameters → IsAlgorithmOf kind a
 of_fields element oid parameters contents a kind fields leaf is with =

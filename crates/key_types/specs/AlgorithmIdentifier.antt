@@ -17,10 +17,10 @@ algorithm_of oid parameters = sequence (oid ∷ option_to_list parameters)
 abbrev pub algorithm_identifier : AlgorithmIdentifier → DerElement
 algorithm_identifier a = algorithm_of (object_identifier a.oid) (kept_option a.parameters)
 
--- the identifier of an algorithm
+-- the OID of an algorithm
 abbrev pub oid_of : AlgorithmIdentifier → ObjectIdentifier
 oid_of a = a.oid
 
--- the parameters of an algorithm, as they are kept
+-- the parameters of an algorithm, as an owned element
 abbrev pub parameters_of : AlgorithmIdentifier → Option KeptElement
 parameters_of a = a.parameters

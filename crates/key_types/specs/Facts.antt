@@ -1,4 +1,5 @@
--- Lemmas that facts of values rest on. Nothing in this folder needs reading: no public clause cites it.
+-- Lemmas that facts of values rest on. Nothing in this folder needs reading: no public clause cites
+-- it.
 pub mod Algorithms
 pub mod Kinds
 pub mod Keys

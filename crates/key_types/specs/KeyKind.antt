@@ -1,4 +1,4 @@
--- The kinds of public keys, by the identifiers of their algorithms.
+-- The kinds of public keys, by the OIDs of their algorithms.
 use Rattle.std.specs.Prelude.{◌≡◌, ℕ, List, Option, Some, None, ⊤, Bool, IsTrue, ◌||◌, bytes_eq}
 use Rattle.der_core.specs.DerElement.{DerElement, Primitive, Constructed}
 use Rattle.asn1_types.specs.ObjectIdentifier.{IsIdentifier}
@@ -10,8 +10,8 @@ use Rattle.asn1_types.specs.declared.oids.TheConstants.{RSA_ENCRYPTION, EC_PUBLI
 use Rattle.key_types.specs.declared.key_kind.KeyKind.{KeyKind}
 use Rattle.key_types.specs.declared.key_kind.KeyKind.TheVariants as kinds
 
--- whether an identifier names this kind of keys (RFC 3279 2.3.1, RFC 5480 2.1.1, RFC 8410 3, RFC
--- 9881 2)
+-- whether an OID identifies this kind of keys (RFC 3279 2.3.1, RFC 5480 2.1.1, RFC 8410 3, RFC 9881
+-- 2)
 abbrev pub names_kind : KeyKind → List ℕ → Bool
 names_kind kinds.Rsa oid = bytes_eq oid RSA_ENCRYPTION.now
 names_kind kinds.Ec oid = bytes_eq oid EC_PUBLIC_KEY.now
@@ -26,8 +26,8 @@ abbrev pub IsOid : DerElement → Type 0
 IsOid (Primitive tag contents) = (tag ≡ 0x06) × IsIdentifier contents
 IsOid (Constructed tag kids) = ⊥
 
--- The parameters of keys: NULL of RSA (RFC 3279 2.3.1), which may be left out here, a named curve
--- of a point (RFC 5480 2.1.1), any of the others (none in RFC 8410 3 and RFC 9881 2).
+-- The parameters of keys: for RSA NULL (RFC 3279 2.3.1), which may be absent here, for a point a
+-- named curve (RFC 5480 2.1.1), for the others any (none in RFC 8410 3 and RFC 9881 2).
 abbrev pub MayHave : KeyKind → Option DerElement → Type 0
 MayHave kinds.Rsa None = ⊤
 MayHave kinds.Rsa (Some parameters) = parameters ≡ null
@@ -36,8 +36,7 @@ MayHave kinds.Ec (Some parameters) = IsOid parameters
 MayHave kinds.Ed parameters = ⊤
 MayHave kinds.Mldsa parameters = ⊤
 
--- An identifier of these contents octets, with these parameters, is an algorithm for keys of this
--- kind.
+-- An OID with these contents octets and these parameters is an algorithm for keys of this kind.
 pub record IsAlgorithmWith (kind : KeyKind) (oid : List ℕ)
     (parameters : Option DerElement) : Type 0 where
   pub named : IsTrue (names_kind kind oid)

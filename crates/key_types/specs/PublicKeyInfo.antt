@@ -22,7 +22,7 @@ subject_public_key (keys.Ec bits) = bit_string bits
 subject_public_key (keys.Ed bits) = bit_string bits
 subject_public_key (keys.Mldsa bits) = bit_string bits
 
--- what is written into the bits as an element of its own
+-- what is wrapped in the bits as an element of its own
 abbrev pub inner_key : SubjectKey → List DerElement
 inner_key (keys.Rsa key) = rsa_public_key key ∷ []
 inner_key (keys.Ec bits) = []
@@ -34,16 +34,16 @@ abbrev pub public_key_info : SubjectPublicKeyInfo → DerElement
 public_key_info info =
     sequence (algorithm_identifier info.algorithm ∷ subject_public_key info.subject_public_key ∷ [])
 
--- the element is the one of this key, whose inner element is one that is read
+-- the element encodes this key, whose wrapped element is within limits
 abbrev pub IsSubjectKey : DerElement → SubjectKey → Type 0
 IsSubjectKey element key = (element ≡ subject_public_key key) × AreDer (inner_key key)
 
--- the element is the one of this algorithm and key, whose inner element is one that is read
+-- the element encodes this algorithm and key, whose wrapped element is within limits
 abbrev pub IsPublicKeyInfo : DerElement → SubjectPublicKeyInfo → Type 0
 IsPublicKeyInfo element info =
     (element ≡ public_key_info info) × AreDer (inner_key info.subject_public_key)
 
--- the element is the one of this key, which is of the kind
+-- the element encodes this key, which is of the kind
 abbrev pub IsKeyOf : KeyKind → DerElement → SubjectKey → Type 0
 IsKeyOf kind element key = (kind_of_key key ≡ kind) × IsSubjectKey element key
 

@@ -1,4 +1,4 @@
-//! Identifiers of algorithms.
+//! Algorithm identifiers.
 
 ghost use Rattle.std.specs.Prelude.{◌≡◌, Some, IfOk, ◌↔◌, IsTrue};
 ghost use Rattle.std.specs.Option.{option_copied};
@@ -11,7 +11,7 @@ use der_core::tag::{NULL, SEQUENCE};
 use der_core::{DerError, Elem, NewKids, Raw, Structure, Tree, leaf};
 use std::alloc::{AllocError, Global};
 
-/// An algorithm by its identifier, with its parameters (RFC 5280 4.1.1.2).
+/// An algorithm by its OID, with its parameters (RFC 5280 4.1.1.2).
 #[derive(Debug, Drop)]
 pub struct AlgorithmIdentifier {
     oid: ObjectIdentifier,
@@ -19,14 +19,14 @@ pub struct AlgorithmIdentifier {
 }
 
 impl AlgorithmIdentifier {
-    /// The algorithm of this identifier, with these parameters.
+    /// The algorithm with this OID and these parameters.
     pub fn new(oid: ObjectIdentifier, parameters: Option<Raw>) -> AlgorithmIdentifier
         ensures { (result.oid ≡ oid) × (result.parameters ≡ parameters) }
     {
         AlgorithmIdentifier { oid, parameters }
     }
 
-    /// The algorithm of this identifier, with NULL parameters.
+    /// The algorithm with this OID and NULL parameters.
     pub fn with_null(
         alloc: Global,
         oid: ObjectIdentifier,
@@ -42,14 +42,14 @@ impl AlgorithmIdentifier {
         })
     }
 
-    /// The identifier of the algorithm.
+    /// The OID of the algorithm.
     pub fn oid(&self) -> &ObjectIdentifier
         ensures { result.now ≡ self.now.oid }
     {
         &self.oid
     }
 
-    /// The parameters of the algorithm, any element.
+    /// The parameters of the algorithm, any element; `None` if they are absent.
     pub fn parameters(&self) -> Option<&Raw>
         ensures { option_copied result ≡ self.now.parameters }
     {
@@ -107,7 +107,7 @@ impl Structure for AlgorithmIdentifier {
     ghost grammar = { algorithms };
 }
 
-/// Identifiers of algorithms are equal exactly where their octets are.
+/// Algorithm identifiers are equal exactly if their encodings are.
 impl PartialEq for AlgorithmIdentifier {
     ghost use Rattle.der_core.specs.Equality.{same_octets};
     ghost use Rattle.der_core.specs.Facts.Equality.{same_octets_per};

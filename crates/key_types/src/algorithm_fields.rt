@@ -1,4 +1,4 @@
-//! Identifiers of algorithms, where their octets lie.
+//! Borrowed algorithm identifiers.
 
 ghost use Rattle.std.specs.Prelude.{◌≡◌, ◌≢◌, Option, MatchOption};
 ghost use Rattle.der_core.specs.DerElement.{DerElement};
@@ -8,7 +8,7 @@ ghost use Rattle.key_types.specs.AlgorithmIdentifier.{algorithm_of};
 use der_core::tag::SEQUENCE;
 use der_core::{Elem, Kids};
 
-/// The fields of an AlgorithmIdentifier, each any element.
+/// The fields of an AlgorithmIdentifier, each as any element.
 #[derive(Clone, Copy)]
 pub(crate) struct AlgorithmFields<'a> {
     pub oid: Elem<'a>,

@@ -1,4 +1,4 @@
-//! Public keys of subjects with their algorithms.
+//! Public keys with their algorithms.
 
 ghost use Rattle.std.specs.Prelude.{◌≡◌, ◌↔◌, IsTrue, MatchOption};
 ghost use Rattle.key_types.specs.SubjectKey.{kind_of_key};
@@ -12,8 +12,8 @@ use der_core::tag::SEQUENCE;
 use der_core::{DerError, Elem, NewKids, Structure, Tree, two_kids};
 use std::alloc::{AllocError, Global};
 
-/// A public key with its algorithm (RFC 5280 4.1.2.7), which is one for keys of its kind. An
-/// algorithm of no known kind has no public key here: it is `Shape`.
+/// A public key with its algorithm, which is one for keys of its kind (RFC 5280 4.1.2.7). An
+/// algorithm of no known kind is refused as `Shape`.
 #[derive(Debug, Drop)]
 pub struct SubjectPublicKeyInfo {
     pub algorithm: AlgorithmIdentifier,
@@ -22,7 +22,7 @@ pub struct SubjectPublicKeyInfo {
 }
 
 impl SubjectPublicKeyInfo {
-    /// The key with its algorithm, None exactly where the algorithm isn't one for keys of its kind.
+    /// The key with its algorithm, `None` exactly if the algorithm isn't one for keys of its kind.
     pub fn new(algorithm: AlgorithmIdentifier, key: SubjectKey) -> Option<SubjectPublicKeyInfo>
         ensures { MatchOption result
             (IsAlgorithmOf (kind_of_key key) algorithm → ⊥)
@@ -90,7 +90,7 @@ impl Structure for SubjectPublicKeyInfo {
     ghost grammar = { public_key_infos };
 }
 
-/// Keys with their algorithms are equal exactly where their octets are.
+/// Keys with their algorithms are equal exactly if their encodings are.
 impl PartialEq for SubjectPublicKeyInfo {
     ghost use Rattle.der_core.specs.Equality.{same_octets};
     ghost use Rattle.der_core.specs.Facts.Equality.{same_octets_per};

@@ -1,4 +1,4 @@
-//! The kinds of public keys, by the identifiers of their algorithms.
+//! The kinds of public keys, by the OIDs of their algorithms.
 
 ghost use Rattle.std.specs.Prelude.{◌≡◌, ◌↔◌, IsTrue, MatchOption};
 ghost use Rattle.der_core.specs.Elements.{null};
@@ -19,7 +19,7 @@ use der_core::{Elem, Structure, is_same, leaf_at};
 /// A kind of public keys.
 #[derive(Clone, Copy, Debug, PartialEq, Eq)]
 pub enum KeyKind {
-    /// RSA, its parameters NULL (RFC 3279 2.3.1), or absent, which is read here too.
+    /// RSA, with parameters NULL (RFC 3279 2.3.1); absent ones are accepted, too.
     Rsa,
     /// A point of a named curve (RFC 5480 2.1.1).
     Ec,
@@ -30,7 +30,7 @@ pub enum KeyKind {
 }
 
 impl KeyKind {
-    /// The kind of keys that an identifier names, by its contents octets.
+    /// The kind of keys that an OID, given as contents octets, identifies.
     pub fn named(oid: &[u8]) -> Option<KeyKind>
         ensures { MatchOption result
             ((kind : KeyKind) → IsTrue (names_kind kind oid.now) → ⊥)
@@ -51,7 +51,7 @@ impl KeyKind {
         None
     }
 
-    /// Whether an identifier names the kind, by its contents octets.
+    /// Whether an OID, given as contents octets, identifies the kind.
     pub fn is_named(self, oid: &[u8]) -> bool
         ensures { result ≡ names_kind self oid.now }
     {
@@ -63,7 +63,8 @@ impl KeyKind {
         }
     }
 
-    /// The kind of keys that an algorithm is for, with parameters that this kind may have.
+    /// The kind of keys that the algorithm is for, `None` if there is none or it can't have the
+    /// parameters.
     pub fn of(algorithm: &AlgorithmIdentifier) -> Option<KeyKind>
         ensures { MatchOption result
             ((kind : KeyKind) → IsAlgorithmOf kind algorithm.now → ⊥)
@@ -76,7 +77,7 @@ impl KeyKind {
         }
     }
 
-    /// The kind of keys that the algorithm is for that lies in octets.
+    /// The kind of keys that a borrowed algorithm is for.
     pub(crate) fn at(elem: Elem<'_>) -> Option<KeyKind>
         ensures { MatchOption result
             ((kind : KeyKind) (algorithm : AlgorithmIdentifier)
@@ -94,8 +95,8 @@ impl KeyKind {
         Some(KeyKind::with(oid, fields.parameters)?)
     }
 
-    /// The kind of keys that an identifier names, by its contents octets, where this kind may have
-    /// the parameters.
+    /// The kind of keys that an OID, given as contents octets, identifies, `None` if there is none
+    /// or it can't have the parameters.
     fn with(oid: &[u8], parameters: Option<Elem<'_>>) -> Option<KeyKind>
         ensures { MatchOption result
             ((kind : KeyKind) → IsAlgorithmWith kind oid.now (at_option parameters.entry) → ⊥)

@@ -1,4 +1,4 @@
-//! Public keys of RSA.
+//! RSA public keys.
 
 ghost use Rattle.std.specs.Prelude.{◌≡◌, ◌↔◌, IsTrue};
 
@@ -60,7 +60,7 @@ impl Structure for RsaPublicKey {
     ghost grammar = { rsa_public_keys };
 }
 
-/// Keys are equal exactly where their octets are.
+/// Keys are equal exactly if their encodings are.
 impl PartialEq for RsaPublicKey {
     ghost use Rattle.der_core.specs.Equality.{same_octets};
     ghost use Rattle.der_core.specs.Facts.Equality.{same_octets_per};

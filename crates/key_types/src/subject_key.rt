@@ -1,4 +1,4 @@
-//! The keys of subjects.
+//! The public keys of subjects.
 
 ghost use Rattle.std.specs.Prelude.{◌≡◌, ◌↔◌, false, IfOk, IsTrue, MatchResult};
 ghost use Rattle.der_core.specs.Encoding.{IsWellFormed};
@@ -18,16 +18,16 @@ use der_core::{
 };
 use std::alloc::{AllocError, Global};
 
-/// A public key, as its algorithm has it (RFC 5280 4.1.2.7).
+/// A public key, by the kind of its algorithm (RFC 5280 4.1.2.7).
 #[derive(Debug, Drop)]
 pub enum SubjectKey {
-    /// A key of RSA (RFC 3279 2.3.1).
+    /// An RSA key (RFC 3279 2.3.1).
     Rsa(RsaPublicKey),
     /// A point of a named curve (RFC 5480 2.2).
     Ec(BitString),
-    /// A key of a curve 25519 or 448 (RFC 8410 4).
+    /// A key on curve 25519 or 448 (RFC 8410 4).
     Ed(BitString),
-    /// A key of ML-DSA (RFC 9881 4).
+    /// An ML-DSA key (RFC 9881 4).
     Mldsa(BitString),
 }
 
@@ -44,7 +44,7 @@ impl SubjectKey {
         }
     }
 
-    /// Whether an element holds a key of the kind.
+    /// Whether the element encodes a key of the kind.
     pub(crate) fn has_shape_of(kind: KeyKind, elem: Elem<'_>) -> bool
         ensures fits { IsTrue result → (key : SubjectKey) × IsKeyOf kind elem.entry.is.0 key }
         ensures unfit { result ≡ false → (key : SubjectKey) → IsKeyOf kind elem.entry.is.0 key → ⊥ }
@@ -57,7 +57,7 @@ impl SubjectKey {
         }
     }
 
-    /// The key of the kind that an element holds.
+    /// The key of the kind that the element encodes.
     pub(crate) fn read_at(
         alloc: Global,
         kind: KeyKind,
@@ -88,7 +88,7 @@ impl SubjectKey {
         }
     }
 
-    /// A copy of the value.
+    /// A copy of the key.
     pub fn try_clone(&self, alloc: Global) -> Result<SubjectKey, AllocError>
         ensures { IfOk result (λ copy. copy ≡ self.now) }
     {
@@ -101,7 +101,7 @@ impl SubjectKey {
     }
 }
 
-/// Whether the element is a BIT STRING without unused bits that holds a key of RSA.
+/// Whether the element is a BIT STRING without unused bits that encodes an RSA key.
 fn has_rsa_key(elem: Elem<'_>) -> bool
     ensures fits { IsTrue result → (key : RsaPublicKey) × IsSubjectKey elem.entry.is.0 (Rsa key) }
     ensures unfit { result ≡ false → (key : RsaPublicKey) → IsSubjectKey elem.entry.is.0 (Rsa key)
@@ -113,7 +113,7 @@ fn has_rsa_key(elem: Elem<'_>) -> bool
     }
 }
 
-/// The key of RSA in a BIT STRING without unused bits.
+/// The RSA key in a BIT STRING without unused bits.
 fn read_rsa_key(alloc: Global, elem: Elem<'_>) -> Result<RsaPublicKey, DerError>
     ensures { MatchResult result
         (λ key. IsSubjectKey elem.entry.is.0 (Rsa key))
@@ -125,7 +125,7 @@ fn read_rsa_key(alloc: Global, elem: Elem<'_>) -> Result<RsaPublicKey, DerError>
     }
 }
 
-/// The BIT STRING of a key of RSA.
+/// The BIT STRING of an RSA key.
 fn write_rsa_key(alloc: Global, key: &RsaPublicKey) -> Result<Tree, DerError>
     ensures { MatchResult result
         (λ tree. IsSubjectKey tree (Rsa key.now) × IsWellFormed tree)
@@ -138,7 +138,7 @@ fn write_rsa_key(alloc: Global, key: &RsaPublicKey) -> Result<Tree, DerError>
     Ok(Tree::leaf(BIT_STRING, Octets::from(content)))
 }
 
-/// Keys are equal exactly where their kinds and their octets are.
+/// Keys are equal exactly if their kinds and their encodings are.
 impl PartialEq for SubjectKey {
     ghost use Rattle.std.specs.Ordering.{on};
     ghost use Rattle.std.specs.Cmp.Lexicographic.{nat_list_eq_equiv};

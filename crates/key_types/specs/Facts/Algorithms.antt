@@ -1,4 +1,4 @@
--- Identifiers of algorithms and keys of RSA: unlike values have unlike elements, each well formed.
+-- Algorithm identifiers and RSA keys: different values have different elements, each well formed.
 use Rattle.std.proofs.Common.{◌≡◌, [], ◌∷◌, Option, Some, None, refl, ap, ◌∙◌, arith}
 use Rattle.std.specs.Prelude.{option_to_list}
 use Rattle.der_core.specs.DerElement.{row}

@@ -1,4 +1,4 @@
--- Public keys with their algorithms: unlike ones have unlike elements, each well formed.
+-- Public keys with their algorithms: different ones have different elements, each well formed.
 use Rattle.std.proofs.Common.{◌≡◌, IsTrue, ℕ, refl, sym, ap, subst, ◌∙◌, arith}
 use Rattle.der_core.specs.Encoding.{encoding, IsWellFormed}
 use Rattle.der_core.specs.Structure.{IsGrammar}
@@ -25,7 +25,7 @@ use Rattle.key_types.specs.declared.key_info.SubjectPublicKeyInfo.{SubjectPublic
 bits_once : (a b : BitString) → bit_string a ≡ bit_string b → a ≡ b
 bits_once a b e = bit_strings.once (bit_string a) a b refl e
 
--- a key is told by its kind and its bits
+-- a key is determined by its kind and its bits
 pub keys_once : (x y : SubjectKey) → kind_of_key x ≡ kind_of_key y → subject_public_key x ≡ subject_public_key y → x ≡ y
 keys_once (keys.Rsa x) (keys.Rsa y) kind e =
     let octets : encoding (rsa_public_key x) ≡ encoding (rsa_public_key y) = cc in

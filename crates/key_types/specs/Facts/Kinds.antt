@@ -1,4 +1,4 @@
--- An algorithm is for keys of a kind for one reason, and an identifier names one kind.
+-- That an algorithm is for keys of a kind has at most one proof, and an OID identifies one kind.
 use Rattle.std.proofs.Common.{◌≡◌, ◌∙◌, IsTrue, ℕ, List, Option, Some, None, refl, sym, subst, inl, inr}
 use Rattle.std.specs.Prelude.{Bool, if◌then◌else◌, bytes_eq}
 use Rattle.std.specs.Coded.{×_prop, Unit-prop, Coded-set, coded_ℕ, coded_bool}
@@ -37,7 +37,7 @@ IsAlgorithmWith-prop kind oid parameters = hlevel (same_bools, MayHave-prop kind
 pub IsAlgorithmOf-prop : (kind : KeyKind) (algorithm : AlgorithmIdentifier) → IsProp (IsAlgorithmOf kind algorithm)
 IsAlgorithmOf-prop kind algorithm = IsAlgorithmWith-prop kind (identifier_contents algorithm.oid) (kept_option algorithm.parameters)
 
--- what holds of an identifier holds of octets that are the same
+-- what holds of an OID holds of octets that are the same
 at_same : (P : List ℕ → Type 0) (oid known : List ℕ) → IsTrue (bytes_eq oid known) → P known → P oid
 at_same P oid known same p = subst P (sym ((bytes_eq-Decides oid known).0 same)) p
 
@@ -53,7 +53,7 @@ named_ed P a0 a1 a2 a3 oid named = elim (or_cases _ _ named) [ inl l3 ↦ elim (
 named_mldsa : (P : List ℕ → Type 0) → P ML_DSA_44.now → P ML_DSA_65.now → P ML_DSA_87.now → (oid : List ℕ) → IsTrue (names_kind kinds.Mldsa oid) → P oid
 named_mldsa P a0 a1 a2 oid named = elim (or_cases _ _ named) [ inl l2 ↦ elim (or_cases _ _ l2) [ inl l1 ↦ at_same P oid ML_DSA_44.now l1 a0 | inr r1 ↦ at_same P oid ML_DSA_65.now r1 a1 ] | inr r2 ↦ at_same P oid ML_DSA_87.now r2 a2 ]
 
--- the kind that an identifier names, where it names one
+-- the kind that an OID identifies, if there is one
 abbrev kind_of : List ℕ → KeyKind
 kind_of oid =
     if names_kind kinds.Rsa oid then kinds.Rsa
@@ -66,6 +66,6 @@ told kinds.Ec oid named = named_ec (λ o. kind_of o ≡ kinds.Ec) refl oid named
 told kinds.Ed oid named = named_ed (λ o. kind_of o ≡ kinds.Ed) refl refl refl refl oid named
 told kinds.Mldsa oid named = named_mldsa (λ o. kind_of o ≡ kinds.Mldsa) refl refl refl oid named
 
--- an identifier names one kind
+-- an OID identifies one kind
 pub one_kind : (k l : KeyKind) (oid : List ℕ) → IsTrue (names_kind k oid) → IsTrue (names_kind l oid) → k ≡ l
 one_kind k l oid p q = sym (told k oid p) ∙ told l oid q

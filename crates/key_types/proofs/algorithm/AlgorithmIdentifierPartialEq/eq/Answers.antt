@@ -13,7 +13,7 @@ use Rattle.key_types.proofs.algorithm.AlgorithmIdentifierPartialEq.eq.Goals as g
 pub returns-else-eq-clause-octets : goal.returns-else-eq-clause-octets
 returns-else-eq-clause-octets c = octets_decide algorithm_identifier (λ a b e. algorithms.once (algorithm_identifier a) a b refl e) algorithms.formed c.args.self.now c.args.other.now _ (search rules)
 
--- the identifiers are the same, so the algorithms are where their parameters are
+-- the OIDs are the same, so the algorithms are if their parameters are
 by_parameters : (a b : AlgorithmIdentifier) (t : Bool) → a.oid ≡ b.oid → t ≡ option_eq (λ (x y : KeptElement). bytes_eq (encoding x.element) (encoding y.element)) a.parameters b.parameters → IsTrue t ↔ (a ≡ b)
 by_parameters a b t oid test =
     let same = options_same _ kept_same a.parameters b.parameters in (
