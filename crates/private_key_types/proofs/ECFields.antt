@@ -19,7 +19,7 @@ use Rattle.private_key_types.specs.ECPrivateKey.{ec_private_key_of, ec_private_k
 use Rattle.private_key_types.specs.Facts.ECPrivateKeys.{fields_once}
 use Rattle.private_key_types.specs.declared.ec_private_key.ECPrivateKey.{ECPrivateKey}
 
--- an element of these fields is one of a key exactly where they are those of its values
+-- an element with these fields is a key's exactly if they are those of its values
 pub of_parts : (t k : DerElement) (p b : Option DerElement) → t ≡ ec_private_key_of k p b
     → (octets : List ℕ) → k ≡ octet_string octets
     → (curve : Option ObjectIdentifier) → SpellsOption (Prints object_identifier) p curve
@@ -68,7 +68,7 @@ curves_same = options_same oid_eq oids_same
 points_same : (a b : Option BitString) → IsTrue (option_eq bits_eq a b) ↔ (a ≡ b)
 points_same = options_same bits_eq bits_same
 
--- the other fields are the same, so the keys are where the points are
+-- the other fields are the same, so the keys are if the points are
 pub by_point : (a b : ECPrivateKey) (first last : Bool) → a.private_key ≡ b.private_key → first ≡ option_eq oid_eq a.parameters b.parameters → IsTrue first → last ≡ option_eq bits_eq a.public_key b.public_key
     → IsTrue last ↔ (a ≡ b)
 by_point a b first last key curves w points =

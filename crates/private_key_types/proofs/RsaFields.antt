@@ -1,4 +1,4 @@
--- Private keys of RSA by their fields.
+-- RSA private keys by their fields.
 use Rattle.std.proofs.Common.{◌≡◌, sym, ◌∙◌}
 use Rattle.der_core.specs.DerElement.{DerElement}
 use Rattle.asn1_types.specs.Elements.{integer}

@@ -8,7 +8,7 @@ use Rattle.der_core.specs.Elements.{sequence, octet_string, optional_explicit}
 use Rattle.asn1_types.specs.Elements.{object_identifier, bit_string, integer_of}
 use Rattle.private_key_types.specs.declared.ec_private_key.ECPrivateKey.{ECPrivateKey}
 
--- the one version that there is
+-- the only version
 abbrev pub ec_version : DerElement
 ec_version = integer_of (1 ∷ [])
 

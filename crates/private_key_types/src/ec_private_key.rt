@@ -20,17 +20,17 @@ const PARAMETERS: u8 = 0xA0;
 
 const PUBLIC_KEY: u8 = 0xA1;
 
-/// A private key of an elliptic curve (RFC 5915 3): the octets of a number, and the identifier of
-/// its curve and its public key, a point, which may each be left out. How many octets there are,
-/// which curve it is, and that the point is that of the number isn't asked. It has no `Debug`, so
-/// no secret is printed by mistake.
+/// A private key of an elliptic curve (RFC 5915 3): the octets of the secret number; optionally the
+/// OID of the curve and the public key, a point. The number of octets, the curve, and whether the
+/// point belongs to the number aren't checked. It has no `Debug`, so no secret is printed by
+/// mistake.
 pub struct ECPrivateKey {
     pub private_key: Octets,
     pub parameters: Option<ObjectIdentifier>,
     pub public_key: Option<BitString>,
 }
 
-/// The number is overwritten.
+/// Overwrites the secret number.
 impl Drop for ECPrivateKey {
     fn drop(self) {
         let ECPrivateKey {
@@ -42,7 +42,7 @@ impl Drop for ECPrivateKey {
     }
 }
 
-/// The fields of a private key where they lie, each any element.
+/// The fields of a borrowed private key, each as any element.
 #[derive(Clone, Copy)]
 struct Fields<'a> {
     private_key: Elem<'a>,
@@ -97,7 +97,7 @@ impl Structure for ECPrivateKey {
         };
         let parameters = read_option(alloc, fields.parameters)?;
         let public_key = read_option(alloc, fields.public_key)?;
-        // The number is last: nothing is refused after it, so it is dropped in a key alone.
+        // The secret comes last: nothing is refused after it, so it is only dropped inside a key.
         let private_key = Octets::read_at(alloc, fields.private_key)?;
         Ok(ECPrivateKey {
             private_key,
@@ -128,7 +128,7 @@ impl Structure for ECPrivateKey {
     ghost grammar = { ec_private_keys };
 }
 
-/// Keys are equal exactly where their octets are. How long this takes tells of the keys.
+/// Keys are equal exactly if their encodings are. The comparison doesn't run in constant time.
 impl PartialEq for ECPrivateKey {
     ghost use Rattle.der_core.specs.Equality.{same_octets};
     ghost use Rattle.der_core.specs.Facts.Equality.{same_octets_per};

@@ -1,5 +1,5 @@
 //! Private keys as values, by the structures of their containers, read from octets or trees and
-//! written as trees: those of RSA (RFC 8017 A.1.2) and of elliptic curves (RFC 5915).
+//! written as trees: RSA (RFC 8017 A.1.2) and elliptic curves (RFC 5915).
 #![tactic(auto)]
 
 mod ec_private_key;

@@ -1,4 +1,4 @@
-//! Private keys of RSA.
+//! RSA private keys.
 
 ghost use Rattle.std.specs.Prelude.{◌≡◌, ◌≢◌, ◌↔◌, ◌++◌, ◌∷◌, [], IsTrue, IfOk, MatchOption, MatchResult};
 ghost use Rattle.asn1_types.specs.Elements.{integer};
@@ -11,8 +11,8 @@ use der_core::tag::{INTEGER, SEQUENCE};
 use der_core::{DerError, Elem, Kids, NewKids, Structure, Tree, leaf, leaf_at};
 use std::alloc::{AllocError, Global};
 
-/// An RSA private key of two primes (RFC 8017 A.1.2). It has no `Debug`, so no secret is printed by
-/// mistake.
+/// An RSA private key with two primes (RFC 8017 A.1.2). It has no `Debug`, so no secret is printed
+/// by mistake.
 pub struct RsaPrivateKey {
     /// The modulus.
     pub n: IntegerAsn1,
@@ -32,7 +32,7 @@ pub struct RsaPrivateKey {
     pub qinv: IntegerAsn1,
 }
 
-/// The numbers that are secret are overwritten.
+/// Overwrites the secret numbers.
 impl Drop for RsaPrivateKey {
     fn drop(self) {
         let RsaPrivateKey {
@@ -54,7 +54,7 @@ impl Drop for RsaPrivateKey {
     }
 }
 
-/// The fields of an RSA private key where they lie.
+/// The fields of a borrowed RSA private key.
 #[derive(Clone, Copy)]
 struct Fields<'a> {
     n: Elem<'a>,
@@ -110,7 +110,7 @@ impl<'a> Fields<'a> {
     }
 }
 
-/// The element is the version of keys of two primes.
+/// `Some` if the element is the version of keys with two primes.
 fn two_prime(elem: Elem<'_>) -> Option<()>
     ensures { MatchOption result
         (elem.entry.is.0 ≢ two_prime)
@@ -122,7 +122,7 @@ fn two_prime(elem: Elem<'_>) -> Option<()>
     }
 }
 
-/// Two numbers of a key that isn't whole yet, which are overwritten where they are dropped.
+/// Two numbers of an unfinished key, which are overwritten when they are dropped.
 struct TwoNumbers {
     one: IntegerAsn1,
     other: IntegerAsn1,
@@ -137,7 +137,7 @@ impl Drop for TwoNumbers {
 }
 
 impl TwoNumbers {
-    /// The numbers of two elements.
+    /// The numbers in two elements.
     fn read(alloc: Global, one: Elem<'_>, other: Elem<'_>) -> Result<TwoNumbers, DerError>
         ensures { MatchResult result
             (λ two. (one.entry.is.0 ≡ integer two.one) × (other.entry.is.0 ≡ integer two.other))
@@ -176,7 +176,7 @@ impl TwoNumbers {
     }
 }
 
-/// The key of its numbers, two by two.
+/// The key with these numbers, in pairs.
 fn of_numbers(
     public: TwoNumbers,
     first: TwoNumbers,
@@ -266,7 +266,7 @@ impl Structure for RsaPrivateKey {
     ghost grammar = { rsa_private_keys };
 }
 
-/// Keys are equal exactly where their octets are. How long this takes tells of the keys.
+/// Keys are equal exactly if their encodings are. The comparison doesn't run in constant time.
 impl PartialEq for RsaPrivateKey {
     ghost use Rattle.der_core.specs.Equality.{same_octets};
     ghost use Rattle.der_core.specs.Facts.Equality.{same_octets_per};

@@ -1,4 +1,4 @@
--- Private keys of elliptic curves: unlike ones have unlike elements, each well formed.
+-- Private keys of elliptic curves: different ones have different elements, each well formed.
 use Rattle.std.proofs.Common.{◌≡◌, [], ◌∷◌, ◌++◌, Option, Some, None, refl, arith}
 use Rattle.std.specs.Option.{option_map}
 use Rattle.der_core.specs.DerElement.{DerElement, row}

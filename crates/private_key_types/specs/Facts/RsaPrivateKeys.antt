@@ -1,4 +1,4 @@
--- Private keys of RSA: unlike ones have unlike elements, each well formed.
+-- RSA private keys: different ones have different elements, each well formed.
 use Rattle.std.proofs.Common.{◌≡◌, [], refl, arith}
 use Rattle.der_core.specs.Structure.{IsGrammar}
 use Rattle.der_core.specs.Facts.Grammars.{printed}
