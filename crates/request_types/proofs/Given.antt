@@ -1,4 +1,4 @@
--- An element that is given is one that may be left out.
+-- An element that is present, as one that may be absent.
 use Rattle.std.proofs.Common.{◌≡◌, Option, Some, None, MatchOption, sym, subst}
 use Rattle.der_core.specs.DerElement.{DerElement}
 use Rattle.der_core.specs.Lent.{at_option}

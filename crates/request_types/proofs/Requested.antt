@@ -1,4 +1,4 @@
--- What an element spells as a request, by the elements in it.
+-- The request that an element encodes, by the elements in it.
 use Rattle.std.proofs.Common.{◌≡◌, ◌↔◌, IsTrue, Bool, List, [], ◌∷◌, Option, sym, subst, ◌∙◌, ap}
 use Rattle.std.specs.Prelude.{bytes_eq}
 use Rattle.std.specs.Cmp.Lexicographic.{pointwise}

@@ -14,7 +14,7 @@ abbrev pub request_of : DerElement → CertificationRequest → DerElement
 request_of info r =
     sequence (info ∷ algorithm_identifier r.signature_algorithm ∷ bit_string r.signature ∷ [])
 
--- The element spells the request.
+-- The element encodes the request.
 pub record IsRequest (element : DerElement) (r : CertificationRequest) : Type 0 where
   pub info : DerElement
   pub is : element ≡ request_of info r
@@ -24,10 +24,10 @@ pub record IsRequest (element : DerElement) (r : CertificationRequest) : Type 0 
 abbrev pub request : CertificationRequest → DerElement
 request r = request_of (request_info r.certification_request_info) r
 
--- the elements that are written into strings of it
+-- the elements that it wraps in strings
 abbrev pub inner_of_request : CertificationRequest → List DerElement
 inner_of_request r = inner_request r.certification_request_info
 
--- the kinds of the values of extensions in it, and the octets that are written
+-- the kinds of the extension values in it, and its encoding
 abbrev pub request_octets : CertificationRequest → List ℕ
 request_octets r = asked_of r.certification_request_info.attributes ++ encoding (request r)

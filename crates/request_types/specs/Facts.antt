@@ -1,3 +1,4 @@
--- Lemmas that facts of values rest on. Nothing in this folder needs reading: no public clause cites it.
+-- Lemmas that facts of values rest on. Nothing in this folder needs reading: no public clause cites
+-- it.
 pub mod ToldAttributes
 pub mod Requests

@@ -10,7 +10,7 @@ use Rattle.der_core.specs.Elements.{sequence}
 abbrev pub request_version : DerElement
 request_version = integer_of (0 ∷ [])
 
--- the element around those of the fields. The attributes may be left out here.
+-- the element around those of the fields. The attributes may be absent here.
 abbrev pub request_info_of : DerElement → DerElement → Option DerElement → DerElement
 request_info_of subject key attributes =
     sequence (request_version ∷ subject ∷ key ∷ option_to_list attributes)

@@ -1,4 +1,4 @@
-//! Requests for certificates (RFC 2986) as values, read from octets or trees and written as trees.
+//! Certification requests (RFC 2986) as values, read from octets or trees and written as trees.
 #![tactic(auto)]
 
 mod request;

@@ -1,4 +1,4 @@
-//! Requests for certificates (RFC 2986 4.2).
+//! Certification requests (RFC 2986 4.2).
 //!
 //! ```text
 //! CertificationRequest ::= SEQUENCE {
@@ -18,8 +18,8 @@ use der_core::{DerError, Elem, NewKids, Structure, Tree, expect, three_kids};
 use key_types::AlgorithmIdentifier;
 use std::alloc::{AllocError, Global};
 
-/// A request for a certificate: what is signed, the algorithm of the signature, and the signature
-/// (RFC 2986 4.2).
+/// A certification request: what is signed, the algorithm of the signature, and the signature (RFC
+/// 2986 4.2).
 #[derive(Debug, Drop)]
 pub struct CertificationRequest {
     pub certification_request_info: CertificationRequestInfo,
@@ -31,7 +31,7 @@ impl CertificationRequest {
     ghost use Rattle.request_types.specs.CertificationRequest.{IsRequest};
     ghost use Rattle.request_types.specs.declared.request.CertificationRequest.{CertificationRequest};
 
-    /// The element spells a request.
+    /// `Some` if the element encodes a request.
     fn expect_shapes(elem: Elem<'_>) -> Option<()>
         ensures { MatchOption result
             ((r : CertificationRequest) → IsRequest elem.entry.is.0 r → ⊥)
@@ -67,7 +67,7 @@ impl Structure for CertificationRequest {
         };
         let signature = BitString::read_at(alloc, value)?;
         let signature_algorithm = AlgorithmIdentifier::read_at(alloc, algorithm)?;
-        // Last, so that nothing of it has to be freed where another fails.
+        // Last, so that it needn't be freed if another field fails.
         let certification_request_info = CertificationRequestInfo::read_at(alloc, info)?;
         Ok(CertificationRequest {
             certification_request_info,
@@ -95,8 +95,8 @@ impl Structure for CertificationRequest {
     ghost grammar = { requests };
 }
 
-/// Requests are equal exactly where the kinds of the values of their extensions are, and the octets
-/// that are written for them; the octets alone decide where they can be written.
+/// Requests are equal exactly if the kinds of the extension values in them and their encodings are;
+/// if both can be written, the encodings alone decide.
 impl PartialEq for CertificationRequest {
     ghost use Rattle.std.specs.Ordering.{on};
     ghost use Rattle.std.specs.Cmp.Lexicographic.{nat_list_eq_equiv};

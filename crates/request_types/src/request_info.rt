@@ -1,4 +1,4 @@
-//! What is signed of a request for a certificate (RFC 2986 4.1).
+//! The signed part of a certification request (RFC 2986 4.1).
 //!
 //! ```text
 //! CertificationRequestInfo ::= SEQUENCE {
@@ -11,7 +11,7 @@
 //! Attributes { ATTRIBUTE:IOSet } ::= SET OF Attribute{{ IOSet }}
 //! ```
 //!
-//! Only v1 is read. `attributes` may be left out.
+//! Only v1 is accepted. `attributes` may be absent.
 
 ghost use Rattle.std.specs.Prelude.{◌≡◌, ◌≢◌, ◌↔◌, ◌++◌, IsTrue, IfOk, MatchOption, MatchResult, Option, List, option_to_list};
 ghost use Rattle.std.specs.Option.{option_map};
@@ -38,8 +38,8 @@ use x509_types::{Attribute, AttributeList};
 /// The tag of the attributes.
 const ATTRIBUTES: u8 = 0xA0;
 
-/// What is signed of a request for a certificate (RFC 2986 4.1), of version 1, the only one. A list
-/// of attributes that is left out and one that is empty are told apart.
+/// The signed part of a certification request (RFC 2986 4.1), of version 1, the only one. An absent
+/// list of attributes and an empty one are different values.
 #[derive(Debug, Drop)]
 pub struct CertificationRequestInfo {
     pub subject: Name,
@@ -47,7 +47,7 @@ pub struct CertificationRequestInfo {
     pub attributes: Option<AttributeList>,
 }
 
-/// The fields behind the version, where they lie.
+/// The borrowed fields after the version.
 #[derive(Clone, Copy)]
 struct RequestFields<'a> {
     subject: Elem<'a>,
@@ -78,7 +78,7 @@ impl<'a> RequestFields<'a> {
     }
 }
 
-/// The element, where there is one, spells attributes.
+/// `Some` if the element encodes attributes or there is none.
 fn expect_attributes(elem: Option<Elem<'_>>) -> Option<()>
     ensures { MatchOption result
         ((attributes : Option (List Attribute))
@@ -91,7 +91,7 @@ fn expect_attributes(elem: Option<Elem<'_>>) -> Option<()>
     }
 }
 
-/// The element spells attributes.
+/// `Some` if the element encodes attributes.
 fn expect_list(elem: Elem<'_>) -> Option<()>
     ensures { MatchOption result
         ((attributes : List Attribute) → AreAttributes elem.entry.is.0 attributes → ⊥)
@@ -104,7 +104,7 @@ fn expect_list(elem: Elem<'_>) -> Option<()>
     }
 }
 
-/// The attributes that the element spells, where there is one.
+/// The attributes that the element encodes, if there is one.
 fn read_attributes(alloc: Global, elem: Option<Elem<'_>>) -> Result<Option<AttributeList>, DerError>
     ensures { MatchResult result (SpellsOption AreAttributes (at_option elem.entry))
         (RefusesShape (SpellsOption AreAttributes (at_option elem.entry))) }
@@ -115,7 +115,7 @@ fn read_attributes(alloc: Global, elem: Option<Elem<'_>>) -> Result<Option<Attri
     }
 }
 
-/// Appends the element of the attributes, where there are any.
+/// Appends the element of the attributes, if there are any.
 fn push_attributes(
     alloc: Global,
     kids: &mut NewKids,
@@ -133,7 +133,7 @@ fn push_attributes(
     Ok(())
 }
 
-/// A copy of the attributes, where there are any.
+/// A copy of the attributes, if there are any.
 fn copy_attributes(
     alloc: Global,
     attributes: &Option<AttributeList>,
@@ -146,7 +146,7 @@ fn copy_attributes(
     }
 }
 
-/// Whether the attributes are the same, each given or left out.
+/// Whether the attributes are the same, each present or absent.
 fn are_same_attributes(a: &Option<AttributeList>, b: &Option<AttributeList>) -> bool
     ensures { IsTrue result ↔ (a.now ≡ b.now) }
 {
@@ -157,7 +157,7 @@ impl CertificationRequestInfo {
     ghost use Rattle.request_types.specs.RequestInfo.{IsRequestInfo};
     ghost use Rattle.request_types.specs.declared.request_info.CertificationRequestInfo.{CertificationRequestInfo};
 
-    /// The element spells what is signed of a request.
+    /// `Some` if the element encodes the signed part of a request.
     fn expect_shapes(elem: Elem<'_>) -> Option<()>
         ensures { MatchOption result
             ((info : CertificationRequestInfo) → IsRequestInfo elem.entry.is.0 info → ⊥)
@@ -221,8 +221,8 @@ impl Structure for CertificationRequestInfo {
     ghost grammar = { request_infos };
 }
 
-/// What is signed of requests is equal exactly where the kinds of the values of extensions in it
-/// are, and the octets that are written; the octets alone decide where they can be written.
+/// The signed parts of requests are equal exactly if the kinds of the extension values in them and
+/// their encodings are; if both can be written, the encodings alone decide.
 impl PartialEq for CertificationRequestInfo {
     ghost use Rattle.std.specs.Ordering.{on};
     ghost use Rattle.std.specs.Cmp.Lexicographic.{nat_list_eq_equiv};

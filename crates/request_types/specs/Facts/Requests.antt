@@ -1,4 +1,4 @@
--- Requests: an element spells at most one, and what is written for one spells it.
+-- Requests: an element encodes at most one, and what is written for one encodes it.
 use Rattle.std.proofs.Common.{◌≡◌, ◌∷◌, Option, Some, None, refl, sym, subst, ◌∙◌, arith}
 use Rattle.std.specs.Prelude.{option_to_list}
 use Rattle.std.specs.Option.{option_map}
@@ -31,7 +31,7 @@ use Rattle.x509_types.specs.Facts.ToldExtensions.{split_before}
 use Rattle.request_types.specs.declared.request_info.CertificationRequestInfo.{CertificationRequestInfo}
 use Rattle.request_types.specs.declared.request.CertificationRequest.{CertificationRequest}
 
--- an element has its fields once
+-- the fields of an element are unique
 pub request_fields : (s k t l : DerElement) (a b : Option DerElement) → request_info_of s k a ≡ request_info_of t l b → (s ≡ t) × (k ≡ l) × (a ≡ b)
 request_fields s k t l a b e =
     let kids = same_fields (request_version ∷ s ∷ k ∷ option_to_list a) (request_version ∷ t ∷ l ∷ option_to_list b) e in

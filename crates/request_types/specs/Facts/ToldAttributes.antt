@@ -1,4 +1,5 @@
--- Attributes are told by the kinds of the values of extensions in them and by what is written for them.
+-- Attributes are determined by the kinds of the extension values in them and by what is written for
+-- them.
 use Rattle.std.proofs.Common.{◌≡◌, ℕ, List, [], ◌∷◌, ◌++◌, map, flat_map, Option, Some, None, refl, ap, sym, ◌∙◌, append_assoc}
 use Rattle.std.specs.Option.{option_map}
 use Rattle.der_core.specs.DerElement.{DerElement, Constructed, row, listed}
@@ -52,7 +53,7 @@ lists_told (x ∷ a) (y ∷ b) k e =
     let kinds = split_asked x.value y.value (asked_in a) (asked_in b) (same_kind x y (same_identifier x.ty y.ty parts.0)) parts.1 k in
     ap (λ v. v ∷ a) (attributes_told x y kinds.0 first) ∙ ap (λ vs. y ∷ vs) (lists_told a b kinds.1 others)
 
--- an element of the tag has its members once
+-- elements with this tag are the same only if their members are
 same_tagged : (kids kids' : List DerElement) → Constructed 0xA0 (row kids) ≡ Constructed 0xA0 (row kids') → kids ≡ kids'
 same_tagged kids kids' e =
     let same : row kids ≡ row kids' = cc in
