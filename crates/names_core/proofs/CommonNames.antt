@@ -38,7 +38,7 @@ pub found_here : (set : List AttributeTypeAndValue) (others rest : List (List At
 found_here set others rest found parts here some =
     some_first found _ (first_common_name others) here some ∙ sym (set_first set others rest parts)
 
--- where it has none, what the others have
+-- if it has none, what the others have
 pub found_later : (set : List AttributeTypeAndValue) (others rest : List (List AttributeTypeAndValue)) (found : _) → rest ≡ set ∷ others
     → option_copied found ≡ slice_get (filter_map common_name_of set) 0 → is_some found ≡ false → first_common_name others ≡ first_common_name rest
 found_later set others rest found parts here none =

@@ -1,4 +1,4 @@
--- General names and the raw names that they stand for are one for one.
+-- General names and their raw names are one to one.
 use Rattle.name_types.specs.Facts.GeneralNames.{forms_once}
 use Rattle.name_types.specs.declared.general_name.RawGeneralName.{RawGeneralName}
 use Rattle.name_types.specs.declared.general_name.RawGeneralName.TheVariants as raw
@@ -7,7 +7,7 @@ use Rattle.names_core.specs.GeneralName.{raw_name, named_element}
 use Rattle.names_core.specs.declared.general_name.GeneralName.{GeneralName}
 use Rattle.names_core.specs.declared.general_name.GeneralName.TheVariants as forms
 
--- the name that stands for a raw one
+-- the name of a raw one
 abbrev pub name_of : RawGeneralName → GeneralName
 name_of (raw.OtherName other) = forms.OtherName other
 name_of (raw.Rfc822Name text) = forms.RFC822Name text
@@ -41,6 +41,6 @@ turned_back (forms.RegisteredId id) = refl
 pub raw_once : (a b : GeneralName) → raw_name a ≡ raw_name b → a ≡ b
 raw_once a b e = sym (turned_back a) ∙ ap name_of e ∙ turned_back b
 
--- unlike names have unlike elements
+-- different names have different elements
 pub named_once : (a b : GeneralName) → named_element a ≡ named_element b → a ≡ b
 named_once a b e = raw_once a b (forms_once (raw_name a) (raw_name b) e)

@@ -1,4 +1,4 @@
--- Names of the directory as lists of sets of attributes (RFC 5280 4.1.2.4).
+-- Distinguished names as lists of sets of attributes (RFC 5280 4.1.2.4).
 use Rattle.std.specs.Prelude.{◌≡◌, ℕ, bytes_eq, if◌then◌else◌, Option, Some, None, List, [], ◌∷◌, ◌++◌, flat_map, filter_map}
 use Rattle.std.specs.List.{slice_get}
 use Rattle.asn1_types.specs.Values.{arcs_of}
@@ -14,7 +14,7 @@ use Rattle.name_types.specs.NameAttr.{attribute_arcs}
 abbrev pub utf8_value : List ℕ → AttributeValue
 utf8_value text = values.DirectoryString (strings.Utf8String text)
 
--- The later name has one more set at its end, of one attribute, which has these arcs as its type
+-- The later name has one more set at its end, with one attribute, which has these arcs as its type
 -- and this value.
 pub record IsExtended (arcs : List ℕ) (value : AttributeValue)
     (earlier later : List (List AttributeTypeAndValue)) : Type 0 where
@@ -23,13 +23,13 @@ pub record IsExtended (arcs : List ℕ) (value : AttributeValue)
   pub typed : arcs_of attribute.ty ≡ arcs
   pub valued : attribute.value ≡ value
 
--- the string that a value is
+-- the string of a value, if it is one
 abbrev pub string_of : AttributeValue → Option DirectoryString
 string_of (values.DirectoryString string) = Some string
 string_of (values.Ia5String string) = None
 string_of (values.Other other) = None
 
--- the string of a common name; another kind of value is none
+-- the string of a common name; any other kind of value has none
 abbrev pub common_name_of : AttributeTypeAndValue → Option DirectoryString
 common_name_of attribute =
     if bytes_eq (arcs_of attribute.ty) (attribute_arcs attributes.CommonName)

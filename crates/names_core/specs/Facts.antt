@@ -1,4 +1,5 @@
--- Names of the directory have the grammar of names. Nothing here needs reading: no public clause cites it.
+-- Distinguished names have the grammar of names. Nothing here needs reading: no public clause cites
+-- it.
 use Rattle.std.proofs.Common.{◌≡◌, [], refl, ap}
 use Rattle.der_core.specs.DerElement.{DerElement}
 use Rattle.der_core.specs.Structure.{IsGrammar}

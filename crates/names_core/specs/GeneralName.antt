@@ -1,4 +1,4 @@
--- General names (RFC 5280 4.2.1.6, without x400Address [3]), by the raw names that they stand for.
+-- General names (RFC 5280 4.2.1.6, without x400Address [3]), by their raw names.
 use Rattle.std.specs.Prelude.{◌≡◌, ℕ, List}
 use Rattle.der_core.specs.DerElement.{DerElement}
 use Rattle.asn1_types.specs.Values.{ia5_contents}
@@ -9,7 +9,7 @@ use Rattle.name_types.specs.declared.general_name.RawGeneralName.TheVariants as 
 use Rattle.names_core.specs.declared.general_name.GeneralName.{GeneralName}
 use Rattle.names_core.specs.declared.general_name.GeneralName.TheVariants as forms
 
--- the raw name of the same form and the same value
+-- the raw name with the same form and the same value
 abbrev pub raw_name : GeneralName → RawGeneralName
 raw_name (forms.OtherName other) = raw.OtherName other
 raw_name (forms.RFC822Name text) = raw.Rfc822Name text
@@ -25,6 +25,6 @@ raw_name (forms.RegisteredId id) = raw.RegisteredId id
 abbrev pub named_element : GeneralName → DerElement
 named_element name = general_name (raw_name name)
 
--- A name is of this form, and its string is the text.
+-- A name has this form, and its string is the text.
 abbrev pub IsOfText : (Ia5String → GeneralName) → List ℕ → GeneralName → Type 0
 IsOfText form text name = (string : Ia5String) × (name ≡ form string) × (ia5_contents string ≡ text)

@@ -6,7 +6,7 @@ use Rattle.name_types.specs.declared.attribute.AttributeTypeAndValue.{AttributeT
 use Rattle.name_types.specs.declared.general_name.RawGeneralName.{RawGeneralName}
 use Rattle.name_types.specs.declared.general_name.RawGeneralName.TheVariants as raw
 
--- the text of a host's name; a name of another form has none
+-- the text of a DNS name; a name of another form has none
 abbrev pub dns_name_of : RawGeneralName → Option Ia5String
 dns_name_of (raw.OtherName other) = None
 dns_name_of (raw.Rfc822Name text) = None
@@ -17,7 +17,7 @@ dns_name_of (raw.Uri text) = None
 dns_name_of (raw.IpAddress address) = None
 dns_name_of (raw.RegisteredId id) = None
 
--- the sets of a name of the directory; a name of another form has none
+-- the sets of a directory name; a name of another form has none
 abbrev pub directory_name_of : RawGeneralName → Option (List (List AttributeTypeAndValue))
 directory_name_of (raw.OtherName other) = None
 directory_name_of (raw.Rfc822Name text) = None
@@ -28,10 +28,10 @@ directory_name_of (raw.Uri text) = None
 directory_name_of (raw.IpAddress address) = None
 directory_name_of (raw.RegisteredId id) = None
 
--- the first host's name of a list
+-- the first DNS name of a list
 abbrev pub first_dns_name : List RawGeneralName → Option Ia5String
 first_dns_name names = slice_get (filter_map dns_name_of names) 0
 
--- the first name of the directory of a list
+-- the first directory name of a list
 abbrev pub first_directory_name : List RawGeneralName → Option (List (List AttributeTypeAndValue))
 first_directory_name names = slice_get (filter_map directory_name_of names) 0

@@ -1,4 +1,4 @@
--- What contracts see of a directory's name.
+-- What contracts see of a distinguished name.
 use Rattle.name_types.specs.declared.attribute.AttributeTypeAndValue.{AttributeTypeAndValue}
 use Rattle.std.specs.Prelude.{List}
 use Rattle.names_core.specs.declared.name.DirectoryName.{DirectoryName}
@@ -7,6 +7,6 @@ use Rattle.names_core.specs.declared.name.DirectoryName.{DirectoryName}
 abbrev pub sets_of : DirectoryName → List (List AttributeTypeAndValue)
 sets_of made = made.name
 
--- The name of these sets of attributes.
+-- The name with these sets of attributes.
 abbrev pub name_of_sets : List (List AttributeTypeAndValue) → DirectoryName
 name_of_sets sets = record { name = sets }

@@ -16,7 +16,7 @@ abbrev pub IsUtc : Time → Type 0
 IsUtc (times.Utc time) = ⊤
 IsUtc (times.Generalized time) = ⊥
 
--- The time is that of the date, and a UTCTime exactly where the year is one of 1950 to 2049.
+-- The time is that of the date, and a UTCTime exactly if the year is in 1950 to 2049.
 pub record IsTimeOf (date : GeneralizedTime) (time : Time) : Type 0 where
   pub moment : time_fields time ≡ generalized_fields date
   pub form : IsUtc time ↔ IsUtcYear (year_of date)

@@ -9,7 +9,7 @@ use name_types::{
     AttributeTypeAndValue, AttributeValue, DirectoryString, NameAttr, RelativeDistinguishedName,
 };
 
-/// The first common name in the sets.
+/// The first common name in the sets, `None` if there is none.
 pub fn first_common_name(sets: &[RelativeDistinguishedName]) -> Option<&DirectoryString>
     ensures { option_copied result ≡ first_common_name sets.now }
 {
@@ -24,7 +24,7 @@ pub fn first_common_name(sets: &[RelativeDistinguishedName]) -> Option<&Director
     None
 }
 
-/// The first common name in a set.
+/// The first common name in a set, `None` if there is none.
 fn first_in(members: &[AttributeTypeAndValue]) -> Option<&DirectoryString>
     ensures { option_copied result ≡ slice_get (filter_map common_name_of members.now) 0 }
 {
@@ -39,7 +39,7 @@ fn first_in(members: &[AttributeTypeAndValue]) -> Option<&DirectoryString>
     None
 }
 
-/// The string of an attribute that is a common name.
+/// The string of an attribute that is a common name, `None` for any other attribute.
 fn common_name_of(attribute: &AttributeTypeAndValue) -> Option<&DirectoryString>
     ensures { option_copied result ≡ common_name_of attribute.now }
 {

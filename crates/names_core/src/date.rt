@@ -1,4 +1,4 @@
-//! Dates with a time of day, in universal time.
+//! Dates with a time of day, in UTC.
 
 ghost use Rattle.std.specs.Prelude.{◌≡◌, ◌↔◌, [], ◌∷◌, IsSome, IfSome, Some};
 ghost use Rattle.asn1_types.specs.declared.generalized_time.GeneralizedTime.{GeneralizedTime};
@@ -11,8 +11,8 @@ use std::fmt;
 use std::marker::Model;
 use std::ops::Deref;
 
-/// A moment of the years 0 to 9999 in universal time, to the second. Contracts see it as its
-/// GeneralizedTime. Dates are ordered by year, month, day, hour, minute and second, in this order.
+/// A moment of the years 0 to 9999 in UTC, to the second. Contracts see its GeneralizedTime. Dates
+/// are ordered by year, month, day, hour, minute and second.
 #[derive(Clone, Copy, PartialEq, Eq, PartialOrd, Ord, Hash, Debug)]
 pub struct UtcDate {
     time: GeneralizedTime,
@@ -27,7 +27,7 @@ impl Model for UtcDate {
 }
 
 impl UtcDate {
-    /// The date with these fields, None exactly where the moment doesn't exist.
+    /// The date with these fields, `None` exactly if the moment doesn't exist.
     pub fn new(year: u16, month: u8, day: u8, hour: u8, minute: u8, second: u8) -> Option<Self>
         ensures exists { IsSome result ↔ IsMoment year month day hour minute second }
         ensures given { IfSome result
@@ -37,7 +37,7 @@ impl UtcDate {
         Some(UtcDate { time })
     }
 
-    /// The first second of a day, None exactly where the day doesn't exist.
+    /// The first second of a day, `None` exactly if the day doesn't exist.
     pub fn ymd(year: u16, month: u8, day: u8) -> Option<Self>
         ensures exists { IsSome result ↔ IsCalendarDate year month day }
         ensures given { IfSome result
@@ -46,7 +46,7 @@ impl UtcDate {
         UtcDate::new(year, month, day, 0, 0, 0)
     }
 
-    /// The date as a UTCTime, None exactly where the year isn't one of 1950 to 2049.
+    /// The date as a UTCTime, `None` exactly if the year isn't in 1950 to 2049.
     pub fn utc_time(&self) -> Option<UTCTime>
         ensures exists { IsSome result ↔ IsUtcYear (year_of self.now) }
         ensures given { IfSome result (λ time. utc_fields time ≡ generalized_fields self.now) }

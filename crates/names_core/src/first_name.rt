@@ -7,7 +7,7 @@ ghost use Rattle.names_core.specs.GeneralNames.{first_dns_name, first_directory_
 use asn1_types::Ia5String;
 use name_types::{Name, RawGeneralName};
 
-/// The first name of a host.
+/// The first DNS name, `None` if there is none.
 pub fn first_dns_name(names: &[RawGeneralName]) -> Option<&Ia5String>
     ensures { option_copied result ≡ first_dns_name names.now }
 {
@@ -21,7 +21,7 @@ pub fn first_dns_name(names: &[RawGeneralName]) -> Option<&Ia5String>
     None
 }
 
-/// The first name of the directory.
+/// The first directory name, `None` if there is none.
 pub fn first_directory_name(names: &[RawGeneralName]) -> Option<&Name>
     ensures { option_copied result ≡ first_directory_name names.now }
 {

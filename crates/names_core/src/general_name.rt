@@ -13,13 +13,13 @@ use name_types::{DirectoryString, EdiPartyName, OtherName, RawGeneralName};
 use std::alloc::{AllocError, Global};
 
 /// A name in one of eight of the nine forms (RFC 5280 4.2.1.6), all but the x400Address, with a
-/// name of the directory that can be searched and can grow. What a text or an address means is not
-/// asked.
+/// directory name that can be searched and extended. The syntax of texts and addresses isn't
+/// checked.
 #[derive(Debug, Drop)]
 pub enum GeneralName {
-    /// A name of a form that its identifier tells.
+    /// A name of a form that an OID identifies.
     OtherName(OtherName),
-    /// A mailbox (RFC 5280 4.2.1.6, RFC 2821 4.1.2).
+    /// An email address (RFC 5280 4.2.1.6, RFC 2821 4.1.2).
     RFC822Name(Ia5String),
     DNSName(Ia5String),
     DirectoryName(DirectoryName),
@@ -29,46 +29,46 @@ pub enum GeneralName {
         party_name: DirectoryString,
     },
     URI(Ia5String),
-    /// Four octets of an address of version 4, sixteen of version 6; any number is kept.
+    /// Four octets of an IPv4 address, sixteen of an IPv6 address; any number is accepted.
     IpAddress(Octets),
     RegisteredId(ObjectIdentifier),
 }
 
 impl GeneralName {
-    /// The mailbox of this text, `CharSet` exactly where an octet of it is past 127.
+    /// The email address with this text, `CharSet` exactly if one of its octets is above 127.
     pub fn new_rfc822_name(alloc: Global, name: &str) -> Result<GeneralName, CharSetError>
         ensures made { MatchResult result
             (IsOfText forms.RFC822Name name.now)
             (RefusesCharSet (IsIa5 name.now)) }
-        // A refusal comes before memory is asked for.
+        // A refusal comes before memory is allocated.
         ensures refused { (IsIa5 name.now → ⊥) → result ≡ Err char_set.CharSet }
     {
         Ok(GeneralName::RFC822Name(Ia5String::from_string(alloc, name)?))
     }
 
-    /// The name of a host of this text, `CharSet` exactly where an octet of it is past 127.
+    /// The DNS name with this text, `CharSet` exactly if one of its octets is above 127.
     pub fn new_dns_name(alloc: Global, name: &str) -> Result<GeneralName, CharSetError>
         ensures made { MatchResult result
             (IsOfText forms.DNSName name.now)
             (RefusesCharSet (IsIa5 name.now)) }
-        // A refusal comes before memory is asked for.
+        // A refusal comes before memory is allocated.
         ensures refused { (IsIa5 name.now → ⊥) → result ≡ Err char_set.CharSet }
     {
         Ok(GeneralName::DNSName(Ia5String::from_string(alloc, name)?))
     }
 
-    /// The resource of this text, `CharSet` exactly where an octet of it is past 127.
+    /// The URI with this text, `CharSet` exactly if one of its octets is above 127.
     pub fn new_uri(alloc: Global, uri: &str) -> Result<GeneralName, CharSetError>
         ensures made { MatchResult result
             (IsOfText forms.URI uri.now)
             (RefusesCharSet (IsIa5 uri.now)) }
-        // A refusal comes before memory is asked for.
+        // A refusal comes before memory is allocated.
         ensures refused { (IsIa5 uri.now → ⊥) → result ≡ Err char_set.CharSet }
     {
         Ok(GeneralName::URI(Ia5String::from_string(alloc, uri)?))
     }
 
-    /// A name of the directory.
+    /// A directory name.
     pub fn new_directory_name(name: DirectoryName) -> GeneralName
         ensures { result ≡ forms.DirectoryName name }
     {
@@ -88,21 +88,21 @@ impl GeneralName {
         }
     }
 
-    /// The address of these octets.
+    /// The IP address with these octets.
     pub fn new_ip_address(alloc: Global, address: &[u8]) -> Result<GeneralName, AllocError>
         ensures { IfOk result (λ name. name ≡ forms.IpAddress address.now) }
     {
         Ok(GeneralName::IpAddress(Octets::from_slice(alloc, address)?))
     }
 
-    /// The name that is registered under an identifier.
+    /// The name that is registered under an OID.
     pub fn new_registered_id(oid: ObjectIdentifier) -> GeneralName
         ensures { result ≡ forms.RegisteredId oid }
     {
         GeneralName::RegisteredId(oid)
     }
 
-    /// A copy of the value.
+    /// A copy of the name.
     pub fn try_clone(&self, alloc: Global) -> Result<GeneralName, AllocError>
         ensures { IfOk result (λ copy. copy ≡ self.now) }
     {
@@ -130,7 +130,7 @@ impl GeneralName {
     }
 }
 
-/// A copy of a value that has a call of its own of that name.
+/// A copy of a value whose type has its own `try_clone`, too.
 fn copy_of<T: Structure>(alloc: Global, value: &T) -> Result<T, AllocError>
     ensures { IfOk result (λ copy. copy ≡ value.now) }
 {
@@ -182,7 +182,7 @@ impl From<GeneralName> for RawGeneralName {
     }
 }
 
-/// Whether the names have the same form, and in it the same value.
+/// Whether the names have the same form and the same value.
 fn is_same(one: &GeneralName, other: &GeneralName) -> bool
     ensures { IsTrue result ↔ (one.now ≡ other.now) }
 {
@@ -208,7 +208,7 @@ fn is_same(one: &GeneralName, other: &GeneralName) -> bool
     }
 }
 
-/// Whether both are left out, or are the same string.
+/// Whether both are absent, or are the same string.
 fn is_same_assigner(one: &Option<DirectoryString>, other: &Option<DirectoryString>) -> bool
     ensures { IsTrue result ↔ (one.now ≡ other.now) }
 {
@@ -219,7 +219,7 @@ fn is_same_assigner(one: &Option<DirectoryString>, other: &Option<DirectoryStrin
     }
 }
 
-/// Names are equal exactly where their octets are.
+/// Names are equal exactly if their encodings are.
 impl PartialEq for GeneralName {
     ghost use Rattle.der_core.specs.Equality.{same_octets};
     ghost use Rattle.der_core.specs.Facts.Equality.{same_octets_per};

@@ -1,4 +1,4 @@
-//! General names in a row.
+//! Lists of general names.
 
 ghost use Rattle.name_types.specs.declared.general_name.RawGeneralName.TheVariants as raw;
 ghost use Rattle.std.specs.Prelude.{◌≡◌, ◌↔◌, ◌++◌, ◌∷◌, [], length, map, option_map, IsTrue, IfOk, OnOk, OnErr, Ok, None};
@@ -15,8 +15,8 @@ use name_types::{RawGeneralName, RawGeneralNames};
 use std::alloc::{AllocError, Global};
 use std::marker::Model;
 
-/// General names in order (RFC 5280 4.2.1.6), to be made and searched. Contracts see the list of
-/// the raw names that they stand for.
+/// General names in order (RFC 5280 4.2.1.6), to be built and searched. Contracts see the list of
+/// their raw names.
 #[derive(Debug, Drop)]
 pub struct GeneralNames {
     names: RawGeneralNames,
@@ -35,14 +35,14 @@ impl Model for GeneralNames {
 }
 
 impl GeneralNames {
-    /// One name.
+    /// A list of one name.
     pub fn new(alloc: Global, name: GeneralName) -> Result<GeneralNames, AllocError>
         ensures { IfOk result (λ names. names ≡ raw_name name ∷ []) }
     {
         GeneralNames::empty(alloc).with_name(name)
     }
 
-    /// One name of the directory.
+    /// A list of one directory name.
     pub fn new_directory_name(
         alloc: Global,
         name: DirectoryName,
@@ -52,14 +52,14 @@ impl GeneralNames {
         GeneralNames::empty(alloc).with_directory_name(name)
     }
 
-    /// One name of a host.
+    /// A list of one DNS name.
     pub fn new_dns_name(alloc: Global, name: Ia5String) -> Result<GeneralNames, AllocError>
         ensures { IfOk result (λ names. names ≡ raw.DnsName name ∷ []) }
     {
         GeneralNames::empty(alloc).with_dns_name(name)
     }
 
-    /// The names of a vector in its order.
+    /// The names of a vector, in its order.
     pub fn from_list(alloc: Global, names: Vec<GeneralName>) -> Result<GeneralNames, AllocError>
         ensures { IfOk result (λ made. made ≡ map raw_name names.items) }
     {
@@ -70,7 +70,7 @@ impl GeneralNames {
         Ok(made)
     }
 
-    /// No names.
+    /// An empty list.
     fn empty(alloc: Global) -> GeneralNames
         ensures { result ≡ [] }
     {
@@ -79,21 +79,21 @@ impl GeneralNames {
         }
     }
 
-    /// The names with a name of the directory at their end.
+    /// The list with a directory name appended.
     pub fn with_directory_name(self, name: DirectoryName) -> Result<GeneralNames, AllocError>
         ensures { IfOk result (λ names. names ≡ self ++ raw.DirectoryName name.name ∷ []) }
     {
         self.with_name(GeneralName::new_directory_name(name))
     }
 
-    /// The names with a name of a host at their end.
+    /// The list with a DNS name appended.
     pub fn with_dns_name(self, name: Ia5String) -> Result<GeneralNames, AllocError>
         ensures { IfOk result (λ names. names ≡ self ++ raw.DnsName name ∷ []) }
     {
         self.with_name(GeneralName::DNSName(name))
     }
 
-    /// The names with a name at their end.
+    /// The list with a name appended.
     pub fn with_name(self, name: GeneralName) -> Result<GeneralNames, AllocError>
         ensures { IfOk result (λ names. names ≡ self ++ raw_name name ∷ []) }
     {
@@ -124,11 +124,11 @@ impl GeneralNames {
         self.names.is_empty()
     }
 
-    /// A copy of the first name of the directory, None exactly where there is none.
+    /// A copy of the first directory name, `None` exactly if there is none.
     pub fn find_directory_name(&self, alloc: Global) -> Result<Option<DirectoryName>, AllocError>
         ensures found { IfOk result
             (λ found. option_map (λ name. name.name) found ≡ first_directory_name self.now) }
-        // That there is none is reported even when memory runs out.
+        // That there is none is returned even if memory runs out.
         ensures none { first_directory_name self.now ≡ None → result ≡ Ok None }
     {
         match first_directory_name(self.names.as_slice()) {
@@ -137,14 +137,14 @@ impl GeneralNames {
         }
     }
 
-    /// The first name of a host, None exactly where there is none.
+    /// The first DNS name, `None` exactly if there is none.
     pub fn find_dns_name(&self) -> Option<&Ia5String>
         ensures { option_copied result ≡ first_dns_name self.now }
     {
         first_dns_name(self.names.as_slice())
     }
 
-    /// A copy of each name in order.
+    /// A copy of each name, in order.
     pub fn to_general_names(&self, alloc: Global) -> Result<Vec<GeneralName>, AllocError>
         ensures { IfOk result (λ names. map raw_name names.items ≡ self.now) }
     {
@@ -155,14 +155,14 @@ impl GeneralNames {
         Ok(names)
     }
 
-    /// A copy of each name in order; the list is dropped.
+    /// A copy of each name, in order; the list is dropped.
     pub fn into_general_names(self, alloc: Global) -> Result<Vec<GeneralName>, AllocError>
         ensures { IfOk result (λ names. map raw_name names.items ≡ self) }
     {
         self.to_general_names(alloc)
     }
 
-    /// A copy of the value.
+    /// A copy of the list.
     pub fn try_clone(&self, alloc: Global) -> Result<GeneralNames, AllocError>
         ensures { IfOk result (λ copy. copy ≡ self.now) }
     {
@@ -188,7 +188,7 @@ impl From<GeneralNames> for RawGeneralNames {
     }
 }
 
-/// Lists of names are equal exactly where their octets are.
+/// Lists of names are equal exactly if their encodings are.
 impl PartialEq for GeneralNames {
     ghost use Rattle.der_core.specs.Equality.{same_octets};
     ghost use Rattle.der_core.specs.Facts.Equality.{same_octets_per};

@@ -14,8 +14,8 @@ ghost use Rattle.names_core.specs.declared.general_name.GeneralName.{GeneralName
 use crate::UtcDate;
 use std::hash::Hash;
 
-/// A date is its fields: dates are ordered by them, the year first, those that are neither before
-/// nor after one another are the same, equal dates are the same, and all fields are hashed.
+/// Dates are ordered by their fields, the year first; dates that compare as neither before nor
+/// after one another are the same, equal dates are the same, and all fields are hashed.
 pub fn dates_are_their_fields()
     ensures order { (a b : GeneralizedTime) → ⟦<UtcDate as Ord>⟧.cmp a b
         ≡ slice_cmp nat_cmp (generalized_fields a) (generalized_fields b) }
@@ -26,8 +26,8 @@ pub fn dates_are_their_fields()
         ++ fed.u8 (hour_of date) ++ fed.u8 (minute_of date) ++ fed.u8 (second_of date) }
 {}
 
-/// General names and raw names are one for one: each raw name stands for one general name alone, so
-/// what one conversion makes of a name the other turns back.
+/// General names and raw names are one to one: each raw name is that of exactly one general name,
+/// so converting a name there and back gives the original.
 pub fn general_names_are_their_raw_names()
     ensures one { (a b : GeneralName) → raw_name a ≡ raw_name b → a ≡ b }
     ensures each { (raw : RawGeneralName) → (name : GeneralName) × (raw ≡ raw_name name) }

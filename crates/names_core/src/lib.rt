@@ -1,4 +1,4 @@
-//! Dates and names as X.509 has them, on top of the values of ASN.1.
+//! Dates and names of X.509, built on the ASN.1 values.
 #![tactic(auto)]
 
 mod common_name;

@@ -1,4 +1,4 @@
-//! Names of the directory.
+//! Distinguished names.
 
 ghost use Rattle.std.specs.Prelude.{◌≡◌, ◌↔◌, [], IsTrue, Some, IfOk, OnOk, OnErr};
 ghost use Rattle.std.specs.Option.{option_copied};
@@ -19,7 +19,7 @@ use name_types::{
 use std::alloc::{AllocError, Global};
 use std::fmt::{self, Display};
 
-/// A name of the directory, to be made, searched and printed.
+/// A distinguished name, to be built, searched and printed.
 #[derive(Debug, Drop)]
 pub struct DirectoryName {
     name: Name,
@@ -38,7 +38,7 @@ impl DirectoryName {
         }
     }
 
-    /// The name of one common name.
+    /// The name with a single attribute, this common name as a UTF8String.
     pub fn new_common_name(alloc: Global, name: &str) -> Result<DirectoryName, AllocError>
         ensures { IfOk result (λ made. IsExtended (attribute_arcs attributes.CommonName)
             (utf8_value name.now) [] made.name) }
@@ -48,15 +48,15 @@ impl DirectoryName {
         Ok(made)
     }
 
-    /// The first attribute that is a common name, its sets and their members in order. One whose
-    /// value is no DirectoryString is passed over.
+    /// The first common name, sets and their members in order; `None` if there is none. A common
+    /// name whose value isn't a DirectoryString is skipped.
     pub fn find_common_name(&self) -> Option<&DirectoryString>
         ensures { option_copied result ≡ first_common_name self.now.name }
     {
         first_common_name(self.name.as_slice())
     }
 
-    /// Appends a set of one attribute of this type, whose value is the text as a UTF8String.
+    /// Appends a set with one attribute of this type, whose value is the text as a UTF8String.
     pub fn add_attr(&mut self, attr: NameAttr, value: &str) -> Result<(), AllocError>
         ensures ok { OnOk result
             (IsExtended (attribute_arcs attr) (utf8_value value.now) self.old.name self.new.name) }
@@ -68,7 +68,7 @@ impl DirectoryName {
         self.add(ty, AttributeValue::DirectoryString(string))
     }
 
-    /// Appends a set of one attribute, an email address (RFC 2985 5.2.1).
+    /// Appends a set with one attribute, an email address (RFC 2985 5.2.1).
     pub fn add_email(&mut self, value: Ia5String) -> Result<(), AllocError>
         ensures ok { OnOk result
             (IsExtended email_address (values.Ia5String value) self.old.name self.new.name) }
@@ -78,7 +78,7 @@ impl DirectoryName {
         self.add(ty, AttributeValue::Ia5String(value))
     }
 
-    /// Appends a set of one attribute.
+    /// Appends a set with one attribute.
     fn add(&mut self, ty: ObjectIdentifier, value: AttributeValue) -> Result<(), AllocError>
         ensures ok { OnOk result (IsExtended (arcs_of ty) value self.old.name self.new.name) }
         ensures err { OnErr result (self.new ≡ self.old) }
@@ -89,7 +89,7 @@ impl DirectoryName {
         Ok(())
     }
 
-    /// A copy of the value.
+    /// A copy of the name.
     pub fn try_clone(&self, alloc: Global) -> Result<DirectoryName, AllocError>
         ensures { IfOk result (λ copy. copy ≡ self.now) }
     {
@@ -124,7 +124,7 @@ impl fmt::Display for DirectoryName {
     }
 }
 
-/// A name of the directory is read and written as the Name that it holds.
+/// A distinguished name is read and written as its Name.
 impl Structure for DirectoryName {
     ghost use Rattle.name_types.specs.Name.{name};
     ghost use Rattle.names_core.specs.Facts.{directory_names};
@@ -154,7 +154,7 @@ impl Structure for DirectoryName {
     ghost grammar = { directory_names };
 }
 
-/// Names are equal exactly where their octets are.
+/// Names are equal exactly if their encodings are.
 impl PartialEq for DirectoryName {
     ghost use Rattle.der_core.specs.Equality.{same_octets};
     ghost use Rattle.der_core.specs.Facts.Equality.{same_octets_per};

@@ -11,7 +11,7 @@ use Rattle.asn1_types.specs.Time.{generalized_fields}
 use Rattle.asn1_types.specs.Facts.Times.{same_generalized}
 use Rattle.names_core.proofs.laws.dates_are_their_fields.Goals as goal
 
--- A list is tied with itself alone.
+-- A list compares as equal only to itself.
 tied_lists : (xs ys : List ℕ) → (slice_cmp nat_cmp xs ys ≡ Equal) ↔ (xs ≡ ys)
 tied_lists xs ys =
     let same = bytes_eq-Decides xs ys in
