@@ -1,4 +1,4 @@
--- Algorithms by the octets of their identifiers.
+-- Algorithms by the octets of their OIDs.
 use Rattle.std.proofs.Common.{◌≡◌, ◌≢◌, IsTrue, ℕ, List, ◌∷◌, Option, Some, None, sym, ap, ◌∙◌, subst}
 use Rattle.std.specs.Prelude.{option_to_list, MatchOption}
 use Rattle.der_core.specs.DerElement.{DerElement, Primitive, Constructed}
@@ -28,7 +28,7 @@ use Rattle.key_core.specs.declared.private_key_value.PrivateKeyValue.TheVariants
 leaf_once : (x y : List ℕ) → Primitive 0x06 x ≡ Primitive 0x06 y → x ≡ y
 leaf_once x y e = cc
 
--- the first of its kids is the identifier of the algorithm
+-- the first kid is the OID of the algorithm
 pub names_at : (t : DerElement) (kids rest : List DerElement) (first : DerElement) (oid : List ℕ) (kind : KeyKind) (a : AlgorithmIdentifier)
     → t ≡ sequence kids → kids ≡ first ∷ rest → first ≡ Primitive 0x06 oid → t ≡ algorithm_identifier a → IsTrue (names_kind kind oid) → Names a kind
 names_at t kids rest first oid kind a is begins leaf spells named =
@@ -37,12 +37,12 @@ names_at t kids rest first oid kind a is begins leaf spells named =
     let contents : oid ≡ identifier_contents a.oid = leaf_once oid (identifier_contents a.oid) (sym leaf ∙ one) in
     subst (λ (o : List ℕ). IsTrue (names_kind kind o)) contents named
 
--- an element that is an identifier holds its contents octets
+-- an OID's element holds its contents octets
 pub identifier_lies : (t : DerElement) (octets : List ℕ) → t ≡ Primitive 0x06 octets → Fits (λ (element : DerElement) (o : ObjectIdentifier). element ≡ object_identifier o) t
     → (o : ObjectIdentifier) × (t ≡ object_identifier o) × (identifier_contents o ≡ octets)
 identifier_lies t octets is fit = (fit.0, fit.1, leaf_once (identifier_contents fit.0) octets (sym fit.1 ∙ is))
 
--- the identifier that an element is, where it is the parameters of an algorithm
+-- the OID that the parameters of an algorithm are
 pub curve_of_parameters : {X : Type 0} (contents : X → List ℕ) (parameters : Option KeptElement) (raw : KeptElement) (t : DerElement) → Some raw ≡ parameters → t ≡ raw.element
     → (r : Option X) → MatchOption r ((o : ObjectIdentifier) → t ≢ object_identifier o)
     (λ x. (o : ObjectIdentifier) × (t ≡ object_identifier o) × (identifier_contents o ≡ contents x))
@@ -55,7 +55,7 @@ curve_of_parameters contents parameters raw t stands is None none = λ o e.
     none o one
 curve_of_parameters contents parameters raw t stands is (Some x) found = (found.0, sym (ap kept_option stands) ∙ ap Some (sym is) ∙ ap Some found.1, found.2)
 
--- ---- parameters of keys of elliptic curves
+-- ---- parameters of EC keys
 
 pub no_curve_lacks : (parameters : Option DerElement) → MayHave kinds.Ec parameters → ((o : ObjectIdentifier) → parameters ≢ Some (object_identifier o)) → ⊥
 no_curve_lacks None may none = absurd may

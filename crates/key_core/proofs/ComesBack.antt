@@ -36,7 +36,7 @@ use Rattle.key_core.specs.declared.private_key_value.PrivateKeyValue.{PrivateKey
 use Rattle.key_core.specs.declared.private_key_value.PrivateKeyValue.TheVariants as values
 use Rattle.key_core.proofs.KeptKeys.{one_curve, one_algorithm}
 
--- octets of a value are read, or there is no memory
+-- octets that encode a value are read, or memory runs out
 pub unread_for_memory : {X : Type 0} (spells : DerElement → X → Type 0) (octets : List ℕ) (element : DerElement) (value : X) → IsDer element → octets ≡ encoding element → spells element value
     → (structure : Element) (e : KeyError) → IsUnreadKey structure (RefusesOctets spells octets) e → e ≡ errors.Memory
 unread_for_memory spells octets element value bounds is spelled structure e (der.Malformed m, told, refused) = absurd (no_fault_where_whole octets element m.at m.fault bounds is refused)
@@ -47,7 +47,7 @@ unread_for_memory spells octets element value bounds is spelled structure e (der
 unread_for_memory spells octets element value bounds is spelled structure e (der.TooLong, told, refused) = absurd refused
 unread_for_memory spells octets element value bounds is spelled structure e (der.Memory, told, refused) = told
 
--- ---- a key that is kept isn't refused
+-- ---- a stored key isn't refused
 
 some_is_not_none : (key : List ℕ) → ◌≡◌ {A = Option (List ℕ)} (Some key) None → ⊥
 some_is_not_none key e = cc

@@ -1,4 +1,4 @@
--- A curve, or an algorithm on the curve 25519, and its identifier give each other.
+-- Curves and Curve25519 algorithms correspond to their OIDs.
 use Rattle.std.proofs.Common.{◌≡◌, IsTrue, ℕ, List, refl, sym, ◌∙◌, ap, lit<, Some}
 use Rattle.std.specs.Prelude.{Option, Contains, find}
 use Rattle.std.specs.Str.{bytes_eq}
@@ -18,7 +18,7 @@ has_curve NistP256 = (0, lit< tt, refl)
 has_curve NistP384 = (1, lit< tt, refl)
 has_curve NistP521 = (2, lit< tt, refl)
 
--- the curve of an identifier
+-- the curve with an OID
 abbrev named_curve : List ℕ → Option EcCurve
 named_curve contents = find (λ curve. bytes_eq (curve_identifier curve) contents) curves.ALL
 
@@ -27,12 +27,12 @@ named_curve-identifier NistP256 = refl
 named_curve-identifier NistP384 = refl
 named_curve-identifier NistP521 = refl
 
--- no two curves have one identifier
+-- no two curves share an OID
 pub same_curve : (a b : EcCurve) → curve_identifier a ≡ curve_identifier b → a ≡ b
 same_curve a b e =
     let n = sym (named_curve-identifier a) ∙ ap named_curve e ∙ named_curve-identifier b in cc
 
--- the table of identifiers has each of them
+-- the table of OIDs has each of them
 pub is_known-curve : (curve : EcCurve) → IsTrue (is_known (curve_identifier curve))
 is_known-curve NistP256 = refl
 is_known-curve NistP384 = refl
@@ -43,7 +43,7 @@ pub has_algorithm : (algorithm : EdAlgorithm) → Contains algorithms.ALL algori
 has_algorithm Ed25519 = (0, lit< tt, refl)
 has_algorithm X25519 = (1, lit< tt, refl)
 
--- the algorithm of an identifier
+-- the algorithm with an OID
 abbrev named_algorithm : List ℕ → Option EdAlgorithm
 named_algorithm contents = find (λ algorithm. bytes_eq (ed_identifier algorithm) contents) algorithms.ALL
 
@@ -51,12 +51,12 @@ named_algorithm-identifier : (algorithm : EdAlgorithm) → named_algorithm (ed_i
 named_algorithm-identifier Ed25519 = refl
 named_algorithm-identifier X25519 = refl
 
--- no two algorithms have one identifier
+-- no two algorithms share an OID
 pub same_algorithm : (a b : EdAlgorithm) → ed_identifier a ≡ ed_identifier b → a ≡ b
 same_algorithm a b e =
     let n = sym (named_algorithm-identifier a) ∙ ap named_algorithm e ∙ named_algorithm-identifier b in cc
 
--- the table of identifiers has each of them
+-- the table of OIDs has each of them
 pub is_known-algorithm : (algorithm : EdAlgorithm) → IsTrue (is_known (ed_identifier algorithm))
 is_known-algorithm Ed25519 = refl
 is_known-algorithm X25519 = refl

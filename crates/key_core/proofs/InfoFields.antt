@@ -22,7 +22,7 @@ use Rattle.key_core.specs.declared.private_key_version.PrivateKeyVersion.{Privat
 use Rattle.key_core.specs.declared.private_key_value.PrivateKeyValue.{PrivateKeyValue}
 use Rattle.key_core.specs.declared.private_key_info.PrivateKeyInfo.{PrivateKeyInfo}
 
--- contents octets of a BIT STRING that are there
+-- contents octets of a BIT STRING
 pub bits_of : (o : Option (List ℕ)) (content : List ℕ) → o ≡ Some content → HasBitString content → (bits : Option BitString) × (o ≡ option_map bit_string_contents bits)
 bits_of o content is bits = (Some (record { unused = bits.0; payload = bits.1; formed = bits.3 }), is ∙ ap Some bits.2)
 

@@ -1,4 +1,4 @@
--- A key that is kept of a container is the one that is kept of it.
+-- A key stored for a container is the key of that container.
 use Rattle.std.proofs.Common.{◌≡◌, ℕ, List, Option, Some, None, refl, sym, subst, ap, ◌∙◌}
 use Rattle.std.specs.Option.{option_map}
 use Rattle.der_core.specs.DerElement.{Primitive}
@@ -27,7 +27,7 @@ use Rattle.key_core.specs.declared.private_key_value.PrivateKeyValue.{PrivateKey
 use Rattle.key_core.specs.declared.private_key_value.PrivateKeyValue.TheVariants as values
 use Rattle.key_core.proofs.Curves.{same_curve, same_algorithm}
 
--- ---- one known curve, one known algorithm
+-- ---- one supported curve, one supported algorithm
 
 pub one_curve : (oid : List ℕ) (a b : Option EcCurve) → IsCurveOf oid a → IsCurveOf oid b → a ≡ b
 one_curve oid None None p q = refl
@@ -109,7 +109,7 @@ one_kept derives (values.Rsa rsa) info a b p q = same_key a b (p.0 ∙ sym q.0) 
 one_kept derives (values.Ec read) info a b p q = one_kept_ec derives read info a b p q
 one_kept derives (values.Ed secret) info a b p q = one_kept_ed derives secret info a b p q
 
--- ---- a key that was read is kept of its own container
+-- ---- a key that was read is the key of its own container
 
 again_curve : (curve : ObjectIdentifier) (parameters : Option ObjectIdentifier)
     → option_map (λ (o : ObjectIdentifier). curve)

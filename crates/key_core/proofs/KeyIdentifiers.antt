@@ -1,4 +1,4 @@
--- Why the RSAPublicKey of a key isn't written, as an error of an identifier.
+-- Why the RSAPublicKey of a key isn't written, as an error of a key identifier.
 use Rattle.std.proofs.Common.{[], ◌∷◌, refl}
 use Rattle.der_core.specs.Refusals.{RefusesInner}
 use Rattle.der_core.specs.declared.error.DerError.{DerError}

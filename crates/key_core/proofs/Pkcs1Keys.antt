@@ -1,4 +1,4 @@
--- What is written of a key of RSA that was read.
+-- What is written of an RSA key that was read.
 use Rattle.std.proofs.Common.{◌≡◌, ℕ, List, sym, ◌∙◌, ap, subst}
 use Rattle.der_core.specs.Encoding.{encoding}
 use Rattle.key_types.specs.declared.key_info.SubjectPublicKeyInfo.{SubjectPublicKeyInfo}

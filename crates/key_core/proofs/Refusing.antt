@@ -1,4 +1,4 @@
--- Answers on keys of elliptic curves that were read.
+-- Results for EC keys that were read.
 use Rattle.std.proofs.Common.{◌≡◌, ℕ, List, Option, Some, Result, Ok, Err, inr, sym, ap, ◌∙◌, subst}
 use Rattle.std.specs.Prelude.{MatchResult}
 use Rattle.der_core.specs.DerElement.{DerElement, Primitive}
@@ -23,7 +23,7 @@ use Rattle.key_core.specs.declared.private_key_value.PrivateKeyValue.{PrivateKey
 use Rattle.key_core.specs.declared.private_key_value.PrivateKeyValue.TheVariants as values
 use Rattle.key_core.proofs.KeptKeys.{one_curve}
 
--- a refusal of a curve for one reason is one for another that follows
+-- a refusal of a curve for one reason is one for a reason that follows from it
 pub ec_refusal : (P Q : KeyContext → Type 0) → ((context : KeyContext) → P context → Q context) → (e : KeyError) → IsEcRefusal P e → IsEcRefusal Q e
 ec_refusal P Q f (errors.Asn1Serialization x s) r = r
 ec_refusal P Q f (errors.Asn1Deserialization x s) r = r
@@ -38,7 +38,7 @@ known_refused : (derives : Derivation) (curve : EcCurve) (oid : ObjectIdentifier
 known_refused derives curve oid read named context r =
     subst (λ (k : Option EcCurve). RefusesPoint derives k read.private_key read.public_key context) (one_curve (identifier_contents oid) r.0 (Some curve) r.1 (sym named)) r.2
 
--- an answer on the curve of an identifier is one on the known curve that it names
+-- a result on the curve with an OID is one on the supported curve that it names
 pub on_known_curve : (derives : Derivation) (curve : EcCurve) (oid : ObjectIdentifier) (read : ECPrivateKey) → identifier_contents oid ≡ curve_identifier curve
     → (r : Result PrivateKey KeyError) → MatchResult r (IsCurveKey derives oid read) (IsEcRefusal (RefusesCurveKey derives oid read))
     → MatchResult r (λ key. (o : ObjectIdentifier) × (identifier_contents o ≡ curve_identifier curve) × IsCurveKey derives o read key) (IsEcRefusal (RefusesKnownCurve derives curve read))
@@ -47,7 +47,7 @@ on_known_curve derives curve oid read named (Err e) r = ec_refusal
     (RefusesCurveKey derives oid read) (RefusesKnownCurve derives curve read)
     (known_refused derives curve oid read named) e r
 
--- an answer on the curve that stands in a key
+-- a result on the curve that a key names
 pub on_own_curve : (derives : Derivation) (curve : ObjectIdentifier) (read : ECPrivateKey) → read.parameters ≡ Some curve
     → (r : Result PrivateKey KeyError) → MatchResult r (IsCurveKey derives curve read) (IsEcRefusal (RefusesCurveKey derives curve read))
     → MatchResult r (λ key. (o : ObjectIdentifier) × (read.parameters ≡ Some o) × IsCurveKey derives o read key) (IsEcRefusal (RefusesOwnCurve derives read.parameters read))
@@ -55,7 +55,7 @@ on_own_curve derives curve read stands (Ok key) is = (curve, stands, is)
 on_own_curve derives curve read stands (Err e) r =
     subst (λ (o : Option ObjectIdentifier). IsEcRefusal (RefusesOwnCurve derives o read) e) (sym stands) r
 
--- an answer on the curve that parameters name
+-- a result on the curve that parameters name
 pub on_parameters : (derives : Derivation) (parameters : Option DerElement) (octets : List ℕ) (curve : ObjectIdentifier) (read : ECPrivateKey)
     → ((o : ObjectIdentifier) × (parameters ≡ Some (object_identifier o)) × (identifier_contents o ≡ octets)) → identifier_contents curve ≡ octets
     → (r : Result PrivateKey KeyError) → MatchResult r (IsCurveKey derives curve read) (IsEcRefusal (RefusesCurveKey derives curve read))
@@ -75,7 +75,7 @@ as_ec : (derives : Derivation) (info : PrivateKeyInfo) (read : ECPrivateKey)
 as_ec derives info read (Ok key) made = record { curve = made.0; parameters = made.1; is = made.2 }
 as_ec derives info read (Err e) refused = refused
 
--- a container with a key of an elliptic curve
+-- a container with an EC key
 pub kept_as_ec : (derives : Derivation) (info : PrivateKeyInfo) (read : ECPrivateKey) → info.private_key ≡ values.Ec read
     → (r : Result PrivateKey KeyError)
     → MatchResult r (λ key. (o : ObjectIdentifier) × (kept_option info.private_key_algorithm.parameters ≡ Some (object_identifier o)) × IsCurveKey derives o read key) (IsEcRefusal (RefusesEcInfo derives read (kept_option info.private_key_algorithm.parameters)))
@@ -83,7 +83,7 @@ pub kept_as_ec : (derives : Derivation) (info : PrivateKeyInfo) (read : ECPrivat
 kept_as_ec derives info read is r answer =
     subst (λ (v : PrivateKeyValue). MatchResult r (IsKeptKey derives v info) (RefusesKept derives v info)) (sym is) (as_ec derives info read r answer)
 
--- ---- answers on octets
+-- ---- results for octets
 
 pub key_is_not_refused : (key : ECPrivateKey) (e : KeyError) → ◌≡◌ {A = Result ECPrivateKey KeyError} (Ok key) (Err e) → ⊥
 key_is_not_refused key e same = cc

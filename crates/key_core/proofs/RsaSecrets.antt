@@ -1,4 +1,4 @@
--- The octets of a private key of RSA are what the scheme for demonstrations takes for a secret of RSA.
+-- The encoding of an RSA private key is what the demonstration scheme accepts as an RSA secret.
 use Rattle.std.proofs.Common.{◌≡◌, ℕ, List, Option, Some, sym, ap, subst, ◌∙◌}
 use Rattle.der_core.specs.Encoding.{encoding, IsDer}
 use Rattle.asn1_types.specs.Values.{integer_contents}

@@ -1,4 +1,4 @@
--- An algorithm of signatures and its identifier give each other.
+-- Signature algorithms correspond to their OIDs.
 use Rattle.std.proofs.Common.{◌≡◌, ◌≢◌, IsTrue, ℕ, List, refl, sym, ◌∙◌, subst, lit<, Some, None}
 use Rattle.std.specs.Prelude.{Bool, false, Option, Contains, find}
 use Rattle.std.specs.Str.{bytes_eq}
@@ -9,7 +9,7 @@ use Rattle.key_core.specs.declared.signature_algorithm.SignatureAlgorithm.{Signa
 use Rattle.key_core.specs.declared.signature_algorithm.SignatureAlgorithm.TheVariants.{RsaPkcs1v15, Ecdsa, Ed25519}
 use Rattle.key_core.specs.declared.signature_algorithm.TheConstants.SignatureAlgorithm as constants
 
--- the list has each algorithm with an identifier
+-- the list has each algorithm with an OID
 pub has_algorithm : (algorithm : SignatureAlgorithm) → signature_identifier algorithm ≢ None → Contains constants.IDENTIFIED algorithm
 has_algorithm (RsaPkcs1v15 MD5) some = (0, lit< tt, refl)
 has_algorithm (RsaPkcs1v15 SHA1) some = (1, lit< tt, refl)
@@ -28,16 +28,16 @@ has_algorithm Ed25519 some = (9, lit< tt, refl)
 pub is_there : (algorithm : SignatureAlgorithm) (contents : List ℕ) → signature_identifier algorithm ≡ Some contents → signature_identifier algorithm ≢ None
 is_there algorithm contents some none = cc
 
--- whether the identifier has these contents octets
+-- whether the OID has these contents octets
 abbrev is_identifier : Option (List ℕ) → List ℕ → Bool
 is_identifier None contents = false
 is_identifier (Some identifier) contents = bytes_eq identifier contents
 
--- the algorithm of an identifier
+-- the algorithm with an OID
 abbrev named_algorithm : List ℕ → Option SignatureAlgorithm
 named_algorithm contents = find (λ algorithm. is_identifier (signature_identifier algorithm) contents) constants.IDENTIFIED
 
--- what holds of the octets in a row of the table holds of octets that are the same
+-- what holds for the octets in a table entry holds for equal octets
 in_row : (P : List ℕ → Type 0) (x y : List ℕ) → ◌≡◌ {A = Option (List ℕ)} (Some x) (Some y) → P x → P y
 in_row P x y e p = let same : x ≡ y = cc in subst P same p
 
@@ -62,12 +62,12 @@ named_is (Ecdsa SHA2_384) x e = in_row (IsNamed (Ecdsa SHA2_384)) _ x e refl
 named_is (Ecdsa SHA2_512) x e = in_row (IsNamed (Ecdsa SHA2_512)) _ x e refl
 named_is Ed25519 x e = in_row (IsNamed Ed25519) _ x e refl
 
--- no two algorithms have one identifier
+-- no two algorithms share an OID
 pub same_algorithm : (a b : SignatureAlgorithm) (contents : List ℕ) → signature_identifier a ≡ Some contents → signature_identifier b ≡ Some contents → a ≡ b
 same_algorithm a b contents p q =
     let n = sym (named_is a contents p) ∙ named_is b contents q in cc
 
--- the table of identifiers has each of them
+-- the table of OIDs has each of them
 abbrev IsKnown : List ℕ → Type 0
 IsKnown contents = IsTrue (is_known contents)
 

@@ -1,4 +1,5 @@
--- Which rules a private key meets that is one for an algorithm, that each rule is told by one error, and that a pair of keys fits together.
+-- Which rules a private key that fits an algorithm meets, that one error reports each rule, and
+-- that a pair of keys fits together.
 use Rattle.std.proofs.Common.{◌≡◌, ◌⊎◌, ℕ, List, [], ◌∷◌, Option, Some, None, Bool, true, false, refl, sym, ap, subst, ◌∙◌, inl, inr, length}
 use Rattle.std.specs.Prelude.{Result, Ok, Err, IfOk, MatchResult}
 use Rattle.der_core.specs.DerElement.{DerElement, Primitive}
@@ -90,7 +91,7 @@ ed_is_not_rsa x y e = cc
 ec_is_not_ed : (x : ECPrivateKey) (y : List ℕ) → values.Ec x ≡ values.Ed y → ⊥
 ec_is_not_ed x y e = cc
 
--- ---- a private key that is one for an algorithm meets the rules on keys
+-- ---- a private key that fits an algorithm meets the rules for keys
 
 rsa_kind : (key : PrivateKeyValue) (secret : List ℕ) → IsPkcs1OfPrivate key secret → private_kind key ≡ kinds.Rsa
 rsa_kind (values.Rsa key) secret of = refl
@@ -150,7 +151,7 @@ writable_secret (RsaPkcs1v15 hash) key alg secret fits = λ e broken. written (r
 writable_secret (Ecdsa hash) key alg secret fits = λ e broken. ec_is_not_rsa fits.3.ec broken.rsa (sym fits.3.is ∙ broken.is)
 writable_secret Ed25519 key alg secret fits = λ e broken. ed_is_not_rsa secret broken.rsa (sym fits.1.is ∙ broken.is)
 
--- ---- one name and one secret for a key
+-- ---- a key has one name and one secret
 
 pub one_secret : (algorithm : SignatureAlgorithm) (key : PrivateKey) (a b : SigAlg) (x y : List ℕ)
     → FitsSecret algorithm key a x → FitsSecret algorithm key b y → (a ≡ b) × (x ≡ y)
@@ -167,7 +168,7 @@ one_asked signs algorithm key msg v w p q =
     let same = one_secret algorithm key p.alg q.alg p.secret q.secret p.fits q.fits in
     sym p.signed ∙ ap (λ (alg : SigAlg). signs alg p.secret msg) same.0 ∙ ap (λ (secret : List ℕ). signs q.alg secret msg) same.1 ∙ q.signed
 
--- ---- each rule is told by one error
+-- ---- one error reports each rule
 
 unpaired_once : (key : PrivateKey) (hash : HashAlgorithm) (a b : SignatureError) → UnpairedSecret key hash a → UnpairedSecret key hash b → a ≡ b
 unpaired_once key hash a b p q = p.3 ∙ ap (λ (curve : EcCurve). errors.UnsupportedAlgorithm (unsupported.Pairing curve hash)) (one_curve_of key p.0 q.0 p.1 q.1) ∙ sym q.3
@@ -211,7 +212,7 @@ unsigned_is_broken signs algorithm key msg asked =
     broken_behind (secret_rules algorithm key) _ (scheme_refused algorithm) (secret_met algorithm key asked.alg asked.secret asked.fits)
     (inr (writable_secret algorithm key asked.alg asked.secret asked.fits, inl (asked, refl)))
 
--- what the scheme made, or why it didn't
+-- what the scheme made, or why it made nothing
 pub made_of : {X : Type 0} (signs : Signs) (algorithm : SignatureAlgorithm) (key : PrivateKey) (msg : List ℕ) (alg : SigAlg) (secret : List ℕ) → FitsSecret algorithm key alg secret
     → (r : Result X SignatureError)
     → MatchResult r (λ _. signs alg secret msg ≡ true) (λ e. ((signs alg secret msg ≡ false) × (e ≡ scheme_refused algorithm)) ⊎ (e ≡ errors.Memory))
@@ -222,7 +223,7 @@ made_of signs algorithm key msg alg secret fits (Err e) (inl unsigned) =
     inl (subst (IsFirstBroken (sign_rules signs algorithm key msg)) (sym unsigned.1)
     (unsigned_is_broken signs algorithm key msg (record { alg = alg; secret = secret; fits = fits; signed = unsigned.0 })))
 
--- the same, where the algorithm is known by an equation
+-- the same, given the algorithm by an equation
 pub made_by : {X : Type 0} (signs : Signs) (self algorithm : SignatureAlgorithm) → self ≡ algorithm → (key : PrivateKey) (msg : List ℕ) (alg : SigAlg) (secret : List ℕ) → FitsSecret algorithm key alg secret
     → (r : Result X SignatureError)
     → MatchResult r (λ _. signs alg secret msg ≡ true) (λ e. ((signs alg secret msg ≡ false) × (e ≡ scheme_refused algorithm)) ⊎ (e ≡ errors.Memory))
@@ -246,7 +247,8 @@ ecdsa_scheme curves.NistP256 = refl
 ecdsa_scheme curves.NistP384 = refl
 ecdsa_scheme curves.NistP521 = refl
 
--- the public key of a pair is one for the algorithm, by the same name, and the scheme pairs its key bytes with the secret
+-- the public key of a pair fits the algorithm, by the same name, and the scheme pairs its key bytes
+-- with the secret
 pub pair_fits : (pair : Pair) (algorithm : SignatureAlgorithm) (key : PrivateKey) (info : SubjectPublicKeyInfo) (alg : SigAlg) (secret : List ℕ)
     → FitsSecret algorithm key alg secret → IsKeyPair pair key info
     → (bytes : List ℕ) × FitsKey algorithm info alg bytes × pair (kind_of_algorithm alg) bytes secret
@@ -325,7 +327,7 @@ rsa_refused_of key (values.Ed k) source is refused = inl (inl (λ kind. ed_is_no
 pub rsa_refused : (key : PrivateKey) (source : KeyError) → RefusesPrivatePkcs1 key.info.private_key source → RefusesSignatureBy (NotRsaSecret key ∷ UnwritableSecret key ∷ []) (key_refusal source)
 rsa_refused key source refused = rsa_refused_of key key.info.private_key source refl refused
 
--- a key of Ed25519 whose octets are 32 or another count
+-- an Ed25519 key has 32 octets or another size
 pub ed_sized : {X : Type 0} (now : X → List ℕ) (key : PrivateKey) (bits : BitString) (secret : List ℕ) → key.info.private_key ≡ values.Ed secret → key.public_key ≡ Some bits → HasEdOf key ed.Ed25519
     → (r : Result X SignatureError)
     → MatchResult r (λ octets. (now octets ≡ secret) × (length bits.payload ≡ 32) × (length secret ≡ 32)) (λ e. ((length bits.payload ≡ 32) × (length secret ≡ 32) → ⊥) × (e ≡ errors.Ed contexts.KeySize))

@@ -1,4 +1,4 @@
--- Elements that can't be written, alone.
+-- Elements that can't be written, on their own.
 use Rattle.std.proofs.Common.{◌≡◌, ◌≢◌, List, [], ◌∷◌, ◌++◌, refl, subst, arith}
 use Rattle.der_core.specs.DerElement.{DerElement}
 use Rattle.der_core.specs.Encoding.{IsDer}
@@ -8,7 +8,7 @@ use Rattle.der_core.specs.declared.error.DerError.{DerError}
 use Rattle.der_core.specs.declared.error.DerError.TheVariants as der
 use Rattle.key_core.specs.KeyRefusals.{CantBeWritten}
 
--- an element in bounds is refused only when out of memory
+-- an element within limits is refused only when out of memory
 pub written : (t : DerElement) (e : DerError) → IsDer t → CantBeWritten t e → ⊥
 written t (der.Malformed m) bounds refuses = refuses.cause
 written t der.Shape bounds refuses = refuses.cause
@@ -34,7 +34,7 @@ no_tail t x y xs e = cc
 same_head : (t x : DerElement) (xs : List DerElement) → t ∷ [] ≡ x ∷ xs → x ≡ t
 same_head t x xs e = cc
 
--- of one element that one is the first that can't be written
+-- of one element, that one is the first that can't be written
 first_is : (t : DerElement) (e : DerError) → IsFirstUnwritable (t ∷ []) e → RefusesToWrite t e
 first_is t e ([], element, after, parts, der, refused) = subst (λ (x : DerElement). RefusesToWrite x e) (same_head t element after parts) refused
 first_is t e (x ∷ [], element, after, parts, der, refused) = absurd (no_tail t x element after parts)
@@ -54,7 +54,7 @@ none_among : (before : List DerElement) (element : DerElement) (after : List Der
 none_among [] element after e = absurd cc
 none_among (x ∷ before) element after e = absurd cc
 
--- where no elements are inner ones, memory alone was lacking
+-- without inner elements, the only cause is out of memory
 pub nothing_refuses : (inner : List DerElement) (e : DerError) → RefusesInner [] e → RefusesInner inner e
 nothing_refuses inner (der.Malformed m) refused = absurd refused
 nothing_refuses inner der.Shape refused = absurd refused

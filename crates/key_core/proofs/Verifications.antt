@@ -1,4 +1,4 @@
--- Which rules a key meets that is one for an algorithm, and that each rule is told by one error.
+-- Which rules a key that fits an algorithm meets, and that one error reports each rule.
 use Rattle.std.proofs.Common.{◌≡◌, ◌≢◌, ℕ, List, [], ◌∷◌, ◌++◌, Option, Some, None, refl, sym, ap, subst, ◌∙◌, inl, inr, length}
 use Rattle.std.specs.Prelude.{Result, Ok, Err, MatchResult}
 use Rattle.der_core.specs.DerElement.{DerElement, Primitive}
@@ -68,7 +68,7 @@ same_some x y e = cc
 pub not_x25519 : ed.Ed25519 ≡ ed.X25519 → ⊥
 not_x25519 e = cc
 
--- ---- a key that is one for an algorithm meets the rules on keys
+-- ---- a key that fits an algorithm meets the rules for keys
 
 rsa_kind : (key : SubjectKey) (bytes : List ℕ) → IsPkcs1Of key bytes → kind_of_key key ≡ kinds.Rsa
 rsa_kind (keys.Rsa key) bytes of = refl
@@ -113,7 +113,7 @@ writable (RsaPkcs1v15 hash) info alg bytes
 writable (Ecdsa hash) info alg bytes fits = λ e broken. ec_is_not_rsa fits.3.bits broken.key (sym fits.3.is ∙ broken.is)
 writable Ed25519 info alg bytes fits = λ e broken. ed_is_not_rsa fits.1.bits broken.key (sym fits.1.is ∙ broken.is)
 
--- ---- one name and one text of octets for a key
+-- ---- a key has one name and one sequence of octets
 
 rsa_bytes_once : (key : SubjectKey) (x y : List ℕ) → IsPkcs1Of key x → IsPkcs1Of key y → x ≡ y
 rsa_bytes_once (keys.Rsa key) x y p q = p.0 ∙ sym q.0
@@ -139,7 +139,7 @@ one_verdict judge algorithm info msg sig v w p q =
     let same = one_fit algorithm info p.alg q.alg p.bytes q.bytes p.fits q.fits in
     sym p.judged ∙ ap (λ (alg : SigAlg). judge alg p.bytes msg sig) same.0 ∙ ap (λ (bytes : List ℕ). judge q.alg bytes msg sig) same.1 ∙ q.judged
 
--- ---- each rule is told by one error
+-- ---- one error reports each rule
 
 unpaired_once : (info : SubjectPublicKeyInfo) (hash : HashAlgorithm) (a b : SignatureError) → Unpaired info hash a → Unpaired info hash b → a ≡ b
 unpaired_once info hash a b p q = p.3 ∙ ap (λ (curve : EcCurve). errors.UnsupportedAlgorithm (unsupported.Pairing curve hash)) (one_curve info p.0 q.0 p.1 q.1) ∙ sym q.3
@@ -213,7 +213,7 @@ deep_is_not_memory e = cc
 pub long_is_not_memory : der.TooLong ≢ der.Memory
 long_is_not_memory e = cc
 
--- why a key of RSA isn't written, as an error of a signature
+-- why an RSA key isn't written, as an error of a signature
 rsa_unwritten : (info : SubjectPublicKeyInfo) (k : RsaPublicKey) → info.subject_public_key ≡ keys.Rsa k → (x : DerError) (source : KeyError)
     → source ≡ unwritten elements.RsaPublicKey x → RefusesInner (rsa_public_key k ∷ []) x → RefusesSignatureBy (NotRsa info ∷ Unwritable info ∷ []) (key_refusal source)
 rsa_unwritten info k is (der.Malformed m) source e refused = absurd refused
@@ -255,7 +255,7 @@ pub rsa_refused : (info : SubjectPublicKeyInfo) (source : KeyError) → kind_of_
     → RefusesPkcs1 info.subject_public_key source → RefusesSignatureBy (NotRsa info ∷ Unwritable info ∷ []) (key_refusal source)
 rsa_refused info source kind refused = rsa_refused_of info info.subject_public_key source refl kind refused
 
--- a key of Ed25519 that has 32 octets or another count
+-- an Ed25519 key has 32 octets or another size
 pub ed_sized : {X : Type 0} (now : X → List ℕ) (info : SubjectPublicKeyInfo) (bits : BitString) → info.subject_public_key ≡ keys.Ed bits → IsOfEd info ed.Ed25519
     → (r : Result X SignatureError)
     → MatchResult r (λ bytes. (now bytes ≡ bits.payload) × (length (now bytes) ≡ 32))
@@ -269,7 +269,7 @@ pub ed_unknown : (info : SubjectPublicKeyInfo) (bits : BitString) → info.subje
     → IsFirstBroken (key_rules Ed25519 info) (errors.Key (key_errors.ED key_contexts.UnsupportedEd))
 ed_unknown info bits is none = inr (λ other broken. broken.0 (ap kind_of_key is), inr (λ other broken. none ed.X25519 broken.0, inl (none ed.Ed25519, refl)))
 
--- of a key of RSA the octets that are lent are its own
+-- for an RSA key the borrowed octets are its own encoding
 pub lent_rsa : (key : SubjectKey) (octets : List ℕ) → ((k : RsaPublicKey) → key ≡ keys.Rsa k → IsPkcs1Of (keys.Rsa k) octets) → kind_of_key key ≡ kinds.Rsa → IsPkcs1Of key octets
 lent_rsa (keys.Rsa k) octets lent kind = lent k refl
 lent_rsa (keys.Ec bits) octets lent kind = absurd cc

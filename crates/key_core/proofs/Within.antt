@@ -1,4 +1,4 @@
--- Private keys in octets, by their kinds.
+-- Private keys in octets, by kind.
 use Rattle.std.proofs.Common.{◌≡◌, ℕ, List, refl, sym, ap, subst, ◌∙◌}
 use Rattle.der_core.specs.DerElement.{DerElement}
 use Rattle.der_core.specs.Elements.{octet_string}

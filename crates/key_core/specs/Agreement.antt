@@ -1,4 +1,4 @@
--- What the fields of a PrivateKeyInfo have to do with one another.
+-- How the fields of a PrivateKeyInfo must agree.
 use Rattle.std.specs.Prelude.{Option}
 use Rattle.der_core.specs.Kept.{KeptElement}
 use Rattle.der_core.specs.Lent.{kept_option}
@@ -8,10 +8,10 @@ use Rattle.key_core.specs.PrivateKeyValue.{private_kind}
 use Rattle.key_core.specs.PrivateKeyFields.{HaveTag}
 use Rattle.key_core.specs.declared.private_key_value.PrivateKeyValue.{PrivateKeyValue}
 
--- The algorithm is one for keys of the kind of the key, and the attributes stand under their tag.
+-- The algorithm names keys of the kind of the key, and the attributes have their tag.
 pub record Agree (algorithm : AlgorithmIdentifier) (key : PrivateKeyValue)
     (attributes : Option KeptElement) : Type 0 where
-  -- the algorithm names keys of the kind that the key is
+  -- the algorithm names keys of this kind
   pub named : Names algorithm (private_kind key)
-  -- the attributes stand under their tag
+  -- the attributes have their tag
   pub tagged : HaveTag (kept_option attributes)

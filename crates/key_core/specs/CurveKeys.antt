@@ -1,5 +1,4 @@
--- Private keys of elliptic curves: their containers, those that are made of parts, and those that
--- are read from an ECPrivateKey.
+-- EC private keys: their containers, keys from components, and keys read from an ECPrivateKey.
 use Rattle.std.specs.Prelude.{◌≡◌, ⊤, ℕ, List, ◌∷◌, ◌++◌, Option, Some, None}
 use Rattle.std.specs.Option.{option_map}
 use Rattle.der_core.specs.DerElement.{DerElement}
@@ -29,8 +28,8 @@ use Rattle.key_core.specs.declared.private_key_info.PrivateKeyInfo.{PrivateKeyIn
 use Rattle.key_core.specs.declared.private_key_value.PrivateKeyValue.TheVariants as values
 use Rattle.key_core.specs.declared.private_key_version.PrivateKeyVersion.TheVariants as versions
 
--- The container of a key of an elliptic curve (RFC 5480 2.1.1): the parameters name the curve, and
--- nothing stands beside the key.
+-- The container of an EC key (RFC 5480 2.1.1): the parameters name the curve, and it has neither
+-- attributes nor a public key.
 pub record IsEcContainer (curve : ObjectIdentifier) (key : ECPrivateKey)
     (info : PrivateKeyInfo) : Type 0 where
   pub version : info.version ≡ versions.V1
@@ -41,21 +40,21 @@ pub record IsEcContainer (curve : ObjectIdentifier) (key : ECPrivateKey)
   pub attributes : info.attributes ≡ None
   pub public_key : info.public_key ≡ None
 
--- ---- made of parts
+-- ---- from components
 
--- the ECPrivateKey of a curve, a secret and a point, where there is one
+-- the ECPrivateKey with a curve, a secret and a point, if any
 abbrev pub given : ObjectIdentifier → List ℕ → Option BitString → ECPrivateKey
 given curve secret point =
     record { private_key = secret; parameters = Some curve; public_key = point }
 
--- A key of these octets as its secret and its point, where one is given: its ECPrivateKey names the
--- curve and has the point.
+-- A key with these octets as its secret and, if given, its point: its ECPrivateKey names the curve
+-- and has the point.
 pub record IsGivenCurveKey (curve : ObjectIdentifier) (secret : List ℕ) (point : Option (List ℕ))
     (key : PrivateKey) : Type 0 where
   pub container : IsEcContainer curve (given curve secret key.public_key) key.info
   pub point_is : option_map bit_string_contents key.public_key ≡ option_map whole_bits point
 
--- A key of a known curve, whose point is 04, then its coordinates (SEC 1 2.3.3).
+-- A key on a supported curve, whose point is 04, then its coordinates (SEC 1 2.3.3).
 pub record IsGivenPointKey (curve : EcCurve) (secret x y : List ℕ) (key : PrivateKey) : Type 0 where
   pub oid : ObjectIdentifier
   pub named : identifier_contents oid ≡ curve_identifier curve
@@ -64,12 +63,12 @@ pub record IsGivenPointKey (curve : EcCurve) (secret x y : List ℕ) (key : Priv
 
 -- ---- read
 
--- the element is the one of this key
+-- the element is the ECPrivateKey
 abbrev pub IsECPrivateKey : DerElement → ECPrivateKey → Type 0
 IsECPrivateKey element key = element ≡ ec_private_key key
 
--- The ECPrivateKey that is written for one that was read: of the curve, which stands in it where
--- one stood in what was read. A point that was derived doesn't stand in it.
+-- The ECPrivateKey that is written for one that was read: it names the curve if that one named a
+-- curve. A derived point isn't in it.
 abbrev pub anew : ObjectIdentifier → ECPrivateKey → ECPrivateKey
 anew curve read = record {
   private_key = read.private_key;
@@ -77,7 +76,7 @@ anew curve read = record {
   public_key = read.public_key;
 }
 
--- The key on this curve of an ECPrivateKey that was read.
+-- The key of an ECPrivateKey on this curve.
 pub record IsCurveKey (derives : Derivation) (curve : ObjectIdentifier) (read : ECPrivateKey)
     (key : PrivateKey) : Type 0 where
   pub known : Option EcCurve
@@ -85,21 +84,20 @@ pub record IsCurveKey (derives : Derivation) (curve : ObjectIdentifier) (read : 
   pub container : IsEcContainer curve (anew curve read) key.info
   pub point : IsPointOf derives known read.private_key read.public_key key.public_key
 
--- why there is none
+-- why there is no such key
 abbrev pub RefusesCurveKey : Derivation → ObjectIdentifier → ECPrivateKey → KeyContext → Type 0
 RefusesCurveKey derives curve read context =
     (known : Option EcCurve) × IsCurveOf (identifier_contents curve) known
     × RefusesPoint derives known read.private_key read.public_key context
 
--- A key on this curve by the encoding of its ECPrivateKey (RFC 5915 3), whatever curve stands in
--- it.
+-- The key of the encoding of an ECPrivateKey (RFC 5915 3) on this curve, whatever curve it names.
 pub record IsSec1KeyOn (derives : Derivation) (curve : ObjectIdentifier) (octets : List ℕ)
     (key : PrivateKey) : Type 0 where
   pub read : ECPrivateKey
   pub within : IsWithin IsECPrivateKey octets read
   pub is : IsCurveKey derives curve read key
 
--- A key on the curve that stands in the ECPrivateKey.
+-- The same on the curve that the ECPrivateKey names.
 pub record IsSec1Key (derives : Derivation) (octets : List ℕ) (key : PrivateKey) : Type 0 where
   pub curve : ObjectIdentifier
   pub read : ECPrivateKey
@@ -107,14 +105,14 @@ pub record IsSec1Key (derives : Derivation) (octets : List ℕ) (key : PrivateKe
   pub stands : read.parameters ≡ Some curve
   pub is : IsCurveKey derives curve read key
 
--- A key on a known curve.
+-- The same on a supported curve.
 pub record IsSec1KeyOnKnown (derives : Derivation) (curve : EcCurve) (octets : List ℕ)
     (key : PrivateKey) : Type 0 where
   pub oid : ObjectIdentifier
   pub named : identifier_contents oid ≡ curve_identifier curve
   pub is : IsSec1KeyOn derives oid octets key
 
--- The octets aren't those of an ECPrivateKey, or the one that they are is refused with a context.
+-- The octets don't encode an ECPrivateKey, or the one that they encode is refused with a context.
 abbrev pub RefusesSec1 : (ECPrivateKey → KeyContext → Type 0) → List ℕ → KeyError → Type 0
 RefusesSec1 Refuses octets (errors.Asn1Serialization element source) = ⊥
 RefusesSec1 Refuses octets (errors.Asn1Deserialization element source) =
@@ -127,13 +125,13 @@ RefusesSec1 Refuses octets (errors.ED context) = ⊥
 RefusesSec1 Refuses octets (errors.UnsupportedAlgorithm kind) = ⊥
 RefusesSec1 Refuses octets errors.Memory = ⊤
 
--- no curve stands in it, or there is no key on the one that does
+-- it names no curve, or there is no key on the curve that it names
 abbrev pub RefusesOwnCurve : Derivation → Option ObjectIdentifier → ECPrivateKey → KeyContext
     → Type 0
 RefusesOwnCurve derives None read context = context ≡ contexts.CurveMissing
 RefusesOwnCurve derives (Some curve) read context = RefusesCurveKey derives curve read context
 
--- by the known curve
+-- the same on a supported curve
 abbrev pub RefusesKnownCurve : Derivation → EcCurve → ECPrivateKey → KeyContext → Type 0
 RefusesKnownCurve derives curve read context =
     RefusesPoint derives (Some curve) read.private_key read.public_key context

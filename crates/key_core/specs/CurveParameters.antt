@@ -1,12 +1,12 @@
--- The parameters that a private key is kept with.
+-- The parameters that a private key is stored with.
 use Rattle.std.specs.Prelude.{⊤, Option, Some, None}
 use Rattle.der_core.specs.DerElement.{DerElement}
 use Rattle.key_types.specs.KeyKind.{IsOid}
 use Rattle.key_core.specs.declared.private_key_value.PrivateKeyValue.{PrivateKeyValue}
 use Rattle.key_core.specs.declared.private_key_value.PrivateKeyValue.TheVariants as values
 
--- The parameters of a key of an elliptic curve are an identifier, that of its curve (RFC 5480
--- 2.1.1). Those of others may be any.
+-- The parameters of an EC key are an OID, that of its curve (RFC 5480 2.1.1). Those of others are
+-- arbitrary.
 abbrev pub HasCurve : PrivateKeyValue → Option DerElement → Type 0
 HasCurve (values.Rsa key) parameters = ⊤
 HasCurve (values.Ec key) None = ⊥

@@ -1,4 +1,4 @@
--- Public keys of curves that a scheme derives from secrets.
+-- Curve public keys that a scheme derives from secrets.
 use Rattle.std.specs.Prelude.{◌≡◌, ◌≢◌, ⊤, ℕ, List, ◌∷◌, length, Option, Some, None}
 use Rattle.std.specs.Option.{option_map}
 use Rattle.asn1_types.specs.Values.{bit_string_contents}
@@ -16,27 +16,27 @@ use Rattle.key_core.specs.declared.error.KeyContext.TheVariants as contexts
 use Rattle.key_core.specs.declared.error.KeyError.{KeyError}
 use Rattle.key_core.specs.declared.error.KeyError.TheVariants as errors
 
--- what a scheme derives from the secrets of a kind, where it derives a key
+-- what a scheme derives from the secrets of a kind, if it derives a key
 abbrev pub Derivation : Type 0
 Derivation = SchemeKind → List ℕ → Option (List ℕ)
 
--- the kind of the secrets of a curve
+-- the kind of a curve's secrets
 abbrev pub curve_kind : EcCurve → SchemeKind
 curve_kind curves.NistP256 = schemes.P256
 curve_kind curves.NistP384 = schemes.P384
 curve_kind curves.NistP521 = schemes.P521
 
--- the kind of the secrets of an algorithm on the curve 25519
+-- the kind of the secrets of a Curve25519 algorithm
 abbrev pub ed_kind : EdAlgorithm → SchemeKind
 ed_kind algorithms.Ed25519 = schemes.Ed25519
 ed_kind algorithms.X25519 = schemes.X25519
 
--- the known curve of this identifier, where it is that of one
+-- the supported curve with this OID, if any
 abbrev pub IsCurveOf : List ℕ → Option EcCurve → Type 0
 IsCurveOf oid (Some curve) = curve_identifier curve ≡ oid
 IsCurveOf oid None = (curve : EcCurve) → curve_identifier curve ≢ oid
 
--- the known algorithm of this identifier, where it is that of one
+-- the supported algorithm with this OID, if any
 abbrev pub IsEdOf : List ℕ → Option EdAlgorithm → Type 0
 IsEdOf oid (Some algorithm) = ed_identifier algorithm ≡ oid
 IsEdOf oid None = (algorithm : EdAlgorithm) → ed_identifier algorithm ≢ oid
@@ -45,7 +45,7 @@ IsEdOf oid None = (algorithm : EdAlgorithm) → ed_identifier algorithm ≢ oid
 abbrev pub whole_bits : List ℕ → List ℕ
 whole_bits octets = 0 ∷ octets
 
--- The public key is the one that is derived from a secret, which has this many octets.
+-- The public key is derived from a secret of this many octets.
 pub record IsDerived (derives : Derivation) (kind : SchemeKind) (size : ℕ) (secret : List ℕ)
     (public_key : Option BitString) : Type 0 where
   pub sized : length secret ≡ size
@@ -53,7 +53,7 @@ pub record IsDerived (derives : Derivation) (kind : SchemeKind) (size : ℕ) (se
   pub derived : derives kind secret ≡ Some key
   pub is : option_map bit_string_contents public_key ≡ Some (whole_bits key)
 
--- why none is derived: the secret has another length, or else the scheme has no key for it
+-- why none is derived: the secret has another size, or else the scheme has no key for it
 abbrev pub RefusesDerived : Derivation → SchemeKind → ℕ → List ℕ → KeyContext → Type 0
 RefusesDerived derives kind size secret contexts.NotRsa = ⊥
 RefusesDerived derives kind size secret contexts.NotEc = ⊥
@@ -68,8 +68,8 @@ RefusesDerived derives kind size secret contexts.PublicKeyMissing = ⊥
 RefusesDerived derives kind size secret contexts.SchemeRefused =
     (length secret ≡ size) × (derives kind secret ≡ None)
 
--- The public key of a secret of an elliptic curve, beside which a point may have been read: that
--- point, else what is derived where the curve is known, else none.
+-- The public key of an EC secret, beside which a point may have been read: that point, else the
+-- derived one if the curve is supported, else none.
 abbrev pub IsPointOf : Derivation → Option EcCurve → List ℕ → Option BitString → Option BitString
     → Type 0
 IsPointOf derives known secret (Some read) public_key = public_key ≡ Some read
@@ -77,8 +77,8 @@ IsPointOf derives (Some curve) secret None public_key =
     IsDerived derives (curve_kind curve) (field_size curve) secret public_key
 IsPointOf derives None secret None public_key = public_key ≡ None
 
--- why no point is kept: none was read, the curve is known, and the secret has another length or the
--- scheme gives no key for it
+-- why there is no point: none was read, the curve is supported, and the secret has another size or
+-- the scheme derives no key from it
 abbrev pub RefusesPoint : Derivation → Option EcCurve → List ℕ → Option BitString → KeyContext
     → Type 0
 RefusesPoint derives known secret (Some read) context = ⊥
@@ -86,22 +86,21 @@ RefusesPoint derives (Some curve) secret None context =
     RefusesDerived derives (curve_kind curve) (field_size curve) secret context
 RefusesPoint derives None secret None context = ⊥
 
--- The public key of a secret of 25519 or 448: what is derived for 25519, whose secrets have 32
--- octets (RFC 8032 5.1.5, RFC 7748 5), else none.
+-- The public key of a Curve25519 or Curve448 secret: the derived one for Curve25519, whose secrets
+-- have 32 octets (RFC 8032 5.1.5, RFC 7748 5), else none.
 abbrev pub IsEdKeyOf : Derivation → Option EdAlgorithm → List ℕ → Option BitString → Type 0
 IsEdKeyOf derives (Some algorithm) secret public_key =
     IsDerived derives (ed_kind algorithm) 32 secret public_key
 IsEdKeyOf derives None secret public_key = public_key ≡ None
 
--- why no public key is kept: the algorithm is known, and the secret has another length or the
--- scheme gives no key for it
+-- why there is no public key: the algorithm is supported, and the secret has another size or the
+-- scheme derives no key from it
 abbrev pub RefusesEdKey : Derivation → Option EdAlgorithm → List ℕ → KeyContext → Type 0
 RefusesEdKey derives (Some algorithm) secret context =
     RefusesDerived derives (ed_kind algorithm) 32 secret context
 RefusesEdKey derives None secret context = ⊥
 
--- the error is one of an elliptic curve, and this context refuses it; want of memory may be told at
--- any time
+-- the error is `EC` with a context that refuses the key; out of memory is possible at any time
 abbrev pub IsEcRefusal : (KeyContext → Type 0) → KeyError → Type 0
 IsEcRefusal Refuses (errors.Asn1Serialization element source) = ⊥
 IsEcRefusal Refuses (errors.Asn1Deserialization element source) = ⊥
@@ -111,7 +110,7 @@ IsEcRefusal Refuses (errors.ED context) = ⊥
 IsEcRefusal Refuses (errors.UnsupportedAlgorithm kind) = ⊥
 IsEcRefusal Refuses errors.Memory = ⊤
 
--- the same of a curve 25519 or 448
+-- the same for `ED`
 abbrev pub IsEdRefusal : (KeyContext → Type 0) → KeyError → Type 0
 IsEdRefusal Refuses (errors.Asn1Serialization element source) = ⊥
 IsEdRefusal Refuses (errors.Asn1Deserialization element source) = ⊥

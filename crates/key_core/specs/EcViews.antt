@@ -1,4 +1,4 @@
--- Views of keys of elliptic curves.
+-- Views of EC keys.
 use Rattle.std.specs.Prelude.{◌≡◌, ◌≢◌, Some, None, Result, MatchResult}
 use Rattle.std.specs.Option.{option_copied}
 use Rattle.asn1_types.specs.Elements.{object_identifier_of}
@@ -20,8 +20,8 @@ use Rattle.key_core.specs.declared.error.KeyError.TheVariants as errors
 use Rattle.key_core.specs.declared.private_key.PrivateKey.{PrivateKey}
 use Rattle.key_core.specs.declared.private_key_value.PrivateKeyValue.TheVariants as values
 
--- The keypair lends the parts of a private key. The parameters of its algorithm are the identifier
--- of the curve.
+-- The view borrows the parts of a private key. The parameters of its algorithm are the OID of the
+-- curve.
 pub record IsEcKeypairOf (key : PrivateKey) (keypair : EcdsaKeypair) : Type 0 where
   pub read : ECPrivateKey
   pub is : key.info.private_key ≡ values.Ec read
@@ -36,7 +36,7 @@ GivesEcKeypair key result =
     MatchResult result (IsEcKeypairOf key)
     (λ e. (e ≡ errors.EC contexts.NotEc) × (private_kind key.info.private_key ≢ kinds.Ec))
 
--- The view lends the parts of a public key.
+-- The view borrows the parts of a public key.
 pub record IsEcPublicOf (info : SubjectPublicKeyInfo) (view : EcdsaPublicKey) : Type 0 where
   pub bits : BitString
   pub is : info.subject_public_key ≡ keys.Ec bits
@@ -50,14 +50,14 @@ GivesEcPublic info result =
     MatchResult result (IsEcPublicOf info)
     (λ e. (e ≡ errors.EC contexts.NotEc) × (kind_of_key info.subject_public_key ≢ kinds.Ec))
 
--- The view lends the public key of a keypair.
+-- The view borrows the public key of a key pair.
 pub record IsEcPublicOfKeypair (keypair : EcdsaKeypair) (view : EcdsaPublicKey) : Type 0 where
   pub bits : BitString
   pub is : option_copied keypair.point ≡ Some bits
   pub point_is : view.point.now ≡ payload_of bits
   pub curve_is : lent_contents view.curve ≡ lent_contents keypair.curve
 
--- the view of the public half of a pair, or that none is kept
+-- the view of the public key of a pair, or that it has none
 abbrev pub GivesEcPublicOfKeypair : EcdsaKeypair → Result EcdsaPublicKey KeyError → Type 0
 GivesEcPublicOfKeypair keypair result =
     MatchResult result (IsEcPublicOfKeypair keypair)

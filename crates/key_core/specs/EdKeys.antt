@@ -1,4 +1,4 @@
--- Private keys of a curve 25519 or 448 that are made of parts.
+-- Curve25519 and Curve448 private keys from components.
 use Rattle.std.specs.Prelude.{◌≡◌, ℕ, List, Option, Some, None}
 use Rattle.std.specs.Option.{option_map}
 use Rattle.asn1_types.specs.Values.{bit_string_contents}
@@ -10,13 +10,13 @@ use Rattle.key_core.specs.declared.private_key_value.PrivateKeyValue.TheVariants
 use Rattle.key_core.specs.declared.private_key_version.PrivateKeyVersion.{PrivateKeyVersion}
 use Rattle.key_core.specs.declared.private_key_version.PrivateKeyVersion.TheVariants as versions
 
--- Version 2 is that of a container with a public key (RFC 5958 2).
+-- A container with a public key has version 2 (RFC 5958 2).
 abbrev pub version_beside : Option (List ℕ) → PrivateKeyVersion
 version_beside None = versions.V1
 version_beside (Some public_key) = versions.V2
 
--- A key of these octets as its secret and its public key, where one is given (RFC 8410 7): there
--- are no parameters, and the public key stands in the container.
+-- A key with these octets as its secret and, if given, its public key (RFC 8410 7): there are no
+-- parameters, and the public key is in the container.
 pub record IsGivenEdKey (algorithm : ObjectIdentifier) (secret : List ℕ)
     (public_key : Option (List ℕ)) (key : PrivateKey) : Type 0 where
   pub version : key.info.version ≡ version_beside public_key

@@ -1,4 +1,4 @@
--- Views of keys of a curve 25519 or 448.
+-- Views of Curve25519 and Curve448 keys.
 use Rattle.std.specs.Prelude.{◌≡◌, ◌≢◌, Some, None, Result, MatchResult}
 use Rattle.std.specs.Option.{option_copied}
 use Rattle.asn1_types.specs.Values.{payload_of}
@@ -17,7 +17,7 @@ use Rattle.key_core.specs.declared.error.KeyError.TheVariants as errors
 use Rattle.key_core.specs.declared.private_key.PrivateKey.{PrivateKey}
 use Rattle.key_core.specs.declared.private_key_value.PrivateKeyValue.TheVariants as values
 
--- The keypair lends the parts of a private key.
+-- The view borrows the parts of a private key.
 pub record IsEdKeypairOf (key : PrivateKey) (keypair : EdKeypair) : Type 0 where
   pub secret_is : key.info.private_key ≡ values.Ed keypair.secret.now
   pub algorithm_is : keypair.algorithm.now ≡ oid_of key.info.private_key_algorithm
@@ -29,7 +29,7 @@ GivesEdKeypair key result =
     MatchResult result (IsEdKeypairOf key)
     (λ e. (e ≡ errors.ED contexts.NotEd) × (private_kind key.info.private_key ≢ kinds.Ed))
 
--- The view lends the parts of a public key.
+-- The view borrows the parts of a public key.
 pub record IsEdPublicOf (info : SubjectPublicKeyInfo) (view : EdPublicKey) : Type 0 where
   pub bits : BitString
   pub is : info.subject_public_key ≡ keys.Ed bits
@@ -42,14 +42,14 @@ GivesEdPublic info result =
     MatchResult result (IsEdPublicOf info)
     (λ e. (e ≡ errors.ED contexts.NotEd) × (kind_of_key info.subject_public_key ≢ kinds.Ed))
 
--- The view lends the public key of a keypair.
+-- The view borrows the public key of a key pair.
 pub record IsEdPublicOfKeypair (keypair : EdKeypair) (view : EdPublicKey) : Type 0 where
   pub bits : BitString
   pub is : option_copied keypair.public_key ≡ Some bits
   pub key_is : view.key.now ≡ payload_of bits
   pub algorithm_is : view.algorithm.now ≡ keypair.algorithm.now
 
--- the view of the public half of a pair, or that none is kept
+-- the view of the public key of a pair, or that it has none
 abbrev pub GivesEdPublicOfKeypair : EdKeypair → Result EdPublicKey KeyError → Type 0
 GivesEdPublicOfKeypair keypair result =
     MatchResult result (IsEdPublicOfKeypair keypair)

@@ -11,7 +11,7 @@ use Rattle.key_core.specs.declared.error.KeyContext.TheVariants as contexts
 use Rattle.key_core.specs.declared.error.KeyError.{KeyError}
 use Rattle.key_core.specs.declared.error.KeyError.TheVariants as errors
 
--- what a structure is called
+-- the name of a structure
 abbrev pub element_text : Element → List ℕ
 element_text elements.Certificate = codes "x509 certificate"
 element_text elements.TbsCertificate = codes "tbs certificate"
@@ -25,7 +25,7 @@ element_text elements.EcPrivateKey = codes "ec private key"
 element_text elements.SubjectPublicKeyInfo = codes "subject public key info"
 element_text elements.RsaPublicKey = codes "rsa public key"
 
--- why a key of a kind can't be had
+-- why a key isn't available
 abbrev pub context_text : KeyContext → List ℕ
 context_text contexts.NotRsa = codes "the key is of another kind than RSA"
 context_text contexts.NotEc = codes "the key is of another kind than one of an elliptic curve"
@@ -41,19 +41,19 @@ context_text contexts.UnsupportedEd = codes "the algorithm on a curve 25519 or 4
 context_text contexts.PublicKeyMissing = codes "the private key has no public key"
 context_text contexts.SchemeRefused = codes "the signature scheme derives no public key"
 
--- what a kind of keys is called
+-- the name of a kind of keys
 abbrev pub kind_text : KeyKind → List ℕ
 kind_text kinds.Rsa = codes "RSA"
 kind_text kinds.Ec = codes "EC"
 kind_text kinds.Ed = codes "ED"
 kind_text kinds.Mldsa = codes "ML-DSA"
 
--- what is told of an element that isn't read or written: which one, and why
+-- an element that isn't read or written: which one, and why
 abbrev pub element_error_text : (head : List ℕ) → Element → DerError → List ℕ
 element_error_text head element source =
     head ++ element_text element ++ codes ": " ++ der_error_text source
 
--- what is told of a key that isn't read, made or written
+-- why a key isn't read, made or written
 abbrev pub key_error_text : KeyError → List ℕ
 key_error_text (errors.Asn1Serialization element source) =
     element_error_text (codes "(ASN1) couldn't serialize ") element source

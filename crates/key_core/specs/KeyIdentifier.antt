@@ -1,4 +1,4 @@
--- Identifiers of keys: digests of octets of a key.
+-- Key identifiers: digests of a key's octets.
 use Rattle.std.specs.Prelude.{◌≡◌, ◌≢◌, ◌⊎◌, ⊤, ℕ, List, [], ◌∷◌, ◌++◌, take}
 use Rattle.der_core.specs.Encoding.{encoding, IsDer}
 use Rattle.der_core.specs.Placed.{AreDer}
@@ -33,14 +33,14 @@ IsPayloadOf (keys.Ec bits) octets = octets ≡ payload_of bits
 IsPayloadOf (keys.Ed bits) octets = octets ≡ payload_of bits
 IsPayloadOf (keys.Mldsa bits) octets = octets ≡ payload_of bits
 
--- the octets are the encoding of the whole SubjectPublicKeyInfo of a key, which can be written
+-- the octets encode the whole SubjectPublicKeyInfo of a key, which can be written
 abbrev pub IsWholeOf : SubjectPublicKeyInfo → List ℕ → Type 0
 IsWholeOf info octets =
     (octets ≡ encoding (public_key_info info)) × IsDer (public_key_info info)
     × AreDer (inner_key info.subject_public_key)
 
--- The digest of the whole SubjectPublicKeyInfo, or the first 160 bits of that of the bits (RFC 5280
--- 4.2.1.2, RFC 7093 2).
+-- The digest of the whole SubjectPublicKeyInfo, or the first 160 bits of the digest of the bits
+-- (RFC 5280 4.2.1.2, RFC 7093 2).
 abbrev pub IsKeyIdentifier : KeyIdGenMethod → SubjectPublicKeyInfo → List ℕ → Type 0
 IsKeyIdentifier (SPKFullDER hash) info id =
     (octets : List ℕ) × IsWholeOf info octets × (id ≡ digest_of hash octets)
@@ -48,7 +48,7 @@ IsKeyIdentifier (SPKValueHashedLeftmost160 hash) info id =
     (octets : List ℕ) × IsPayloadOf info.subject_public_key octets × (hash ≢ MD5)
     × (id ≡ take 20 (digest_of hash octets))
 
--- why there is no digest of the whole: it can't be written
+-- why there is no digest of the SubjectPublicKeyInfo: it can't be written
 abbrev pub RefusesWhole : SubjectPublicKeyInfo → KeyIdGenError → Type 0
 RefusesWhole info (errors.InvalidKey source) =
     IsUnwrittenKey elements.SubjectPublicKeyInfo
@@ -65,12 +65,12 @@ RefusesPayload key (errors.Asn1Serialization element source) =
     × CantBeWritten (rsa_public_key rsa) source
 RefusesPayload key errors.Memory = ⊤
 
--- out of memory is reported as such, any other cause by the RSAPublicKey and the cause
+-- out of memory is reported as such, any other cause with RSAPublicKey
 abbrev pub payload_refusal : DerError → KeyIdGenError
 payload_refusal der.Memory = errors.Memory
 payload_refusal source = errors.Asn1Serialization elements.RsaPublicKey source
 
--- Why a key has no identifier by a method. A digest by MD5 hasn't 160 bits.
+-- Why a key has no key identifier by a method. An MD5 digest is shorter than 160 bits.
 abbrev pub RefusesKeyIdentifier : KeyIdGenMethod → SubjectPublicKeyInfo → KeyIdGenError → Type 0
 RefusesKeyIdentifier (SPKFullDER hash) info e = RefusesWhole info e
 RefusesKeyIdentifier (SPKValueHashedLeftmost160 hash) info e =
@@ -79,7 +79,7 @@ RefusesKeyIdentifier (SPKValueHashedLeftmost160 hash) info e =
     (key_errors.UnsupportedAlgorithm (kind_of_key info.subject_public_key))))
     ⊎ ((hash ≢ MD5) × RefusesPayload info.subject_public_key e)
 
--- an error of a key as one of its identifier: out of memory is reported as such
+-- a key error as one of its key identifier: out of memory is reported as such
 abbrev pub key_id_refusal : KeyError → KeyIdGenError
 key_id_refusal key_errors.Memory = errors.Memory
 key_id_refusal source = errors.InvalidKey source

@@ -12,17 +12,17 @@ use Rattle.key_core.specs.declared.element.Element.{Element}
 use Rattle.key_core.specs.declared.error.KeyError.{KeyError}
 use Rattle.key_core.specs.declared.error.KeyError.TheVariants as errors
 
--- out of memory is reported as such, any other cause by the structure and the cause
+-- out of memory is reported as such, any other cause with the structure
 abbrev pub unread : Element → DerError → KeyError
 unread element der.Memory = errors.Memory
 unread element source = errors.Asn1Deserialization element source
 
--- the same of an element that can't be written
+-- the same for an element that can't be written
 abbrev pub unwritten : Element → DerError → KeyError
 unwritten element der.Memory = errors.Memory
 unwritten element source = errors.Asn1Serialization element source
 
--- The error names this structure, for a cause that refuses it.
+-- The error names this structure, and its cause refuses to read it.
 abbrev pub IsUnreadKey : Element → (DerError → Type 0) → KeyError → Type 0
 IsUnreadKey element = Tells (unread element)
 
@@ -41,11 +41,11 @@ RefusesOthers {A} {X} spells structure octets result =
     → ((value : X) → spells element value → ⊥)
     → result ≡ Err (errors.Asn1Deserialization structure der.Shape)
 
--- The error names this structure, for a cause that refuses to write it.
+-- The error names this structure, and its cause refuses to write it.
 abbrev pub IsUnwrittenKey : Element → (DerError → Type 0) → KeyError → Type 0
 IsUnwrittenKey element = Tells (unwritten element)
 
--- The element can't be written, for a cause other than out of memory.
+-- The element can't be written, and the cause isn't out of memory.
 pub record CantBeWritten (element : DerElement) (source : DerError) : Type 0 where
   pub cause : RefusesToWrite element source
   pub not_memory : source ≢ der.Memory

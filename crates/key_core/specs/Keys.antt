@@ -6,7 +6,7 @@ use Rattle.key_core.specs.declared.private_key_info.PrivateKeyInfo.{PrivateKeyIn
 use Rattle.key_core.specs.declared.private_key.PrivateKey.{PrivateKey}
 use Rattle.key_core.specs.declared.public_key.PublicKey.{PublicKey}
 
--- The SubjectPublicKeyInfo that a public key is (RFC 5280 4.1.2.7).
+-- The SubjectPublicKeyInfo of a public key (RFC 5280 4.1.2.7).
 abbrev pub info_of : PublicKey → SubjectPublicKeyInfo
 info_of key = key.info
 
@@ -14,6 +14,6 @@ info_of key = key.info
 abbrev pub container_of : PrivateKey → PrivateKeyInfo
 container_of key = key.info
 
--- The public key of a curve that is kept beside the container.
+-- The curve public key beside the container.
 abbrev pub point_beside : PrivateKey → Option BitString
 point_beside key = key.public_key

@@ -1,4 +1,4 @@
--- Public keys that are put together of their parts.
+-- Public keys from components.
 use Rattle.std.specs.Prelude.{◌≡◌, ⊤, ℕ, List, ◌∷◌, ◌++◌, length, Some, None, IsTrue}
 use Rattle.der_core.specs.Elements.{null}
 use Rattle.der_core.specs.Lent.{kept_option}
@@ -20,21 +20,21 @@ use Rattle.key_core.specs.declared.error.KeyContext.TheVariants as contexts
 use Rattle.key_core.specs.declared.error.KeyError.{KeyError}
 use Rattle.key_core.specs.declared.error.KeyError.TheVariants as errors
 
--- A key of RSA with its algorithm (RFC 3279 2.3.1): the parameters are NULL.
+-- An RSA key with its algorithm (RFC 3279 2.3.1): the parameters are NULL.
 pub record IsRsaInfo (key : RsaPublicKey) (info : SubjectPublicKeyInfo) : Type 0 where
   pub is : info.subject_public_key ≡ keys.Rsa key
   pub identifier : identifier_contents (oid_of info.algorithm) ≡ RSA_ENCRYPTION.now
   pub parameters : kept_option (parameters_of info.algorithm) ≡ Some null
 
--- A key of RSA by its two numbers.
+-- An RSA key by its two numbers.
 pub record IsRsaKey (modulus exponent : List ℕ) (info : SubjectPublicKeyInfo) : Type 0 where
   pub key : RsaPublicKey
   pub rsa : IsRsaInfo key info
   pub modulus_is : IsUnsignedInteger (number_of modulus) (integer_contents key.modulus)
   pub exponent_is : IsUnsignedInteger (number_of exponent) (integer_contents key.public_exponent)
 
--- A point of a named curve by its octets (RFC 5480 2.1.1, 2.2): the parameters are the identifier
--- of the curve, and no bits are unused.
+-- A point on a named curve by its octets (RFC 5480 2.1.1, 2.2): the parameters are the OID of the
+-- curve, and no bits are unused.
 pub record IsEcKey (curve : ObjectIdentifier) (octets : List ℕ)
     (info : SubjectPublicKeyInfo) : Type 0 where
   pub key : BitString
@@ -44,11 +44,11 @@ pub record IsEcKey (curve : ObjectIdentifier) (octets : List ℕ)
   pub whole : unused_of key ≡ 0
   pub payload : payload_of key ≡ octets
 
--- the coordinates have as many octets as the field
+-- the coordinates have the size of the field
 abbrev pub AreCoordinates : EcCurve → List ℕ → List ℕ → Type 0
 AreCoordinates curve x y = (length x ≡ field_size curve) × (length y ≡ field_size curve)
 
--- A point of a known curve by its coordinates, without compression (SEC 1 2.3.3): 04, then both of
+-- An uncompressed point on a supported curve by its coordinates (SEC 1 2.3.3): 04, then both of
 -- them.
 pub record IsPointKey (curve : EcCurve) (x y : List ℕ) (info : SubjectPublicKeyInfo) : Type 0 where
   pub oid : ObjectIdentifier
@@ -56,7 +56,7 @@ pub record IsPointKey (curve : EcCurve) (x y : List ℕ) (info : SubjectPublicKe
   pub point : IsEcKey oid (0x04 ∷ x ++ y) info
   pub sized : AreCoordinates curve x y
 
--- such a point isn't made of coordinates of another length
+-- coordinates of another size give no such point
 abbrev pub RefusesCoordinates : EcCurve → List ℕ → List ℕ → KeyError → Type 0
 RefusesCoordinates curve x y (errors.Asn1Serialization element source) = ⊥
 RefusesCoordinates curve x y (errors.Asn1Deserialization element source) = ⊥
@@ -67,7 +67,7 @@ RefusesCoordinates curve x y (errors.ED context) = ⊥
 RefusesCoordinates curve x y (errors.UnsupportedAlgorithm kind) = ⊥
 RefusesCoordinates curve x y errors.Memory = ⊤
 
--- A key on a curve 25519 or 448 by its octets (RFC 8410 3, 4): there are no parameters, and no bits
+-- A Curve25519 or Curve448 key by its octets (RFC 8410 3, 4): there are no parameters, and no bits
 -- are unused.
 pub record IsEdKey (algorithm : ObjectIdentifier) (octets : List ℕ)
     (info : SubjectPublicKeyInfo) : Type 0 where
@@ -78,11 +78,11 @@ pub record IsEdKey (algorithm : ObjectIdentifier) (octets : List ℕ)
   pub whole : unused_of key ≡ 0
   pub payload : payload_of key ≡ octets
 
--- the identifier is that of a curve 25519 or 448
+-- the OID of a Curve25519 or Curve448 algorithm
 abbrev pub NamesEd : ObjectIdentifier → Type 0
 NamesEd algorithm = IsTrue (names_kind kinds.Ed (identifier_contents algorithm))
 
--- such a key isn't made of the identifier of another algorithm
+-- any other OID gives no such key
 abbrev pub RefusesEd : ObjectIdentifier → KeyError → Type 0
 RefusesEd algorithm (errors.Asn1Serialization element source) = ⊥
 RefusesEd algorithm (errors.Asn1Deserialization element source) = ⊥

@@ -1,4 +1,4 @@
--- Curves by the contents octets of their identifiers, known or not (RFC 5480 2.1.1.1).
+-- Curves by the contents octets of their OIDs, supported or not (RFC 5480 2.1.1.1).
 use Rattle.std.specs.Prelude.{◌≡◌, ◌≢◌, ℕ, List, ◌++◌, codes}
 use Rattle.asn1_types.specs.ObjectIdentifier.{dotted}
 use Rattle.asn1_types.specs.Values.{lent_arcs, lent_contents}
@@ -7,12 +7,12 @@ use Rattle.key_core.specs.declared.ec_curve.EcCurve.{EcCurve}
 use Rattle.key_core.specs.declared.named_ec_curve.NamedEcCurve.{NamedEcCurve}
 use Rattle.key_core.specs.declared.named_ec_curve.NamedEcCurve.TheVariants as named
 
--- the contents octets of the identifier
+-- the contents octets of the OID
 abbrev pub named_curve_identifier : NamedEcCurve → List ℕ
 named_curve_identifier (named.Known curve) = curve_identifier curve
 named_curve_identifier (named.Unsupported identifier) = lent_contents identifier
 
--- the curve that contents octets name, where it is known, else these octets
+-- the supported curve with these contents octets, else the octets
 abbrev pub IsNamedCurve : List ℕ → NamedEcCurve → Type 0
 IsNamedCurve contents (named.Known curve) = curve_identifier curve ≡ contents
 IsNamedCurve contents (named.Unsupported identifier) =

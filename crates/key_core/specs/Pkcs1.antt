@@ -1,4 +1,4 @@
--- The RSAPublicKey of a key, alone (RFC 8017 A.1.1).
+-- The RSAPublicKey of a key, on its own (RFC 8017 A.1.1).
 use Rattle.std.specs.Prelude.{◌≡◌, ℕ, List, [], ◌∷◌}
 use Rattle.der_core.specs.DerElement.{DerElement}
 use Rattle.der_core.specs.Encoding.{encoding, IsDer}
@@ -16,17 +16,17 @@ use Rattle.key_core.specs.declared.error.KeyContext.TheVariants as contexts
 use Rattle.key_core.specs.declared.error.KeyError.{KeyError}
 use Rattle.key_core.specs.declared.error.KeyError.TheVariants as errors
 
--- the element is the one of this key
+-- the element is the RSAPublicKey
 abbrev pub IsRsaPublicKey : DerElement → RsaPublicKey → Type 0
 IsRsaPublicKey element key = element ≡ rsa_public_key key
 
--- A key of RSA by the encoding of its RSAPublicKey.
+-- An RSA key by the encoding of its RSAPublicKey.
 pub record IsPkcs1Key (octets : List ℕ) (info : SubjectPublicKeyInfo) : Type 0 where
   pub key : RsaPublicKey
   pub rsa : IsRsaInfo key info
   pub within : IsWithin IsRsaPublicKey octets key
 
--- the octets are the encoding of the RSAPublicKey of the key, which is one of RSA
+-- the octets encode the RSAPublicKey of the key, which is an RSA key
 abbrev pub IsPkcs1Of : SubjectKey → List ℕ → Type 0
 IsPkcs1Of (keys.Rsa key) octets =
     (octets ≡ encoding (rsa_public_key key)) × IsDer (rsa_public_key key)

@@ -24,8 +24,8 @@ use Rattle.key_core.specs.declared.private_key_info.PrivateKeyInfo.{PrivateKeyIn
 use Rattle.key_core.specs.declared.private_key_value.PrivateKeyValue.{PrivateKeyValue}
 use Rattle.key_core.specs.declared.private_key_value.PrivateKeyValue.TheVariants as values
 
--- A key of 25519 or 448 is kept as it was read; its public key is never the one that stands beside
--- it.
+-- A Curve25519 or Curve448 key is stored as it was read; its public key is never the one in the
+-- container.
 pub record IsKeptEd (derives : Derivation) (secret : List ℕ) (info : PrivateKeyInfo)
     (key : PrivateKey) : Type 0 where
   pub as_read : key.info ≡ info
@@ -33,7 +33,7 @@ pub record IsKeptEd (derives : Derivation) (secret : List ℕ) (info : PrivateKe
   pub named : IsEdOf (identifier_contents (oid_of info.private_key_algorithm)) known
   pub derived : IsEdKeyOf derives known secret key.public_key
 
--- A key of an elliptic curve is written anew, on the curve that the parameters name.
+-- An EC key is written anew, on the curve that the parameters name.
 pub record IsKeptEc (derives : Derivation) (read : ECPrivateKey) (info : PrivateKeyInfo)
     (key : PrivateKey) : Type 0 where
   pub curve : ObjectIdentifier
@@ -41,18 +41,17 @@ pub record IsKeptEc (derives : Derivation) (read : ECPrivateKey) (info : Private
       ≡ Some (object_identifier curve)
   pub is : IsCurveKey derives curve read key
 
--- the key that is kept of a container with this private key; one of RSA is kept as it was read
+-- the key of a container with this private key; an RSA key is stored as it was read
 abbrev pub IsKeptKey : Derivation → PrivateKeyValue → PrivateKeyInfo → PrivateKey → Type 0
 IsKeptKey derives (values.Rsa rsa) info key = (key.info ≡ info) × (key.public_key ≡ None)
 IsKeptKey derives (values.Ec read) info key = IsKeptEc derives read info key
 IsKeptKey derives (values.Ed secret) info key = IsKeptEd derives secret info key
 
--- the key is what is kept of its own container, as every key is that was read
+-- the key is the key of its own container, as is every key that was read
 abbrev pub KeepsItself : Derivation → PrivateKey → Type 0
 KeepsItself derives key = IsKeptKey derives key.info.private_key key.info key
 
--- why a container with a key of an elliptic curve isn't kept: the parameters name no curve, or
--- there is no key on it
+-- why a container with an EC key is refused: the parameters name no curve, or there is no key on it
 abbrev pub RefusesEcInfo : Derivation → ECPrivateKey → Option DerElement → KeyContext → Type 0
 RefusesEcInfo derives read parameters context =
     ((context ≡ contexts.CurveParameters)
@@ -60,13 +59,13 @@ RefusesEcInfo derives read parameters context =
     ⊎ ((curve : ObjectIdentifier) × (parameters ≡ Some (object_identifier curve))
     × RefusesCurveKey derives curve read context)
 
--- why a container with a key of 25519 or 448 isn't kept: the algorithm is known, and there is no
--- public key for the secret
+-- why a container with a Curve25519 or Curve448 key is refused: the algorithm is supported, and
+-- there is no public key for the secret
 abbrev pub RefusesEdInfo : Derivation → List ℕ → List ℕ → KeyContext → Type 0
 RefusesEdInfo derives secret oid context =
     (known : Option EdAlgorithm) × IsEdOf oid known × RefusesEdKey derives known secret context
 
--- why a container isn't kept
+-- why a container is refused
 abbrev pub RefusesKept : Derivation → PrivateKeyValue → PrivateKeyInfo → KeyError → Type 0
 RefusesKept derives (values.Rsa rsa) info e = e ≡ errors.Memory
 RefusesKept derives (values.Ec read) info e =
@@ -82,7 +81,7 @@ pub record IsPkcs8Key (derives : Derivation) (octets : List ℕ) (key : PrivateK
   pub within : IsWithin IsPrivateKeyInfo octets info
   pub kept : IsKeptKey derives info.private_key info key
 
--- The octets aren't those of a PrivateKeyInfo, or the one that they are isn't kept.
+-- The octets don't encode a PrivateKeyInfo, or the one that they encode is refused.
 abbrev pub RefusesPkcs8 : Derivation → List ℕ → KeyError → Type 0
 RefusesPkcs8 derives octets e =
     IsUnreadKey elements.PrivateKeyInfo (RefusesOctets IsPrivateKeyInfo octets) e

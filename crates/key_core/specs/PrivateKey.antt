@@ -1,4 +1,4 @@
--- Private keys: a container, and the public key of a curve beside it, which the container may leave
+-- Private keys: a container, and beside it the public key of a curve, which the container may leave
 -- out.
 use Rattle.std.specs.Prelude.{◌∷◌}
 use Rattle.std.specs.Option.{option_map}
@@ -8,8 +8,7 @@ use Rattle.asn1_types.specs.Values.{bit_string_contents}
 use Rattle.key_core.specs.PrivateKeyInfo.{private_key_info}
 use Rattle.key_core.specs.declared.private_key.PrivateKey.{PrivateKey}
 
--- all that is kept of a key: its container, then the BIT STRING of the public key of a curve, where
--- there is one
+-- all that is stored of a key: its container, then the BIT STRING of the curve public key, if any
 abbrev pub kept_key : PrivateKey → DerElement
 kept_key key =
     sequence

@@ -6,7 +6,7 @@ use Rattle.std.specs.Prelude.{◌≡◌, ⊤, ℕ, List, ◌∷◌, ◌++◌, Op
 use Rattle.der_core.specs.DerElement.{DerElement, tag_of}
 use Rattle.der_core.specs.Elements.{sequence, octet_string, optional_leaf}
 
--- attributes, where there are any, stand under the tag [0] of a constructed element
+-- attributes, if any, are constructed and have the tag [0]
 abbrev pub HaveTag : Option DerElement → Type 0
 HaveTag None = ⊤
 HaveTag (Some attributes) = tag_of attributes ≡ 0xA0

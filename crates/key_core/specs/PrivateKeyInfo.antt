@@ -12,7 +12,7 @@ use Rattle.key_core.specs.PrivateKeyValue.{private_key}
 use Rattle.key_core.specs.PrivateKeyFields.{private_key_info_of}
 use Rattle.key_core.specs.declared.private_key_info.PrivateKeyInfo.{PrivateKeyInfo}
 
--- The private key stands in its octets as an element of its own, and the public key as the contents
+-- The OCTET STRING contains the encoding of the private key, and the public key is the contents
 -- octets of a BIT STRING.
 abbrev pub private_key_info : PrivateKeyInfo → DerElement
 private_key_info info =
@@ -23,10 +23,10 @@ private_key_info info =
     (kept_option info.attributes)
     (option_map bit_string_contents info.public_key)
 
--- what is written into the octets
+-- what the OCTET STRING contains
 abbrev pub inner_private_key : PrivateKeyInfo → List DerElement
 inner_private_key info = private_key info.private_key ∷ []
 
--- the element is the one of this key, whose inner element is one that is read
+-- the element is the PrivateKeyInfo, and its inner element is within limits
 abbrev pub IsPrivateKeyInfo : DerElement → PrivateKeyInfo → Type 0
 IsPrivateKeyInfo element info = (element ≡ private_key_info info) × AreDer (inner_private_key info)

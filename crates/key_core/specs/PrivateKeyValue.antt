@@ -1,4 +1,4 @@
--- The private key that the octets of a PrivateKeyInfo hold.
+-- The private key in the OCTET STRING of a PrivateKeyInfo.
 use Rattle.std.specs.Prelude.{◌≡◌, ℕ, List, ◌∷◌}
 use Rattle.der_core.specs.DerElement.{DerElement}
 use Rattle.der_core.specs.Elements.{octet_string}
@@ -24,12 +24,12 @@ private_key (values.Rsa key) = rsa_private_key key
 private_key (values.Ec key) = ec_private_key key
 private_key (values.Ed octets) = octet_string octets
 
--- The octets are the encoding of the key, which is of the kind and in bounds.
+-- The octets are the encoding of the key, which is of the kind and within limits.
 pub record IsPrivateKeyOf (kind : KeyKind) (octets : List ℕ) (key : PrivateKeyValue) : Type 0 where
   pub of_kind : private_kind key ≡ kind
   pub encoded : octets ≡ encoding (private_key key)
   pub der : IsDer (private_key key)
 
--- the kind of a key, and the octets of its element
+-- the encoding of a key
 abbrev pub private_key_octets : PrivateKeyValue → List ℕ
 private_key_octets key = key_kind_number (private_kind key) ∷ encoding (private_key key)

@@ -1,4 +1,4 @@
--- The RSAPrivateKey of a private key, alone (RFC 8017 A.1.2).
+-- The RSAPrivateKey of a private key, on its own (RFC 8017 A.1.2).
 use Rattle.std.specs.Prelude.{◌≡◌, ℕ, List, [], ◌∷◌, Some, None}
 use Rattle.der_core.specs.DerElement.{DerElement}
 use Rattle.der_core.specs.Elements.{null}
@@ -22,8 +22,8 @@ use Rattle.key_core.specs.declared.private_key_value.PrivateKeyValue.TheVariants
 use Rattle.key_core.specs.declared.private_key_version.PrivateKeyVersion.TheVariants as versions
 use Rattle.key_core.specs.declared.private_key.PrivateKey.{PrivateKey}
 
--- The container of a key of RSA (RFC 3279 2.3.1): the parameters are NULL, and nothing stands
--- beside the key.
+-- The container of an RSA key (RFC 3279 2.3.1): the parameters are NULL, and it has neither
+-- attributes nor a public key.
 pub record IsRsaContainer (key : RsaPrivateKey) (info : PrivateKeyInfo) : Type 0 where
   pub version : info.version ≡ versions.V1
   pub identifier : identifier_contents (oid_of info.private_key_algorithm) ≡ RSA_ENCRYPTION.now
@@ -32,18 +32,18 @@ pub record IsRsaContainer (key : RsaPrivateKey) (info : PrivateKeyInfo) : Type 0
   pub attributes : info.attributes ≡ None
   pub public_key : info.public_key ≡ None
 
--- the element is the one of this key
+-- the element is the RSAPrivateKey
 abbrev pub IsRsaPrivateKey : DerElement → RsaPrivateKey → Type 0
 IsRsaPrivateKey element key = element ≡ rsa_private_key key
 
--- A private key of RSA by the encoding of its RSAPrivateKey.
+-- An RSA private key by the encoding of its RSAPrivateKey.
 pub record IsPrivatePkcs1 (octets : List ℕ) (key : PrivateKey) : Type 0 where
   pub rsa : RsaPrivateKey
   pub within : IsWithin IsRsaPrivateKey octets rsa
   pub container : IsRsaContainer rsa key.info
   pub beside : key.public_key ≡ None
 
--- the octets are the encoding of the RSAPrivateKey of the key, which is one of RSA
+-- the octets encode the RSAPrivateKey of the key, which is an RSA key
 abbrev pub IsPkcs1OfPrivate : PrivateKeyValue → List ℕ → Type 0
 IsPkcs1OfPrivate (values.Rsa key) octets =
     (octets ≡ encoding (rsa_private_key key)) × IsDer (rsa_private_key key)

@@ -20,9 +20,9 @@ use Rattle.key_core.specs.declared.private_key_value.PrivateKeyValue.TheVariants
 abbrev pub public_numbers : RsaPrivateKey → RsaPublicKey
 public_numbers key = record { modulus = key.n; public_exponent = key.e }
 
--- The public key of RSA is part of the private one. That of a curve is what is kept beside the
--- container: of an elliptic curve with the same algorithm, of a curve 25519 or 448 with its
--- identifier, without parameters (RFC 8410 3).
+-- The RSA public key is part of the private one. That of a curve is beside the container: of EC
+-- with the same algorithm, of Curve25519 and Curve448 with its OID, without parameters (RFC 8410
+-- 3).
 abbrev pub IsPublicHalf : PrivateKeyValue → AlgorithmIdentifier → Option BitString
     → SubjectPublicKeyInfo → Type 0
 IsPublicHalf (values.Rsa key) algorithm public_key info = IsRsaInfo (public_numbers key) info
@@ -32,7 +32,7 @@ IsPublicHalf (values.Ed secret) algorithm public_key info =
     (oid_of info.algorithm ≡ oid_of algorithm) × (parameters_of info.algorithm ≡ None)
     × (option_map keys.Ed public_key ≡ Some info.subject_public_key)
 
--- why there is none: none is kept
+-- why there is none: none is beside the container
 abbrev pub RefusesPublicHalf : PrivateKeyValue → Option BitString → KeyError → Type 0
 RefusesPublicHalf (values.Rsa key) public_key e = e ≡ errors.Memory
 RefusesPublicHalf (values.Ec key) public_key e =
@@ -40,7 +40,7 @@ RefusesPublicHalf (values.Ec key) public_key e =
 RefusesPublicHalf (values.Ed secret) public_key e =
     IsEdRefusal (λ context. (context ≡ contexts.PublicKeyMissing) × (public_key ≡ None)) e
 
--- what is told where there is none, of a key of RSA nothing
+-- the error if there is none, for RSA impossible
 abbrev pub IsMissingHalf : PrivateKeyValue → KeyError → Type 0
 IsMissingHalf (values.Rsa key) e = ⊥
 IsMissingHalf (values.Ec key) e = e ≡ errors.EC contexts.PublicKeyMissing

@@ -1,4 +1,4 @@
--- What schemes call the algorithms of signatures, and which keys are used with which digests.
+-- Signature algorithms as schemes name them, and which keys sign which digests.
 use Rattle.std.specs.Prelude.{Option, Some, None}
 use Rattle.sig_core.specs.declared.algorithm.SigAlg.{SigAlg}
 use Rattle.sig_core.specs.declared.algorithm.SigAlg.TheVariants as algs
@@ -7,7 +7,7 @@ use Rattle.sig_core.specs.declared.hash.HashAlgorithm.TheVariants.{MD5, SHA1, SH
 use Rattle.key_core.specs.declared.ec_curve.EcCurve.{EcCurve}
 use Rattle.key_core.specs.declared.ec_curve.EcCurve.TheVariants.{NistP256, NistP384, NistP521}
 
--- RSA with a digest
+-- RSA with a digest algorithm
 abbrev pub rsa_alg : HashAlgorithm → SigAlg
 rsa_alg MD5 = algs.RsaMd5
 rsa_alg SHA1 = algs.RsaSha1
@@ -26,7 +26,7 @@ curve_for SHA2_256 = Some NistP256
 curve_for SHA2_384 = Some NistP384
 curve_for SHA2_512 = Some NistP521
 
--- ECDSA by keys on a curve
+-- ECDSA with keys on a curve
 abbrev pub ecdsa_alg : EcCurve → SigAlg
 ecdsa_alg NistP256 = algs.P256Sha256
 ecdsa_alg NistP384 = algs.P384Sha384

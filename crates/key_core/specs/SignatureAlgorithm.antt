@@ -1,4 +1,4 @@
--- The algorithms of signatures: their identifiers, and what they sign.
+-- Signature algorithms: their OIDs, and what they sign.
 use Rattle.std.specs.Prelude.{◌≡◌, ℕ, List, Option, Some, None}
 use Rattle.der_core.specs.DerElement.{DerElement}
 use Rattle.der_core.specs.Elements.{null}
@@ -17,8 +17,7 @@ use Rattle.key_core.specs.declared.signature_error.SignatureError.{SignatureErro
 use Rattle.key_core.specs.declared.signature_error.SignatureError.TheVariants as errors
 use Rattle.key_core.specs.declared.signature_error.Unsupported.TheVariants as unsupported
 
--- the contents octets of the identifier, where there is one here (RFC 8017 A.2.4, RFC 5758 3.2, RFC
--- 8410 3)
+-- the contents octets of the OID, if it has one here (RFC 8017 A.2.4, RFC 5758 3.2, RFC 8410 3)
 abbrev pub signature_identifier : SignatureAlgorithm → Option (List ℕ)
 signature_identifier (RsaPkcs1v15 MD5) = Some octets.MD5_WITH_RSA_ENCRYPTION.now
 signature_identifier (RsaPkcs1v15 SHA1) = Some octets.SHA1_WITH_RSA_ENCRYPTION.now
@@ -34,37 +33,37 @@ signature_identifier (Ecdsa SHA2_384) = Some octets.ECDSA_WITH_SHA384.now
 signature_identifier (Ecdsa SHA2_512) = Some octets.ECDSA_WITH_SHA512.now
 signature_identifier Ed25519 = Some octets.ED25519.now
 
--- the parameters: NULL of RSA (RFC 8017 A.2.4), none of the others (RFC 5758 3.2, RFC 8410 3)
+-- the parameters: NULL for RSA (RFC 8017 A.2.4), none for the others (RFC 5758 3.2, RFC 8410 3)
 abbrev pub signature_parameters : SignatureAlgorithm → Option DerElement
 signature_parameters (RsaPkcs1v15 hash) = Some null
 signature_parameters (Ecdsa hash) = None
 signature_parameters Ed25519 = None
 
--- the digest that is signed; Ed25519 takes it within (RFC 8032 5.1)
+-- the digest that is signed; Ed25519 takes it itself (RFC 8032 5.1)
 abbrev pub signature_hash : SignatureAlgorithm → HashAlgorithm
 signature_hash (RsaPkcs1v15 hash) = hash
 signature_hash (Ecdsa hash) = hash
 signature_hash Ed25519 = SHA2_512
 
--- The identifier is that of the algorithm, whatever stands beside it.
+-- The OID is that of the algorithm, whatever the parameters are.
 abbrev pub NamesSignature : AlgorithmIdentifier → SignatureAlgorithm → Type 0
 NamesSignature id algorithm =
     signature_identifier algorithm ≡ Some (identifier_contents (oid_of id))
 
--- An algorithm as it is written.
+-- An algorithm as written.
 pub record IsWrittenAlgorithm (algorithm : SignatureAlgorithm)
     (id : AlgorithmIdentifier) : Type 0 where
   pub identifier : NamesSignature id algorithm
   pub parameters : kept_option (parameters_of id) ≡ signature_parameters algorithm
 
--- why an identifier is read as no algorithm: it is that of none, and the error has it
+-- why an AlgorithmIdentifier isn't read: its OID names no algorithm; the error has the OID
 abbrev pub IsUnnamed : AlgorithmIdentifier → SignatureError → Type 0
 IsUnnamed id e =
     ((algorithm : SignatureAlgorithm) → NamesSignature id algorithm → ⊥)
     × OrMemory errors.Memory
     (λ told. told ≡ errors.UnsupportedAlgorithm (unsupported.Oid (oid_of id))) e
 
--- why an algorithm isn't written: it has no identifier
+-- why an algorithm isn't written: it has no OID
 abbrev pub IsUnwritable : SignatureAlgorithm → SignatureError → Type 0
 IsUnwritable algorithm =
     OrMemory errors.Memory

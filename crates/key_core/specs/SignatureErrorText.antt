@@ -1,4 +1,4 @@
--- The texts of errors of signatures and of identifiers of keys.
+-- The texts of errors of signatures and key identifiers.
 use Rattle.std.specs.Prelude.{ℕ, List, ◌++◌, codes}
 use Rattle.asn1_types.specs.ObjectIdentifier.{dotted}
 use Rattle.asn1_types.specs.Values.{arcs_of}
@@ -14,7 +14,7 @@ use Rattle.key_core.specs.declared.signature_error.SignatureError.TheVariants as
 use Rattle.key_core.specs.declared.signature_error.Unsupported.{Unsupported}
 use Rattle.key_core.specs.declared.signature_error.Unsupported.TheVariants as unsupported
 
--- what keeps a signature from being made or judged
+-- why a signature can't be made or verified
 abbrev pub sig_context_text : SigContext → List ℕ
 sig_context_text contexts.SchemeRefused = codes "the signature scheme refused"
 sig_context_text contexts.Malformed = codes "the signature is malformed"
@@ -22,14 +22,14 @@ sig_context_text contexts.HashNotSupported = codes "the digest algorithm isn't s
 sig_context_text contexts.KeySize = codes "the key hasn't 32 octets"
 sig_context_text contexts.NotForSigning = codes "the key isn't one for signatures"
 
--- what an algorithm is called that isn't used
+-- the name of an algorithm that isn't used
 abbrev pub unsupported_text : Unsupported → List ℕ
 unsupported_text (unsupported.Oid oid) = dotted (arcs_of oid)
 unsupported_text (unsupported.Hash hash) = digest_name hash
 unsupported_text (unsupported.Pairing curve hash) =
     curve_text curve ++ codes " with " ++ digest_name hash
 
--- what is told of a signature that isn't made or accepted
+-- why a signature isn't made or accepted
 abbrev pub signature_error_text : SignatureError → List ℕ
 signature_error_text (errors.Key source) = codes "Key error: " ++ key_error_text source
 signature_error_text (errors.Rsa context) = codes "RSA error: " ++ sig_context_text context
@@ -40,7 +40,7 @@ signature_error_text (errors.UnsupportedAlgorithm algorithm) =
     codes "unsupported algorithm: " ++ unsupported_text algorithm
 signature_error_text errors.Memory = codes "out of memory"
 
--- what is told of a key that has no identifier
+-- why a key has no key identifier
 abbrev pub key_id_error_text : KeyIdGenError → List ℕ
 key_id_error_text (id_errors.InvalidKey source) = codes "invalid key: " ++ key_error_text source
 key_id_error_text (id_errors.Asn1Serialization element source) =

@@ -44,13 +44,12 @@ use Rattle.key_core.specs.declared.signature_error.Unsupported.TheVariants as un
 abbrev pub HasCurveOf : PrivateKey → EcCurve → Type 0
 HasCurveOf key curve = NamesCurve key.info.private_key_algorithm curve
 
--- the algorithm of the private key has the identifier of this one on the curve 25519 (RFC 8410 3)
+-- the algorithm of the private key has the OID of this Curve25519 algorithm (RFC 8410 3)
 abbrev pub HasEdOf : PrivateKey → EdAlgorithm → Type 0
 HasEdOf key algorithm =
     identifier_contents (oid_of key.info.private_key_algorithm) ≡ ed_identifier algorithm
 
--- The octets are the number of a key on this curve, as many as an element of its field has (SEC 1
--- 3.2.1).
+-- The octets are the secret of a key on this curve, of the size of its field (SEC 1 3.2.1).
 pub record IsSecretOn (curve : EcCurve) (key : PrivateKey) (secret : List ℕ) : Type 0 where
   pub ec : ECPrivateKey
   pub is : key.info.private_key ≡ values.Ec ec
@@ -58,7 +57,7 @@ pub record IsSecretOn (curve : EcCurve) (key : PrivateKey) (secret : List ℕ) :
   pub octets : secret ≡ ec.private_key
   pub size : length secret ≡ field_size curve
 
--- The octets are the secret of a key of Ed25519: it has 32, and so has the public key (RFC 8032
+-- The octets are the secret of an Ed25519 key: it has 32, and so has the public key (RFC 8032
 -- 5.1.5).
 pub record IsEd25519Secret (key : PrivateKey) (secret : List ℕ) : Type 0 where
   pub is : key.info.private_key ≡ values.Ed secret
@@ -68,7 +67,7 @@ pub record IsEd25519Secret (key : PrivateKey) (secret : List ℕ) : Type 0 where
   pub public_key : key.public_key ≡ Some bits
   pub public_size : length (payload_of bits) ≡ 32
 
--- The private key is one for the algorithm, which a scheme knows by this name, with this secret.
+-- The private key fits the algorithm, which a scheme knows by this name, with this secret.
 abbrev pub FitsSecret : SignatureAlgorithm → PrivateKey → SigAlg → List ℕ → Type 0
 FitsSecret (RsaPkcs1v15 hash) key alg secret =
     (alg ≡ rsa_alg hash) × IsPkcs1OfPrivate key.info.private_key secret
@@ -77,27 +76,26 @@ FitsSecret (Ecdsa hash) key alg secret =
     × IsSecretOn curve key secret
 FitsSecret Ed25519 key alg secret = (alg ≡ algs.Ed25519) × IsEd25519Secret key secret
 
--- Whether a scheme signs, of an algorithm, a secret and a message.
+-- Whether a scheme signs, given an algorithm, a secret and a message.
 abbrev pub Signs : Type 0
 Signs = SigAlg → List ℕ → List ℕ → Bool
 
--- Whether key bytes and a secret belong together for a scheme, of a kind, the key bytes and the
+-- Whether key bytes and a secret belong together for a scheme, given a kind, the key bytes and the
 -- secret.
 abbrev pub Pair : Type 1
 Pair = SchemeKind → List ℕ → List ℕ → Type 0
 
--- What a scheme says: its verdicts, what it signs, and which keys belong together.
+-- What a scheme does: its verdicts, what it signs, and which keys belong together.
 pub record KeyArithmetic : Type 1 where
   pub judge : Judge
   pub signs : Signs
   pub pair : Pair
 
--- a scheme that says these
+-- a scheme that does this
 abbrev pub arithmetic : Judge → Signs → Pair → KeyArithmetic
 arithmetic judge signs pair = record { judge = judge; signs = signs; pair = pair }
 
--- The private key is one for the algorithm, and this is whether the scheme signs the message with
--- it.
+-- The private key fits the algorithm, and this is whether the scheme signs the message with it.
 pub record IsAsked (signs : Signs) (algorithm : SignatureAlgorithm) (key : PrivateKey)
     (msg : List ℕ) (holds : Bool) : Type 0 where
   pub alg : SigAlg
@@ -107,7 +105,7 @@ pub record IsAsked (signs : Signs) (algorithm : SignatureAlgorithm) (key : Priva
 
 -- ---- the public keys of a private key
 
--- Both keys are of RSA, the public one can be written, and the scheme pairs them.
+-- Both are RSA keys, the public one can be written, and the scheme pairs them.
 pub record IsRsaPair (pair : Pair) (key : PrivateKey) (info : SubjectPublicKeyInfo) : Type 0 where
   pub bytes : List ℕ
   pub secret : List ℕ
@@ -125,8 +123,8 @@ pub record IsEcPair (pair : Pair) (curve : EcCurve) (key : PrivateKey)
   pub public : IsPointOn curve info bytes
   pub paired : pair (curve_kind curve) bytes ec.private_key
 
--- Both keys are of this algorithm on the curve 25519, a public key of Ed25519 has 32 octets, and
--- the scheme pairs them.
+-- Both keys are of this Curve25519 algorithm, an Ed25519 public key has 32 octets, and the scheme
+-- pairs them.
 pub record IsEdPair (pair : Pair) (algorithm : EdAlgorithm) (key : PrivateKey)
     (info : SubjectPublicKeyInfo) : Type 0 where
   pub secret : List ℕ
@@ -147,7 +145,7 @@ IsKeyPair pair key info =
 
 -- ---- rules of signing, by what breaks them
 
--- the key is not one of RSA
+-- the key is not an RSA key
 abbrev pub NotRsaSecret : PrivateKey → Rule SignatureError
 NotRsaSecret key e =
     (private_kind key.info.private_key ≢ kinds.Rsa)
@@ -161,13 +159,13 @@ pub record UnwritableSecret (key : PrivateKey) (e : SignatureError) : Type 0 whe
   pub cause : CantBeWritten (rsa_private_key rsa) source
   pub error : e ≡ errors.Key (key_errors.Asn1Serialization elements.RsaPrivateKey source)
 
--- the key is not one of an elliptic curve
+-- the key is not an EC key
 abbrev pub NotEcSecret : PrivateKey → Rule SignatureError
 NotEcSecret key e =
     (private_kind key.info.private_key ≢ kinds.Ec)
     × (e ≡ errors.Key (key_errors.EC key_contexts.NotEc))
 
--- no curve is known by the parameters of the key
+-- the parameters of the key name no supported curve
 abbrev pub UnknownCurveOf : PrivateKey → Rule SignatureError
 UnknownCurveOf key e =
     ((curve : EcCurve) → HasCurveOf key curve → ⊥)
@@ -186,22 +184,22 @@ WrongSecretSize key e =
     × (key.info.private_key ≡ values.Ec ec) × (length ec.private_key ≢ field_size curve)
     × (e ≡ errors.Key (key_errors.EC key_contexts.SecretSize))
 
--- the key is not one of a curve 25519 or 448
+-- the key is not a Curve25519 or Curve448 key
 abbrev pub NotEdSecret : PrivateKey → Rule SignatureError
 NotEdSecret key e =
     (private_kind key.info.private_key ≢ kinds.Ed)
     × (e ≡ errors.Key (key_errors.ED key_contexts.NotEd))
 
--- no public key is kept beside the container
+-- no public key is beside the container
 abbrev pub NoPublicKey : PrivateKey → Rule SignatureError
 NoPublicKey key e =
     (key.public_key ≡ None) × (e ≡ errors.Key (key_errors.ED key_contexts.PublicKeyMissing))
 
--- the key is one of X25519, which signs nothing
+-- the key is an X25519 key, which signs nothing
 abbrev pub ForAgreementOnly : PrivateKey → Rule SignatureError
 ForAgreementOnly key e = HasEdOf key ed.X25519 × (e ≡ errors.Ed contexts.NotForSigning)
 
--- the key isn't one of Ed25519
+-- the key isn't an Ed25519 key
 abbrev pub NotEd25519Secret : PrivateKey → Rule SignatureError
 NotEd25519Secret key e =
     (HasEdOf key ed.Ed25519 → ⊥) × (e ≡ errors.Key (key_errors.ED key_contexts.UnsupportedEd))
@@ -214,18 +212,18 @@ WrongEdSize key e =
     × ((length (payload_of bits) ≡ 32) × (length secret ≡ 32) → ⊥)
     × (e ≡ errors.Ed contexts.KeySize)
 
--- what is told where the scheme doesn't sign
+-- the error if the scheme doesn't sign
 abbrev pub scheme_refused : SignatureAlgorithm → SignatureError
 scheme_refused (RsaPkcs1v15 hash) = errors.Rsa contexts.SchemeRefused
 scheme_refused (Ecdsa hash) = errors.Ec contexts.SchemeRefused
 scheme_refused Ed25519 = errors.Ed contexts.SchemeRefused
 
--- the scheme, asked for a signature, refuses
+-- the scheme refuses to sign
 abbrev pub Unsigned : Signs → SignatureAlgorithm → PrivateKey → List ℕ → Rule SignatureError
 Unsigned signs algorithm key msg e =
     IsAsked signs algorithm key msg false × (e ≡ scheme_refused algorithm)
 
--- The rules on the key, in their order.
+-- The rules for the key, in their order.
 abbrev pub secret_rules : SignatureAlgorithm → PrivateKey → List (Rule SignatureError)
 secret_rules (RsaPkcs1v15 hash) key = NotRsaSecret key ∷ []
 secret_rules (Ecdsa hash) key =
@@ -234,7 +232,7 @@ secret_rules Ed25519 key =
     NotEdSecret key ∷ NoPublicKey key ∷ ForAgreementOnly key ∷ NotEd25519Secret key ∷
     WrongEdSize key ∷ []
 
--- The rules of signing, in their order: on the key, on its writing, on what the scheme signs.
+-- The rules of signing, in their order: for the key, for its writing, for what the scheme signs.
 abbrev pub sign_rules : Signs → SignatureAlgorithm → PrivateKey → List ℕ
     → List (Rule SignatureError)
 sign_rules signs algorithm key msg =

@@ -38,11 +38,11 @@ use Rattle.key_core.specs.declared.signature_error.SignatureError.{SignatureErro
 use Rattle.key_core.specs.declared.signature_error.SignatureError.TheVariants as errors
 use Rattle.key_core.specs.declared.signature_error.Unsupported.TheVariants as unsupported
 
--- A scheme's verdict on an algorithm, key bytes, a message and a signature.
+-- A scheme's verdict, given an algorithm, key bytes, a message and a signature.
 abbrev pub Judge : Type 0
 Judge = SigAlg → List ℕ → List ℕ → List ℕ → Verdict
 
--- the algorithm has the identifier of this curve as its parameters (RFC 5480 2.1.1)
+-- the parameters of the algorithm are the OID of this curve (RFC 5480 2.1.1)
 abbrev pub NamesCurve : AlgorithmIdentifier → EcCurve → Type 0
 NamesCurve algorithm curve =
     kept_option (parameters_of algorithm) ≡ Some (object_identifier_of (curve_identifier curve))
@@ -51,11 +51,11 @@ NamesCurve algorithm curve =
 abbrev pub IsOnCurve : SubjectPublicKeyInfo → EcCurve → Type 0
 IsOnCurve info curve = NamesCurve info.algorithm curve
 
--- the algorithm of the key has the identifier of this one on the curve 25519 (RFC 8410 3)
+-- the algorithm of the key has the OID of this Curve25519 algorithm (RFC 8410 3)
 abbrev pub IsOfEd : SubjectPublicKeyInfo → EdAlgorithm → Type 0
 IsOfEd info algorithm = identifier_contents (oid_of info.algorithm) ≡ ed_identifier algorithm
 
--- The octets are those of a point on this curve, which the key is (RFC 5480 2.2).
+-- The key is a point on this curve with these octets (RFC 5480 2.2).
 pub record IsPointOn (curve : EcCurve) (info : SubjectPublicKeyInfo)
     (octets : List ℕ) : Type 0 where
   pub bits : BitString
@@ -63,7 +63,7 @@ pub record IsPointOn (curve : EcCurve) (info : SubjectPublicKeyInfo)
   pub on : IsOnCurve info curve
   pub payload : octets ≡ payload_of bits
 
--- The octets are those of a key of Ed25519, which the key is: there are 32 (RFC 8032 5.1.5).
+-- The key is an Ed25519 key with these octets: there are 32 (RFC 8032 5.1.5).
 pub record IsEd25519Key (info : SubjectPublicKeyInfo) (octets : List ℕ) : Type 0 where
   pub bits : BitString
   pub is : info.subject_public_key ≡ keys.Ed bits
@@ -71,7 +71,7 @@ pub record IsEd25519Key (info : SubjectPublicKeyInfo) (octets : List ℕ) : Type
   pub payload : octets ≡ payload_of bits
   pub size : length octets ≡ 32
 
--- The key is one for the algorithm, which a scheme knows by this name, with these key bytes.
+-- The key fits the algorithm, which a scheme knows by this name, with these key bytes.
 abbrev pub FitsKey : SignatureAlgorithm → SubjectPublicKeyInfo → SigAlg → List ℕ → Type 0
 FitsKey (RsaPkcs1v15 hash) info alg bytes =
     (alg ≡ rsa_alg hash) × IsPkcs1Of info.subject_public_key bytes
@@ -80,7 +80,7 @@ FitsKey (Ecdsa hash) info alg bytes =
     × IsPointOn curve info bytes
 FitsKey Ed25519 info alg bytes = (alg ≡ algs.Ed25519) × IsEd25519Key info bytes
 
--- The key is one for the algorithm, and the verdict on the signature of the message is this.
+-- The key fits the algorithm, and this is the verdict on the signature of the message.
 pub record IsJudged (judge : Judge) (algorithm : SignatureAlgorithm) (info : SubjectPublicKeyInfo)
     (msg sig : List ℕ) (verdict : Verdict) : Type 0 where
   pub alg : SigAlg
@@ -94,7 +94,7 @@ Accepts judge algorithm info msg sig = IsJudged judge algorithm info msg sig ver
 
 -- ---- rules of verification, by what breaks them
 
--- the key is not one of RSA
+-- the key is not an RSA key
 abbrev pub NotRsa : SubjectPublicKeyInfo → Rule SignatureError
 NotRsa info e =
     (kind_of_key info.subject_public_key ≢ kinds.Rsa)
@@ -108,13 +108,13 @@ pub record Unwritable (info : SubjectPublicKeyInfo) (e : SignatureError) : Type 
   pub cause : CantBeWritten (rsa_public_key key) source
   pub error : e ≡ errors.Key (key_errors.Asn1Serialization elements.RsaPublicKey source)
 
--- the key is not one of an elliptic curve
+-- the key is not an EC key
 abbrev pub NotEc : SubjectPublicKeyInfo → Rule SignatureError
 NotEc info e =
     (kind_of_key info.subject_public_key ≢ kinds.Ec)
     × (e ≡ errors.Key (key_errors.EC key_contexts.NotEc))
 
--- no curve is known by the parameters of the key
+-- the parameters of the key name no supported curve
 abbrev pub UnknownCurve : SubjectPublicKeyInfo → Rule SignatureError
 UnknownCurve info e =
     ((curve : EcCurve) → IsOnCurve info curve → ⊥)
@@ -131,17 +131,17 @@ Unpaired info hash e =
     (curve : EcCurve) × IsOnCurve info curve × (curve_for hash ≢ Some curve)
     × (e ≡ errors.UnsupportedAlgorithm (unsupported.Pairing curve hash))
 
--- the key is not one of a curve 25519 or 448
+-- the key is not a Curve25519 or Curve448 key
 abbrev pub NotEd : SubjectPublicKeyInfo → Rule SignatureError
 NotEd info e =
     (kind_of_key info.subject_public_key ≢ kinds.Ed)
     × (e ≡ errors.Key (key_errors.ED key_contexts.NotEd))
 
--- the key is one of X25519, which verifies nothing
+-- the key is an X25519 key, which verifies nothing
 abbrev pub ForAgreement : SubjectPublicKeyInfo → Rule SignatureError
 ForAgreement info e = IsOfEd info ed.X25519 × (e ≡ errors.Ed contexts.NotForSigning)
 
--- the key isn't one of Ed25519
+-- the key isn't an Ed25519 key
 abbrev pub NotEd25519 : SubjectPublicKeyInfo → Rule SignatureError
 NotEd25519 info e =
     (IsOfEd info ed.Ed25519 → ⊥) × (e ≡ errors.Key (key_errors.ED key_contexts.UnsupportedEd))
@@ -152,7 +152,7 @@ WrongSize info e =
     (bits : BitString) × (info.subject_public_key ≡ keys.Ed bits) × (length (payload_of bits) ≢ 32)
     × (e ≡ errors.Ed contexts.KeySize)
 
--- what is told of a signature that has no form
+-- the error for a malformed signature
 abbrev pub malformed : SignatureAlgorithm → SignatureError
 malformed (RsaPkcs1v15 hash) = errors.Rsa contexts.Malformed
 malformed (Ecdsa hash) = errors.Ec contexts.Malformed
@@ -170,14 +170,14 @@ abbrev pub Rejected : Judge → SignatureAlgorithm → SubjectPublicKeyInfo → 
 Rejected judge algorithm info msg sig e =
     IsJudged judge algorithm info msg sig verdicts.Reject × (e ≡ errors.BadSignature)
 
--- The rules on the key, in their order.
+-- The rules for the key, in their order.
 abbrev pub key_rules : SignatureAlgorithm → SubjectPublicKeyInfo → List (Rule SignatureError)
 key_rules (RsaPkcs1v15 hash) info = NotRsa info ∷ []
 key_rules (Ecdsa hash) info =
     NotEc info ∷ UnknownCurve info ∷ UnknownHash hash ∷ Unpaired info hash ∷ []
 key_rules Ed25519 info = NotEd info ∷ ForAgreement info ∷ NotEd25519 info ∷ WrongSize info ∷ []
 
--- The rules of a verification, in their order: on the key, on its writing, on the signature.
+-- The rules of a verification, in their order: for the key, for its writing, for the signature.
 abbrev pub verify_rules : Judge → SignatureAlgorithm → SubjectPublicKeyInfo → List ℕ → List ℕ
     → List (Rule SignatureError)
 verify_rules judge algorithm info msg sig =
@@ -193,14 +193,14 @@ IsVerified judge algorithm info msg sig result =
     MatchResult result (λ _. Accepts judge algorithm info msg sig)
     (RefusesSignatureBy (verify_rules judge algorithm info msg sig))
 
--- The verdict of the scheme on them, else the first broken rule on the key and its writing.
+-- The verdict of the scheme, else the first broken rule for the key and its writing.
 abbrev pub HasVerdict : Judge → SignatureAlgorithm → SubjectPublicKeyInfo → List ℕ → List ℕ
     → Result Verdict SignatureError → Type 0
 HasVerdict judge algorithm info msg sig result =
     MatchResult result (IsJudged judge algorithm info msg sig)
     (RefusesSignatureBy (key_rules algorithm info ++ Unwritable info ∷ []))
 
--- A key that isn't one for the algorithm is refused, even when memory runs out.
+-- A key that doesn't fit the algorithm is refused, even when memory runs out.
 abbrev pub RefusesKey : {A : Type 0} → SignatureAlgorithm → SubjectPublicKeyInfo
     → Result A SignatureError → Type 0
 RefusesKey algorithm info result =

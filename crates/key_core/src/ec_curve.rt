@@ -1,4 +1,4 @@
-//! The curves of NIST that are known.
+//! The supported NIST curves.
 
 ghost use Rattle.std.specs.Prelude.{◌≡◌, Some, IfOk, IfSome};
 ghost use Rattle.asn1_types.specs.Values.{identifier_contents};
@@ -10,7 +10,7 @@ use sig_core::SchemeKind;
 use std::alloc::{AllocError, Global};
 use std::fmt;
 
-/// A curve of NIST over a prime field (FIPS 186-4 D.1.2), with its name in RFC 5480 2.1.1.1.
+/// A NIST curve over a prime field (FIPS 186-4 D.1.2), named as in RFC 5480 2.1.1.1.
 #[derive(Clone, Copy, Debug, PartialEq, Eq)]
 pub enum EcCurve {
     /// P-256, secp256r1.
@@ -22,10 +22,10 @@ pub enum EcCurve {
 }
 
 impl EcCurve {
-    /// Every curve, in the order of the enum.
+    /// All curves, in the order of the enum.
     pub const ALL: [EcCurve; 3] = [EcCurve::NistP256, EcCurve::NistP384, EcCurve::NistP521];
 
-    /// The curve that an identifier names, by its contents octets, if it names one.
+    /// The curve with this OID, given by its contents octets, if it is supported.
     pub fn named(oid: &[u8]) -> Option<EcCurve>
         ensures named { (curve : EcCurve) → curve_identifier curve ≡ oid.now → result ≡ Some curve }
         ensures name { IfSome result (λ curve. curve_identifier curve ≡ oid.now) }
@@ -38,14 +38,14 @@ impl EcCurve {
         None
     }
 
-    /// The identifier of the curve.
+    /// The OID of the curve.
     pub fn to_oid(&self, alloc: Global) -> Result<ObjectIdentifier, AllocError>
         ensures { IfOk result (λ oid. identifier_contents oid ≡ curve_identifier self.now) }
     {
         ObjectIdentifier::from_known(alloc, self.oid_contents())
     }
 
-    /// The contents octets of the identifier.
+    /// The contents octets of the OID.
     pub fn oid_contents(self) -> &'static [u8]
         ensures { result.now ≡ curve_identifier self }
     {
@@ -56,7 +56,7 @@ impl EcCurve {
         }
     }
 
-    /// How many octets an element of the field has: a coordinate of a point, and a secret.
+    /// The size of a field element in octets: of a coordinate of a point, and of a secret.
     pub fn field_size(self) -> usize
         ensures { result ≡ field_size self }
     {
@@ -67,7 +67,7 @@ impl EcCurve {
         }
     }
 
-    /// The kind of the secrets of the curve, for a scheme.
+    /// The kind of the curve's secrets, as a scheme knows it.
     pub fn scheme_kind(self) -> SchemeKind
         ensures { result ≡ curve_kind self }
     {

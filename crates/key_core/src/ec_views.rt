@@ -1,4 +1,4 @@
-//! Views of keys of elliptic curves, which lend from a key and take no memory.
+//! Views of EC keys. They borrow from a key and don't allocate.
 
 ghost use Rattle.std.specs.Prelude.{◌≡◌, Some};
 ghost use Rattle.asn1_types.specs.Elements.{object_identifier_of};
@@ -20,7 +20,7 @@ use crate::public_key::PublicKey;
 use asn1_types::{BitString, LentIdentifier};
 use key_types::{AlgorithmIdentifier, SubjectKey};
 
-/// A private key of an elliptic curve.
+/// A borrowed EC private key.
 #[derive(Clone, Copy)]
 pub struct EcdsaKeypair<'a> {
     curve: LentIdentifier<'a>,
@@ -44,7 +44,7 @@ impl<'a> EcdsaKeypair<'a> {
     }
 }
 
-/// A public key of an elliptic curve.
+/// A borrowed EC public key.
 #[derive(Clone, Copy)]
 pub struct EcdsaPublicKey<'a> {
     curve: LentIdentifier<'a>,
@@ -67,7 +67,7 @@ impl<'a> EcdsaPublicKey<'a> {
     }
 }
 
-/// The identifier that parameters of a key of an elliptic curve are.
+/// The OID that the parameters of an EC key are.
 fn curve_of<'a>(algorithm: &'a AlgorithmIdentifier) -> LentIdentifier<'a>
     requires { MayHave kinds.Ec (kept_option (parameters_of algorithm.now)) }
     ensures { kept_option (parameters_of algorithm.now)
@@ -79,7 +79,7 @@ fn curve_of<'a>(algorithm: &'a AlgorithmIdentifier) -> LentIdentifier<'a>
     }
 }
 
-/// The identifier of these contents octets.
+/// The OID with these contents octets.
 fn identifier_of<'a>(octets: &'a [u8]) -> LentIdentifier<'a>
     requires { IsIdentifier octets.now }
     ensures { lent_contents result ≡ octets.now }
@@ -90,7 +90,7 @@ fn identifier_of<'a>(octets: &'a [u8]) -> LentIdentifier<'a>
     }
 }
 
-/// The parts of a private key. One of another kind is refused.
+/// The parts of a private key. A key of another kind is refused.
 impl<'a> TryFrom<&'a PrivateKey> for EcdsaKeypair<'a> {
     type Error = KeyError;
 
@@ -110,7 +110,7 @@ impl<'a> TryFrom<&'a PrivateKey> for EcdsaKeypair<'a> {
     }
 }
 
-/// The parts of a public key. One of another kind is refused.
+/// The parts of a public key. A key of another kind is refused.
 impl<'a> TryFrom<&'a PublicKey> for EcdsaPublicKey<'a> {
     type Error = KeyError;
 
@@ -130,7 +130,7 @@ impl<'a> TryFrom<&'a PublicKey> for EcdsaPublicKey<'a> {
     }
 }
 
-/// The public key of a keypair. It is refused where the keypair has none.
+/// The public key of a key pair. A pair without one is refused.
 impl<'a> TryFrom<&EcdsaKeypair<'a>> for EcdsaPublicKey<'a> {
     type Error = KeyError;
 

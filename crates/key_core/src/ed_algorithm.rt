@@ -1,4 +1,4 @@
-//! The algorithms on the curve 25519 that are known.
+//! The supported Curve25519 algorithms.
 
 ghost use Rattle.std.specs.Prelude.{◌≡◌, Some, IfOk, IfSome};
 ghost use Rattle.asn1_types.specs.Values.{identifier_contents};
@@ -10,20 +10,20 @@ use sig_core::SchemeKind;
 use std::alloc::{AllocError, Global};
 use std::fmt;
 
-/// An algorithm on the curve 25519 (RFC 8410 3).
+/// A Curve25519 algorithm (RFC 8410 3).
 #[derive(Clone, Copy, Debug, PartialEq, Eq)]
 pub enum EdAlgorithm {
     /// Signatures (RFC 8032).
     Ed25519,
-    /// Agreement of keys (RFC 7748), which signs nothing.
+    /// Key agreement (RFC 7748). It signs nothing.
     X25519,
 }
 
 impl EdAlgorithm {
-    /// Every algorithm, in the order of the enum.
+    /// All algorithms, in the order of the enum.
     pub const ALL: [EdAlgorithm; 2] = [EdAlgorithm::Ed25519, EdAlgorithm::X25519];
 
-    /// The algorithm that an identifier names, by its contents octets, if it names one.
+    /// The algorithm with this OID, given by its contents octets, if it is supported.
     pub fn named(oid: &[u8]) -> Option<EdAlgorithm>
         ensures named { (algorithm : EdAlgorithm) → ed_identifier algorithm ≡ oid.now
             → result ≡ Some algorithm }
@@ -37,14 +37,14 @@ impl EdAlgorithm {
         None
     }
 
-    /// The identifier of the algorithm.
+    /// The OID of the algorithm.
     pub fn to_oid(&self, alloc: Global) -> Result<ObjectIdentifier, AllocError>
         ensures { IfOk result (λ oid. identifier_contents oid ≡ ed_identifier self.now) }
     {
         ObjectIdentifier::from_known(alloc, self.oid_contents())
     }
 
-    /// The contents octets of the identifier.
+    /// The contents octets of the OID.
     pub fn oid_contents(self) -> &'static [u8]
         ensures { result.now ≡ ed_identifier self }
     {
@@ -54,7 +54,7 @@ impl EdAlgorithm {
         }
     }
 
-    /// The kind of the secrets of the algorithm, for a scheme.
+    /// The kind of the algorithm's secrets, as a scheme knows it.
     pub fn scheme_kind(self) -> SchemeKind
         ensures { result ≡ ed_kind self }
     {

@@ -1,4 +1,4 @@
-//! Views of keys of a curve 25519 or 448, which lend from a key and take no memory.
+//! Views of Curve25519 and Curve448 keys. They borrow from a key and don't allocate.
 
 ghost use Rattle.std.specs.Prelude.{◌≡◌};
 ghost use Rattle.key_core.specs.EdViews.{GivesEdKeypair, GivesEdPublic, GivesEdPublicOfKeypair};
@@ -12,7 +12,7 @@ use crate::public_key::PublicKey;
 use asn1_types::{BitString, ObjectIdentifier};
 use key_types::SubjectKey;
 
-/// A private key of a curve 25519 or 448.
+/// A borrowed Curve25519 or Curve448 private key.
 #[derive(Clone, Copy)]
 pub struct EdKeypair<'a> {
     algorithm: &'a ObjectIdentifier,
@@ -36,7 +36,7 @@ impl<'a> EdKeypair<'a> {
     }
 }
 
-/// A public key of a curve 25519 or 448.
+/// A borrowed Curve25519 or Curve448 public key.
 #[derive(Clone, Copy)]
 pub struct EdPublicKey<'a> {
     algorithm: &'a ObjectIdentifier,
@@ -59,7 +59,7 @@ impl<'a> EdPublicKey<'a> {
     }
 }
 
-/// The parts of a private key. One of another kind is refused.
+/// The parts of a private key. A key of another kind is refused.
 impl<'a> TryFrom<&'a PrivateKey> for EdKeypair<'a> {
     type Error = KeyError;
 
@@ -79,7 +79,7 @@ impl<'a> TryFrom<&'a PrivateKey> for EdKeypair<'a> {
     }
 }
 
-/// The parts of a public key. One of another kind is refused.
+/// The parts of a public key. A key of another kind is refused.
 impl<'a> TryFrom<&'a PublicKey> for EdPublicKey<'a> {
     type Error = KeyError;
 
@@ -99,7 +99,7 @@ impl<'a> TryFrom<&'a PublicKey> for EdPublicKey<'a> {
     }
 }
 
-/// The public key of a keypair. It is refused where the keypair has none.
+/// The public key of a key pair. A pair without one is refused.
 impl<'a> TryFrom<&EdKeypair<'a>> for EdPublicKey<'a> {
     type Error = KeyError;
 

@@ -1,11 +1,11 @@
-//! Structures by name, for errors.
+//! The structures that errors name.
 
 ghost use Rattle.std.specs.Prelude.{◌≡◌, Some, string_bytes};
 ghost use Rattle.key_core.specs.ErrorText.{element_text};
 
 use std::fmt;
 
-/// A structure that was to be read or written.
+/// The structure that was being read or written.
 #[derive(Clone, Copy, Debug, PartialEq, Eq)]
 pub enum Element {
     Certificate,
@@ -22,7 +22,7 @@ pub enum Element {
 }
 
 impl Element {
-    /// What the structure is called.
+    /// The name of the structure.
     fn name(self) -> &'static str
         ensures { result.now ≡ element_text self }
     {

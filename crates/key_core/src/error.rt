@@ -1,4 +1,4 @@
-//! Why a key isn't read, made or written.
+//! Errors of reading, making and writing keys.
 
 ghost use Rattle.std.specs.Prelude.{◌≡◌, ◌++◌, Some};
 ghost use Rattle.std.specs.Fmt.{WritesOnOk};
@@ -19,49 +19,49 @@ pub enum KeyError {
     /// The value has no encoding: it is nested too deep, or some contents are too long. Never wraps
     /// `Memory`.
     Asn1Serialization { element: Element, source: DerError },
-    /// The octets are no element, or one of another structure. Never wraps `Memory`.
+    /// The octets are no element, or another structure. Never wraps `Memory`.
     Asn1Deserialization { element: Element, source: DerError },
-    /// A key of RSA can't be had.
+    /// An RSA key isn't available.
     Rsa { context: KeyContext },
-    /// A key of an elliptic curve can't be had.
+    /// An EC key isn't available.
     EC { context: KeyContext },
-    /// A key on a curve 25519 or 448 can't be had.
+    /// A Curve25519 or Curve448 key isn't available.
     ED { context: KeyContext },
-    /// Keys of this kind aren't used so.
+    /// Keys of this kind aren't used that way.
     UnsupportedAlgorithm { algorithm: KeyKind },
-    /// No memory was left.
+    /// Out of memory.
     Memory,
 }
 
-/// Why a key of a kind can't be had.
+/// Why a key isn't available.
 #[derive(Clone, Copy, Debug, PartialEq, Eq)]
 pub enum KeyContext {
-    /// The key is of another kind than RSA.
+    /// The key isn't an RSA key.
     NotRsa,
-    /// The key is of another kind than one of an elliptic curve.
+    /// The key isn't an EC key.
     NotEc,
-    /// The key is of another kind than one of a curve 25519 or 448.
+    /// The key isn't a Curve25519 or Curve448 key.
     NotEd,
-    /// The parameters of a key of an elliptic curve name no curve.
+    /// The parameters of an EC key name no curve.
     CurveParameters,
-    /// No curve stands in a key of an elliptic curve.
+    /// An EC key names no curve.
     CurveMissing,
-    /// A coordinate hasn't as many octets as the field of the curve.
+    /// The size of a coordinate isn't that of the curve's field.
     CoordinateSize,
-    /// A secret hasn't as many octets as the field of its curve, or as its algorithm has.
+    /// The size of a secret isn't that of its curve's field, or that of its algorithm.
     SecretSize,
     /// The curve is none of P-256, P-384 and P-521.
     UnsupportedCurve,
-    /// The algorithm on a curve 25519 or 448 isn't known, or not used so.
+    /// The Curve25519 or Curve448 algorithm isn't supported, or not used that way.
     UnsupportedEd,
-    /// A private key has no public key.
+    /// The private key has no public key.
     PublicKeyMissing,
     /// The scheme derives no public key.
     SchemeRefused,
 }
 
 impl KeyError {
-    /// Why octets of the structure aren't read.
+    /// The error for octets that aren't read as the structure.
     pub(crate) fn unread(element: Element, source: DerError) -> KeyError
         ensures { result ≡ unread element source }
     {
@@ -71,7 +71,7 @@ impl KeyError {
         }
     }
 
-    /// Why a value of the structure isn't written.
+    /// The error for a value that isn't written as the structure.
     pub(crate) fn unwritten(element: Element, source: DerError) -> KeyError
         ensures { result ≡ unwritten element source }
     {
@@ -82,7 +82,7 @@ impl KeyError {
     }
 }
 
-/// What a kind of keys is called.
+/// The name of a kind of keys.
 fn kind_name(kind: KeyKind) -> &'static str
     ensures { result.now ≡ kind_text kind }
 {
@@ -95,7 +95,7 @@ fn kind_name(kind: KeyKind) -> &'static str
 }
 
 impl KeyContext {
-    /// Why the key can't be had, in words.
+    /// The text of the context.
     fn text(self) -> &'static str
         ensures { result.now ≡ context_text self }
     {
@@ -127,7 +127,7 @@ impl fmt::Display for KeyContext {
     }
 }
 
-/// The text of an error that has two parts.
+/// The text of an error with two parts.
 pub(crate) fn write_parts<W: fmt::Write>(
     head: &str,
     rest: &str,
@@ -139,7 +139,7 @@ pub(crate) fn write_parts<W: fmt::Write>(
     f.write_str(rest)
 }
 
-/// The text of an element that isn't read or written, and why.
+/// The text of an element that isn't read or written, with the cause.
 pub(crate) fn write_element<W: fmt::Write>(
     head: &str,
     element: Element,

@@ -1,4 +1,4 @@
-//! Algorithms of keys, by their identifiers alone.
+//! Key algorithms, by OID alone.
 
 ghost use Rattle.std.specs.Prelude.{◌≡◌, MatchOption};
 ghost use Rattle.key_types.specs.AlgorithmIdentifier.{algorithm_identifier};
@@ -9,7 +9,7 @@ use der_core::tag::{OBJECT_IDENTIFIER, SEQUENCE};
 use der_core::{Elem, Kids, Structure, leaf_at};
 use key_types::{AlgorithmIdentifier, KeyKind};
 
-/// The kind of keys that the algorithm names that lies in octets.
+/// The kind of the keys that the borrowed AlgorithmIdentifier names.
 pub(crate) fn kind_at(elem: Elem<'_>) -> Option<KeyKind>
     ensures { MatchOption result
         ((kind : KeyKind) (algorithm : AlgorithmIdentifier)

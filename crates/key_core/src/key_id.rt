@@ -1,4 +1,4 @@
-//! Identifiers of keys.
+//! Key identifiers.
 
 ghost use Rattle.std.specs.Prelude.{◌≡◌, ◌≢◌, ℕ, List, Err, IfOk, MatchResult, vec_len, Some};
 ghost use Rattle.sig_core.specs.Digest.{digest_of, digest_size};
@@ -22,36 +22,36 @@ use std::alloc::{AllocError, AllocFailed, Global};
 use std::fmt;
 use thiserror::Error;
 
-/// How many octets have 160 bits.
+/// 160 bits, in octets.
 const LEFTMOST: usize = 20;
 
-/// How the identifier of a key is made of its octets (RFC 5280 4.2.1.2, RFC 7093 2).
+/// How a key identifier is derived from a key (RFC 5280 4.2.1.2, RFC 7093 2).
 #[derive(Clone, Copy, Debug, PartialEq, Eq, Hash)]
 pub enum KeyIdGenMethod {
     /// The digest of the SubjectPublicKeyInfo.
     SPKFullDER(HashAlgorithm),
     /// The first 20 octets of the digest of the key's bits, without their tag, length and count of
-    /// unused bits. A digest by MD5 hasn't as many.
+    /// unused bits. An MD5 digest is too short.
     SPKValueHashedLeftmost160(HashAlgorithm),
 }
 
-/// Why a key has no identifier.
+/// Why a key has no key identifier.
 #[derive(Clone, Copy, Debug, PartialEq, Eq, Error)]
 pub enum KeyIdGenError {
-    /// The key can't be written, or the digest has fewer octets than the identifier. Never wraps
+    /// The key can't be written, or the digest is shorter than the key identifier. Never wraps
     /// `Memory`.
     InvalidKey { source: KeyError },
-    /// What the bits of the key hold can't be written. Never wraps `Memory`.
+    /// The structure in the key's bits can't be written. Never wraps `Memory`.
     Asn1Serialization { element: Element, source: DerError },
-    /// No memory was left.
+    /// Out of memory.
     Memory,
 }
 
 impl KeyIdGenMethod {
-    /// The identifier of the key. Of the SubjectPublicKeyInfo: `InvalidKey` exactly where
-    /// `PublicKey::to_der` refuses. Of the bits: `InvalidKey` with `UnsupportedAlgorithm` of the
-    /// key's kind exactly for MD5, else `Asn1Serialization` exactly where the RSAPublicKey of a key
-    /// of RSA can't be written.
+    /// The key identifier: the digest, or its first 20 octets. Of the SubjectPublicKeyInfo:
+    /// `InvalidKey` exactly where `PublicKey::to_der` refuses. Of the bits: `InvalidKey` with
+    /// `UnsupportedAlgorithm` of the key's kind exactly for MD5, else `Asn1Serialization` exactly
+    /// where the RSAPublicKey of an RSA key can't be written.
     pub fn generate_from(
         self,
         alloc: Global,
@@ -139,7 +139,7 @@ fn written(alloc: Global, key: &RsaPublicKey) -> Result<Vec<u8>, KeyIdGenError>
     }
 }
 
-/// Why the key isn't written.
+/// The error for a key that isn't written.
 fn unwritten(source: DerError) -> KeyIdGenError
     ensures { result ≡ payload_refusal source }
 {
@@ -166,7 +166,7 @@ impl fmt::Display for KeyIdGenError {
     }
 }
 
-/// The variant that holds the error, and `Memory` for `Memory`.
+/// The variant that wraps the error, and `Memory` for `Memory`.
 impl From<KeyError> for KeyIdGenError {
     ghost from_gives = { λ source e. e ≡ key_id_refusal source };
 

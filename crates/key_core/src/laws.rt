@@ -1,4 +1,4 @@
-//! Laws on keys that are written and read again, and on the lists of curves and of algorithms.
+//! Laws: keys survive writing and reading, and the lists of curves and algorithms are complete.
 
 ghost use Rattle.std.specs.Prelude.{◌≡◌, ℕ, List, Some, length, Contains};
 ghost use Rattle.key_core.specs.EcCurve.{curve_identifier};
@@ -33,7 +33,7 @@ ghost use Rattle.key_core.specs.declared.ec_curve.TheConstants.EcCurve as curves
 ghost use Rattle.key_core.specs.declared.ed_algorithm.EdAlgorithm.{EdAlgorithm};
 ghost use Rattle.key_core.specs.declared.ed_algorithm.TheConstants.EdAlgorithm as algorithms;
 
-/// What `to_pkcs1` writes of a public or private key that `from_pkcs1` read is what was read.
+/// `to_pkcs1` writes, of a public or private key that `from_pkcs1` read, the octets that were read.
 pub fn pkcs1_comes_back()
     ensures public { (read written : List ℕ) (info : SubjectPublicKeyInfo)
         → IsPkcs1Key read info → IsPkcs1Of info.subject_public_key written → written ≡ read }
@@ -41,8 +41,8 @@ pub fn pkcs1_comes_back()
         → IsPrivatePkcs1 read key → IsPkcs1OfPrivate key.info.private_key written → written ≡ read }
 {}
 
-/// What `PublicKey::to_der` writes of a key is read by `from_der` as that key again, and refused
-/// only when out of memory.
+/// `from_der` reads what `PublicKey::to_der` writes as the same key, and refuses it only when out
+/// of memory.
 pub fn public_keys_come_back()
     ensures again { (octets : List ℕ) (info again : SubjectPublicKeyInfo) → IsWholeOf info octets
         → IsWithin IsPublicKeyInfo octets again → again ≡ info }
@@ -52,9 +52,8 @@ pub fn public_keys_come_back()
         → e ≡ errors.Memory }
 {}
 
-/// What `PrivateKey::to_pkcs8` writes of a key that was read is read by `from_pkcs8` as that key
-/// again, and refused only when out of memory, under a scheme that derives the same keys from
-/// secrets.
+/// `from_pkcs8` reads what `PrivateKey::to_pkcs8` writes of a key that was read as the same key,
+/// and refuses it only when out of memory, under a scheme that derives the same keys from secrets.
 pub fn pkcs8_comes_back()
     ensures again { (derives : Derivation) (octets : List ℕ) (key again : PrivateKey)
         → KeepsItself derives key → octets ≡ encoding (private_key_info key.info)
@@ -77,14 +76,14 @@ pub fn pkcs8_comes_back()
         → IsSec1KeyOnKnown derives curve octets key → KeepsItself derives key }
 {}
 
-/// No two curves have one identifier, and no two algorithms on the curve 25519. So the identifier
-/// that is written for one is read as that one again.
+/// No two curves share an OID, and no two Curve25519 algorithms. So the OID that is written for one
+/// is read as that one again.
 pub fn one_identifier_each()
     ensures each_curve { (a b : EcCurve) → curve_identifier a ≡ curve_identifier b → a ≡ b }
     ensures each_algorithm { (a b : EdAlgorithm) → ed_identifier a ≡ ed_identifier b → a ≡ b }
 {}
 
-/// `EcCurve::ALL` and `EdAlgorithm::ALL` have each curve and each algorithm, once.
+/// `EcCurve::ALL` and `EdAlgorithm::ALL` list each curve and each algorithm once.
 pub fn lists_have_each_curve()
     ensures each_curve { (curve : EcCurve) → Contains curves.ALL curve }
     ensures curves_once { length curves.ALL ≡ 3 }
@@ -92,9 +91,9 @@ pub fn lists_have_each_curve()
     ensures algorithms_once { length algorithms.ALL ≡ 2 }
 {}
 
-/// What `PrivateKey::to_pkcs1` writes of a key of RSA is what the demonstration scheme takes for a
-/// secret of RSA, and each such secret is that of a key. The public key that the scheme derives
-/// from it is that of `to_public_key`.
+/// `PrivateKey::to_pkcs1` writes of an RSA key what the demonstration scheme accepts as an RSA
+/// secret, and each such secret is that of a key. The public key that the scheme derives from it is
+/// that of `to_public_key`.
 pub fn keys_of_rsa_are_secrets()
     ensures secret { (key : RsaPrivateKey) (octets : List ℕ)
         → octets ≡ encoding (rsa_private_key key) → IsDer (rsa_private_key key)

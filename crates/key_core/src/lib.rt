@@ -1,7 +1,6 @@
-//! Keys: public keys, and private keys with their algorithms (RFC 5208 5, RFC 5958 2), as values,
-//! read from octets or trees and written as either. The structures that they are made of stand in
-//! crates of their own, and are handed on here. With keys stand the algorithms of signatures and
-//! the identifiers of keys.
+//! Public and private keys with their algorithms (RFC 5280 4.1.2.7, RFC 5208 5, RFC 5958 2), read
+//! from octets or trees and written as either; signature algorithms; key identifiers. The
+//! structures that keys consist of have crates of their own and are exported again here.
 #![tactic(auto)]
 
 mod ec_curve;

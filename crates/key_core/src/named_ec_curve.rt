@@ -1,4 +1,4 @@
-//! Curves by their identifiers, known or not.
+//! Curves by OID, supported or not.
 
 ghost use Rattle.std.specs.Prelude.{◌≡◌, Some, IfOk};
 ghost use Rattle.asn1_types.specs.Values.{identifier_contents, lent_contents};
@@ -9,16 +9,16 @@ use asn1_types::{LentIdentifier, ObjectIdentifier};
 use std::alloc::{AllocError, Global};
 use std::fmt;
 
-/// A curve by its identifier, which is lent where the curve isn't known.
+/// A curve by its OID, which is borrowed where the curve isn't supported.
 #[derive(Clone, Copy, Debug)]
 pub enum NamedEcCurve<'a> {
     Known(EcCurve),
-    /// Another one.
+    /// Any other curve.
     Unsupported(LentIdentifier<'a>),
 }
 
 impl<'a> NamedEcCurve<'a> {
-    /// The curve of the identifier.
+    /// The curve with this OID.
     pub(crate) fn of(identifier: LentIdentifier<'a>) -> NamedEcCurve<'a>
         ensures { IsNamedCurve (lent_contents identifier.entry) result }
     {
@@ -28,7 +28,7 @@ impl<'a> NamedEcCurve<'a> {
         }
     }
 
-    /// The identifier of the curve.
+    /// The OID of the curve.
     pub fn to_oid(&self, alloc: Global) -> Result<ObjectIdentifier, AllocError>
         ensures { IfOk result (λ oid. identifier_contents oid ≡ named_curve_identifier self.now) }
     {
@@ -39,7 +39,7 @@ impl<'a> NamedEcCurve<'a> {
     }
 }
 
-/// The curve is known exactly where the identifier names one.
+/// A supported curve exactly where the OID names one.
 impl<'a> From<&'a ObjectIdentifier> for NamedEcCurve<'a> {
     ghost from_gives = { λ oid named. IsNamedCurve (identifier_contents oid.now) named };
 

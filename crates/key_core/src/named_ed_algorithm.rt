@@ -1,4 +1,4 @@
-//! Algorithms on the curves 25519 and 448 by their identifiers, known or not.
+//! Curve25519 and Curve448 algorithms by OID, supported or not.
 
 ghost use Rattle.std.specs.Prelude.{◌≡◌, Some, IfOk};
 ghost use Rattle.asn1_types.specs.Values.{identifier_contents};
@@ -10,16 +10,16 @@ use asn1_types::oids::{ED448, X448};
 use std::alloc::{AllocError, Global};
 use std::fmt;
 
-/// An algorithm by its identifier, which is lent where the algorithm isn't known.
+/// An algorithm by its OID, which is borrowed where the algorithm isn't supported.
 #[derive(Clone, Copy, Debug)]
 pub enum NamedEdAlgorithm<'a> {
     Known(EdAlgorithm),
-    /// Another one, as Ed448 and X448 are.
+    /// Any other algorithm, such as Ed448 and X448.
     Unsupported(&'a ObjectIdentifier),
 }
 
 impl<'a> NamedEdAlgorithm<'a> {
-    /// The identifier of the algorithm.
+    /// The OID of the algorithm.
     pub fn to_oid(&self, alloc: Global) -> Result<ObjectIdentifier, AllocError>
         ensures { IfOk result (λ oid. identifier_contents oid ≡ named_ed_identifier self.now) }
     {
@@ -30,7 +30,7 @@ impl<'a> NamedEdAlgorithm<'a> {
     }
 }
 
-/// The algorithm is known exactly where the identifier names one.
+/// A supported algorithm exactly where the OID names one.
 impl<'a> From<&'a ObjectIdentifier> for NamedEdAlgorithm<'a> {
     ghost from_gives = { λ oid named. IsNamedEd oid.now named };
 

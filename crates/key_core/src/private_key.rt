@@ -31,9 +31,9 @@ use std::alloc::{AllocError, Global};
 use std::fmt;
 
 /// A private key with its algorithm, in the container that is written for it (RFC 5208 5, RFC 5958
-/// 2). The public key of a curve is kept beside the container where it was given, read or derived,
-/// since the container may leave it out; that of RSA is part of the key. The parameters of a key of
-/// an elliptic curve name its curve.
+/// 2). The public key of a curve key is stored beside the container if it was given, read or
+/// derived, since the container may leave it out; that of an RSA key is part of the key. The
+/// parameters of an EC key name its curve.
 pub struct PrivateKey {
     pub(crate) info: PrivateKeyInfo,
     pub(crate) public_key: Option<BitString>,
@@ -42,7 +42,7 @@ pub struct PrivateKey {
             (kept_option (parameters_of info.private_key_algorithm)) },
 }
 
-/// Written out, so that dropping one is a call: else each function that drops one is proved through
+/// By hand, so that dropping a key is a call: else each function that drops one is proved through
 /// all its parts.
 impl Drop for PrivateKey {
     fn drop(self) {
@@ -61,8 +61,8 @@ impl PrivateKey {
         self.info.private_key.kind()
     }
 
-    /// The encoding of the key's container, which is a PrivateKeyInfo. A key that has none is
-    /// refused as `Asn1Serialization`.
+    /// The encoding of the key's container, a PrivateKeyInfo (RFC 5208 5, RFC 5958 2). A key
+    /// without an encoding is refused as `Asn1Serialization`.
     pub fn to_pkcs8(&self, alloc: Global) -> Result<Vec<u8>, KeyError>
         ensures { MatchResult result
             (λ octets. (octets.items ≡ encoding (private_key_info self.now.info))
@@ -76,7 +76,7 @@ impl PrivateKey {
         }
     }
 
-    /// A copy of the value.
+    /// A copy of the key.
     pub fn try_clone(&self, alloc: Global) -> Result<PrivateKey, AllocError>
         ensures { IfOk result (λ copy. copy ≡ self.now) }
     {
@@ -87,15 +87,15 @@ impl PrivateKey {
     }
 }
 
-/// The kind of the key alone is shown, and no secret.
+/// Shows only the kind of the key, no secret.
 impl fmt::Debug for PrivateKey {
     fn fmt<W: fmt::Write>(&self, f: &mut fmt::Formatter<W>) -> fmt::Result {
         write!(f, "PrivateKey({:?})", self.kind())
     }
 }
 
-/// Keys are equal exactly where all that is kept of them is: their containers, and the public keys
-/// beside them. How long this takes tells of the keys.
+/// Keys are equal exactly where their containers and the public keys beside them are. Not
+/// constant-time.
 impl PartialEq for PrivateKey {
     ghost use Rattle.der_core.specs.Equality.{same_octets};
     ghost use Rattle.der_core.specs.Facts.Equality.{same_octets_per};

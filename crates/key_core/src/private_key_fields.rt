@@ -1,4 +1,4 @@
-//! Private keys with their algorithms, where their octets lie.
+//! Private keys with their algorithms, borrowed.
 
 ghost use Rattle.std.specs.Prelude.{◌≡◌, ◌≢◌, false, ℕ, List, Option, IsTrue, MatchOption, MatchResult};
 ghost use Rattle.std.specs.Option.{option_copied};
@@ -18,8 +18,8 @@ pub(crate) const ATTRIBUTES: u8 = 0xA0;
 /// The tag of the public key.
 pub(crate) const PUBLIC_KEY: u8 = 0x81;
 
-/// The fields of a PrivateKeyInfo: the algorithm and the attributes as any elements, these of their
-/// tag, the keys as octets.
+/// The fields of a PrivateKeyInfo, borrowed: the algorithm as any element, the attributes as any
+/// element with their tag, the keys as octets (RFC 5958 2).
 #[derive(Clone, Copy)]
 pub(crate) struct PrivateKeyFields<'a> {
     pub version: PrivateKeyVersion,

@@ -25,11 +25,11 @@ use der_core::{DerError, Elem, NewKids, Raw, Structure, Tree, copy_option, push_
 use key_types::{AlgorithmIdentifier, KeyKind};
 use std::alloc::{AllocError, Global};
 
-/// A private key with its algorithm, which names keys of its kind (RFC 5208 5, RFC 5958 2). What
-/// parameters the algorithm has isn't asked, and neither is what the attributes are, which are kept
-/// as an element of the tag \[0\]. The public key is what stands beside the private one; that the
-/// two belong together isn't asked. An algorithm of no known kind has no private key here: it is
-/// `Shape`, as one of ML-DSA is. It has no `Debug`, so no secret is printed by mistake.
+/// A private key with its algorithm, which names keys of its kind (RFC 5208 5, RFC 5958 2). Neither
+/// the parameters of the algorithm are checked, nor the attributes, which are stored as an element
+/// with the tag \[0\], nor whether the public key beside the private one belongs to it. A key of an
+/// unknown algorithm, such as ML-DSA, is `Shape`. It has no `Debug`, so no secret is printed by
+/// mistake.
 #[derive(Drop)]
 pub struct PrivateKeyInfo {
     pub version: PrivateKeyVersion,
@@ -41,8 +41,8 @@ pub struct PrivateKeyInfo {
 }
 
 impl PrivateKeyInfo {
-    /// The key with its algorithm, None exactly where the algorithm doesn't name keys of its kind,
-    /// or the attributes don't stand under the tag \[0\].
+    /// The key with its algorithm. None exactly where the algorithm doesn't name keys of its kind,
+    /// or the attributes haven't the tag \[0\].
     pub fn new(
         version: PrivateKeyVersion,
         private_key_algorithm: AlgorithmIdentifier,
@@ -69,7 +69,7 @@ impl PrivateKeyInfo {
     }
 }
 
-/// Whether attributes, where there are any, stand under their tag.
+/// Whether the attributes, if any, have their tag.
 fn have_tag(attributes: &Option<Raw>) -> bool
     ensures { IsTrue result ↔ HaveTag (kept_option attributes.now) }
 {
@@ -79,7 +79,7 @@ fn have_tag(attributes: &Option<Raw>) -> bool
     }
 }
 
-/// Whether contents octets, where there are any, are those of a BIT STRING.
+/// Whether the contents octets, if any, are those of a BIT STRING.
 fn has_bits(content: Option<&[u8]>) -> bool
     ensures fits { IsTrue result
         → (bits : Option BitString)
@@ -93,7 +93,7 @@ fn has_bits(content: Option<&[u8]>) -> bool
     }
 }
 
-/// The BIT STRING of contents octets, where there are any.
+/// The BIT STRING with these contents octets, if any.
 fn read_bits(alloc: Global, content: Option<&[u8]>) -> Result<Option<BitString>, DerError>
     ensures { MatchResult result
         (λ bits. option_copied content.entry ≡ option_map bit_string_contents bits)
@@ -106,7 +106,7 @@ fn read_bits(alloc: Global, content: Option<&[u8]>) -> Result<Option<BitString>,
     }
 }
 
-/// The attributes that lie there, where there are any.
+/// Copies the attributes, if any.
 fn read_attributes(alloc: Global, attributes: Option<Elem<'_>>) -> Result<Option<Raw>, AllocError>
     ensures { IfOk result (λ kept. kept_option kept ≡ at_option attributes.entry) }
 {
@@ -116,7 +116,7 @@ fn read_attributes(alloc: Global, attributes: Option<Elem<'_>>) -> Result<Option
     }
 }
 
-/// The key in octets, of the kind that the algorithm names.
+/// Reads a key of the kind that the algorithm names.
 fn read_key(
     alloc: Global,
     algorithm: &AlgorithmIdentifier,
@@ -134,7 +134,7 @@ fn read_key(
     }
 }
 
-/// The octets of the key, as an element.
+/// The OCTET STRING of the key.
 fn write_key(alloc: Global, key: &PrivateKeyValue) -> Result<Tree, DerError>
     ensures { MatchResult result
         (λ tree. (tree ≡ octet_string (encoding (private_key key.now))) × IsWellFormed tree
@@ -144,7 +144,7 @@ fn write_key(alloc: Global, key: &PrivateKeyValue) -> Result<Tree, DerError>
     Ok(Tree::leaf(OCTET_STRING, key.write(alloc)?))
 }
 
-/// Appends the octets of the key, as an element.
+/// Appends the OCTET STRING of the key.
 fn push_key(alloc: Global, kids: &mut NewKids, key: &PrivateKeyValue) -> Result<(), DerError>
     ensures { MatchResult result
         (λ _. (kids.new.kids ≡ kids.old.kids ++ octet_string (encoding (private_key key.now)) ∷ [])
@@ -154,7 +154,7 @@ fn push_key(alloc: Global, kids: &mut NewKids, key: &PrivateKeyValue) -> Result<
     Ok(kids.push(write_key(alloc, key)?)?)
 }
 
-/// Appends the attributes, where there are any.
+/// Appends the attributes, if any.
 fn push_attributes(
     alloc: Global,
     kids: &mut NewKids,
@@ -170,7 +170,7 @@ fn push_attributes(
     }
 }
 
-/// Appends the public key, where there is one.
+/// Appends the public key, if any.
 fn push_public_key(
     alloc: Global,
     kids: &mut NewKids,
@@ -247,8 +247,7 @@ impl Structure for PrivateKeyInfo {
     ghost grammar = { private_key_infos };
 }
 
-/// Keys with their algorithms are equal exactly where their octets are. How long this takes tells
-/// of the keys.
+/// Keys with their algorithms are equal exactly where their encodings are. Not constant-time.
 impl PartialEq for PrivateKeyInfo {
     ghost use Rattle.der_core.specs.Equality.{same_octets};
     ghost use Rattle.der_core.specs.Facts.Equality.{same_octets_per};

@@ -11,17 +11,18 @@ use key_types::KeyKind;
 use private_key_types::{ECPrivateKey, RsaPrivateKey};
 use std::alloc::{AllocError, Global};
 
-/// A private key, as its algorithm has it. It has no `Debug`, so no secret is printed by mistake.
+/// A private key, as its algorithm encodes it. It has no `Debug`, so no secret is printed by
+/// mistake.
 pub enum PrivateKeyValue {
-    /// A key of RSA (RFC 8017 A.1.2).
+    /// An RSA key (RFC 8017 A.1.2).
     Rsa(RsaPrivateKey),
-    /// A key of an elliptic curve (RFC 5915 3).
+    /// An EC key (RFC 5915 3).
     Ec(ECPrivateKey),
-    /// A key of a curve 25519 or 448 (RFC 8410 7).
+    /// A Curve25519 or Curve448 key (RFC 8410 7).
     Ed(Octets),
 }
 
-/// What is secret is overwritten, in keys of RSA and of elliptic curves by their own drop.
+/// Overwrites the secret; RSA and EC keys do so in their own drop.
 impl Drop for PrivateKeyValue {
     fn drop(self) {
         match self {
@@ -44,7 +45,7 @@ impl PrivateKeyValue {
         }
     }
 
-    /// Whether octets are those of a key of the kind.
+    /// Whether the octets encode a key of the kind.
     pub(crate) fn is_of(kind: KeyKind, octets: &[u8]) -> bool
         ensures fits { IsTrue result
             → (key : PrivateKeyValue) × IsPrivateKeyOf kind octets.now key }
@@ -59,7 +60,7 @@ impl PrivateKeyValue {
         }
     }
 
-    /// The key of the kind in octets.
+    /// Reads a key of the kind.
     pub(crate) fn read(
         alloc: Global,
         kind: KeyKind,
@@ -76,7 +77,7 @@ impl PrivateKeyValue {
         }
     }
 
-    /// The octets of the key.
+    /// The encoding of the key.
     pub(crate) fn write(&self, alloc: Global) -> Result<Octets, DerError>
         ensures { MatchResult result
             (λ octets. (octets ≡ encoding (private_key self.now)) × IsDer (private_key self.now))
@@ -90,7 +91,7 @@ impl PrivateKeyValue {
         Ok(Octets::from(octets))
     }
 
-    /// A copy of the value.
+    /// A copy of the key.
     pub fn try_clone(&self, alloc: Global) -> Result<PrivateKeyValue, AllocError>
         ensures { IfOk result (λ copy. copy ≡ self.now) }
     {
@@ -104,8 +105,7 @@ impl PrivateKeyValue {
     }
 }
 
-/// Keys are equal exactly where their kinds and their octets are. How long this takes tells of the
-/// keys.
+/// Keys are equal exactly where their kinds and encodings are. Not constant-time.
 impl PartialEq for PrivateKeyValue {
     ghost use Rattle.std.specs.Ordering.{on};
     ghost use Rattle.std.specs.Cmp.Lexicographic.{nat_list_eq_equiv};

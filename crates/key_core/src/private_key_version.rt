@@ -1,4 +1,4 @@
-//! Versions of private keys with their algorithms.
+//! Versions of PrivateKeyInfo.
 
 ghost use Rattle.std.specs.Prelude.{◌≡◌, ◌≢◌, IfOk, MatchOption};
 ghost use Rattle.der_core.specs.Encoding.{IsWellFormed};
@@ -9,12 +9,12 @@ use der_core::tag::INTEGER;
 use der_core::{Elem, Tree, leaf, leaf_at};
 use std::alloc::{AllocError, Global};
 
-/// The version of a private key with its algorithm (RFC 5958 2). RFC 5208 5 has the first alone.
+/// The version of a private key with its algorithm (RFC 5958 2). RFC 5208 5 has only the first.
 #[derive(Clone, Copy, Debug, PartialEq, Eq)]
 pub enum PrivateKeyVersion {
-    /// Written 0.
+    /// Encoded as 0.
     V1,
-    /// Written 1: of a key that may have its public key beside it. This isn't asked of what is
+    /// Encoded as 1: the key may have its public key beside it. This isn't checked when a key is
     /// read.
     V2,
 }

@@ -34,7 +34,7 @@ pub struct PublicKey {
     info: SubjectPublicKeyInfo,
 }
 
-/// Written out, so that dropping one is a call: else each function that drops one is proved through
+/// By hand, so that dropping a key is a call: else each function that drops one is proved through
 /// all its parts.
 impl Drop for PublicKey {
     fn drop(self) {
@@ -43,9 +43,8 @@ impl Drop for PublicKey {
 }
 
 impl PublicKey {
-    /// The key in octets, which are the encoding of a SubjectPublicKeyInfo (RFC 5280 4.1.2.7).
-    /// Octets that are no element, or one of another structure, are refused as
-    /// `Asn1Deserialization` without memory.
+    /// Reads the encoding of a SubjectPublicKeyInfo (RFC 5280 4.1.2.7). Octets that are no element,
+    /// or another structure, are refused as `Asn1Deserialization`, even when memory runs out.
     pub fn from_der(alloc: Global, der: &[u8]) -> Result<PublicKey, KeyError>
         ensures answer { MatchResult result
             (λ key. IsWithin IsPublicKeyInfo der.now key.info)
@@ -62,8 +61,8 @@ impl PublicKey {
         }
     }
 
-    /// The encoding of the key's SubjectPublicKeyInfo. A key that has none is refused as
-    /// `Asn1Serialization`.
+    /// The encoding of the key's SubjectPublicKeyInfo (RFC 5280 4.1.2.7). A key without an encoding
+    /// is refused as `Asn1Serialization`.
     pub fn to_der(&self, alloc: Global) -> Result<Vec<u8>, KeyError>
         ensures { MatchResult result
             (λ octets. (octets.items ≡ encoding (public_key_info self.now.info))
@@ -79,7 +78,7 @@ impl PublicKey {
         }
     }
 
-    /// The key of RSA of these numbers, each the most significant octet first.
+    /// The RSA key with these numbers, each in big-endian order.
     pub fn from_rsa_components(
         alloc: Global,
         modulus: &[u8],
@@ -96,8 +95,8 @@ impl PublicKey {
         })
     }
 
-    /// The point of these octets on the curve of this identifier. Neither is asked for its meaning.
-    /// An identifier of more than 4,294,967,295 octets is refused as `Asn1Serialization`.
+    /// The EC key with these octets as its point, on the curve with this OID. Neither is checked.
+    /// An OID of more than 4,294,967,295 octets is refused as `Asn1Serialization`.
     pub fn from_ec_encoded_components(
         alloc: Global,
         curve: ObjectIdentifier,
@@ -112,8 +111,8 @@ impl PublicKey {
         }
     }
 
-    /// The key of these octets on the curve 25519 or 448 that the identifier names, as `ED` exactly
-    /// where it names none. How many octets there are isn't asked.
+    /// The key with these octets, of the Curve25519 or Curve448 algorithm with this OID (RFC 8410
+    /// 3). `ED` exactly where the OID names none. The size isn't checked.
     pub fn from_ed_encoded_components(
         alloc: Global,
         algorithm: ObjectIdentifier,
@@ -121,7 +120,7 @@ impl PublicKey {
     ) -> Result<PublicKey, KeyError>
         ensures answer { MatchResult result (λ key. IsEdKey algorithm public_key.now key.info)
             (RefusesEd algorithm) }
-        // Another identifier is refused, even when memory runs out.
+        // Another OID is refused, even when memory runs out.
         ensures refused { (NamesEd algorithm → ⊥)
             → result ≡ Err (errors.ED contexts.UnsupportedEd) }
     {
@@ -146,14 +145,14 @@ impl PublicKey {
         self.info.subject_public_key.kind()
     }
 
-    /// The key with its algorithm.
+    /// The SubjectPublicKeyInfo of the key (RFC 5280 4.1.2.7).
     pub fn as_spki(&self) -> &SubjectPublicKeyInfo
         ensures { result.now ≡ self.now.info }
     {
         &self.info
     }
 
-    /// A copy of the value.
+    /// A copy of the key.
     pub fn try_clone(&self, alloc: Global) -> Result<PublicKey, AllocError>
         ensures { IfOk result (λ copy. copy ≡ self.now) }
     {
@@ -162,7 +161,7 @@ impl PublicKey {
         })
     }
 
-    /// The structure of the key.
+    /// The SubjectPublicKeyInfo of the key.
     fn into_info(self) -> SubjectPublicKeyInfo
         ensures { result ≡ self.info }
     {
@@ -171,7 +170,7 @@ impl PublicKey {
     }
 }
 
-/// The key of RSA with its algorithm, whose parameters are NULL.
+/// The RSA key with its algorithm, whose parameters are NULL.
 pub(crate) fn rsa_info(alloc: Global, key: RsaPublicKey) -> Result<SubjectPublicKeyInfo, AllocError>
     ensures { IfOk result (λ info. IsRsaInfo key info) }
 {
@@ -182,7 +181,7 @@ pub(crate) fn rsa_info(alloc: Global, key: RsaPublicKey) -> Result<SubjectPublic
     })
 }
 
-/// The point of these octets on the curve of this identifier.
+/// The point with these octets on the curve with this OID.
 fn ec_key(
     alloc: Global,
     curve: &ObjectIdentifier,
@@ -200,7 +199,7 @@ fn ec_key(
     })
 }
 
-/// The identifier of a curve as parameters (RFC 5480 2.1.1).
+/// The OID of a curve as parameters (RFC 5480 2.1.1).
 pub(crate) fn named_curve(alloc: Global, curve: &ObjectIdentifier) -> Result<Raw, DerError>
     ensures { MatchResult result
         (λ raw. raw.element ≡ object_identifier curve.now)
@@ -226,7 +225,7 @@ impl From<PublicKey> for SubjectPublicKeyInfo {
     }
 }
 
-/// Keys are equal exactly where their octets are.
+/// Keys are equal exactly where their encodings are.
 impl PartialEq for PublicKey {
     ghost use Rattle.der_core.specs.Equality.{same_octets};
     ghost use Rattle.der_core.specs.Facts.Equality.{same_octets_per};

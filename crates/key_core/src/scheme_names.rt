@@ -1,4 +1,4 @@
-//! What schemes call the algorithms of signatures.
+//! Signature algorithms as schemes name them.
 
 ghost use Rattle.std.specs.Prelude.{◌≡◌};
 ghost use Rattle.key_core.specs.SchemeNames.{rsa_alg, curve_for, ecdsa_alg};
@@ -6,7 +6,7 @@ ghost use Rattle.key_core.specs.SchemeNames.{rsa_alg, curve_for, ecdsa_alg};
 use crate::ec_curve::EcCurve;
 use sig_core::{HashAlgorithm, SigAlg};
 
-/// RSA with a digest.
+/// RSA with a digest algorithm.
 pub(crate) fn rsa_alg(hash: HashAlgorithm) -> SigAlg
     ensures { result ≡ rsa_alg hash }
 {
@@ -32,7 +32,7 @@ pub(crate) fn curve_for(hash: HashAlgorithm) -> Option<EcCurve>
     }
 }
 
-/// ECDSA by keys on a curve.
+/// ECDSA with keys on a curve.
 pub(crate) fn ecdsa_alg(curve: EcCurve) -> SigAlg
     ensures { result ≡ ecdsa_alg curve }
 {

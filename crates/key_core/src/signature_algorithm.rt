@@ -1,4 +1,4 @@
-//! The algorithms of signatures, and their identifiers.
+//! Signature algorithms and their OIDs.
 
 ghost use Rattle.std.specs.Prelude.{◌≡◌, ◌↔◌, Some, None, Ok, Err, IsTrue, IfOk, IfSome, MatchOption, MatchResult};
 ghost use Rattle.der_core.specs.Lent.{kept_option};
@@ -17,19 +17,19 @@ use key_types::AlgorithmIdentifier;
 use sig_core::HashAlgorithm;
 use std::alloc::{AllocError, Global};
 
-/// An algorithm of signatures.
+/// A signature algorithm.
 #[derive(Clone, Copy, Debug, PartialEq, Eq, Hash)]
 pub enum SignatureAlgorithm {
     /// RSASSA-PKCS1-v1_5 over a digest (RFC 8017 8.2).
     RsaPkcs1v15(HashAlgorithm),
-    /// ECDSA over a digest (RFC 5758 3.2). MD5, SHA-1 and SHA-224 have no identifier here.
+    /// ECDSA over a digest (RFC 5758 3.2). MD5, SHA-1 and SHA-224 have no OID here.
     Ecdsa(HashAlgorithm),
     /// Ed25519 over the message itself (RFC 8032 5.1).
     Ed25519,
 }
 
 impl SignatureAlgorithm {
-    /// Every algorithm that has an identifier.
+    /// All algorithms that have an OID.
     pub const IDENTIFIED: [SignatureAlgorithm; 10] = [
         SignatureAlgorithm::RsaPkcs1v15(HashAlgorithm::MD5),
         SignatureAlgorithm::RsaPkcs1v15(HashAlgorithm::SHA1),
@@ -43,15 +43,14 @@ impl SignatureAlgorithm {
         SignatureAlgorithm::Ed25519,
     ];
 
-    /// The algorithm that an AlgorithmIdentifier names (RFC 5280 4.1.1.2), by its identifier alone:
-    /// the parameters aren't looked at. `UnsupportedAlgorithm` with the identifier exactly where it
-    /// names none.
+    /// The algorithm that an AlgorithmIdentifier names (RFC 5280 4.1.1.2), by its OID alone: the
+    /// parameters are ignored. `UnsupportedAlgorithm` with the OID exactly where it names none.
     pub fn from_algorithm_identifier(
         alloc: Global,
         id: &AlgorithmIdentifier,
     ) -> Result<SignatureAlgorithm, SignatureError>
         ensures answer { MatchResult result (NamesSignature id.now) (IsUnnamed id.now) }
-        // An algorithm that there is is read even when memory runs out.
+        // A known algorithm is read, even when memory runs out.
         ensures read { (algorithm : SignatureAlgorithm) → NamesSignature id.now algorithm
             → result ≡ Ok algorithm }
     {
@@ -63,14 +62,15 @@ impl SignatureAlgorithm {
         }
     }
 
-    /// The AlgorithmIdentifier of the algorithm, whose parameters are NULL for RSA, and else
-    /// absent. `Ec` exactly for ECDSA with MD5, SHA-1 or SHA-224, which have no identifier here.
+    /// The AlgorithmIdentifier of the algorithm (RFC 5280 4.1.1.2). Its parameters are NULL for RSA
+    /// and absent otherwise. `Ec` exactly for ECDSA with MD5, SHA-1 or SHA-224, which have no OID
+    /// here.
     pub fn to_algorithm_identifier(
         self,
         alloc: Global,
     ) -> Result<AlgorithmIdentifier, SignatureError>
         ensures answer { MatchResult result (IsWrittenAlgorithm self) (IsUnwritable self) }
-        // One without an identifier is refused, even when memory runs out.
+        // An algorithm without an OID is refused, even when memory runs out.
         ensures refused { signature_identifier self ≡ None
             → result ≡ Err (errors.Ec contexts.HashNotSupported) }
     {
@@ -93,7 +93,7 @@ impl SignatureAlgorithm {
         }
     }
 
-    /// The algorithm that an identifier names, by its contents octets, if it names one.
+    /// The algorithm with this OID, given by its contents octets, if it is known.
     pub fn named(oid: &[u8]) -> Option<SignatureAlgorithm>
         ensures named { (algorithm : SignatureAlgorithm)
             → signature_identifier algorithm ≡ Some oid.now → result ≡ Some algorithm }
@@ -107,7 +107,7 @@ impl SignatureAlgorithm {
         None
     }
 
-    /// The contents octets of the identifier, if there is one.
+    /// The contents octets of the OID, if the algorithm has one.
     pub fn oid_contents(self) -> Option<&'static [u8]>
         ensures { MatchOption result
             (signature_identifier self ≡ None)
@@ -120,7 +120,7 @@ impl SignatureAlgorithm {
         }
     }
 
-    /// Whether these are the contents octets of the identifier.
+    /// Whether these are the contents octets of the OID.
     fn has_identifier(self, oid: &[u8]) -> bool
         ensures { IsTrue result ↔ (signature_identifier self ≡ Some oid.now) }
     {
@@ -130,7 +130,7 @@ impl SignatureAlgorithm {
         }
     }
 
-    /// The identifier with the parameters of the algorithm.
+    /// The OID with the parameters of the algorithm.
     fn with_parameters(
         self,
         alloc: Global,
@@ -148,7 +148,7 @@ impl SignatureAlgorithm {
     }
 }
 
-/// The contents octets of the identifier of RSA with a digest (RFC 8017 A.2.4).
+/// The contents octets of the OID of RSA with a digest algorithm (RFC 8017 A.2.4).
 fn rsa_contents(hash: HashAlgorithm) -> &'static [u8]
     ensures { signature_identifier (RsaPkcs1v15 hash) ≡ Some result.now }
 {
@@ -162,7 +162,7 @@ fn rsa_contents(hash: HashAlgorithm) -> &'static [u8]
     }
 }
 
-/// The contents octets of the identifier of ECDSA with a digest (RFC 5758 3.2).
+/// The contents octets of the OID of ECDSA with a digest algorithm (RFC 5758 3.2).
 fn ecdsa_contents(hash: HashAlgorithm) -> Option<&'static [u8]>
     ensures { MatchOption result
         (signature_identifier (Ecdsa hash) ≡ None)

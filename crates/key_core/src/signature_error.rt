@@ -1,4 +1,4 @@
-//! Why a signature isn't made or accepted.
+//! Errors of signing and verifying.
 
 ghost use Rattle.std.specs.Prelude.{◌≡◌, Some};
 ghost use Rattle.key_core.specs.SignatureErrorText.{sig_context_text, unsupported_text, signature_error_text};
@@ -13,53 +13,53 @@ use std::alloc::{AllocError, AllocFailed};
 use std::fmt;
 use thiserror::Error;
 
-/// Why a signature isn't made or accepted, or an algorithm of signatures isn't read or written.
+/// Why a signature isn't made or accepted, or a signature algorithm isn't read or written.
 #[derive(Debug, PartialEq, Eq, Drop, Error)]
 pub enum SignatureError {
-    /// The key is not one for the algorithm, or can't be written. Never wraps `Memory`.
+    /// The key doesn't fit the algorithm, or can't be written. Never wraps `Memory`.
     Key { source: KeyError },
-    /// A signature of RSA can't be made or judged.
+    /// An RSA signature can't be made or verified.
     Rsa { context: SigContext },
-    /// A signature of ECDSA can't be made or judged, or its algorithm has no identifier.
+    /// An ECDSA signature can't be made or verified, or its algorithm has no OID.
     Ec { context: SigContext },
-    /// A signature of Ed25519 can't be made or judged.
+    /// An Ed25519 signature can't be made or verified.
     Ed { context: SigContext },
-    /// The signature doesn't belong to the key and the message.
+    /// The signature isn't one of the message by the key.
     BadSignature,
     /// The algorithm isn't known, or not used with the key.
     UnsupportedAlgorithm { algorithm: Unsupported },
-    /// No memory was left.
+    /// Out of memory.
     Memory,
 }
 
-/// What keeps a signature from being made or judged.
+/// Why a signature can't be made or verified.
 #[derive(Clone, Copy, Debug, PartialEq, Eq)]
 pub enum SigContext {
     /// The scheme doesn't sign with the key.
     SchemeRefused,
-    /// The signature has no form that one of the algorithm could have.
+    /// No signature of the algorithm has this form.
     Malformed,
-    /// ECDSA has no identifier for the digest algorithm here.
+    /// ECDSA has no OID for the digest algorithm here.
     HashNotSupported,
     /// The key hasn't 32 octets.
     KeySize,
-    /// The key is for the agreement of keys.
+    /// The key is for key agreement.
     NotForSigning,
 }
 
-/// An algorithm that isn't known, or not used with a key.
+/// An algorithm that isn't known, or not used with the key.
 #[derive(Debug, PartialEq, Eq, Drop)]
 pub enum Unsupported {
-    /// The identifier names no algorithm of signatures.
+    /// The OID of no known signature algorithm.
     Oid(ObjectIdentifier),
     /// ECDSA isn't used with the digest algorithm.
     Hash(HashAlgorithm),
-    /// Keys on the curve don't sign digests by the algorithm.
+    /// Keys on the curve don't sign such digests.
     Pairing(EcCurve, HashAlgorithm),
 }
 
 impl SigContext {
-    /// What keeps a signature from being made or judged, in words.
+    /// The text of the context.
     fn text(self) -> &'static str
         ensures { result.now ≡ sig_context_text self }
     {
@@ -111,7 +111,7 @@ impl fmt::Display for SignatureError {
     }
 }
 
-/// The variant that holds the error, and `Memory` for `Memory`.
+/// The variant that wraps the error, and `Memory` for `Memory`.
 impl From<KeyError> for SignatureError {
     ghost from_gives = { λ source e. e ≡ key_refusal source };
 

@@ -1,4 +1,5 @@
-//! Laws on the algorithms of signatures, on what is refused, and on the identifiers of keys.
+//! Laws: signature algorithms survive writing and reading, refusals are unambiguous, and so are key
+//! identifiers.
 
 ghost use Rattle.std.specs.Prelude.{◌≡◌, ◌≢◌, ℕ, List, length, Contains, true, None};
 ghost use Rattle.asn1_types.specs.Values.{identifier_contents};
@@ -17,9 +18,9 @@ ghost use Rattle.key_core.specs.declared.signature_algorithm.SignatureAlgorithm.
 ghost use Rattle.key_core.specs.declared.signature_algorithm.TheConstants.SignatureAlgorithm as constants;
 ghost use Rattle.key_core.specs.declared.signature_error.SignatureError.{SignatureError};
 
-/// An algorithm that was written is read as itself, and one that was read is written with the
-/// identifier that was read; it has one, so it isn't refused. `SignatureAlgorithm::IDENTIFIED` has
-/// each algorithm with an identifier, and no other.
+/// An algorithm that was written is read as itself, and one that was read is written with the OID
+/// that was read; it has one, so it isn't refused. `SignatureAlgorithm::IDENTIFIED` lists each
+/// algorithm with an OID, and no other.
 pub fn signature_algorithms_are_read_as_written()
     ensures written { (algorithm read : SignatureAlgorithm) (id : AlgorithmIdentifier)
         → IsWrittenAlgorithm algorithm id → NamesSignature id read → read ≡ algorithm }
@@ -33,8 +34,8 @@ pub fn signature_algorithms_are_read_as_written()
     ensures once { length constants.IDENTIFIED ≡ 10 }
 {}
 
-/// At most one error tells of the first broken rule of a verification, and none does where the
-/// signature is accepted. So `SignatureAlgorithm::verify` has one answer, out of memory aside.
+/// At most one error reports the first broken rule of a verification, and none does if the
+/// signature is accepted. So `SignatureAlgorithm::verify` has one outcome, out of memory aside.
 pub fn signatures_have_one_answer()
     ensures one_refusal { (judge : Judge) (algorithm : SignatureAlgorithm)
         (info : SubjectPublicKeyInfo) (msg sig : List ℕ) (a b : SignatureError)
@@ -46,9 +47,9 @@ pub fn signatures_have_one_answer()
         → IsFirstBroken (verify_rules judge algorithm info msg sig) e → ⊥ }
 {}
 
-/// At most one error tells of the first broken rule of signing, and none does where the key is one
-/// for the algorithm and the scheme signs. So `SignatureAlgorithm::sign` has one answer, want of
-/// memory aside.
+/// At most one error reports the first broken rule of signing, and none does if the key fits the
+/// algorithm and the scheme signs. So `SignatureAlgorithm::sign` has one outcome, out of memory
+/// aside.
 pub fn signing_has_one_answer()
     ensures one_refusal { (signs : Signs) (algorithm : SignatureAlgorithm) (key : PrivateKey)
         (msg : List ℕ) (a b : SignatureError)
@@ -60,7 +61,7 @@ pub fn signing_has_one_answer()
         → IsFirstBroken (sign_rules signs algorithm key msg) e → ⊥ }
 {}
 
-/// A key has at most one identifier by a method, so equal keys have equal identifiers.
+/// A key has at most one key identifier by a method, so equal keys have equal key identifiers.
 pub fn key_identifiers_are_of_keys()
     ensures { (method : KeyIdGenMethod) (key other : PublicKey) (a b : List ℕ) → key ≡ other
         → IsKeyIdentifier method key.info a → IsKeyIdentifier method other.info b → a ≡ b }

@@ -1,4 +1,4 @@
--- The fields of a PrivateKeyInfo agree for one reason.
+-- `Agree` is a proposition: it has at most one proof.
 use Rattle.std.proofs.Common.{Option, Some, None}
 use Rattle.std.specs.Coded.{Unit-prop, Coded-set, coded_ℕ}
 use Rattle.der_core.specs.DerElement.{DerElement, tag_of}

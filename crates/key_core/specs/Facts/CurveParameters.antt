@@ -1,4 +1,4 @@
--- A private key is kept with parameters that it may have for one reason.
+-- `HasCurve` is a proposition: it has at most one proof.
 use Rattle.std.proofs.Common.{Option, Some, None}
 use Rattle.std.specs.Coded.{Unit-prop}
 use Rattle.der_core.specs.DerElement.{DerElement}

@@ -1,4 +1,4 @@
--- The fields of a PrivateKeyInfo are told by its element.
+-- The element of a PrivateKeyInfo determines its fields.
 use Rattle.std.proofs.Common.{◌≡◌, ℕ, List, ◌∷◌, ◌++◌, Option, Some, None, arith}
 use Rattle.std.specs.Prelude.{option_to_list}
 use Rattle.der_core.specs.DerElement.{DerElement}

@@ -1,4 +1,4 @@
--- Private keys with their algorithms: unlike ones have unlike elements, each well formed.
+-- Private keys with their algorithms: different ones have different elements, each well formed.
 use Rattle.std.proofs.Common.{◌≡◌, ◌++◌, Option, Some, None, refl, sym, ap, subst, ◌∙◌, arith}
 use Rattle.std.specs.Prelude.{option_to_list}
 use Rattle.std.specs.Option.{option_map}
@@ -64,7 +64,7 @@ abbrev info_of : (v : PrivateKeyVersion) (algorithm : AlgorithmIdentifier) (key 
 info_of v algorithm key attributes public_key agree =
     record { version = v; private_key_algorithm = algorithm; private_key = key; attributes = attributes; public_key = public_key; agree = agree }
 
--- values of the same fields are the same
+-- infos with the same fields are the same
 pub same_info : (a b : PrivateKeyInfo) → a.version ≡ b.version
     → a.private_key_algorithm ≡ b.private_key_algorithm → a.private_key ≡ b.private_key
     → a.attributes ≡ b.attributes → a.public_key ≡ b.public_key → a ≡ b

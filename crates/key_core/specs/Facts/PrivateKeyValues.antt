@@ -1,4 +1,4 @@
--- Private keys: unlike ones of a kind have unlike elements, each well formed.
+-- Private keys: different ones of a kind have different elements, each well formed.
 use Rattle.std.proofs.Common.{◌≡◌, refl, ap}
 use Rattle.der_core.specs.Elements.{octet_string}
 use Rattle.der_core.specs.Encoding.{encoding, IsWellFormed}
@@ -18,14 +18,14 @@ keys_formed (values.Rsa key) = rsa_private_keys.formed key
 keys_formed (values.Ec key) = ec_private_keys.formed key
 keys_formed (values.Ed octets) = octet_strings.formed octets
 
--- a key is told by its kind and its element
+-- a kind and an element determine a key
 pub keys_once : (x y : PrivateKeyValue) → private_kind x ≡ private_kind y → private_key x ≡ private_key y → x ≡ y
 keys_once (values.Rsa x) (values.Rsa y) kind e = ap values.Rsa (rsa_private_keys.once (rsa_private_key x) x y refl e)
 keys_once (values.Ec x) (values.Ec y) kind e = ap values.Ec (ec_private_keys.once (ec_private_key x) x y refl e)
 keys_once (values.Ed x) (values.Ed y) kind e = ap values.Ed (octet_strings.once (octet_string x) x y refl e)
 keys_once x y kind e = absurd cc
 
--- or by its kind and the octets of its element
+-- so do a kind and an encoding
 pub keys_by_encoding : (x y : PrivateKeyValue) → private_kind x ≡ private_kind y → encoding (private_key x) ≡ encoding (private_key y) → x ≡ y
 keys_by_encoding x y kind e = keys_once x y kind (formed_encoding_once (private_key x) (private_key y) (keys_formed x) (keys_formed y) e)
 

@@ -1,4 +1,4 @@
--- Private keys: unlike ones keep unlike elements, each well formed.
+-- Private keys: different ones have different `kept_key` elements, each well formed.
 use Rattle.std.proofs.Common.{◌≡◌, ◌∷◌, ap, subst, refl, arith}
 use Rattle.std.specs.Prelude.{Option, Some, None}
 use Rattle.std.specs.Option.{option_map}
@@ -23,7 +23,7 @@ CurveOf info = HasCurve info.private_key (kept_option info.private_key_algorithm
 abbrev key_of : (info : PrivateKeyInfo) → Option BitString → CurveOf info → PrivateKey
 key_of info public_key curve = record { info = info; public_key = public_key; curve = curve }
 
--- keys of the same container and public key are the same
+-- keys with the same container and public key are the same
 pub same_key : (a b : PrivateKey) → a.info ≡ b.info → a.public_key ≡ b.public_key → a ≡ b
 same_key a b info public_key =
     let alike : (h : CurveOf a.info) → a ≡ key_of a.info b.public_key h =

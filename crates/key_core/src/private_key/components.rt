@@ -1,4 +1,4 @@
-//! Private keys of curves by their parts.
+//! Curve private keys from their components.
 
 ghost use Rattle.std.specs.Prelude.{◌≡◌, ◌∷◌, ◌++◌, Option, Some, Err, IfOk, MatchResult};
 ghost use Rattle.std.specs.Option.{option_copied, option_map};
@@ -26,10 +26,10 @@ use private_key_types::ECPrivateKey;
 use std::alloc::{AllocError, Global};
 
 impl PrivateKey {
-    /// The key of this secret and of the point of these coordinates on the curve, each the most
-    /// significant octet first. It is `EC` with `CoordinateSize` exactly where a coordinate hasn't
-    /// as many octets as the field of the curve. Neither the length of the secret is asked, nor
-    /// whether the two belong together.
+    /// The key with this secret and the point with these coordinates, each in big-endian order, on
+    /// the curve. `EC` with `CoordinateSize` exactly where a coordinate hasn't the size of the
+    /// curve's field. Neither the size of the secret is checked, nor whether the two belong
+    /// together.
     pub fn from_ec_components(
         alloc: Global,
         curve: EcCurve,
@@ -54,9 +54,9 @@ impl PrivateKey {
         Ok(PrivateKey::from_ec_encoded_components(alloc, oid, secret, Some(&point))?)
     }
 
-    /// The key of this secret and of the point of these octets, where one is given, on the curve of
-    /// this identifier. None of the three is asked for its meaning. An identifier of more than
-    /// 4,294,967,295 octets is told as want of memory.
+    /// The key with this secret and, if given, the point with these octets, on the curve with this
+    /// OID. None of the three is checked. An OID of more than 4,294,967,295 octets is reported as
+    /// out of memory.
     pub fn from_ec_encoded_components(
         alloc: Global,
         curve_oid: ObjectIdentifier,
@@ -73,10 +73,9 @@ impl PrivateKey {
         })
     }
 
-    /// The key of this secret and of the public key of these octets, where one is given, on the
-    /// curve 25519 or 448 that the identifier names, which has to be that of Ed25519, X25519, Ed448
-    /// or X448 (RFC 8410 3). How many octets there are isn't asked, nor whether the two belong
-    /// together.
+    /// The key with this secret and, if given, the public key with these octets, of the Curve25519
+    /// or Curve448 algorithm with this OID, which must be that of Ed25519, X25519, Ed448 or X448
+    /// (RFC 8410 3). Neither the sizes are checked, nor whether the two belong together.
     pub fn from_ed_encoded_components(
         alloc: Global,
         algorithm_oid: ObjectIdentifier,
@@ -90,7 +89,7 @@ impl PrivateKey {
         let version = version_beside(public_key);
         let public_key = bits_of(alloc, public_key)?;
         let beside = copy_option(alloc, &public_key)?;
-        // The secret is last: nothing is refused after it, so it is dropped in a key alone.
+        // The secret comes last: nothing fails after it, so it is only dropped as part of a key.
         let secret = Octets::from_slice(alloc, secret)?;
         let info = PrivateKeyInfo {
             version,
@@ -103,7 +102,7 @@ impl PrivateKey {
     }
 }
 
-/// The ECPrivateKey of these parts.
+/// The ECPrivateKey with these parts.
 fn given_key(
     alloc: Global,
     curve: &ObjectIdentifier,
@@ -121,7 +120,7 @@ fn given_key(
     })
 }
 
-/// The bits of octets, where there are any.
+/// The bits with these octets, if any.
 fn bits_of(alloc: Global, octets: Option<&[u8]>) -> Result<Option<BitString>, AllocError>
     ensures { IfOk result (λ bits. option_map bit_string_contents bits
         ≡ option_map whole_bits (option_copied octets.entry)) }

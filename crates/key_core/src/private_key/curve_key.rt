@@ -1,4 +1,4 @@
-//! Private keys of elliptic curves: their containers, and keys that were read.
+//! EC private keys: their containers, and keys that were read.
 
 ghost use Rattle.std.specs.Prelude.{◌≡◌, Some, IfOk, MatchResult};
 ghost use Rattle.std.specs.Option.{option_map};
@@ -22,8 +22,8 @@ use private_key_types::ECPrivateKey;
 use sig_core::Scheme;
 use std::alloc::{AllocError, Global};
 
-/// The key on this curve of what was read, whose point is derived where none stands in it and the
-/// curve is known.
+/// The key on this curve of an ECPrivateKey. If it has no point and the curve is supported, the
+/// point is derived.
 pub(super) fn curve_key<S: Scheme>(
     alloc: Global,
     curve: &ObjectIdentifier,
@@ -42,8 +42,7 @@ pub(super) fn curve_key<S: Scheme>(
     })
 }
 
-/// The container of a key of an elliptic curve. An identifier that is too long for an element is
-/// told as want of memory.
+/// The container of an EC key. An OID that is too long for an element is reported as out of memory.
 pub(super) fn ec_container(
     alloc: Global,
     curve: &ObjectIdentifier,
@@ -64,14 +63,14 @@ pub(super) fn ec_container(
     })
 }
 
-/// The known curve of the identifier.
+/// The supported curve with this OID.
 fn known_curve(curve: &ObjectIdentifier) -> Option<EcCurve>
     ensures { IsCurveOf (identifier_contents curve.now) result }
 {
     EcCurve::named(curve.as_bytes())
 }
 
-/// What is written for a key that was read: of this curve where a curve stood in it.
+/// What is written for a key that was read: it names this curve where it named one.
 fn written_anew(
     alloc: Global,
     curve: &ObjectIdentifier,

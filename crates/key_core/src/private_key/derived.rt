@@ -1,4 +1,4 @@
-//! Public keys of curves that a scheme derives from secrets.
+//! Curve public keys that a scheme derives from secrets.
 
 ghost use Rattle.std.specs.Prelude.{Some, MatchResult};
 ghost use Rattle.key_core.specs.DerivedKeys.{curve_kind, ed_kind, IsDerived, RefusesDerived, IsPointOf, RefusesPoint, IsEdKeyOf, RefusesEdKey, IsEcRefusal, IsEdRefusal};
@@ -12,11 +12,11 @@ use private_key_types::ECPrivateKey;
 use sig_core::{Scheme, SchemeError};
 use std::alloc::Global;
 
-/// How many octets a secret of the curve 25519 has (RFC 8032 5.1.5, RFC 7748 5).
+/// The size of a Curve25519 secret in octets (RFC 8032 5.1.5, RFC 7748 5).
 const ED_SECRET_SIZE: usize = 32;
 
-/// The public key of an elliptic curve: the point that stands in the private key, else what is
-/// derived where the curve is known, else none.
+/// The public key of an EC key: the point in the private key, else the derived one if the curve is
+/// supported, else none.
 pub(super) fn point_of<S: Scheme>(
     alloc: Global,
     known: Option<EcCurve>,
@@ -38,7 +38,8 @@ pub(super) fn point_of<S: Scheme>(
     }
 }
 
-/// The public key of a curve 25519 or 448: what is derived where the algorithm is known, else none.
+/// The public key of a Curve25519 or Curve448 key: the derived one if the algorithm is supported,
+/// else none.
 pub(super) fn ed_key_of<S: Scheme>(
     alloc: Global,
     known: Option<EdAlgorithm>,
@@ -55,7 +56,7 @@ pub(super) fn ed_key_of<S: Scheme>(
     }
 }
 
-/// The point that the scheme derives from a secret of a curve.
+/// The point that the scheme derives from a curve secret.
 fn derived_point<S: Scheme>(
     alloc: Global,
     curve: EcCurve,
@@ -82,7 +83,7 @@ fn derived_point<S: Scheme>(
     }
 }
 
-/// The key that the scheme derives from a secret of the curve 25519.
+/// The key that the scheme derives from a Curve25519 secret.
 fn derived_ed_key<S: Scheme>(
     alloc: Global,
     algorithm: EdAlgorithm,

@@ -1,4 +1,4 @@
-//! Private keys of RSA as PKCS #1 has them, without an algorithm.
+//! RSA private keys as in PKCS #1, without an algorithm.
 
 ghost use Rattle.std.specs.Prelude.{◌≡◌, ◌≢◌, ◌∷◌, [], Err, IfOk, MatchResult};
 ghost use Rattle.der_core.specs.Encoding.{encoding, IsDer};
@@ -27,9 +27,9 @@ use private_key_types::RsaPrivateKey;
 use std::alloc::{AllocError, Global};
 
 impl PrivateKey {
-    /// The key of RSA in octets, which are the encoding of an RSAPrivateKey of two primes (RFC 8017
-    /// A.1.2). The parameters of its algorithm are NULL. Octets that are no element, or one of
-    /// another structure, are refused as `Asn1Deserialization` without memory.
+    /// Reads the encoding of an RSAPrivateKey with two primes (RFC 8017 A.1.2). The parameters of
+    /// its algorithm are NULL. Octets that are no element, or another structure, are refused as
+    /// `Asn1Deserialization`, even when memory runs out.
     pub fn from_pkcs1(alloc: Global, der: &[u8]) -> Result<PrivateKey, KeyError>
         ensures answer { MatchResult result
             (IsPrivatePkcs1 der.now)
@@ -48,8 +48,8 @@ impl PrivateKey {
         }
     }
 
-    /// The encoding of the RSAPrivateKey of a key of RSA (RFC 8017 A.1.2). A key of another kind is
-    /// refused as `Rsa`, one that has no encoding as `Asn1Serialization`.
+    /// The encoding of the RSAPrivateKey of an RSA key (RFC 8017 A.1.2). A key of another kind is
+    /// refused as `Rsa`, one without an encoding as `Asn1Serialization`.
     pub fn to_pkcs1(&self, alloc: Global) -> Result<Vec<u8>, KeyError>
         ensures answer { MatchResult result
             (λ octets. IsPkcs1OfPrivate self.now.info.private_key octets.items)
@@ -67,7 +67,7 @@ impl PrivateKey {
     }
 }
 
-/// The container of a key of RSA.
+/// The container of an RSA key.
 fn rsa_container(alloc: Global, key: RsaPrivateKey) -> Result<PrivateKeyInfo, AllocError>
     ensures { IfOk result (IsRsaContainer key) }
 {

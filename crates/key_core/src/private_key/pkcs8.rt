@@ -1,4 +1,4 @@
-//! Private keys with their algorithms as PKCS #8 has them.
+//! Private keys with their algorithms as in PKCS #8.
 
 ghost use Rattle.std.specs.Prelude.{◌≡◌, ◌≢◌, Option, Some, Err, MatchOption, MatchResult};
 ghost use Rattle.asn1_types.specs.Elements.{object_identifier};
@@ -33,15 +33,13 @@ use sig_core::Scheme;
 use std::alloc::Global;
 
 impl PrivateKey {
-    /// The key in octets, which are the encoding of a PrivateKeyInfo (RFC 5208 5, RFC 5958 2). One
-    /// of RSA or of a curve 25519 or 448 is kept as it was read. The public key of Ed25519 and
-    /// X25519 is what the scheme derives, whatever stands beside the private one; the key is
-    /// refused as `ED` where the secret hasn't 32 octets or the scheme derives none. That of Ed448
-    /// and X448 is
-    /// missing. A key of an elliptic curve is written anew on the curve that the parameters name,
-    /// and refused as `EC` where they name none; its point is had as by
-    /// `from_ec_der_with_curve_oid`. Octets that are no element, or one of another structure, are
-    /// refused as `Asn1Deserialization`, even when memory runs out.
+    /// Reads the encoding of a PrivateKeyInfo (RFC 5208 5, RFC 5958 2). An RSA, Curve25519 or
+    /// Curve448 key is stored as it was read. The public key of Ed25519 and X25519 is the one that
+    /// the scheme derives, whatever is beside the private one; the key is refused as `ED` where the
+    /// secret hasn't 32 octets or the scheme derives none. That of Ed448 and X448 is missing. An EC
+    /// key is written anew on the curve that the parameters name, and refused as `EC` where they
+    /// name none; its point is that of `from_ec_der_with_curve_oid`. Octets that are no element, or
+    /// another structure, are refused as `Asn1Deserialization`, even when memory runs out.
     pub fn from_pkcs8<S: Scheme>(
         alloc: Global,
         der: &[u8],
@@ -61,7 +59,7 @@ impl PrivateKey {
     }
 }
 
-/// The key that is kept of a container.
+/// The key of a container that was read.
 fn kept<S: Scheme>(alloc: Global, info: PrivateKeyInfo, scheme: &S) -> Result<PrivateKey, KeyError>
     ensures { MatchResult result
         (IsKeptKey (S.derives scheme.now) info.private_key info)
@@ -84,7 +82,7 @@ fn kept<S: Scheme>(alloc: Global, info: PrivateKeyInfo, scheme: &S) -> Result<Pr
     Ok(PrivateKey { info, public_key })
 }
 
-/// The key on the curve that the parameters of its algorithm name.
+/// The EC key on the curve that the parameters of its algorithm name.
 fn kept_ec<S: Scheme>(
     alloc: Global,
     algorithm: &AlgorithmIdentifier,
@@ -111,7 +109,7 @@ fn kept_ec<S: Scheme>(
     }
 }
 
-/// The contents octets of the identifier that the parameters of an algorithm are.
+/// The contents octets of the OID that the parameters of an algorithm are.
 pub(crate) fn curve_octets(algorithm: &AlgorithmIdentifier) -> Option<&[u8]>
     ensures { MatchOption result
         ((curve : ObjectIdentifier)
@@ -140,7 +138,7 @@ fn identifier_at<'a>(elem: Elem<'a>) -> Option<&'a [u8]>
     Some(leaf_at(elem, OBJECT_IDENTIFIER)?)
 }
 
-/// The public key of a curve 25519 or 448.
+/// The Curve25519 or Curve448 public key.
 fn ed_key<S: Scheme>(
     alloc: Global,
     algorithm: &ObjectIdentifier,
@@ -157,7 +155,7 @@ fn ed_key<S: Scheme>(
     ed_key_of(alloc, known_algorithm(algorithm), secret, scheme)
 }
 
-/// The known algorithm of the identifier.
+/// The supported algorithm with this OID.
 fn known_algorithm(algorithm: &ObjectIdentifier) -> Option<EdAlgorithm>
     ensures { IsEdOf (identifier_contents algorithm.now) result }
 {

@@ -1,4 +1,4 @@
-//! The public keys of private keys.
+//! Public keys of private keys.
 
 ghost use Rattle.std.specs.Prelude.{◌≡◌, None, Err, IfOk, MatchResult};
 ghost use Rattle.key_core.specs.MadeKeys.{IsRsaInfo};
@@ -15,14 +15,14 @@ use private_key_types::RsaPrivateKey;
 use std::alloc::{AllocError, Global};
 
 impl PrivateKey {
-    /// The public key: of RSA the modulus and the public exponent, of a curve what was given, read
-    /// or derived. It is `EC` or `ED` with `PublicKeyMissing` exactly where there is none.
+    /// The public key: of RSA the modulus and the public exponent, of a curve the one that was
+    /// given, read or derived. `EC` or `ED` with `PublicKeyMissing` exactly where there is none.
     pub fn to_public_key(&self, alloc: Global) -> Result<PublicKey, KeyError>
         ensures answer { MatchResult result
             (λ key. IsPublicHalf self.now.info.private_key self.now.info.private_key_algorithm
             self.now.public_key key.info)
             (RefusesPublicHalf self.now.info.private_key self.now.public_key) }
-        // A public key that is missing is reported, even when memory runs out.
+        // A missing public key is reported, even when memory runs out.
         ensures missing { (e : KeyError) → self.now.public_key ≡ None
             → IsMissingHalf self.now.info.private_key e → result ≡ Err e }
     {
@@ -47,7 +47,7 @@ impl PrivateKey {
     }
 }
 
-/// The public key of a private key of RSA.
+/// The public key of an RSA private key.
 fn rsa_half(alloc: Global, key: &RsaPrivateKey) -> Result<SubjectPublicKeyInfo, AllocError>
     ensures { IfOk result (IsRsaInfo (public_numbers key.now)) }
 {

@@ -1,4 +1,4 @@
-//! Private keys of elliptic curves as SEC 1 has them, without an algorithm.
+//! EC private keys as in SEC 1, without an algorithm.
 
 ghost use Rattle.std.specs.Prelude.{◌≡◌, Some, Err, MatchResult};
 ghost use Rattle.asn1_types.specs.Values.{identifier_contents};
@@ -25,12 +25,12 @@ use sig_core::Scheme;
 use std::alloc::Global;
 
 impl PrivateKey {
-    /// The key of an elliptic curve in octets, which are the encoding of an ECPrivateKey (RFC 5915
-    /// 3), on the curve that stands in it; it is refused as `EC` where none does. Where no point
-    /// stands in it and the curve is known, the scheme derives one; the key is refused as `EC`
-    /// where the secret hasn't as many octets as the field then, or the scheme derives none. Where
-    /// the curve isn't known the point stays missing. Octets that are no element, or one of another
-    /// structure, are refused as `Asn1Deserialization`, even when memory runs out.
+    /// Reads the encoding of an ECPrivateKey (RFC 5915 3) on the curve that it names; it is refused
+    /// as `EC` where it names none. If it has no point and the curve is supported, the scheme
+    /// derives one; then the key is refused as `EC` where the secret hasn't the size of the field,
+    /// or the scheme derives none. On another curve the point stays missing. Octets that are no
+    /// element, or another structure, are refused as `Asn1Deserialization`, even when memory runs
+    /// out.
     pub fn from_ec_der<S: Scheme>(
         alloc: Global,
         der: &[u8],
@@ -50,8 +50,7 @@ impl PrivateKey {
         }
     }
 
-    /// The key of an elliptic curve in octets as `from_ec_der` reads it, but on this curve,
-    /// whatever curve stands in the octets.
+    /// Reads an ECPrivateKey as `from_ec_der` does, but on this curve, whatever curve it names.
     pub fn from_ec_der_with_curve<S: Scheme>(
         alloc: Global,
         der: &[u8],
@@ -72,9 +71,8 @@ impl PrivateKey {
         }
     }
 
-    /// The key of an elliptic curve in octets as `from_ec_der` reads it, but on the curve of this
-    /// identifier, whatever curve stands in the octets. An identifier of more than 4,294,967,295
-    /// octets is told as want of memory.
+    /// Reads an ECPrivateKey as `from_ec_der` does, but on the curve with this OID, whatever curve
+    /// it names. An OID of more than 4,294,967,295 octets is reported as out of memory.
     pub fn from_ec_der_with_curve_oid<S: Scheme>(
         alloc: Global,
         der: &[u8],
@@ -112,7 +110,7 @@ fn read(alloc: Global, der: &[u8]) -> Result<ECPrivateKey, KeyError>
     }
 }
 
-/// The key on the curve that stands in what was read.
+/// The key on the curve that the ECPrivateKey names.
 fn own_curve_key<S: Scheme>(
     alloc: Global,
     read: &ECPrivateKey,
@@ -131,7 +129,7 @@ fn own_curve_key<S: Scheme>(
     }
 }
 
-/// The key on a known curve of what was read.
+/// The key of an ECPrivateKey on a supported curve.
 fn known_curve_key<S: Scheme>(
     alloc: Global,
     curve: EcCurve,

@@ -1,4 +1,4 @@
-//! Points of known curves by their coordinates.
+//! Points of the supported curves from coordinates.
 
 ghost use Rattle.std.specs.Prelude.{◌≡◌, ◌↔◌, ◌∷◌, ◌++◌, IsTrue, IfOk, Err, MatchResult};
 ghost use Rattle.key_core.specs.MadeKeys.{AreCoordinates, IsPointKey, RefusesCoordinates};
@@ -10,13 +10,12 @@ use crate::ec_curve::EcCurve;
 use crate::error::{KeyContext, KeyError};
 use std::alloc::{AllocError, Global};
 
-/// The first octet of a point without compression (SEC 1 2.3.3).
+/// The first octet of an uncompressed point (SEC 1 2.3.3).
 const UNCOMPRESSED: u8 = 4;
 
 impl PublicKey {
-    /// The point of these coordinates on the curve, each the most significant octet first. It is
-    /// `EC` exactly where one hasn't as many octets as the field of the curve. Whether the point
-    /// lies on the curve isn't asked.
+    /// The point with these coordinates on the curve, each in big-endian order. `EC` exactly where
+    /// one hasn't the size of the curve's field. Whether the point is on the curve isn't checked.
     pub fn from_ec_components(
         alloc: Global,
         curve: EcCurve,
@@ -39,20 +38,20 @@ impl PublicKey {
         let point = uncompressed(alloc, x, y)?;
         match ec_key(alloc, &oid, &point) {
             Ok(info) => Ok(PublicKey { info }),
-            // The identifier of a known curve can be written, so memory was lacking.
+            // The OID of a supported curve can be written, so this is out of memory.
             Err(_) => Err(KeyError::Memory),
         }
     }
 }
 
-/// Whether the coordinates have as many octets as the field of the curve.
+/// Whether the coordinates have the size of the curve's field.
 pub(crate) fn are_coordinates(curve: EcCurve, x: &[u8], y: &[u8]) -> bool
     ensures { IsTrue result ↔ AreCoordinates curve x.now y.now }
 {
     x.len() == curve.field_size() && y.len() == curve.field_size()
 }
 
-/// The point of these coordinates, without compression.
+/// The uncompressed point with these coordinates.
 pub(crate) fn uncompressed(alloc: Global, x: &[u8], y: &[u8]) -> Result<Vec<u8>, AllocError>
     ensures { IfOk result (λ point. point.items ≡ 0x04 ∷ x.now ++ y.now) }
 {

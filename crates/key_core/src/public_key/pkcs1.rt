@@ -1,4 +1,4 @@
-//! Public keys of RSA as PKCS #1 has them, without an algorithm.
+//! RSA public keys as in PKCS #1, without an algorithm.
 
 ghost use Rattle.std.specs.Prelude.{◌≡◌, ◌≢◌, ◌∷◌, [], Err, MatchResult};
 ghost use Rattle.der_core.specs.Encoding.{encoding, IsDer};
@@ -21,9 +21,9 @@ use key_types::{RsaPublicKey, SubjectKey};
 use std::alloc::Global;
 
 impl PublicKey {
-    /// The key of RSA in octets, which are the encoding of an RSAPublicKey (RFC 8017 A.1.1). The
-    /// parameters of its algorithm are NULL. Octets that are no element, or one of another
-    /// structure, are refused as `Asn1Deserialization` without memory.
+    /// Reads the encoding of an RSAPublicKey (RFC 8017 A.1.1). The parameters of its algorithm are
+    /// NULL. Octets that are no element, or another structure, are refused as
+    /// `Asn1Deserialization`, even when memory runs out.
     pub fn from_pkcs1(alloc: Global, der: &[u8]) -> Result<PublicKey, KeyError>
         ensures answer { MatchResult result
             (λ key. IsPkcs1Key der.now key.info)
@@ -41,8 +41,8 @@ impl PublicKey {
         }
     }
 
-    /// The encoding of the RSAPublicKey of a key of RSA (RFC 8017 A.1.1). A key of another kind is
-    /// refused as `Rsa`, one that has no encoding as `Asn1Serialization`.
+    /// The encoding of the RSAPublicKey of an RSA key (RFC 8017 A.1.1). A key of another kind is
+    /// refused as `Rsa`, one without an encoding as `Asn1Serialization`.
     pub fn to_pkcs1(&self, alloc: Global) -> Result<Vec<u8>, KeyError>
         ensures answer { MatchResult result
             (λ octets. IsPkcs1Of self.now.info.subject_public_key octets.items)

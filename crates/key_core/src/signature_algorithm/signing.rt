@@ -1,4 +1,4 @@
-//! Signatures by private keys.
+//! Signing with private keys.
 
 ghost use Rattle.std.specs.Prelude.{◌≡◌, ◌≢◌, [], ◌∷◌, ℕ, List, length, true, false, Some, Err, IfOk, MatchResult};
 ghost use Rattle.asn1_types.specs.Values.{payload_of};
@@ -31,10 +31,9 @@ use sig_core::{HashAlgorithm, Scheme, SchemeError, SigAlg};
 use std::alloc::Global;
 
 impl SignatureAlgorithm {
-    /// A signature of the message by the key, as the scheme makes it. The key has to be one for the
-    /// algorithm: of its kind, for ECDSA on P-256 with SHA-256, on P-384 with SHA-384, or on P-521
-    /// with SHA-512, with a secret of the field's size; for Ed25519 with a public key, and 32
-    /// octets in both.
+    /// Signs the message with the key, as the scheme does. The key must fit the algorithm: be of
+    /// its kind, for ECDSA on P-256 with SHA-256, on P-384 with SHA-384, or on P-521 with SHA-512,
+    /// with a secret of the field's size; for Ed25519 with a public key, both of 32 octets.
     pub fn sign<S: Scheme>(
         self,
         alloc: Global,
@@ -45,11 +44,11 @@ impl SignatureAlgorithm {
         ensures signed { MatchResult result
             (λ _. IsAsked (S.signs scheme.now) self private_key.now msg.now true)
             (RefusesSignatureBy (sign_rules (S.signs scheme.now) self private_key.now msg.now)) }
-        // What is made is accepted under each public key of the pair.
+        // The signature is accepted under each public key of the pair.
         ensures accepted { IfOk result (λ sig. (info : SubjectPublicKeyInfo)
             → IsKeyPair (S.pair scheme.now) private_key.now info
             → Accepts (S.judge scheme.now) self info msg.now sig.items) }
-        // A key that isn't one for the algorithm is refused, even when memory runs out.
+        // A key that doesn't fit the algorithm is refused, even when memory runs out.
         ensures refused { (e : SignatureError) → IsFirstBroken (secret_rules self private_key.now) e
             → result ≡ Err e }
     {
@@ -72,7 +71,7 @@ impl SignatureAlgorithm {
         }
     }
 
-    /// The signature that the scheme makes with a secret that is one for the algorithm.
+    /// The signature that the scheme makes with a secret that fits the algorithm.
     fn made<S: Scheme>(
         self,
         alloc: Global,
@@ -95,7 +94,7 @@ impl SignatureAlgorithm {
         }
     }
 
-    /// What is told where the scheme doesn't sign.
+    /// The error if the scheme doesn't sign.
     fn scheme_refused(self) -> SignatureError
         ensures { result ≡ scheme_refused self }
     {
@@ -108,7 +107,7 @@ impl SignatureAlgorithm {
     }
 }
 
-/// The secret of a key of RSA.
+/// The secret of an RSA key.
 fn rsa_secret(alloc: Global, private_key: &PrivateKey) -> Result<Vec<u8>, SignatureError>
     ensures answer { MatchResult result
         (λ secret. IsPkcs1OfPrivate private_key.now.info.private_key secret.items)
@@ -119,7 +118,7 @@ fn rsa_secret(alloc: Global, private_key: &PrivateKey) -> Result<Vec<u8>, Signat
     Ok(private_key.to_pkcs1(alloc)?)
 }
 
-/// The secret of a key on the curve whose keys sign the digest, with what a scheme calls the
+/// The secret of a key on the curve whose keys sign the digest, with the scheme's name of the
 /// algorithm.
 fn secret_on(
     private_key: &PrivateKey,
@@ -170,7 +169,7 @@ fn signing_curve(private_key: &PrivateKey, hash: HashAlgorithm) -> Result<EcCurv
     Ok(curve)
 }
 
-/// The secret of a key of Ed25519.
+/// The secret of an Ed25519 key.
 fn ed25519_secret(private_key: &PrivateKey) -> Result<&[u8], SignatureError>
     ensures { MatchResult result
         (λ secret. IsEd25519Secret private_key.now secret.now)
@@ -203,7 +202,7 @@ fn ed25519_secret(private_key: &PrivateKey) -> Result<&[u8], SignatureError>
     }
 }
 
-/// The secret, where it and the public key have as many octets as those of Ed25519.
+/// The secret, if it and the public key have the size of Ed25519 keys.
 fn sized_secret<'a>(secret: &'a [u8], bits: &BitString) -> Result<&'a [u8], SignatureError>
     ensures { MatchResult result
         (λ octets. (octets.now ≡ secret.now) × (length (payload_of bits.now) ≡ 32)

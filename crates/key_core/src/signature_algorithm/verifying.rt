@@ -1,4 +1,4 @@
-//! Verification of signatures.
+//! Verifying signatures.
 
 ghost use Rattle.std.specs.Prelude.{◌≡◌, ◌≢◌, ℕ, List, [], ◌∷◌, length, Some, Err, MatchOption, MatchResult};
 ghost use Rattle.asn1_types.specs.Values.{payload_of};
@@ -32,13 +32,13 @@ use key_types::{AlgorithmIdentifier, KeyKind, SubjectKey, SubjectPublicKeyInfo};
 use sig_core::{HashAlgorithm, Scheme, SigAlg, Verdict};
 use std::alloc::Global;
 
-/// The octets of a public key, and of a secret, of Ed25519 (RFC 8032 5.1.5).
+/// The size of an Ed25519 public key, and of a secret, in octets (RFC 8032 5.1.5).
 pub(super) const ED25519_LEN: usize = 32;
 
 impl SignatureAlgorithm {
-    /// Whether the signature of the message is one by the key. The key has to be one for the
-    /// algorithm: of its kind, and for ECDSA on P-256 with SHA-256, on P-384 with SHA-384, or on
-    /// P-521 with SHA-512. The rest is the verdict of the scheme.
+    /// Verifies the signature of the message by the key. The key must fit the algorithm: be of its
+    /// kind, and for ECDSA on P-256 with SHA-256, on P-384 with SHA-384, or on P-521 with SHA-512.
+    /// The rest is the verdict of the scheme.
     pub fn verify<S: Scheme>(
         self,
         alloc: Global,
@@ -55,9 +55,8 @@ impl SignatureAlgorithm {
         self.told(verdict)
     }
 
-    /// The same, where the caller has the octets of a key of RSA, those that `to_pkcs1` gives: they
-    /// are lent to the scheme, so of no key an encoding is made. Of a key of another kind they
-    /// aren't looked at.
+    /// Like `verify`, for a caller that has the encoding of an RSA key, which `to_pkcs1` returns:
+    /// it is borrowed, so no key is encoded. For a key of another kind it is ignored.
     pub fn verify_by<S: Scheme>(
         self,
         alloc: Global,
@@ -77,7 +76,7 @@ impl SignatureAlgorithm {
         self.told(verdict)
     }
 
-    /// The verdict of the scheme, where the key is one for the algorithm, whose octets are lent.
+    /// The verdict of the scheme if the key, whose encoding is borrowed, fits the algorithm.
     fn verdict_by<S: Scheme>(
         self,
         alloc: Global,
@@ -100,7 +99,7 @@ impl SignatureAlgorithm {
         Ok(scheme.verify(alloc, rsa_alg(hash), octets, msg, signature)?)
     }
 
-    /// The verdict of the scheme, where the key is one for the algorithm.
+    /// The verdict of the scheme if the key fits the algorithm.
     fn verdict<S: Scheme>(
         self,
         alloc: Global,
@@ -129,7 +128,7 @@ impl SignatureAlgorithm {
         }
     }
 
-    /// What is told of a verdict.
+    /// A verdict as a result.
     fn told(self, verdict: Verdict) -> Result<(), SignatureError>
         ensures { (judge : Judge) (info : SubjectPublicKeyInfo) (msg sig : List ℕ)
             → IsJudged judge self info msg sig verdict
@@ -142,7 +141,7 @@ impl SignatureAlgorithm {
         }
     }
 
-    /// What is told of a signature that has no form.
+    /// The error for a malformed signature.
     fn malformed(self) -> SignatureError
         ensures { result ≡ malformed self }
     {
@@ -155,7 +154,7 @@ impl SignatureAlgorithm {
     }
 }
 
-/// The key bytes of a key of RSA.
+/// The key bytes of an RSA key.
 fn rsa_bytes(alloc: Global, public_key: &PublicKey) -> Result<Vec<u8>, SignatureError>
     ensures answer { MatchResult result
         (λ bytes. IsPkcs1Of public_key.now.info.subject_public_key bytes.items)
@@ -166,7 +165,7 @@ fn rsa_bytes(alloc: Global, public_key: &PublicKey) -> Result<Vec<u8>, Signature
     Ok(public_key.to_pkcs1(alloc)?)
 }
 
-/// The key is one of RSA.
+/// Refuses a key that isn't an RSA key.
 fn expect_rsa(public_key: &PublicKey) -> Result<(), SignatureError>
     ensures { MatchResult result
         (λ _. kind_of_key public_key.now.info.subject_public_key ≡ kinds.Rsa)
@@ -181,7 +180,8 @@ fn expect_rsa(public_key: &PublicKey) -> Result<(), SignatureError>
     })
 }
 
-/// A point on the curve whose keys sign the digest, with what a scheme calls the algorithm.
+/// The point of a key on the curve whose keys sign the digest, with the scheme's name of the
+/// algorithm.
 fn point_of(public_key: &PublicKey, hash: HashAlgorithm) -> Result<(SigAlg, &[u8]), SignatureError>
     ensures { MatchResult result
         (λ point. FitsKey (algorithms.Ecdsa hash) public_key.now.info point.0 point.1.now)
@@ -199,7 +199,7 @@ fn point_of(public_key: &PublicKey, hash: HashAlgorithm) -> Result<(SigAlg, &[u8
     Ok((alg, bits.payload_view()))
 }
 
-/// What a scheme calls ECDSA with the digest by keys on the curve of the key.
+/// The scheme's name of ECDSA with the digest algorithm and keys on the curve of this key.
 fn paired(info: &SubjectPublicKeyInfo, hash: HashAlgorithm) -> Result<SigAlg, SignatureError>
     ensures { MatchResult result
         (λ alg. (curve : EcCurve) × (curve_for hash ≡ Some curve) × (alg ≡ ecdsa_alg curve)
@@ -237,7 +237,7 @@ pub(super) fn curve_of(algorithm: &AlgorithmIdentifier) -> Option<EcCurve>
     Some(EcCurve::named(oid)?)
 }
 
-/// The octets of a key of Ed25519.
+/// The octets of an Ed25519 key.
 fn ed25519_bytes(public_key: &PublicKey) -> Result<&[u8], SignatureError>
     ensures { MatchResult result
         (λ bytes. IsEd25519Key public_key.now.info bytes.now)
@@ -264,7 +264,7 @@ fn ed25519_bytes(public_key: &PublicKey) -> Result<&[u8], SignatureError>
     }
 }
 
-/// The octets, which are as many as a key of Ed25519 has.
+/// The octets, if they have the size of an Ed25519 key.
 fn sized_key(bits: &BitString) -> Result<&[u8], SignatureError>
     ensures { MatchResult result
         (λ bytes. (bytes.now ≡ payload_of bits.now) × (length bytes.now ≡ 32))
