@@ -1,4 +1,4 @@
--- The elements of a certificate and its value say the same of its key.
+-- The elements of a certificate and its value agree about its key.
 use Rattle.std.proofs.Common.{◌≡◌, ℕ, List, refl, sym, subst, ◌∙◌}
 use Rattle.std.specs.Prelude.{Bool}
 use Rattle.der_core.specs.DerElement.{DerElement}
@@ -30,7 +30,7 @@ use Rattle.x509_core.proofs.Parts.{flag_of, begins_with_flag, length_of, ends_wi
 
 -- ---- the first extension, in the elements and in the value
 
--- The octets hold the value of the first extension of the identifier, which is of the kind.
+-- The octets encode the value of the first extension with the OID, which is of the kind.
 record HoldsFirst (oid : List ℕ) (extensions : List Extension) (octets : List ℕ) (kind : ExtensionKind) : Type 0 where
   extension : Extension
   first : IsFirstWith oid extensions extension
@@ -47,7 +47,7 @@ held oid f c element are v =
       value = h.value;
     }
 
--- the first extension of the value lies in the elements
+-- the first extension of the value is in the elements
 lying : (oid : List ℕ) (f : CertificateElements) (c : Certificate) (view : ExtensionView) → AreCertificateFields f c → HasFirst oid (extensions_in c.tbs_certificate.extensions) view
     → (octets : List ℕ) × ((element : DerElement) → IsKept octets element → IsFirstValue f oid element) × IsValueIn octets view
 lying oid f c view are h =
@@ -57,7 +57,7 @@ lying oid f c view are h =
       subst (IsValueIn there.0) h.valued there.2,
     )
 
--- ---- the key of the subject
+-- ---- the subject key identifier
 
 subject_had : (f : CertificateElements) (c : Certificate) (key : List ℕ) → AreCertificateFields f c → HasSubjectKey f key → HasFirst CE_SUBJECT_KEY_IDENTIFIER.now (extensions_in c.tbs_certificate.extensions) (views.SubjectKeyIdentifier key)
 subject_had f c key are says =
@@ -76,7 +76,7 @@ subject_lies f c key are h =
     let within = there.2 in
     (within.element, there.1 within.element (within.der, within.encoded), within.spelled)
 
--- ---- the key of the authority
+-- ---- the authority key identifier
 
 -- the value of the kind
 key_in : (octets : List ℕ) (view : ExtensionView) → IsOfKind kinds.AuthorityKeyIdentifier view → IsValueIn octets view
@@ -119,7 +119,7 @@ constraints_in octets (views.AuthorityKeyIdentifier x) kind value = absurd cc
 constraints_in octets (views.ExtendedKeyUsage x) kind value = absurd cc
 constraints_in octets (views.Raw x) kind value = absurd kind
 
--- The first basic constraints of the value are spelled by the element of the first ones that lie there.
+-- The first basic constraints of the elements encode the first ones of the value.
 record HadConstraints (extensions : List Extension) (element : DerElement) : Type 0 where
   value : BasicConstraints
   first : HasFirst CE_BASIC_CONSTRAINTS.now extensions (views.BasicConstraints value)

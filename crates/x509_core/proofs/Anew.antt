@@ -1,4 +1,4 @@
--- What is read of a certificate is written as it was read, but for the spelling of its extensions.
+-- A certificate that was read is written as it was read, except for the encoding of its extensions.
 use Rattle.std.proofs.Common.{◌≡◌, List, Option, Some, None, refl, ap}
 use Rattle.std.specs.Option.{option_map}
 use Rattle.der_core.specs.DerElement.{DerElement}

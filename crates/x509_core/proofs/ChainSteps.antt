@@ -13,7 +13,7 @@ use Rattle.x509_core.specs.declared.error.CertError.TheVariants as errors
 use Rattle.x509_core.specs.declared.window.Window.{Window}
 use Rattle.x509_core.proofs.Chains.{linked_none, linked_more, last_more, map_more, one_more}
 
--- a link between certificates that are kept
+-- a link between stored certificates
 abbrev Linking : Judge → Window → ℕ → KeptCertificate → KeptCertificate → Type 0
 Linking judge w number parent child = IsLink judge w number parent.elements child.elements
 

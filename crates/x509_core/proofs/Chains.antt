@@ -1,4 +1,4 @@
--- Chains that grow by one certificate, and what an iterator gives.
+-- Chains that grow by one certificate, and what an iterator yields.
 use Rattle.std.proofs.Common.{◌≡◌, ◌⊎◌, ℕ, ◌+◌, List, [], ◌∷◌, ◌++◌, map, length, Option, None, inl, inr, refl, sym, ap, subst, ◌∙◌, arith}
 use Rattle.std.specs.Iterator.{AlwaysYields, Yields, Drains}
 use Rattle.x509_core.specs.Chain.{last_of}
@@ -12,7 +12,7 @@ module _ {K : Type 0} where
   assoc [] b c = refl
   assoc (x ∷ a) b c = ap (λ (zs : List K). x ∷ zs) (assoc a b c)
 
-  -- a place in a list with one more member is the last one, or one in the list
+  -- an index in a list with one more member is the last one, or one in the list
   abbrev IsPlace : (xs before : List K) (x parent : K) → Type 0
   IsPlace xs before x parent = ((xs ≡ before) × (x ≡ parent)) ⊎ ((rest : List K) × (xs ≡ before ++ parent ∷ rest))
 
@@ -69,7 +69,7 @@ module _ {S A B : Type 0} (steps : S → Option A → S → Type 0) (v : A → B
   joined : (x : A) (b : B) (xs : List A) (given : List B) (t : S) → v x ≡ b → HasRest t xs given → HasRest t (x ∷ xs) (b ∷ given)
   joined x b xs given t same h = (h.0, ap (λ (z : B). z ∷ given) (sym same) ∙ ap (λ (zs : List B). v x ∷ zs) h.1, h.2)
 
-  -- what came is a front of what is given
+  -- what was yielded is a prefix of the given list
   pub gives_front : (s t : S) (xs : List A) (given : List B) → AlwaysYields steps v s given → Yields steps s xs t → HasRest t xs given
   gives_front s t [] given a y = (given, refl, subst (λ (k : S). AlwaysYields steps v k given) y a)
   gives_front s t (x ∷ xs) [] a y = absurd (a x y.0 y.1)
@@ -85,7 +85,7 @@ module _ {S A B : Type 0} (steps : S → Option A → S → Type 0) (v : A → B
   nothing_more [] = refl
   nothing_more (x ∷ xs) = ap (λ (zs : List B). x ∷ zs) (nothing_more xs)
 
-  -- what came until nothing more did is all that is given
+  -- what was yielded until the end is the whole given list
   pub gives_all : (s : S) (xs : List A) (given : List B) → AlwaysYields steps v s given → Drains steps s xs → given ≡ map v xs
   gives_all s xs given a d =
       let f = gives_front s d.1.0 xs given a d.1.1 in

@@ -1,4 +1,4 @@
--- A certificate has one CA flag and one path length at most, and is of one kind.
+-- A certificate has at most one CA flag and at most one path length, and is of one type.
 use Rattle.std.proofs.Common.{◌≡◌, ◌↔◌, IsTrue, ℕ, Bool, true, false, List, [], ◌∷◌, ◌++◌, refl, sym, ap, subst, ◌∙◌}
 use Rattle.std.specs.Prelude.{not, ◌==◌}
 use Rattle.std.proofs.lemmas.Bool.{false≢true}
@@ -65,7 +65,7 @@ no_flag f g same none = (λ t. absurd (false≢true t), λ there. absurd (none t
 true_is_not_false : true ≡ false → ⊥
 true_is_not_false e = cc
 
--- a certificate that is a root is of no other kind
+-- a root certificate is of no other type
 pub one_type : (f : CertificateElements) (a : CertType) → IsOfType f a → IsOfType f types.Root → a ≡ types.Root
 one_type f types.Root is root = refl
 one_type f types.Intermediate is root = absurd (is.1 root.1)

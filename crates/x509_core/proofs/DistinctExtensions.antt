@@ -1,4 +1,4 @@
--- Of extensions of different identifiers each is the first of its own.
+-- Of extensions with different OIDs, each is the first with its own.
 use Rattle.std.proofs.Common.{◌≡◌, ◌≢◌, ℕ, List, [], ◌∷◌, ◌++◌, sym, subst}
 use Rattle.asn1_types.specs.Values.{identifier_contents}
 use Rattle.x509_types.specs.FirstOfValue.{NoneHas}

@@ -1,4 +1,4 @@
--- The first extension of an identifier: here, or later.
+-- The first extension with an OID: here, or later.
 use Rattle.std.proofs.Common.{◌≡◌, ◌≢◌, ◌↔◌, IsTrue, Bool, false, ℕ, List, [], ◌∷◌, sym, ap, subst, ◌∙◌}
 use Rattle.asn1_types.specs.Values.{identifier_contents}
 use Rattle.x509_types.specs.FirstOfValue.{NoneHas, IsFirstWith}

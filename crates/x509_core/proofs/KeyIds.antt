@@ -1,4 +1,4 @@
--- A certificate names one key as its authority's at most.
+-- A certificate has at most one authority key identifier.
 use Rattle.std.proofs.Common.{◌≡◌, ℕ, List, ◌∷◌, sym, ◌∙◌, subst}
 use Rattle.der_core.specs.DerElement.{DerElement, Primitive}
 use Rattle.der_core.specs.Elements.{sequence}
@@ -28,6 +28,6 @@ same_keys parent child expected actual named had same = λ key other. subst (Has
 same_octets : (a b : List ℕ) → key_identifier a ≡ key_identifier b → a ≡ b
 same_octets a b e = cc
 
--- a certificate has one identifier of its subject's key at most
+-- a certificate has at most one subject key identifier
 pub had_once : (f : CertificateElements) (a b : List ℕ) → HasSubjectKey f a → HasSubjectKey f b → a ≡ b
 had_once f a b p q = same_octets a b (sym p.2 ∙ value_once f CE_SUBJECT_KEY_IDENTIFIER.now p.0 q.0 p.1 q.1 ∙ q.2)

@@ -1,4 +1,4 @@
--- How key identifiers of elements stand, where the elements are the same.
+-- How key identifiers of elements relate, where the elements are the same.
 use Rattle.std.proofs.Common.{◌≡◌, ◌≢◌, ◌↔◌, IsTrue, Bool, refl, subst}
 use Rattle.der_core.specs.Rules.{IsMet}
 use Rattle.names_core.specs.declared.name.DirectoryName.{DirectoryName}
@@ -22,7 +22,7 @@ same_link a b c d l p q link = subst (λ (x : CertificateElements). IsKeyLink x 
 pub same_test : (a b c d : CertificateElements) (t : Bool) → a ≡ c → b ≡ d → (IsTrue t ↔ AgreeByName a b) → IsTrue t ↔ AgreeByName c d
 same_test a b c d t p q test = subst (λ (x : CertificateElements). IsTrue t ↔ AgreeByName x d) p (subst (λ (y : CertificateElements). IsTrue t ↔ AgreeByName a y) q test)
 
--- a parent that lacks the key isn't linked
+-- a parent that lacks the key identifier isn't linked
 pub lacking : (parent child : CertificateElements) → LacksKey parent child → AgreeByKeyAndName parent child → ⊥
 lacking parent child lacks linked = lacks.none lacks.key (linked.key lacks.key lacks.named)
 

@@ -1,4 +1,4 @@
--- Elements in bounds are the same where their octets are.
+-- Elements within limits are the same where their octets are.
 use Rattle.std.proofs.Common.{◌≡◌, ◌↔◌, IsTrue, Bool, ℕ, List, sym, ap, ◌∙◌}
 use Rattle.der_core.specs.DerElement.{DerElement}
 use Rattle.der_core.specs.Encoding.{encoding, IsDer}

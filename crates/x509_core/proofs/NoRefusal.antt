@@ -1,4 +1,4 @@
--- What is answered is no refusal, and one refusal tells one error.
+-- A success is no refusal, and a refusal is one error.
 use Rattle.std.proofs.Common.{◌≡◌, Result, Ok, Err}
 
 pub no_refusal : {A E : Type 0} (x : A) (e : E) → ◌≡◌ {A = Result A E} (Ok x) (Err e) → ⊥

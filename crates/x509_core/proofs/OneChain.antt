@@ -1,4 +1,4 @@
--- At most one error tells of the first broken rule of a chain.
+-- At most one error reports the first broken rule of a chain.
 use Rattle.std.proofs.Common.{◌≡◌, ◌⊎◌, List, [], ◌∷◌, ◌++◌, length, Option, inl, inr, refl, sym, ap, subst, ◌∙◌}
 use Rattle.der_core.specs.Rules.{IsFirstBroken}
 use Rattle.der_core.proofs.RuleLists.{IsToldOnce, one_broken}
@@ -15,7 +15,7 @@ use Rattle.x509_core.proofs.UnbrokenLinks.{link_is_met}
 use Rattle.x509_core.proofs.Verdicts.{same_list}
 
 module _ {K : Type 0} where
-  -- of two places in one list both are the same, or one is before the other
+  -- two indices in one list are the same, or one is before the other
   abbrev AreTwo : (a b : List K) (x y : K) → Type 0
   AreTwo a b x y = ((a ≡ b) × (x ≡ y)) ⊎ (((rest : List K) × (b ≡ a ++ x ∷ rest)) ⊎ ((rest : List K) × (a ≡ b ++ y ∷ rest)))
 

@@ -1,4 +1,4 @@
--- At most one error tells of the first broken rule of a window, and of a link.
+-- At most one error reports the first broken rule of a window, and of a link.
 use Rattle.std.proofs.Common.{◌≡◌, ◌≢◌, ◌⊎◌, ℕ, List, Option, inl, inr, refl, sym, ap, subst, ◌∙◌}
 use Rattle.asn1_types.specs.Facts.Times.{same_generalized}
 use Rattle.asn1_types.specs.Values.{identifier_contents}

@@ -1,4 +1,5 @@
--- Parts of basic constraints and of the key of an authority, in their elements and in their values.
+-- Parts of basic constraints and of the authority key identifier, in their elements and in their
+-- values.
 use Rattle.std.proofs.Common.{◌≡◌, ℕ, List, [], ◌∷◌, ◌++◌, Option, Some, None, refl, sym, ap, subst, ◌∙◌, arith}
 use Rattle.std.specs.Prelude.{Bool, false, option_to_list}
 use Rattle.der_core.specs.DerElement.{DerElement, Primitive, tag_of}

@@ -1,4 +1,4 @@
--- What is read of an element is read of the octets that it is.
+-- Reading an element is reading its octets.
 use Rattle.std.proofs.Common.{◌≡◌, ℕ, List, Result, Ok, Err, IfOk, MatchResult, sym, ap, ◌∙◌}
 use Rattle.der_core.specs.DerElement.{DerElement}
 use Rattle.der_core.specs.Encoding.{encoding, IsDer}

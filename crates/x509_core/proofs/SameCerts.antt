@@ -1,4 +1,4 @@
--- Certificates are the same where what is kept of them is.
+-- Certificates are the same where what is stored of them is.
 use Rattle.std.proofs.Common.{◌≡◌, ◌↔◌, IsTrue, Bool, sym, ap, ◌∙◌}
 use Rattle.der_core.specs.Kept.{KeptElement}
 use Rattle.der_core.specs.Facts.Kept.{same_kept}

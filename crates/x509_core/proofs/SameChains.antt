@@ -1,4 +1,4 @@
--- What is known over a certificate is known over one that is the same.
+-- What is known about a certificate is known about an equal one.
 use Rattle.std.proofs.Common.{◌≡◌, List, map, subst}
 use Rattle.std.specs.Borrow.{Bor}
 use Rattle.std.specs.Prelude.{Option}
@@ -17,7 +17,7 @@ use Rattle.x509_core.specs.declared.window.Window.{Window}
 pub same_valid : (w : Window) (a b : KeptCertificate) → a ≡ b → IsWithinWindow w a.elements → IsWithinWindow w b.elements
 same_valid w a b same valid = subst (λ (kept : KeptCertificate). IsWithinWindow w kept.elements) same valid
 
--- the refusal of a parent, or want of memory, where the iterator gave these certificates
+-- the refusal of a parent, or out of memory, for these certificates from the iterator
 abbrev IsRefusal : {S : Type 0} → Judge → (S → Option (Bor KeptCertificate) → S → Type 0) → Window → S → CertError → KeptCertificate → Type 0
 IsRefusal {S} judge steps w chain e checked =
     OrMemory errors.Memory (λ (e : CertError). (xs : List (Bor KeptCertificate)) × (rest : S) × Yields steps chain xs rest × IsFirstUnlinked judge w checked (map lent xs) e) e

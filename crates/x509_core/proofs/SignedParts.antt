@@ -1,4 +1,4 @@
--- The algorithm and the key of a certificate that is kept, and what is answered to its signature.
+-- The algorithm and the key of a stored certificate, and the result for its signature.
 use Rattle.std.proofs.Common.{◌≡◌, ℕ, List, Some, Result, Ok, Err, MatchResult, inl, inr, refl, sym, ap, subst, ◌∙◌}
 use Rattle.std.proofs.Math.Logic.{∥∥₁_elim}
 use Rattle.std.specs.Coded.{Coded-set}
@@ -47,7 +47,7 @@ one_algorithm f a b p q = algorithms.once (algorithm_identifier a) a b refl (sym
 pub one_key : (f : CertificateElements) (a b : SubjectPublicKeyInfo) → HasKey f a → HasKey f b → a ≡ b
 one_key f a b p q = infos_once a b (sym p ∙ q)
 
--- a certificate is told of for a cause, unless memory runs out
+-- a certificate is reported for a cause, unless memory runs out
 pub told_of : (kept : KeptCertificate) (rule : Rule CertCause) (cause : CertCause) (e : CertError) → rule cause → IsInvalid kept cause e → Breaks (IsToldOf kept rule) e
 told_of kept rule cause (errors.InvalidCertificate id source) broken is = inl (record { cause = cause; id = id; broken = broken; name = is.0; told = ap (errors.InvalidCertificate id) is.1 })
 told_of kept rule cause errors.Memory broken is = inr refl
@@ -58,7 +58,7 @@ told_of kept rule cause e broken is = absurd is
 in_bounds : (kept : KeptCertificate) → AreDer (inner_key kept.certificate.tbs_certificate.subject_public_key_info.subject_public_key)
 in_bounds kept = ∥∥₁_elim kept.spelled (AreDer-prop (inner_key kept.certificate.tbs_certificate.subject_public_key_info.subject_public_key)) (λ are. are.tbs.subject_public_key_info.1)
 
--- the octets that are lent of a key of RSA are the encoding of its RSAPublicKey
+-- the borrowed octets of an RSA key are the encoding of its RSAPublicKey
 pub kept_key : (kept : KeptCertificate) (f : CertificateElements) (info : SubjectPublicKeyInfo) (octets : List ℕ) → f ≡ kept.elements → info ≡ kept.certificate.tbs_certificate.subject_public_key_info
     → key_octets_of f ≡ Some octets → (key : RsaPublicKey) → info.subject_public_key ≡ keys.Rsa key → IsPkcs1Of (keys.Rsa key) octets
 kept_key kept f info octets same own lent = λ key rsa.

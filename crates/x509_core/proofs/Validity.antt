@@ -1,4 +1,4 @@
--- A certificate begins and ends at one moment each, and is valid where neither rule is broken.
+-- A certificate begins and ends at one moment each, and is valid if neither rule is broken.
 use Rattle.std.proofs.Common.{◌≡◌, ℕ, List, Option, Some, Result, Ok, Err, MatchResult, inl, inr, refl, sym, ap, ◌∙◌}
 use Rattle.std.specs.Cmp.Lexicographic.{slice_cmp}
 use Rattle.std.specs.Ordering.{nat_cmp}
@@ -26,7 +26,7 @@ one_moment element a b p q = p.at ∙ ap time_fields (times_once p.time q.time (
 earlier_there : (a b c d : GeneralizedTime) → generalized_fields a ≡ generalized_fields c → generalized_fields b ≡ generalized_fields d → IsEarlier a b → IsEarlier c d
 earlier_there a b c d p q e = ap (λ (xs : List ℕ). slice_cmp nat_cmp xs (generalized_fields d)) (sym p) ∙ ap (slice_cmp nat_cmp (generalized_fields a)) (sym q) ∙ e
 
--- a time of a certificate, with the date that it is
+-- a Time of a certificate, with its date
 pub time_at : (element : Option DerElement) (time : Time) (date : GeneralizedTime) → element ≡ Some (time_element time) → generalized_fields date ≡ time_fields time → IsTimeAt element date
 time_at element time date is at = record { time = time; is = is; at = at }
 
@@ -44,7 +44,7 @@ valid_is_met w f cause valid (inl early) = valid.begun early.asked early.not_bef
 valid_is_met w f cause valid (inr (begun, inl over)) = valid.lasts over.ended.asked over.not_after over.now over.ended.ends over.ended.first over.ended.passed
 valid_is_met w f cause valid (inr (begun, inr none)) = none.1
 
--- a validity that has begun breaks the first rule not
+-- a validity that has begun doesn't break the first rule
 pub begun_is_met : (w : Window) (f : CertificateElements) → HasBegun w f → (cause : CertCause) → IsNotYetValid w f cause → ⊥
 begun_is_met w f begun cause early = begun early.asked early.not_before early.now early.begins early.last early.early
 

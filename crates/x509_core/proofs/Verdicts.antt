@@ -1,4 +1,4 @@
--- What is answered of a certificate over its parents, rule by rule, by what their iterator gave.
+-- The result for a certificate and its parents, rule by rule, by what their iterator yields.
 use Rattle.std.proofs.Common.{◌≡◌, ◌≢◌, IsTrue, false, List, ◌∷◌, ◌++◌, map, Option, Some, None, Result, Ok, Err, MatchResult, inl, inr, refl, sym, ap, subst, ◌∙◌}
 use Rattle.std.proofs.lemmas.Bool.{false≢true}
 use Rattle.std.specs.Borrow.{Bor}
@@ -29,12 +29,12 @@ none_is_not parents e = cc
 pub same_list : (a b : List KeptCertificate) → ◌≡◌ {A = Option (List KeptCertificate)} (Some a) (Some b) → a ≡ b
 same_list a b e = cc
 
--- where an iterator is given, it gives a list
+-- if an iterator is given, it yields a list
 listed : {S : Type 0} (steps : S → Option (Bor KeptCertificate) → S → Type 0) (chain : S) (given : Option (List KeptCertificate)) → YieldsParents steps (Some chain) given → (parents : List KeptCertificate) × (given ≡ Some parents) × AlwaysYields steps lent chain parents
 listed steps chain None gives = absurd gives
 listed steps chain (Some parents) gives = (parents, refl, gives)
 
--- where none is, it gives none
+-- if none is given, nothing is yielded
 unlisted : {S : Type 0} (steps : S → Option (Bor KeptCertificate) → S → Type 0) (given : Option (List KeptCertificate)) → YieldsParents steps None given → given ≡ None
 unlisted steps None gives = refl
 unlisted steps (Some parents) gives = absurd gives
@@ -58,7 +58,7 @@ module _ (judge : Judge) (checks : ChainChecks) (checked : KeptCertificate) (giv
   root_is_met : (parents : List KeptCertificate) → given ≡ Some parents → IsRooted checks checked parents → IsMet (LacksRoot checks checked given)
   root_is_met parents is rooted = λ e broken. broken.unrooted (subst (IsRooted checks checked) (same_list parents broken.parents (sym is ∙ broken.is)) rooted)
 
-  -- what is accepted breaks no rule
+  -- an accepted certificate breaks no rule
   pub accepted_is_met : (e : CertError) → IsAccepted judge checks checked given → IsFirstBroken (chain_rules judge checks checked given) e → ⊥
   accepted_is_met e accepted (inl broken) = date_is_met accepted.dated e broken
   accepted_is_met e accepted (inr (a, inl broken)) = window_is_met checks.window checked accepted.valid e broken
@@ -81,7 +81,7 @@ module _ (judge : Judge) (checks : ChainChecks) (checked : KeptCertificate) (giv
     pub no_chain : {S : Type 0} (steps : S → Option (Bor KeptCertificate) → S → Type 0) → YieldsParents steps None given → Refuses (errors.MissingBuilderArgument arguments.Chain)
     no_chain steps gives = inl (lacking_chain (unlisted steps given gives))
 
-    -- where these parents are given
+    -- if these parents are given
     module _ (parents : List KeptCertificate) (is : given ≡ Some parents) where
       pub unlinked_over : (e : CertError) → IsFirstUnlinked judge checks.window checked parents e → IsFirstBroken (chain_rules judge checks checked given) e
       unlinked_over e first =

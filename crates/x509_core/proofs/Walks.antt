@@ -1,4 +1,4 @@
--- What is answered of a certificate over its parents, by what their iterator gave in that call.
+-- The result for a certificate and its parents, by what their iterator yielded in that call.
 use Rattle.std.proofs.Common.{◌≡◌, ◌≢◌, IsTrue, false, List, [], map, Option, Some, None, Result, Ok, Err, MatchResult, inl, inr, refl, sym, subst, ◌∙◌}
 use Rattle.std.proofs.lemmas.Bool.{false≢true}
 use Rattle.std.specs.Borrow.{Bor}
@@ -23,7 +23,7 @@ use Rattle.x509_core.specs.declared.validator.ChainChecks.{ChainChecks}
 use Rattle.x509_core.specs.declared.window.Window.{Window}
 use Rattle.x509_core.proofs.Verdicts.{date_is_met, unasked, lacking_chain, unlinked_over, verdict_over}
 
--- ---- where memory is asked for
+-- ---- where memory may run out
 
 pub undated_is_told : (checks : ChainChecks) (e : CertError) → LacksDate checks e → e ≡ errors.Memory → ⊥
 undated_is_told checks e lacks none = let other = lacks.2 in cc
@@ -32,12 +32,12 @@ pub where_asked : {X P : Type 0} (r : Result X CertError) → P → IfErr r (λ 
 where_asked (Ok v) p = tt
 where_asked (Err e) p = λ none. p
 
--- no refusal for a root that is missing is want of memory
+-- the refusal for a missing root isn't out of memory
 pub unrooted_is_told : {X : Type 0} (P Q R N : Type 0) (r : Result X CertError) → MatchResult r (λ _. P) (λ e. Q × R × (e ≡ errors.InvalidChain chain_errors.NoRoot)) → IfErr r (λ e. e ≡ errors.Memory → N)
 unrooted_is_told P Q R N (Ok v) h = tt
 unrooted_is_told P Q R N (Err e) h = λ none. let other = h.2 in absurd cc
 
--- ---- no link tells of a root that is missing
+-- ---- no link reports a missing root
 
 abbrev IsOfNoRoot : CertError → Type 0
 IsOfNoRoot e = e ≡ errors.InvalidChain chain_errors.NoRoot
@@ -59,7 +59,7 @@ module _ {S : Type 0} (judge : Judge) (steps : S → Option (Bor KeptCertificate
   abbrev Refused : Option S → CertError → Type 0
   Refused chain e = OrMemory errors.Memory (WasRefused judge steps checks checked chain) e
 
-  -- nothing was asked of the iterator
+  -- the iterator wasn't run
   unstarted : (chain : Option S) → (given : Option (List KeptCertificate)) × GaveSoFar steps chain given
   unstarted None = (None, refl)
   unstarted (Some chain) = (Some [], ([], chain, refl, refl))

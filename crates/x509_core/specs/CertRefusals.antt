@@ -6,20 +6,20 @@ use Rattle.key_core.specs.declared.element.Element.{Element}
 use Rattle.x509_core.specs.declared.error.CertError.{CertError}
 use Rattle.x509_core.specs.declared.error.CertError.TheVariants as errors
 
--- out of memory is reported as such, any other cause by the structure and the cause
+-- out of memory is reported as such, any other cause with the structure
 abbrev pub unread : Element → DerError → CertError
 unread element der.Memory = errors.Memory
 unread element source = errors.Asn1Deserialization element source
 
--- the same of an element that can't be written
+-- the same for an element that can't be written
 abbrev pub unwritten : Element → DerError → CertError
 unwritten element der.Memory = errors.Memory
 unwritten element source = errors.Asn1Serialization element source
 
--- The error tells of this structure, for a cause that refuses it.
+-- The error names this structure, and its cause refuses to read it.
 abbrev pub IsUnreadCert : Element → (DerError → Type 0) → CertError → Type 0
 IsUnreadCert element = Tells (unread element)
 
--- The error tells of this structure, for a cause that refuses to write it.
+-- The error names this structure, and its cause refuses to write it.
 abbrev pub IsUnwrittenCert : Element → (DerError → Type 0) → CertError → Type 0
 IsUnwrittenCert element = Tells (unwritten element)

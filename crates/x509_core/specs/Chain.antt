@@ -1,4 +1,4 @@
--- When certificates are a chain (RFC 5280 6.1), and what is answered where they aren't.
+-- When certificates are a chain (RFC 5280 6.1), and which error is returned where they aren't.
 use Rattle.std.specs.Prelude.{◌≡◌, ◌≢◌, ◌⊎◌, ⊤, List, [], ◌∷◌, ◌++◌, map, length, Option, Some, None, IsTrue}
 use Rattle.std.specs.Borrow.{Bor}
 use Rattle.std.specs.Iterator.{AlwaysYields, Yields, Drains}
@@ -18,7 +18,7 @@ use Rattle.x509_core.specs.declared.viewed.ViewedCert.{ViewedCert}
 use Rattle.x509_core.specs.declared.window.DateCheck.TheVariants as dates
 use Rattle.x509_core.specs.declared.window.Window.{Window}
 
--- the last of a path: the checked certificate, where no parent stands above it
+-- the last certificate of a path: the checked one if it has no parent
 abbrev pub last_of : {A : Type 0} → A → List A → A
 last_of checked [] = checked
 last_of checked (parent ∷ parents) = last_of parent parents
@@ -31,20 +31,20 @@ IsLinkedChain judge w checked parents =
     → parents ≡ before ++ parent ∷ after
     → IsLink judge w (length before) parent.elements (last_of checked before).elements
 
--- the checks ask for the dates of a certificate
+-- dates are checked
 abbrev pub AsksForDate : Window → Type 0
 AsksForDate w = IsTrue w.not_before ⊎ IsTrue w.not_after
 
--- a date is given where one is asked for
+-- a date is given if dates are checked
 abbrev pub IsDated : ChainChecks → Type 0
 IsDated checks = AsksForDate checks.window → checks.window.date ≢ dates.Absent
 
--- The last certificate is a root, where that is asked for.
+-- The last certificate is a root, if that is checked.
 abbrev pub IsRooted : ChainChecks → KeptCertificate → List KeptCertificate → Type 0
 IsRooted checks checked parents =
     IsTrue checks.root → IsOfType (last_of checked parents).elements types.Root
 
--- A chain is given, it is linked, and it ends as is asked.
+-- A chain is given, it is linked, and it ends in a root if that is checked.
 pub record IsPath (judge : Judge) (checks : ChainChecks) (checked : KeptCertificate)
     (given : Option (List KeptCertificate)) : Type 0 where
   pub parents : List KeptCertificate
@@ -52,7 +52,7 @@ pub record IsPath (judge : Judge) (checks : ChainChecks) (checked : KeptCertific
   pub linked : IsLinkedChain judge checks.window checked parents
   pub rooted : IsRooted checks checked parents
 
--- The certificate is accepted, over the parents that are given.
+-- The certificate is accepted with the given parents.
 pub record IsAccepted (judge : Judge) (checks : ChainChecks) (checked : KeptCertificate)
     (given : Option (List KeptCertificate)) : Type 0 where
   pub dated : IsDated checks
@@ -61,13 +61,13 @@ pub record IsAccepted (judge : Judge) (checks : ChainChecks) (checked : KeptCert
 
 -- ---- rules, by what breaks them
 
--- dates are asked for, and none is given
+-- dates are checked, and none is given
 abbrev pub LacksDate : ChainChecks → Rule CertError
 LacksDate checks e =
     AsksForDate checks.window × (checks.window.date ≡ dates.Absent)
     × (e ≡ errors.MissingBuilderArgument arguments.Now)
 
--- a chain is asked for, and none is given
+-- the chain is checked, and none is given
 abbrev pub LacksChain : ChainChecks → Option (List KeptCertificate) → Rule CertError
 LacksChain checks given e =
     IsTrue checks.chain × (given ≡ None) × (e ≡ errors.MissingBuilderArgument arguments.Chain)
@@ -90,7 +90,7 @@ pub record IsUnlinked (judge : Judge) (checks : ChainChecks) (checked : KeptCert
   pub is : given ≡ Some parents
   pub first : IsFirstUnlinked judge checks.window checked parents e
 
--- the last certificate is no root
+-- the last certificate isn't a root
 pub record LacksRoot (checks : ChainChecks) (checked : KeptCertificate)
     (given : Option (List KeptCertificate)) (e : CertError) : Type 0 where
   pub asked : IsTrue checks.chain
@@ -106,9 +106,9 @@ chain_rules judge checks checked given =
     LacksDate checks ∷ IsOutside checks.window checked ∷ LacksChain checks given ∷
     IsUnlinked judge checks checked given ∷ LacksRoot checks checked given ∷ []
 
--- ---- what an iterator gives
+-- ---- what an iterator yields
 
--- the certificates that are lent
+-- the borrowed certificates
 abbrev pub lent : Bor KeptCertificate → KeptCertificate
 lent certificate = certificate.now
 
@@ -117,7 +117,7 @@ abbrev pub nearest : KeptCertificate → Option ViewedCert → KeptCertificate
 nearest checked None = checked
 nearest checked (Some parent) = parent.cert.now
 
--- where there is an iterator, it gives these and no others
+-- if there is an iterator, it yields these and no others
 abbrev pub YieldsParents : {S : Type 0} → (S → Option (Bor KeptCertificate) → S → Type 0) → Option S
     → Option (List KeptCertificate) → Type 0
 YieldsParents steps None None = ⊤
@@ -125,9 +125,9 @@ YieldsParents steps None (Some parents) = ⊥
 YieldsParents steps (Some chain) None = ⊥
 YieldsParents steps (Some chain) (Some parents) = AlwaysYields steps lent chain parents
 
--- ---- what an iterator gave in one call, where it may give this or that
+-- ---- what an iterator yielded in one call, if its runs may differ
 
--- where there is an iterator, it gave these so far
+-- if there is an iterator, it yielded these so far
 abbrev pub GaveSoFar : {S : Type 0} → (S → Option (Bor KeptCertificate) → S → Type 0) → Option S
     → Option (List KeptCertificate) → Type 0
 GaveSoFar steps None given = given ≡ None
@@ -135,7 +135,7 @@ GaveSoFar {S} steps (Some chain) given =
     (parents : List (Bor KeptCertificate)) × (rest : S) × Yields steps chain parents rest
     × (given ≡ Some (map lent parents))
 
--- There is an iterator, it was walked to its end, and gave these.
+-- There is an iterator, it was run to its end, and yielded these.
 pub record IsWalked {S : Type 0} (steps : S → Option (Bor KeptCertificate) → S → Type 0)
     (chain : Option S) (given : Option (List KeptCertificate)) : Type 0 where
   pub iterator : S
@@ -144,8 +144,8 @@ pub record IsWalked {S : Type 0} (steps : S → Option (Bor KeptCertificate) →
   pub ended : Drains steps iterator parents
   pub are : given ≡ Some (map lent parents)
 
--- The certificate is accepted over all that the iterator gave. Where no chain is asked for, nothing
--- is said of the iterator.
+-- The certificate is accepted with all that the iterator yielded. If the chain isn't checked,
+-- nothing is said about the iterator.
 pub record WasAccepted {S : Type 0} (judge : Judge)
     (steps : S → Option (Bor KeptCertificate) → S → Type 0) (checks : ChainChecks)
     (checked : KeptCertificate) (chain : Option S) : Type 0 where
@@ -153,8 +153,8 @@ pub record WasAccepted {S : Type 0} (judge : Judge)
   pub walked : IsTrue checks.chain → IsWalked steps chain given
   pub accepted : IsAccepted judge checks checked given
 
--- The error tells of the first rule that is broken over what the iterator gave so far. That a root
--- is missing is told at its end.
+-- The error reports the first broken rule for what the iterator yielded so far. A missing root is
+-- reported at its end.
 pub record WasRefused {S : Type 0} (judge : Judge)
     (steps : S → Option (Bor KeptCertificate) → S → Type 0) (checks : ChainChecks)
     (checked : KeptCertificate) (chain : Option S) (e : CertError) : Type 0 where
@@ -163,14 +163,14 @@ pub record WasRefused {S : Type 0} (judge : Judge)
   pub ended : e ≡ errors.InvalidChain chain_errors.NoRoot → IsWalked steps chain given
   pub broken : IsFirstBroken (chain_rules judge checks checked given) e
 
--- the iterator may give a parent at once
+-- the iterator's first item may be a parent
 pub record GivesParent {S : Type 0} (steps : S → Option (Bor KeptCertificate) → S → Type 0)
     (iterator : S) : Type 0 where
   pub parent : Bor KeptCertificate
   pub rest : S
   pub given : steps iterator (Some parent) rest
 
--- A chain is asked for and given, and gives a parent.
+-- The chain is checked and given, and yields a parent.
 pub record HasParent {S : Type 0} (steps : S → Option (Bor KeptCertificate) → S → Type 0)
     (checks : ChainChecks) (chain : Option S) : Type 0 where
   pub asked : IsTrue checks.chain
@@ -178,8 +178,8 @@ pub record HasParent {S : Type 0} (steps : S → Option (Bor KeptCertificate) �
   pub is : chain ≡ Some iterator
   pub gives : GivesParent steps iterator
 
--- Memory is asked for: a date is given where one is asked for, and the certificate isn't valid,
--- which its name tells of, or there is a parent to look at.
+-- Memory may run out: a date is given if dates are checked, and the certificate isn't valid, so the
+-- error has its name, or there is a parent to check.
 abbrev pub AsksForMemory : {S : Type 0} → (S → Option (Bor KeptCertificate) → S → Type 0)
     → ChainChecks → KeptCertificate → Option S → Type 0
 AsksForMemory steps checks checked chain =

@@ -1,4 +1,4 @@
--- The names of errors of certificates, as a program reports them.
+-- The names of certificate errors, as a program prints them.
 use Rattle.std.specs.Prelude.{ℕ, List, ◌++◌, codes}
 use Rattle.x509_core.specs.declared.error.CaChainError.{CaChainError}
 use Rattle.x509_core.specs.declared.error.CaChainError.TheVariants as chain
@@ -15,7 +15,7 @@ chain_error_name (chain.IssuerIsNotCA id) = codes "IssuerIsNotCA"
 chain_error_name (chain.AuthorityKeyIdMismatch expected actual) = codes "AuthorityKeyIdMismatch"
 chain_error_name (chain.IssuerNameMismatch expected actual) = codes "IssuerNameMismatch"
 
--- what a certificate is refused for, with the name of what it holds
+-- why a certificate is refused, with the name of the wrapped error
 abbrev pub cause_name : CertCause → List ℕ
 cause_name (causes.Asn1Serialization element source) = codes "Asn1Serialization"
 cause_name (causes.Signature source) = codes "Signature"
@@ -25,7 +25,7 @@ cause_name (causes.ExtensionNotFound name) = codes "ExtensionNotFound"
 cause_name (causes.CertificateNotYetValid not_before now) = codes "CertificateNotYetValid"
 cause_name (causes.CertificateExpired not_after now) = codes "CertificateExpired"
 
--- an error by its variant, and what a refused certificate or chain holds by its own
+-- an error by its variant, and a refused certificate or chain with the name of its cause
 abbrev pub cert_error_name : CertError → List ℕ
 cert_error_name (errors.CertGeneration source) = codes "CertGeneration"
 cert_error_name (errors.InvalidCertificate id source) =

@@ -22,13 +22,13 @@ use Rattle.x509_core.specs.declared.error.CertError.TheVariants as errors
 use Rattle.x509_core.specs.declared.error.ExtName.{ExtName}
 use Rattle.x509_core.specs.declared.error.ExtName.TheVariants as names
 
--- what an extension is called
+-- the name of an extension
 abbrev pub extension_text : ExtName → List ℕ
 extension_text names.SubjectKeyIdentifier = codes "subject key identifier"
 extension_text names.AuthorityKeyIdentifier = codes "authority key identifier"
 extension_text names.BasicConstraints = codes "basic constraints"
 
--- what is handed to a validator, or to one who makes a certificate
+-- the argument of a validator or a builder
 abbrev pub argument_text : Arg → List ℕ
 argument_text arguments.Now = codes "now"
 argument_text arguments.Chain = codes "chain"
@@ -38,13 +38,13 @@ argument_text arguments.IssuerInfos = codes "issuer_infos"
 argument_text arguments.AuthorityKeyIdentifier = codes "authority_key_identifier"
 argument_text arguments.SubjectInfos = codes "subject_infos"
 
--- that a certificate isn't valid yet, with its begin and the time that it is checked at
+-- that a certificate isn't valid yet, with its begin and the date that it is checked at
 abbrev pub not_yet_valid_text : GeneralizedTime → GeneralizedTime → List ℕ
 not_yet_valid_text not_before now =
     codes "certificate is not yet valid (not before: " ++ time_text not_before ++ codes ", now: "
     ++ time_text now ++ codes ")"
 
--- that a certificate has expired, with its end and the time that it is checked at
+-- that a certificate has expired, with its end and the date that it is checked at
 abbrev pub expired_text : GeneralizedTime → GeneralizedTime → List ℕ
 expired_text not_after now =
     codes "certificate expired (not after: " ++ time_text not_after ++ codes ", now: "
@@ -54,11 +54,11 @@ expired_text not_after now =
 abbrev pub bad_signature_text : SignatureError → List ℕ
 bad_signature_text source = codes "signature error: " ++ signature_error_text source
 
--- a key without an identifier
+-- a key without a key identifier
 abbrev pub key_id_text : KeyIdGenError → List ℕ
 key_id_text source = codes "key id generation error: " ++ key_id_error_text source
 
--- the key that is named and the one that stands there, in hexadecimal digits
+-- the expected and the actual key identifier, in hexadecimal
 abbrev pub key_mismatch_text : List ℕ → List ℕ → List ℕ
 key_mismatch_text expected actual =
     codes "authority key id doesn't match (expected: " ++ encode_lower expected ++ codes ", got: "
@@ -77,7 +77,7 @@ chain_error_text (chain.IssuerNameMismatch expected actual) =
     codes "issuer name doesn't match (expected: " ++ name_text (sets_of expected) ++ codes ", got: "
     ++ name_text (sets_of actual) ++ codes ")"
 
--- a cause has the text of the error of its name
+-- a cause has the text of the error with its name
 abbrev pub cause_text : CertCause → List ℕ
 cause_text (causes.Asn1Serialization element source) =
     element_error_text (codes "(ASN1) couldn't serialize ") element source
@@ -88,7 +88,7 @@ cause_text (causes.ExtensionNotFound name) = codes "extension not found: " ++ ex
 cause_text (causes.CertificateNotYetValid not_before now) = not_yet_valid_text not_before now
 cause_text (causes.CertificateExpired not_after now) = expired_text not_after now
 
--- what is told of a certificate
+-- why a certificate is refused or not made
 abbrev pub cert_error_text : CertError → List ℕ
 cert_error_text (errors.CertGeneration source) =
     codes "couldn't generate certificate: " ++ cause_text source

@@ -1,4 +1,4 @@
--- A certificate that is kept with its octets (RFC 5280 4.1).
+-- A certificate stored with its octets (RFC 5280 4.1).
 use Rattle.std.specs.Prelude.{◌≡◌, ℕ, List, [], ◌∷◌, ◌++◌}
 use Rattle.der_core.specs.DerElement.{DerElement}
 use Rattle.der_core.specs.Encoding.{encoding, IsDer}
@@ -6,8 +6,7 @@ use Rattle.x509_types.specs.Certificate.{certificate, inner_certificate}
 use Rattle.x509_types.specs.CertificateElements.{CertificateElements, certificate_of, AreCertificateFields}
 use Rattle.x509_types.specs.declared.certificate.Certificate.{Certificate}
 
--- The elements that stand for its fields, which are in bounds, and the value whose fields they
--- spell.
+-- The elements of its fields, which are within limits, and the value that they encode.
 pub record KeptCertificate : Type 0 where
   pub elements : CertificateElements
   pub certificate : Certificate
@@ -18,19 +17,19 @@ pub record KeptCertificate : Type 0 where
 abbrev pub kept_octets : KeptCertificate → List ℕ
 kept_octets kept = encoding (certificate_of kept.elements)
 
--- The element is the one around these fields, which are in bounds and spell the certificate.
+-- The element consists of these fields, which are within limits and encode the certificate.
 abbrev pub IsAround : DerElement → Certificate → CertificateElements → Type 0
 IsAround element c f =
     (element ≡ certificate_of f) × IsDer (certificate_of f) × ∥ AreCertificateFields f c ∥₁
 
--- The element is the one around some such fields.
+-- The element consists of some such fields.
 abbrev pub HasFields : DerElement → Certificate → Type 0
 HasFields element c = (f : CertificateElements) × IsAround element c f
 
--- the octets that are written for a value
+-- the encoding of a value
 abbrev pub written_octets : Certificate → List ℕ
 written_octets c = encoding (certificate c)
 
--- all elements that are written for it, those within strings first
+-- all elements that are written for it, inner ones first
 abbrev pub written_elements : Certificate → List DerElement
 written_elements c = inner_certificate c ++ certificate c ∷ []

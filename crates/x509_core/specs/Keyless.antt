@@ -1,10 +1,10 @@
--- The two parts in which a certificate is kept: the key of its subject, and the rest.
+-- The two parts that a certificate is stored in: the subject's key, and the rest.
 use Rattle.key_core.specs.Keys.{info_of}
 use Rattle.key_core.specs.declared.public_key.PublicKey.{PublicKey}
 use Rattle.x509_types.specs.declared.certificate.Certificate.{Certificate}
 use Rattle.x509_core.specs.declared.keyless.Keyless.{Keyless}
 
--- the certificate of both parts
+-- the certificate with both parts
 abbrev pub joined : Keyless → PublicKey → Certificate
 joined rest key = record {
   tbs_certificate = record {

@@ -1,4 +1,4 @@
--- The fields of a certificate but for its key in two parts, which are copied one after another.
+-- The fields of a certificate without its key, in two parts that are copied one after the other.
 use Rattle.x509_core.specs.declared.keyless.Keyless.{Keyless}
 use Rattle.x509_core.specs.declared.keyless_parts.IssuedFields.{IssuedFields}
 use Rattle.x509_core.specs.declared.keyless_parts.LaterFields.{LaterFields}
@@ -24,7 +24,7 @@ later_fields rest = record {
   signature_value = rest.signature_value;
 }
 
--- the fields of both parts
+-- the fields from both parts
 abbrev pub keyless_of_parts : IssuedFields → LaterFields → Keyless
 keyless_of_parts issued later = record {
   version = issued.version;

@@ -1,4 +1,4 @@
--- When a certificate may have issued another, as one link of a chain (RFC 5280 6.1.3, 6.1.4,
+-- When a certificate may have issued another, as a link of a chain (RFC 5280 6.1.3, 6.1.4,
 -- 4.2.1.9).
 use Rattle.std.specs.Prelude.{◌≡◌, ◌≢◌, ◌<◌, ◌≤◌, min, ℕ, List, [], ◌∷◌, true}
 use Rattle.der_core.specs.Encoding.{encoding}
@@ -27,15 +27,15 @@ use Rattle.x509_core.specs.declared.error.CertError.{CertError}
 use Rattle.x509_core.specs.declared.error.CertError.TheVariants as errors
 use Rattle.x509_core.specs.declared.window.Window.{Window}
 
--- the algorithm beside what is signed (RFC 5280 4.1.1.2)
+-- the signature algorithm outside the TBSCertificate (RFC 5280 4.1.1.2)
 abbrev pub HasAlgorithm : CertificateElements → AlgorithmIdentifier → Type 0
 HasAlgorithm f id = f.algorithm ≡ algorithm_identifier id
 
--- the key of the subject (RFC 5280 4.1.2.7)
+-- the subject's key (RFC 5280 4.1.2.7)
 abbrev pub HasKey : CertificateElements → SubjectPublicKeyInfo → Type 0
 HasKey f info = f.tbs.subject_public_key_info ≡ public_key_info info
 
--- The certificate is signed by this algorithm, and the other one has this key.
+-- The child is signed with this algorithm, and the parent has this key.
 pub record IsSignedWith (parent child : CertificateElements) (algorithm : SignatureAlgorithm)
     (info : SubjectPublicKeyInfo) : Type 0 where
   pub id : AlgorithmIdentifier
@@ -43,28 +43,28 @@ pub record IsSignedWith (parent child : CertificateElements) (algorithm : Signat
   pub named : NamesSignature id algorithm
   pub key : HasKey parent info
 
--- what is signed: the octets of the TBSCertificate as they are kept (RFC 5280 4.1.1.3)
+-- what is signed: the raw octets of the TBSCertificate (RFC 5280 4.1.1.3)
 abbrev pub signed_octets : CertificateElements → List ℕ
 signed_octets f = encoding (tbs_of f.tbs)
 
--- The signature of the child is one by the key of the parent (RFC 5280 6.1.3 (a) (1)).
+-- The signature of the child is one by the parent's key (RFC 5280 6.1.3 (a) (1)).
 pub record IsSignedBy (judge : Judge) (parent child : CertificateElements) : Type 0 where
   pub algorithm : SignatureAlgorithm
   pub info : SubjectPublicKeyInfo
   pub parts : IsSignedWith parent child algorithm info
   pub accepted : Accepts judge algorithm info (signed_octets child) child.signature
 
--- no more than its path length stand between it and the end of the path, self-issued ones among
--- them (RFC 5280 4.2.1.9)
+-- no more than its path length are between it and the end of the path, self-issued ones included
+-- (RFC 5280 4.2.1.9)
 abbrev pub IsDeepEnough : ℕ → CertificateElements → Type 0
 IsDeepEnough number parent = (limit : ℕ) → HasPathLength parent limit → number ≤ limit
 
--- A number stands for a count: both are the same, or past what any path length says.
+-- A number represents a count: both are the same, or past every path length.
 abbrev pub IsStandingFor : ℕ → ℕ → Type 0
 IsStandingFor number count = min number 256 ≡ min count 256
 
--- The parent may have issued the child, where so many stand between the parent and the end of the
--- path.
+-- The parent may have issued the child, with this number of certificates between the parent and the
+-- end of the path.
 pub record IsLink (judge : Judge) (w : Window) (number : ℕ)
     (parent child : CertificateElements) : Type 0 where
   pub authority : HasCa parent true
@@ -75,7 +75,7 @@ pub record IsLink (judge : Judge) (w : Window) (number : ℕ)
 
 -- ---- rules, by what breaks them
 
--- the error tells of this certificate, by the name of its subject, for a cause that breaks the rule
+-- the error reports this certificate, by the name of its subject, for a cause that breaks the rule
 pub record IsToldOf (kept : KeptCertificate) (rule : Rule CertCause) (e : CertError) : Type 0 where
   pub cause : CertCause
   pub id : DirectoryName
@@ -90,7 +90,7 @@ pub record IsNoAuthority (parent : KeptCertificate) (e : CertError) : Type 0 whe
   pub name : IsNameOf parent id
   pub told : e ≡ errors.InvalidChain (chain.IssuerIsNotCA id)
 
--- more stand between the parent and the end of the path than its path length allows
+-- more are between the parent and the end of the path than its path length allows
 pub record IsTooDeep (number : ℕ) (parent : KeptCertificate) (e : CertError) : Type 0 where
   pub id : DirectoryName
   pub limit : ℕ
@@ -107,7 +107,7 @@ IsOutside w kept = IsToldOf kept (IsFirstBroken (window_rules w kept.elements))
 abbrev pub IsNoParent : (parent child : KeptCertificate) → Rule CertError
 IsNoParent parent child e = RefusesParent parent child e × (e ≢ errors.Memory)
 
--- the algorithm beside what is signed is none that is known
+-- the signature algorithm outside the TBSCertificate isn't known
 pub record IsUnsupported (child : KeptCertificate) (e : CertError) : Type 0 where
   pub id : AlgorithmIdentifier
   pub beside : HasAlgorithm child.elements id
@@ -120,7 +120,7 @@ abbrev pub signature_refusal : SignatureError → CertError
 signature_refusal signature_errors.Memory = errors.Memory
 signature_refusal source = errors.Signature source
 
--- the signature is refused, and the cause has why
+-- the signature is refused, and the error has the cause
 pub record IsBadlySignedLink (judge : Judge) (parent child : CertificateElements)
     (cause : CertCause) : Type 0 where
   pub algorithm : SignatureAlgorithm

@@ -1,5 +1,5 @@
--- Which certificate may be the parent of another, by what both say of names and keys (RFC 5280
--- 4.2.1.1, 6.1.3).
+-- Which certificate may be the parent of another, by names and key identifiers (RFC 5280 4.2.1.1,
+-- 6.1.3).
 use Rattle.std.specs.Prelude.{◌≡◌, ◌≢◌, ⊤, ℕ, List}
 use Rattle.names_core.specs.Names.{sets_of}
 use Rattle.names_core.specs.declared.name.DirectoryName.{DirectoryName}
@@ -16,8 +16,8 @@ use Rattle.x509_core.specs.declared.error.ExtName.TheVariants as names
 use Rattle.x509_core.specs.declared.key_link.KeyLink.{KeyLink}
 use Rattle.x509_core.specs.declared.key_link.KeyLink.TheVariants as links
 
--- where the child names the key of its authority by an identifier, the key of the parent has that
--- identifier (RFC 5280 4.2.1.1)
+-- the authority key identifier of the child, if any, is the subject key identifier of the parent
+-- (RFC 5280 4.2.1.1)
 abbrev pub AgreeByKey : (parent child : CertificateElements) → Type 0
 AgreeByKey parent child = (key : List ℕ) → HasAuthorityKey child key → HasSubjectKey parent key
 
@@ -25,43 +25,43 @@ AgreeByKey parent child = (key : List ℕ) → HasAuthorityKey child key → Has
 abbrev pub AgreeByName : (parent child : CertificateElements) → Type 0
 AgreeByName parent child = child.tbs.issuer ≡ parent.tbs.subject
 
--- Names and key identifiers are those of a link of a chain.
+-- Names and key identifiers agree, as in a link of a chain.
 pub record AgreeByKeyAndName (parent child : CertificateElements) : Type 0 where
   pub key : AgreeByKey parent child
   pub name : AgreeByName parent child
 
--- The child names a key by an identifier, and the parent's has none.
+-- The child has an authority key identifier, and the parent no subject key identifier.
 pub record LacksKey (parent child : CertificateElements) : Type 0 where
   pub key : List ℕ
   pub named : HasAuthorityKey child key
   pub none : (key : List ℕ) → HasSubjectKey parent key → ⊥
 
--- The child names a key by one identifier, and the parent's has another.
+-- The authority key identifier of the child isn't the subject key identifier of the parent.
 pub record DifferByKey (parent child : CertificateElements)
     (expected actual : List ℕ) : Type 0 where
   pub named : HasAuthorityKey child expected
   pub had : HasSubjectKey parent actual
   pub other : expected ≢ actual
 
--- how the two identifiers stand to one another
+-- how the two identifiers relate
 abbrev pub IsKeyLink : (parent child : CertificateElements) → KeyLink → Type 0
 IsKeyLink parent child links.Agree = AgreeByKey parent child
 IsKeyLink parent child links.Missing = LacksKey parent child
 IsKeyLink parent child (links.Differ expected actual) =
     DifferByKey parent child expected.now actual.now
 
--- a certificate is told by the name of its subject
+-- errors name a certificate by its subject
 abbrev pub IsNameOf : KeptCertificate → DirectoryName → Type 0
 IsNameOf kept id = sets_of id ≡ kept.certificate.tbs_certificate.subject
 
--- The error tells of this certificate, for this cause, or of want of memory.
+-- The error reports this certificate with this cause, or out of memory.
 abbrev pub IsInvalid : KeptCertificate → CertCause → CertError → Type 0
 IsInvalid kept cause (errors.InvalidCertificate id source) = IsNameOf kept id × (source ≡ cause)
 IsInvalid kept cause errors.Memory = ⊤
 IsInvalid kept cause e = ⊥
 
--- The error tells of this certificate that it names one key and its parent has another, or of want
--- of memory.
+-- The error reports that this certificate expects one key identifier and its parent has another, or
+-- out of memory.
 abbrev pub IsOtherKey : KeptCertificate → (expected actual : List ℕ) → CertError → Type 0
 IsOtherKey kept expected actual =
     IsInvalid kept (causes.InvalidChain (chain.AuthorityKeyIdMismatch expected actual))
@@ -74,7 +74,7 @@ pub record DifferByName (parent child : KeptCertificate)
   pub expected_is : sets_of expected ≡ child.certificate.tbs_certificate.issuer
   pub actual_is : sets_of actual ≡ parent.certificate.tbs_certificate.subject
 
--- expected is what the child names, actual what the parent has
+-- `expected` is what the child has, `actual` what the parent has
 abbrev pub RefusesChain : (parent child : KeptCertificate) → CaChainError → Type 0
 RefusesChain parent child (chain.TooDeep id length) = ⊥
 RefusesChain parent child chain.NoRoot = ⊥
@@ -84,8 +84,7 @@ RefusesChain parent child (chain.AuthorityKeyIdMismatch expected actual) =
 RefusesChain parent child (chain.IssuerNameMismatch expected actual) =
     DifferByName parent child expected actual
 
--- of the parent it is told that it has no key identifier, of the child that one or the other
--- doesn't agree
+-- the parent is reported if it has no key identifier, the child if one or the other doesn't agree
 abbrev pub RefusesLink : (parent child : KeptCertificate) → DirectoryName → CertCause → Type 0
 RefusesLink parent child id (causes.ExtensionNotFound name) =
     IsNameOf parent id × (name ≡ names.SubjectKeyIdentifier)
@@ -94,7 +93,7 @@ RefusesLink parent child id (causes.InvalidChain source) =
     IsNameOf child id × RefusesChain parent child source
 RefusesLink parent child id cause = ⊥
 
--- why one certificate isn't the parent of another
+-- why a certificate isn't the parent of another
 abbrev pub RefusesParent : (parent child : KeptCertificate) → CertError → Type 0
 RefusesParent parent child (errors.InvalidCertificate id source) =
     RefusesLink parent child id source

@@ -1,5 +1,5 @@
--- What the elements of a certificate say of its key, beside the values of its first extensions (RFC
--- 5280 4.2.1.1, 4.2.1.2, 4.2.1.9).
+-- The fields of a certificate about its key, in its elements and in its first extensions (RFC 5280
+-- 4.2.1.1, 4.2.1.2, 4.2.1.9).
 use Rattle.std.specs.Prelude.{◌≡◌, ◌↔◌, ℕ, Bool, List, Some}
 use Rattle.asn1_types.specs.declared.oids.TheConstants.{CE_SUBJECT_KEY_IDENTIFIER, CE_BASIC_CONSTRAINTS, CE_AUTHORITY_KEY_IDENTIFIER}
 use Rattle.extension_types.specs.AuthorityKeyIdentifier.{key_identifier_of}
@@ -14,7 +14,7 @@ use Rattle.x509_types.specs.declared.extension.Extension.{Extension}
 use Rattle.x509_types.specs.declared.extension.view.ExtensionView.TheVariants as views
 use Rattle.x509_core.specs.FirstValue.{HasFirst}
 
--- The first key identifier of an authority names its key by this one.
+-- The first authority key identifier has this key identifier.
 pub record NamesKey (extensions : List Extension) (key : List ℕ) : Type 0 where
   pub value : AuthorityKeyIdentifier
   pub first : HasFirst CE_AUTHORITY_KEY_IDENTIFIER.now extensions
@@ -33,7 +33,7 @@ pub record HasLength (extensions : List Extension) (number : ℕ) : Type 0 where
   pub first : HasFirst CE_BASIC_CONSTRAINTS.now extensions (views.BasicConstraints value)
   pub limited : pathlen_of value ≡ Some number
 
--- What the elements say and what the value says is the same.
+-- The elements and the value agree.
 pub record SayTheSame (f : CertificateElements) (c : Certificate) : Type 0 where
   pub subject_key : (key : List ℕ)
       → HasSubjectKey f key

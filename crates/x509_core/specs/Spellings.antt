@@ -1,4 +1,4 @@
--- In what a certificate that is written anew may be another than the one that was read.
+-- How a certificate that is written anew may differ from the one that was read.
 use Rattle.std.specs.Prelude.{◌≡◌, ◌∷◌, None}
 use Rattle.der_core.specs.DerElement.{DerElement}
 use Rattle.der_core.specs.Each.{IsListOf}
@@ -26,8 +26,8 @@ without_extensions f = record {
   extensions = None;
 }
 
--- The fields of the value are the written ones, but for the spelling of its extensions, each at its
--- place.
+-- The fields of the value are the written ones, except for the encoding of its extensions, each at
+-- its index.
 pub record AreAsWritten (f : CertificateElements) (c : Certificate) : Type 0 where
   pub others : without_extensions f.tbs ≡ without_extensions (tbs_elements c.tbs_certificate)
   pub extensions : SpellsOption (IsListOf 0x30 IsSpelling) f.tbs.extensions
@@ -35,7 +35,7 @@ pub record AreAsWritten (f : CertificateElements) (c : Certificate) : Type 0 whe
   pub algorithm : f.algorithm ≡ algorithm_identifier c.signature_algorithm
   pub signature : f.unused ∷ f.signature ≡ bit_string_contents c.signature_value
 
--- The element of a certificate has its fields as they are written, but for that.
+-- The element of a certificate has its fields as written, except for that.
 pub record IsWrittenAlike (element : DerElement) (c : Certificate) : Type 0 where
   pub elements : CertificateElements
   pub is : element ≡ certificate_of elements

@@ -19,55 +19,54 @@ use Rattle.x509_core.specs.declared.window.DateCheck.{DateCheck}
 use Rattle.x509_core.specs.declared.window.DateCheck.TheVariants as dates
 use Rattle.x509_core.specs.declared.window.Window.{Window}
 
--- One moment lies before another: by the year, then the month, the day, the hour, the minute and
--- the second.
+-- One moment is before another: by year, month, day, hour, minute and second.
 abbrev pub IsEarlier : (a b : GeneralizedTime) → Type 0
 IsEarlier a b = slice_cmp nat_cmp (generalized_fields a) (generalized_fields b) ≡ Less
 
--- The element is that of a time, which is this moment.
+-- The element is a Time at this moment.
 pub record IsTimeAt (element : Option DerElement) (moment : GeneralizedTime) : Type 0 where
   pub time : Time
   pub is : element ≡ Some (time_element time)
   pub at : generalized_fields moment ≡ time_fields time
 
--- the validity of a certificate begins with this moment
+-- the validity of a certificate begins at this moment
 abbrev pub IsNotBefore : CertificateElements → GeneralizedTime → Type 0
 IsNotBefore f = IsTimeAt (not_before_of f)
 
--- the validity of a certificate ends with this moment
+-- the validity of a certificate ends at this moment
 abbrev pub IsNotAfter : CertificateElements → GeneralizedTime → Type 0
 IsNotAfter f = IsTimeAt (not_after_of f)
 
--- the first of the moments that are asked for, where a date or an interval is
+-- the first of the given moments, if a date or an interval is given
 abbrev pub earliest : DateCheck → Option GeneralizedTime
 earliest dates.Absent = None
 earliest (dates.Exact date) = Some date
 earliest (dates.Interval lower upper) = Some lower
 
--- the last of the moments that are asked for, where a date or an interval is
+-- the last of the given moments, if a date or an interval is given
 abbrev pub latest : DateCheck → Option GeneralizedTime
 latest dates.Absent = None
 latest (dates.Exact date) = Some date
 latest (dates.Interval lower upper) = Some upper
 
--- where it is asked for: not-before is at most the last moment
+-- if checked: not-before is at most the last moment
 abbrev pub HasBegun : Window → CertificateElements → Type 0
 HasBegun w f =
     IsTrue w.not_before → (not_before now : GeneralizedTime) → IsNotBefore f not_before
     → latest w.date ≡ Some now → IsEarlier now not_before → ⊥
 
--- where it is asked for: not-after is at least the first moment
+-- if checked: not-after is at least the first moment
 abbrev pub HasNotEnded : Window → CertificateElements → Type 0
 HasNotEnded w f =
     IsTrue w.not_after → (not_after now : GeneralizedTime) → IsNotAfter f not_after
     → earliest w.date ≡ Some now → IsEarlier not_after now → ⊥
 
--- The certificate is valid, as far as it is asked for. Where no date is, each one is.
+-- The certificate is valid, as far as that is checked. Without a date, each one is.
 pub record IsWithinWindow (w : Window) (f : CertificateElements) : Type 0 where
   pub begun : HasBegun w f
   pub lasts : HasNotEnded w f
 
--- The validity has ended by the first moment, as it is asked for.
+-- The validity has ended by the first moment, if checked.
 pub record HasEnded (w : Window) (f : CertificateElements)
     (not_after now : GeneralizedTime) : Type 0 where
   pub asked : IsTrue w.not_after
@@ -75,7 +74,7 @@ pub record HasEnded (w : Window) (f : CertificateElements)
   pub first : earliest w.date ≡ Some now
   pub passed : IsEarlier not_after now
 
--- A certificate is expired where its validity has begun and ended.
+-- A certificate is expired if its validity has begun and ended.
 abbrev pub IsExpired : Window → CertificateElements → Type 0
 IsExpired w f =
     HasBegun w f
@@ -83,7 +82,7 @@ IsExpired w f =
 
 -- ---- rules, by what breaks them
 
--- not-before is past the last moment
+-- not-before is after the last moment
 pub record IsNotYetValid (w : Window) (f : CertificateElements) (cause : CertCause) : Type 0 where
   pub not_before : GeneralizedTime
   pub now : GeneralizedTime

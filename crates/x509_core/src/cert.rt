@@ -1,4 +1,4 @@
-//! Certificates that are kept with their octets.
+//! Certificates stored with their octets.
 
 ghost use Rattle.std.specs.Prelude.{◌≡◌, ◌↔◌, ℕ, false, IsTrue, IfOk, Err, MatchResult};
 ghost use Rattle.der_core.specs.DerElement.{DerElement};
@@ -36,8 +36,8 @@ use std::alloc::{AllocError, Global};
 use std::marker::Model;
 use x509_types::{AlgorithmIdentifier, CertView, Certificate, Extension, Time};
 
-/// A certificate (RFC 5280 4.1), kept with its octets. Contracts see it as the elements that stand
-/// for its fields, and the value that they spell. Whether it is to be believed isn't asked of one.
+/// A certificate (RFC 5280 4.1), stored with its octets. Contracts see it as the elements of its
+/// fields and the value that they encode. A `Cert` isn't verified or trusted by itself.
 #[derive(Debug)]
 pub struct Cert {
     kept: Raw,
@@ -46,8 +46,8 @@ pub struct Cert {
     ghost fields: { HasFields kept.element (joined rest public_key) } by { HasFields-prop kept.element (joined rest public_key) },
 }
 
-/// Written out, so that dropping one is a call: else each function that drops one is proved through
-/// all its parts.
+/// By hand, so that dropping a certificate is a call: else each function that drops one is proved
+/// through all its parts.
 impl Drop for Cert {
     fn drop(self) {
         let Cert {
@@ -76,8 +76,8 @@ impl Model for Cert {
 }
 
 impl Cert {
-    /// The certificate that octets are, all of them, and nothing else. Octets that are no element,
-    /// or one of another structure, are refused as `Asn1Deserialization` without memory.
+    /// Reads a certificate from exactly its octets (RFC 5280 4.1). Octets that are no element, or
+    /// another structure, are refused as `Asn1Deserialization`, even when memory runs out.
     pub fn from_der(alloc: Global, der: &[u8]) -> Result<Cert, CertError>
         ensures kept { IfOk result (λ cert. kept_octets cert ≡ der.now) }
         ensures answer { MatchResult result
@@ -87,7 +87,7 @@ impl Cert {
         ensures faulty { (at : ℕ) (fault : DerFault) → IsExactFault der.now at fault
             → result ≡ Err (errors.Asn1Deserialization elements.Certificate
             (der_errors.Malformed (record { at = at; fault = fault }))) }
-        // An element that is that of no certificate is refused as such, even when memory runs out.
+        // An element that is no certificate is refused as such, even when memory runs out.
         ensures shapeless { (element : DerElement) → IsDer element → der.now ≡ encoding element
             → ((c : Certificate) → IsCertificate element c → ⊥)
             → result ≡ Err (errors.Asn1Deserialization elements.Certificate der_errors.Shape) }
@@ -98,7 +98,7 @@ impl Cert {
         }
     }
 
-    /// The certificate that octets are, tested before memory is asked for.
+    /// Reads a certificate. The octets are tested before anything is allocated.
     fn read(alloc: Global, der: &[u8]) -> Result<Cert, DerError>
         ensures kept { IfOk result (λ cert. kept_octets cert ≡ der.now) }
         ensures answer { MatchResult result
@@ -116,7 +116,7 @@ impl Cert {
         Cert::read_at(alloc, elem)
     }
 
-    /// The certificate that an element spells, with a copy of its octets.
+    /// The certificate that an element encodes, with a copy of its octets.
     fn read_at(alloc: Global, elem: Elem<'_>) -> Result<Cert, DerError>
         ensures kept { IfOk result (λ cert. certificate_of cert.elements ≡ elem.entry.is.0) }
         ensures answer { MatchResult result
@@ -128,7 +128,7 @@ impl Cert {
         Ok(Cert::keep(kept, certificate))
     }
 
-    /// The certificate that a kept element spells.
+    /// The certificate that a raw element encodes.
     fn keep(kept: Raw, certificate: Certificate) -> Cert
         requires { IsCertificate kept.element certificate }
         ensures { (certificate_of result.elements ≡ kept.element)
@@ -138,7 +138,7 @@ impl Cert {
         Cert::of_parts(kept, rest, public_key)
     }
 
-    /// The certificate that is kept in these parts.
+    /// The certificate with these parts.
     fn of_parts(kept: Raw, rest: Keyless, public_key: PublicKey) -> Cert
         requires { HasFields kept.element (joined rest public_key) }
         ensures { (certificate_of result.elements ≡ kept.element)
@@ -151,7 +151,7 @@ impl Cert {
         }
     }
 
-    /// The octets that are kept: those that were read, or written at first.
+    /// A copy of the octets, as they were read or first written.
     pub fn to_der(&self, alloc: Global) -> Result<Vec<u8>, CertError>
         ensures { MatchResult result (λ octets. octets.items ≡ kept_octets self.now)
             (λ e. e ≡ errors.Memory) }
@@ -159,15 +159,15 @@ impl Cert {
         Ok(Vec::from_slice(alloc, self.kept.as_bytes())?)
     }
 
-    /// The octets that are kept, where they lie. It takes no memory.
+    /// The octets, as they were read or first written, borrowed. It doesn't allocate.
     pub fn as_bytes(&self) -> &[u8]
         ensures { result.now ≡ kept_octets self.now }
     {
         self.kept.as_bytes()
     }
 
-    /// The certificate of a value, with the octets that are written for it. A value that has none
-    /// is refused as `Asn1Serialization`.
+    /// Makes a certificate from a value, with the value's encoding. A value without one is refused
+    /// as `Asn1Serialization`.
     pub fn from_certificate(alloc: Global, certificate: Certificate) -> Result<Cert, CertError>
         ensures { MatchResult result
             (λ cert. (kept_octets cert ≡ written_octets certificate)
@@ -180,7 +180,7 @@ impl Cert {
         }
     }
 
-    /// The value of the certificate. It takes no memory.
+    /// The value of the certificate. It doesn't allocate.
     pub fn into_certificate(self) -> Certificate
         ensures { result ≡ self.certificate }
     {
@@ -192,7 +192,7 @@ impl Cert {
         rest.join(public_key)
     }
 
-    /// The certificate where its octets lie. It takes no memory, and reads heads alone.
+    /// A borrowed view of the certificate. It doesn't allocate, and reads only tags and lengths.
     pub fn view(&self) -> CertView<'_>
         ensures is { IsKnownView (certificate_of self.now.elements) result }
         ensures elements { view_elements result ≡ self.now.elements }
@@ -200,28 +200,28 @@ impl Cert {
         CertView::of_known(self.kept.elem())
     }
 
-    /// The number that the issuer gave it (RFC 5280 4.1.2.2).
+    /// The serial number (RFC 5280 4.1.2.2).
     pub fn serial_number(&self) -> &IntegerAsn1
         ensures { result.now ≡ self.now.certificate.tbs_certificate.serial_number }
     {
         &self.rest.serial_number
     }
 
-    /// The algorithm of the signature, by what is signed (RFC 5280 4.1.2.3).
+    /// The signature algorithm in the TBSCertificate (RFC 5280 4.1.2.3).
     pub fn signature_algorithm(&self) -> &AlgorithmIdentifier
         ensures { result.now ≡ self.now.certificate.tbs_certificate.signature }
     {
         &self.rest.signature
     }
 
-    /// The algorithm of the signature, beside what is signed (RFC 5280 4.1.1.2).
+    /// The signature algorithm outside the TBSCertificate (RFC 5280 4.1.1.2).
     pub(crate) fn outer_algorithm(&self) -> &AlgorithmIdentifier
         ensures { result.now ≡ self.now.certificate.signature_algorithm }
     {
         &self.rest.signature_algorithm
     }
 
-    /// The moment from which on the certificate is valid (RFC 5280 4.1.2.5).
+    /// The first second of the validity (RFC 5280 4.1.2.5).
     pub fn valid_not_before(&self) -> UtcDate
         ensures { generalized_fields result
             ≡ time_fields self.now.certificate.tbs_certificate.validity.not_before }
@@ -229,7 +229,7 @@ impl Cert {
         date_of(&self.rest.validity.not_before)
     }
 
-    /// The moment up to which the certificate is valid (RFC 5280 4.1.2.5).
+    /// The last second of the validity (RFC 5280 4.1.2.5).
     pub fn valid_not_after(&self) -> UtcDate
         ensures { generalized_fields result
             ≡ time_fields self.now.certificate.tbs_certificate.validity.not_after }
@@ -237,7 +237,7 @@ impl Cert {
         date_of(&self.rest.validity.not_after)
     }
 
-    /// The extensions in order, none where the field is left out (RFC 5280 4.1.2.9).
+    /// The extensions in order, empty if the field is absent (RFC 5280 4.1.2.9).
     pub fn extensions(&self) -> &[Extension]
         ensures { result.now ≡ extensions_in self.now.certificate.tbs_certificate.extensions }
     {
@@ -247,7 +247,7 @@ impl Cert {
         }
     }
 
-    /// The key of the subject with its algorithm (RFC 5280 4.1.2.7).
+    /// The subject's key with its algorithm (RFC 5280 4.1.2.7).
     pub fn public_key(&self) -> &PublicKey
         ensures { info_of result.now
             ≡ self.now.certificate.tbs_certificate.subject_public_key_info }
@@ -255,7 +255,7 @@ impl Cert {
         &self.public_key
     }
 
-    /// The key of the subject with its algorithm. It takes no memory.
+    /// The subject's key with its algorithm (RFC 5280 4.1.2.7). It doesn't allocate.
     pub fn into_public_key(self) -> PublicKey
         ensures { info_of result ≡ self.certificate.tbs_certificate.subject_public_key_info }
     {
@@ -267,7 +267,7 @@ impl Cert {
         public_key
     }
 
-    /// The name of the subject (RFC 5280 4.1.2.6).
+    /// The subject's name (RFC 5280 4.1.2.6).
     pub fn subject_name(&self, alloc: Global) -> Result<DirectoryName, AllocError>
         ensures { IfOk result
             (λ copy. sets_of copy ≡ self.now.certificate.tbs_certificate.subject) }
@@ -275,14 +275,14 @@ impl Cert {
         Ok(DirectoryName::from(self.rest.subject.try_clone(alloc)?))
     }
 
-    /// The name of the issuer (RFC 5280 4.1.2.4).
+    /// The issuer's name (RFC 5280 4.1.2.4).
     pub fn issuer_name(&self, alloc: Global) -> Result<DirectoryName, AllocError>
         ensures { IfOk result (λ copy. sets_of copy ≡ self.now.certificate.tbs_certificate.issuer) }
     {
         Ok(DirectoryName::from(self.rest.issuer.try_clone(alloc)?))
     }
 
-    /// A copy of the value.
+    /// A copy of the certificate.
     pub fn try_clone(&self, alloc: Global) -> Result<Cert, AllocError>
         ensures { IfOk result (λ copy. copy ≡ self.now) }
     {
@@ -293,7 +293,7 @@ impl Cert {
     }
 }
 
-/// Whether the element spells a certificate.
+/// Whether the element encodes a certificate.
 fn is_certificate(elem: Elem<'_>) -> bool
     ensures fits { IsTrue result → Fits IsCertificate elem.entry.is.0 }
     ensures unfit { result ≡ false → (c : Certificate) → IsCertificate elem.entry.is.0 c → ⊥ }
@@ -301,7 +301,7 @@ fn is_certificate(elem: Elem<'_>) -> bool
     CertView::read(elem).is_some()
 }
 
-/// The element that is written for a certificate, kept with its octets.
+/// The encoding of a certificate.
 fn written(alloc: Global, certificate: &Certificate) -> Result<Raw, DerError>
     ensures { MatchResult result
         (λ raw. (encoding raw.element ≡ written_octets certificate.now)
@@ -312,7 +312,7 @@ fn written(alloc: Global, certificate: &Certificate) -> Result<Raw, DerError>
     Raw::from_tree(alloc, &tree)
 }
 
-/// The moment of a time in either form.
+/// The date of a Time in either form.
 fn date_of(time: &Time) -> UtcDate
     ensures { generalized_fields result ≡ time_fields time.now }
 {

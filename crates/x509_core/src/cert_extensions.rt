@@ -1,5 +1,4 @@
-//! What the extensions of a certificate say of its key. Of several extensions of one identifier the
-//! first counts.
+//! Extensions of a certificate about its key. Of several with one OID the first counts.
 
 ghost use Rattle.std.specs.Prelude.{MatchOption, MatchResult};
 ghost use Rattle.asn1_types.specs.declared.oids.TheConstants.{CE_SUBJECT_KEY_IDENTIFIER, CE_BASIC_CONSTRAINTS, CE_AUTHORITY_KEY_IDENTIFIER};
@@ -17,8 +16,8 @@ use der_core::is_same;
 use x509_types::{AuthorityKeyIdentifier, BasicConstraints, Extension, ExtensionView};
 
 impl Cert {
-    /// The identifier of the key of the subject (RFC 5280 4.2.1.2), `ExtensionNotFound` exactly
-    /// where there is no such extension. It takes no memory.
+    /// The subject key identifier (RFC 5280 4.2.1.2), `ExtensionNotFound` exactly where there is no
+    /// such extension. It doesn't allocate.
     pub fn subject_key_identifier(&self) -> Result<&[u8], CertError>
         ensures { MatchResult result
             (λ key. HasFirst CE_SUBJECT_KEY_IDENTIFIER.now
@@ -38,8 +37,8 @@ impl Cert {
         }
     }
 
-    /// Which key the issuer signs with (RFC 5280 4.2.1.1), `ExtensionNotFound` exactly where there
-    /// is no such extension. It takes no memory.
+    /// The authority key identifier (RFC 5280 4.2.1.1), `ExtensionNotFound` exactly where there is
+    /// no such extension. It doesn't allocate.
     pub fn authority_key_identifier(&self) -> Result<&AuthorityKeyIdentifier, CertError>
         ensures { MatchResult result
             (λ key. HasFirst CE_AUTHORITY_KEY_IDENTIFIER.now
@@ -59,8 +58,8 @@ impl Cert {
         }
     }
 
-    /// Whether the key is that of an authority, and how many may stand below it (RFC 5280 4.2.1.9),
-    /// `ExtensionNotFound` exactly where there is no such extension. It takes no memory.
+    /// The basic constraints (RFC 5280 4.2.1.9), `ExtensionNotFound` exactly where there is no such
+    /// extension. It doesn't allocate.
     pub fn basic_constraints(&self) -> Result<&BasicConstraints, CertError>
         ensures { MatchResult result
             (λ constraints. HasFirst CE_BASIC_CONSTRAINTS.now
@@ -81,7 +80,7 @@ impl Cert {
     }
 }
 
-/// The first extension of this identifier, by its contents octets.
+/// The first extension with this OID, given by its contents octets.
 fn first_with<'a>(extensions: &'a [Extension], oid: &[u8]) -> Option<&'a Extension>
     ensures { MatchOption result
         (NoneHas oid.now extensions.now)

@@ -1,4 +1,4 @@
-//! The kinds of certificates.
+//! The types of certificates.
 
 ghost use Rattle.x509_types.specs.CertificateView.{view_elements};
 ghost use Rattle.x509_core.specs.CertType.{IsOfType, IsAuthorityOf};
@@ -8,22 +8,21 @@ use crate::parent::names_agree;
 use crate::viewed::ViewedCert;
 use x509_types::CertView;
 
-/// What kind of certificate one is, by what it says of itself (RFC 5280 3.2, 4.2.1.9). Whether it
-/// is to be believed isn't asked.
+/// The type of a certificate by its own fields (RFC 5280 3.2, 4.2.1.9). Nothing is verified.
 #[derive(Clone, Copy, Debug, PartialEq, Eq, Hash)]
 pub enum CertType {
-    /// An authority's, whose subject is its issuer.
+    /// A CA certificate whose subject is its issuer.
     Root,
-    /// An authority's, whose subject is another than its issuer.
+    /// A CA certificate whose subject isn't its issuer.
     Intermediate,
-    /// One whose basic constraints say that it is no authority's.
+    /// A certificate whose basic constraints have the CA flag false.
     Leaf,
-    /// One without basic constraints, or whose constraints leave the flag out.
+    /// A certificate without basic constraints, or whose basic constraints leave the CA flag out.
     Unknown,
 }
 
 impl CertType {
-    /// The kind of a certificate where its octets lie.
+    /// The type of a borrowed certificate.
     pub fn of(view: CertView<'_>) -> CertType
         ensures { IsOfType (view_elements view.entry) result }
     {
@@ -34,7 +33,7 @@ impl CertType {
         }
     }
 
-    /// Whether an authority is a root.
+    /// The type of a CA certificate: root or intermediate.
     fn of_authority(view: CertView<'_>) -> CertType
         ensures { IsAuthorityOf (view_elements view.entry) result }
     {
@@ -47,7 +46,7 @@ impl CertType {
 }
 
 impl Cert {
-    /// The kind of the certificate. It takes no memory.
+    /// The type of the certificate. It doesn't allocate.
     pub fn ty(&self) -> CertType
         ensures { IsOfType self.now.elements result }
     {
@@ -56,7 +55,7 @@ impl Cert {
 }
 
 impl ViewedCert<'_> {
-    /// The kind of the certificate.
+    /// The type of the certificate.
     pub fn ty(&self) -> CertType
         ensures { IsOfType self.now.cert.now.elements result }
     {

@@ -1,4 +1,4 @@
-//! Laws on chains of certificates.
+//! Laws on certificate chains.
 
 ghost use Rattle.std.specs.Prelude.{◌≡◌, ◌↔◌, ℕ, List, Option};
 ghost use Rattle.asn1_types.specs.declared.generalized_time.GeneralizedTime.{GeneralizedTime};
@@ -15,9 +15,10 @@ ghost use Rattle.x509_core.specs.declared.error.CertError.{CertError};
 ghost use Rattle.x509_core.specs.declared.validator.ChainChecks.{ChainChecks};
 ghost use Rattle.x509_core.specs.declared.window.Window.{Window};
 
-/// What is valid breaks no rule of windows, what is a link none of links, and what is accepted none
-/// of chains. So `Window::expect_valid` answers Ok exactly there, and `Cert::expect_link` and
-/// `CertValidator::verify` do, out of memory aside. What has expired is told so, and nothing else.
+/// A valid certificate breaks no rule of windows, a link none of links, an accepted certificate
+/// none of chains. So `Window::expect_valid` returns Ok exactly there, and so do
+/// `Cert::expect_link` and `CertValidator::verify`, out of memory aside. An expired certificate is
+/// reported as expired, and as nothing else.
 pub fn chains_break_no_rule()
     ensures window { (w : Window) (f : CertificateElements) (cause : CertCause)
         → IsWithinWindow w f → IsFirstBroken (window_rules w f) cause → ⊥ }
@@ -35,8 +36,8 @@ pub fn chains_break_no_rule()
         → IsFirstBroken (chain_rules judge checks checked given) e → ⊥ }
 {}
 
-/// At most one error tells of the first broken rule of windows, of links and of chains. So
-/// `Window::expect_valid`, `Cert::expect_link` and `CertValidator::verify` have one answer, want of
+/// At most one error reports the first broken rule of windows, of links and of chains. So
+/// `Window::expect_valid`, `Cert::expect_link` and `CertValidator::verify` have one outcome, out of
 /// memory aside.
 pub fn chains_have_one_answer()
     ensures window { (w : Window) (f : CertificateElements) (a b : CertCause)

@@ -1,4 +1,4 @@
-//! Why a request isn't read, written, accepted or made.
+//! Errors of certification requests.
 
 ghost use Rattle.std.specs.Prelude.{◌≡◌, Some};
 ghost use Rattle.x509_core.specs.CsrErrorText.{csr_error_text};
@@ -10,18 +10,18 @@ use std::alloc::{AllocError, AllocFailed};
 use std::fmt;
 use thiserror::Error;
 
-/// Why a request isn't read, written, accepted or made. No other variant comes with want of memory.
+/// Why a request isn't read, written, accepted or made. Out of memory is always `Memory`.
 #[derive(Debug, Drop, Error)]
 pub enum CsrError {
     /// The value has no encoding: it is nested too deep, or some contents are too long.
     Asn1Serialization { element: Element, source: DerError },
-    /// The octets are no element, or one of another structure.
+    /// The octets are no element, or another structure.
     Asn1Deserialization { element: Element, source: DerError },
     /// The signature isn't accepted, or isn't made.
     Signature { source: SignatureError },
     /// The private key has no public key.
     PrivateKeyToPublicKey { source: KeyError },
-    /// No memory was left.
+    /// Out of memory.
     Memory,
 }
 

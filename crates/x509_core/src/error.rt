@@ -1,5 +1,4 @@
-//! Why a certificate isn't read, written or made, lacks an extension, isn't valid, or isn't one of
-//! a chain.
+//! Errors of certificates and of chains.
 
 ghost use Rattle.std.specs.Prelude.{◌≡◌, ◌++◌, Some, codes};
 ghost use Rattle.std.specs.Fmt.{WritesOnOk};
@@ -15,15 +14,15 @@ use std::alloc::{AllocError, AllocFailed};
 use std::fmt;
 use thiserror::Error;
 
-/// Why a certificate isn't read, written or made, lacks an extension, isn't valid, or isn't one of
+/// Why a certificate isn't read, written or made, lacks an extension, isn't valid, or isn't part of
 /// a chain.
 #[derive(Debug, Error)]
 pub enum CertError {
-    /// A certificate isn't made, for what is told.
+    /// A certificate isn't made, for this cause.
     CertGeneration {
         source: CertCause,
     },
-    /// A certificate, told by the name of its subject, isn't what it has to be.
+    /// The certificate with this subject is refused, for this cause.
     InvalidCertificate {
         id: DirectoryName,
         source: CertCause,
@@ -34,24 +33,24 @@ pub enum CertError {
         element: Element,
         source: DerError,
     },
-    /// The octets are no element, or one of another structure. Never wraps `Memory`.
+    /// The octets are no element, or another structure. Never wraps `Memory`.
     Asn1Deserialization {
         element: Element,
         source: DerError,
     },
-    /// The algorithm of a signature isn't known, or has no identifier. Never wraps `Memory`.
+    /// The signature algorithm isn't known, or has no OID. Never wraps `Memory`.
     Signature {
         source: SignatureError,
     },
-    /// A key has no identifier. Never wraps `Memory`.
+    /// A key has no key identifier. Never wraps `Memory`.
     KeyIdGen {
         source: KeyIdGenError,
     },
-    /// Certificates are no chain.
+    /// The certificates are no chain.
     InvalidChain {
         source: CaChainError,
     },
-    /// The request isn't accepted that a certificate is to be made from. Never wraps `Memory`.
+    /// The request that a certificate was to be made from isn't accepted. Never wraps `Memory`.
     InvalidCsr {
         source: CsrError,
     },
@@ -59,16 +58,16 @@ pub enum CertError {
     ExtensionNotFound {
         name: ExtName,
     },
-    /// What is asked for needs this, and it wasn't given.
+    /// This argument is required, and wasn't given.
     MissingBuilderArgument {
         arg: Arg,
     },
-    /// The validity of the certificate begins after the moment that is asked for.
+    /// The validity of the certificate begins after `now`.
     CertificateNotYetValid {
         not_before: UtcDate,
         now: UtcDate,
     },
-    /// The validity of the certificate ended before the moment that is asked for.
+    /// The validity of the certificate ended before `now`.
     CertificateExpired {
         not_after: UtcDate,
         now: UtcDate,
@@ -77,12 +76,12 @@ pub enum CertError {
     PrivateKeyToPublicKey {
         source: KeyError,
     },
-    /// No memory was left.
+    /// Out of memory.
     Memory,
 }
 
-/// Written out, so that dropping one is a call: else each function that drops one is proved through
-/// all its parts.
+/// By hand, so that dropping an error is a call: else each function that drops one is proved
+/// through all its parts.
 impl Drop for CertError {
     fn drop(self) {
         match self {
@@ -119,44 +118,44 @@ impl Drop for CertError {
     }
 }
 
-/// What a certificate is refused for, or not made, each as the `CertError` of its name.
+/// Why a certificate is refused or not made, each like the `CertError` of the same name.
 #[derive(Debug, Drop, Error)]
 pub enum CertCause {
     /// The value has no encoding: it is nested too deep, or some contents are too long. Never wraps
     /// `Memory`.
     Asn1Serialization { element: Element, source: DerError },
-    /// The signature of the certificate isn't one by the key of its parent, or isn't made. Never
-    /// wraps `Memory`.
+    /// The signature of the certificate isn't one by its parent's key, or isn't made. Never wraps
+    /// `Memory`.
     Signature { source: SignatureError },
-    /// A key has no identifier. Never wraps `Memory`.
+    /// A key has no key identifier. Never wraps `Memory`.
     KeyIdGen { source: KeyIdGenError },
-    /// Certificates are no chain.
+    /// The certificates are no chain.
     InvalidChain { source: CaChainError },
     /// The certificate has no extension of this name.
     ExtensionNotFound { name: ExtName },
-    /// The validity of the certificate begins after the moment that is asked for.
+    /// The validity of the certificate begins after `now`.
     CertificateNotYetValid { not_before: UtcDate, now: UtcDate },
-    /// The validity of the certificate ended before the moment that is asked for.
+    /// The validity of the certificate ended before `now`.
     CertificateExpired { not_after: UtcDate, now: UtcDate },
 }
 
 /// Why certificates are no chain.
 #[derive(Debug, Drop, Error)]
 pub enum CaChainError {
-    /// More certificates stand between this one and the end of the path than its path length allows
+    /// More certificates are between this one and the end of the path than its path length allows
     /// (RFC 5280 4.2.1.9).
     TooDeep {
         cert_id: DirectoryName,
         pathlen: u8,
     },
-    /// The last certificate is no root.
+    /// The last certificate isn't a root.
     NoRoot,
-    /// The parent isn't the certificate of an authority (RFC 5280 4.2.1.9).
+    /// The parent isn't a CA certificate (RFC 5280 4.2.1.9).
     IssuerIsNotCA {
         issuer_id: DirectoryName,
     },
-    /// The certificate names another key as its authority's than the parent's (RFC 5280 4.2.1.1):
-    /// `expected` is the identifier that the certificate names, `actual` the parent's own.
+    /// The authority key identifier of the certificate, `expected`, isn't the subject key
+    /// identifier of the parent, `actual` (RFC 5280 4.2.1.1).
     AuthorityKeyIdMismatch {
         expected: Octets,
         actual: Octets,
@@ -169,7 +168,7 @@ pub enum CaChainError {
     },
 }
 
-/// An extension that is asked for by name.
+/// An extension, as errors name it.
 #[derive(Clone, Copy, Debug, PartialEq, Eq)]
 pub enum ExtName {
     SubjectKeyIdentifier,
@@ -177,27 +176,27 @@ pub enum ExtName {
     BasicConstraints,
 }
 
-/// What is handed to a validator, or to one who makes a certificate.
+/// An argument of a validator or a builder.
 #[derive(Clone, Copy, Debug, PartialEq, Eq)]
 pub enum Arg {
     /// The date, or the interval.
     Now,
     /// The parents.
     Chain,
-    /// The first moment of the validity.
+    /// The first second of the validity.
     ValidFrom,
-    /// The last one.
+    /// The last second of the validity.
     ValidTo,
     /// The name and the key of the issuer.
     IssuerInfos,
-    /// The identifier of the issuer's key.
+    /// The authority key identifier.
     AuthorityKeyIdentifier,
     /// The name and the key of the subject, or a request.
     SubjectInfos,
 }
 
 impl CertError {
-    /// The error of octets that aren't read as the structure: want of memory as such, any other
+    /// The error for octets that aren't read as the structure: out of memory as such, any other
     /// cause with the structure.
     pub fn unread(element: Element, source: DerError) -> CertError
         ensures { result ≡ unread element source }
@@ -208,7 +207,7 @@ impl CertError {
         }
     }
 
-    /// The error of a value that isn't written as the structure: want of memory as such, any other
+    /// The error for a value that isn't written as the structure: out of memory as such, any other
     /// cause with the structure.
     pub fn unwritten(element: Element, source: DerError) -> CertError
         ensures { result ≡ unwritten element source }
@@ -287,7 +286,7 @@ fn write_key_mismatch<W: fmt::Write>(
     f.write_str(")")
 }
 
-/// The text of certificates that are no chain.
+/// The text of `InvalidChain`.
 fn write_chain<W: fmt::Write>(source: &CaChainError, f: &mut fmt::Formatter<W>) -> fmt::Result
     ensures { WritesOnOk W.write_str_gives f.old result
         (codes "CA chain error: " ++ chain_error_text source.now) f.new }
@@ -295,7 +294,7 @@ fn write_chain<W: fmt::Write>(source: &CaChainError, f: &mut fmt::Formatter<W>) 
     write!(f, "CA chain error: {source}")
 }
 
-/// The text of an extension that isn't there.
+/// The text of `ExtensionNotFound`.
 fn write_not_found<W: fmt::Write>(name: ExtName, f: &mut fmt::Formatter<W>) -> fmt::Result
     ensures { WritesOnOk W.write_str_gives f.old result
         (codes "extension not found: " ++ extension_text name) f.new }
@@ -303,7 +302,7 @@ fn write_not_found<W: fmt::Write>(name: ExtName, f: &mut fmt::Formatter<W>) -> f
     write!(f, "extension not found: {name}")
 }
 
-/// The text of a validity that hasn't begun.
+/// The text of `CertificateNotYetValid`.
 fn write_not_yet_valid<W: fmt::Write>(
     not_before: &UtcDate,
     now: &UtcDate,
@@ -318,7 +317,7 @@ fn write_not_yet_valid<W: fmt::Write>(
     )
 }
 
-/// The text of a validity that has ended.
+/// The text of `CertificateExpired`.
 fn write_expired<W: fmt::Write>(
     not_after: &UtcDate,
     now: &UtcDate,

@@ -1,4 +1,4 @@
-//! The names of errors of certificates, as a program reports them.
+//! The names of certificate errors, as a program prints them.
 
 ghost use Rattle.std.specs.Prelude.{◌≡◌, ◌++◌, IfOk, codes, string_bytes};
 ghost use Rattle.x509_core.specs.ErrorName.{cause_name, cert_error_name, chain_error_name};
@@ -7,8 +7,8 @@ use crate::error::{CaChainError, CertCause, CertError};
 use std::alloc::{AllocError, Global};
 
 impl CertError {
-    /// The name of the variant. Behind that of `InvalidCertificate` and that of `InvalidChain`
-    /// stand a colon and the name of what each holds.
+    /// The name of the variant. For `InvalidCertificate` and `InvalidChain` a colon and the name of
+    /// the wrapped error follow.
     pub fn name(&self, alloc: Global) -> Result<String, AllocError>
         ensures { IfOk result (λ name. string_bytes name ≡ cert_error_name self.now) }
     {
@@ -37,7 +37,7 @@ impl CertError {
     }
 }
 
-/// The name of what a certificate is refused for, behind that of the refusal.
+/// The name of `InvalidCertificate` with that of its cause.
 fn named_certificate(alloc: Global, cause: &CertCause) -> Result<String, AllocError>
     ensures { IfOk result
         (λ name. string_bytes name ≡ codes "InvalidCertificate:" ++ cause_name cause.now) }
@@ -45,7 +45,7 @@ fn named_certificate(alloc: Global, cause: &CertCause) -> Result<String, AllocEr
     format!(in alloc; "InvalidCertificate:{}", cause.name(alloc)?)
 }
 
-/// The name of why certificates are no chain, behind that of the refusal.
+/// The name of `InvalidChain` with that of its cause.
 fn named_chain(alloc: Global, error: &CaChainError) -> Result<String, AllocError>
     ensures { IfOk result
         (λ name. string_bytes name ≡ codes "InvalidChain:" ++ chain_error_name error.now) }
@@ -54,7 +54,7 @@ fn named_chain(alloc: Global, error: &CaChainError) -> Result<String, AllocError
 }
 
 impl CertCause {
-    /// The name of the variant, that of `InvalidChain` with the name of what it holds.
+    /// The name of the variant, for `InvalidChain` with that of its cause.
     fn name(&self, alloc: Global) -> Result<String, AllocError>
         ensures { IfOk result (λ name. string_bytes name ≡ cause_name self.now) }
     {

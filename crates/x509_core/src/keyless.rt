@@ -1,4 +1,4 @@
-//! The parts in which a certificate is kept.
+//! The parts that a certificate is stored in.
 
 ghost use Rattle.std.specs.Prelude.{◌≡◌, IfOk};
 ghost use Rattle.x509_core.specs.Keyless.{joined};
@@ -13,7 +13,7 @@ use x509_types::{
     Validity, Version,
 };
 
-/// A certificate but for the key of its subject, which is lent as a type of its own.
+/// A certificate without the subject's key, which `Cert` returns as a type of its own.
 #[derive(Debug)]
 pub(crate) struct Keyless {
     pub version: Option<Version>,
@@ -29,8 +29,8 @@ pub(crate) struct Keyless {
     pub signature_value: BitString,
 }
 
-/// Written out, so that dropping one is a call: else each function that drops one is proved through
-/// all its parts.
+/// By hand, so that dropping one is a call: else each function that drops one is proved through all
+/// its parts.
 impl Drop for Keyless {
     fn drop(self) {
         let Keyless {
@@ -50,7 +50,7 @@ impl Drop for Keyless {
 }
 
 impl Keyless {
-    /// Both parts of a certificate.
+    /// Splits a certificate into both parts.
     pub fn split(certificate: Certificate) -> (Keyless, PublicKey)
         ensures { joined result.0 result.1 ≡ certificate }
     {
@@ -87,7 +87,7 @@ impl Keyless {
         (rest, PublicKey::from(subject_public_key_info))
     }
 
-    /// The certificate of both parts.
+    /// The certificate with both parts.
     pub fn join(self, public_key: PublicKey) -> Certificate
         ensures { result ≡ joined self public_key }
     {
@@ -123,7 +123,7 @@ impl Keyless {
         }
     }
 
-    /// A copy of the value.
+    /// A copy of the part.
     pub fn try_clone(&self, alloc: Global) -> Result<Keyless, AllocError>
         ensures { IfOk result (λ copy. copy ≡ self.now) }
     {

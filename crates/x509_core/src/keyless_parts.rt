@@ -1,4 +1,4 @@
-//! The fields of a certificate but for its key in two parts, which are copied one after another.
+//! The fields of a certificate without its key, in two parts that are copied one after the other.
 
 ghost use Rattle.std.specs.Prelude.{◌≡◌, IfOk};
 ghost use Rattle.x509_core.specs.KeylessParts.{issued_fields, later_fields, keyless_of_parts};
@@ -20,7 +20,7 @@ pub(crate) struct IssuedFields {
     pub subject: Name,
 }
 
-/// What stands behind the key (RFC 5280 4.1.2.8, 4.1.2.9, 4.1.1.2, 4.1.1.3).
+/// The fields after the key (RFC 5280 4.1.2.8, 4.1.2.9, 4.1.1.2, 4.1.1.3).
 #[derive(Drop)]
 pub(crate) struct LaterFields {
     pub issuer_unique_id: Option<Octets>,
@@ -61,7 +61,7 @@ impl LaterFields {
     }
 }
 
-/// The fields of both parts.
+/// The fields from both parts.
 pub(crate) fn join(issued: IssuedFields, later: LaterFields) -> Keyless
     ensures { result ≡ keyless_of_parts issued later }
 {

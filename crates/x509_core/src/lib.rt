@@ -1,6 +1,6 @@
-//! Certificates: read from octets, kept with them, and asked for what a caller wants of one;
-//! whether one may be the parent of another, and whether some are a chain. Errors of requests for
-//! them.
+//! Certificates: reading them, stored with their octets, and access to their fields; whether one
+//! may be the parent of another, and whether some are a chain. The errors of certification
+//! requests.
 #![tactic(auto)]
 
 mod cert;

@@ -1,4 +1,4 @@
-//! Whether a certificate may have issued another, as one link of a chain.
+//! Whether a certificate may have issued another, as a link of a chain.
 
 ghost use Rattle.std.specs.Prelude.{◌≡◌, ◌↔◌, ◌<◌, ℕ, true, IsTrue, MatchResult, OnErr};
 ghost use Rattle.key_core.specs.SignatureAlgorithm.{NamesSignature};
@@ -20,13 +20,13 @@ use sig_core::Scheme;
 use std::alloc::Global;
 
 impl Cert {
-    /// Whether this certificate may have issued the other, where `number` certificates stand
-    /// between it and the end of the path (RFC 5280 6.1.3, 6.1.4). The first of these is answered
-    /// that doesn't hold: its CA flag is true, else `IssuerIsNotCA`; its path length, where it has
-    /// one, is at least the number, else `TooDeep`; it is valid; names and key identifiers agree
-    /// (`is_parent_of`); the algorithm of the signature is known, else `Signature`; the scheme
-    /// accepts the signature of the other over its octets as they are kept, else `Signature` of it.
-    /// No path length is more than 255, so a number past that stands for any.
+    /// Checks that this certificate may have issued the other, with `number` certificates between
+    /// it and the end of the path (RFC 5280 6.1.3, 6.1.4). The first rule that fails is returned:
+    /// the CA flag is true, else `IssuerIsNotCA`; the path length, if any, is at least the number,
+    /// else `TooDeep`; this certificate is valid; names and key identifiers agree (`is_parent_of`);
+    /// the signature algorithm is known, else `Signature`; the scheme accepts the other's signature
+    /// over its raw octets, else `Signature` of it. No path length is more than 255, so all larger
+    /// numbers are equivalent.
     pub fn expect_link<S: Scheme>(
         &self,
         alloc: Global,
@@ -43,19 +43,19 @@ impl Cert {
         parent.expect_link(alloc, &child, number, window, scheme)
     }
 
-    /// The certificate is valid (RFC 5280 6.1.3 (a) (2)), else `InvalidCertificate` of it with the
-    /// cause that the window tells (`Window::expect_valid`).
+    /// Checks that the certificate is valid (RFC 5280 6.1.3 (a) (2)), else `InvalidCertificate` of
+    /// it with the cause from the window (`Window::expect_valid`).
     pub fn expect_valid(&self, alloc: Global, window: &Window) -> Result<(), CertError>
         ensures answer { MatchResult result
             (λ _. IsWithinWindow window.now self.now.elements)
             (Breaks (IsOutside window.now self.now)) }
-        // What is valid is so even when memory runs out.
+        // A valid certificate is accepted even when memory runs out.
         ensures valid { OnErr result (IsWithinWindow window.now self.now.elements → ⊥) }
     {
         self.viewed().expect_valid(alloc, window)
     }
 
-    /// The certificate is none of an authority.
+    /// The error that this isn't a CA certificate.
     fn no_authority(&self, alloc: Global) -> CertError
         requires { HasCa self.now.elements true → ⊥ }
         ensures { Breaks (IsNoAuthority self.now) result }
@@ -68,7 +68,8 @@ impl Cert {
         }
     }
 
-    /// More certificates stand between it and the end of the path than the path length allows.
+    /// The error that more certificates are between it and the end of the path than its path length
+    /// allows.
     fn too_deep(&self, alloc: Global, pathlen: u8) -> CertError
         requires { HasPathLength self.now.elements pathlen }
         ensures { (count : ℕ) → pathlen < count → Breaks (IsTooDeep count self.now) result }
@@ -81,7 +82,7 @@ impl Cert {
         }
     }
 
-    /// The signature of the certificate is refused.
+    /// The error that the signature of the certificate is refused.
     fn badly_signed(&self, alloc: Global, source: SignatureError) -> CertError
         ensures memory { source ≡ signature_errors.Memory → result ≡ errors.Memory }
         ensures told { IsInvalid self.now (causes.Signature source) result }
@@ -93,9 +94,9 @@ impl Cert {
     }
 }
 
-/// The rules of a link, each asked of the views of its two certificates.
+/// The rules of a link, each checked on the views of its two certificates.
 impl ViewedCert<'_> {
-    /// Whether this certificate may have issued the child (`Cert::expect_link`).
+    /// Checks that this certificate may have issued the child (`Cert::expect_link`).
     pub fn expect_link<S: Scheme>(
         &self,
         alloc: Global,
@@ -118,7 +119,7 @@ impl ViewedCert<'_> {
         child.expect_signed_by(alloc, self, scheme)
     }
 
-    /// The certificate is that of an authority (RFC 5280 4.2.1.9).
+    /// Checks that this is a CA certificate (RFC 5280 4.2.1.9).
     fn expect_authority(&self, alloc: Global) -> Result<(), CertError>
         ensures { MatchResult result (λ _. HasCa self.now.cert.now.elements true)
             (Breaks (IsNoAuthority self.now.cert.now)) }
@@ -139,8 +140,8 @@ impl ViewedCert<'_> {
         }
     }
 
-    /// No more certificates stand between it and the end of the path than the path length allows
-    /// (RFC 5280 4.2.1.9).
+    /// Checks that no more certificates are between it and the end of the path than its path length
+    /// allows (RFC 5280 4.2.1.9).
     fn expect_deep_enough(&self, alloc: Global, number: u16) -> Result<(), CertError>
         ensures { (count : ℕ) → IsStandingFor number count → MatchResult result
             (λ _. IsDeepEnough count self.now.cert.now.elements)
@@ -155,7 +156,7 @@ impl ViewedCert<'_> {
         Err(self.cert.too_deep(alloc, pathlen))
     }
 
-    /// The certificate is valid (`Cert::expect_valid`).
+    /// Checks that the certificate is valid (`Cert::expect_valid`).
     pub fn expect_valid(&self, alloc: Global, window: &Window) -> Result<(), CertError>
         ensures answer { MatchResult result
             (λ _. IsWithinWindow window.now self.now.cert.now.elements)
@@ -168,7 +169,8 @@ impl ViewedCert<'_> {
         }
     }
 
-    /// The signature of the certificate is one by the key of the parent (RFC 5280 6.1.3 (a) (1)).
+    /// Checks that the signature of the certificate is one by the parent's key (RFC 5280 6.1.3 (a)
+    /// (1)).
     fn expect_signed_by<S: Scheme>(
         &self,
         alloc: Global,
@@ -187,8 +189,8 @@ impl ViewedCert<'_> {
         }
     }
 
-    /// The scheme accepts the signature of the certificate, by this algorithm and the key of the
-    /// parent.
+    /// Checks that the scheme accepts the signature of the certificate with this algorithm and the
+    /// parent's key.
     fn expect_accepted<S: Scheme>(
         &self,
         alloc: Global,
@@ -217,7 +219,7 @@ impl ViewedCert<'_> {
     }
 }
 
-/// Why the algorithm of a signature isn't known.
+/// The error for a signature algorithm that isn't known.
 fn signature_refusal(source: SignatureError) -> CertError
     ensures { result ≡ signature_refusal source }
 {

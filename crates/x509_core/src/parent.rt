@@ -12,7 +12,7 @@ use der_core::{Octets, is_same};
 use std::alloc::Global;
 use x509_types::CertView;
 
-/// Whether the issuer of the child is the subject of the parent, where their octets lie.
+/// Whether the issuer of the borrowed child is the subject of the borrowed parent.
 pub fn names_agree(parent: CertView<'_>, child: CertView<'_>) -> bool
     ensures { IsTrue result ↔ AgreeByName (view_elements parent.entry) (view_elements child.entry) }
 {
@@ -20,25 +20,24 @@ pub fn names_agree(parent: CertView<'_>, child: CertView<'_>) -> bool
 }
 
 impl Cert {
-    /// Whether the names and key identifiers of this certificate and `other` are those of a parent
-    /// and its child (RFC 5280 4.2.1.1, 6.1.3). Where `other` names the identifier of a key, it is
-    /// refused as `ExtensionNotFound` where this certificate has none, told of this one, and as
-    /// `AuthorityKeyIdMismatch` where it has another; then as `IssuerNameMismatch` where the issuer
-    /// of `other` isn't the subject of this one. Both mismatches are told of `other`. Signatures,
-    /// dates and flags aren't asked for.
+    /// Checks that this certificate is a parent of `other` by names and key identifiers (RFC 5280
+    /// 4.2.1.1, 6.1.3). If `other` has an authority key identifier and this certificate no subject
+    /// key identifier, this one is refused as `ExtensionNotFound`; if the two differ, `other` is
+    /// refused as `AuthorityKeyIdMismatch`; then `other` is refused as `IssuerNameMismatch` where
+    /// its issuer isn't the subject of this one. Neither signatures, dates nor flags are checked.
     pub fn is_parent_of(&self, alloc: Global, other: &Cert) -> Result<(), CertError>
         ensures answer { MatchResult result
             (λ _. AgreeByKeyAndName self.now.elements other.now.elements)
             (RefusesParent self.now other.now) }
-        // Whatever memory there is.
+        // However much memory there is.
         ensures accepted { AgreeByKeyAndName self.now.elements other.now.elements → result ≡ Ok tt }
     {
         let (parent, child) = (self.viewed(), other.viewed());
         parent.is_parent_of(alloc, &child)
     }
 
-    /// The issuer of the other certificate is the subject of this one, by whether their names
-    /// agree.
+    /// Checks that this certificate issued the other by name, where `agree` is whether their names
+    /// do.
     fn expect_issuer_of(&self, alloc: Global, other: &Cert, agree: bool) -> Result<(), CertError>
         requires { AgreeByKey self.now.elements other.now.elements
             × (IsTrue agree ↔ AgreeByName self.now.elements other.now.elements) }
@@ -57,7 +56,7 @@ impl Cert {
         Err(other.invalid(alloc, CertCause::InvalidChain { source }))
     }
 
-    /// The certificate names another identifier than that of its parent's key.
+    /// The error that the certificate's authority key identifier isn't its parent's key identifier.
     fn other_key(&self, alloc: Global, expected: &[u8], actual: &[u8]) -> CertError
         ensures { IsOtherKey self.now expected.now actual.now result }
     {
@@ -83,7 +82,7 @@ impl Cert {
 }
 
 impl ViewedCert<'_> {
-    /// Whether the names and key identifiers are those of a parent and its child
+    /// Checks that names and key identifiers are those of a parent and its child
     /// (`Cert::is_parent_of`).
     pub fn is_parent_of(&self, alloc: Global, child: &ViewedCert<'_>) -> Result<(), CertError>
         ensures answer { MatchResult result

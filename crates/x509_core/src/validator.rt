@@ -1,4 +1,4 @@
-//! Whether a certificate is accepted over its parents.
+//! Validating a certificate with its parents.
 
 ghost use Rattle.std.specs.Prelude.{◌≡◌, ◌≢◌, ◌↔◌, ℕ, List, Option, Some, None, true, false, IsTrue, IfSome, IfErr, map, MatchResult};
 ghost use Rattle.std.specs.Borrow.{Bor};
@@ -26,19 +26,19 @@ use sig_core::Scheme;
 use std::alloc::Global;
 use std::marker::PhantomData;
 
-/// What is asked of a certificate over its parents.
+/// What is checked of a certificate and its parents.
 #[derive(Clone, Copy, Debug, PartialEq, Eq)]
 pub struct ChainChecks {
-    /// What is asked of the validity of each certificate.
+    /// What is checked of the validity of each certificate.
     pub window: Window,
-    /// Whether the parents are looked at.
+    /// Whether the parents are checked.
     pub chain: bool,
-    /// Whether the last certificate has to be a root.
+    /// Whether the last certificate must be a root.
     pub root: bool,
 }
 
-/// Asks whether a certificate is accepted over its parents (RFC 5280 6.1). Whether the last one is
-/// trusted isn't asked. Of the setters of one kind the last call counts.
+/// Validates a certificate with its parents (RFC 5280 6.1). No trust anchor is checked. Of the
+/// setters of one kind the last call counts.
 #[derive(Drop)]
 pub struct CertValidator<'a, 'b, Chain: Iterator<Item = &'b Cert> + Drop> {
     cert: &'a Cert,
@@ -48,8 +48,7 @@ pub struct CertValidator<'a, 'b, Chain: Iterator<Item = &'b Cert> + Drop> {
 }
 
 impl Cert {
-    /// A validator that asks for the dates, the chain and a root, to which no date and no chain is
-    /// given.
+    /// A validator that checks the dates, the chain and the root, without a date or a chain yet.
     pub fn verifier<'a, 'b, Chain: Iterator<Item = &'b Cert> + Drop>(
         &'a self,
     ) -> CertValidator<'a, 'b, Chain>
@@ -75,7 +74,7 @@ impl Cert {
 }
 
 impl<'a, 'b, Chain: Iterator<Item = &'b Cert> + Drop> CertValidator<'a, 'b, Chain> {
-    /// The date at which certificates have to be valid. It takes the place of an interval.
+    /// The date at which certificates must be valid. It replaces an interval.
     pub fn exact_date(mut self, exact: &'a UtcDate) -> Self
         ensures checks { result.checks ≡ checks_at (dates.Exact exact.now) self.entry.checks }
         ensures rest { (result.chain ≡ self.entry.chain) × (result.cert.now ≡ self.entry.cert.now) }
@@ -83,8 +82,8 @@ impl<'a, 'b, Chain: Iterator<Item = &'b Cert> + Drop> CertValidator<'a, 'b, Chai
         self.at(DateCheck::Exact(*exact))
     }
 
-    /// The interval: certificates have to be valid already at its upper end and still at its lower
-    /// one. It takes the place of a date.
+    /// The interval: certificates must be valid already at its upper end and still at its lower
+    /// one. It replaces a date.
     pub fn interval_date(mut self, lower: &'a UtcDate, upper: &'a UtcDate) -> Self
         ensures checks { result.checks ≡ checks_at (dates.Interval lower.now upper.now)
             self.entry.checks }
@@ -96,7 +95,7 @@ impl<'a, 'b, Chain: Iterator<Item = &'b Cert> + Drop> CertValidator<'a, 'b, Chai
         })
     }
 
-    /// The moments at which certificates have to be valid.
+    /// The date or interval for which certificates must be valid.
     fn at(self, date: DateCheck) -> Self
         ensures checks { result.checks ≡ checks_at date self.entry.checks }
         ensures rest { (result.chain ≡ self.entry.chain) × (result.cert.now ≡ self.entry.cert.now) }
@@ -115,7 +114,7 @@ impl<'a, 'b, Chain: Iterator<Item = &'b Cert> + Drop> CertValidator<'a, 'b, Chai
         }
     }
 
-    /// The parents, that of the certificate first.
+    /// The parents, the certificate's own first.
     pub fn chain(mut self, chain: Chain) -> Self
         ensures chain { result.chain ≡ Some chain }
         ensures rest { (result.checks ≡ self.entry.checks)
@@ -125,7 +124,7 @@ impl<'a, 'b, Chain: Iterator<Item = &'b Cert> + Drop> CertValidator<'a, 'b, Chai
         self
     }
 
-    /// Whether the last certificate has to be a root.
+    /// Whether the last certificate must be a root.
     pub fn chain_should_contains_root_certificate(mut self, expected: bool) -> Self
         ensures checks { result.checks ≡ with_root expected self.entry.checks }
         ensures rest { (result.chain ≡ self.entry.chain) × (result.cert.now ≡ self.entry.cert.now) }
@@ -134,7 +133,7 @@ impl<'a, 'b, Chain: Iterator<Item = &'b Cert> + Drop> CertValidator<'a, 'b, Chai
         self
     }
 
-    /// Certificates have to be valid already.
+    /// Certificates must have begun to be valid.
     pub fn require_not_before_check(mut self) -> Self
         ensures checks { result.checks ≡ with_not_before true self.entry.checks }
         ensures rest { (result.chain ≡ self.entry.chain) × (result.cert.now ≡ self.entry.cert.now) }
@@ -143,7 +142,7 @@ impl<'a, 'b, Chain: Iterator<Item = &'b Cert> + Drop> CertValidator<'a, 'b, Chai
         self
     }
 
-    /// Certificates may be valid later.
+    /// Certificates may become valid later.
     pub fn ignore_not_before_check(mut self) -> Self
         ensures checks { result.checks ≡ with_not_before false self.entry.checks }
         ensures rest { (result.chain ≡ self.entry.chain) × (result.cert.now ≡ self.entry.cert.now) }
@@ -152,7 +151,7 @@ impl<'a, 'b, Chain: Iterator<Item = &'b Cert> + Drop> CertValidator<'a, 'b, Chai
         self
     }
 
-    /// Certificates have to be valid still.
+    /// Certificates must not have expired.
     pub fn require_not_after_check(mut self) -> Self
         ensures checks { result.checks ≡ with_not_after true self.entry.checks }
         ensures rest { (result.chain ≡ self.entry.chain) × (result.cert.now ≡ self.entry.cert.now) }
@@ -170,7 +169,7 @@ impl<'a, 'b, Chain: Iterator<Item = &'b Cert> + Drop> CertValidator<'a, 'b, Chai
         self
     }
 
-    /// The parents have to be a chain.
+    /// The parents must be a chain.
     pub fn require_chain_check(mut self) -> Self
         ensures checks { result.checks ≡ with_chain true self.entry.checks }
         ensures rest { (result.chain ≡ self.entry.chain) × (result.cert.now ≡ self.entry.cert.now) }
@@ -179,7 +178,7 @@ impl<'a, 'b, Chain: Iterator<Item = &'b Cert> + Drop> CertValidator<'a, 'b, Chai
         self
     }
 
-    /// The parents aren't looked at.
+    /// The parents are ignored.
     pub fn ignore_chain_check(mut self) -> Self
         ensures checks { result.checks ≡ with_chain false self.entry.checks }
         ensures rest { (result.chain ≡ self.entry.chain) × (result.cert.now ≡ self.entry.cert.now) }
@@ -188,18 +187,18 @@ impl<'a, 'b, Chain: Iterator<Item = &'b Cert> + Drop> CertValidator<'a, 'b, Chai
         self
     }
 
-    /// Whether the certificate is accepted over its parents (RFC 5280 6.1.3, 6.1.4). The first of
-    /// these is answered that doesn't hold: a date is given where a date is asked for, else
-    /// `MissingBuilderArgument`; the certificate is valid; where the chain is asked for, parents
-    /// are given, else `MissingBuilderArgument`; each parent may have issued the certificate before
-    /// it (`Cert::expect_link`); the last certificate is a root where that is asked for, else
-    /// `NoRoot`. Where the chain isn't asked for, its iterator isn't looked at; where the
-    /// certificate is accepted over a chain, or lacks a root, the iterator is walked to its end.
+    /// Validates the certificate with its parents (RFC 5280 6.1.3, 6.1.4). The first rule that
+    /// fails is returned: a date is given if dates are checked, else `MissingBuilderArgument`; the
+    /// certificate is valid; if the chain is checked, parents are given, else
+    /// `MissingBuilderArgument`; each parent may have issued the certificate before it
+    /// (`Cert::expect_link`); the last certificate is a root if that is checked, else `NoRoot`. If
+    /// the chain isn't checked, its iterator isn't used; if the certificate is accepted with a
+    /// chain, or lacks a root, the iterator is run to its end.
     pub fn verify<S: Scheme>(self, alloc: Global, scheme: &S) -> Result<(), CertError>
         requires can { IsTrue self.checks.chain → IfSome self.chain Chain.can_next }
         requires ends { IsTrue self.checks.chain
             → IfSome self.chain (λ chain. IsFinite (Chain.remaining chain)) }
-        // Of an iterator that gives one list on every run; where the chain isn't asked for, of any.
+        // For an iterator that yields one list on every run; if the chain isn't checked, for any.
         ensures answer { (given : Option (List KeptCertificate))
             → (IsTrue self.entry.checks.chain
             → YieldsParents Chain.next_gives self.entry.chain given)
@@ -207,13 +206,13 @@ impl<'a, 'b, Chain: Iterator<Item = &'b Cert> + Drop> CertValidator<'a, 'b, Chai
             (λ _. IsAccepted (S.judge scheme.now) self.entry.checks self.entry.cert.now given)
             (RefusesCertBy
             (chain_rules (S.judge scheme.now) self.entry.checks self.entry.cert.now given)) }
-        // Of any iterator: what it gave in this call.
+        // For any iterator: what it yielded in this call.
         ensures walked { MatchResult result
             (λ _. WasAccepted (S.judge scheme.now) Chain.next_gives self.entry.checks
             self.entry.cert.now self.entry.chain)
             (OrMemory errors.Memory (WasRefused (S.judge scheme.now) Chain.next_gives
             self.entry.checks self.entry.cert.now self.entry.chain)) }
-        // Memory is asked for by the scheme, and for an error that keeps a name or an identifier.
+        // The scheme allocates, and so does an error with a name or a key identifier.
         ensures memory { IfErr result (λ e. e ≡ errors.Memory
             → AsksForMemory Chain.next_gives self.entry.checks self.entry.cert.now
             self.entry.chain) }
@@ -239,14 +238,14 @@ impl<'a, 'b, Chain: Iterator<Item = &'b Cert> + Drop> CertValidator<'a, 'b, Chai
 }
 
 impl Window {
-    /// Whether dates are asked for.
+    /// Whether dates are checked.
     fn asks_for_date(&self) -> bool
         ensures { IsTrue result ↔ AsksForDate self.now }
     {
         self.not_before || self.not_after
     }
 
-    /// No dates are asked for.
+    /// Accepts checks without dates.
     fn expect_unasked(&self) -> Result<(), CertError>
         ensures { MatchResult result
             (λ _. AsksForDate self.now → ⊥)
@@ -260,7 +259,7 @@ impl Window {
 }
 
 impl ChainChecks {
-    /// The same with other dates.
+    /// The same checks with other dates.
     fn at(self, date: DateCheck) -> ChainChecks
         ensures { result ≡ checks_at date self }
     {
@@ -275,7 +274,8 @@ impl ChainChecks {
         }
     }
 
-    /// A date is given where one is asked for, else `MissingBuilderArgument`. It takes no memory.
+    /// Checks that a date is given if dates are checked, else `MissingBuilderArgument`. It doesn't
+    /// allocate.
     pub fn expect_date(&self) -> Result<(), CertError>
         ensures { MatchResult result (λ _. IsDated self.now) (LacksDate self.now) }
     {
@@ -286,7 +286,7 @@ impl ChainChecks {
         }
     }
 
-    /// The last certificate is a root, where one is asked for.
+    /// Checks that the last certificate is a root, if that is checked.
     fn expect_root(&self, last: CertType) -> Result<(), CertError>
         ensures { MatchResult result (λ _. IsTrue self.now.root → last ≡ types.Root)
             (λ e. IsTrue self.now.root × (last ≢ types.Root)
@@ -301,7 +301,7 @@ impl ChainChecks {
     }
 }
 
-/// The kind of the last certificate, where each parent may have issued the certificate before it.
+/// The type of the last certificate, if each parent may have issued the certificate before it.
 fn last_type<'b, Chain: Iterator<Item = &'b Cert> + Drop, S: Scheme>(
     alloc: Global,
     checked: ViewedCert<'_>,
@@ -332,7 +332,7 @@ fn last_type<'b, Chain: Iterator<Item = &'b Cert> + Drop, S: Scheme>(
     Ok(type_so_far(&checked, &last))
 }
 
-/// The certificate may have issued the last parent so far, or the checked certificate.
+/// Checks that the certificate may have issued the last parent so far, or the checked certificate.
 fn expect_next<S: Scheme>(
     alloc: Global,
     checked: &ViewedCert<'_>,
@@ -355,7 +355,7 @@ fn expect_next<S: Scheme>(
     }
 }
 
-/// The kind of the last parent so far, or of the checked certificate.
+/// The type of the last parent so far, or of the checked certificate.
 fn type_so_far(checked: &ViewedCert<'_>, last: &Option<ViewedCert<'_>>) -> CertType
     ensures { IsOfType (nearest checked.now.cert.now last.now).elements result }
 {

@@ -1,5 +1,4 @@
-//! A certificate that is kept, with its view. What is asked of one certificate several times is
-//! asked of one view.
+//! A stored certificate with its view, for rules that need several of its fields.
 
 ghost use Rattle.std.specs.Prelude.{◌≡◌};
 ghost use Rattle.std.specs.Coded.{Coded-set};
@@ -9,7 +8,7 @@ ghost use Rattle.x509_core.specs.Facts.CertificateParts.{coded_elements};
 use crate::cert::Cert;
 use x509_types::CertView;
 
-/// A certificate, and where the octets of its fields lie.
+/// A certificate and its borrowed fields.
 #[derive(Clone, Copy)]
 pub(crate) struct ViewedCert<'a> {
     pub cert: &'a Cert,
@@ -18,7 +17,7 @@ pub(crate) struct ViewedCert<'a> {
 }
 
 impl Cert {
-    /// The certificate with its view. It takes no memory.
+    /// The certificate with its view. It doesn't allocate.
     pub(crate) fn viewed(&self) -> ViewedCert<'_>
         ensures { result.cert.now ≡ self.now }
     {

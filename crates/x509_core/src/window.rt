@@ -11,14 +11,14 @@ use names_core::UtcDate;
 use std::cmp::Ordering;
 use x509_types::CertView;
 
-/// The moments that are asked for.
+/// The date or interval for which a certificate must be valid.
 #[derive(Clone, Copy, Debug, PartialEq, Eq)]
 pub enum DateCheck {
     /// None.
     Absent,
-    /// This one.
+    /// This date.
     Exact(UtcDate),
-    /// Those from the lower to the upper one. The lower may lie past the upper.
+    /// From the lower to the upper date. The lower may be after the upper.
     Interval { lower: UtcDate, upper: UtcDate },
 }
 
@@ -46,7 +46,7 @@ impl DateCheck {
     }
 }
 
-/// What is asked of the validity of a certificate: the moments, and which of its ends are compared
+/// What is checked of the validity of a certificate: the dates, and which of its ends are compared
 /// with them.
 #[derive(Clone, Copy, Debug, PartialEq, Eq)]
 pub struct Window {
@@ -56,10 +56,10 @@ pub struct Window {
 }
 
 impl Window {
-    /// Whether the certificate is valid (RFC 5280 4.1.2.5, 6.1.3 (a) (2)): its first moment is at
-    /// most the date, or the upper end of the interval, else `CertificateNotYetValid` with this;
-    /// then its last moment is at least the date, or the lower end, else `CertificateExpired` with
-    /// that. Without a date each certificate is. It takes no memory.
+    /// Checks that the certificate is valid (RFC 5280 4.1.2.5, 6.1.3 (a) (2)): its first second is
+    /// at most the date, or the upper end of the interval, else `CertificateNotYetValid` with it;
+    /// then its last second is at least the date, or the lower end, else `CertificateExpired` with
+    /// it. Without a date every certificate is. It doesn't allocate.
     pub fn expect_valid(&self, view: CertView<'_>) -> Result<(), CertCause>
         ensures { MatchResult result
             (λ _. IsWithinWindow self.now (view_elements view.entry))
@@ -69,7 +69,7 @@ impl Window {
         self.expect_not_ended(view)
     }
 
-    /// The validity of the certificate has begun.
+    /// Checks that the validity of the certificate has begun.
     fn expect_begun(&self, view: CertView<'_>) -> Result<(), CertCause>
         ensures { MatchResult result
             (λ _. HasBegun self.now (view_elements view.entry))
@@ -88,7 +88,7 @@ impl Window {
         Ok(())
     }
 
-    /// The validity of the certificate hasn't ended.
+    /// Checks that the validity of the certificate hasn't ended.
     fn expect_not_ended(&self, view: CertView<'_>) -> Result<(), CertCause>
         ensures { MatchResult result
             (λ _. HasNotEnded self.now (view_elements view.entry))
@@ -108,7 +108,7 @@ impl Window {
     }
 }
 
-/// Whether the first moment lies before the second.
+/// Whether the first date is before the second.
 fn is_earlier(first: UtcDate, second: UtcDate) -> bool
     ensures { IsTrue result ↔ IsEarlier first second }
 {

@@ -1,4 +1,4 @@
--- A certificate has its fields once, and a value by them.
+-- The element of a certificate determines its fields, and they determine its value.
 use Rattle.std.specs.Prelude.{ℕ, List}
 use Rattle.std.proofs.Common.{◌≡◌, ◌∷◌, refl}
 use Rattle.std.proofs.Math.Logic.{∥∥₁_elim}
@@ -21,7 +21,7 @@ same_unused m n a b e = cc
 same_payload : (m n : ℕ) (a b : List ℕ) → Primitive 0x03 (m ∷ a) ≡ Primitive 0x03 (n ∷ b) → a ≡ b
 same_payload m n a b e = cc
 
--- one element is around fields once
+-- one element has one list of fields
 pub parts_once : (f g : CertificateElements) → certificate_of f ≡ certificate_of g → f ≡ g
 parts_once f g e =
     let same = same_three (tbs_of f.tbs) f.algorithm (Primitive 0x03 (f.unused ∷ f.signature)) (tbs_of g.tbs) g.algorithm (Primitive 0x03 (g.unused ∷ g.signature)) e in
@@ -30,7 +30,7 @@ parts_once f g e =
 abbrev pub coded_elements : Coded CertificateElements
 coded_elements = record { code = λ f. stored (certificate_of f); inj = λ a b e. parts_once a b (stored_inj (certificate_of a) (certificate_of b) e) }
 
--- the element around the fields of a certificate spells it
+-- the element with the fields of a certificate is an encoding of it
 pub spelled_by : (f : CertificateElements) (c : Certificate) → AreCertificateFields f c → IsCertificate (certificate_of f) c
 spelled_by f c are = record { elements = f; is = refl; spelled = are }
 

@@ -1,4 +1,5 @@
--- An element has the fields of a certificate for one reason, and certificates that are kept have codes.
+-- Whether an element has the fields of a certificate is a proposition, and stored certificates have
+-- codes.
 use Rattle.std.specs.Prelude.{◌≡◌}
 use Rattle.std.specs.Coded.{Coded, Coded-set}
 use Rattle.std.proofs.Common.{ap, sym, subst, ◌∙◌}
@@ -36,13 +37,13 @@ same_value : (a : KeptCertificate) (c : Certificate) (der : IsDer (certificate_o
 same_value a c der spelled =
     subst (λ (x : Certificate). (s : ∥ AreCertificateFields a.elements x ∥₁) → a ≡ kept_of a.elements x der s) (value_once a.elements a.certificate c a.spelled spelled) (λ s. same_facts a der s) spelled
 
--- certificates of the same elements are the same
+-- certificates with the same elements are the same
 pub same_kept : (a b : KeptCertificate) → a.elements ≡ b.elements → a ≡ b
 same_kept a b e =
     subst (λ (f : CertificateElements). (der : IsDer (certificate_of f)) (spelled : ∥ AreCertificateFields f b.certificate ∥₁) → a ≡ kept_of f b.certificate der spelled) e
     (λ der spelled. same_value a b.certificate der spelled) b.der b.spelled
 
--- and so are those of the same element
+-- and so are those with the same element
 pub kept_once : (a b : KeptCertificate) → certificate_of a.elements ≡ certificate_of b.elements → a ≡ b
 kept_once a b e = same_kept a b (parts_once a.elements b.elements e)
 

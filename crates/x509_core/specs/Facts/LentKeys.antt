@@ -1,4 +1,4 @@
--- The octets that a certificate holds of a key of RSA are the encoding of its RSAPublicKey.
+-- The octets of an RSA key in a certificate are the encoding of its RSAPublicKey.
 use Rattle.std.specs.Prelude.{ℕ, List, Option, Some}
 use Rattle.std.proofs.Common.{◌≡◌, sym, ap, subst, ◌∙◌}
 use Rattle.der_core.specs.DerElement.{DerElement}

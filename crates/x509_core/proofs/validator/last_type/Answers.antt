@@ -15,7 +15,7 @@ with_run : {A B C : Type 0} {P : B → C → Type 0} {Q : B → Type 0} (xs : B)
 with_run xs rest run (inl first) = inl (xs, rest, run, first)
 with_run xs rest run (inr memory) = inr memory
 
--- the first of those that were given
+-- the first of those that were yielded
 one_given : {S : Type 0} (steps : S → Option (Bor KeptCertificate) → S → Type 0) (s : S) (xs : List (Bor KeptCertificate)) (x : Bor KeptCertificate) (t : S) → Yields steps s (xs ++ x ∷ []) t → GivesParent steps s
 one_given steps s [] x t came = record { parent = x; rest = came.0; given = came.1 }
 one_given steps s (y ∷ ys) x t came = record { parent = y; rest = came.0; given = came.1 }
