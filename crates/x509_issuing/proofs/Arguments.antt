@@ -1,4 +1,4 @@
--- One error tells of an argument that isn't given, and none where all are.
+-- One error reports a missing argument, and none does if all are given.
 use Rattle.std.proofs.Common.{◌≡◌, Bool, true, false, Option, Some, None, IsSome, refl, sym, ◌∙◌, subst}
 use Rattle.der_core.specs.Steps.{IsFirstUntaken}
 use Rattle.der_core.proofs.TakenSteps.{HasOneError, HaveOneError, left_behind, one_before}
@@ -26,11 +26,11 @@ have_one_error : (b : CertificateBuilder) → HaveOneError (given_steps b)
 have_one_error b =
     (argument_has arguments.ValidFrom b.valid_from, (argument_has arguments.ValidTo b.valid_to, (argument_has arguments.IssuerInfos b.issuer_infos, tt)))
 
--- what is told of the times or the issuer is told once
+-- one error reports the dates or the issuer
 pub told_once : (b : CertificateBuilder) (e other : CertError) → IsFirstUntaken (given_steps b) e → IsFirstUntaken (argument_steps b) other → e ≡ other
 told_once b e other = one_before (given_steps b) (arguments_by b b.issuer_infos) e other (have_one_error b)
 
--- where the times and the issuer are given, it is an argument of the subject that isn't
+-- if the dates and the issuer are given, an argument of the subject is missing
 pub subject_lacks : (b : CertificateBuilder) (issuer : IssuerInfos) (e : CertError) → IsSome b.valid_from → IsSome b.valid_to → b.issuer_infos ≡ Some issuer
     → IsFirstUntaken (argument_steps b) e → IsFirstUntaken (subject_arguments issuer.self_signed b) e
 subject_lacks b issuer e from to given first =
@@ -38,7 +38,7 @@ subject_lacks b issuer e from to given first =
     subst (λ (o : Option IssuerInfos). IsFirstUntaken (arguments_by b o) e) given
     (left_behind (given_steps b) (arguments_by b b.issuer_infos) e (have_one_error b) (from, (to, (some, tt))) first)
 
--- where the issuer is the subject, nothing is asked for
+-- if the issuer is the subject, no argument is missing
 pub nothing_asked : (own : Bool) (b : CertificateBuilder) (e : CertError) → own ≡ true → IsFirstUntaken (subject_arguments own b) e → ⊥
 nothing_asked true b e is first = first
 nothing_asked false b e is first = let no : false ≡ true = is in absurd cc

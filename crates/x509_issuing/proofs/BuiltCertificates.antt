@@ -78,7 +78,7 @@ module _ (judge : Judge) (signs : Signs) (pair : Pair) (b : CertificateBuilder) 
       behind_subject own name key e to_whom
       (refused_within errors.Memory [] (algorithm_step b ∷ []) (signing_steps (arithmetic judge signs pair) b.signature_hash_type issuer.key.now (IsTbsFor judge b issuer word)) e refused)
 
-  -- what is signed is that of the builder
+  -- the TBSCertificate is the builder's
   tbs_for : (own : List ℕ) (name : NameSets) (key : SubjectPublicKeyInfo) (tbs : TbsCertificate) → IsBuiltFor judge b issuer own name key → IsTbsBy b issuer word own tbs
       → IsValidityOf from to tbs.validity → tbs.subject ≡ name → tbs.subject_public_key_info ≡ key → IsTbsFor judge b issuer word tbs
   tbs_for own name key tbs to_whom by validity named keyed = record {
@@ -140,7 +140,7 @@ identified judge signs pair b word (Ok cert) Refused is =
     }
 identified judge signs pair b word (Err e) Refused is = tt
 
--- ---- what is signed, of its parts
+-- ---- the TBSCertificate from its parts
 
 abbrev parts : IntegerAsn1 → AlgorithmIdentifier → NameSets → Validity → NameSets → SubjectPublicKeyInfo → List Extension → TbsCertificate
 parts serial algorithm issuer validity subject key extensions = record {

@@ -1,4 +1,4 @@
--- What is signed of a request and by what, step by step.
+-- What is signed of a request, and by which key, step by step.
 use Rattle.std.proofs.Common.{◌≡◌, ◌⊎◌, ℕ, List, Result, Ok, Err, IfOk, MatchResult, sym, ap, subst, ◌∙◌, inl, inr}
 use Rattle.der_core.specs.DerElement.{DerElement}
 use Rattle.der_core.specs.Encoding.{encoding}
@@ -32,7 +32,7 @@ pub not_named : (judge : Judge) (signs : Signs) (pair : Pair) (key : PrivateKey)
     → IsInfoWritten info → IsInfoSigned signs key algorithm info → IsUnsigned (IsUnwritable algorithm) e → RefusesToMake (arithmetic judge signs pair) key algorithm info e
 not_named judge signs pair key algorithm info e written signed unnamed = inr (written, inr (signed, inl unnamed))
 
--- what is kept of a request as it is written is around what is written of what is signed
+-- the stored element of a written request contains the written CertificationRequestInfo
 pub written_info : (csr : KeptRequest) (r : CertificationRequest) → kept_request csr ≡ request r → csr.info ≡ request_info r.certification_request_info
 written_info csr r e = info_once csr.info (request_info r.certification_request_info) csr.request r e
 
@@ -51,7 +51,7 @@ made judge signs pair key algorithm r (Ok csr) written signed whole (kept, value
 )
 made judge signs pair key algorithm r (Err e) written signed whole refused = inr (written, inr (signed, inr (r, whole, refused)))
 
--- what is accepted over what is written of what is signed is accepted over what is kept
+-- a signature accepted over the written CertificationRequestInfo is accepted over the stored one
 pub accepted : (judge : Judge) (pair : Pair) (private : PrivateKey) (algorithm : SignatureAlgorithm) (r : CertificationRequest) (result : Result KeptRequest CsrError) (Refused : CsrError → Type 0)
     → ((key : SubjectPublicKeyInfo) → IsKeyPair pair private key → Accepts judge algorithm key (encoding (request_info r.certification_request_info)) r.signature.payload)
     → MatchResult result (λ csr. (kept_request csr ≡ request r) × (csr.request ≡ r)) Refused
@@ -80,7 +80,7 @@ self_signed signs judge pair private algorithm info (Ok csr) (is, signed) accept
 }
 self_signed signs judge pair private algorithm info (Err e) is accepts = tt
 
--- what is accepted of equal octets
+-- a signature is accepted over equal octets
 pub accepted_of : (judge : Judge) (algorithm : SignatureAlgorithm) (key : SubjectPublicKeyInfo) (msg other sig payload : List ℕ) → msg ≡ other → payload ≡ sig → Accepts judge algorithm key msg sig → Accepts judge algorithm key other payload
 accepted_of judge algorithm key msg other sig payload same bits accepts =
     subst (λ (m : List ℕ). Accepts judge algorithm key m payload) same (subst (λ (s : List ℕ). Accepts judge algorithm key msg s) (sym bits) accepts)

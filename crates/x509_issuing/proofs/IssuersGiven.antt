@@ -1,4 +1,4 @@
--- What is asked once a certificate is given as that of the issuer.
+-- The builder after a certificate was given as the issuer's.
 use Rattle.std.proofs.Common.{◌≡◌, ℕ, List, Option, Some, false, ap, ◌∙◌}
 use Rattle.std.specs.Borrow.{Bor}
 use Rattle.key_core.specs.declared.private_key.PrivateKey.{PrivateKey}

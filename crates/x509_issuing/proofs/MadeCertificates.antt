@@ -1,4 +1,4 @@
--- Certificates that are made of what is signed, and the steps to them.
+-- Certificates made from a TBSCertificate, and the steps to them.
 use Rattle.std.proofs.Common.{◌≡◌, ◌⊎◌, Result, Ok, Err, MatchResult, refl, sym, ap, subst, ◌∙◌, inl, inr}
 use Rattle.der_core.specs.Encoding.{IsDer}
 use Rattle.der_core.specs.Facts.Fronts.{formed_encoding_once}
@@ -27,12 +27,12 @@ use Rattle.der_core.specs.Steps.{IsFirstUntaken, RefusesBySteps}
 use Rattle.x509_issuing.specs.BuildRefusals.{no_octets, no_signature}
 use Rattle.x509_issuing.specs.Building.{IsMade, IsSignedCertificate, IsTbsSigned, message_of, signing_steps, tbs_written}
 
--- the kept element is the written one
+-- the stored element is the written one
 element_is : (cert : KeptCertificate) (c : Certificate) → kept_octets cert ≡ written_octets c → certificate_of cert.elements ≡ certificate c
 element_is cert c same = formed_encoding_once (certificate_of cert.elements) (certificate c) cert.der.formed (certificates.formed c) same
 
 module _ (judge : Judge) (signs : Signs) (pair : Pair) (algorithm : SignatureAlgorithm) (key : PrivateKey) where
-  -- one that is signed is made, or it can't be written
+  -- a signed certificate is made, or it can't be written
   pub made_or_not : (tbs : TbsCertificate) (c : Certificate) (r : Result KeptCertificate CertError) → c.tbs_certificate ≡ tbs → c.signature_algorithm ≡ tbs.signature → c.signature_value.unused ≡ 0
       → IsDer (tbs_certificate tbs) → AreDer (inner_tbs tbs) → IsTbsSigned signs algorithm key tbs
       → ((public : SubjectPublicKeyInfo) → IsKeyPair pair key public → Accepts judge algorithm public (message_of tbs) c.signature_value.payload)
@@ -57,7 +57,7 @@ module _ (judge : Judge) (signs : Signs) (pair : Pair) (algorithm : SignatureAlg
       }
       by (Err e) whole refused = inl (inr ((tbs, refl, der, inner), inr ((tbs, refl, signed), inl (c, whole, refused))))
 
-  -- what is known of what is signed may be told of the steps
+  -- what is known about a TBSCertificate carries over to the steps
   signed_as : (A B : TbsCertificate → Type 0) (c : Certificate) → ((t : TbsCertificate) → A t → B t) → IsSignedCertificate judge pair algorithm key A c → IsSignedCertificate judge pair algorithm key B c
   signed_as A B c f s = record { tbs = f c.tbs_certificate s.tbs; beside = s.beside; unused = s.unused; accepted = s.accepted }
 
@@ -79,7 +79,7 @@ module _ (judge : Judge) (signs : Signs) (pair : Pair) (algorithm : SignatureAlg
   made_or_refused A B (Err e) f (inl first) = inl (untaken_as A B e f first)
   made_or_refused A B (Err e) f (inr memory) = inr memory
 
--- what is signed can't be written, or isn't signed
+-- the TBSCertificate can't be written, or isn't signed
 pub not_made : (judge : Judge) (signs : Signs) (pair : Pair) (algorithm : SignatureAlgorithm) (key : PrivateKey) (tbs : TbsCertificate) (e : CertError)
     → OrMemory errors.Memory (λ (e : CertError). Tells no_octets (RefusesInner (tbs_written tbs)) e
     ⊎ (IsDer (tbs_certificate tbs) × AreDer (inner_tbs tbs) × Tells no_signature (RefusesSignatureBy (sign_rules signs algorithm key (message_of tbs))) e)) e

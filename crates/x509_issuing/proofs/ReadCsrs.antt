@@ -1,4 +1,5 @@
--- What is read of an element as a request is read of the octets that it is; requests are the same where what is kept of them is.
+-- Reading an element as a request is reading its octets; requests are the same where what is stored
+-- of them is.
 use Rattle.std.proofs.Common.{◌≡◌, ◌↔◌, ℕ, List, Bool, IsTrue, Result, Ok, Err, IfOk, MatchResult, sym, ap, subst, ◌∙◌}
 use Rattle.std.proofs.lemmas.Grind.{merely}
 use Rattle.der_core.specs.DerElement.{DerElement}
@@ -27,7 +28,7 @@ read_value octets element (Err (errors.Malformed m)) der is refused = absurd ref
 read_value octets element (Err errors.TooDeep) der is refused = refused
 read_value octets element (Err errors.TooLong) der is refused = refused
 
--- a kept element that spells a request is around what is signed of it
+-- a raw element that encodes a request contains its CertificationRequestInfo
 info_in : (element : DerElement) (r : CertificationRequest) → IsDer element → IsRequest element r → HasInfo element r
 info_in element r der is = (is.info, (is.is, subst IsDer is.is der, merely is.spelled))
 

@@ -1,4 +1,4 @@
--- Whom a certificate is for: which steps are taken where it is known.
+-- The subject of a certificate: which steps are taken if it is known.
 use Rattle.std.proofs.Common.{◌≡◌, ◌⊎◌, ℕ, List, [], ◌∷◌, Bool, true, false, Option, Some, None, Result, Ok, Err, MatchResult, refl, sym, subst, inl, inr}
 use Rattle.std.specs.Prelude.{IsSome}
 use Rattle.key_types.specs.declared.key_info.SubjectPublicKeyInfo.{SubjectPublicKeyInfo}
@@ -33,7 +33,7 @@ other_taken judge issuer (Some authority) None name key is = absurd is
 other_taken judge issuer (Some authority) (Some (subjects.Named given own)) name key is = (refl, (refl, (λ csr e. absurd (other_request given own csr e), tt)))
 other_taken judge issuer (Some authority) (Some (subjects.Request asked)) name key is = (refl, (refl, (λ csr e. subst (IsSelfSigned judge) (same_request asked csr e) is.0, tt)))
 
--- where the subject is known, the steps to it are taken
+-- if the subject is known, the steps to it are taken
 pub subject_taken : (judge : Judge) (own : Bool) (b : CertificateBuilder) (issuer : IssuerInfos) (name : NameSets) (key : SubjectPublicKeyInfo)
     → IsSubjectBy judge own issuer b.authority_key_identifier b.subject_infos name key → AreTaken (subject_steps judge own b issuer)
 subject_taken judge true b issuer name key is = ((key, is.1), tt)

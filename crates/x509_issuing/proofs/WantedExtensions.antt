@@ -1,4 +1,5 @@
--- Extensions that are wanted, in a row; those of a builder have different identifiers, and so they have with those that are added.
+-- Lists of wanted extensions; those of a builder have different OIDs, also together with those that
+-- are added.
 use Rattle.std.proofs.Common.{◌≡◌, ◌≢◌, ℕ, List, [], ◌∷◌, ◌++◌, Bool, true, false, ◌&&◌, ◌||◌, not, Option, Some, None, refl, sym, ap, subst, ◌∙◌, append_assoc, append-nil}
 use Rattle.std.specs.Prelude.{if◌then◌else◌, option_to_list}
 use Rattle.std.specs.Str.{bytes_eq}
@@ -29,7 +30,7 @@ wanted_both [] b (x ∷ xs) ys p q = absurd p
 wanted_both (w ∷ a) b [] ys p q = absurd p
 wanted_both (w ∷ a) b (x ∷ xs) ys p q = (p.0, wanted_both a b xs ys p.1 q)
 
--- ---- different identifiers
+-- ---- different OIDs
 
 differs : (a b : List ℕ) → bytes_eq a b ≡ false → a ≢ b
 differs a b fails same = let yes : true ≡ false = sym ((bytes_eq-Decides a b).1 same) ∙ fails in absurd cc
@@ -42,7 +43,7 @@ not_parts : (a : Bool) → not a ≡ true → a ≡ false
 not_parts true e = let no : false ≡ true = e in absurd cc
 not_parts false e = refl
 
--- none of the wanted has this identifier, and no two have the same, as tests
+-- none of the wanted extensions has this OID, and no two have the same, as tests
 abbrev lack : List ℕ → List WantedExtension → Bool
 lack oid [] = true
 lack oid (w ∷ others) = not (bytes_eq w.oid oid) && lack oid others
@@ -67,7 +68,7 @@ distinct_of (w ∷ ws) (e ∷ es) are test =
     let parts = and_parts _ _ test in
     (subst (λ (id : List ℕ). NoneHas id es) (sym are.0.named) (none_of w.oid ws es are.1 parts.0), distinct_of ws es are.1 parts.1)
 
--- those that a builder wants
+-- the extensions that a builder wants
 abbrev all_wanted : Bool → ExtensionView → Option KeyUsage → Option ExtendedKeyUsage → Option (List RawGeneralName) → Option (List RawGeneralName) → (own authority : List ℕ) → List WantedExtension
 all_wanted critical constraints uses purposes subject issuer own authority =
     (record { oid = CE_BASIC_CONSTRAINTS.now; critical = critical; value = constraints }
@@ -119,7 +120,7 @@ built_distinct b issuer own authority es built =
     subst AreDistinct (sym built.are)
     (distinct_others built.made (inherited issuer.self_signed b.inherits b.subject_infos) (made_distinct b built.critical own authority built.made built.are_made))
 
--- ---- the first of each identifier
+-- ---- the first with each OID
 
 -- the wanted one, among others
 found : (xs ys : List WantedExtension) (w : WantedExtension) (es : List Extension) → AreWanted (xs ++ w ∷ ys) es

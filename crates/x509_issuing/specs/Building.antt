@@ -1,4 +1,4 @@
--- When a certificate is built, and why it isn't: the steps in their order.
+-- When a certificate is built, and why it isn't: the steps in order.
 use Rattle.std.specs.Prelude.{◌≡◌, ℕ, Bool, true, false, List, [], ◌∷◌, ◌++◌, Option, Some, None, IsSome}
 use Rattle.der_core.specs.DerElement.{DerElement}
 use Rattle.der_core.specs.Encoding.{encoding, IsDer}
@@ -45,9 +45,8 @@ use Rattle.x509_issuing.specs.declared.builder.SubjectInfos.TheVariants as subje
 abbrev pub message_of : TbsCertificate → List ℕ
 message_of tbs = encoding (tbs_certificate tbs)
 
--- The certificate is one of these, its algorithm stands beside what is signed as within it, and the
--- signature has no unused bits and is accepted under each public key that pairs with the private
--- one.
+-- The TBSCertificate is one of these, the algorithm outside it is the one within, and the signature
+-- has no unused bits and is accepted under each public key that pairs with the private one.
 pub record IsSignedCertificate (judge : Judge) (pair : Pair) (algorithm : SignatureAlgorithm)
     (key : PrivateKey) (IsTbs : TbsCertificate → Type 0) (c : Certificate) : Type 0 where
   pub tbs : IsTbs c.tbs_certificate
@@ -56,11 +55,11 @@ pub record IsSignedCertificate (judge : Judge) (pair : Pair) (algorithm : Signat
   pub accepted : (public : SubjectPublicKeyInfo) → IsKeyPair pair key public
       → Accepts judge algorithm public (message_of c.tbs_certificate) (payload_of c.signature_value)
 
--- The scheme signs what is signed of a certificate.
+-- The scheme signs the TBSCertificate.
 abbrev pub IsTbsSigned : Signs → SignatureAlgorithm → PrivateKey → TbsCertificate → Type 0
 IsTbsSigned signs algorithm key tbs = IsAsked signs algorithm key (message_of tbs) true
 
--- The certificate is one of these, signed by the key, and kept with the element that is written for
+-- The certificate is one of these, signed by the key, and stored as the element that is written for
 -- it.
 pub record IsMade (scheme : KeyArithmetic) (algorithm : SignatureAlgorithm) (key : PrivateKey)
     (IsTbs : TbsCertificate → Type 0) (cert : KeptCertificate) : Type 0 where
@@ -68,7 +67,7 @@ pub record IsMade (scheme : KeyArithmetic) (algorithm : SignatureAlgorithm) (key
   pub made : IsSignedCertificate scheme.judge scheme.pair algorithm key IsTbs cert.certificate
   pub written : certificate_of cert.elements ≡ certificate cert.certificate
 
--- The certificate is the one that the builder asks for, and the issuer signs it.
+-- The certificate is the one that the builder describes, signed by the issuer.
 pub record IsBuilt (scheme : KeyArithmetic) (b : CertificateBuilder) (word : ℕ)
     (cert : KeptCertificate) : Type 0 where
   pub issuer : IssuerInfos
@@ -78,21 +77,21 @@ pub record IsBuilt (scheme : KeyArithmetic) (b : CertificateBuilder) (word : ℕ
 
 -- ---- steps
 
--- what is needed is given, else it is told by its name
+-- the argument is given, else its name is reported
 abbrev pub given_step : {X : Type 0} → Arg → Option X → Step CertError
 given_step {X} argument option = record {
   taken = IsSome option;
   refused = λ e. (option ≡ None) × (e ≡ errors.MissingBuilderArgument argument);
 }
 
--- the private key of the issuer has a public half
+-- the issuer's private key has a public key
 abbrev pub half_step : PrivateKey → Step CertError
 half_step key = record {
   taken = (info : SubjectPublicKeyInfo) × IsHalfOf key info;
   refused = Tells no_half (RefusesPublicHalf (container_of key).private_key (point_beside key));
 }
 
--- where there is a request, it is signed by its own key
+-- the request, if any, is signed by its own key
 abbrev pub request_step : Judge → Option SubjectInfos → Step CertError
 request_step judge subject = record {
   taken = (csr : KeptRequest) → subject ≡ Some (subjects.Request csr) → IsSelfSigned judge csr;
@@ -100,20 +99,20 @@ request_step judge subject = record {
       × Tells no_request (IsUnsigned (RefusesSelfSigned judge csr)) e;
 }
 
--- where the subject isn't the issuer: the key of the issuer is identified, the subject is given,
--- and its request is signed
+-- if the subject isn't the issuer: the authority key identifier is given, the subject is given, and
+-- its request is signed
 abbrev pub other_steps : Judge → CertificateBuilder → List (Step CertError)
 other_steps judge b =
     given_step arguments.AuthorityKeyIdentifier b.authority_key_identifier ∷
     given_step arguments.SubjectInfos b.subject_infos ∷ request_step judge b.subject_infos ∷ []
 
--- who the subject is: the issuer itself, whose key has a public half, or another
+-- the subject: the issuer itself, whose key has a public key, or another
 abbrev pub subject_steps : Judge → (self_signed : Bool) → CertificateBuilder → IssuerInfos
     → List (Step CertError)
 subject_steps judge true b issuer = half_step issuer.key.now ∷ []
 subject_steps judge false b issuer = other_steps judge b
 
--- The key of the subject is identified. Where the issuer is the subject, so is the issuer's.
+-- The subject's key has a key identifier. If the issuer is the subject, so has the issuer's.
 abbrev pub identifier_step : Judge → CertificateBuilder → IssuerInfos → Step CertError
 identifier_step judge b issuer = record {
   taken = (name : NameSets) × (key : SubjectPublicKeyInfo) × (own : List ℕ)
@@ -123,19 +122,19 @@ identifier_step judge b issuer = record {
       × Tells no_key_id (RefusesKeyIdentifier b.key_id_gen_method key) e;
 }
 
--- the algorithm has an identifier
+-- the algorithm has an OID
 abbrev pub algorithm_step : CertificateBuilder → Step CertError
 algorithm_step b = record {
   taken = (id : AlgorithmIdentifier) × IsWrittenAlgorithm b.signature_hash_type id;
   refused = Tells signature_refusal (IsUnwritable b.signature_hash_type);
 }
 
--- all elements that are written for what is signed, those within strings first
+-- all elements that are written for a TBSCertificate, inner ones first
 abbrev pub tbs_written : TbsCertificate → List DerElement
 tbs_written tbs = inner_tbs tbs ++ tbs_certificate tbs ∷ []
 
 module _ (scheme : KeyArithmetic) (algorithm : SignatureAlgorithm) (key : PrivateKey) (IsTbs : TbsCertificate → Type 0) where
-  -- what is signed can be written
+  -- the TBSCertificate can be written
   abbrev pub octets_step : Step CertError
   octets_step = record {
     taken = (tbs : TbsCertificate) × IsTbs tbs × IsDer (tbs_certificate tbs)
@@ -153,7 +152,7 @@ module _ (scheme : KeyArithmetic) (algorithm : SignatureAlgorithm) (key : Privat
         (RefusesSignatureBy (sign_rules scheme.signs algorithm key (message_of tbs))) e;
   }
 
-  -- the whole can be written
+  -- the certificate can be written
   abbrev pub whole_step : Step CertError
   whole_step = record {
     taken = (cert : KeptCertificate) × IsMade scheme algorithm key IsTbs cert;
@@ -162,11 +161,11 @@ module _ (scheme : KeyArithmetic) (algorithm : SignatureAlgorithm) (key : Privat
         × IsUnwrittenCert elements.Certificate (RefusesInner (written_elements c)) e;
   }
 
-  -- the steps that make a certificate of what is signed
+  -- the steps from a TBSCertificate to the certificate
   abbrev pub signing_steps : List (Step CertError)
   signing_steps = octets_step ∷ signature_step ∷ whole_step ∷ []
 
--- the steps behind the times and the issuer, which are given; none where there is no issuer
+-- the steps after the dates and the issuer, which are given; none if there is no issuer
 abbrev pub steps_by : KeyArithmetic → CertificateBuilder → ℕ → Option IssuerInfos
     → List (Step CertError)
 steps_by scheme b word None = []
@@ -176,28 +175,28 @@ steps_by scheme b word (Some issuer) =
     algorithm_step b ∷
     signing_steps scheme b.signature_hash_type issuer.key.now (IsTbsFor scheme.judge b issuer word)
 
--- the times and the issuer are given
+-- the dates and the issuer are given
 abbrev pub given_steps : CertificateBuilder → List (Step CertError)
 given_steps b =
     given_step arguments.ValidFrom b.valid_from ∷ given_step arguments.ValidTo b.valid_to ∷
     given_step arguments.IssuerInfos b.issuer_infos ∷ []
 
--- what the subject needs: nothing where it is the issuer
+-- the arguments of the subject: none if it is the issuer
 abbrev pub subject_arguments : (self_signed : Bool) → CertificateBuilder → List (Step CertError)
 subject_arguments true b = []
 subject_arguments false b =
     given_step arguments.AuthorityKeyIdentifier b.authority_key_identifier ∷
     given_step arguments.SubjectInfos b.subject_infos ∷ []
 
--- what has to be given besides, where the issuer is given
+-- the other required arguments, if the issuer is given
 abbrev pub arguments_by : CertificateBuilder → Option IssuerInfos → List (Step CertError)
 arguments_by b None = []
 arguments_by b (Some issuer) = subject_arguments issuer.self_signed b
 
--- All that has to be given is given.
+-- All required arguments are given.
 abbrev pub argument_steps : CertificateBuilder → List (Step CertError)
 argument_steps b = given_steps b ++ arguments_by b b.issuer_infos
 
--- The steps of a building, in their order.
+-- The steps of building, in order.
 abbrev pub build_steps : KeyArithmetic → CertificateBuilder → ℕ → List (Step CertError)
 build_steps scheme b word = given_steps b ++ steps_by scheme b word b.issuer_infos

@@ -1,4 +1,4 @@
--- The certificate that is built (RFC 5280 4.1), field by field.
+-- The built certificate (RFC 5280 4.1), field by field.
 use Rattle.std.specs.Prelude.{◌≡◌, ◌==◌, if◌then◌else◌, ℕ, Bool, true, false, List, Option, Some, None}
 use Rattle.asn1_types.specs.Integer.{number_of, IsUnsignedInteger}
 use Rattle.asn1_types.specs.Values.{integer_contents}
@@ -31,13 +31,12 @@ use Rattle.x509_issuing.specs.declared.builder.IssuerInfos.{IssuerInfos}
 use Rattle.x509_issuing.specs.declared.builder.SubjectInfos.{SubjectInfos}
 use Rattle.x509_issuing.specs.declared.builder.SubjectInfos.TheVariants as subjects
 
--- the number that the octets write, or where none are given the random word, 1 for 0 (RFC 5280
--- 4.1.2.2)
+-- the number in the octets, or if none are given the random word, 1 for 0 (RFC 5280 4.1.2.2)
 abbrev pub serial_of : Option (List ℕ) → ℕ → ℕ
 serial_of None word = if word == 0 then 1 else word
 serial_of (Some octets) word = number_of octets
 
--- the public key belongs to this private one
+-- the public key is that of this private key
 abbrev pub IsHalfOf : PrivateKey → SubjectPublicKeyInfo → Type 0
 IsHalfOf key =
     IsPublicHalf (container_of key).private_key (container_of key).private_key_algorithm
@@ -47,8 +46,7 @@ IsHalfOf key =
 abbrev pub NameSets : Type 0
 NameSets = List (List AttributeTypeAndValue)
 
--- The name and the key are those of the subject that is given. A request has to be signed by its
--- own key.
+-- The name and the key are those of the given subject. A request must be signed by its own key.
 abbrev pub IsGivenSubject : Judge → Option SubjectInfos → NameSets → SubjectPublicKeyInfo → Type 0
 IsGivenSubject judge None name key = ⊥
 IsGivenSubject judge (Some (subjects.Named given own)) name key =
@@ -57,8 +55,8 @@ IsGivenSubject judge (Some (subjects.Request csr)) name key =
     IsSelfSigned judge csr × (name ≡ csr.request.certification_request_info.subject)
     × (key ≡ csr.request.certification_request_info.subject_public_key_info)
 
--- The name and the key are those of the subject: of the issuer where it signs its own key, else the
--- given ones, and the key of the issuer is identified.
+-- The name and the key are those of the subject: of the issuer if the certificate is self-signed,
+-- else the given ones, and the authority key identifier is given.
 abbrev pub IsSubjectBy : Judge → (self_signed : Bool) → IssuerInfos → Option (List ℕ)
     → Option SubjectInfos → NameSets → SubjectPublicKeyInfo → Type 0
 IsSubjectBy judge true issuer authority given name key =
@@ -66,38 +64,38 @@ IsSubjectBy judge true issuer authority given name key =
 IsSubjectBy judge false issuer None given name key = ⊥
 IsSubjectBy judge false issuer (Some authority) given name key = IsGivenSubject judge given name key
 
--- The name and the key are those of the subject that the builder asks for.
+-- The name and the key are those of the builder's subject.
 abbrev pub IsSubject : Judge → CertificateBuilder → IssuerInfos → NameSets → SubjectPublicKeyInfo
     → Type 0
 IsSubject judge b issuer =
     IsSubjectBy judge issuer.self_signed issuer b.authority_key_identifier b.subject_infos
 
--- how the key of the issuer is identified: as it is given, but as the subject's where they are the
--- same (RFC 5280 4.2.1.1)
+-- the authority key identifier: the given one, or the subject's if the certificate is self-signed
+-- (RFC 5280 4.2.1.1)
 abbrev pub authority_of : (self_signed : Bool) → Option (List ℕ) → (own : List ℕ) → List ℕ
 authority_of true given own = own
 authority_of false None own = own
 authority_of false (Some authority) own = authority
 
--- The times are those of both dates.
+-- The Times are those of both dates.
 pub record IsValidityOf (from to : GeneralizedTime) (validity : Validity) : Type 0 where
   pub begins : IsTimeOf from validity.not_before
   pub ends : IsTimeOf to validity.not_after
 
--- By whom it is issued: the number, the algorithm, the name of the issuer.
+-- The issuer's fields: the serial number, the algorithm, the issuer's name.
 pub record IsBuiltBy (b : CertificateBuilder) (issuer : IssuerInfos) (word : ℕ)
     (serial_number : IntegerAsn1) (algorithm : AlgorithmIdentifier) (name : NameSets) : Type 0 where
   pub numbered : IsUnsignedInteger (serial_of b.serial_number word) (integer_contents serial_number)
   pub signs : IsWrittenAlgorithm b.signature_hash_type algorithm
   pub named : name ≡ sets_of issuer.name
 
--- To whom: the name, the key, and how it is identified.
+-- The subject's fields: the name, the key, and its key identifier.
 pub record IsBuiltFor (judge : Judge) (b : CertificateBuilder) (issuer : IssuerInfos) (own : List ℕ)
     (name : NameSets) (key : SubjectPublicKeyInfo) : Type 0 where
   pub subject : IsSubject judge b issuer name key
   pub identified : IsKeyIdentifier b.key_id_gen_method key own
 
--- Its fields are the builder's, but for the times, the subject and its key, which is identified so.
+-- The fields are the builder's, with these dates, this subject, this key and its key identifier.
 pub record IsTbsBy (b : CertificateBuilder) (issuer : IssuerInfos) (word : ℕ) (own : List ℕ)
     (tbs : TbsCertificate) : Type 0 where
   pub version : tbs.version ≡ Some versions.V3
@@ -109,7 +107,7 @@ pub record IsTbsBy (b : CertificateBuilder) (issuer : IssuerInfos) (word : ℕ) 
   pub built : AreBuilt b issuer own (authority_of issuer.self_signed b.authority_key_identifier own)
       extensions
 
--- What is signed of the certificate that is built.
+-- The TBSCertificate that the builder describes.
 pub record IsTbsFor (judge : Judge) (b : CertificateBuilder) (issuer : IssuerInfos) (word : ℕ)
     (tbs : TbsCertificate) : Type 0 where
   pub from : GeneralizedTime
@@ -121,8 +119,8 @@ pub record IsTbsFor (judge : Judge) (b : CertificateBuilder) (issuer : IssuerInf
   pub issued_to : IsBuiltFor judge b issuer own tbs.subject tbs.subject_public_key_info
   pub by : IsTbsBy b issuer word own tbs
 
--- The first identifiers of keys (RFC 5280 4.2.1.1, 4.2.1.2): of the subject's, by the method of the
--- builder, and of the issuer's, as it is given, or as the subject's where they are the same.
+-- The first key identifiers (RFC 5280 4.2.1.1, 4.2.1.2): the subject's, by the method of the
+-- builder, and the authority's, as given, or the subject's if the certificate is self-signed.
 pub record IsIdentified (b : CertificateBuilder) (tbs : TbsCertificate) : Type 0 where
   pub issuer : IssuerInfos
   pub given : b.issuer_infos ≡ Some issuer

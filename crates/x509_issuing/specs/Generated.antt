@@ -1,4 +1,4 @@
--- A request as it is generated, and why it isn't (RFC 2986 4).
+-- A generated request, and why there is none (RFC 2986 4).
 use Rattle.std.specs.Prelude.{◌≡◌, ◌⊎◌, List, Some, true}
 use Rattle.der_core.specs.Encoding.{encoding, IsDer}
 use Rattle.der_core.specs.Placed.{AreDer}
@@ -25,8 +25,8 @@ use Rattle.x509_core.specs.declared.csr_error.CsrError.{CsrError}
 use Rattle.x509_issuing.specs.CsrRefusals.{IsUnwrittenCsr, IsUnsigned, IsKeyless}
 use Rattle.x509_issuing.specs.KeptRequest.{KeptRequest, kept_request, info_elements, request_elements}
 
--- What is asked for: this name, the public key of this private one, these attributes, which are
--- given even where there are none.
+-- The CertificationRequestInfo: this name, the public key of this private key, these attributes, a
+-- field that is present even if empty.
 pub record IsInfoFor (subject : DirectoryName) (key : PrivateKey) (attributes : List Attribute)
     (info : CertificationRequestInfo) : Type 0 where
   pub named : info.subject ≡ sets_of subject
@@ -34,13 +34,13 @@ pub record IsInfoFor (subject : DirectoryName) (key : PrivateKey) (attributes : 
       (point_beside key) info.subject_public_key_info
   pub given : info.attributes ≡ Some attributes
 
--- The scheme signs what is asked for with the private key.
+-- The scheme signs the CertificationRequestInfo with the private key.
 abbrev pub IsInfoSigned : Signs → PrivateKey → SignatureAlgorithm → CertificationRequestInfo
     → Type 0
 IsInfoSigned signs key algorithm info =
     IsAsked signs algorithm key (encoding (request_info info)) true
 
--- The request is what is written for this that is asked for, this algorithm, and a signature
+-- The request is what is written for this CertificationRequestInfo, this algorithm, and a signature
 -- without unused bits.
 pub record IsRequestFor (algorithm : SignatureAlgorithm) (info : CertificationRequestInfo)
     (csr : KeptRequest) : Type 0 where
@@ -49,7 +49,7 @@ pub record IsRequestFor (algorithm : SignatureAlgorithm) (info : CertificationRe
   pub unused : unused_of csr.request.signature ≡ 0
   pub written : kept_request csr ≡ request csr.request
 
--- The request is made of what is asked for, which the scheme signs.
+-- The request is made of the CertificationRequestInfo, which the scheme signs.
 pub record IsGenerated (signs : Signs) (subject : DirectoryName) (key : PrivateKey)
     (algorithm : SignatureAlgorithm) (attributes : List Attribute)
     (csr : KeptRequest) : Type 0 where
@@ -64,8 +64,8 @@ pub record IsGenerated (signs : Signs) (subject : DirectoryName) (key : PrivateK
 abbrev pub HasNoHalf : PrivateKey → CsrError → Type 0
 HasNoHalf key = IsKeyless (RefusesPublicHalf (container_of key).private_key (point_beside key))
 
--- The whole is that of this that is asked for, this algorithm, and a signature without unused bits,
--- which is accepted under each public key of the pair.
+-- The request has this CertificationRequestInfo, this algorithm, and a signature without unused
+-- bits, which is accepted under each public key of the pair.
 pub record IsSignedWhole (judge : Judge) (pair : Pair) (key : PrivateKey)
     (algorithm : SignatureAlgorithm) (info : CertificationRequestInfo)
     (r : CertificationRequest) : Type 0 where
@@ -75,14 +75,14 @@ pub record IsSignedWhole (judge : Judge) (pair : Pair) (key : PrivateKey)
   pub accepted : (public : SubjectPublicKeyInfo) → IsKeyPair pair key public
       → Accepts judge algorithm public (encoding (request_info info)) (payload_of r.signature)
 
--- the whole has no encoding
+-- the request has no encoding
 abbrev pub WholeUnwritten : Judge → Pair → PrivateKey → SignatureAlgorithm
     → CertificationRequestInfo → CsrError → Type 0
 WholeUnwritten judge pair key algorithm info e =
     (r : CertificationRequest) × IsSignedWhole judge pair key algorithm info r
     × IsUnwrittenCsr elements.Request (RefusesInner (request_elements r)) e
 
--- what is signed has no encoding
+-- the CertificationRequestInfo has no encoding
 abbrev pub InfoUnwritten : CertificationRequestInfo → CsrError → Type 0
 InfoUnwritten info = IsUnwrittenCsr elements.RequestInfo (RefusesInner (info_elements info))
 
@@ -96,8 +96,8 @@ abbrev pub InfoUnsigned : Signs → PrivateKey → SignatureAlgorithm → Certif
 InfoUnsigned signs key algorithm info =
     IsUnsigned (RefusesSignatureBy (sign_rules signs algorithm key (encoding (request_info info))))
 
--- The first step refuses that isn't taken: to write what is signed, to sign it, to name the
--- algorithm, to write the whole.
+-- The first step that fails is reported: writing the CertificationRequestInfo, signing it, naming
+-- the algorithm, writing the request.
 abbrev pub RefusesToMake : KeyArithmetic → PrivateKey → SignatureAlgorithm
     → CertificationRequestInfo → CsrError → Type 0
 RefusesToMake scheme key algorithm info e =
@@ -108,7 +108,7 @@ RefusesToMake scheme key algorithm info e =
     × (IsUnsigned (IsUnwritable algorithm) e
     ⊎ WholeUnwritten scheme.judge scheme.pair key algorithm info e))))
 
--- There is no public key, or what is asked for is refused.
+-- There is no public key, or a later step fails.
 abbrev pub RefusesToGenerate : KeyArithmetic → DirectoryName → PrivateKey → SignatureAlgorithm
     → List Attribute → CsrError → Type 0
 RefusesToGenerate scheme subject key algorithm attributes e =

@@ -1,4 +1,4 @@
--- What is asked once a certificate is given as that of the issuer.
+-- The builder after a certificate was given as the issuer's.
 use Rattle.std.specs.Prelude.{◌≡◌, ◌⊎◌, ℕ, false, List, Option, Some}
 use Rattle.std.specs.Borrow.{Bor}
 use Rattle.asn1_types.specs.declared.oids.TheConstants.{CE_SUBJECT_KEY_IDENTIFIER}
@@ -11,8 +11,8 @@ use Rattle.x509_core.specs.FirstValue.{HasFirst}
 use Rattle.x509_core.specs.KeptCertificate.{KeptCertificate}
 use Rattle.x509_issuing.specs.declared.builder.CertificateBuilder.{CertificateBuilder}
 
--- the key is identified by the first extension that does so, and as before where there is none (RFC
--- 5280 4.2.1.1)
+-- the authority key identifier is that of the first subject key identifier, or as before if there
+-- is none (RFC 5280 4.2.1.1)
 abbrev pub IsIdentifiedBy : List Extension → (before after : Option (List ℕ)) → Type 0
 IsIdentifiedBy extensions before after =
     (NoneHas CE_SUBJECT_KEY_IDENTIFIER.now extensions × (after ≡ before))
@@ -20,8 +20,8 @@ IsIdentifiedBy extensions before after =
     × HasFirst CE_SUBJECT_KEY_IDENTIFIER.now extensions (views.SubjectKeyIdentifier key)
     × (after ≡ Some key))
 
--- The issuer has the name of the subject of its certificate, and this key, which is identified as
--- the certificate does; all else is as before.
+-- The issuer has the subject of its certificate as its name, and this key, with the certificate's
+-- subject key identifier; all else is as before.
 pub record IsIssuedUnder (cert : KeptCertificate) (key : Bor PrivateKey)
     (before after : CertificateBuilder) : Type 0 where
   pub authority : Option (List ℕ)

@@ -1,4 +1,4 @@
--- A request that is kept with its octets (RFC 2986 4.2).
+-- A certification request stored with its octets (RFC 2986 4.2).
 use Rattle.std.specs.Prelude.{◌≡◌, List, [], ◌∷◌, ◌++◌, Option}
 use Rattle.der_core.specs.DerElement.{DerElement}
 use Rattle.der_core.specs.Encoding.{IsDer}
@@ -13,29 +13,30 @@ use Rattle.request_types.specs.CertificationRequest.{request_of, request, inner_
 use Rattle.request_types.specs.declared.request.CertificationRequest.{CertificationRequest}
 use Rattle.request_types.specs.declared.request_info.CertificationRequestInfo.{CertificationRequestInfo}
 
--- The element of what is signed, and the value: what is signed spells that of the value, and the
--- element around it is in bounds.
+-- The element of the CertificationRequestInfo, and the value: the element encodes that of the
+-- value, and the element around it is within limits.
 pub record KeptRequest : Type 0 where
   pub info : DerElement
   pub request : CertificationRequest
   pub der : IsDer (request_of info request)
   pub spelled : ∥ IsRequestInfo info request.certification_request_info ∥₁
 
--- the element that is kept
+-- the stored element
 abbrev pub kept_request : KeptRequest → DerElement
 kept_request kept = request_of kept.info kept.request
 
--- The element is the one around this, which is in bounds and spells what is signed of the request.
+-- The element contains this one, which is within limits and encodes the CertificationRequestInfo of
+-- the request.
 abbrev pub IsAroundInfo : DerElement → CertificationRequest → DerElement → Type 0
 IsAroundInfo element r info =
     (element ≡ request_of info r) × IsDer (request_of info r)
     × ∥ IsRequestInfo info r.certification_request_info ∥₁
 
--- The element is the one around some such element.
+-- The element contains some such element.
 abbrev pub HasInfo : DerElement → CertificationRequest → Type 0
 HasInfo element r = (info : DerElement) × IsAroundInfo element r info
 
--- the request of its parts, the key of its subject among them
+-- the request with these parts
 abbrev pub request_with : List (List AttributeTypeAndValue) → PublicKey → Option (List Attribute)
     → AlgorithmIdentifier → BitString → CertificationRequest
 request_with subject key attributes algorithm signature = record {
@@ -45,10 +46,10 @@ request_with subject key attributes algorithm signature = record {
   signature = signature;
 }
 
--- all elements that are written for what is signed, those within strings first
+-- all elements that are written for a CertificationRequestInfo, inner ones first
 abbrev pub info_elements : CertificationRequestInfo → List DerElement
 info_elements info = inner_request info ++ request_info info ∷ []
 
--- all elements that are written for a request, those within strings first
+-- all elements that are written for a request, inner ones first
 abbrev pub request_elements : CertificationRequest → List DerElement
 request_elements r = inner_of_request r ++ request r ∷ []

@@ -16,7 +16,7 @@ use Rattle.x509_issuing.specs.declared.builder.IssuerInfos.{IssuerInfos}
 use Rattle.x509_issuing.specs.declared.builder.SubjectInfos.{SubjectInfos}
 use Rattle.x509_issuing.specs.declared.builder.SubjectInfos.TheVariants as subjects
 
--- An extension by its identifier's contents octets, whether it is critical, and its value.
+-- An extension by the contents octets of its OID, whether it is critical, and its value.
 pub record WantedExtension : Type 0 where
   pub oid : List ℕ
   pub critical : Bool
@@ -28,43 +28,43 @@ pub record IsWantedExtension (w : WantedExtension) (e : Extension) : Type 0 wher
   pub flagged : is_critical e ≡ w.critical
   pub valued : extension_value e ≡ w.value
 
--- each is the wanted one at its place, and there are as many
+-- each is the wanted one at its index, and there are as many
 abbrev pub AreWanted : List WantedExtension → List Extension → Type 0
 AreWanted [] [] = ⊤
 AreWanted [] (e ∷ extensions) = ⊥
 AreWanted (w ∷ wanted) [] = ⊥
 AreWanted (w ∷ wanted) (e ∷ extensions) = IsWantedExtension w e × AreWanted wanted extensions
 
--- one of this identifier, where its value is given
+-- one with this OID, if its value is given
 abbrev pub where_given : {X : Type 0} → List ℕ → Bool → (X → ExtensionView) → Option X
     → List WantedExtension
 where_given oid critical view None = []
 where_given oid critical view (Some x) =
     record { oid = oid; critical = critical; value = view x } ∷ []
 
--- the key is for signatures other than those on certificates, and it is said so (RFC 5280 4.2.1.3)
+-- the key usage is given and names signatures other than those on certificates (RFC 5280 4.2.1.3)
 abbrev pub IsForSignatures : Option KeyUsage → Type 0
 IsForSignatures None = ⊥
 IsForSignatures (Some usage) = HasBit (usage_bits usage) 0
 
--- whether it is an authority's, and how long paths may be, as the builder has it
+-- the basic constraints that the builder describes
 abbrev pub constraints_of : CertificateBuilder → ExtensionView
 constraints_of b = views.BasicConstraints (constraints_with (Some b.ca) b.pathlen)
 
--- constraints, critical or not, then what the key is for
+-- basic constraints, critical or not, then the key usages
 abbrev pub wanted_uses : CertificateBuilder → Bool → List WantedExtension
 wanted_uses b critical =
     record { oid = CE_BASIC_CONSTRAINTS.now; critical = critical; value = constraints_of b }
     ∷ (where_given CE_KEY_USAGE.now true views.KeyUsage b.key_usage
     ++ where_given CE_EXT_KEY_USAGE.now false views.ExtendedKeyUsage b.extended_key_usage)
 
--- further names of the subject, then of the issuer
+-- alternative names of the subject, then of the issuer
 abbrev pub wanted_names : CertificateBuilder → List WantedExtension
 wanted_names b =
     where_given CE_SUBJECT_ALT_NAME.now false views.SubjectAltName b.subject_alt_name
     ++ where_given CE_ISSUER_ALT_NAME.now false views.IssuerAltName b.issuer_alt_name
 
--- the identifier of the key, then of the issuer's
+-- the subject key identifier, then the authority key identifier
 abbrev pub wanted_keys : (own authority : List ℕ) → List WantedExtension
 wanted_keys own authority =
     record {
@@ -78,33 +78,33 @@ wanted_keys own authority =
       value = views.AuthorityKeyIdentifier (key_of_identifier authority);
     } ∷ []
 
--- the extensions that the builder makes itself, in their order
+-- the builder's own extensions, in order
 abbrev pub wanted : CertificateBuilder → Bool → (own authority : List ℕ) → List WantedExtension
 wanted b critical own authority =
     wanted_uses b critical ++ (wanted_names b ++ wanted_keys own authority)
 
--- The extension has the builder's constraints, and is critical exactly where the key is said to be
--- for signatures.
+-- The extension is the builder's basic constraints, critical exactly if the key usage is for
+-- signatures.
 pub record IsConstraints (b : CertificateBuilder) (e : Extension) : Type 0 where
   pub flagged : IsTrue (is_critical e) ↔ IsForSignatures b.key_usage
   pub named : identifier_contents (extension_id e) ≡ CE_BASIC_CONSTRAINTS.now
   pub valued : extension_value e ≡ constraints_of b
 
--- The extensions are the constraints, and what the key is for.
+-- The extensions are the basic constraints and the key usages.
 pub record HasUses (b : CertificateBuilder) (extensions : List Extension) : Type 0 where
   pub critical : Bool
   pub flagged : IsTrue critical ↔ IsForSignatures b.key_usage
   pub are : AreWanted (wanted_uses b critical) extensions
 
--- the extensions that are inherited: those that the request of the subject asks for, where that is
--- set and the issuer isn't the subject
+-- the inherited extensions: those that the subject's request asks for, if that is set and the
+-- issuer isn't the subject
 abbrev pub inherited : (self_signed inherits : Bool) → Option SubjectInfos → List Extension
 inherited false true (Some (subjects.Request csr)) =
     asked_in csr.request.certification_request_info.attributes
 inherited self_signed inherits subject = []
 
--- The extensions are those that the builder makes, and the inherited ones whose identifier isn't
--- there yet. Basic constraints are critical exactly where the key is said to be for signatures.
+-- The extensions are the builder's own, and the inherited ones with an OID that isn't there yet.
+-- Basic constraints are critical exactly if the key usage is for signatures.
 pub record AreBuilt (b : CertificateBuilder) (issuer : IssuerInfos) (own authority : List ℕ)
     (extensions : List Extension) : Type 0 where
   pub critical : Bool

@@ -1,4 +1,4 @@
--- When the signature of a request is one by the key in it, and why it isn't (RFC 2986 4.2).
+-- When the signature of a request is one by its own key, and why it isn't (RFC 2986 4.2).
 use Rattle.std.specs.Prelude.{◌⊎◌}
 use Rattle.der_core.specs.Encoding.{encoding}
 use Rattle.asn1_types.specs.Values.{payload_of}
@@ -9,8 +9,8 @@ use Rattle.key_core.specs.declared.signature_algorithm.SignatureAlgorithm.{Signa
 use Rattle.key_core.specs.declared.signature_error.SignatureError.{SignatureError}
 use Rattle.x509_issuing.specs.KeptRequest.{KeptRequest}
 
--- By the algorithm that the request names, the scheme accepts its signature over the kept octets of
--- what is signed, by its own key.
+-- With the algorithm that the request names, the scheme accepts its signature over the raw
+-- CertificationRequestInfo, by its own key.
 pub record IsSelfSigned (judge : Judge) (csr : KeptRequest) : Type 0 where
   pub algorithm : SignatureAlgorithm
   pub named : NamesSignature csr.request.signature_algorithm algorithm
@@ -18,8 +18,8 @@ pub record IsSelfSigned (judge : Judge) (csr : KeptRequest) : Type 0 where
       csr.request.certification_request_info.subject_public_key_info (encoding csr.info)
       (payload_of csr.request.signature)
 
--- The request names this algorithm, and its signature breaks a rule of it, this error telling of
--- the first.
+-- The request names this algorithm, and its signature breaks a rule of it; this error reports the
+-- first one.
 pub record IsMissigned (judge : Judge) (csr : KeptRequest) (e : SignatureError) : Type 0 where
   pub algorithm : SignatureAlgorithm
   pub named : NamesSignature csr.request.signature_algorithm algorithm
@@ -27,7 +27,7 @@ pub record IsMissigned (judge : Judge) (csr : KeptRequest) (e : SignatureError) 
       (verify_rules judge algorithm csr.request.certification_request_info.subject_public_key_info
       (encoding csr.info) (payload_of csr.request.signature)) e
 
--- why it isn't one by the key: the request names no algorithm, or the signature breaks a rule
+-- why it isn't one by its own key: the request names no algorithm, or the signature breaks a rule
 abbrev pub RefusesSelfSigned : Judge → KeptRequest → SignatureError → Type 0
 RefusesSelfSigned judge csr e =
     IsUnnamed csr.request.signature_algorithm e ⊎ IsMissigned judge csr e

@@ -1,4 +1,4 @@
-//! What is asked of a certificate that is to be built.
+//! Builder settings for a certificate.
 
 ghost use Rattle.std.specs.Prelude.{◌≡◌, Some, None, true, false, OnOk, OnErr, MatchOption};
 ghost use Rattle.asn1_types.specs.declared.oids.TheConstants.{CE_SUBJECT_KEY_IDENTIFIER};
@@ -27,7 +27,7 @@ use std::alloc::{AllocError, Global};
 use x509_core::Cert;
 use x509_types::{ExtendedKeyUsage, KeyUsage};
 
-/// Who signs the certificate.
+/// The issuer, who signs the certificate.
 #[derive(Drop)]
 pub struct IssuerInfos<'a> {
     name: DirectoryName,
@@ -36,16 +36,16 @@ pub struct IssuerInfos<'a> {
     self_signed: bool,
 }
 
-/// Whose certificate it is to be, where the issuer isn't also the subject.
+/// The subject of the certificate, if it isn't the issuer.
 pub enum SubjectInfos {
-    /// The one of this name and this key.
+    /// A subject with this name and key.
     Named(DirectoryName, PublicKey),
-    /// The one who asks for it.
+    /// The subject of a certification request.
     Request(Csr),
 }
 
-/// Written out, so that dropping one is a call: else each function that drops one is proved through
-/// all its parts.
+/// By hand, so that dropping one is a call: else each function that drops one is proved through all
+/// its parts.
 impl Drop for SubjectInfos {
     fn drop(self) {
         match self {
@@ -75,8 +75,8 @@ pub struct CertificateBuilder<'a> {
     inherits: bool,
 }
 
-/// Written out, so that dropping one is a call: else each function that drops one is proved through
-/// all its parts.
+/// By hand, so that dropping a builder is a call: else each function that drops one is proved
+/// through all its parts.
 impl Drop for CertificateBuilder<'_> {
     fn drop(self) {
         let CertificateBuilder {
@@ -101,8 +101,8 @@ impl Drop for CertificateBuilder<'_> {
 }
 
 impl<'a> CertificateBuilder<'a> {
-    /// A builder to which nothing is given: RSA with SHA-256 signs, keys are identified by the
-    /// SHA-256 of the SubjectPublicKeyInfo, and the certificate is no authority's.
+    /// An empty builder: it signs with RSA and SHA-256, key identifiers are the SHA-256 of the
+    /// SubjectPublicKeyInfo, and the certificate isn't a CA certificate.
     pub fn new(alloc: Global) -> CertificateBuilder<'a>
         ensures { result ≡ record {
           alloc = alloc;
@@ -143,7 +143,7 @@ impl<'a> CertificateBuilder<'a> {
         }
     }
 
-    /// The first and the last moment at which the certificate is valid (RFC 5280 4.1.2.5).
+    /// The first and the last second of the validity (RFC 5280 4.1.2.5).
     pub fn validity(mut self, valid_from: UtcDate, valid_to: UtcDate) -> Self
         ensures { result ≡ record self.entry
             { valid_from = Some valid_from; valid_to = Some valid_to } }
@@ -153,7 +153,7 @@ impl<'a> CertificateBuilder<'a> {
         self
     }
 
-    /// The name and the key of the subject. They take the place of a request.
+    /// The subject's name and key. They replace a request.
     pub fn subject(mut self, name: DirectoryName, public_key: PublicKey) -> Self
         ensures { result ≡ record self.entry
             { subject_infos = Some (subjects.Named name public_key) } }
@@ -162,7 +162,7 @@ impl<'a> CertificateBuilder<'a> {
         self
     }
 
-    /// The request of the subject. It takes the place of a name and a key.
+    /// The subject's request. It replaces a name and a key.
     pub fn subject_from_csr(mut self, csr: Csr) -> Self
         ensures { result ≡ record self.entry { subject_infos = Some (subjects.Request csr) } }
     {
@@ -196,9 +196,9 @@ impl<'a> CertificateBuilder<'a> {
         self
     }
 
-    /// An issuer that isn't the subject: its name is that of the subject of its certificate, and
-    /// where that identifies its key, the key of the authority is identified so. A refusal changes
-    /// nothing.
+    /// An issuer that isn't the subject: its name is the subject of its certificate, and the
+    /// subject key identifier there, if any, becomes the authority key identifier. A refusal
+    /// changes nothing.
     pub fn issuer_cert(
         &mut self,
         issuer_cert: &Cert,
@@ -222,7 +222,7 @@ impl<'a> CertificateBuilder<'a> {
         }
     }
 
-    /// An issuer that isn't the subject.
+    /// Sets an issuer that isn't the subject.
     fn set_issuer(&mut self, name: DirectoryName, key: &'a PrivateKey)
         ensures { self.new ≡ record self.old
             { issuer_infos = Some (record { name = name; key = key.entry; self_signed = false }) } }
@@ -234,8 +234,8 @@ impl<'a> CertificateBuilder<'a> {
         });
     }
 
-    /// The identifier of the issuer's key (RFC 5280 4.2.1.1). Where the issuer is also the subject,
-    /// the identifier that is made for its key takes its place.
+    /// The authority key identifier (RFC 5280 4.2.1.1). If the issuer is also the subject, the
+    /// generated identifier of its key replaces it.
     pub fn authority_key_identifier(mut self, key: Octets) -> Self
         ensures { result ≡ record self.entry { authority_key_identifier = Some key } }
     {
@@ -243,7 +243,7 @@ impl<'a> CertificateBuilder<'a> {
         self
     }
 
-    /// Whether the certificate is an authority's (RFC 5280 4.2.1.9).
+    /// Whether the certificate is a CA certificate (RFC 5280 4.2.1.9).
     pub fn ca(mut self, ca: bool) -> Self
         ensures { result ≡ record self.entry { ca = ca } }
     {
@@ -251,7 +251,7 @@ impl<'a> CertificateBuilder<'a> {
         self
     }
 
-    /// How many certificates may stand between it and the end of a path (RFC 5280 4.2.1.9).
+    /// How many certificates may be between it and the end of a path (RFC 5280 4.2.1.9).
     pub fn pathlen(mut self, pathlen: u8) -> Self
         ensures { result ≡ record self.entry { pathlen = Some pathlen } }
     {
@@ -259,7 +259,7 @@ impl<'a> CertificateBuilder<'a> {
         self
     }
 
-    /// The algorithm of the signature.
+    /// The signature algorithm.
     pub fn signature_hash_type(mut self, algorithm: SignatureAlgorithm) -> Self
         ensures { result ≡ record self.entry { signature_hash_type = algorithm } }
     {
@@ -267,7 +267,7 @@ impl<'a> CertificateBuilder<'a> {
         self
     }
 
-    /// How keys are identified.
+    /// How key identifiers are generated.
     pub fn key_id_gen_method(mut self, method: KeyIdGenMethod) -> Self
         ensures { result ≡ record self.entry { key_id_gen_method = method } }
     {
@@ -275,7 +275,7 @@ impl<'a> CertificateBuilder<'a> {
         self
     }
 
-    /// What the key is for (RFC 5280 4.2.1.3).
+    /// The key usage (RFC 5280 4.2.1.3).
     pub fn key_usage(mut self, usage: KeyUsage) -> Self
         ensures { result ≡ record self.entry { key_usage = Some usage } }
     {
@@ -283,7 +283,7 @@ impl<'a> CertificateBuilder<'a> {
         self
     }
 
-    /// What the key is for, an identifier a purpose (RFC 5280 4.2.1.12).
+    /// The extended key usage (RFC 5280 4.2.1.12).
     pub fn extended_key_usage(mut self, usage: ExtendedKeyUsage) -> Self
         ensures { result ≡ record self.entry { extended_key_usage = Some usage } }
     {
@@ -291,7 +291,7 @@ impl<'a> CertificateBuilder<'a> {
         self
     }
 
-    /// Further names of the subject (RFC 5280 4.2.1.6).
+    /// The subject alternative names (RFC 5280 4.2.1.6).
     pub fn subject_alt_name(mut self, names: GeneralNames) -> Self
         ensures { result ≡ record self.entry { subject_alt_name = Some names } }
     {
@@ -299,7 +299,7 @@ impl<'a> CertificateBuilder<'a> {
         self
     }
 
-    /// Further names of the issuer (RFC 5280 4.2.1.7).
+    /// The issuer alternative names (RFC 5280 4.2.1.7).
     pub fn issuer_alt_name(mut self, names: GeneralNames) -> Self
         ensures { result ≡ record self.entry { issuer_alt_name = Some names } }
     {
@@ -307,7 +307,7 @@ impl<'a> CertificateBuilder<'a> {
         self
     }
 
-    /// The octets of the serial number, the most significant first (RFC 5280 4.1.2.2).
+    /// The serial number in big-endian order (RFC 5280 4.1.2.2).
     pub fn serial_number(mut self, serial_number: Octets) -> Self
         ensures { result ≡ record self.entry { serial_number = Some serial_number } }
     {
@@ -315,10 +315,9 @@ impl<'a> CertificateBuilder<'a> {
         self
     }
 
-    /// Whether the certificate has the extensions that its request asks for, but for those of an
-    /// identifier that it has already. Each is compared with all that the certificate has, so the
-    /// time grows with the square of their number: who takes requests of strangers bounds their
-    /// length.
+    /// Whether the certificate has the extensions that its request asks for, except those with an
+    /// OID that it already has. Each is compared with all others, so the time is quadratic in their
+    /// number: limit the size of untrusted requests.
     pub fn inherit_extensions_from_csr_attributes(mut self, inherits: bool) -> Self
         ensures { result ≡ record self.entry { inherits = inherits } }
     {
@@ -327,7 +326,7 @@ impl<'a> CertificateBuilder<'a> {
     }
 }
 
-/// The identifier of the key of a certificate, where it has one.
+/// The subject key identifier of a certificate, if any.
 fn key_identifier_of(cert: &Cert) -> Option<&[u8]>
     ensures { MatchOption result
         (NoneHas CE_SUBJECT_KEY_IDENTIFIER.now

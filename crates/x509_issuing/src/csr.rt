@@ -1,4 +1,4 @@
-//! Requests that are kept with their octets.
+//! Certification requests stored with their octets.
 
 ghost use Rattle.std.specs.Prelude.{◌≡◌, ◌↔◌, ℕ, Some, IsTrue, IfOk, Err, MatchResult};
 ghost use Rattle.der_core.specs.DerElement.{DerElement};
@@ -35,9 +35,9 @@ use std::marker::Model;
 use x509_core::CsrError;
 use x509_types::{AlgorithmIdentifier, AttributeList, Name};
 
-/// A request for a certificate (RFC 2986 4.2), kept with its octets. Contracts see it as the
-/// element of what is signed, and the value. Whether its signature is one by its key is asked by
-/// [`Csr::verify`].
+/// A certification request (RFC 2986 4.2), stored with its octets. Contracts see it as the element
+/// of its CertificationRequestInfo and the value. Its signature is verified by [`Csr::verify`], not
+/// when it is read.
 #[derive(Debug)]
 pub struct Csr {
     kept: Raw,
@@ -51,8 +51,8 @@ pub struct Csr {
             (request_with subject public_key attributes signature_algorithm signature) },
 }
 
-/// Written out, so that dropping one is a call: else each function that drops one is proved through
-/// all its parts.
+/// By hand, so that dropping a request is a call: else each function that drops one is proved
+/// through all its parts.
 impl Drop for Csr {
     fn drop(self) {
         let Csr {
@@ -84,8 +84,8 @@ impl Model for Csr {
 }
 
 impl Csr {
-    /// The request that octets are, all of them, and nothing else. Octets that are no element, or
-    /// one of another structure, are refused as `Asn1Deserialization` without memory.
+    /// Reads a request from exactly its octets (RFC 2986 4.2). Octets that are no element, or
+    /// another structure, are refused as `Asn1Deserialization`, even when memory runs out.
     pub fn from_der(alloc: Global, der: &[u8]) -> Result<Csr, CsrError>
         ensures kept { IfOk result (λ csr. encoding (kept_request csr) ≡ der.now) }
         ensures answer { MatchResult result
@@ -95,7 +95,7 @@ impl Csr {
         ensures faulty { (at : ℕ) (fault : DerFault) → IsExactFault der.now at fault
             → result ≡ Err (errors.Asn1Deserialization elements.Request
             (der_errors.Malformed (record { at = at; fault = fault }))) }
-        // An element that is that of no request is refused as such, even when memory runs out.
+        // An element that is no request is refused as such, even when memory runs out.
         ensures shapeless { (element : DerElement) → IsDer element → der.now ≡ encoding element
             → ((r : CertificationRequest) → IsRequest element r → ⊥)
             → result ≡ Err (errors.Asn1Deserialization elements.Request der_errors.Shape) }
@@ -106,7 +106,7 @@ impl Csr {
         }
     }
 
-    /// The request that octets are, tested before memory is asked for.
+    /// Reads a request. The octets are tested before anything is allocated.
     fn read(alloc: Global, der: &[u8]) -> Result<Csr, DerError>
         ensures kept { IfOk result (λ csr. encoding (kept_request csr) ≡ der.now) }
         ensures answer { MatchResult result
@@ -125,7 +125,7 @@ impl Csr {
         Csr::read_at(alloc, elem)
     }
 
-    /// The request that an element spells, with a copy of its octets.
+    /// The request that an element encodes, with a copy of its octets.
     fn read_at(alloc: Global, elem: Elem<'_>) -> Result<Csr, DerError>
         ensures kept { IfOk result (λ csr. kept_request csr ≡ elem.entry.is.0) }
         ensures answer { MatchResult result
@@ -137,7 +137,7 @@ impl Csr {
         Ok(Csr::keep(kept, request))
     }
 
-    /// The request that a kept element spells.
+    /// The request that a raw element encodes.
     fn keep(kept: Raw, request: CertificationRequest) -> Csr
         requires { IsRequest kept.element request }
         ensures { (kept_request result ≡ kept.element) × (result.request ≡ request) }
@@ -163,7 +163,7 @@ impl Csr {
         }
     }
 
-    /// The octets that are kept: those that were read, or written at first.
+    /// A copy of the octets, as they were read or first written.
     pub fn to_der(&self, alloc: Global) -> Result<Vec<u8>, CsrError>
         ensures { MatchResult result (λ octets. octets.items ≡ encoding (kept_request self.now))
             (λ e. e ≡ errors.Memory) }
@@ -171,8 +171,8 @@ impl Csr {
         Ok(Vec::from_slice(alloc, self.kept.as_bytes())?)
     }
 
-    /// The request of a value, with the octets that are written for it. A value that has none is
-    /// refused as `Asn1Serialization`.
+    /// Makes a request from a value, with the value's encoding. A value without one is refused as
+    /// `Asn1Serialization`.
     pub fn from_certification_request(
         alloc: Global,
         value: CertificationRequest,
@@ -187,7 +187,7 @@ impl Csr {
         }
     }
 
-    /// The name of the subject (RFC 2986 4.1).
+    /// The subject's name (RFC 2986 4.1).
     pub fn subject_name(&self, alloc: Global) -> Result<DirectoryName, AllocError>
         ensures { IfOk result
             (λ copy. sets_of copy ≡ self.now.request.certification_request_info.subject) }
@@ -195,7 +195,7 @@ impl Csr {
         Ok(DirectoryName::from(self.subject.try_clone(alloc)?))
     }
 
-    /// The key of the subject with its algorithm (RFC 2986 4.1).
+    /// The subject's key with its algorithm (RFC 2986 4.1).
     pub fn public_key(&self) -> &PublicKey
         ensures { info_of result.now
             ≡ self.now.request.certification_request_info.subject_public_key_info }
@@ -203,7 +203,7 @@ impl Csr {
         &self.public_key
     }
 
-    /// The name and the key of the subject. It takes no memory.
+    /// The subject's name and key (RFC 2986 4.1). It doesn't allocate.
     pub fn into_subject_infos(self) -> (DirectoryName, PublicKey)
         ensures name { sets_of result.0 ≡ self.request.certification_request_info.subject }
         ensures key { info_of result.1
@@ -220,7 +220,7 @@ impl Csr {
         (DirectoryName::from(subject), public_key)
     }
 
-    /// A copy of the value.
+    /// A copy of the request.
     pub fn try_clone(&self, alloc: Global) -> Result<Csr, AllocError>
         ensures { IfOk result (λ copy. copy ≡ self.now) }
     {
@@ -231,7 +231,7 @@ impl Csr {
     }
 }
 
-/// The element that is written for a request, kept with its octets.
+/// The encoding of a request.
 fn written(alloc: Global, value: &CertificationRequest) -> Result<Raw, DerError>
     ensures { MatchResult result
         (λ raw. (raw.element ≡ request value.now) × IsRequest raw.element value.now)

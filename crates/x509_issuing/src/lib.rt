@@ -1,5 +1,5 @@
-//! What is asked of an authority. Requests: read from octets, kept with them, verified and
-//! generated. Certificates: built for a request, or for a name and a key.
+//! A CA's work. Certification requests: reading them, stored with their octets, verifying and
+//! generating them. Certificates: building them for a request, or for a name and a key.
 #![tactic(auto)]
 
 mod builder;

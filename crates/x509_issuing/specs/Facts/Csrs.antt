@@ -1,4 +1,5 @@
--- An element is around what is signed of a request for one reason, and requests that are kept have codes.
+-- Whether an element contains the CertificationRequestInfo of a request is a proposition, and
+-- stored requests have codes.
 use Rattle.std.specs.Prelude.{◌≡◌}
 use Rattle.std.specs.Coded.{Coded, Coded-set}
 use Rattle.std.proofs.Common.{ap, sym, subst, refl, ◌∙◌}
@@ -26,7 +27,7 @@ spelled-prop info r x y = squash₁ x y
 IsAroundInfo-prop : (element : DerElement) (r : CertificationRequest) (info : DerElement) → IsProp (IsAroundInfo element r info)
 IsAroundInfo-prop element r info = hlevel (same_element element (request_of info r), IsDerWithin-prop most_levels (request_of info r), spelled-prop info r)
 
--- an element is around one that is signed
+-- an element contains one CertificationRequestInfo
 pub info_once : (a b : DerElement) (r s : CertificationRequest) → request_of a r ≡ request_of b s → a ≡ b
 info_once a b r s e =
     (same_three a (algorithm_identifier r.signature_algorithm) (bit_string r.signature) b (algorithm_identifier s.signature_algorithm) (bit_string s.signature) e).0
@@ -37,11 +38,11 @@ HasInfo-prop element r a b = Σ_prop_path (IsAroundInfo-prop element r) (info_on
 abbrev coded_request : Coded CertificationRequest
 coded_request = record { code = λ r. octets_code.code (request_octets r); inj = λ a b e. requests_by_octets a b (octets_code.inj (request_octets a) (request_octets b) e) }
 
--- the element around what is signed of a request spells it
+-- the element with the CertificationRequestInfo of a request is an encoding of it
 pub spelled_around : (info : DerElement) (r : CertificationRequest) → IsRequestInfo info r.certification_request_info → IsRequest (request_of info r) r
 spelled_around info r is = record { info = info; is = refl; spelled = is }
 
--- an element is kept for one request
+-- an element is stored for one request
 value_once : (a b : KeptRequest) → kept_request a ≡ kept_request b → a.request ≡ b.request
 value_once a b e =
     ∥∥₁_elim a.spelled (Coded-set coded_request a.request b.request)
@@ -65,7 +66,7 @@ same_kept a b info value =
     subst (λ (x : DerElement). (der : IsDer (request_of x b.request)) (spelled : ∥ IsRequestInfo x b.request.certification_request_info ∥₁) → a ≡ kept_of x b.request der spelled) info
     (same_value a b.request value) b.der b.spelled
 
--- requests that are kept with the same element are the same
+-- requests with the same stored element are the same
 pub kept_once : (a b : KeptRequest) → kept_request a ≡ kept_request b → a ≡ b
 kept_once a b e = same_kept a b (info_once a.info b.info a.request b.request e) (value_once a b e)
 

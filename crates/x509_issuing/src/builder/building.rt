@@ -1,4 +1,4 @@
-//! The certificate that is built, step by step.
+//! Building the certificate, step by step.
 
 ghost use Rattle.std.specs.Prelude.{◌≡◌, [], ◌∷◌, Some, None, Err, IfOk, MatchResult};
 ghost use Rattle.asn1_types.specs.Integer.{IsUnsignedInteger};
@@ -35,7 +35,7 @@ use std::alloc::{AllocError, Global};
 use x509_core::{Arg, Cert, CertError};
 use x509_types::{Extensions, Name, SubjectPublicKeyInfo, TbsCertificate, Time, Validity, Version};
 
-/// By whom the certificate is issued.
+/// The issuer's fields of a certificate.
 #[derive(Drop)]
 struct IssuedBy {
     serial_number: IntegerAsn1,
@@ -44,15 +44,15 @@ struct IssuedBy {
 }
 
 impl<'a> CertificateBuilder<'a> {
-    /// The certificate, with a number of the random word where none is given. It is refused by the
-    /// first of these: `MissingBuilderArgument` where the first moment, the last, or the issuer
-    /// isn't given; `PrivateKeyToPublicKey` where the issuer is the subject and its key has no
-    /// public half; where it isn't, `MissingBuilderArgument` where the identifier of its key, or
-    /// the subject, isn't given, and `InvalidCsr` where the request of the subject isn't signed by
-    /// its own key; `CertGeneration` with `KeyIdGen` where the subject's key has no identifier;
-    /// `Signature` where the algorithm has none; `CertGeneration` with `Asn1Serialization` where
-    /// what is signed can't be written, and with `Signature` where it isn't signed;
-    /// `Asn1Serialization` where the whole can't be written.
+    /// Builds the certificate; `word` is a random word, the serial number if none is given. The
+    /// first error is returned: `MissingBuilderArgument` where the first second, the last, or the
+    /// issuer isn't given; `PrivateKeyToPublicKey` where the issuer is the subject and its key has
+    /// no public key; where it isn't, `MissingBuilderArgument` where the authority key identifier,
+    /// or the subject, isn't given, and `InvalidCsr` where the subject's request isn't signed by
+    /// its own key; `CertGeneration` with `KeyIdGen` where the subject's key has no key identifier;
+    /// `Signature` where the algorithm has no OID; `CertGeneration` with `Asn1Serialization` where
+    /// the TBSCertificate can't be written, and with `Signature` where it isn't signed;
+    /// `Asn1Serialization` where the certificate can't be written.
     pub fn build<S: Scheme>(self, alloc: Global, word: u32, scheme: &S) -> Result<Cert, CertError>
         ensures answer { MatchResult result
             (IsBuilt (arithmetic (S.judge scheme.now) (S.signs scheme.now) (S.pair scheme.now))
@@ -60,7 +60,7 @@ impl<'a> CertificateBuilder<'a> {
             (RefusesBySteps errors.Memory (build_steps
             (arithmetic (S.judge scheme.now) (S.signs scheme.now) (S.pair scheme.now))
             self.entry word)) }
-        // What isn't given is reported even when memory runs out.
+        // A missing argument is reported, even when memory runs out.
         ensures refused { (e : CertError) → IsFirstUntaken (argument_steps self.entry) e
             → result ≡ Err e }
         // Its signature is one by each certificate whose key pairs with the issuer's.
@@ -69,10 +69,10 @@ impl<'a> CertificateBuilder<'a> {
             → IsKeyPair (S.pair scheme.now) issuer.key.now
             parent.certificate.tbs_certificate.subject_public_key_info
             → IsSignedBy (S.judge scheme.now) parent.elements cert.elements) }
-        // No two extensions have one identifier, whatever a request asks for.
+        // No two extensions have one OID, whatever a request asks for.
         ensures distinct { IfOk result
             (λ cert. AreDistinct (extensions_in cert.certificate.tbs_certificate.extensions)) }
-        // The flag and the path length are the builder's, whatever a request asks for.
+        // The CA flag and the path length are the builder's, whatever a request asks for.
         ensures constrained { IfOk result (λ cert. HasFirst CE_BASIC_CONSTRAINTS.now
             (extensions_in cert.certificate.tbs_certificate.extensions)
             (constraints_of self.entry)) }
@@ -104,7 +104,7 @@ impl<'a> CertificateBuilder<'a> {
         signed(alloc, tbs, issuer.key, self.signature_hash_type, scheme)
     }
 
-    /// The first moment, the last, and the issuer.
+    /// The first second, the last, and the issuer.
     fn given(&self) -> Result<(UtcDate, UtcDate, &IssuerInfos<'a>), CertError>
         ensures { MatchResult result
             (λ given. (self.now.valid_from ≡ Some given.0) × (self.now.valid_to ≡ Some given.1)
@@ -123,7 +123,7 @@ impl<'a> CertificateBuilder<'a> {
         }
     }
 
-    /// What is signed.
+    /// The TBSCertificate.
     fn tbs(
         &self,
         alloc: Global,
@@ -143,7 +143,7 @@ impl<'a> CertificateBuilder<'a> {
         Ok(joined(by, validity, subject, extensions))
     }
 
-    /// By whom it is issued.
+    /// The issuer's fields.
     fn issued_by(
         &self,
         alloc: Global,
@@ -165,7 +165,7 @@ impl<'a> CertificateBuilder<'a> {
         })
     }
 
-    /// The serial number: the one that is given, or the random word, 1 for 0.
+    /// The serial number: the given one, or the random word, 1 for 0.
     fn serial(&self, alloc: Global, word: u32) -> Result<IntegerAsn1, AllocError>
         ensures { IfOk result (λ serial. IsUnsignedInteger (serial_of self.now.serial_number word)
             (integer_contents serial)) }
@@ -184,7 +184,7 @@ fn number(alloc: Global, number: u32) -> Result<IntegerAsn1, AllocError>
     IntegerAsn1::from_bytes_be_unsigned(alloc, &number.to_be_bytes())
 }
 
-/// The identifier of the algorithm.
+/// The AlgorithmIdentifier of the signature algorithm.
 fn identifier_of(
     alloc: Global,
     algorithm: SignatureAlgorithm,
@@ -198,7 +198,7 @@ fn identifier_of(
     }
 }
 
-/// What is signed, of its parts.
+/// The TBSCertificate from its parts.
 fn joined(
     by: IssuedBy,
     validity: Validity,

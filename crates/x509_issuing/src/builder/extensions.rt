@@ -17,8 +17,7 @@ use std::alloc::{AllocError, Global};
 use x509_types::{Extension, Extensions, RawGeneralNames};
 
 impl CertificateBuilder<'_> {
-    /// The extensions: those that are made, and the inherited ones whose identifier isn't there
-    /// yet.
+    /// The extensions: the builder's own, and the inherited ones with an OID that isn't there yet.
     pub(super) fn extensions(
         &self,
         alloc: Global,
@@ -35,7 +34,7 @@ impl CertificateBuilder<'_> {
         Ok(extensions)
     }
 
-    /// How the key of the issuer is identified.
+    /// The authority key identifier.
     fn authority<'x>(&'x self, issuer: &IssuerInfos<'_>, own: &'x [u8]) -> &'x [u8]
         ensures { result.now ≡ authority_of issuer.now.self_signed self.now.authority_key_identifier
             own.now }
@@ -49,7 +48,7 @@ impl CertificateBuilder<'_> {
         }
     }
 
-    /// Whether it is an authority's, and what the key is for.
+    /// The basic constraints and the key usages.
     fn uses(&self, alloc: Global) -> Result<Extensions, AllocError>
         ensures { IfOk result (HasUses self.now) }
     {
@@ -60,7 +59,7 @@ impl CertificateBuilder<'_> {
         Ok(extensions)
     }
 
-    /// Whether it is an authority's, critical exactly where the key is said to be for signatures.
+    /// The basic constraints, critical exactly if the key usage is for signatures.
     fn constraints(&self, alloc: Global) -> Result<Extension, AllocError>
         ensures { IfOk result (IsConstraints self.now) }
     {
@@ -70,7 +69,7 @@ impl CertificateBuilder<'_> {
         }
     }
 
-    /// Whether the key is said to be for signatures other than those on certificates.
+    /// Whether the key usage names signatures other than those on certificates.
     fn is_for_signatures(&self) -> bool
         ensures { IsTrue result ↔ IsForSignatures self.now.key_usage }
     {
@@ -80,7 +79,7 @@ impl CertificateBuilder<'_> {
         }
     }
 
-    /// What the key is for, where it is given.
+    /// The key usage, if given.
     fn usage(&self, alloc: Global) -> Result<Option<Extension>, AllocError>
         ensures { IfOk result
             (λ made. AreWanted (where_given CE_KEY_USAGE.now true views.KeyUsage self.now.key_usage)
@@ -95,7 +94,7 @@ impl CertificateBuilder<'_> {
         }
     }
 
-    /// What the key is for by identifiers, where they are given.
+    /// The extended key usage, if given.
     fn purposes(&self, alloc: Global) -> Result<Option<Extension>, AllocError>
         ensures { IfOk result (λ made. AreWanted
             (where_given CE_EXT_KEY_USAGE.now false views.ExtendedKeyUsage
@@ -111,7 +110,7 @@ impl CertificateBuilder<'_> {
         }
     }
 
-    /// Appends further names of the subject and of the issuer, where they are given.
+    /// Appends the alternative names of the subject and of the issuer, if given.
     fn push_names(&self, alloc: Global, extensions: &mut Extensions) -> Result<(), AllocError>
         ensures { OnOk result ((made : List Extension) × AreWanted (wanted_names self.now) made
             × (extensions.new ≡ extensions.old ++ made)) }
@@ -120,7 +119,7 @@ impl CertificateBuilder<'_> {
         push_option(extensions, self.issuer_names(alloc)?)
     }
 
-    /// Further names of the subject, where they are given.
+    /// The subject alternative names, if given.
     fn subject_names(&self, alloc: Global) -> Result<Option<Extension>, AllocError>
         ensures { IfOk result (λ made. AreWanted
             (where_given CE_SUBJECT_ALT_NAME.now false views.SubjectAltName
@@ -136,7 +135,7 @@ impl CertificateBuilder<'_> {
         }
     }
 
-    /// Further names of the issuer, where they are given.
+    /// The issuer alternative names, if given.
     fn issuer_names(&self, alloc: Global) -> Result<Option<Extension>, AllocError>
         ensures { IfOk result (λ made. AreWanted
             (where_given CE_ISSUER_ALT_NAME.now false views.IssuerAltName
@@ -153,7 +152,7 @@ impl CertificateBuilder<'_> {
     }
 }
 
-/// The names as they stand in an extension.
+/// The names in the form that the extension stores.
 fn copied(alloc: Global, names: &GeneralNames) -> Result<RawGeneralNames, AllocError>
     ensures { IfOk result (λ raw. raw ≡ names.now) }
 {
@@ -172,7 +171,7 @@ fn flagged(extension: Extension, critical: bool) -> Extension
     }
 }
 
-/// Appends an extension, where there is one.
+/// Appends an extension, if there is one.
 fn push_option(extensions: &mut Extensions, given: Option<Extension>) -> Result<(), AllocError>
     ensures { OnOk result (extensions.new ≡ extensions.old ++ option_to_list given) }
 {
@@ -182,7 +181,7 @@ fn push_option(extensions: &mut Extensions, given: Option<Extension>) -> Result<
     }
 }
 
-/// Appends the identifier of the key and that of the issuer's.
+/// Appends the subject key identifier and the authority key identifier.
 fn push_keys(
     alloc: Global,
     extensions: &mut Extensions,
@@ -197,7 +196,7 @@ fn push_keys(
     extensions.push(authority_key_identifier(alloc, authority)?)
 }
 
-/// The identifier of the key.
+/// The subject key identifier extension.
 fn key_identifier(alloc: Global, key: &[u8]) -> Result<Extension, AllocError>
     ensures { IfOk result (λ e. IsPlainExtension e CE_SUBJECT_KEY_IDENTIFIER.now
         (views.SubjectKeyIdentifier key.now)) }
@@ -208,7 +207,7 @@ fn key_identifier(alloc: Global, key: &[u8]) -> Result<Extension, AllocError>
     }
 }
 
-/// The identifier of the issuer's key.
+/// The authority key identifier extension.
 fn authority_key_identifier(alloc: Global, key: &[u8]) -> Result<Extension, AllocError>
     ensures { IfOk result (λ e. IsPlainExtension e CE_AUTHORITY_KEY_IDENTIFIER.now
         (views.AuthorityKeyIdentifier (key_of_identifier key.now))) }

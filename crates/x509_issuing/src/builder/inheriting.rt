@@ -1,4 +1,4 @@
-//! Extensions of a request that a certificate gets.
+//! Extensions that a certificate inherits from a request.
 
 ghost use Rattle.std.specs.Prelude.{◌≡◌, OnOk, bytes_eq};
 ghost use Rattle.std.specs.List.{list_any};
@@ -12,8 +12,8 @@ use std::alloc::{AllocError, Global};
 use x509_types::{Extension, Extensions};
 
 impl CertificateBuilder<'_> {
-    /// The extensions that are inherited: those that the request of the subject asks for, where
-    /// that is set and the issuer isn't the subject.
+    /// The inherited extensions: those that the subject's request asks for, if that is set and the
+    /// issuer isn't the subject.
     pub(super) fn inherited(&self, issuer: &IssuerInfos<'_>) -> &[Extension]
         ensures { result.now ≡ inherited issuer.now.self_signed self.now.inherits
             self.now.subject_infos }
@@ -32,7 +32,7 @@ impl CertificateBuilder<'_> {
     }
 }
 
-/// Appends each of others, in their order, whose identifier isn't there yet.
+/// Appends the other extensions in order, except those with an OID that is there already.
 pub(super) fn push_others(
     alloc: Global,
     extensions: &mut Extensions,
@@ -48,7 +48,7 @@ pub(super) fn push_others(
     Ok(())
 }
 
-/// Appends an extension whose identifier isn't there yet.
+/// Appends an extension, unless its OID is there already.
 fn push_one(
     alloc: Global,
     extensions: &mut Extensions,
@@ -62,7 +62,7 @@ fn push_one(
     extensions.push(extension.try_clone(alloc)?)
 }
 
-/// Whether one of the extensions has this identifier, by its contents octets.
+/// Whether one of the extensions has this OID, given by its contents octets.
 fn has_one(extensions: &[Extension], oid: &[u8]) -> bool
     ensures { result ≡ has_one extensions.now oid.now }
 {

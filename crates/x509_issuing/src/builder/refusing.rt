@@ -1,4 +1,4 @@
-//! What is told of a certificate that isn't built, by what refuses the step.
+//! The errors of building a certificate, by the step that fails.
 
 ghost use Rattle.std.specs.Prelude.{◌≡◌};
 ghost use Rattle.x509_core.specs.Link.{signature_refusal as algorithm_refusal};
@@ -9,14 +9,14 @@ use der_core::DerError;
 use key_core::{Element, KeyError, KeyIdGenError, SignatureError};
 use x509_core::{Arg, CertCause, CertError, CsrError};
 
-/// What is needed isn't given.
+/// The argument isn't given.
 pub(super) fn missing(arg: Arg) -> CertError
     ensures { result ≡ errors.MissingBuilderArgument arg }
 {
     CertError::MissingBuilderArgument { arg }
 }
 
-/// The private key of the issuer has no public half.
+/// The issuer's private key has no public key.
 pub(super) fn no_half(source: KeyError) -> CertError
     ensures { result ≡ half_refusal source }
 {
@@ -36,7 +36,7 @@ pub(super) fn no_request(source: CsrError) -> CertError
     }
 }
 
-/// The key has no identifier.
+/// The key has no key identifier.
 pub(super) fn no_key_id(source: KeyIdGenError) -> CertError
     ensures { result ≡ key_id_refusal source }
 {
@@ -48,7 +48,7 @@ pub(super) fn no_key_id(source: KeyIdGenError) -> CertError
     }
 }
 
-/// The algorithm has no identifier.
+/// The algorithm has no OID.
 pub(super) fn no_algorithm(source: SignatureError) -> CertError
     ensures { result ≡ algorithm_refusal source }
 {
@@ -58,7 +58,7 @@ pub(super) fn no_algorithm(source: SignatureError) -> CertError
     }
 }
 
-/// What is signed can't be written.
+/// The TBSCertificate can't be written.
 pub(super) fn no_octets(source: DerError) -> CertError
     ensures { result ≡ octets_refusal source }
 {

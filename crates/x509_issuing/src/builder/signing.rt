@@ -1,4 +1,4 @@
-//! What is signed, and the certificate that is made of it.
+//! Signing the TBSCertificate.
 
 ghost use Rattle.std.specs.Prelude.{◌≡◌, ◌⊎◌, IfOk, MatchResult};
 ghost use Rattle.der_core.specs.Encoding.{IsDer};
@@ -25,7 +25,7 @@ use std::alloc::Global;
 use x509_core::{Cert, CertError};
 use x509_types::{Certificate, TbsCertificate};
 
-/// The certificate of what is signed, by the private key.
+/// The certificate with this TBSCertificate, signed by the private key.
 pub(super) fn signed<S: Scheme>(
     alloc: Global,
     tbs: TbsCertificate,
@@ -52,7 +52,7 @@ pub(super) fn signed<S: Scheme>(
     )
 }
 
-/// The signature over what is signed.
+/// The signature over the TBSCertificate.
 fn signature_of<S: Scheme>(
     alloc: Global,
     tbs: &TbsCertificate,

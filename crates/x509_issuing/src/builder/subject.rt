@@ -1,4 +1,4 @@
-//! Whom the certificate is for.
+//! The subject of the certificate.
 
 ghost use Rattle.std.specs.Prelude.{◌≡◌, [], ◌∷◌, ◌++◌, false, Err, IfOk, IsSome, MatchResult};
 ghost use Rattle.key_core.specs.Keys.{info_of};
@@ -23,7 +23,7 @@ use sig_core::Scheme;
 use std::alloc::{AllocError, Global};
 use x509_core::{Arg, CertError};
 
-/// Whom the certificate is for: a name, a key, and how the key is identified.
+/// The subject: a name, a key, and its key identifier.
 #[derive(Drop)]
 pub(super) struct Subject {
     pub(super) name: DirectoryName,
@@ -32,7 +32,7 @@ pub(super) struct Subject {
 }
 
 impl CertificateBuilder<'_> {
-    /// The subject, its key identified.
+    /// The subject with its key identifier.
     pub(super) fn identified<S: Scheme>(
         &self,
         alloc: Global,
@@ -56,7 +56,7 @@ impl CertificateBuilder<'_> {
         }
     }
 
-    /// The name and the key of the subject.
+    /// The subject's name and key.
     fn subject_of<S: Scheme>(
         &self,
         alloc: Global,
@@ -79,7 +79,7 @@ impl CertificateBuilder<'_> {
         }
     }
 
-    /// The name and the key of a subject that isn't the issuer, whose key is identified.
+    /// The name and key of a subject that isn't the issuer.
     fn other_subject<S: Scheme>(
         &self,
         alloc: Global,
@@ -104,7 +104,7 @@ impl CertificateBuilder<'_> {
     }
 }
 
-/// The name of the issuer, and the public half of its key.
+/// The issuer's name and public key.
 fn own_subject(
     alloc: Global,
     issuer: &IssuerInfos<'_>,
@@ -133,7 +133,7 @@ fn copied(
     Ok((name, key.try_clone(alloc)?))
 }
 
-/// The name and the key of a request that its own key signs.
+/// The name and key of a request that is signed by its own key.
 fn requested<S: Scheme>(
     alloc: Global,
     csr: &Csr,

@@ -8,7 +8,7 @@ use super::Csr;
 use x509_types::{Attribute, AttributeValues, Extension, Extensions};
 
 impl Csr {
-    /// The extensions that the first attribute for them asks for, as its first value has them.
+    /// The extensions in the first value of the first attribute that asks for extensions.
     pub(crate) fn asked_extensions(&self) -> &[Extension]
         ensures { result.now ≡ asked_in self.now.request.certification_request_info.attributes }
     {
@@ -19,7 +19,7 @@ impl Csr {
     }
 }
 
-/// Those of the first attribute that asks for extensions.
+/// The same, among these attributes.
 fn asked_first(attributes: &[Attribute]) -> &[Extension]
     ensures { result.now ≡ asked_first attributes.now }
 {

@@ -1,4 +1,4 @@
-//! What is told of a request that isn't read, written, accepted or made, by what refuses the step.
+//! The errors of requests, by the step that fails.
 
 ghost use Rattle.std.specs.Prelude.{◌≡◌};
 ghost use Rattle.x509_issuing.specs.CsrRefusals.{unread_csr, unwritten_csr, unsigned as unsigned_csr, keyless as keyless_csr};
@@ -7,7 +7,7 @@ use der_core::DerError;
 use key_core::{Element, KeyError, SignatureError};
 use x509_core::CsrError;
 
-/// Why octets of the structure aren't read.
+/// The error for octets that aren't read as the structure.
 pub(super) fn unread(element: Element, source: DerError) -> CsrError
     ensures { result ≡ unread_csr element source }
 {
@@ -17,7 +17,7 @@ pub(super) fn unread(element: Element, source: DerError) -> CsrError
     }
 }
 
-/// Why a value of the structure isn't written.
+/// The error for a value that isn't written as the structure.
 pub(super) fn unwritten(element: Element, source: DerError) -> CsrError
     ensures { result ≡ unwritten_csr element source }
 {
@@ -27,7 +27,7 @@ pub(super) fn unwritten(element: Element, source: DerError) -> CsrError
     }
 }
 
-/// Why a signature isn't accepted or made.
+/// The error for a signature that isn't accepted or made.
 pub(super) fn unsigned(source: SignatureError) -> CsrError
     ensures { result ≡ unsigned_csr source }
 {
@@ -37,7 +37,7 @@ pub(super) fn unsigned(source: SignatureError) -> CsrError
     }
 }
 
-/// Why a private key gives no public key.
+/// The error for a private key without a public key.
 pub(super) fn keyless(source: KeyError) -> CsrError
     ensures { result ≡ keyless_csr source }
 {

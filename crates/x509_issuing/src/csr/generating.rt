@@ -1,4 +1,4 @@
-//! Requests that a private key signs.
+//! Generating requests.
 
 ghost use Rattle.std.specs.Prelude.{◌≡◌, ◌⊎◌, [], None, Err, IfOk, MatchResult};
 ghost use Rattle.der_core.specs.Encoding.{encoding};
@@ -27,8 +27,8 @@ use x509_core::CsrError;
 use x509_types::{AlgorithmIdentifier, AttributeList, Name, SubjectPublicKeyInfo};
 
 impl Csr {
-    /// A request for this name and the public key of the private one, which signs it, with an empty
-    /// list of attributes. It is refused as by [`Csr::generate_with_attributes`].
+    /// A request for this name and the private key's public key, signed by the private key, with an
+    /// empty list of attributes. The errors are those of [`Csr::generate_with_attributes`].
     pub fn generate<S: Scheme>(
         alloc: Global,
         subject: DirectoryName,
@@ -41,11 +41,11 @@ impl Csr {
             (RefusesToGenerate
             (arithmetic (S.judge scheme.now) (S.signs scheme.now) (S.pair scheme.now)) subject
             private_key.now signature_hash_type []) }
-        // A public key that is missing is reported even when memory runs out.
+        // A missing public key is reported, even when memory runs out.
         ensures missing { (e : KeyError) → point_beside private_key.now ≡ None
             → IsMissingHalf (container_of private_key.now).private_key e
             → result ≡ Err (keyless e) }
-        // It is accepted under a key that pairs with its public one.
+        // It is accepted under a key that pairs with its public key.
         ensures verifies { IfOk result (λ csr. IsKeyPair (S.pair scheme.now) private_key.now
             csr.request.certification_request_info.subject_public_key_info
             → IsSelfSigned (S.judge scheme.now) csr) }
@@ -61,11 +61,11 @@ impl Csr {
         )
     }
 
-    /// A request for this name, the public key of the private one and these attributes, which the
-    /// private key signs (RFC 2986 4.2). It is refused by the first of these:
-    /// `PrivateKeyToPublicKey` where there is no public key, `Asn1Serialization` of what is signed,
-    /// `Signature` where it can't be signed, and then where the algorithm has no identifier,
-    /// `Asn1Serialization` of the request.
+    /// A request for this name, the private key's public key and these attributes, signed by the
+    /// private key (RFC 2986 4.2). The first error is returned: `PrivateKeyToPublicKey` where there
+    /// is no public key, `Asn1Serialization` where the CertificationRequestInfo can't be written,
+    /// `Signature` where it can't be signed, and then where the algorithm has no OID,
+    /// `Asn1Serialization` where the request can't be written.
     pub fn generate_with_attributes<S: Scheme>(
         alloc: Global,
         subject: DirectoryName,
@@ -80,11 +80,11 @@ impl Csr {
             (RefusesToGenerate
             (arithmetic (S.judge scheme.now) (S.signs scheme.now) (S.pair scheme.now)) subject
             private_key.now signature_hash_type attributes) }
-        // A public key that is missing is reported even when memory runs out.
+        // A missing public key is reported, even when memory runs out.
         ensures missing { (e : KeyError) → point_beside private_key.now ≡ None
             → IsMissingHalf (container_of private_key.now).private_key e
             → result ≡ Err (keyless e) }
-        // It is accepted under a key that pairs with its public one.
+        // It is accepted under a key that pairs with its public key.
         ensures verifies { IfOk result (λ csr. IsKeyPair (S.pair scheme.now) private_key.now
             csr.request.certification_request_info.subject_public_key_info
             → IsSelfSigned (S.judge scheme.now) csr) }
@@ -96,7 +96,7 @@ impl Csr {
     }
 }
 
-/// What is asked for.
+/// The CertificationRequestInfo.
 fn info_for(
     alloc: Global,
     subject: DirectoryName,
@@ -118,7 +118,7 @@ fn info_for(
     }
 }
 
-/// The request for what is asked for, signed by the private key.
+/// The request with this CertificationRequestInfo, signed by the private key.
 fn signed<S: Scheme>(
     alloc: Global,
     info: CertificationRequestInfo,
@@ -146,7 +146,7 @@ fn signed<S: Scheme>(
     Csr::from_certification_request(alloc, request)
 }
 
-/// The signature over what is asked for by the private key.
+/// The signature over the CertificationRequestInfo by the private key.
 fn signature_of<S: Scheme>(
     alloc: Global,
     info: &CertificationRequestInfo,
@@ -175,7 +175,7 @@ fn signature_of<S: Scheme>(
     }
 }
 
-/// The identifier of the algorithm.
+/// The AlgorithmIdentifier of the signature algorithm.
 fn identifier_of(
     alloc: Global,
     algorithm: SignatureAlgorithm,

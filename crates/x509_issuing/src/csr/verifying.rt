@@ -1,4 +1,4 @@
-//! Whether the signature of a request is one by the key in it.
+//! Verifying requests.
 
 ghost use Rattle.std.specs.Prelude.{◌≡◌, Err, MatchResult};
 ghost use Rattle.der_core.specs.Rules.{IsFirstBroken};
@@ -18,13 +18,13 @@ use std::alloc::Global;
 use x509_core::CsrError;
 
 impl Csr {
-    /// Whether the signature is one by the key of the request over what is signed, as its octets
-    /// were kept (RFC 2986 4.2). The signature's algorithm is the one that the request names.
+    /// Verifies the signature by the request's own key over the raw CertificationRequestInfo (RFC
+    /// 2986 4.2), with the algorithm that the request names.
     pub fn verify<S: Scheme>(&self, alloc: Global, scheme: &S) -> Result<(), CsrError>
         ensures answer { MatchResult result
             (λ _. IsSelfSigned (S.judge scheme.now) self.now)
             (IsUnsigned (RefusesSelfSigned (S.judge scheme.now) self.now)) }
-        // A key that the algorithm isn't for is refused even when memory runs out.
+        // A key that doesn't fit the algorithm is refused, even when memory runs out.
         ensures refused { (algorithm : SignatureAlgorithm) (e : SignatureError)
             → NamesSignature self.now.request.signature_algorithm algorithm
             → IsFirstBroken
@@ -60,7 +60,7 @@ impl Csr {
         }
     }
 
-    /// What is signed, where its octets lie.
+    /// The CertificationRequestInfo, borrowed.
     fn info(&self) -> Elem<'_>
         ensures { result.is.0 ≡ self.now.info }
     {
