@@ -1,4 +1,4 @@
--- Contents by their kinds.
+-- Contents by kind.
 use Rattle.std.proofs.Common.{◌≡◌, ◌↔◌, IsTrue, Bool, ℕ, List, Option, Some, ap, sym, subst, ◌∙◌}
 use Rattle.std.specs.Option.{option_map, option_eq}
 use Rattle.std.specs.Prelude.{bytes_eq}
@@ -53,7 +53,7 @@ other_of kind element content is of = held_of kind kinds.Other element content i
 pub list_of : (kind : ContentKind) (element : DerElement) (content : ContentValue) → kind ≡ kinds.CertificateTrustList → IsContentOf kind element content → (list : Ctl) × (element ≡ ctl list)
 list_of kind element content is of = held_of kind kinds.CertificateTrustList element content is of
 
--- ---- a content that may be left out
+-- ---- an optional content
 
 pub some_content : (kind : ContentKind) (o : Option Elem) (e : Elem) (content : ContentValue) → o ≡ Some e → IsContentOf kind e.is.0 content → SpellsContent kind (at_option o) (Some content)
 some_content kind o e content is of = (of.0, ap at_option is ∙ ap Some of.1)
@@ -67,16 +67,16 @@ of_fields element ty content id kind value is named same spelled = (
   is ∙ ap (λ (t : DerElement). content_info_of t content) named ∙ ap (content_info_of (object_identifier id)) spelled.1,
 )
 
--- the fields of the element spell those of the value
+-- the fields of the element encode those of the value
 pub by_fields : (element : DerElement) (ty : DerElement) (content : Option DerElement) (info : EncapsulatedContentInfo) → element ≡ content_info_of ty content → element ≡ content_info info
     → (ty ≡ object_identifier info.content_type) × (content ≡ option_map content_value info.content)
 by_fields element ty content info is spelled = fields_once ty (object_identifier info.content_type) content (option_map content_value info.content) (sym is ∙ spelled)
 
--- the view that is cut of an element lies there
+-- the view taken from an element borrows its fields
 pub lies : (element ty : DerElement) (content : Option DerElement) (octets : List ℕ) → element ≡ content_info_of ty content → ty ≡ Primitive 0x06 octets → element ≡ lent_content octets content
 lies element ty content octets is named = is ∙ ap (λ (t : DerElement). content_info_of t content) named
 
--- what is known of an element is known of the fields that stand in it
+-- what is known of an element is known of its fields
 pub known_fits : (element ty : DerElement) (content : Option DerElement) (octets : List ℕ) → element ≡ content_info_of ty content → ty ≡ Primitive 0x06 octets
     → ∥ ((info : EncapsulatedContentInfo) × (element ≡ content_info info)) ∥₁ → ∥ HasContent octets content ∥₁
 known_fits element ty content octets is named known =
@@ -87,11 +87,11 @@ known_fits element ty content octets is named known =
 abbrev same_contents : ContentValue → ContentValue → Bool
 same_contents a b = bytes_eq (content_octets a) (content_octets b)
 
--- contents of one type are told by their values
+-- the value determines a content of one type
 pub by_content : (a b : EncapsulatedContentInfo) (t : Bool) → a.content_type ≡ b.content_type → (IsTrue t ↔ (a.content ≡ b.content)) → IsTrue t ↔ (a ≡ b)
 by_content a b t ty content = (λ w. same_info a b ty (content.0 w), λ e. content.1 (ap (λ (x : EncapsulatedContentInfo). x.content) e))
 
--- a test that holds exactly of what is the same is that of kind and octets
+-- a test for equality is one of kind and octets
 pub told_decide : (a b : ContentValue) (t : Bool) → (IsTrue t ↔ (a ≡ b)) → t ≡ bytes_eq (content_octets a) (content_octets b)
 told_decide a b t same =
     let decides = bytes_eq-Decides (content_octets a) (content_octets b) in

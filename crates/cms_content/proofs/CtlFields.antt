@@ -14,7 +14,7 @@ use Rattle.cms_content.specs.CtlElement.{ctl}
 use Rattle.cms_content.specs.declared.ctl.Ctl.{Ctl}
 use Rattle.cms_content.specs.declared.ctl_entry.CTLEntry.{CTLEntry}
 
--- ---- an element that may be left out was taken, or not
+-- ---- an optional element was taken, or not
 
 abbrev pub Took : (DerElement → Type 0) → Option Elem → List DerElement → List DerElement → Type 0
 Took holds found old new = MatchOption found ((new ≡ old) × FirstNot holds old) (λ elem. (old ≡ elem.is.0 ∷ new) × holds elem.is.0)
@@ -108,7 +108,7 @@ ctl_whole e u t a x k0 k1 k2 k3 k4 k5 k6 k7 k8 k9 version identifier number next
     } in
     record { kids = k0; is = is; fields = goes_back IsIntegerElement (FromUsage es) version k0 k1 tv usage }
 
--- ---- of a trust list that is kept
+-- ---- of a stored trust list
 
 pub no_list : (e : DerElement) (v : Ctl) → e ≡ ctl v → ((es : List CTLEntry) → IsCtl e es → ⊥) → ⊥
 no_list e v is none = ∥∥₁_elim v.are (λ x y. absurd x) (λ are. none v.entries (subst (λ (t : DerElement). IsCtl t v.entries) (sym is) are))

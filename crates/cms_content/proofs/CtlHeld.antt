@@ -1,4 +1,4 @@
--- The values of attributes of entries by their kinds.
+-- The values of attributes of entries, by kind.
 use mathlib.Core.Logic.{∥∥₁_elim}
 use Rattle.std.proofs.Common.{◌≡◌, ℕ, Result, Ok, Err, MatchResult, List, [], ◌∷◌, flat_map, sym, subst, ◌∙◌}
 use Rattle.der_core.specs.DerElement.{DerElement}
@@ -72,7 +72,7 @@ pub set_written : {X : Type 0} (written : X → DerElement) (vs : CTLEntryAttrib
 set_written written vs xs (Ok tree) is list = (list.is ∙ sym is, list.formed)
 set_written written vs xs (Err e) is refused = subst (λ i. RefusesInner i e) (none_inner xs) refused
 
--- ---- purposes in a string
+-- ---- extended key usages in a string
 
 pub no_purposes : (e : DerElement) (octets : List ℕ) (v : HeldPurposes) → e ≡ octet_string octets → e ≡ held_purposes v → ((purposes : List ObjectIdentifier) → ArePurposesIn octets purposes → ⊥) → ⊥
 no_purposes e octets v at is none =

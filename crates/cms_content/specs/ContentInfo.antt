@@ -1,4 +1,4 @@
--- Which element is that of a content with its type (RFC 5652 5.2, RFC 2315 7).
+-- The element of a content with its type (RFC 5652 5.2, RFC 2315 7).
 use Rattle.std.specs.Option.{option_map}
 use Rattle.der_core.specs.DerElement.{DerElement}
 use Rattle.asn1_types.specs.Elements.{object_identifier}

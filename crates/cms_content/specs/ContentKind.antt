@@ -1,10 +1,10 @@
--- The kinds of contents, by their types.
+-- The kinds of contents, by type.
 use Rattle.std.specs.Prelude.{ℕ, List, if◌then◌else◌, bytes_eq}
 use Rattle.asn1_types.specs.declared.oids.TheConstants.{SPC_INDIRECT_DATA, CTL, DATA}
 use Rattle.cms_content.specs.declared.content_kind.ContentKind.{ContentKind}
 use Rattle.cms_content.specs.declared.content_kind.ContentKind.TheVariants as kinds
 
--- the kind that a type names, by the contents octets of its identifier (RFC 5652 4; Windows
+-- the kind that a type names, given by the contents octets of its OID (RFC 5652 4; Windows
 -- Authenticode Portable Executable Signature Format; Microsoft, wincrypt.h)
 abbrev pub named_content : List ℕ → ContentKind
 named_content oid =

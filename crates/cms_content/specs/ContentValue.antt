@@ -1,4 +1,4 @@
--- Contents, by their types.
+-- Contents, by type.
 use Rattle.std.specs.Prelude.{◌≡◌, ⊤, ℕ, List, ◌∷◌, Option, Some, None}
 use Rattle.std.specs.Option.{option_map}
 use Rattle.der_core.specs.DerElement.{DerElement}
@@ -31,17 +31,16 @@ abbrev pub IsContentOf : ContentKind → DerElement → ContentValue → Type 0
 IsContentOf kind element content =
     (kind_of_content content ≡ kind) × (element ≡ content_value content)
 
--- A content, where there is one, is of the kind.
+-- A content, if any, is of the kind.
 abbrev pub HasKind : ContentKind → Option ContentValue → Type 0
 HasKind kind None = ⊤
 HasKind kind (Some content) = kind_of_content content ≡ kind
 
--- The element is that of the content, which is of the kind, and there is one where there is a
--- content.
+-- The element is that of the content, which is of the kind, and both are present or absent.
 abbrev pub SpellsContent : ContentKind → Option DerElement → Option ContentValue → Type 0
 SpellsContent kind element content =
     HasKind kind content × (element ≡ option_map content_value content)
 
--- the kind of a content, and the octets of its element
+-- the encoding of a content
 abbrev pub content_octets : ContentValue → List ℕ
 content_octets content = content_number (kind_of_content content) ∷ encoding (content_value content)

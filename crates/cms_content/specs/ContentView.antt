@@ -7,7 +7,8 @@ use Rattle.cms_content.specs.LentContent.{lent_content}
 use Rattle.cms_content.specs.declared.content_info.EncapsulatedContentInfo.{EncapsulatedContentInfo}
 use Rattle.cms_content.specs.declared.content_view.ContentView.{ContentView}
 
--- The view is one of this element: its type and its content lie there, and it is that of a value.
+-- The view is one of this element: it borrows its type and its content, and the element encodes a
+-- value.
 pub record IsContentView (element : DerElement) (view : ContentView) : Type 0 where
   pub is : element ≡ lent_content view.content_type.now (at_option view.content)
   pub value : EncapsulatedContentInfo

@@ -1,4 +1,4 @@
--- What a trust list is.
+-- The structure of a trust list.
 use Rattle.std.specs.Prelude.{◌≡◌, ◌≤◌, ⊤, List, [], ◌∷◌}
 use Rattle.der_core.specs.DerElement.{DerElement, tag_of}
 use Rattle.der_core.specs.Each.{IsListOf, Prints}
@@ -10,7 +10,7 @@ use Rattle.cms_content.specs.CtlEntry.{ctl_entry}
 use Rattle.cms_content.specs.HeldPurposes.{ArePurposes}
 use Rattle.cms_content.specs.declared.ctl_entry.CTLEntry.{CTLEntry}
 
--- The first of the elements is such, and the others are so.
+-- The first of the elements satisfies one predicate, and the rest the other.
 pub record Begins (holds : DerElement → Type 0) (behind : List DerElement → Type 0)
     (all : List DerElement) : Type 0 where
   pub first : DerElement
@@ -19,13 +19,14 @@ pub record Begins (holds : DerElement → Type 0) (behind : List DerElement → 
   pub is : holds first
   pub rest : behind others
 
--- An element that is such may be left out in front of others that are so.
+-- An element that satisfies the first predicate may be absent before a rest that satisfies the
+-- other.
 pub data MayBegin (holds : DerElement → Type 0) (behind : List DerElement → Type 0)
     (all : List DerElement) : Type 0 where
   LeftOut : behind all → MayBegin holds behind all
   Given : Begins holds behind all → MayBegin holds behind all
 
--- The first of the elements, where there is one, isn't such.
+-- The first of the elements, if any, doesn't satisfy the predicate.
 abbrev pub FirstNot : (DerElement → Type 0) → List DerElement → Type 0
 FirstNot holds [] = ⊤
 FirstNot holds (kid ∷ kids) = holds kid → ⊥
@@ -44,7 +45,7 @@ IsIntegerElement = Fits (Prints integer)
 abbrev pub IsString : DerElement → Type 0
 IsString = Fits (Prints octet_string)
 
--- a SEQUENCE of purposes
+-- a SEQUENCE of extended key usages
 abbrev pub IsPurposeList : DerElement → Type 0
 IsPurposeList = Fits ArePurposes
 
@@ -56,30 +57,30 @@ IsTime element = (0x17 ≤ tag_of element) × (tag_of element ≤ 0x18)
 abbrev pub IsAlgorithmElement : DerElement → Type 0
 IsAlgorithmElement = Fits (Prints algorithm_identifier)
 
--- The element holds the entries, in order.
+-- The element encodes the entries, in order.
 abbrev pub AreEntries : DerElement → List CTLEntry → Type 0
 AreEntries = IsListOf 0x30 (Prints ctl_entry)
 
--- any elements under the tag
+-- any elements in the tag
 abbrev pub AreExtensions : DerElement → Type 0
 AreExtensions element = tag_of element ≡ 0xA0
 
--- ---- from each field on
+-- ---- the rest from each field on
 
--- the fields from the entries on
+-- from the entries
 abbrev pub FromEntries : List CTLEntry → List DerElement → Type 0
 FromEntries entries =
     Begins (λ element. AreEntries element entries) (MayBegin AreExtensions IsNothing)
 
--- the fields from the algorithm on
+-- from the algorithm
 abbrev pub FromAlgorithm : List CTLEntry → List DerElement → Type 0
 FromAlgorithm entries = Begins IsAlgorithmElement (FromEntries entries)
 
--- the fields from the time of the update on
+-- from the time of the update
 abbrev pub FromThisUpdate : List CTLEntry → List DerElement → Type 0
 FromThisUpdate entries = Begins IsTime (MayBegin IsTime (FromAlgorithm entries))
 
--- the fields from the usage on
+-- from the usage
 abbrev pub FromUsage : List CTLEntry → List DerElement → Type 0
 FromUsage entries =
     Begins IsPurposeList (MayBegin IsString (MayBegin IsIntegerElement (FromThisUpdate entries)))

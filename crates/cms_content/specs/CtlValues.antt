@@ -1,5 +1,5 @@
--- The values of attributes of entries of a trust list, a SET OF: SET { ANY } (Microsoft,
--- wincrypt.h), of the four kinds that are known each an OCTET STRING, that of purposes around a
+-- The values of attributes of trust list entries, a SET OF: SET { ANY } (Microsoft, wincrypt.h); of
+-- the four known kinds each value is an OCTET STRING, that of extended key usages contains a
 -- SEQUENCE OF OBJECT IDENTIFIER
 use Rattle.std.specs.Prelude.{◌≡◌}
 use Rattle.der_core.specs.DerElement.{DerElement}
@@ -20,7 +20,7 @@ kind_of_ctl (values.UnknownReservedPropId126 times) = kinds.UnknownReservedPropI
 kind_of_ctl (values.UnknownReservedPropId127 purposes) = kinds.UnknownReservedPropId127
 kind_of_ctl (values.Other kept) = kinds.Other
 
--- the element of values: the SET OF their elements, in the order that stands
+-- the element of values: the SET OF their elements, in the order found
 abbrev pub ctl_values : CTLEntryAttributeValues → DerElement
 ctl_values (values.CertSubjectNameMd5HashPropId digests) = list_element 0x31 octet_string digests
 ctl_values (values.CertDisallowedFileTimePropId times) = list_element 0x31 octet_string times

@@ -19,9 +19,9 @@ use std::alloc::{AllocError, Global};
 /// The tag around a content (RFC 5652 3, 5.2).
 pub const CONTENT: u8 = 0xA0;
 
-/// A content with its type, or a type whose content is left out (RFC 5652 5.2; RFC 2315 7). The
-/// content is of the kind that the type names. One of a known kind that doesn't read is none: it is
-/// `Shape`.
+/// A content with its type, or a type without a content (RFC 5652 5.2; RFC 2315 7). The content is
+/// of the kind that the type names. A content of a known kind that can't be read as such is refused
+/// as `Shape`.
 #[derive(Debug, Drop)]
 pub struct EncapsulatedContentInfo {
     pub content_type: ObjectIdentifier,
@@ -29,7 +29,7 @@ pub struct EncapsulatedContentInfo {
     pub ghost fits: { HasKind (named_content (identifier_contents content_type)) content } by { HasKind-prop (named_content (identifier_contents content_type)) content },
 }
 
-/// The fields where they lie, each any element.
+/// The fields, borrowed, each any element.
 #[derive(Clone, Copy)]
 pub(crate) struct Fields<'a> {
     pub content_type: Elem<'a>,
@@ -58,7 +58,7 @@ impl<'a> Fields<'a> {
 impl EncapsulatedContentInfo {
     ghost use Rattle.std.specs.Prelude.{Some};
 
-    /// A content with its type, None exactly where the type names contents of another kind.
+    /// A content with its type. None exactly where the type names contents of another kind.
     pub fn new(
         content_type: ObjectIdentifier,
         content: Option<ContentValue>,
@@ -79,7 +79,7 @@ impl EncapsulatedContentInfo {
     }
 }
 
-/// Whether the content, where there is one, is of the kind.
+/// Whether the content, if any, is of the kind.
 fn has_kind(kind: ContentKind, content: &Option<ContentValue>) -> bool
     ensures { IsTrue result ↔ HasKind kind content.now }
 {
@@ -143,7 +143,7 @@ impl Structure for EncapsulatedContentInfo {
     ghost grammar = { content_infos };
 }
 
-/// Contents with their types are equal exactly where their octets are.
+/// Contents with their types are equal exactly where their encodings are.
 impl PartialEq for EncapsulatedContentInfo {
     ghost use Rattle.der_core.specs.Equality.{same_octets};
     ghost use Rattle.der_core.specs.Facts.Equality.{same_octets_per};

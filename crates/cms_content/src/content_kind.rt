@@ -1,4 +1,4 @@
-//! The kinds of contents, by their types.
+//! The kinds of contents, by type.
 
 ghost use Rattle.std.specs.Prelude.{◌≡◌, ◌≢◌, MatchOption};
 ghost use Rattle.asn1_types.specs.Elements.{object_identifier};
@@ -14,7 +14,7 @@ use der_core::{Elem, leaf_at};
 /// A kind of contents.
 #[derive(Clone, Copy, Debug, PartialEq, Eq)]
 pub enum ContentKind {
-    /// What Authenticode signs in the place of a file.
+    /// What Authenticode signs instead of a file.
     IndirectData,
     /// A trust list (Microsoft, wincrypt.h).
     CertificateTrustList,
@@ -25,7 +25,7 @@ pub enum ContentKind {
 }
 
 impl ContentKind {
-    /// The kind of contents of a type, by the contents octets of its identifier.
+    /// The kind of contents of a type, given by the contents octets of its OID.
     pub fn named(oid: &[u8]) -> ContentKind
         ensures { result ≡ named_content oid.now }
     {
@@ -41,7 +41,7 @@ impl ContentKind {
         ContentKind::Other
     }
 
-    /// The kind of contents of the type that an element identifies.
+    /// The kind of contents of the type in an element.
     pub(crate) fn at(oid: Elem<'_>) -> Option<ContentKind>
         ensures { MatchOption result
             ((id : ObjectIdentifier) → oid.entry.is.0 ≢ object_identifier id)

@@ -1,4 +1,4 @@
-//! Contents of any type.
+//! Contents of all types.
 
 ghost use Rattle.std.specs.Prelude.{◌≡◌, ◌↔◌, [], false, IfOk, IsTrue, MatchResult, Option};
 ghost use Rattle.der_core.specs.Encoding.{IsWellFormed};
@@ -17,14 +17,14 @@ use std::alloc::{AllocError, Global};
 /// A content, by its type.
 #[derive(Debug, Drop)]
 pub enum ContentValue {
-    /// What Authenticode signs in the place of a file (Windows Authenticode Portable Executable
+    /// What Authenticode signs instead of a file (Windows Authenticode Portable Executable
     /// Signature Format).
     SpcIndirectDataContent(SpcIndirectDataContent),
     /// A trust list (Microsoft, wincrypt.h).
     CertificateTrustList(Ctl),
     /// Octets (RFC 5652 4).
     Data(Octets),
-    /// A content of any other type as it is.
+    /// A content of any other type, raw.
     Other(Raw),
 }
 
@@ -55,7 +55,7 @@ impl ContentValue {
         }
     }
 
-    /// The content of the kind that an element is.
+    /// Reads a content of the kind.
     fn read_of(alloc: Global, kind: ContentKind, elem: Elem<'_>) -> Result<ContentValue, DerError>
         ensures { MatchResult result (IsContentOf kind elem.entry.is.0)
             (RefusesShape (IsContentOf kind elem.entry.is.0)) }
@@ -74,7 +74,7 @@ impl ContentValue {
         }
     }
 
-    /// Whether an element, where there is one, is a content of the kind.
+    /// Whether an element, if any, is a content of the kind.
     pub(crate) fn has_option_of(kind: ContentKind, elem: Option<Elem<'_>>) -> bool
         ensures fits { IsTrue result → Fits (SpellsContent kind) (at_option elem.entry) }
         ensures unfit { result ≡ false → (value : Option ContentValue)
@@ -86,7 +86,7 @@ impl ContentValue {
         }
     }
 
-    /// The content of the kind that an element is, where there is one.
+    /// Reads a content of the kind, if there is one.
     pub(crate) fn read_option_of(
         alloc: Global,
         kind: ContentKind,
@@ -116,7 +116,7 @@ impl ContentValue {
         }
     }
 
-    /// A copy of the value.
+    /// A copy of the content.
     pub fn try_clone(&self, alloc: Global) -> Result<ContentValue, AllocError>
         ensures { IfOk result (λ copy. copy ≡ self.now) }
     {
@@ -133,7 +133,7 @@ impl ContentValue {
     }
 }
 
-/// Contents are equal exactly where their kinds and octets are.
+/// Contents are equal exactly where their kinds and encodings are.
 impl PartialEq for ContentValue {
     ghost use Rattle.std.specs.Ordering.{on};
     ghost use Rattle.std.specs.Cmp.Lexicographic.{nat_list_eq_equiv};

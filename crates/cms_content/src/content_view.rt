@@ -1,4 +1,4 @@
-//! Contents with their types, where their octets lie.
+//! Contents with their types, borrowed.
 
 ghost use Rattle.der_core.specs.Lent.{at_option};
 ghost use Rattle.cms_content.specs.LentContent.{HasContent};
@@ -7,7 +7,7 @@ use crate::content_info::{EncapsulatedContentInfo, Fields};
 use der_core::tag::OBJECT_IDENTIFIER;
 use der_core::{Elem, Structure, leaf_at};
 
-/// A content with its type where its octets lie (RFC 5652 5.2). It takes no memory.
+/// A borrowed content with its type (RFC 5652 5.2). It doesn't allocate.
 #[derive(Clone, Copy)]
 pub struct ContentView<'a> {
     content_type: &'a [u8],
@@ -22,7 +22,7 @@ impl<'a> ContentView<'a> {
     ghost use Rattle.cms_content.specs.LentContent.{lent_content};
     ghost use Rattle.cms_content.specs.declared.content_info.EncapsulatedContentInfo.{EncapsulatedContentInfo};
 
-    /// The content that an element spells.
+    /// The view of an element, None if it encodes no content with its type.
     pub fn read(elem: Elem<'a>) -> Option<ContentView<'a>>
         ensures { MatchOption result
             ((info : EncapsulatedContentInfo) → elem.entry.is.0 ≢ content_info info)
@@ -39,8 +39,8 @@ impl<'a> ContentView<'a> {
         })
     }
 
-    /// The content that an element spells, where it is known to spell one. Heads alone are read,
-    /// and no shape is tested again.
+    /// The view of an element that is known to encode a content with its type. Only tags and
+    /// lengths are read; nothing is tested again.
     pub fn of_known(elem: Elem<'a>) -> ContentView<'a>
         requires { ∥ ((info : EncapsulatedContentInfo) × (elem.is.0 ≡ content_info info)) ∥₁ }
         ensures { elem.entry.is.0 ≡ lent_content result.content_type.now
@@ -59,14 +59,14 @@ impl<'a> ContentView<'a> {
         }
     }
 
-    /// The contents octets of the identifier of the type.
+    /// The contents octets of the type's OID.
     pub fn content_type(&self) -> &'a [u8]
         ensures { result.now ≡ self.now.content_type.now }
     {
         self.content_type
     }
 
-    /// The content, where it isn't left out.
+    /// The content, unless it is absent.
     pub fn content(&self) -> Option<Elem<'a>>
         ensures { at_option result ≡ at_option self.now.content }
     {

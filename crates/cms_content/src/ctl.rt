@@ -14,7 +14,7 @@ use std::alloc::{AllocError, Global};
 
 const EXTENSIONS: u8 = 0xA0;
 
-/// A trust list (Microsoft, wincrypt.h: CTL_INFO). It is kept as it is; its entries are read.
+/// A trust list (Microsoft, wincrypt.h: CTL_INFO). It is stored raw; its entries are decoded.
 #[derive(Debug, Drop)]
 pub struct Ctl {
     element: Raw,
@@ -59,7 +59,7 @@ fn entries_at<'a>(elem: Elem<'a>) -> Option<Elem<'a>>
     Some(entries)
 }
 
-/// The next element, where it is a time by its tag. Another one is left.
+/// The next element if its tag is that of a time; another one isn't consumed.
 fn next_time<'a>(kids: &mut Kids<'a>) -> Option<Elem<'a>>
     ensures { MatchOption result
         ((kids.new.are.0 ≡ kids.old.are.0) × FirstNot IsTime kids.old.are.0)
@@ -112,7 +112,7 @@ impl Structure for Ctl {
     ghost grammar = { ctls };
 }
 
-/// Trust lists are equal exactly where their octets are.
+/// Trust lists are equal exactly where their encodings are.
 impl PartialEq for Ctl {
     ghost use Rattle.der_core.specs.Equality.{same_octets};
     ghost use Rattle.der_core.specs.Facts.Equality.{same_octets_per};

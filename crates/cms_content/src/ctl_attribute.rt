@@ -1,4 +1,4 @@
-//! Attributes of entries of a trust list.
+//! Attributes of trust list entries.
 
 ghost use Rattle.std.specs.Prelude.{◌≡◌, ◌≢◌, MatchOption};
 ghost use Rattle.asn1_types.specs.Values.{identifier_contents};
@@ -13,9 +13,9 @@ use der_core::tag::SEQUENCE;
 use der_core::{DerError, Elem, NewKids, Structure, Tree, two_kids};
 use std::alloc::{AllocError, Global};
 
-/// An attribute of an entry of a trust list: its identifier, and its values, which are of the kind
-/// that the identifier names (Microsoft, wincrypt.h). One of a known kind whose values don't all
-/// read is none: it is `Shape`.
+/// An attribute of a trust list entry: its OID, and its values, which are of the kind that the OID
+/// names (Microsoft, wincrypt.h). An attribute of a known kind whose values can't all be read as
+/// such is refused as `Shape`.
 #[derive(Debug, Drop)]
 pub struct CTLEntryAttribute {
     pub oid: ObjectIdentifier,
@@ -24,8 +24,8 @@ pub struct CTLEntryAttribute {
 }
 
 impl CTLEntryAttribute {
-    /// The attribute of this identifier and these values, None exactly where the identifier names
-    /// attributes of another kind.
+    /// The attribute with this OID and these values. None exactly where the OID names attributes of
+    /// another kind.
     pub fn new(oid: ObjectIdentifier, value: CTLEntryAttributeValues) -> Option<CTLEntryAttribute>
         ensures { MatchOption result
             (kind_of_ctl value ≢ named_ctl (identifier_contents oid))

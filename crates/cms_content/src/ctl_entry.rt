@@ -1,4 +1,4 @@
-//! Entries of a trust list.
+//! Entries of trust lists.
 
 ghost use Rattle.std.specs.Prelude.{◌≡◌};
 
@@ -10,7 +10,7 @@ use der_core::{
 };
 use std::alloc::{AllocError, Global};
 
-/// An entry of a trust list: what identifies the subject, and what is said of it (Microsoft,
+/// An entry of a trust list: what identifies the subject, and its attributes (Microsoft,
 /// wincrypt.h).
 #[derive(Debug, Drop)]
 pub struct CTLEntry {

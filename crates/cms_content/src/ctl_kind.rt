@@ -1,4 +1,4 @@
-//! The kinds of attributes of entries of a trust list, by their identifiers.
+//! The kinds of attributes of trust list entries, by OID.
 
 ghost use Rattle.std.specs.Prelude.{◌≡◌, ◌≢◌, MatchOption};
 ghost use Rattle.asn1_types.specs.Elements.{object_identifier};
@@ -14,23 +14,23 @@ use asn1_types::oids::{
 use der_core::tag::OBJECT_IDENTIFIER;
 use der_core::{Elem, leaf_at};
 
-/// A kind of attributes of an entry of a trust list (Microsoft, wincrypt.h).
+/// A kind of attributes of trust list entries (Microsoft, wincrypt.h).
 #[derive(Clone, Copy, Debug, PartialEq, Eq)]
 pub enum CtlKind {
     /// The MD5 of the subject's name.
     CertSubjectNameMd5HashPropId,
-    /// From when on the subject isn't trusted.
+    /// The time from which the subject isn't trusted.
     CertDisallowedFileTimePropId,
     /// A time (CERT_NOT_BEFORE_FILETIME_PROP_ID).
     UnknownReservedPropId126,
-    /// The purposes of which the time is said.
+    /// The extended key usages that the time is for.
     UnknownReservedPropId127,
     /// Any other.
     Other,
 }
 
 impl CtlKind {
-    /// The kind of attributes that an identifier names, by its contents octets.
+    /// The kind of attributes that an OID names, given by its contents octets.
     pub fn named(oid: &[u8]) -> CtlKind
         ensures { result ≡ named_ctl oid.now }
     {
@@ -49,7 +49,7 @@ impl CtlKind {
         CtlKind::Other
     }
 
-    /// The kind of attributes that the element of an identifier names.
+    /// The kind of attributes that the element of an OID names.
     pub(crate) fn at(oid: Elem<'_>) -> Option<CtlKind>
         ensures { MatchOption result
             ((id : ObjectIdentifier) → oid.entry.is.0 ≢ object_identifier id)

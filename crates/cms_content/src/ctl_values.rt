@@ -1,4 +1,4 @@
-//! The values of attributes of entries of a trust list.
+//! The values of attributes of trust list entries.
 
 ghost use Rattle.std.specs.Prelude.{◌≡◌, [], false, IfOk, IsTrue, MatchResult};
 ghost use Rattle.der_core.specs.Encoding.{IsWellFormed};
@@ -15,19 +15,19 @@ use der_core::{
 };
 use std::alloc::{AllocError, Global};
 
-/// The values of an attribute of an entry, a SET OF, by the attribute's identifier (Microsoft,
-/// wincrypt.h). Of each kind any number of values are read, also none, in the order that stands.
+/// The values of an attribute of an entry, a SET OF, by the attribute's OID (Microsoft,
+/// wincrypt.h). For each kind any number of values is read, even none, in the order found.
 #[derive(Debug, Drop)]
 pub enum CTLEntryAttributeValues {
     /// The MD5 of the subject's name.
     CertSubjectNameMd5HashPropId(ListOf<Octets>),
-    /// From when on the subject isn't trusted.
+    /// The time from which the subject isn't trusted.
     CertDisallowedFileTimePropId(ListOf<Octets>),
     /// A time (CERT_NOT_BEFORE_FILETIME_PROP_ID).
     UnknownReservedPropId126(ListOf<Octets>),
-    /// The purposes of which the time is said.
+    /// The extended key usages that the time is for.
     UnknownReservedPropId127(ListOf<HeldPurposes>),
-    /// The values of any other attribute as they are.
+    /// The values of any other attribute, raw.
     Other(ListOf<Raw>),
 }
 
@@ -53,7 +53,7 @@ impl CTLEntryAttributeValues {
         }
     }
 
-    /// Whether an element holds values of the kind.
+    /// Whether an element encodes values of the kind.
     pub(crate) fn has_shape_of(kind: CtlKind, elem: Elem<'_>) -> bool
         ensures fits { IsTrue result → Fits (AreCtlValuesOf kind) elem.entry.is.0 }
         ensures unfit { result ≡ false → (values : CTLEntryAttributeValues)
@@ -68,7 +68,7 @@ impl CTLEntryAttributeValues {
         }
     }
 
-    /// The values of the kind that an element holds.
+    /// Reads values of the kind.
     pub(crate) fn read_of(
         alloc: Global,
         kind: CtlKind,

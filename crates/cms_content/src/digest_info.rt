@@ -7,7 +7,7 @@ use der_core::{DerError, Elem, NewKids, Octets, Structure, Tree, two_kids};
 use key_types::AlgorithmIdentifier;
 use std::alloc::{AllocError, Global};
 
-/// A digest and its algorithm (RFC 2315 9.4). How many octets the digest has isn't asked.
+/// A digest and its algorithm (RFC 2315 9.4). The size of the digest isn't checked.
 #[derive(Debug, Drop)]
 pub struct DigestInfo {
     pub oid: AlgorithmIdentifier,
@@ -57,7 +57,7 @@ impl Structure for DigestInfo {
     ghost grammar = { digest_infos };
 }
 
-/// Digests with their algorithms are equal exactly where their octets are.
+/// Digests with their algorithms are equal exactly where their encodings are.
 impl PartialEq for DigestInfo {
     ghost use Rattle.der_core.specs.Equality.{same_octets};
     ghost use Rattle.der_core.specs.Facts.Equality.{same_octets_per};

@@ -1,4 +1,4 @@
-//! Purposes in a string, kept as they are.
+//! Extended key usages in a string, stored raw.
 
 ghost use Rattle.cms_content.specs.HeldPurposes.{ArePurposesIn};
 
@@ -9,8 +9,8 @@ use der_core::{
 };
 use std::alloc::{AllocError, Global};
 
-/// An OCTET STRING that holds the encoding of a SEQUENCE OF OBJECT IDENTIFIER, an identifier a
-/// purpose (RFC 5280 4.2.1.12), with its octets as they are.
+/// An OCTET STRING that contains the encoding of a SEQUENCE OF OBJECT IDENTIFIER, each an extended
+/// key usage (RFC 5280 4.2.1.12). Its octets are stored raw.
 #[derive(Debug, Drop)]
 pub struct HeldPurposes {
     octets: Octets,
@@ -28,7 +28,7 @@ impl HeldPurposes {
         self.octets.as_slice()
     }
 
-    /// The purposes in order.
+    /// The extended key usages in order.
     pub fn purposes(&self) -> &[ObjectIdentifier]
         ensures { result.now ≡ self.now.purposes }
     {

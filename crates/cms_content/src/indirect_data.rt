@@ -8,9 +8,9 @@ use der_core::tag::SEQUENCE;
 use der_core::{DerError, Elem, NewKids, Structure, Tree, two_kids};
 use std::alloc::{AllocError, Global};
 
-/// What an Authenticode signature signs in the place of a file: what kind of file it is, and its
-/// digest (Windows Authenticode Portable Executable Signature Format). Whether the value fits its
-/// type isn't asked.
+/// What an Authenticode signature signs instead of a file: the kind of the file, and its digest
+/// (Windows Authenticode Portable Executable Signature Format). Whether the value fits its type
+/// isn't checked.
 #[derive(Debug, Drop)]
 pub struct SpcIndirectDataContent {
     pub image: SpcAttributeTypeAndOptionalValue,
@@ -63,7 +63,7 @@ impl Structure for SpcIndirectDataContent {
     ghost grammar = { indirect_data_contents };
 }
 
-/// Contents are equal exactly where their octets are.
+/// Contents are equal exactly where their encodings are.
 impl PartialEq for SpcIndirectDataContent {
     ghost use Rattle.der_core.specs.Equality.{same_octets};
     ghost use Rattle.der_core.specs.Facts.Equality.{same_octets_per};

@@ -1,7 +1,7 @@
-//! Contents that are signed (RFC 2315, RFC 5652, Windows Authenticode Portable Executable Signature
-//! Format), as values, read from octets or trees and written as trees: a digest with its algorithm,
-//! what Authenticode signs in the place of a file, trust lists, and any content with its type.
-//! Requests for timestamps.
+//! Signed contents (RFC 2315, RFC 5652, Windows Authenticode Portable Executable Signature Format)
+//! as values, read from octets or trees and written as trees: a digest with its algorithm, what
+//! Authenticode signs instead of a file, trust lists, and any content with its type. Timestamp
+//! requests.
 #![tactic(auto)]
 
 mod content_info;

@@ -1,4 +1,4 @@
-//! Attributes of Authenticode whose value may be left out.
+//! Authenticode attributes with an optional value.
 
 ghost use Rattle.std.specs.Prelude.{◌≡◌, ◌≢◌, ◌↔◌, IsTrue, Option, MatchOption};
 ghost use Rattle.der_core.specs.DerElement.{DerElement};
@@ -11,14 +11,14 @@ use der_core::{DerError, Elem, Kids, NewKids, Raw, Structure, Tree};
 use std::alloc::{AllocError, Global};
 
 /// A type, and a value of that type, any element, or none (Windows Authenticode Portable Executable
-/// Signature Format): what kind of file is signed, and where in it what is signed lies.
+/// Signature Format): the kind of the signed file, and which part of it is signed.
 #[derive(Debug, Drop)]
 pub struct SpcAttributeTypeAndOptionalValue {
     pub ty: ObjectIdentifier,
     pub value: Option<Raw>,
 }
 
-/// The fields of an attribute where they lie, each any element.
+/// The fields of an attribute, borrowed, each any element.
 #[derive(Clone, Copy)]
 struct Fields<'a> {
     ty: Elem<'a>,
@@ -93,7 +93,7 @@ impl Structure for SpcAttributeTypeAndOptionalValue {
     ghost grammar = { spc_attributes };
 }
 
-/// Attributes are equal exactly where their octets are.
+/// Attributes are equal exactly where their encodings are.
 impl PartialEq for SpcAttributeTypeAndOptionalValue {
     ghost use Rattle.der_core.specs.Equality.{same_octets};
     ghost use Rattle.der_core.specs.Facts.Equality.{same_octets_per};

@@ -1,4 +1,4 @@
-//! Requests for timestamps.
+//! Timestamp requests.
 
 ghost use Rattle.std.specs.Prelude.{◌≡◌, ◌↔◌, IsTrue};
 
@@ -8,9 +8,9 @@ use der_core::tag::SEQUENCE;
 use der_core::{DerError, Elem, NewKids, Structure, Tree, two_kids};
 use std::alloc::{AllocError, Global};
 
-/// A request for a timestamp as Authenticode has it (Windows Authenticode Portable Executable
-/// Signature Format): what kind of counter-signature is asked for, and the content that is to be
-/// signed. Which kind it is isn't asked.
+/// A timestamp request in the form of Authenticode (Windows Authenticode Portable Executable
+/// Signature Format): the kind of the counter-signature, and the content to be signed. The kind
+/// isn't checked.
 #[derive(Debug, Drop)]
 pub struct TimestampRequest {
     pub countersignature_type: ObjectIdentifier,
@@ -63,7 +63,7 @@ impl Structure for TimestampRequest {
     ghost grammar = { timestamp_requests };
 }
 
-/// Requests are equal exactly where their octets are.
+/// Requests are equal exactly where their encodings are.
 impl PartialEq for TimestampRequest {
     ghost use Rattle.der_core.specs.Equality.{same_octets};
     ghost use Rattle.der_core.specs.Facts.Equality.{same_octets_per};

@@ -1,4 +1,4 @@
--- Contents with their types: unlike ones have unlike elements, each well formed.
+-- Contents with their types: different ones have different elements, each well formed.
 use Rattle.std.proofs.Common.{◌≡◌, [], ◌∷◌, Option, Some, None, refl, ap, sym, subst, ◌∙◌, arith}
 use Rattle.std.specs.Option.{option_map}
 use Rattle.der_core.specs.DerElement.{DerElement, row}
@@ -48,7 +48,7 @@ values_by_octets a b e =
     let octets : encoding (content_value a) ≡ encoding (content_value b) = cc in
     values_once a b (kinds_by_number (kind_of_content a) (kind_of_content b) numbers) (formed_encoding_once (content_value a) (content_value b) (value_formed a) (value_formed b) octets)
 
--- ---- contents that may be left out
+-- ---- optional contents
 
 pub options_once : (kind : ContentKind) (a b : Option ContentValue) → HasKind kind a → HasKind kind b → option_map content_value a ≡ option_map content_value b → a ≡ b
 options_once kind None None p q e = refl

@@ -1,4 +1,4 @@
--- Kinds of contents are the same for one reason.
+-- Equality of kinds of contents is a proposition.
 use Rattle.std.specs.Prelude.{◌≡◌, ℕ, ◌==◌, if◌then◌else◌, Option, Some, None, refl}
 use Rattle.std.specs.Coded.{Coded-set, Unit-prop}
 use Rattle.std.proofs.Common.{sym, ap, ◌∙◌}

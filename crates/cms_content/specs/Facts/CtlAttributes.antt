@@ -1,4 +1,4 @@
--- Attributes of entries: unlike ones have unlike elements, each well formed.
+-- Attributes of entries: different ones have different elements, each well formed.
 use Rattle.std.proofs.Common.{◌≡◌, [], ◌∷◌, refl, ap, sym, subst, ◌∙◌, arith}
 use Rattle.der_core.specs.DerElement.{DerElement}
 use Rattle.der_core.specs.Elements.{sequence}

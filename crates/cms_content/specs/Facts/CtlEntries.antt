@@ -1,4 +1,4 @@
--- Entries of a trust list: unlike ones have unlike elements, each well formed.
+-- Entries of a trust list: different ones have different elements, each well formed.
 use Rattle.std.proofs.Common.{◌≡◌, [], refl, arith}
 use Rattle.der_core.specs.Each.{list_element}
 use Rattle.der_core.specs.Elements.{octet_string}

@@ -1,4 +1,5 @@
--- Values of attributes of entries: unlike ones of a kind have unlike elements, each well formed.
+-- Values of attributes of entries: different ones of a kind have different elements, each well
+-- formed.
 use Rattle.std.proofs.Common.{◌≡◌, ℕ, List, ap}
 use Rattle.der_core.specs.DerElement.{DerElement}
 use Rattle.der_core.specs.Elements.{octet_string}

@@ -1,4 +1,4 @@
--- Trust lists: unlike ones have unlike elements, each well formed.
+-- Trust lists: different ones have different elements, each well formed.
 use Rattle.std.proofs.Common.{◌≡◌, ◌↔◌, IsTrue, Bool, List, [], ◌∷◌, refl, ap, sym, subst, ◌∙◌, arith}
 use Rattle.std.specs.Prelude.{bytes_eq}
 use Rattle.std.specs.Cmp.Lexicographic.{pointwise}
@@ -108,7 +108,7 @@ lists_same element xs ys p q =
     both_may IsIntegerElement (FromUsage xs) (FromUsage ys) q.kids (usage_no_integer xs q.kids) (usage_no_integer ys q.kids) (from_usage xs ys)
     (subst (MayBegin IsIntegerElement (FromUsage xs)) same p.fields) q.fields
 
--- ---- an element holds at most one list of entries, however that is known
+-- ---- an element encodes at most one list of entries, whatever the proof
 
 told : CTLEntry → CTLEntry → Bool
 told a b = bytes_eq (encoding (ctl_entry a)) (encoding (ctl_entry b))

@@ -1,4 +1,4 @@
--- Digests with their algorithms: unlike ones have unlike elements, each well formed.
+-- Digests with their algorithms: different ones have different elements, each well formed.
 use Rattle.std.proofs.Common.{◌≡◌, [], refl, arith}
 use Rattle.der_core.specs.Elements.{octet_string}
 use Rattle.der_core.specs.Structure.{IsGrammar}

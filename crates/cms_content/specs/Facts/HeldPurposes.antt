@@ -1,4 +1,4 @@
--- Purposes in strings: unlike ones have unlike elements, each well formed.
+-- Extended key usages in strings: different ones have different elements, each well formed.
 use Rattle.std.proofs.Common.{◌≡◌, ◌↔◌, IsTrue, Bool, ℕ, List, [], refl, ap, sym, subst, ◌∙◌, arith}
 use Rattle.std.specs.Prelude.{bytes_eq, flat_map}
 use Rattle.std.specs.Cmp.Lexicographic.{pointwise}
@@ -22,7 +22,7 @@ use Rattle.cms_content.specs.declared.held_purposes.HeldPurposes.{HeldPurposes}
 pub purpose_lists : IsGrammar ArePurposes (list_element 0x30 object_identifier) (flat_map (λ (id : ObjectIdentifier). []))
 purpose_lists = lists 0x30 IsPurposeElement object_identifier (λ (id : ObjectIdentifier). []) (omega arith, omega arith, omega arith) refl identifiers
 
--- identifiers are told by their contents octets
+-- the contents octets determine an OID
 told : ObjectIdentifier → ObjectIdentifier → Bool
 told a b = bytes_eq (identifier_contents a) (identifier_contents b)
 
@@ -40,7 +40,7 @@ held_once octets a b p q =
     let same = same_encoded p.element q.element p.der q.der (sym p.encoded ∙ q.encoded) in
     purpose_lists.once q.element a b (subst (λ (t : DerElement). ArePurposes t a) same p.spelled) q.spelled
 
--- octets hold at most one list of purposes, however that is known
+-- octets encode at most one list of extended key usages, whatever the proof
 lists_once : (octets : List ℕ) (a b : List ObjectIdentifier) → ∥ ArePurposesIn octets a ∥₁ → ∥ ArePurposesIn octets b ∥₁ → a ≡ b
 lists_once octets a b p q =
     let same = pointwise_same told told_same a b in

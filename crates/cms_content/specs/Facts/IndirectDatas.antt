@@ -1,4 +1,4 @@
--- What Authenticode signs: unlike contents have unlike elements, each well formed.
+-- What Authenticode signs: different contents have different elements, each well formed.
 use Rattle.std.proofs.Common.{◌≡◌, [], refl, arith}
 use Rattle.der_core.specs.Structure.{IsGrammar}
 use Rattle.der_core.specs.Facts.Grammars.{printed}

@@ -1,4 +1,4 @@
--- Attributes whose value may be left out: unlike ones have unlike elements, each well formed.
+-- Attributes with an optional value: different ones have different elements, each well formed.
 use Rattle.std.proofs.Common.{◌≡◌, [], ◌∷◌, Option, refl, ap, ◌∙◌, arith}
 use Rattle.std.specs.Prelude.{option_to_list}
 use Rattle.der_core.specs.Kept.{KeptElement}

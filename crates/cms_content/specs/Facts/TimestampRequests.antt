@@ -1,4 +1,4 @@
--- Requests for timestamps: unlike ones have unlike elements, each well formed.
+-- Timestamp requests: different ones have different elements, each well formed.
 use Rattle.std.proofs.Common.{◌≡◌, [], refl, arith}
 use Rattle.der_core.specs.Structure.{IsGrammar}
 use Rattle.der_core.specs.Facts.Grammars.{printed}

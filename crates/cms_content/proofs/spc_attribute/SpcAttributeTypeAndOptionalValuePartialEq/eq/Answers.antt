@@ -14,7 +14,7 @@ use Rattle.cms_content.proofs.spc_attribute.SpcAttributeTypeAndOptionalValuePart
 by_octets : (a b : SpcAttributeTypeAndOptionalValue) (test : Bool) → (IsTrue test ↔ (a ≡ b)) → test ≡ same_octets spc_attribute a b
 by_octets = octets_decide spc_attribute (λ a b e. spc_attributes.once (spc_attribute a) a b refl e) spc_attributes.formed
 
--- the types are the same, so the attributes are where their values are
+-- the types are the same, so the attributes are the same where their values are
 by_value : (a b : SpcAttributeTypeAndOptionalValue) (t : Bool) → a.ty ≡ b.ty → t ≡ option_eq (λ (x y : KeptElement). bytes_eq (encoding x.element) (encoding y.element)) a.value b.value → IsTrue t ↔ (a ≡ b)
 by_value a b t ty test =
     let same = options_same _ kept_same a.value b.value in (
