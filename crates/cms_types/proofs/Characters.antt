@@ -13,14 +13,14 @@ basic character = character ≤ 0xFFFF
 chars_of_empty : (text : List ℕ) → length text ≡ 0 → chars text ≡ []
 chars_of_empty text none = ap chars (nil_from_length text none) ∙ chars-nil
 
--- no text is basic, and has no units
+-- the empty text is basic, and has no units
 pub basic_empty : (text : List ℕ) → length text ≡ 0 → IsBasicPlane text
 basic_empty text none = subst (All basic) (sym (chars_of_empty text none)) (All-nil basic)
 
 pub units_empty : (text : List ℕ) → length text ≡ 0 → text_units text ≡ []
 units_empty text none = ap (flat_map unit_octets) (chars_of_empty text none)
 
--- a text is basic where its first character and what follows are
+-- a text is basic where its first character and the rest are
 pub basic_front : (text rest : List ℕ) (c : ℕ) → IsUtf8 text → text ≡ encode_utf8 c ++ rest → IsBasicPlane text → c ≤ 0xFFFF
 basic_front text rest c utf8 parts all = All-head basic c (chars rest) (subst (All basic) (chars_past_char text rest c utf8 parts) all)
 
@@ -30,7 +30,7 @@ basic_back text rest c utf8 parts all = All-tail basic c (chars rest) (subst (Al
 pub basic_step : (text rest : List ℕ) (c : ℕ) → IsUtf8 text → text ≡ encode_utf8 c ++ rest → c ≤ 0xFFFF → IsBasicPlane rest → IsBasicPlane text
 basic_step text rest c utf8 parts here all = subst (All basic) (sym (chars_past_char text rest c utf8 parts)) (All-cons basic c (chars rest) here all)
 
--- its units are that of the first character and those of what follows
+-- its units are that of the first character and those of the rest
 pub units_step : (text rest : List ℕ) (c : ℕ) → IsUtf8 text → text ≡ encode_utf8 c ++ rest → text_units text ≡ unit_octets c ++ text_units rest
 units_step text rest c utf8 parts = ap (flat_map unit_octets) (chars_past_char text rest c utf8 parts)
 
@@ -39,6 +39,6 @@ pub even_units : (characters : List ℕ) → length (flat_map unit_octets charac
 even_units [] = refl
 even_units (c ∷ cs) = omega (arith, even_units cs)
 
--- the octets of a number below 2^16, the higher first, are those of the unit
+-- the octets of a number below 2^16, in big-endian order, are those of the unit
 pub unit_octets_of : (u : ℕ) → u ≤ 0xFFFF → to_be_bytes w16 u ≡ unit_octets u
 unit_octets_of u below = let higher : u / 256 % 256 ≡ u / 256 = omega (arith, below) in λ i. higher i ∷ u % 256 ∷ []

@@ -1,4 +1,4 @@
--- Fields are compared: tests that hold exactly where they are the same.
+-- Comparing fields: tests that hold exactly where they are the same.
 use Rattle.std.proofs.Common.{◌≡◌, ◌↔◌, IsTrue, Bool, List, [], Option, refl, sym, ap, ◌∙◌}
 use Rattle.std.specs.Option.{option_eq}
 use Rattle.std.specs.Cmp.Lexicographic.{pointwise}
@@ -9,7 +9,7 @@ use Rattle.der_core.specs.Structure.{IsGrammar}
 use Rattle.der_core.specs.Facts.Kept.{same_kept}
 use Rattle.der_core.specs.Facts.Equality.{by_test, octets_decide, octets_same, options_same, pointwise_same, kept_same}
 
--- values are told by the octets that are written for them
+-- the octets that are written for a value determine it
 one_same : {X : Type 0} (written : X → DerElement) → IsGrammar (λ element value. element ≡ written value) written (λ value. []) → (a b : X) → IsTrue (same_octets written a b) ↔ (a ≡ b)
 one_same written grammar = octets_same written (λ a b e. grammar.once (written a) a b refl e) grammar.formed
 
@@ -26,7 +26,7 @@ pub option_list_same : {X : Type 0} (written : X → DerElement) → IsGrammar (
 option_list_same written grammar a b t test =
     by_test t _ (a ≡ b) test (options_same (pointwise (same_octets written)) (pointwise_same (same_octets written) (one_same written grammar)) a b)
 
--- elements that are kept
+-- raw elements
 pub elements_same : (a b : List KeptElement) (t : Bool) → t ≡ pointwise (same_octets (λ (kept : KeptElement). kept.element)) a b → IsTrue t ↔ (a ≡ b)
 elements_same a b t test = by_test t _ (a ≡ b) test (pointwise_same (same_octets (λ (kept : KeptElement). kept.element)) kept_same a b)
 
@@ -34,7 +34,7 @@ pub option_elements_same : (a b : Option (List KeptElement)) (t : Bool) → t �
 option_elements_same a b t test =
     by_test t _ (a ≡ b) test (options_same (pointwise (same_octets (λ (kept : KeptElement). kept.element))) (pointwise_same (same_octets (λ (kept : KeptElement). kept.element)) kept_same) a b)
 
--- a test of what is the same is one of the octets, and of the elements
+-- a test for equality is one of the octets, and of the elements
 pub by_octets : {X : Type 0} (written : X → DerElement) → IsGrammar (λ element value. element ≡ written value) written (λ value. [])
     → (a b : X) (t : Bool) → (IsTrue t ↔ (a ≡ b)) → t ≡ same_octets written a b
 by_octets written grammar = octets_decide written (λ a b e. grammar.once (written a) a b refl e) grammar.formed
@@ -43,7 +43,7 @@ pub by_element : {X : Type 0} (written : X → DerElement) → IsGrammar (λ ele
     → (a b : X) (t : Bool) → (IsTrue t ↔ (a ≡ b)) → IsTrue t ↔ (written a ≡ written b)
 by_element written grammar a b t same = (λ w. ap written (same.0 w), λ e. same.1 (grammar.once (written a) a b refl e))
 
--- values that are told by an element that they keep
+-- a stored element determines its value
 pub by_kept : {X : Type 0} (written : X → DerElement) → IsGrammar (λ element value. element ≡ written value) written (λ value. [])
     → (a b : X) (x y : KeptElement) (t : Bool) → x.element ≡ written a → y.element ≡ written b → (IsTrue t ↔ (x ≡ y)) → IsTrue t ↔ (a ≡ b)
 by_kept written grammar a b x y t p q same = (

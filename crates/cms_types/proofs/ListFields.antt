@@ -1,4 +1,4 @@
--- Fields that hold several values, and may be left out.
+-- Optional fields with several values.
 use Rattle.std.proofs.Common.{◌≡◌, ℕ, List, Option, Some, None, refl, ap}
 use Rattle.std.specs.Option.{option_map}
 use Rattle.der_core.specs.DerElement.{DerElement}

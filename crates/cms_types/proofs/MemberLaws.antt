@@ -1,4 +1,4 @@
--- A member of a counter-signature is read.
+-- Reading a member of a counter-signature.
 use Rattle.std.proofs.Common.{◌≡◌, ℕ, List, Some, slice_get, sym, ap, ◌∙◌}
 use Rattle.std.specs.Option.{option_map}
 use Rattle.der_core.specs.DerElement.{DerElement}
@@ -15,13 +15,13 @@ use Rattle.cms_types.specs.declared.unsigned_attribute.signer_values.SignerValue
 use Rattle.cms_types.specs.declared.unsigned_attribute.token_values.TokenValues.{TokenValues}
 use Rattle.cms_types.proofs.SignerLaws.{signer_reads, token_reads, only_memory}
 
--- what the member at the place is written as
+-- the member at an index, as written
 pub member_found : {X : Type 0} (written : X → DerElement) (items xs : List KeptElement) (place : ℕ) (kept : KeptElement) (element : DerElement) (value : X)
     → xs ≡ items → slice_get xs place ≡ Some kept → element ≡ kept.element → element ≡ written value → Some (written value) ≡ option_map element_of_kept (slice_get items place)
 member_found written items xs place kept element value same at is spelled =
     ap Some (sym spelled ∙ is) ∙ ap (option_map element_of_kept) (sym at ∙ ap (λ (ys : List KeptElement). slice_get ys place) same)
 
--- a member that isn't read wants memory
+-- a member is refused only when out of memory
 pub signer_refused : (v : SignerValues) (xs : List KeptElement) (place : ℕ) (kept : KeptElement) (element : DerElement) (e : DerError)
     → xs ≡ v.items → slice_get xs place ≡ Some kept → element ≡ kept.element → RefusesShape (λ (s : SignerInfo). element ≡ signer_info s) e → e ≡ errors.Memory
 signer_refused v xs place kept element e same at is refused =

@@ -1,4 +1,4 @@
--- What a signature says of its program, by its fields.
+-- What a signature says about its program, by its fields.
 use Rattle.std.proofs.Common.{◌≡◌, ◌↔◌, IsTrue, Bool, false, Option, refl, sym, ap, ◌∙◌}
 use Rattle.std.specs.Prelude.{bytes_eq}
 use Rattle.std.specs.Option.{option_map, option_eq}
@@ -18,7 +18,7 @@ use Rattle.cms_types.specs.declared.opus_info.spc_string.SpcString.{SpcString}
 use Rattle.cms_types.specs.declared.opus_info.spc_link.SpcLink.{SpcLink}
 use Rattle.cms_types.specs.declared.opus_info.SpcSpOpusInfo.{SpcSpOpusInfo}
 
--- an element of these fields is one of a value exactly where they are those of its fields
+-- an element with these fields encodes a value exactly where they are those of its fields
 pub of_parts : (t : DerElement) (n i : Option DerElement) → t ≡ opus_info_of n i
     → (name : Option SpcString) → SpellsOption (Prints spc_string) n name
     → (link : Option SpcLink) → SpellsOption (Prints spc_link) i link
@@ -50,7 +50,7 @@ names_same = options_same string_eq (octets_same spc_string (λ x y e. spc_strin
 links_same : (a b : Option SpcLink) → IsTrue (option_eq link_eq a b) ↔ (a ≡ b)
 links_same = options_same link_eq (octets_same spc_link (λ x y e. spc_links.once (spc_link x) x y refl e) spc_links.formed)
 
--- the names are the same, so the values are where the links are
+-- the names are the same, so the values are the same where the links are
 pub by_link : (a b : SpcSpOpusInfo) (first last : Bool) → first ≡ option_eq string_eq a.program_name b.program_name → IsTrue first → last ≡ option_eq link_eq a.more_info b.more_info → IsTrue last ↔ (a ≡ b)
 by_link a b first last names w links =
     let program_name = (names_same a.program_name b.program_name).0 (sym names ∙ w) in

@@ -32,7 +32,7 @@ no_first all x rest none e = let same : [] ≡ x ∷ rest = sym none ∙ e in ab
 pub not_first : (P : DerElement → Type 0) (all : List DerElement) (x y : DerElement) (xs ys : List DerElement) → all ≡ x ∷ xs → all ≡ y ∷ ys → (P x → ⊥) → P y → ⊥
 not_first P all x y xs ys e f none p = none (subst P (sym (front all x y xs ys e f)) p)
 
--- ---- an element of a tag, where there is one
+-- ---- an optional element with a tag
 
 pub record TakesTagged (tag : ℕ) (all : List DerElement) (inner : Option DerElement) (rest : List DerElement) : Type 0 where
   pub are : all ≡ option_to_list inner ++ rest
@@ -46,7 +46,7 @@ takes tag (Some elem) old new m = record { are = m.0; tagged = m.1; once = λ no
 pub takes_once : (tag : ℕ) (all : List DerElement) (a b : Option DerElement) (xs ys : List DerElement) → TakesTagged tag all a xs → TakesTagged tag all b ys → (a ≡ b) × (xs ≡ ys)
 takes_once tag all a b xs ys p q = options_split tag a b xs ys p.tagged q.tagged p.once q.once (sym p.are ∙ q.are)
 
--- an element in bounds of a constructed tag is constructed
+-- an element within limits with a constructed tag is constructed
 constructed_of : (tag : ℕ) (e : DerElement) → IsDer e → tag_of e ≡ tag → form_bit tag ≡ 1 → IsConstructed tag e
 constructed_of tag (Primitive t content) der same bit = absurd (omega (arith, der.formed.1, ap form_bit same, bit))
 constructed_of tag (Constructed t kids) der same bit = (listed kids, ap (λ s. Constructed s kids) same ∙ ap (Constructed tag) (sym (row-listed kids)))

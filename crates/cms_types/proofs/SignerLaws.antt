@@ -1,4 +1,4 @@
--- An element is a signer, an unsigned attribute or signed data exactly where it spells a value.
+-- An element is a signer, an unsigned attribute or signed data exactly where it encodes a value.
 use Rattle.std.proofs.Common.{◌≡◌, ℕ, IsTrue, Bool, true, false, List, [], ◌∷◌, ◌++◌, map, Option, Some, None, zero, suc, refl, sym, ap, subst, ◌∙◌, inl, inr}
 use Rattle.std.specs.Option.{option_map}
 use Rattle.std.specs.Prelude.{option_to_list}
@@ -55,7 +55,7 @@ use Rattle.cms_types.specs.declared.unsigned_attribute.kind.UnsignedKind.{Unsign
 use Rattle.cms_types.specs.declared.unsigned_attribute.kind.UnsignedKind.TheVariants as kinds
 use Rattle.cms_types.proofs.Signers.{first_signer, first_pkcs7}
 
--- ---- elements in bounds can be kept
+-- ---- elements within limits can be stored
 
 pub inside : (tag : ℕ) (e : DerElement) (kids : List DerElement) → IsDer e → e ≡ Constructed tag (row kids) → AreDer kids
 inside tag e kids der is = subst AreDer (listed-row kids) (kids_in_bounds tag (row kids) (subst IsDer is der))
@@ -66,7 +66,7 @@ keep_all (e ∷ es) der =
     let others = keep_all es der.1 in
     (record { element = e; der = der.0 } ∷ others.0, ap (λ xs. e ∷ xs) others.1)
 
--- ---- identifiers of the kinds
+-- ---- OIDs of the kinds
 
 counter_test : (a b : Bool) → kinds.CounterSign ≡ (if a then kinds.CounterSign else (if b then kinds.MsCounterSign else kinds.Other)) → IsTrue a
 counter_test true b e = refl
@@ -100,7 +100,7 @@ ms_counter_is = refl
 
 -- ---- unsigned attributes
 
--- an attribute of this identifier and these values
+-- an attribute with this OID and these values
 unsigned_with : (ty : ObjectIdentifier) (oid : List ℕ) (kind : UnsignedKind) (e : DerElement) (values : List DerElement) → identifier_contents ty ≡ oid → kind ≡ named_unsigned oid → e ≡ attribute_of oid values → IsUnsignedOf e kind values
 unsigned_with ty oid kind e values same named is = record { ty = ty; is = is ∙ ap (λ o. attribute_of o values) (sym same); named = named ∙ ap named_unsigned (sym same) }
 
@@ -110,7 +110,7 @@ counter_of e values is = unsigned_with counter COUNTERSIGNATURE.now kinds.Counte
 pub ms_counter_of : (e : DerElement) (values : List DerElement) → e ≡ attribute_of RFC3161_COUNTER_SIGN.now values → IsUnsignedOf e kinds.MsCounterSign values
 ms_counter_of e values is = unsigned_with ms_counter RFC3161_COUNTER_SIGN.now kinds.MsCounterSign e values ms_counter_is refl is
 
--- and the other way around
+-- and conversely
 pub of_counter : (e : DerElement) (values : List DerElement) → IsUnsignedOf e kinds.CounterSign values → e ≡ attribute_of COUNTERSIGNATURE.now values
 of_counter e values of = of.is ∙ ap (λ o. attribute_of o values) (counter_oid (identifier_contents of.ty) of.named)
 
@@ -350,11 +350,11 @@ pub pkcs7s_of_values : (ps : List Pkcs7Certificate) → ∥ ArePkcs7s (map pkcs7
 pkcs7s_of_values [] = ∣ NoPkcs7s ∣₁
 pkcs7s_of_values (p ∷ ps) = ∥∥₁_map₂ (pkcs7_of_value (pkcs7 p) p refl) (pkcs7s_of_values ps) (λ one more. MorePkcs7s one more)
 
--- what is known of a value alone is enough to refuse
+-- knowing that there is a value is enough to refuse
 pub no_value : {P : Type 0} → ∥ P ∥₁ → (P → ⊥) → ⊥
 no_value p none = ∥∥₁_elim p (λ x y. absurd x) none
 
--- ---- members at a place
+-- ---- members at an index
 
 signer_at_place : (items : List KeptElement) (place : ℕ) (kept : KeptElement) → slice_get items place ≡ Some kept → AreSignerInfos (elements_of_kept items) → IsSignerInfo kept.element
 signer_at_place [] place kept e all = absurd cc
@@ -370,7 +370,7 @@ pkcs7_at_place (x ∷ items) zero kept e all =
     subst (λ (k : KeptElement). IsPkcs7 k.element) same (first_pkcs7 (elements_of_kept (x ∷ items)) all x.element (elements_of_kept items) refl).0
 pkcs7_at_place (x ∷ items) (suc place) kept e all = pkcs7_at_place items place kept e (first_pkcs7 (elements_of_kept (x ∷ items)) all x.element (elements_of_kept items) refl).1
 
--- a member reads
+-- a member can be read
 pub signer_reads : (v : SignerValues) (place : ℕ) (kept : KeptElement) → slice_get v.items place ≡ Some kept → ((s : SignerInfo) → kept.element ≡ signer_info s → ⊥) → ⊥
 signer_reads v place kept e none =
     no_value v.all (λ all. let s = value_of_signer kept.element kept.der (signer_at_place v.items place kept e all) in none s.0 s.1)
@@ -379,7 +379,7 @@ pub token_reads : (v : TokenValues) (place : ℕ) (kept : KeptElement) → slice
 token_reads v place kept e none =
     no_value v.all (λ all. let p = value_of_pkcs7 kept.element kept.der (pkcs7_at_place v.items place kept e all) in none p.0 p.1)
 
--- an element that spells a value is refused only when out of memory
+-- an element that encodes a value is refused only when out of memory
 pub only_memory : {X : Type 0} (P : X → Type 0) (e : DerError) → RefusesShape P e → (((x : X) → P x → ⊥) → ⊥) → e ≡ errors.Memory
 only_memory P errors.Memory refused some = refl
 only_memory P errors.Shape refused some = absurd (some refused)

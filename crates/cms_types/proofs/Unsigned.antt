@@ -29,7 +29,7 @@ use Rattle.cms_types.proofs.SignerLaws.{keep_all, unsigned_of_value, of_counter,
 abbrev is_kept : DerElement → KeptElement → Type 0
 is_kept element kept = element ≡ kept.element
 
--- elements in bounds can be kept
+-- elements within limits can be stored
 pub each_kept : (es : List DerElement) → AreDer es → Fits (AreEach is_kept) es
 each_kept es der =
     let kept = keep_all es der in

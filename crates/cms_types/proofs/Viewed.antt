@@ -1,4 +1,4 @@
--- What the views of signed data and of signers lend.
+-- What the views of signed data and of signers borrow.
 use Rattle.std.proofs.Common.{◌≡◌, ◌≢◌, ℕ, List, Option, Some, refl, sym, ap, subst, ◌∙◌}
 use mathlib.Core.Logic.{∥∥₁_elim}
 use Rattle.std.proofs.Props.{props}

@@ -1,5 +1,4 @@
--- The element of an attribute, by the contents octets of its identifier and by its values (RFC 5652
--- 5.3).
+-- The element of an attribute, by the contents octets of its OID and by its values (RFC 5652 5.3).
 use Rattle.std.specs.Prelude.{ℕ, List, [], ◌∷◌}
 use Rattle.asn1_types.specs.Elements.{object_identifier_of}
 use Rattle.der_core.specs.DerElement.{DerElement}

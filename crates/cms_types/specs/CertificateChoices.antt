@@ -1,7 +1,7 @@
 -- CertificateChoices ::= CHOICE { certificate Certificate, extendedCertificate [0] IMPLICIT
 -- ExtendedCertificate, v1AttrCert [1] IMPLICIT AttributeCertificateV1, v2AttrCert [2] IMPLICIT
 -- AttributeCertificateV2, other [3] IMPLICIT OtherCertificateFormat } (RFC 5652 10.2.2): any
--- element, told by its tag
+-- element, classified by its tag
 use Rattle.der_core.specs.DerElement.{DerElement}
 use Rattle.cms_types.specs.declared.signed_data.certificate_choices.CertificateChoices.{CertificateChoices}
 use Rattle.cms_types.specs.declared.signed_data.certificate_choices.CertificateChoices.TheVariants as choices

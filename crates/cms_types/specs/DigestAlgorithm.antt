@@ -1,6 +1,6 @@
--- Digest algorithms as AlgorithmIdentifiers (RFC 2315 6.3), whose parameters are NULL here, as
--- signed programs have them; by RFC 3370 2.1 and RFC 5754 2 a writer is to write none but for MD5,
--- NULL by RFC 3370 2.2.
+-- Digest algorithms as AlgorithmIdentifiers (RFC 2315 6.3), whose parameters are NULL here, as in
+-- signed programs; by RFC 3370 2.1 and RFC 5754 2 a writer is to write none but for MD5, NULL by
+-- RFC 3370 2.2.
 use Rattle.std.specs.Prelude.{Some}
 use Rattle.asn1_types.specs.Elements.{object_identifier_of}
 use Rattle.der_core.specs.DerElement.{DerElement}

@@ -1,4 +1,4 @@
--- Lemmas that facts of values rest on. Nothing in this folder needs reading: no public clause cites it.
+-- Lemmas about values. No public clause cites this folder.
 pub mod SpcStrings
 pub mod SpcLinks
 pub mod OpusInfos

@@ -1,11 +1,11 @@
--- The fields of signers and of signed data where their octets lie.
+-- The fields of signers and of signed data, borrowed.
 use Rattle.der_core.specs.Lent.{at_option}
 use Rattle.cms_types.specs.SignerElements.{SignerElements}
 use Rattle.cms_types.specs.SignedDataElements.{SignedDataElements}
 use Rattle.cms_types.specs.declared.signer_info.fields.SignerFields.{SignerFields}
 use Rattle.cms_types.specs.declared.signed_data.fields.SignedDataFields.{SignedDataFields}
 
--- the elements that lie there
+-- the borrowed elements of a signer
 abbrev pub signer_at : SignerFields → SignerElements
 signer_at f = record {
   version = f.version.is.0;
@@ -17,7 +17,7 @@ signer_at f = record {
   unsigned_attrs = at_option f.unsigned_attrs;
 }
 
--- the elements of the fields of signed data
+-- the borrowed elements of signed data
 abbrev pub signed_data_at : SignedDataFields → SignedDataElements
 signed_data_at f = record {
   version = f.version.is.0;

@@ -1,4 +1,4 @@
--- Signers, their unsigned attributes and signed data as far as their own level.
+-- Signers, their unsigned attributes and signed data, each at its own level.
 use Rattle.std.specs.Prelude.{◌≡◌, ⊤, ℕ, List, [], ◌∷◌, Option, Some, None}
 use Rattle.der_core.specs.DerElement.{DerElement, Constructed, row}
 use Rattle.der_core.specs.Each.{IsListOf}
@@ -21,12 +21,12 @@ use Rattle.cms_types.specs.declared.signer_info.identifier.SignerIdentifier.{Sig
 use Rattle.cms_types.specs.declared.unsigned_attribute.kind.UnsignedKind.{UnsignedKind}
 use Rattle.cms_types.specs.declared.version.CmsVersion.{CmsVersion}
 
--- what holds of an element, where there is one
+-- what holds for an element, if there is one
 abbrev pub OfOption : (DerElement → Type 0) → Option DerElement → Type 0
 OfOption holds None = ⊤
 OfOption holds (Some element) = holds element
 
--- a constructed element of the tag
+-- a constructed element with the tag
 abbrev pub IsConstructed : ℕ → DerElement → Type 0
 IsConstructed tag element = (kids : List DerElement) × (element ≡ Constructed tag (row kids))
 
@@ -34,7 +34,7 @@ IsConstructed tag element = (kids : List DerElement) × (element ≡ Constructed
 abbrev pub IsCmsVersion : DerElement → CmsVersion → Type 0
 IsCmsVersion element value = element ≡ cms_version value
 
--- the element is that of the identifier of a signer
+-- the element is that of the identifier of a signer's certificate
 abbrev pub IsSignerIdentifier : DerElement → SignerIdentifier → Type 0
 IsSignerIdentifier element value = element ≡ signer_identifier value
 
@@ -42,7 +42,7 @@ IsSignerIdentifier element value = element ≡ signer_identifier value
 abbrev pub IsAlgorithm : DerElement → AlgorithmIdentifier → Type 0
 IsAlgorithm element value = element ≡ algorithm_identifier value
 
--- the element is an OCTET STRING of these octets
+-- the element is an OCTET STRING with these octets
 abbrev pub IsOctetString : DerElement → List ℕ → Type 0
 IsOctetString element octets = element ≡ octet_string octets
 
@@ -50,7 +50,8 @@ IsOctetString element octets = element ≡ octet_string octets
 abbrev pub IsContentInfo : DerElement → EncapsulatedContentInfo → Type 0
 IsContentInfo element value = element ≡ content_info value
 
--- Each field of a SignerInfo has its shape, but what the unsigned attributes are isn't asked.
+-- Each field of a SignerInfo has its structure, except for the unsigned attributes, which aren't
+-- specified here.
 pub record AreSignerFields (f : SignerElements) : Type 0 where
   pub version : Fits IsCmsVersion f.version
   pub sid : Fits IsSignerIdentifier f.sid
@@ -60,8 +61,8 @@ pub record AreSignerFields (f : SignerElements) : Type 0 where
   pub signature : Fits IsOctetString f.signature
   pub unsigned_attrs : OfOption (IsConstructed 0xA1) f.unsigned_attrs
 
--- Each field of SignedData has its shape, but what the signers are isn't asked. CertificateSet and
--- RevocationInfoChoices hold any elements.
+-- Each field of SignedData has its structure, except for the signers, which aren't specified here.
+-- CertificateSet and RevocationInfoChoices contain any elements.
 pub record AreSignedDataFields (f : SignedDataElements) : Type 0 where
   pub version : Fits IsCmsVersion f.version
   pub digest_algorithms : Fits (IsListOf 0x31 IsAlgorithm) f.digest_algorithms
@@ -70,17 +71,17 @@ pub record AreSignedDataFields (f : SignedDataElements) : Type 0 where
   pub crls : OfOption (IsConstructed 0xA1) f.crls
   pub signers_infos : IsConstructed 0x31 f.signers_infos
 
--- The element is a SignerInfo of these fields.
+-- The element is a SignerInfo with these fields.
 pub record IsSignerOf (element : DerElement) (f : SignerElements) : Type 0 where
   pub is : element ≡ signer_of f
   pub fields : AreSignerFields f
 
--- The element is SignedData of these fields.
+-- The element is SignedData with these fields.
 pub record IsSignedDataOf (element : DerElement) (f : SignedDataElements) : Type 0 where
   pub is : element ≡ signed_data_of f
   pub fields : AreSignedDataFields f
 
--- The element is an attribute of this kind and these values: Attribute ::= SEQUENCE { attrType
+-- The element is an attribute with this kind and these values: Attribute ::= SEQUENCE { attrType
 -- OBJECT IDENTIFIER, attrValues SET OF AttributeValue }
 pub record IsUnsignedOf (element : DerElement) (kind : UnsignedKind)
     (values : List DerElement) : Type 0 where

@@ -13,7 +13,7 @@ abbrev pub opus_info_of : (program_name more_info : Option DerElement) → DerEl
 opus_info_of program_name more_info =
     sequence (optional_explicit 0xA0 program_name ++ optional_explicit 0xA1 more_info)
 
--- the element of what is said of a program
+-- the element of what is said about a program
 abbrev pub opus_info : SpcSpOpusInfo → DerElement
 opus_info info =
     opus_info_of (option_map spc_string info.program_name) (option_map spc_link info.more_info)

@@ -8,6 +8,6 @@ use Rattle.cms_types.specs.declared.signer_info.signed_attributes.SignedAttribut
 abbrev pub signed_attributes : SignedAttributes → DerElement
 signed_attributes value = value.element.element
 
--- The attributes, in the order in which they stand in the element.
+-- The attributes, in the order of the element.
 abbrev pub attributes_of : SignedAttributes → List Attribute
 attributes_of value = value.list

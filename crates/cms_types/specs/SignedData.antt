@@ -30,7 +30,7 @@ signed_data_elements value = record {
 abbrev pub signed_data : SignedData → DerElement
 signed_data value = signed_data_of (signed_data_elements value)
 
--- Each element spells the field that it stands for.
+-- Each element encodes its field.
 pub record AreDataFields (f : SignedDataElements) (value : SignedData) : Type 0 where
   pub version : IsCmsVersion f.version value.version
   pub digest_algorithms : IsListOf 0x31 IsAlgorithm f.digest_algorithms value.digest_algorithms

@@ -1,4 +1,4 @@
--- The fields of SignedData as the elements that stand for them (RFC 5652 5.1, RFC 2315 9.1).
+-- The fields of SignedData as elements (RFC 5652 5.1, RFC 2315 9.1).
 use Rattle.std.specs.Prelude.{[], ◌∷◌, ◌++◌, Option, option_to_list}
 use Rattle.der_core.specs.DerElement.{DerElement}
 use Rattle.der_core.specs.Elements.{sequence}

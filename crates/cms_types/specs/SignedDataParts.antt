@@ -1,4 +1,4 @@
--- The fields of signed data in two parts, which are read and copied one after another (RFC 5652
+-- The fields of signed data in two parts that are read and copied one after the other (RFC 5652
 -- 5.1).
 use Rattle.std.specs.Prelude.{◌≡◌}
 use Rattle.der_core.specs.DerElement.{DerElement}
@@ -14,13 +14,13 @@ use Rattle.cms_types.specs.declared.signed_data.parts.CarriedPart.{CarriedPart}
 use Rattle.cms_types.specs.declared.signed_data.parts.SignedPart.{SignedPart}
 use Rattle.cms_types.specs.declared.version.CmsVersion.{CmsVersion}
 
--- Each element spells the field of the first part.
+-- Each element encodes its field of the first part.
 pub record AreSigned (f : SignedDataElements) (part : SignedPart) : Type 0 where
   pub digest_algorithms : IsListOf 0x31 IsAlgorithm f.digest_algorithms part.digest_algorithms
   pub content_info : IsContentInfo f.content_info part.content_info
   pub signers_infos : IsListOf 0x31 (Prints signer_info) f.signers_infos part.signers_infos
 
--- Each element spells the field of the second part.
+-- Each element encodes its field of the second part.
 pub record AreCarriedFields (f : SignedDataElements) (part : CarriedPart) : Type 0 where
   pub certificates : SpellsOption (IsListOf 0xA0 (Prints certificate_choice)) f.certificates
       part.certificates
@@ -40,7 +40,7 @@ signed_of value = record {
 abbrev pub carried_of : SignedData → CarriedPart
 carried_of value = record { certificates = value.certificates; crls = value.crls }
 
--- the signed data of its version and its parts
+-- the signed data with this version and these parts
 abbrev pub data_of_parts : CmsVersion → SignedPart → CarriedPart → SignedData
 data_of_parts version signed carried = record {
   version = version;

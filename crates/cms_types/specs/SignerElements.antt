@@ -1,4 +1,4 @@
--- The fields of a SignerInfo as the elements that stand for them (RFC 5652 5.3).
+-- The fields of a SignerInfo as elements (RFC 5652 5.3).
 use Rattle.std.specs.Prelude.{◌∷◌, ◌++◌, Option, option_to_list}
 use Rattle.der_core.specs.DerElement.{DerElement}
 use Rattle.der_core.specs.Elements.{sequence}

@@ -1,4 +1,4 @@
--- What names the certificate of a signer (RFC 5652 5.3, 10.2.4).
+-- The identifier of a signer's certificate (RFC 5652 5.3, 10.2.4).
 use Rattle.std.specs.Prelude.{[], ◌∷◌}
 use Rattle.der_core.specs.DerElement.{DerElement, Primitive}
 use Rattle.der_core.specs.Elements.{sequence}

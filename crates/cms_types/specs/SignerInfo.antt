@@ -29,7 +29,7 @@ signer_elements signer = record {
 abbrev pub signer_info : SignerInfo → DerElement
 signer_info signer = signer_of (signer_elements signer)
 
--- Each element spells the field that it stands for.
+-- Each element encodes its field.
 pub record AreFieldsOf (f : SignerElements) (signer : SignerInfo) : Type 0 where
   pub version : IsCmsVersion f.version signer.version
   pub sid : IsSignerIdentifier f.sid signer.sid

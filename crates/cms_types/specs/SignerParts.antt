@@ -1,4 +1,4 @@
--- The fields of a signer in two parts, which are read and copied one after another (RFC 5652 5.3).
+-- The fields of a signer in two parts that are read and copied one after the other (RFC 5652 5.3).
 use Rattle.der_core.specs.Each.{IsListOf, Prints}
 use Rattle.der_core.specs.Optional.{SpellsOption}
 use Rattle.cms_types.specs.Levels.{IsSignerIdentifier, IsAlgorithm, IsOctetString}
@@ -10,13 +10,13 @@ use Rattle.cms_types.specs.declared.signer_info.parts.SignatureFields.{Signature
 use Rattle.cms_types.specs.declared.signer_info.parts.SignedBy.{SignedBy}
 use Rattle.cms_types.specs.declared.version.CmsVersion.{CmsVersion}
 
--- Each element spells the field of the first part.
+-- Each element encodes its field of the first part.
 pub record AreSignedByFields (f : SignerElements) (part : SignedBy) : Type 0 where
   pub sid : IsSignerIdentifier f.sid part.sid
   pub digest_algorithm : IsAlgorithm f.digest_algorithm part.digest_algorithm
   pub signature_algorithm : IsAlgorithm f.signature_algorithm part.signature_algorithm
 
--- Each element spells the field of the second part.
+-- Each element encodes its field of the second part.
 pub record AreSignatureFields (f : SignerElements) (part : SignatureFields) : Type 0 where
   pub signed_attrs : SpellsOption (Prints signed_attributes) f.signed_attrs part.signed_attrs
   pub signature : IsOctetString f.signature part.signature
@@ -39,7 +39,7 @@ signature_fields signer = record {
   unsigned_attrs = signer.unsigned_attrs;
 }
 
--- the signer of its version and its parts
+-- the signer with this version and these parts
 abbrev pub signer_of_parts : CmsVersion → SignedBy → SignatureFields → SignerInfo
 signer_of_parts version by signed = record {
   version = version;

@@ -4,6 +4,6 @@ use Rattle.der_core.specs.DerElement.{DerElement}
 use Rattle.der_core.specs.Elements.{set}
 use Rattle.cms_types.specs.Signers.{AreSignerInfos}
 
--- The element holds these signers: SignerInfos ::= SET OF SignerInfo
+-- The element contains these signers: SignerInfos ::= SET OF SignerInfo
 abbrev pub IsSetOfSigners : DerElement → List DerElement → Type 0
 IsSetOfSigners element signers = (element ≡ set signers) × AreSignerInfos signers

@@ -1,4 +1,4 @@
--- A signer where its octets lie.
+-- A signer, borrowed.
 use Rattle.std.specs.Prelude.{◌≡◌, ℕ, List, [], ◌∷◌}
 use Rattle.asn1_types.specs.Elements.{integer_of}
 use Rattle.der_core.specs.DerElement.{DerElement}
@@ -11,11 +11,11 @@ use Rattle.cms_types.specs.SignerInfo.{signer_info}
 use Rattle.cms_types.specs.declared.signer_info.SignerInfo.{SignerInfo}
 use Rattle.cms_types.specs.declared.signer_info.view.SignerView.{SignerView}
 
--- the elements that lie there
+-- the borrowed elements
 abbrev pub signer_elements_at : SignerView → SignerElements
 signer_elements_at view = signer_at view.fields
 
--- The view is one of this element: its elements are those of the fields, each of its shape, and it
+-- The view is one of this element: it borrows the fields, each with its structure, and the element
 -- is that of a signer.
 pub record IsSignerView (element : DerElement) (view : SignerView) : Type 0 where
   pub is : element ≡ signer_of (signer_elements_at view)

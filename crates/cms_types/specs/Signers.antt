@@ -1,6 +1,6 @@
--- Signers have unsigned attributes, these hold signers or signed data, and signed data holds
--- signers (RFC 5652 5.1, 5.3, 11.4). What these elements are is said on elements alone, level by
--- level.
+-- Signers have unsigned attributes, these contain signers or signed data, and signed data contains
+-- signers (RFC 5652 5.1, 5.3, 11.4). The structure of these elements is specified on elements
+-- alone, level by level.
 use Rattle.std.specs.Prelude.{◌≡◌, List, [], ◌∷◌, Some, None}
 use Rattle.der_core.specs.DerElement.{DerElement, Constructed, row}
 use Rattle.der_core.specs.Elements.{set}
@@ -19,7 +19,7 @@ mutual
         → IsSignerOf element f → f.unsigned_attrs ≡ Some (Constructed 0xA1 (row attributes))
         → AreUnsignedAttributes attributes → IsSignerInfo element
 
-  -- an attribute whose values are signers, or signed data, by its identifier, or any other
+  -- an attribute whose values are signers, or signed data, by its OID, or any other
   pub data IsUnsignedAttribute : DerElement → Type 0 where
     Counter : {element : DerElement} {values : List DerElement}
         → IsUnsignedOf element kinds.CounterSign values → AreSignerInfos values

@@ -1,6 +1,6 @@
 -- SpcLink ::= CHOICE { url [0] IMPLICIT IA5STRING, moniker [1] IMPLICIT SpcSerializedObject, file
--- [2] EXPLICIT SpcString } (Windows Authenticode Portable Executable Signature Format): the first
--- of the three alone, of any octets
+-- [2] EXPLICIT SpcString } (Windows Authenticode Portable Executable Signature Format): only the
+-- first of the three, with any octets
 use Rattle.der_core.specs.DerElement.{DerElement, Primitive}
 use Rattle.cms_types.specs.declared.opus_info.spc_link.SpcLink.{SpcLink}
 

@@ -1,5 +1,5 @@
 -- SpcString ::= CHOICE { unicode [0] IMPLICIT BMPSTRING, ascii [1] IMPLICIT IA5STRING } (Windows
--- Authenticode Portable Executable Signature Format): the first of the two alone
+-- Authenticode Portable Executable Signature Format): only the first of the two
 use Rattle.der_core.specs.DerElement.{DerElement, Primitive}
 use Rattle.cms_types.specs.declared.opus_info.spc_string.SpcString.{SpcString}
 

@@ -7,7 +7,7 @@ use Rattle.std.specs.Str.{chars}
 abbrev pub AreUnits : List ℕ → Type 0
 AreUnits octets = length octets % 2 ≡ 0
 
--- the two octets of a unit, the higher first
+-- the two octets of a unit, in big-endian order
 abbrev pub unit_octets : ℕ → List ℕ
 unit_octets unit = unit / 256 ∷ unit % 256 ∷ []
 

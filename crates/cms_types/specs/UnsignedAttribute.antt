@@ -9,7 +9,7 @@ use Rattle.cms_types.specs.declared.unsigned_attribute.UnsignedAttribute.{Unsign
 use Rattle.cms_types.specs.declared.unsigned_attribute.UnsignedAttribute.TheVariants as attributes
 use Rattle.cms_types.specs.declared.unsigned_attribute.signer_values.SignerValues.{SignerValues}
 
--- the values of an attribute are written as they are kept
+-- the values of an attribute are written as they are stored
 abbrev pub unsigned_attribute : UnsignedAttribute → DerElement
 unsigned_attribute (attributes.CounterSign values) =
     attribute_of COUNTERSIGNATURE.now (elements_of_kept values.items)
@@ -18,6 +18,6 @@ unsigned_attribute (attributes.MsCounterSign values) =
 unsigned_attribute (attributes.Raw attribute) =
     attribute_of (identifier_contents attribute.ty) (elements_of_kept attribute.values)
 
--- the elements of signers that are kept as values
+-- the elements of signers that are stored as values
 abbrev pub signer_values : SignerValues → List DerElement
 signer_values values = elements_of_kept values.items

@@ -17,8 +17,9 @@ ghost use Rattle.cms_types.specs.declared.signer_info.SignerInfo.{SignerInfo};
 ghost use Rattle.cms_types.specs.declared.signer_info.view.SignerView.{SignerView};
 ghost use Rattle.cms_types.specs.declared.unsigned_attribute.UnsignedAttribute.{UnsignedAttribute};
 
-/// What signers, unsigned attributes and signed data are is said on elements alone, since they hold
-/// one another. An element in bounds is such a one exactly where it is that of a value.
+/// Signers, unsigned attributes and signed data contain one another, so their structure is
+/// specified on elements alone. An element within limits has it exactly where it is that of a
+/// value.
 pub fn shapes_are_those_of_values()
     ensures signers { (element : DerElement) → IsDer element → IsSignerInfo element
         → (value : SignerInfo) × (element ≡ signer_info value) }
@@ -35,7 +36,7 @@ pub fn shapes_are_those_of_values()
     ensures of_tokens { (value : Pkcs7Certificate) → ∥ IsPkcs7 (pkcs7 value) ∥₁ }
 {}
 
-/// What lies in signed data, and in a signer, are the fields of the value that is read of it.
+/// The views of signed data and of signers borrow the fields of the value that is read.
 pub fn views_lend_what_signed_data_has()
     ensures signed { (element : DerElement) (view : SignedView) (value : Pkcs7Certificate)
         → IsSignedView element view → element ≡ pkcs7 value

@@ -1,4 +1,4 @@
-//! Unsigned attributes and signed data by the elements in them, where their octets lie.
+//! Unsigned attributes and signed data by the elements in them, borrowed.
 
 ghost use Rattle.std.specs.Prelude.{◌≡◌, ◌≢◌, [], ◌∷◌, List, MatchOption};
 ghost use Rattle.der_core.specs.DerElement.{DerElement};
@@ -15,8 +15,8 @@ use der_core::{Elem, Kids, expect_leaf, explicit_at, leaf_at, two_kids};
 
 pub(crate) const SIGNED: u8 = 0xA0;
 
-/// The fields of an unsigned attribute: its identifier, the kind that this names, and its values,
-/// any elements.
+/// The fields of an unsigned attribute, borrowed: its OID, the kind that this names, and its
+/// values, any elements.
 #[derive(Clone, Copy)]
 pub(crate) struct UnsignedFields<'a> {
     pub ty: Elem<'a>,

@@ -1,7 +1,7 @@
 //! Structures of PKCS #7 (RFC 2315), of the Cryptographic Message Syntax (RFC 5652) and of
 //! Authenticode (Windows Authenticode Portable Executable Signature Format), as values, read from
-//! octets or trees and written as trees: signed data, its signers, and what a signature says of its
-//! program. The contents that are signed stand in a crate of their own, and are handed on here. A
+//! octets or trees and written as trees: signed data, its signers, and what a signature says about
+//! its program. The signed contents have a crate of their own and are exported again here. Each
 //! folder has a structure with its parts: `signed_data`, `signer_info`, `unsigned_attribute`,
 //! `opus_info`.
 #![tactic(auto)]

@@ -1,4 +1,4 @@
-//! Fields that hold a value, or several, and may be left out.
+//! Optional fields with a value or several.
 
 ghost use Rattle.std.specs.Prelude.{◌≡◌, ◌++◌, ◌∷◌, [], IfOk, MatchResult, flat_map, option_to_list};
 ghost use Rattle.std.specs.Option.{option_map};
@@ -13,7 +13,7 @@ ghost use Rattle.cms_types.specs.Optional.{inner_list};
 use der_core::{DerError, Elem, ListOf, NewKids, Structure, copy_each, read_list, write_list};
 use std::alloc::{AllocError, Global};
 
-/// The values in the element, none where it is left out.
+/// Reads the values in the element, if there is one.
 pub(crate) fn read_list_option<T: Structure>(
     alloc: Global,
     elem: Option<Elem<'_>>,
@@ -45,7 +45,7 @@ pub(crate) fn push_values<T: Structure>(
     Ok(kids.push(write_list(alloc, values, tag)?)?)
 }
 
-/// Appends the element of the values, where they aren't left out.
+/// Appends the element of the values, unless they are absent.
 pub(crate) fn push_list<T: Structure>(
     alloc: Global,
     kids: &mut NewKids,
@@ -65,7 +65,7 @@ pub(crate) fn push_list<T: Structure>(
     }
 }
 
-/// A copy of the values, where they aren't left out.
+/// A copy of the values, if present.
 pub(crate) fn copy_list<T: Structure>(
     alloc: Global,
     values: &Option<ListOf<T>>,

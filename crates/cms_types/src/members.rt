@@ -1,4 +1,4 @@
-//! The members of counter-signatures, read and put together.
+//! The members of counter-signatures: reading them and making them.
 
 ghost use Rattle.std.specs.Prelude.{◌≡◌, ◌∷◌, ◌++◌, [], map, flat_map, MatchResult};
 ghost use Rattle.der_core.specs.Placed.{AreDer};
@@ -20,8 +20,8 @@ impl SignerValues {
     ghost use Rattle.cms_types.specs.Members.{element_of_kept};
     ghost use Rattle.cms_types.specs.SignerInfo.{signer_info};
 
-    /// The elements of the signers, in order. It is refused as `TooDeep` or `TooLong` exactly where
-    /// `der_core::write` so refuses the first of them that can't be written.
+    /// The elements of the signers, in order. `TooDeep` or `TooLong` exactly where
+    /// `der_core::write` refuses the first signer that can't be written that way.
     pub fn from_signers(alloc: Global, signers: &[SignerInfo]) -> Result<SignerValues, DerError>
         ensures { MatchResult result
             (λ values. elements_of_kept values.items ≡ map signer_info signers.now)
@@ -31,11 +31,11 @@ impl SignerValues {
         Ok(SignerValues { items })
     }
 
-    /// The signer that the member at this place spells, `None` exactly from the length on.
+    /// The signer at this index, `None` exactly from the length on.
     pub fn get(&self, alloc: Global, place: usize) -> Result<Option<SignerInfo>, AllocError>
         ensures found { IfOk result (λ signer. option_map signer_info signer
             ≡ option_map element_of_kept (slice_get self.now.items place)) }
-        // From the length on no memory is asked for.
+        // From the length on nothing is allocated.
         ensures past { length self.now.items ≤ place → result ≡ Ok None }
     {
         let Some(member) = self.items.as_slice().get(place) else {
@@ -54,8 +54,8 @@ impl TokenValues {
     ghost use Rattle.cms_types.specs.Members.{element_of_kept};
     ghost use Rattle.cms_types.specs.Pkcs7.{pkcs7};
 
-    /// The elements of the tokens, in order. It is refused as `TooDeep` or `TooLong` exactly where
-    /// `der_core::write` so refuses the first of them that can't be written.
+    /// The elements of the tokens, in order. `TooDeep` or `TooLong` exactly where `der_core::write`
+    /// refuses the first token that can't be written that way.
     pub fn from_tokens(alloc: Global, tokens: &[Pkcs7Certificate]) -> Result<TokenValues, DerError>
         ensures { MatchResult result
             (λ values. elements_of_kept values.items ≡ map pkcs7 tokens.now)
@@ -65,11 +65,11 @@ impl TokenValues {
         Ok(TokenValues { items })
     }
 
-    /// The token that the member at this place spells, `None` exactly from the length on.
+    /// The token at this index, `None` exactly from the length on.
     pub fn get(&self, alloc: Global, place: usize) -> Result<Option<Pkcs7Certificate>, AllocError>
         ensures found { IfOk result (λ token. option_map pkcs7 token ≡ option_map element_of_kept
             (slice_get self.now.items place)) }
-        // From the length on no memory is asked for.
+        // From the length on nothing is allocated.
         ensures past { length self.now.items ≤ place → result ≡ Ok None }
     {
         let Some(member) = self.items.as_slice().get(place) else {
@@ -82,7 +82,7 @@ impl TokenValues {
     }
 }
 
-/// The elements of the values, in order, each kept.
+/// The elements of the values, in order, each raw.
 fn keep_each<T: Structure>(alloc: Global, values: &[T]) -> Result<RawList, DerError>
     ensures { MatchResult result
         (λ kept. elements_of_kept kept ≡ map T.written values.now)
@@ -97,7 +97,7 @@ fn keep_each<T: Structure>(alloc: Global, values: &[T]) -> Result<RawList, DerEr
     Ok(kept)
 }
 
-/// The element of the value, kept.
+/// The element of the value, raw.
 fn kept_of<T: Structure>(alloc: Global, value: &T) -> Result<Raw, DerError>
     ensures { MatchResult result
         (λ kept. (kept.element ≡ T.written value.now)
@@ -108,7 +108,7 @@ fn kept_of<T: Structure>(alloc: Global, value: &T) -> Result<Raw, DerError>
     Ok(Raw::from_tree(alloc, &tree)?)
 }
 
-/// Why an element that spells a value isn't read: want of memory, and nothing else.
+/// An element that encodes a value is only refused when out of memory.
 fn want_of_memory(_error: DerError) -> AllocError
     requires { _error ≡ errors.Memory }
 {

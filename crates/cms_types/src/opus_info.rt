@@ -1,4 +1,4 @@
-//! What a signature says of its program.
+//! What a signature says about its program.
 
 ghost use Rattle.std.specs.Prelude.{◌≡◌, ◌≢◌, ◌↔◌, IsTrue, Option, MatchOption};
 ghost use Rattle.der_core.specs.DerElement.{DerElement};
@@ -21,15 +21,15 @@ const PROGRAM_NAME: u8 = 0xA0;
 
 const MORE_INFO: u8 = 0xA1;
 
-/// What a signature says of its program: its name, and where more is said of it, each left out or
-/// given (Windows Authenticode Portable Executable Signature Format).
+/// What a signature says about its program: its name, and a link to more information, each optional
+/// (Windows Authenticode Portable Executable Signature Format).
 #[derive(Debug, Drop)]
 pub struct SpcSpOpusInfo {
     pub program_name: Option<SpcString>,
     pub more_info: Option<SpcLink>,
 }
 
-/// The fields where they lie, each any element.
+/// The fields, borrowed, each any element.
 #[derive(Clone, Copy)]
 struct Fields<'a> {
     program_name: Option<Elem<'a>>,
@@ -100,7 +100,7 @@ impl Structure for SpcSpOpusInfo {
     ghost grammar = { opus_infos };
 }
 
-/// Values are equal exactly where their octets are.
+/// Values are equal exactly where their encodings are.
 impl PartialEq for SpcSpOpusInfo {
     ghost use Rattle.der_core.specs.Equality.{same_octets};
     ghost use Rattle.der_core.specs.Facts.Equality.{same_octets_per};

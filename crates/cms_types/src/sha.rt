@@ -1,4 +1,4 @@
-//! The identifiers of digest algorithms.
+//! AlgorithmIdentifiers of digest algorithms.
 
 ghost use Rattle.std.specs.Prelude.{◌≡◌, IfOk};
 ghost use Rattle.key_types.specs.AlgorithmIdentifier.{algorithm_identifier};
@@ -8,9 +8,9 @@ use key_types::AlgorithmIdentifier;
 use sig_core::ShaVariant;
 use std::alloc::{AllocError, Global};
 
-/// The identifier of a digest algorithm (RFC 2315 6.3), with NULL parameters, as signed programs
-/// have it. A reader accepts NULL and none (RFC 3370 2.1, RFC 5754 2, by which a writer is to write
-/// none but for MD5, NULL by RFC 3370 2.2).
+/// The AlgorithmIdentifier of a digest algorithm (RFC 2315 6.3) with NULL parameters, as in signed
+/// programs. Readers accept NULL and none (RFC 3370 2.1, RFC 5754 2, by which writers are to write
+/// none; for MD5 NULL, RFC 3370 2.2).
 pub fn new_sha(alloc: Global, hash: ShaVariant) -> Result<AlgorithmIdentifier, AllocError>
     ensures { IfOk result (λ algorithm. algorithm_identifier algorithm ≡ digest_algorithm hash) }
 {

@@ -1,4 +1,4 @@
-//! Whether elements are signers, unsigned attributes or signed data, which hold one another.
+//! Whether elements are signers, unsigned attributes or signed data, which contain one another.
 
 ghost use Rattle.std.specs.Prelude.{◌≡◌, false, IsTrue, List};
 ghost use Rattle.der_core.specs.DerElement.{DerElement};

@@ -32,8 +32,8 @@ pub type CertificateSet = ListOf<CertificateChoices>;
 /// Signers in order.
 pub type SignersInfos = ListOf<SignerInfo>;
 
-/// Signed data: a content, who signs it, and certificates that help to check the signatures (RFC
-/// 5652 5.1, RFC 2315 9.1). The certificates and the revocation lists are kept as they are.
+/// Signed data: a content, its signers, and certificates for checking the signatures (RFC 5652 5.1,
+/// RFC 2315 9.1). The certificates and the revocation lists are stored raw.
 #[derive(Debug, Drop)]
 pub struct SignedData {
     pub version: CmsVersion,
@@ -50,7 +50,7 @@ impl SignedDataFields<'_> {
     ghost use Rattle.cms_types.specs.Lent.{signed_data_at};
     ghost use Rattle.cms_types.specs.SignedData.{AreDataFields};
 
-    /// The value of the fields.
+    /// Reads the value from the fields.
     fn read(&self, alloc: Global) -> Result<SignedData, DerError>
         ensures { MatchResult result
             (AreDataFields (signed_data_at self.now))
@@ -74,7 +74,7 @@ impl SignedData {
             && are_same_signers(&self.signers_infos, &other.signers_infos)
     }
 
-    /// Whether the certificates and the revocation lists are the same, where they aren't left out.
+    /// Whether the certificates and the revocation lists are the same, if present.
     fn has_same_options(&self, other: &SignedData) -> bool
         ensures { IsTrue result
             ↔ (self.now.certificates ≡ other.now.certificates) × (self.now.crls ≡ other.now.crls) }
@@ -108,14 +108,14 @@ fn are_same_signers(a: &SignersInfos, b: &SignersInfos) -> bool
     a == b
 }
 
-/// Whether the certificates are the same, each given or left out.
+/// Whether the certificates are the same, present or absent.
 fn are_same_certificates(a: &Option<CertificateSet>, b: &Option<CertificateSet>) -> bool
     ensures { IsTrue result ↔ (a.now ≡ b.now) }
 {
     a == b
 }
 
-/// Whether the revocation lists are the same, each given or left out.
+/// Whether the revocation lists are the same, present or absent.
 fn are_same_lists(a: &Option<RawList>, b: &Option<RawList>) -> bool
     ensures { IsTrue result ↔ (a.now ≡ b.now) }
 {

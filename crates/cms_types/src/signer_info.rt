@@ -22,7 +22,8 @@ use der_core::{DerError, Elem, NewKids, Octets, Structure, Tree, push_value};
 use key_types::AlgorithmIdentifier;
 use std::alloc::{AllocError, Global};
 
-/// A signer: what names its certificate, what it signs and how, and its signature (RFC 5652 5.3).
+/// A signer: the identifier of its certificate, what it signs and how, and its signature (RFC 5652
+/// 5.3).
 #[derive(Debug, Drop)]
 pub struct SignerInfo {
     pub version: CmsVersion,
@@ -40,7 +41,7 @@ impl SignerFields<'_> {
     ghost use Rattle.cms_types.specs.Lent.{signer_at};
     ghost use Rattle.cms_types.specs.SignerInfo.{AreFieldsOf};
 
-    /// The value of the fields.
+    /// Reads the value from the fields.
     fn read(&self, alloc: Global) -> Result<SignerInfo, DerError>
         ensures { MatchResult result
             (AreFieldsOf (signer_at self.now))
@@ -87,14 +88,14 @@ impl SignerInfo {
     }
 }
 
-/// Whether the signed attributes are the same, each given or left out.
+/// Whether the signed attributes are the same, present or absent.
 fn are_same_signed(a: &Option<SignedAttributes>, b: &Option<SignedAttributes>) -> bool
     ensures { IsTrue result ↔ (a.now ≡ b.now) }
 {
     a == b
 }
 
-/// Whether the unsigned attributes are the same, each given or left out.
+/// Whether the unsigned attributes are the same, present or absent.
 fn are_same_unsigned(a: &Option<UnsignedAttributeList>, b: &Option<UnsignedAttributeList>) -> bool
     ensures { IsTrue result ↔ (a.now ≡ b.now) }
 {

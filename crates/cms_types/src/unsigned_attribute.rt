@@ -19,14 +19,14 @@ use std::alloc::{AllocError, Global};
 /// Unsigned attributes in order.
 pub type UnsignedAttributeList = ListOf<UnsignedAttribute>;
 
-/// An attribute of a signer that isn't signed (RFC 5652 5.3): its values are of the kind that its
-/// identifier names, and kept as they are. An attribute of a known kind whose values aren't all of
-/// the kind is none: it is `Shape`.
+/// An unsigned attribute of a signer (RFC 5652 5.3): its values are of the kind that its OID names,
+/// and stored raw. An attribute of a known kind whose values aren't all of that kind is refused as
+/// `Shape`.
 #[derive(Debug, Drop)]
 pub enum UnsignedAttribute {
-    /// Signatures of the signature (RFC 5652 11.4).
+    /// Counter-signatures (RFC 5652 11.4).
     CounterSign(SignerValues),
-    /// Signed data on the signature, as Microsoft's programs write it.
+    /// Signed data over the signature, Microsoft's form of a counter-signature.
     MsCounterSign(TokenValues),
     /// Any other attribute.
     Raw(RawUnsignedAttribute),

@@ -35,7 +35,7 @@ impl CmsVersion {
         }
     }
 
-    /// The version that an element spells, which takes no memory.
+    /// The version in an element. It doesn't allocate.
     pub(crate) fn at(elem: Elem<'_>) -> Option<CmsVersion>
         ensures { MatchOption result
             ((value : CmsVersion) → elem.entry.is.0 ≢ cms_version value)
@@ -79,7 +79,7 @@ impl Structure for CmsVersion {
     ghost grammar = { versions };
 }
 
-/// Versions are equal exactly where their octets are.
+/// Versions are equal exactly where their encodings are.
 impl PartialEq for CmsVersion {
     ghost use Rattle.der_core.specs.Equality.{same_octets};
     ghost use Rattle.der_core.specs.Facts.Equality.{same_octets_per};

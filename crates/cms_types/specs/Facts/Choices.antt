@@ -1,4 +1,4 @@
--- Certificates of signed data: unlike ones have unlike elements, each well formed.
+-- Certificates of signed data: different ones have different elements, each well formed.
 use Rattle.std.proofs.Common.{◌≡◌, ◌≢◌, [], sym, ap, subst, ◌∙◌}
 use Rattle.std.proofs.Props.{props}
 use Rattle.der_core.specs.DerElement.{tag_of}

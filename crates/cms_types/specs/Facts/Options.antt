@@ -1,4 +1,4 @@
--- Values that may be left out: what holds of a value holds of one that may be left out.
+-- Optional values: what holds for a value holds for an optional one.
 use Rattle.std.proofs.Common.{Option, Some, None}
 use Rattle.std.specs.Option.{option_map}
 use Rattle.der_core.specs.DerElement.{DerElement}

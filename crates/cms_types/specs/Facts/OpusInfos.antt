@@ -1,4 +1,5 @@
--- What signatures say of their programs: unlike values have unlike elements, each well formed.
+-- What signatures say about their programs: different values have different elements, each well
+-- formed.
 use Rattle.std.proofs.Common.{◌≡◌, [], ◌++◌, Option, Some, None, refl, arith}
 use Rattle.std.specs.Option.{option_map}
 use Rattle.der_core.specs.DerElement.{DerElement, row}

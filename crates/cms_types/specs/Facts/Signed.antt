@@ -1,4 +1,4 @@
--- Signed attributes: unlike ones have unlike elements, each well formed.
+-- Signed attributes: different ones have different elements, each well formed.
 use Rattle.std.proofs.Common.{◌≡◌, ◌↔◌, IsTrue, Bool, List, [], ap, subst}
 use Rattle.std.specs.Prelude.{bytes_eq}
 use Rattle.std.specs.Cmp.Lexicographic.{pointwise}
@@ -17,7 +17,7 @@ use Rattle.x509_types.specs.declared.attribute.Attribute.{Attribute}
 use Rattle.cms_types.specs.SignedAttributesElement.{signed_attributes}
 use Rattle.cms_types.specs.declared.signer_info.signed_attributes.SignedAttributes.{SignedAttributes}
 
--- attributes are told by octets
+-- the encoding determines an attribute
 told : Attribute → Attribute → Bool
 told a b = bytes_eq (attribute_octets a) (attribute_octets b)
 
@@ -30,7 +30,7 @@ told_same a b =
 test_prop : (t : Bool) → IsProp (IsTrue t)
 test_prop t = hlevel props
 
--- an element holds at most one list of attributes, however that is known
+-- an element encodes at most one list of attributes, whatever the proof
 lists_once : (element : DerElement) (a b : List Attribute) → ∥ AreAttributes element a ∥₁ → ∥ AreAttributes element b ∥₁ → a ≡ b
 lists_once element a b p q =
     let same = pointwise_same told told_same a b in

@@ -1,4 +1,4 @@
--- Signed data: unlike values have unlike elements, each well formed.
+-- Signed data: different values have different elements, each well formed.
 use Rattle.std.proofs.Common.{◌≡◌, ℕ, List, [], Option, Some, None, refl, ap, arith}
 use Rattle.std.specs.Option.{option_map}
 use Rattle.der_core.specs.DerElement.{DerElement, tag_of}
@@ -50,7 +50,7 @@ same_crls a b e = list_once 0xA1 element_of_kept same_kept a b e
 same_signers : (a b : List SignerInfo) → list_element 0x31 signer_info a ≡ list_element 0x31 signer_info b → a ≡ b
 same_signers a b e = list_once 0x31 signer_info (λ x y e. signer_infos.once (signer_info x) x y refl e) a b e
 
--- signed data is told by the elements of its fields
+-- the elements of its fields determine signed data
 pub data_once : (a b : SignedData) → signed_data_elements a ≡ signed_data_elements b → a ≡ b
 data_once a b same =
     let version = versions_once a.version b.version (ap (λ (f : SignedDataElements). f.version) same) in

@@ -1,4 +1,5 @@
--- The fields of signers and of signed data: unlike ones have unlike elements, and the element around well-formed ones is well formed.
+-- The fields of signers and of signed data: different ones have different elements, and the element
+-- of well-formed ones is well formed.
 use Rattle.std.proofs.Common.{◌≡◌, ◌≢◌, ℕ, List, [], ◌∷◌, ◌++◌, Option, Some, None, refl, ap, arith}
 use Rattle.std.specs.Prelude.{option_to_list}
 use Rattle.der_core.specs.Facts.Optional.{kept_once}
@@ -12,7 +13,7 @@ use Rattle.cms_types.specs.SignerElements.{SignerElements, signer_of}
 use Rattle.cms_types.specs.SignedDataElements.{SignedDataElements, signed_data_of}
 use Rattle.cms_types.specs.Levels.{OfOption, IsConstructed, IsAlgorithm, AreSignerFields, AreSignedDataFields}
 
--- ---- elements that may be left out
+-- ---- optional elements
 
 none_of : (a : Option DerElement) → option_to_list a ≡ [] → a ≡ None
 none_of None e = refl
@@ -22,7 +23,7 @@ tagged_field : (tag : ℕ) (a : Option DerElement) → OfOption (λ e. tag_of e 
 tagged_field tag None tagged = tt
 tagged_field tag (Some x) tagged = tagged
 
--- elements begin with one of the tag in one way
+-- elements begin with an optional one of the tag in one way
 pub options_split : (tag : ℕ) (a b : Option DerElement) (xs ys : List DerElement) → OfOption (λ e. tag_of e ≡ tag) a → OfOption (λ e. tag_of e ≡ tag) b
     → (a ≡ None → BeginsOtherwise tag xs) → (b ≡ None → BeginsOtherwise tag ys) → option_to_list a ++ xs ≡ option_to_list b ++ ys → (a ≡ b) × (xs ≡ ys)
 options_split tag a b xs ys p q f g e =
@@ -31,7 +32,7 @@ options_split tag a b xs ys p q f g e =
 
 -- ---- signers
 
--- The fields that may be left out are told by their tags.
+-- The optional fields have their tags.
 pub record IsTold (f : SignerElements) : Type 0 where
   pub signed_attrs : OfOption (λ e. tag_of e ≡ 0xA0) f.signed_attrs
   pub signature_algorithm : tag_of f.signature_algorithm ≢ 0xA0
@@ -52,7 +53,7 @@ signer_tail f = f.signature_algorithm ∷ f.signature ∷ option_to_list f.unsig
 abbrev pub signer_kids : SignerElements → List DerElement
 signer_kids f = f.version ∷ f.sid ∷ f.digest_algorithm ∷ (option_to_list f.signed_attrs ++ signer_tail f)
 
--- a signer has its fields once
+-- the element of a signer determines its fields
 pub same_signer : (f g : SignerElements) → IsTold f → IsTold g → signer_of f ≡ signer_of g → f ≡ g
 same_signer f g told told' e =
     let kids : signer_kids f ≡ signer_kids g = same_fields (signer_kids f) (signer_kids g) e in
@@ -131,7 +132,7 @@ no_certificates (Some x) signers tagged last = λ e. omega (arith, e, tagged)
 pub no_crls : (signers : DerElement) → tag_of signers ≡ 0x31 → BeginsOtherwise 0xA1 (signers ∷ [])
 no_crls signers last = λ e. omega (arith, e, last)
 
--- signed data has its fields once
+-- the element of signed data determines its fields
 pub same_data : (f g : SignedDataElements) → IsToldData f → IsToldData g → signed_data_of f ≡ signed_data_of g → f ≡ g
 same_data f g told told' e =
     let kids : data_kids f ≡ data_kids g = same_fields (data_kids f) (data_kids g) e in

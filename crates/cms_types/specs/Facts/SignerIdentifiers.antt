@@ -1,4 +1,4 @@
--- What names certificates: unlike values have unlike elements, each well formed.
+-- Identifiers of certificates: different ones have different elements, each well formed.
 use Rattle.std.proofs.Common.{◌≡◌, [], refl, ap, arith}
 use Rattle.der_core.specs.Encoding.{IsWellFormed}
 use Rattle.der_core.specs.Structure.{IsGrammar}

@@ -1,4 +1,4 @@
--- Signers: unlike ones have unlike elements, each well formed.
+-- Signers: different ones have different elements, each well formed.
 use Rattle.std.proofs.Common.{◌≡◌, List, [], Option, Some, None, refl, ap, arith}
 use Rattle.std.specs.Option.{option_map}
 use mathlib.Core.Logic.{∥∥₁_elim}
@@ -32,7 +32,7 @@ use Rattle.cms_types.specs.declared.unsigned_attribute.UnsignedAttribute.{Unsign
 tag_prop : (x : DerElement) → IsProp (tag_of x ≡ 0xA0)
 tag_prop x = hlevel props
 
--- signed attributes stand under their tag
+-- signed attributes have their tag
 signed_tag : (a : SignedAttributes) → tag_of (signed_attributes a) ≡ 0xA0
 signed_tag a = ∥∥₁_elim a.are (tag_prop a.element.element) (λ list. ap tag_of list.holds)
 
@@ -46,7 +46,7 @@ told_signer s = record { signed_attrs = signed_tags s.signed_attrs; signature_al
 pub same_unsigned : (a b : List UnsignedAttribute) → list_element 0xA1 unsigned_attribute a ≡ list_element 0xA1 unsigned_attribute b → a ≡ b
 same_unsigned a b e = list_once 0xA1 unsigned_attribute (λ x y e. unsigned_attributes.once (unsigned_attribute x) x y refl e) a b e
 
--- signers are told by the elements of their fields
+-- the elements of its fields determine a signer
 pub signer_once : (a b : SignerInfo) → signer_elements a ≡ signer_elements b → a ≡ b
 signer_once a b same =
     let version = versions_once a.version b.version (ap (λ (f : SignerElements). f.version) same) in

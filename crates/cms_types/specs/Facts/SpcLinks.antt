@@ -1,4 +1,4 @@
--- Links of Authenticode: unlike ones have unlike elements, each well formed.
+-- Links of Authenticode: different ones have different elements, each well formed.
 use Rattle.std.proofs.Common.{◌≡◌, ℕ, List, [], refl, ap, arith}
 use Rattle.der_core.specs.Structure.{IsGrammar}
 use Rattle.der_core.specs.Facts.Grammars.{printed}

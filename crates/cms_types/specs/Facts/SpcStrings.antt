@@ -1,4 +1,4 @@
--- Texts of Authenticode: unlike ones have unlike elements, each well formed.
+-- Strings of Authenticode: different ones have different elements, each well formed.
 use Rattle.std.proofs.Common.{◌≡◌, ℕ, List, [], refl, ap, subst, arith}
 use Rattle.std.proofs.Props.{props}
 use Rattle.der_core.specs.Structure.{IsGrammar}

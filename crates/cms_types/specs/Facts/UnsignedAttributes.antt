@@ -1,4 +1,4 @@
--- Unsigned attributes: unlike ones have unlike elements, each well formed.
+-- Unsigned attributes: different ones have different elements, each well formed.
 use Rattle.std.proofs.Common.{◌≡◌, ℕ, List, [], ◌∷◌, refl, sym, ap, subst, ◌∙◌, arith}
 use mathlib.Core.Logic.{∥∥₁_prop}
 use Rattle.der_core.specs.DerElement.{DerElement}
@@ -26,7 +26,7 @@ use Rattle.cms_types.specs.declared.unsigned_attribute.raw.RawUnsignedAttribute.
 use Rattle.cms_types.specs.declared.unsigned_attribute.signer_values.SignerValues.{SignerValues}
 use Rattle.cms_types.specs.declared.unsigned_attribute.token_values.TokenValues.{TokenValues}
 
--- ---- elements that are kept
+-- ---- raw elements
 
 pub kept_once : (a b : List KeptElement) → elements_of_kept a ≡ elements_of_kept b → a ≡ b
 kept_once [] [] e = refl
@@ -70,7 +70,7 @@ same_kids i j xs ys e = (cc, cc)
 same_values : (xs ys : List KeptElement) → set (elements_of_kept xs) ≡ set (elements_of_kept ys) → xs ≡ ys
 same_values xs ys e = list_once 0x31 element_of_kept same_kept xs ys e
 
--- identifiers of another kind are other ones
+-- OIDs of different kinds are different
 unlike : {P : Type 0} (i j : List ℕ) → i ≡ j → (named_unsigned i ≡ named_unsigned j → ⊥) → P
 unlike i j e none = absurd (none (ap named_unsigned e))
 

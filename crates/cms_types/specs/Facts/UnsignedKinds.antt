@@ -1,4 +1,4 @@
--- Kinds of unsigned attributes are the same for one reason.
+-- Equality of kinds of unsigned attributes is a proposition.
 use Rattle.std.specs.Prelude.{◌≡◌, ℕ, ◌==◌, if◌then◌else◌, refl}
 use Rattle.std.specs.Coded.{Coded-set}
 use Rattle.std.proofs.Common.{sym, ap, ◌∙◌}

@@ -1,4 +1,4 @@
--- Versions: unlike ones have unlike elements, each well formed.
+-- Versions: different ones have different elements, each well formed.
 use Rattle.std.proofs.Common.{◌≡◌, ℕ, [], refl, sym, ap, ◌∙◌, arith}
 use Rattle.std.specs.Prelude.{◌==◌, if◌then◌else◌}
 use Rattle.der_core.specs.Structure.{IsGrammar}
@@ -24,7 +24,7 @@ of_number named.V3 = refl
 of_number named.V4 = refl
 of_number named.V5 = refl
 
--- a version is told by its number
+-- the number determines a version
 pub same_version : (a b : CmsVersion) → cms_version_number a ≡ cms_version_number b → a ≡ b
 same_version a b e = sym (of_number a) ∙ ap version_of e ∙ of_number b
 

@@ -7,8 +7,9 @@ use std::alloc::{AllocError, Global};
 
 const URL: u8 = 0x80;
 
-/// Where more is said of a program: an SpcLink of the form `url` (Windows Authenticode Portable
-/// Executable Signature Format). Any octets are read. The forms `moniker` and `file` are not read.
+/// A link to more information about a program: an SpcLink of the form `url` (Windows Authenticode
+/// Portable Executable Signature Format). Any octets are read. The forms `moniker` and `file` are
+/// not read.
 #[derive(Debug, Drop)]
 pub struct SpcLink {
     pub url: Octets,
@@ -51,7 +52,7 @@ impl Structure for SpcLink {
     ghost grammar = { spc_links };
 }
 
-/// Links are equal exactly where their octets are.
+/// Links are equal exactly where their encodings are.
 impl PartialEq for SpcLink {
     ghost use Rattle.der_core.specs.Equality.{same_octets};
     ghost use Rattle.der_core.specs.Facts.Equality.{same_octets_per};

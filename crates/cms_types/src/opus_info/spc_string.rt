@@ -1,4 +1,4 @@
-//! Texts of Authenticode.
+//! Strings of Authenticode.
 
 ghost use Rattle.std.specs.Prelude.{◌≡◌, ◌↔◌, ◌≤◌, ◌++◌, IfOk, OnOk, IsTrue, MatchResult, Err};
 ghost use Rattle.std.proofs.Props.{props};
@@ -10,14 +10,13 @@ use asn1_types::CharSetError;
 use der_core::{DerError, Elem, Octets, Structure, Tree, leaf, leaf_at};
 use std::alloc::{AllocError, Global};
 
-/// The tag of a text of two octets a unit (Windows Authenticode Portable Executable Signature
+/// The tag of a string with two octets a unit (Windows Authenticode Portable Executable Signature
 /// Format, SpcString).
 pub const UNICODE: u8 = 0x80;
 
-/// A text in units of 16 bits, each in two octets, the higher first: an SpcString of the form
-/// `unicode`, which is a BMPString (Windows Authenticode Portable Executable Signature Format,
-/// X.690 8.23.8). Any units are read, those that are no character too. The form `ascii` is not
-/// read.
+/// A string of 16-bit units in big-endian order: an SpcString of the form `unicode`, which is a
+/// BMPString (Windows Authenticode Portable Executable Signature Format, X.690 8.23.8). Any units
+/// are read, even those that are no character. The form `ascii` is not read.
 #[derive(Debug, Drop)]
 pub struct SpcString {
     octets: Octets,
@@ -25,12 +24,12 @@ pub struct SpcString {
 }
 
 impl SpcString {
-    /// The string of this text, `CharSet` exactly where a character of it is past U+FFFF.
+    /// The string with this text, `CharSet` exactly where one of its characters is past U+FFFF.
     pub fn from_text(alloc: Global, text: &str) -> Result<SpcString, CharSetError>
         ensures made { MatchResult result
             (λ string. string.octets ≡ text_units text.now)
             (RefusesCharSet (IsBasicPlane text.now)) }
-        // A refusal comes before memory is asked for.
+        // A refusal comes before anything is allocated.
         ensures refused { (IsBasicPlane text.now → ⊥) → result ≡ Err CharSetError.CharSet }
     {
         if !is_basic(text) {
@@ -48,12 +47,12 @@ impl SpcString {
         bytes.len() % 2 == 0
     }
 
-    /// The string of these octets, `Shape` exactly where a unit has one alone.
+    /// The string with these octets, `Shape` exactly where their number is odd.
     pub fn from_content(alloc: Global, bytes: &[u8]) -> Result<SpcString, DerError>
         ensures read { MatchResult result
             (λ string. string.octets ≡ bytes.now)
             (RefusesContents (AreUnits bytes.now)) }
-        // A refusal comes before memory is asked for.
+        // A refusal comes before anything is allocated.
         ensures refused { (AreUnits bytes.now → ⊥) → result ≡ Err DerError.Shape }
     {
         if !SpcString::is_content(bytes) {
@@ -64,7 +63,7 @@ impl SpcString {
         })
     }
 
-    /// The octets of the units, the higher one of each first.
+    /// The octets of the units, in big-endian order.
     pub fn as_bytes(&self) -> &[u8]
         ensures { result.now ≡ self.now.octets }
     {
@@ -72,7 +71,7 @@ impl SpcString {
     }
 }
 
-/// Whether each character is in the basic plane, so that it is one unit.
+/// Whether each character is in the basic plane, and so is one unit.
 fn is_basic(text: &str) -> bool
     ensures { IsTrue result ↔ IsBasicPlane text.now }
 {

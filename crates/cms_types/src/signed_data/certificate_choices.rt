@@ -5,11 +5,10 @@ use der_core::tag::SEQUENCE;
 use der_core::{DerError, Elem, Raw, Structure, Tree};
 use std::alloc::{AllocError, Global};
 
-/// A certificate of signed data, kept as it is (RFC 5652 10.2.2). Whether a certificate reads isn't
-/// asked.
+/// A certificate of signed data, stored raw (RFC 5652 10.2.2). It isn't decoded or checked.
 #[derive(Debug, Drop)]
 pub enum CertificateChoices {
-    /// A SEQUENCE, as a certificate of X.509 is one (RFC 5280 4.1).
+    /// A SEQUENCE, as an X.509 certificate is (RFC 5280 4.1).
     Certificate(RawCertificate),
     /// Any other element.
     Other(OtherCertificate),
@@ -19,7 +18,7 @@ impl CertificateChoices {
     ghost use Rattle.std.specs.Prelude.{◌≡◌};
     ghost use Rattle.cms_types.specs.CertificateChoices.{certificate_choice};
 
-    /// The certificate that is kept.
+    /// The raw certificate.
     pub fn element(&self) -> &Raw
         ensures { result.now.element ≡ certificate_choice self.now }
     {

@@ -1,4 +1,4 @@
-//! The fields of signed data, where their octets lie (RFC 5652 5.1).
+//! The fields of signed data, borrowed (RFC 5652 5.1).
 //!
 //! ```text
 //! SignedData ::= SEQUENCE {
@@ -15,7 +15,7 @@
 //! ```
 //!
 //! In PKCS #7 the third field is `contentInfo ContentInfo`, whose content is of the kind that its
-//! type says (RFC 2315 7, 9.1), and so it is read. Members of `certificates` and `crls` are any
+//! type names (RFC 2315 7, 9.1); it is read that way. Members of `certificates` and `crls` are any
 //! elements. A SET OF may be in any order, and the version needn't fit the other fields.
 
 ghost use Rattle.std.specs.Prelude.{◌≢◌, MatchOption};
@@ -35,7 +35,8 @@ pub(crate) const CERTIFICATES: u8 = 0xA0;
 
 pub(crate) const REVOCATION_LISTS: u8 = 0xA1;
 
-/// The fields of signed data, each of its shape, but what the signers are isn't asked.
+/// The fields of signed data, borrowed, each with its structure except for the signers, which
+/// aren't checked.
 #[derive(Clone, Copy)]
 pub(crate) struct SignedDataFields<'a> {
     pub version: Elem<'a>,

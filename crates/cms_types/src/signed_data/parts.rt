@@ -1,4 +1,4 @@
-//! The fields of signed data in two parts, which are read and copied one after another.
+//! The fields of signed data in two parts that are read and copied one after the other.
 
 ghost use Rattle.std.specs.Prelude.{◌≡◌, IfOk, MatchResult};
 ghost use Rattle.der_core.specs.Refusals.{RefusesShape};
@@ -15,7 +15,7 @@ use der_core::tag::SET;
 use der_core::{DerError, Structure, copy_each, read_list};
 use std::alloc::{AllocError, Global};
 
-/// What is signed, by whom, and by which algorithms of digests (RFC 5652 5.1).
+/// What is signed, by whom, and with which digest algorithms (RFC 5652 5.1).
 #[derive(Drop)]
 pub(crate) struct SignedPart {
     pub digest_algorithms: DigestAlgorithms,
@@ -23,7 +23,7 @@ pub(crate) struct SignedPart {
     pub signers_infos: SignersInfos,
 }
 
-/// What is carried to check the signatures (RFC 5652 5.1).
+/// The certificates and revocation lists for checking the signatures (RFC 5652 5.1).
 #[derive(Drop)]
 pub(crate) struct CarriedPart {
     pub certificates: Option<CertificateSet>,
@@ -31,7 +31,7 @@ pub(crate) struct CarriedPart {
 }
 
 impl SignedPart {
-    /// The part that the elements spell.
+    /// Reads the part from its elements.
     pub fn read(alloc: Global, fields: &SignedDataFields<'_>) -> Result<SignedPart, DerError>
         ensures { MatchResult result
             (AreSigned (signed_data_at fields.now))
@@ -40,7 +40,7 @@ impl SignedPart {
         Ok(SignedPart {
             digest_algorithms: read_list(alloc, fields.digest_algorithms, SET)?,
             signers_infos: read_list(alloc, fields.signers_infos, SET)?,
-            // Last, so that nothing of it has to be freed where another fails.
+            // Last, so that nothing of it has to be freed if another field fails.
             content_info: EncapsulatedContentInfo::read_at(alloc, fields.content_info)?,
         })
     }
@@ -58,7 +58,7 @@ impl SignedPart {
 }
 
 impl CarriedPart {
-    /// The part that the elements spell.
+    /// Reads the part from its elements.
     pub fn read(alloc: Global, fields: &SignedDataFields<'_>) -> Result<CarriedPart, DerError>
         ensures { MatchResult result
             (AreCarriedFields (signed_data_at fields.now))
@@ -81,7 +81,7 @@ impl CarriedPart {
     }
 }
 
-/// The signed data of its version and its parts.
+/// The signed data with this version and these parts.
 pub(crate) fn join(version: CmsVersion, signed: SignedPart, carried: CarriedPart) -> SignedData
     ensures { result ≡ data_of_parts version signed carried }
 {

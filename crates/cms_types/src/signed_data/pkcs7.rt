@@ -14,7 +14,7 @@ use der_core::tag::{OBJECT_IDENTIFIER, SEQUENCE};
 use der_core::{DerError, Elem, NewKids, Structure, Tree, explicit, leaf};
 use std::alloc::{AllocError, Global};
 
-/// Signed data with its type, as it stands by itself (RFC 5652 3, RFC 2315 7).
+/// Signed data with its type, on its own (RFC 5652 3, RFC 2315 7).
 #[derive(Debug, Drop)]
 pub struct Pkcs7Certificate {
     pub signed_data: SignedData,

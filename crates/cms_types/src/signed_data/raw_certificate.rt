@@ -1,4 +1,4 @@
-//! Elements among the certificates of signed data, told by their tags.
+//! Elements among the certificates of signed data, by tag.
 
 ghost use Rattle.std.specs.Prelude.{◌≡◌, ◌≢◌, IfOk};
 ghost use Rattle.der_core.specs.DerElement.{tag_of};
@@ -6,7 +6,7 @@ ghost use Rattle.der_core.specs.DerElement.{tag_of};
 use der_core::Raw;
 use std::alloc::{AllocError, Global};
 
-/// A SEQUENCE among certificates, kept as it is.
+/// A SEQUENCE among the certificates, raw.
 #[derive(Debug, Drop)]
 pub struct RawCertificate {
     element: Raw,
@@ -14,7 +14,7 @@ pub struct RawCertificate {
 }
 
 impl RawCertificate {
-    /// The element as it is.
+    /// Stores the raw element.
     pub(crate) fn keep(element: Raw) -> RawCertificate
         requires { tag_of element.element ≡ 0x30 }
         ensures { result.element ≡ element }
@@ -29,7 +29,7 @@ impl RawCertificate {
         &self.element
     }
 
-    /// A copy of the value.
+    /// A copy of the element.
     pub fn try_clone(&self, alloc: Global) -> Result<RawCertificate, AllocError>
         ensures { IfOk result (λ copy. copy ≡ self.now) }
     {
@@ -39,7 +39,7 @@ impl RawCertificate {
     }
 }
 
-/// An element of another tag among certificates, kept as it is.
+/// An element with another tag among the certificates, raw.
 #[derive(Debug, Drop)]
 pub struct OtherCertificate {
     element: Raw,
@@ -47,7 +47,7 @@ pub struct OtherCertificate {
 }
 
 impl OtherCertificate {
-    /// The element as it is.
+    /// Stores the raw element.
     pub(crate) fn keep(element: Raw) -> OtherCertificate
         requires { tag_of element.element ≢ 0x30 }
         ensures { result.element ≡ element }
@@ -62,7 +62,7 @@ impl OtherCertificate {
         &self.element
     }
 
-    /// A copy of the value.
+    /// A copy of the element.
     pub fn try_clone(&self, alloc: Global) -> Result<OtherCertificate, AllocError>
         ensures { IfOk result (λ copy. copy ≡ self.now) }
     {

@@ -1,4 +1,4 @@
-//! Signed data, where its octets lie.
+//! Signed data, borrowed.
 
 ghost use Rattle.asn1_types.specs.Elements.{object_identifier_of};
 ghost use Rattle.cms_types.specs.Lent.{signed_data_at};
@@ -17,7 +17,7 @@ use crate::version::CmsVersion;
 use cms_content::ContentView;
 use der_core::{Cursor, Elem};
 
-/// Signed data with its type, where its octets lie (RFC 5652 3, 5.1). It takes no memory.
+/// Borrowed signed data with its type (RFC 5652 3, 5.1). It doesn't allocate.
 #[derive(Clone, Copy)]
 pub struct SignedView<'a> {
     fields: SignedDataFields<'a>,
@@ -35,7 +35,7 @@ impl<'a> SignedView<'a> {
     ghost use Rattle.der_core.specs.Lending.{LendsMembers};
     ghost use Rattle.cms_types.specs.declared.signed_data.pkcs7.Pkcs7Certificate.{Pkcs7Certificate};
 
-    /// The signed data that an element spells.
+    /// The view of an element, None if it encodes no signed data with its type.
     pub fn read(elem: Elem<'a>) -> Option<SignedView<'a>>
         ensures { MatchOption result
             ((value : Pkcs7Certificate) → elem.entry.is.0 ≢ pkcs7 value)
@@ -73,7 +73,7 @@ impl<'a> SignedView<'a> {
         kids_of(self.fields.digest_algorithms)
     }
 
-    /// The contents octets of the identifier of the content's type.
+    /// The contents octets of the OID of the content's type.
     pub fn content_type(&self) -> &'a [u8]
         ensures { (content : Option DerElement)
             × ((data_elements self.now).content_info
@@ -82,7 +82,7 @@ impl<'a> SignedView<'a> {
         ContentView::of_known(self.fields.content_info).content_type()
     }
 
-    /// The content, where it isn't left out.
+    /// The content, unless it is absent.
     pub fn content(&self) -> Option<Elem<'a>>
         ensures { (content_type : DerElement)
             × ((data_elements self.now).content_info
@@ -91,14 +91,14 @@ impl<'a> SignedView<'a> {
         ContentView::of_known(self.fields.content_info).content()
     }
 
-    /// The element of the certificates, where they aren't left out.
+    /// The element of the certificates, unless it is absent.
     pub fn certificates(&self) -> Option<Elem<'a>>
         ensures { at_option result ≡ (data_elements self.now).certificates }
     {
         self.fields.certificates
     }
 
-    /// The certificates, none where they are left out.
+    /// The certificates, empty if the field is absent.
     pub fn members(&self) -> Cursor<'a>
         ensures { LendsMembers (data_elements self.now).certificates result }
     {

@@ -1,4 +1,4 @@
-//! The fields of a signer, where their octets lie (RFC 5652 5.3).
+//! The fields of a signer, borrowed (RFC 5652 5.3).
 //!
 //! ```text
 //! SignerInfo ::= SEQUENCE {
@@ -43,7 +43,8 @@ use x509_types::Attribute;
 
 pub(crate) const UNSIGNED_ATTRIBUTES: u8 = 0xA1;
 
-/// The fields of a signer, each of its shape, but what the unsigned attributes are isn't asked.
+/// The fields of a signer, borrowed, each with its structure except for the unsigned attributes,
+/// which aren't checked.
 #[derive(Clone, Copy)]
 pub(crate) struct SignerFields<'a> {
     pub version: Elem<'a>,
@@ -84,7 +85,7 @@ impl<'a> SignerFields<'a> {
     }
 }
 
-/// The element, where there is one, holds values, under this tag.
+/// Checks that the element, if there is one, has this tag and encodes values.
 fn expect_list_option<T: Structure>(elem: Option<Elem<'_>>, tag: u8) -> Option<()>
     ensures { MatchOption result
         (OfOption (Fits (IsListOf tag T.spells)) (at_option elem.entry) → ⊥)
@@ -96,7 +97,7 @@ fn expect_list_option<T: Structure>(elem: Option<Elem<'_>>, tag: u8) -> Option<(
     }
 }
 
-/// The element holds values, under this tag.
+/// Checks that the element has this tag and encodes values.
 pub(crate) fn expect_list<T: Structure>(elem: Elem<'_>, tag: u8) -> Option<()>
     ensures { MatchOption result
         (Fits (IsListOf tag T.spells) elem.entry.is.0 → ⊥)

@@ -1,4 +1,4 @@
-//! The certificates of signers, by what names them.
+//! Identifiers of signers' certificates.
 
 use crate::signer_info::issuer_and_serial::IssuerAndSerialNumber;
 use der_core::{DerError, Elem, Octets, Structure, Tree, leaf, leaf_at};
@@ -6,12 +6,12 @@ use std::alloc::{AllocError, Global};
 
 const SUBJECT_KEY_IDENTIFIER: u8 = 0x80;
 
-/// What names the certificate of a signer (RFC 5652 5.3).
+/// The identifier of a signer's certificate (RFC 5652 5.3).
 #[derive(Debug, Drop)]
 pub enum SignerIdentifier {
     /// Its issuer and its serial number.
     IssuerAndSerialNumber(IssuerAndSerialNumber),
-    /// The identifier of its key.
+    /// Its subject key identifier.
     SubjectKeyIdentifier(Octets),
 }
 
@@ -67,7 +67,7 @@ impl Structure for SignerIdentifier {
     ghost grammar = { signer_identifiers };
 }
 
-/// Values are equal exactly where their octets are.
+/// Values are equal exactly where their encodings are.
 impl PartialEq for SignerIdentifier {
     ghost use Rattle.std.specs.Prelude.{◌≡◌, ◌↔◌, IsTrue};
     ghost use Rattle.der_core.specs.Equality.{same_octets};

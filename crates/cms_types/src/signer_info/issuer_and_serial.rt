@@ -6,7 +6,7 @@ use der_core::{DerError, Elem, NewKids, Structure, Tree, push_value, two_kids};
 use std::alloc::{AllocError, Global};
 use x509_types::Name;
 
-/// The issuer and the serial number of a certificate, which name it (RFC 5652 10.2.4).
+/// The issuer and the serial number of a certificate, which identify it (RFC 5652 10.2.4).
 #[derive(Debug, Drop)]
 pub struct IssuerAndSerialNumber {
     pub issuer: Name,
@@ -60,7 +60,7 @@ impl Structure for IssuerAndSerialNumber {
     ghost grammar = { issuers_and_serials };
 }
 
-/// Values are equal exactly where their octets are.
+/// Values are equal exactly where their encodings are.
 impl PartialEq for IssuerAndSerialNumber {
     ghost use Rattle.std.specs.Prelude.{◌≡◌, ◌↔◌, IsTrue};
     ghost use Rattle.der_core.specs.Equality.{same_octets};

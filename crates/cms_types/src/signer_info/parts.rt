@@ -1,4 +1,4 @@
-//! The fields of a signer in two parts, which are read and copied one after another.
+//! The fields of a signer in two parts that are read and copied one after the other.
 
 ghost use Rattle.std.specs.Prelude.{◌≡◌, IfOk, MatchResult};
 ghost use Rattle.der_core.specs.Refusals.{RefusesShape};
@@ -16,7 +16,7 @@ use der_core::{DerError, Octets, Structure, copy_option, read_option};
 use key_types::AlgorithmIdentifier;
 use std::alloc::{AllocError, Global};
 
-/// Who signs, and by which algorithms (RFC 5652 5.3).
+/// Who signs, and with which algorithms (RFC 5652 5.3).
 #[derive(Drop)]
 pub(crate) struct SignedBy {
     pub sid: SignerIdentifier,
@@ -24,7 +24,7 @@ pub(crate) struct SignedBy {
     pub signature_algorithm: AlgorithmIdentifier,
 }
 
-/// The signature, with the attributes that it signs and those that it doesn't (RFC 5652 5.3).
+/// The signature, with the signed and the unsigned attributes (RFC 5652 5.3).
 #[derive(Drop)]
 pub(crate) struct SignatureFields {
     pub signed_attrs: Option<SignedAttributes>,
@@ -33,7 +33,7 @@ pub(crate) struct SignatureFields {
 }
 
 impl SignedBy {
-    /// The part that the elements spell.
+    /// Reads the part from its elements.
     pub fn read(alloc: Global, fields: &SignerFields<'_>) -> Result<SignedBy, DerError>
         ensures { MatchResult result
             (AreSignedByFields (signer_at fields.now))
@@ -42,7 +42,7 @@ impl SignedBy {
         Ok(SignedBy {
             digest_algorithm: AlgorithmIdentifier::read_at(alloc, fields.digest_algorithm)?,
             signature_algorithm: AlgorithmIdentifier::read_at(alloc, fields.signature_algorithm)?,
-            // Last, so that nothing of it has to be freed where another fails.
+            // Last, so that nothing of it has to be freed if another field fails.
             sid: SignerIdentifier::read_at(alloc, fields.sid)?,
         })
     }
@@ -60,7 +60,7 @@ impl SignedBy {
 }
 
 impl SignatureFields {
-    /// The part that the elements spell.
+    /// Reads the part from its elements.
     pub fn read(alloc: Global, fields: &SignerFields<'_>) -> Result<SignatureFields, DerError>
         ensures { MatchResult result
             (AreSignatureFields (signer_at fields.now))
@@ -85,7 +85,7 @@ impl SignatureFields {
     }
 }
 
-/// The signer of its version and its parts.
+/// The signer with this version and these parts.
 pub(crate) fn join(version: CmsVersion, by: SignedBy, signed: SignatureFields) -> SignerInfo
     ensures { result ≡ signer_of_parts version by signed }
 {

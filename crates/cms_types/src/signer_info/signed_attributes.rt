@@ -1,4 +1,4 @@
-//! The signed attributes of a signer, kept as they are.
+//! The signed attributes of a signer, stored with their encoding.
 
 ghost use Rattle.std.specs.Prelude.{◌≡◌};
 ghost use Rattle.der_core.specs.Each.{Prints};
@@ -12,7 +12,7 @@ use x509_types::{Attribute, AttributeList};
 pub const SIGNED_ATTRIBUTES: u8 = 0xA0;
 
 /// The attributes that a signer signs, with the element that they were read from (RFC 5652 5.3):
-/// what is signed of them are its octets. A set of none is read, too.
+/// its octets are what is signed. An empty set is read, too.
 #[derive(Debug, Drop)]
 pub struct SignedAttributes {
     element: Raw,
@@ -21,7 +21,7 @@ pub struct SignedAttributes {
 }
 
 impl SignedAttributes {
-    /// The element, under the tag that it has in a signer.
+    /// The element, with the tag that it has in a signer.
     pub fn element(&self) -> &Raw
         ensures { result.now ≡ self.now.element }
     {
@@ -68,7 +68,7 @@ impl Structure for SignedAttributes {
     ghost grammar = { all_signed_attributes };
 }
 
-/// Signed attributes are equal exactly where their elements are: these tell the attributes.
+/// Signed attributes are equal exactly where their elements are, which determine the attributes.
 impl PartialEq for SignedAttributes {
     ghost use Rattle.std.specs.Prelude.{◌↔◌, IsTrue};
     ghost use Rattle.der_core.specs.Equality.{same_octets};

@@ -1,4 +1,4 @@
-//! Signers, where their octets lie.
+//! Signers, borrowed.
 
 ghost use Rattle.cms_types.specs.Lent.{signer_at};
 ghost use Rattle.cms_types.specs.Levels.{AreSignerFields};
@@ -11,7 +11,7 @@ use crate::version::CmsVersion;
 use der_core::tag::{INTEGER, OCTET_STRING, SEQUENCE};
 use der_core::{Elem, leaf_at, two_kids};
 
-/// A signer where its octets lie (RFC 5652 5.3). It takes no memory.
+/// A borrowed signer (RFC 5652 5.3). It doesn't allocate.
 #[derive(Clone, Copy)]
 pub struct SignerView<'a> {
     fields: SignerFields<'a>,
@@ -31,7 +31,7 @@ impl<'a> SignerView<'a> {
     ghost use Rattle.cms_types.specs.declared.signer_info.SignerInfo.{SignerInfo};
     ghost use Rattle.cms_types.specs.declared.signer_info.issuer_and_serial.IssuerAndSerialNumber.{IssuerAndSerialNumber};
 
-    /// The signer that an element spells.
+    /// The view of an element, None if it encodes no signer.
     pub fn read(elem: Elem<'a>) -> Option<SignerView<'a>>
         ensures { MatchOption result
             ((value : SignerInfo) → elem.entry.is.0 ≢ signer_info value)
@@ -54,8 +54,8 @@ impl<'a> SignerView<'a> {
         }
     }
 
-    /// The octets of the issuer, and the contents octets of the serial number, that name the
-    /// signer's certificate; None exactly where the identifier of a key does.
+    /// The octets of the issuer, and the contents octets of the serial number, that identify the
+    /// signer's certificate; None exactly where a subject key identifier does.
     pub fn issuer_and_serial(&self) -> Option<(&'a [u8], &'a [u8])>
         ensures { MatchOption result
             ((value : IssuerAndSerialNumber)
@@ -67,21 +67,21 @@ impl<'a> SignerView<'a> {
         Some((issuer.whole, serial_number))
     }
 
-    /// The octets of the algorithm of the digests.
+    /// The octets of the digest algorithm.
     pub fn digest_algorithm(&self) -> &'a [u8]
         ensures { result.now ≡ encoding (signer_elements_at self.now).digest_algorithm }
     {
         self.fields.digest_algorithm.whole
     }
 
-    /// The signed attributes, where they aren't left out.
+    /// The signed attributes, unless they are absent.
     pub fn signed_attributes(&self) -> Option<Elem<'a>>
         ensures { at_option result ≡ (signer_elements_at self.now).signed_attrs }
     {
         self.fields.signed_attrs
     }
 
-    /// The octets of the algorithm of the signature.
+    /// The octets of the signature algorithm.
     pub fn signature_algorithm(&self) -> &'a [u8]
         ensures { result.now ≡ encoding (signer_elements_at self.now).signature_algorithm }
     {
@@ -98,7 +98,7 @@ impl<'a> SignerView<'a> {
         }
     }
 
-    /// The unsigned attributes, where they aren't left out.
+    /// The unsigned attributes, unless they are absent.
     pub fn unsigned_attributes(&self) -> Option<Elem<'a>>
         ensures { at_option result ≡ (signer_elements_at self.now).unsigned_attrs }
     {

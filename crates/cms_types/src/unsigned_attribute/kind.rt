@@ -1,4 +1,4 @@
-//! The kinds of unsigned attributes, by their identifiers.
+//! The kinds of unsigned attributes, by OID.
 
 ghost use Rattle.std.specs.Prelude.{◌≡◌};
 ghost use Rattle.cms_types.specs.UnsignedKind.{named_unsigned};
@@ -8,16 +8,16 @@ use asn1_types::oids::{COUNTERSIGNATURE, RFC3161_COUNTER_SIGN};
 /// A kind of unsigned attributes.
 #[derive(Clone, Copy, Debug, PartialEq, Eq)]
 pub enum UnsignedKind {
-    /// Signatures of the signature (RFC 5652 11.4).
+    /// Counter-signatures (RFC 5652 11.4).
     CounterSign,
-    /// Signed data on the signature, as Microsoft's programs write it.
+    /// Signed data over the signature, Microsoft's form of a counter-signature.
     MsCounterSign,
     /// Any other.
     Other,
 }
 
 impl UnsignedKind {
-    /// The kind of attributes that an identifier names, by its contents octets.
+    /// The kind of attributes that an OID names, given by its contents octets.
     pub fn named(oid: &[u8]) -> UnsignedKind
         ensures { result ≡ named_unsigned oid.now }
     {

@@ -17,10 +17,10 @@ use der_core::tag::{OBJECT_IDENTIFIER, SEQUENCE, SET};
 use der_core::{DerError, ListOf, NewKids, Raw, Tree, leaf};
 use std::alloc::{AllocError, Global};
 
-/// Elements in order, kept as they are.
+/// Raw elements in order.
 pub type RawList = ListOf<Raw>;
 
-/// An unsigned attribute that is no counter-signature, its values kept as they are.
+/// An unsigned attribute that is no counter-signature, with raw values.
 #[derive(Debug, Drop)]
 pub struct RawUnsignedAttribute {
     pub ty: ObjectIdentifier,
@@ -29,8 +29,8 @@ pub struct RawUnsignedAttribute {
 }
 
 impl RawUnsignedAttribute {
-    /// The attribute of this identifier and these values, None exactly where the identifier is one
-    /// of counter-signatures.
+    /// The attribute with this OID and these values. None exactly where the OID is one of
+    /// counter-signatures.
     pub fn new(ty: ObjectIdentifier, values: RawList) -> Option<RawUnsignedAttribute>
         ensures { MatchOption result
             (named_unsigned (identifier_contents ty) ≢ kinds.Other)
@@ -43,7 +43,7 @@ impl RawUnsignedAttribute {
         }
     }
 
-    /// A copy of the value.
+    /// A copy of the attribute.
     pub fn try_clone(&self, alloc: Global) -> Result<RawUnsignedAttribute, AllocError>
         ensures { IfOk result (λ copy. copy ≡ self.now) }
     {
@@ -53,7 +53,7 @@ impl RawUnsignedAttribute {
         })
     }
 
-    /// Whether identifier and values are the same.
+    /// Whether OID and values are the same.
     pub(crate) fn is_same(&self, other: &RawUnsignedAttribute) -> bool
         ensures { IsTrue result ↔ (self.now ≡ other.now) }
     {
@@ -68,7 +68,7 @@ pub(crate) fn are_same_elements(a: &RawList, b: &RawList) -> bool
     a == b
 }
 
-/// The element of an attribute of this identifier, by its contents octets, and these values.
+/// The element of an attribute with this OID, given by its contents octets, and these values.
 pub(crate) fn write_attribute(alloc: Global, ty: &[u8], values: &RawList) -> Result<Tree, DerError>
     ensures { MatchResult result
         (λ tree. (tree ≡ attribute_of ty.now (elements_of_kept values.now)) × IsWellFormed tree)

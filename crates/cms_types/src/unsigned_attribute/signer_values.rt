@@ -1,4 +1,4 @@
-//! Signers that are kept as they are.
+//! Raw signers.
 
 ghost use Rattle.std.specs.Prelude.{◌≡◌, ◌↔◌, [], IfOk, IsTrue, length};
 ghost use Rattle.cms_types.specs.Members.{elements_of_kept};
@@ -8,8 +8,8 @@ use crate::unsigned_attribute::raw::{RawList, are_same_elements};
 use der_core::Raw;
 use std::alloc::{AllocError, Global};
 
-/// Signers, as the values of a counter-signature: each is kept as it is, and is that of a signer
-/// (RFC 5652 11.4).
+/// Signers, as the values of a counter-signature (RFC 5652 11.4): each is a raw element that
+/// encodes a signer.
 #[derive(Debug, Drop)]
 pub struct SignerValues {
     pub(crate) items: RawList,
@@ -38,7 +38,7 @@ impl SignerValues {
         self.items.is_empty()
     }
 
-    /// A copy of the value.
+    /// A copy of the members.
     pub fn try_clone(&self, alloc: Global) -> Result<SignerValues, AllocError>
         ensures { IfOk result (λ copy. copy ≡ self.now) }
     {

@@ -1,4 +1,4 @@
-//! Signed data that is kept as it is.
+//! Raw signed data.
 
 ghost use Rattle.std.specs.Prelude.{◌≡◌, ◌↔◌, [], IfOk, IsTrue, length};
 ghost use Rattle.cms_types.specs.Members.{elements_of_kept};
@@ -8,7 +8,7 @@ use crate::unsigned_attribute::raw::{RawList, are_same_elements};
 use der_core::Raw;
 use std::alloc::{AllocError, Global};
 
-/// Tokens, as the values of a counter-signature of Microsoft's: each is kept as it is, and is
+/// Tokens, as the values of Microsoft's counter-signature: each is a raw element that encodes
 /// signed data with its type.
 #[derive(Debug, Drop)]
 pub struct TokenValues {
@@ -38,7 +38,7 @@ impl TokenValues {
         self.items.is_empty()
     }
 
-    /// A copy of the value.
+    /// A copy of the members.
     pub fn try_clone(&self, alloc: Global) -> Result<TokenValues, AllocError>
         ensures { IfOk result (λ copy. copy ≡ self.now) }
     {
