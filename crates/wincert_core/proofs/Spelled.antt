@@ -1,4 +1,4 @@
--- What stands at the front of octets is spelled there, and what is spelled there isn't refused.
+-- Octets begin with the encoding of what is read at their start, and an encoding isn't refused.
 use Rattle.std.proofs.Common.{◌≡◌, ℕ, zero, suc, ◌+◌, ◌-◌, ◌<◌, ◌≤◌, ◌^◌, ◌∙◌, sym, ap, Bool, true, false, if◌then◌else◌, List, [], ◌∷◌, ◌++◌, length, drop, slice_range, get_or, refl, arith, length-take, length-drop, length-append, ltb-true, nat_lt, append-nil, Ok, Err, Some, None}
 use Rattle.std.proofs.lemmas.Grind.{common_steps}
 use Rattle.std.proofs.lemmas.List.{take-append-drop}
@@ -30,14 +30,14 @@ two a b p q = le_bytes_2 (a ∷ b ∷ []) _ refl (fit_2 a b p q) refl
 four : (a b c d : ℕ) → a < 256 → b < 256 → c < 256 → d < 256 → to_le_bytes w32 (from_le_bytes w32 (a ∷ b ∷ c ∷ d ∷ [])) ≡ a ∷ b ∷ c ∷ d ∷ []
 four a b c d p q r s = le_bytes_4 (a ∷ b ∷ c ∷ d ∷ []) _ refl (fit_4 a b c d p q r s) refl
 
--- Octets that are long enough begin with a header of the numbers that they state.
+-- Octets that are long enough begin with a header with their own numbers.
 begins_with_header : (octets : List ℕ) → 8 ≤ length octets → ((i : ℕ) → get_or octets i 0 < 256)
     → octets ≡ header (length_field octets) (revision_field octets) (type_field octets) ++ drop 8 octets
 begins_with_header (a ∷ b ∷ c ∷ d ∷ e ∷ f ∷ g ∷ h ∷ rest) enough fits =
     cc (four a b c d (fits 0) (fits 1) (fits 2) (fits 3), two e f (fits 4) (fits 5), two g h (fits 6) (fits 7))
 begins_with_header _ enough fits = absurd (omega arith)
 
--- A header that counts no more octets than there are names a certificate.
+-- A header that counts no more octets than there are delimits a certificate.
 pub begins : (octets : List ℕ) → ((i : ℕ) → get_or octets i 0 < 256) → (n : ℕ) (r : RevisionType) (k : CertificateType)
     → n ≡ length_field octets → revision_number r ≡ revision_field octets → type_number k ≡ type_field octets
     → 8 ≤ n → n ≤ length octets → n < 2 ^ 32
@@ -66,7 +66,7 @@ type_numbered-number WinCertTypePkcsSignedData = refl
 type_numbered-number WinCertTypeReserved1 = refl
 type_numbered-number WinCertTypePkcs1Sign = refl
 
--- A header states what it was spelled with.
+-- A header has the numbers that it was written with.
 length_field-header : (n r k : ℕ) (rest : List ℕ) → n < 2 ^ 32 → length_field (header n r k ++ rest) ≡ n
 length_field-header n r k rest fits = from_le_bytes-to_le_bytes_4 n fits
 
@@ -80,7 +80,7 @@ type_field-header n r WinCertTypePkcsSignedData rest = refl
 type_field-header n r WinCertTypeReserved1 rest = refl
 type_field-header n r WinCertTypePkcs1Sign rest = refl
 
--- What is spelled at the front isn't refused.
+-- An encoding at the start isn't refused.
 pub not_refused : (octets : List ℕ) (w : WinCert) → BeginsWith octets w → first_refusal octets ≡ None
 unfolding first_refusal
 not_refused octets w front =
@@ -98,7 +98,7 @@ ok_if : {A : Type 0} (test : Bool) (x : A) {y : A} (error : WinCertificateError)
 ok_if true x error e = (refl, cc)
 ok_if false x error e = absurd (cc)
 
--- What was written is read again.
+-- What was written is read back.
 pub read_back : (w : WinCert) (octets : List ℕ) → encoded w ≡ Ok octets → BeginsWith octets (with_padding w)
 read_back w octets e =
     let parts : (nat_lt (stated_length (with_padding w).certificate) (2 ^ 32) ≡ true) × (spelling (with_padding w) ≡ octets) = ok_if _ _ TooLong e in
@@ -108,7 +108,7 @@ read_back w octets e =
       spelled = sym parts.1 ∙ sym (append-nil (spelling (with_padding w)));
     }
 
--- No refusal of octets is want of memory.
+-- No refusal of octets is out of memory.
 pub refuses_without_memory : (octets : List ℕ) → first_refusal octets ≡ Some Memory → ⊥
 unfolding first_refusal
 refuses_without_memory octets e = grind (arith, common_steps)

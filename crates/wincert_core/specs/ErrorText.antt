@@ -8,7 +8,7 @@ use Rattle.wincert_core.specs.declared.error.WinCertificateError.TheVariants.{Wr
 abbrev pub octet_digits : ℕ → List ℕ
 octet_digits octet = digit_glyph false (octet / 16) ∷ digit_glyph false (octet % 16) ∷ []
 
--- what is told of octets that are no WIN_CERTIFICATE, or of a certificate that has no octets
+-- why octets are no WIN_CERTIFICATE, or a certificate can't be encoded
 abbrev pub error_text : WinCertificateError → List ℕ
 error_text (WrongRevisionValue got) =
     codes "unknown revision 0x" ++ octet_digits (got / 256) ++ octet_digits (got % 256)

@@ -1,5 +1,5 @@
--- The revisions and the types of a WIN_CERTIFICATE by their numbers (PE Format, "The Attribute
--- Certificate Table"; the type of a PKCS #1 signature is that of WIN_CERTIFICATE in wintrust.h).
+-- The revisions and certificate types by number (PE Format, "The Attribute Certificate Table"; the
+-- type of a PKCS #1 signature is that of WIN_CERTIFICATE in wintrust.h).
 use Rattle.std.specs.Prelude.{ℕ, ◌==◌, [], ◌∷◌, Option}
 use Rattle.std.specs.List.{find}
 use Rattle.wincert_core.specs.declared.kinds.RevisionType.{RevisionType}
@@ -19,13 +19,13 @@ type_number WinCertTypePkcsSignedData = 2
 type_number WinCertTypeReserved1 = 3
 type_number WinCertTypePkcs1Sign = 9
 
--- the revision of a number, where one has it
+-- the revision with a number, if any
 abbrev pub revision_numbered : ℕ → Option RevisionType
 revision_numbered n =
     find (λ revision. revision_number revision == n)
     (WinCertificateRevision10 ∷ WinCertificateRevision20 ∷ [])
 
--- the type of a number, where one has it
+-- the type with a number, if any
 abbrev pub type_numbered : ℕ → Option CertificateType
 type_numbered n =
     find (λ certificate_type. type_number certificate_type == n)

@@ -6,7 +6,7 @@ use Rattle.wincert_core.specs.declared.kinds.RevisionType.{RevisionType}
 use Rattle.wincert_core.specs.declared.kinds.CertificateType.{CertificateType}
 use Rattle.wincert_core.specs.Kinds.{revision_number, type_number}
 
--- what a WIN_CERTIFICATE holds, wherever it lies in memory
+-- the value of a WIN_CERTIFICATE
 pub record WinCert : Type 0 where
   pub revision : RevisionType
   pub certificate_type : CertificateType
@@ -16,11 +16,11 @@ pub record WinCert : Type 0 where
 abbrev pub stated_length : List ℕ → ℕ
 stated_length certificate = length certificate + 8
 
--- The length has 32 bits.
+-- The length fits 32 bits.
 abbrev pub FitsHeader : List ℕ → Type 0
 FitsHeader certificate = stated_length certificate < 2 ^ 32
 
--- dwLength, wRevision and wCertificateType, each low octet first
+-- dwLength, wRevision and wCertificateType, each in little-endian order
 abbrev pub header : ℕ → ℕ → ℕ → List ℕ
 header dw_length w_revision w_certificate_type =
     to_le_bytes w32 dw_length ++ to_le_bytes w16 w_revision ++ to_le_bytes w16 w_certificate_type
@@ -32,13 +32,13 @@ spelling w =
     (type_number w.certificate_type)
     ++ w.certificate
 
--- The octets begin with a WIN_CERTIFICATE; what comes later is not part of it.
+-- The octets begin with the encoding of a WIN_CERTIFICATE; later ones aren't part of it.
 pub record BeginsWith (octets : List ℕ) (w : WinCert) : Type 0 where
   pub later : List ℕ
   pub fits : FitsHeader w.certificate
   pub spelled : octets ≡ spelling w ++ later
 
--- The fields of a header as octets state them: dwLength
+-- The fields of the header in octets: dwLength
 abbrev pub length_field : List ℕ → ℕ
 length_field octets = from_le_bytes w32 (slice_range octets 0 4)
 
@@ -50,15 +50,15 @@ revision_field octets = from_le_bytes w16 (slice_range octets 4 6)
 abbrev pub type_field : List ℕ → ℕ
 type_field octets = from_le_bytes w16 (slice_range octets 6 8)
 
--- An entry of the table ends at a multiple of eight octets; zeros fill it up.
+-- A table entry is padded with zeros to a multiple of eight octets.
 abbrev pub padded : List ℕ → List ℕ
 padded certificate =
     certificate ++ replicate (next_multiple_of (length certificate) 8 - length certificate) 0
 
--- the same with the padding taken for a part of the certificate
+-- the same with the padding as part of the certificate
 abbrev pub with_padding : WinCert → WinCert
 with_padding w = record w { certificate = padded w.certificate }
 
--- all that is kept, as one list that tells two of them apart
+-- all that is stored, as one list that determines the value
 abbrev pub kept : WinCert → List ℕ
 kept w = revision_number w.revision ∷ type_number w.certificate_type ∷ w.certificate

@@ -1,4 +1,4 @@
-//! Why octets are no WIN_CERTIFICATE, or a certificate has no octets.
+//! Errors of reading and writing a WIN_CERTIFICATE.
 
 ghost use Rattle.std.specs.Prelude.{◌≡◌, Some};
 ghost use Rattle.std.specs.Fmt.{WritesOnOk};
@@ -9,22 +9,22 @@ use std::alloc::{AllocError, AllocFailed};
 use std::fmt;
 use thiserror::Error;
 
-/// Why octets are no WIN_CERTIFICATE, or a certificate has no octets.
+/// Why octets are no WIN_CERTIFICATE, or a certificate can't be encoded.
 #[derive(Clone, Copy, Debug, PartialEq, Eq, Error)]
 pub enum WinCertificateError {
     /// The revision is neither 1.0 nor 2.0.
     WrongRevisionValue { got: u16 },
-    /// The type of the certificate is none of the four that are read.
+    /// The certificate type is none of the four that are supported.
     WrongCertificateType { got: u16 },
-    /// The octets, or the length that they state, have no room for the header.
+    /// The octets, or their stated length, are too short for the header.
     WrongLength { minimum: usize, got: usize },
     /// The stated length is 0.
     CertificateDataIsEmpty,
     /// The octets end before the stated length.
     Io { stated: u32, got: usize },
-    /// The length of header, certificate and padding has more than 32 bits.
+    /// The length of header, certificate and padding doesn't fit 32 bits.
     TooLong,
-    /// No memory was left.
+    /// Out of memory.
     Memory,
 }
 
@@ -59,7 +59,7 @@ impl fmt::Display for WinCertificateError {
     }
 }
 
-/// The text of a wrong revision, whose number has four hexadecimal digits.
+/// The text of a wrong revision, in four hexadecimal digits.
 fn write_revision<W: fmt::Write>(number: u16, f: &mut fmt::Formatter<W>) -> fmt::Result
     ensures { WritesOnOk W.write_str_gives f.old result
         (error_text (WrongRevisionValue number)) f.new }
@@ -71,7 +71,7 @@ fn write_revision<W: fmt::Write>(number: u16, f: &mut fmt::Formatter<W>) -> fmt:
     )
 }
 
-/// What a call of this crate gives.
+/// The result of this crate's calls.
 pub type WinCertificateResult<T> = Result<T, WinCertificateError>;
 
 impl From<AllocError> for WinCertificateError {

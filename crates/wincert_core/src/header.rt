@@ -10,7 +10,7 @@ use crate::kinds::{CertificateType, RevisionType};
 
 pub(crate) const HEADER_LENGTH: usize = 8;
 
-/// The numbers of a header, whatever they are.
+/// The numbers of a header, unchecked.
 #[derive(Clone, Copy)]
 struct Fields {
     length: u32,
@@ -43,7 +43,7 @@ fn too_short(got: usize) -> WinCertificateError
     }
 }
 
-/// A header that names a certificate among the octets behind it.
+/// A checked header, whose certificate is within the octets after it.
 #[derive(Clone, Copy)]
 pub(crate) struct Header {
     pub(crate) length: usize,
@@ -51,8 +51,8 @@ pub(crate) struct Header {
     pub(crate) certificate_type: CertificateType,
 }
 
-/// The header at the front of the octets. It compares the stated length with the octets at hand,
-/// so nothing is ever asked for by that length alone.
+/// Reads the header at the start of the octets. The stated length is compared with the octets at
+/// hand, so nothing is ever allocated by that length alone.
 #[tactic(auto, unfolding(crate::specs::Refusal::first_refusal))]
 pub(crate) fn header_of(bytes: &[u8]) -> WinCertificateResult<Header>
     ensures accepted { IfOk result (λ h. (first_refusal bytes.now ≡ None)

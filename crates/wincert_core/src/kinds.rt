@@ -1,4 +1,4 @@
-//! The revisions and the types that a header can name.
+//! The revisions and certificate types of a header.
 
 ghost use Rattle.std.specs.Prelude.{◌≡◌};
 ghost use Rattle.std.specs.Option.{ok_or};
@@ -7,24 +7,24 @@ ghost use Rattle.wincert_core.specs.Kinds.{revision_number, revision_numbered, t
 
 use crate::error::WinCertificateError;
 
-/// The version of the WIN_CERTIFICATE itself, its `wRevision`. It says nothing of what the
-/// certificate holds.
+/// The version of the WIN_CERTIFICATE structure, its `wRevision`. It says nothing about the
+/// certificate.
 #[derive(Clone, Copy, Debug, PartialEq, Eq)]
 pub enum RevisionType {
-    /// 1.0, which old Authenticode signatures have.
+    /// 1.0, for old Authenticode signatures.
     WinCertificateRevision10 = 0x0100,
     /// 2.0, the current version.
     WinCertificateRevision20 = 0x0200,
 }
 
 impl RevisionType {
-    /// Every revision, by its number.
+    /// All revisions, by number.
     pub const ALL: [RevisionType; 2] = [
         RevisionType::WinCertificateRevision10,
         RevisionType::WinCertificateRevision20,
     ];
 
-    /// The number in a header, as `try_from` takes it.
+    /// The number in a header, which `try_from` accepts.
     pub fn number(self) -> u16
         ensures { result ≡ revision_number self }
     {
@@ -46,21 +46,21 @@ impl TryFrom<u16> for RevisionType {
     }
 }
 
-/// What the certificate holds, the `wCertificateType` of a WIN_CERTIFICATE.
+/// The kind of the certificate, the `wCertificateType` of a WIN_CERTIFICATE.
 #[derive(Clone, Copy, Debug, PartialEq, Eq)]
 pub enum CertificateType {
     /// An X.509 certificate.
     WinCertTypeX509 = 1,
-    /// Signed data of PKCS #7: an Authenticode signature.
+    /// PKCS #7 signed data: an Authenticode signature.
     WinCertTypePkcsSignedData = 2,
     /// Reserved.
     WinCertTypeReserved1 = 3,
-    /// A signature of PKCS #1.
+    /// A PKCS #1 signature.
     WinCertTypePkcs1Sign = 9,
 }
 
 impl CertificateType {
-    /// Every type, by its number.
+    /// All types, by number.
     pub const ALL: [CertificateType; 4] = [
         CertificateType::WinCertTypeX509,
         CertificateType::WinCertTypePkcsSignedData,
@@ -68,7 +68,7 @@ impl CertificateType {
         CertificateType::WinCertTypePkcs1Sign,
     ];
 
-    /// The number in a header, as `try_from` takes it.
+    /// The number in a header, which `try_from` accepts.
     pub fn number(self) -> u16
         ensures { result ≡ type_number self }
     {

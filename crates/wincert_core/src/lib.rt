@@ -1,5 +1,5 @@
-//! WIN_CERTIFICATE, the header behind which a signed file carries its signature (PE Format,
-//! "The Attribute Certificate Table").
+//! WIN_CERTIFICATE, the structure that contains the signature of a signed file (PE Format, "The
+//! Attribute Certificate Table").
 #![tactic(auto)]
 
 mod error;

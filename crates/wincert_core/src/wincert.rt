@@ -1,4 +1,4 @@
-//! A certificate with what its header says of it.
+//! A certificate with its header.
 
 ghost use Rattle.std.specs.Prelude.{◌≡◌, ◌≢◌, ◌↔◌, Ok, Err, IfOk, IfErr, IsTrue, nat_eq};
 ghost use Rattle.std.specs.Ordering.{on};
@@ -18,8 +18,7 @@ const ALIGNMENT: usize = 8;
 
 const MAX_LENGTH: usize = u32::MAX as usize;
 
-/// A certificate behind its header: signed data, most of the time, and the zeros that it was
-/// padded with.
+/// A certificate with its header: signed data in most cases, and the zeros that it was padded with.
 #[derive(Debug, Drop)]
 pub struct WinCertificate {
     revision: RevisionType,
@@ -42,17 +41,17 @@ impl Model for WinCertificate {
 }
 
 impl WinCertificate {
-    /// Reads the WIN_CERTIFICATE at the front of the octets. The certificate is all that the
-    /// stated length counts behind the header, padding too; later octets are left alone.
+    /// Reads the WIN_CERTIFICATE at the start of the octets. The certificate is everything that the
+    /// stated length counts after the header, padding included; later octets are ignored.
     pub fn decode(alloc: Global, bytes: &[u8]) -> WinCertificateResult<WinCertificate>
-        // The certificate that the header names, or the first refusal.
+        // The certificate that the header delimits, or the first refusal.
         ensures given { Gives (λ w. w.certificate) result (contents_in bytes.now) }
-        // A refusal comes before memory is asked for.
+        // A refusal comes before anything is allocated.
         ensures refused { (error : WinCertificateError)
             → contents_in bytes.now ≡ Err error → result ≡ Err error }
-        // What is read is spelled there.
+        // The octets begin with the encoding of what is read.
         ensures spelled { IfOk result (λ w. BeginsWith bytes.now w) }
-        // What is spelled there is read.
+        // Where the octets begin with an encoding, it is read.
         ensures only { (w : WinCert) → BeginsWith bytes.now w → Gives (λ v. v) result (Ok w) }
     {
         let header = header_of(bytes)?;
@@ -64,14 +63,14 @@ impl WinCertificate {
         })
     }
 
-    /// Wraps a certificate in the current revision, 2.0.
+    /// Wraps a certificate with the current revision, 2.0.
     pub fn from_certificate(
         alloc: Global,
         certificate: &[u8],
         certificate_type: CertificateType,
     ) -> WinCertificateResult<WinCertificate>
         ensures given { Gives (λ w. w) result (current certificate.now certificate_type) }
-        // A refusal comes before memory is asked for.
+        // A refusal comes before anything is allocated.
         ensures refused { (error : WinCertificateError)
             → current certificate.now certificate_type ≡ Err error → result ≡ Err error }
     {
@@ -85,13 +84,13 @@ impl WinCertificate {
         })
     }
 
-    /// The octets that stand for it in a file: they end at a multiple of eight.
+    /// The encoding in a file, padded with zeros to a multiple of eight octets.
     pub fn encode(self, alloc: Global) -> WinCertificateResult<Vec<u8>>
         ensures given { Gives (λ v. v.items) result (encoded self) }
-        // A refusal comes before memory is asked for.
+        // A refusal comes before anything is allocated.
         ensures refused { (error : WinCertificateError)
             → encoded self ≡ Err error → result ≡ Err error }
-        // Decoded again it is the same with the padding taken for a part of the certificate,
+        // Decoded again, it is the same with the padding as part of the certificate,
         ensures read_back { IfOk result (λ v. BeginsWith v.items (with_padding self)) }
         // and that is encoded as the same octets.
         ensures again { IfOk result (λ v. encoded (with_padding self) ≡ Ok v.items) }
@@ -109,29 +108,28 @@ impl WinCertificate {
         Ok(octets)
     }
 
-    /// The length that the header states before padding, in octets: eight more than the
-    /// certificate's.
+    /// The length in the header before padding, in octets: eight more than the certificate's.
     pub fn length(&self) -> u32
         ensures { result ≡ stated_length self.now.certificate }
     {
         (self.certificate.len() + HEADER_LENGTH) as u32
     }
 
-    /// The version of the WIN_CERTIFICATE, as its header states it.
+    /// The revision in the header.
     pub fn revision(&self) -> RevisionType
         ensures { result ≡ self.now.revision }
     {
         self.revision
     }
 
-    /// What the certificate holds, as the header states it.
+    /// The certificate type in the header.
     pub fn certificate_type(&self) -> CertificateType
         ensures { result ≡ self.now.certificate_type }
     {
         self.certificate_type
     }
 
-    /// The certificate, and padding where it was decoded with some.
+    /// The certificate, with its padding if it was decoded with some.
     pub fn get_certificate(&self) -> &[u8]
         ensures { result.now ≡ self.now.certificate }
     {
@@ -169,13 +167,14 @@ impl Eq for WinCertificate {
     ghost laws = { on_equiv kept nat_list_eq_equiv };
 }
 
-/// The certificate that `WinCertificate::decode` would keep, lent, with the same refusals but for
-/// want of memory.
+/// The certificate that `WinCertificate::decode` returns, borrowed, with the same refusals except
+/// out of memory.
 pub fn certificate_of(bytes: &[u8]) -> WinCertificateResult<&[u8]>
     ensures lent { IfOk result (λ part. contents_in bytes.now ≡ Ok part.now) }
     ensures refused { IfErr result (λ e. contents_in bytes.now ≡ Err e) }
     ensures never_memory { result ≢ Err WinCertificateError.Memory }
-    // What is lent is spelled there, and what is spelled there is lent.
+    // The octets begin with the encoding of what is borrowed, and where they begin with one, it is
+    // borrowed.
     ensures spelled { IfOk result (λ part.
         (w : WinCert) × BeginsWith bytes.now w × (w.certificate ≡ part.now)) }
     ensures only { (w : WinCert) → BeginsWith bytes.now w
