@@ -1,4 +1,4 @@
--- Certificates that signed data carries, one after another.
+-- Certificates in signed data, one after another.
 use Rattle.std.proofs.Common.{◌≡◌, length, arith, List, [], ◌∷◌, ◌++◌, map, refl, sym, ap, ◌∙◌, append-nil}
 use Rattle.der_core.specs.DerElement.{DerElement}
 use Rattle.cms_types.specs.CertificateChoices.{certificate_choice}
@@ -11,7 +11,7 @@ use Rattle.authenticode_parts.specs.Carried.{elements_of}
 abbrev pub whole_elements : List KeptCertificate → List DerElement
 whole_elements certificates = map certificate_of (elements_of certificates)
 
--- Those before the ones that are left are carried.
+-- Those before the rest are stored.
 abbrev pub AreKept : List KeptCertificate → List KeptCertificate → List CertificateChoices → Type 0
 AreKept all rest members = map certificate_choice members ++ whole_elements rest ≡ whole_elements all
 

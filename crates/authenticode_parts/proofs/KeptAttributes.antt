@@ -1,4 +1,4 @@
--- Attributes as a signer carries them.
+-- Signed attributes in the form of a signer.
 use Rattle.std.proofs.Common.{◌≡◌, ℕ, List, [], ◌∷◌, ◌++◌, Result, Ok, Err, MatchResult, map, refl, sym, ap, subst, ◌∙◌}
 use Rattle.der_core.specs.DerElement.{DerElement}
 use Rattle.der_core.specs.Encoding.{IsDer}
@@ -17,7 +17,7 @@ use Rattle.authenticode_parts.specs.MadeContent.{program_attributes}
 use Rattle.authenticode_parts.specs.MadeSignature.{attributes_element}
 use Rattle.der_core.proofs.Inner.{refuses_last}
 
--- the attributes with their element, which is in bounds
+-- the attributes with their element, which is within limits
 abbrev some_value : (list : List Attribute) (kept : KeptElement) → AreDer (inner_attributes list) → kept.element ≡ attributes_element (map attribute list) → SignedAttributes
 some_value list kept der is = record {
   element = kept;
@@ -33,7 +33,7 @@ never_shape list kept (errors.Malformed m) der is none xs = absurd none
 never_shape list kept errors.TooDeep der is none xs = absurd none
 never_shape list kept errors.TooLong der is none xs = absurd none
 
--- what is read of the element that is written are the attributes
+-- reading the element that is written gives the attributes
 pub kept_or_refused : (list : List Attribute) (kept : KeptElement) (at : DerElement) (r : Result SignedAttributes DerError) → AreDer (inner_attributes list) → kept.element ≡ attributes_element (map attribute list) → at ≡ kept.element
     → MatchResult r (λ value. at ≡ signed_attributes value) (RefusesShape (λ (value : SignedAttributes). at ≡ signed_attributes value))
     → MatchResult r (λ value. (signed_attributes value ≡ attributes_element (map attribute list)) × AreDer (inner_attributes list ++ attributes_element (map attribute list) ∷ []))
@@ -46,7 +46,7 @@ kept_or_refused list kept at (Err e) der is same refused =
     never_shape list kept e der is (subst (λ (x : DerElement). RefusesShape (λ (value : SignedAttributes). x ≡ signed_attributes value) e) same refused)
     (inner_attributes list ++ attributes_element (map attribute list) ∷ [])
 
--- What keeping attributes answers, by their element and what is written into strings of them.
+-- The result of storing attributes, by their element and its inner elements.
 abbrev Answers : List DerElement → DerElement → Result SignedAttributes DerError → Type 0
 Answers inner element r =
     MatchResult r (λ value. (signed_attributes value ≡ element) × AreDer (inner ++ element ∷ [])) (RefusesInner (inner ++ element ∷ []))
@@ -55,7 +55,7 @@ behind_opus : (opus element : DerElement) (r : Result SignedAttributes DerError)
 behind_opus opus element (Ok value) der kept = (kept.0, (der, kept.1))
 behind_opus opus element (Err e) der refused = refuses_last (opus ∷ []) (element ∷ []) e (der, tt) refused
 
--- those of a program's signature, behind what is said of the program
+-- those of a program's signature, after what is said about the program
 pub listed_or_refused : (list : List Attribute) (info opus : DerElement) (digest : List ℕ) (r : Result SignedAttributes DerError) → map attribute list ≡ program_attributes info digest → inner_attributes list ≡ [] → info ≡ opus → IsDer opus
     → Answers (inner_attributes list) (attributes_element (map attribute list)) r → Answers (opus ∷ []) (attributes_element (program_attributes opus digest)) r
 listed_or_refused list info opus digest r are inner same der kept =

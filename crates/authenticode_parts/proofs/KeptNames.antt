@@ -1,4 +1,4 @@
--- What a kept certificate says of its issuer and its serial number.
+-- The issuer and the serial number of a stored certificate.
 use Rattle.std.proofs.Common.{◌≡◌, ℕ, List, [], ◌∷◌, sym, ap, ◌∙◌}
 use Rattle.std.proofs.Math.Logic.{∥∥₁_elim}
 use Rattle.std.specs.Coded.{Coded-set}
@@ -20,7 +20,7 @@ issuer_is kept = ∥∥₁_elim kept.spelled (Coded-set coded_element kept.eleme
 pub serial_is : (kept : KeptCertificate) → kept.elements.tbs.serial_number ≡ integer_contents kept.certificate.tbs_certificate.serial_number
 serial_is kept = ∥∥₁_elim kept.spelled (octets-set kept.elements.tbs.serial_number (integer_contents kept.certificate.tbs_certificate.serial_number)) (λ are. are.tbs.serial_number)
 
--- copies of both name it
+-- copies of both identify it
 pub names_it : (kept : KeptCertificate) (issuer : List (List AttributeTypeAndValue)) (serial_number : IntegerAsn1) → issuer ≡ kept.certificate.tbs_certificate.issuer → serial_number ≡ kept.certificate.tbs_certificate.serial_number
     → issuer_and_serial_number (record { issuer = issuer; serial_number = serial_number }) ≡ issuer_and_serial_of kept.elements
 names_it kept issuer serial_number same same' =

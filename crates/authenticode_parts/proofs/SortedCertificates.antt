@@ -1,4 +1,4 @@
--- Certificates that a signature carries, one after another, but for those of roots.
+-- Certificates in a signature, one after another, without the roots.
 use Rattle.std.proofs.Common.{◌≡◌, ◌↔◌, IsTrue, true, false, Result, Ok, Err, IfOk, length, arith, List, [], ◌∷◌, ◌++◌, map, refl, sym, ap, subst, ◌∙◌, inl, inr, append_assoc, append-nil}
 use Rattle.std.proofs.lemmas.List.{map-append}
 use Rattle.der_core.specs.DerElement.{DerElement}
@@ -20,9 +20,9 @@ pushed_before members members' member element later is pushed =
     ∙ append_assoc (map certificate_choice members) (certificate_choice member ∷ []) later
     ∙ ap (λ (e : DerElement). map certificate_choice members ++ e ∷ later) is)
 
--- ---- those that are no root's
+-- ---- the certificates without the roots
 
--- Of those before the ones that are left the right ones are carried.
+-- Of those before the rest, the right ones are stored.
 abbrev pub AreSorted : List KeptCertificate → List KeptCertificate → List CertificateChoices → Type 0
 AreSorted all rest members =
     (later : List CertificateElements) → AreWithoutRoots (elements_of rest) later → HoldsWithoutRoots (elements_of all) (map certificate_choice members ++ map certificate_of later)
@@ -45,7 +45,7 @@ all_sorted all rest members sorted e =
     subst (HoldsWithoutRoots (elements_of all)) (append-nil (map certificate_choice members))
     (sorted [] (subst (λ (ks : List KeptCertificate). AreWithoutRoots (elements_of ks) []) (sym (none_left rest e)) refl))
 
--- ---- one alone, or those
+-- ---- a single one, or those
 
 pub one_carried : (bag : List KeptCertificate) (members : List DerElement) → length bag ≡ 1 → members ≡ whole_elements bag → HoldsCarried (elements_of bag) members
 one_carried [] members e is = absurd (omega (arith, e))
@@ -57,7 +57,7 @@ others_carried [] members e h = h
 others_carried (k ∷ []) members e h = absurd (e refl)
 others_carried (k ∷ l ∷ bag) members e h = h
 
--- ---- whether one is a root's
+-- ---- whether one is a root certificate
 
 no_intermediate : (f : CertificateElements) → IsOfType f types.Intermediate → IsRootCertificate f → ⊥
 no_intermediate f other root = other.1 root.1

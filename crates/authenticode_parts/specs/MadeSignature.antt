@@ -1,5 +1,5 @@
--- The signature that is made, field by field (RFC 2315 9.1, 9.2; Windows Authenticode Portable
--- Executable Signature Format).
+-- The signature, field by field (RFC 2315 9.1, 9.2; Windows Authenticode Portable Executable
+-- Signature Format).
 use Rattle.std.specs.Prelude.{ℕ, List, [], ◌∷◌, Option, Some}
 use Rattle.asn1_types.specs.Elements.{integer_of, object_identifier_of}
 use Rattle.asn1_types.specs.declared.oids.TheConstants.{RSA_ENCRYPTION}
@@ -9,8 +9,8 @@ use Rattle.der_core.specs.DerElement.{DerElement, Constructed, row}
 use Rattle.der_core.specs.Elements.{set, octet_string, null}
 use Rattle.key_types.specs.AlgorithmIdentifier.{algorithm_of}
 
--- What varies: the digest algorithm, the content with its type, the certificates, what names the
--- signer's, its signed attributes under their tag, its signature, and its unsigned attributes.
+-- What varies: the digest algorithm, the content with its type, the certificates, the identifier of
+-- the signer's, its signed attributes with their tag, its signature, and its unsigned attributes.
 pub record SignatureParts : Type 0 where
   pub algorithm : DerElement
   pub content_info : DerElement
@@ -28,7 +28,7 @@ version_one = integer_of (1 ∷ [])
 abbrev pub rsa_encryption : DerElement
 rsa_encryption = algorithm_of (object_identifier_of RSA_ENCRYPTION.now) (Some null)
 
--- signed attributes under their tag
+-- signed attributes with their tag
 abbrev pub attributes_element : List DerElement → DerElement
 attributes_element attributes = Constructed 0xA0 (row attributes)
 
@@ -44,8 +44,7 @@ signer_made p = record {
   unsigned_attrs = p.unsigned;
 }
 
--- The signed data: one digest algorithm, one signer, and revocation lists that are given, but none
--- of them.
+-- The signed data: one digest algorithm, one signer, and revocation lists, present but empty.
 abbrev pub signature_made : SignatureParts → SignedDataElements
 signature_made p = record {
   version = version_one;

@@ -1,4 +1,4 @@
--- A program that is signed, and when signed data is its signature.
+-- A program to be signed, and when signed data is its signature.
 use Rattle.std.specs.Prelude.{◌≡◌, ⊤, ℕ, List, [], ◌∷◌, map, true, Option, Some, None}
 use Rattle.asn1_types.specs.Elements.{integer_of}
 use Rattle.cms_types.specs.DigestAlgorithm.{digest_algorithm}
@@ -19,19 +19,19 @@ use Rattle.authenticode_parts.specs.Carried.{AreCarried}
 use Rattle.authenticode_parts.specs.MadeContent.{attributes_message, content_digest, opus_element, program_attributes, program_content}
 use Rattle.authenticode_parts.specs.MadeSignature.{SignatureParts, attributes_element, signature_made}
 
--- What is signed of a program: by which digest algorithm, the digest of the file, and what is said
--- of the program.
+-- What is signed of a program: the digest algorithm, the digest of the file, and what is said about
+-- the program.
 pub record Program : Type 0 where
   pub hash : ShaVariant
   pub file_hash : List ℕ
   pub opus : DerElement
 
--- a program of which a name is said, or nothing
+-- a program with a name, or without one
 abbrev pub program_of : ShaVariant → List ℕ → Option (List ℕ) → Program
 program_of hash file_hash name =
     record { hash = hash; file_hash = file_hash; opus = opus_element name }
 
--- the name, where there is one, is one of characters of the basic plane
+-- the name, if any, has only characters of the basic plane
 abbrev pub IsBasicName : Option (List ℕ) → Type 0
 IsBasicName None = ⊤
 IsBasicName (Some text) = IsBasicPlane text
@@ -40,11 +40,11 @@ IsBasicName (Some text) = IsBasicPlane text
 abbrev pub attributes_for : Program → List DerElement
 attributes_for p = program_attributes p.opus (content_digest p.hash p.file_hash)
 
--- the algorithm of the signature
+-- the signature algorithm
 abbrev pub algorithm_for : Program → SignatureAlgorithm
 algorithm_for p = RsaPkcs1v15 (hash_of p.hash)
 
--- what is signed
+-- the octets that are signed
 abbrev pub message_for : Program → List ℕ
 message_for p = attributes_message (attributes_for p)
 
@@ -74,7 +74,7 @@ pub record IsSignature (scheme : KeyArithmetic) (algorithm : SignatureAlgorithm)
       → Accepts scheme.judge algorithm info message signature
 
 -- The signed data is the signature of the program by this key and by the first of the certificates,
--- of which it carries some.
+-- some of which it contains.
 pub record IsSignedProgram (scheme : KeyArithmetic) (bag : List CertificateElements)
     (first : CertificateElements) (p : Program) (key : PrivateKey)
     (made : SignedDataElements) : Type 0 where

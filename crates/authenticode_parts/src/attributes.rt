@@ -26,13 +26,13 @@ use der_core::{DerError, ListOf, Octets, Raw, Structure, write_list};
 use std::alloc::{AllocError, Global};
 use x509_types::{Attribute, AttributeList, AttributeValues};
 
-/// What is said of the program: its name, where it has one, and an empty link to more.
+/// The SpcSpOpusInfo of a program: its name, if any, and an empty link to more information.
 pub fn opus_of(alloc: Global, name: Option<&str>) -> Result<SpcSpOpusInfo, CharSetError>
     ensures answer { MatchResult result
         (λ info. (opus_info info ≡ opus_element (option_copied name.entry))
         × IsBasicName (option_copied name.entry))
         (RefusesCharSet (IsBasicName (option_copied name.entry))) }
-    // A name is refused before memory is asked for, and none asks for none.
+    // A name is refused before anything is allocated, and without a name nothing is allocated.
     ensures refused { (IsBasicName (option_copied name.entry) → ⊥)
         → result ≡ Err CharSetError.CharSet }
     ensures nameless { option_copied name.entry ≡ None → IsOk result }
@@ -49,7 +49,7 @@ pub fn opus_of(alloc: Global, name: Option<&str>) -> Result<SpcSpOpusInfo, CharS
     })
 }
 
-/// The attribute that tells what the content is: indirect data (RFC 2985 5.3.1).
+/// The content-type attribute: indirect data (RFC 2985 5.3.1).
 fn content_type(alloc: Global) -> Result<Attribute, AllocError>
     ensures { IfOk result (λ a. (attribute a ≡ attribute_by CONTENT_TYPE.now
         (object_identifier_of SPC_INDIRECT_DATA.now))
@@ -62,7 +62,7 @@ fn content_type(alloc: Global) -> Result<Attribute, AllocError>
     Ok(Attribute { ty, value })
 }
 
-/// The attribute that has the digest of the content (RFC 2985 5.3.2).
+/// The message-digest attribute, with the digest of the content (RFC 2985 5.3.2).
 fn message_digest(alloc: Global, digest: &[u8]) -> Result<Attribute, AllocError>
     ensures { IfOk result
         (λ a. (attribute a ≡ attribute_by MESSAGE_DIGEST.now (octet_string digest.now))
@@ -75,7 +75,7 @@ fn message_digest(alloc: Global, digest: &[u8]) -> Result<Attribute, AllocError>
     Ok(Attribute { ty, value })
 }
 
-/// The attribute with what is said of the program.
+/// The attribute with the SpcSpOpusInfo.
 fn opus_attribute(alloc: Global, info: Raw) -> Result<Attribute, AllocError>
     ensures { IfOk result (λ a. (attribute a ≡ attribute_by SPC_SP_OPUS_INFO.now info.element)
         × (inner_values a.value ≡ [])) }
@@ -87,7 +87,7 @@ fn opus_attribute(alloc: Global, info: Raw) -> Result<Attribute, AllocError>
     Ok(Attribute { ty, value })
 }
 
-/// What is said of a program, kept.
+/// The raw SpcSpOpusInfo.
 fn keep_opus(alloc: Global, opus: &SpcSpOpusInfo) -> Result<Raw, DerError>
     ensures { MatchResult result
         (λ kept. (kept.element ≡ opus_info opus.now) × IsDer (opus_info opus.now))
@@ -97,7 +97,7 @@ fn keep_opus(alloc: Global, opus: &SpcSpOpusInfo) -> Result<Raw, DerError>
     Raw::from_tree(alloc, &tree)
 }
 
-/// The three attributes, in their order.
+/// The three attributes, in order.
 fn listed(alloc: Global, info: Raw, digest: &[u8]) -> Result<AttributeList, AllocError>
     ensures { IfOk result (λ list. (map attribute list ≡ program_attributes info.element digest.now)
         × (inner_attributes list ≡ [])) }
@@ -109,7 +109,7 @@ fn listed(alloc: Global, info: Raw, digest: &[u8]) -> Result<AttributeList, Allo
     Ok(list)
 }
 
-/// The attributes of a program's signature, as its signer carries them.
+/// The signed attributes of a program's signature.
 pub fn attributes_of(
     alloc: Global,
     opus: &SpcSpOpusInfo,
@@ -126,7 +126,7 @@ pub fn attributes_of(
     keep_attributes(alloc, &list)
 }
 
-/// Attributes as a signer carries them (RFC 5652 5.3).
+/// Signed attributes in the form of a signer (RFC 5652 5.3).
 pub fn keep_attributes(alloc: Global, list: &AttributeList) -> Result<SignedAttributes, DerError>
     ensures { let element = attributes_element (map attribute list.now) in
         MatchResult result
@@ -139,8 +139,8 @@ pub fn keep_attributes(alloc: Global, list: &AttributeList) -> Result<SignedAttr
     SignedAttributes::read_at(alloc, kept.elem())
 }
 
-/// What is signed of attributes: their SET, in the order that stands (RFC 2315 9.3). No other octet
-/// of them is changed.
+/// The octets of signed attributes that are signed: those of their SET, in the given order (RFC
+/// 2315 9.3). Only the tag is changed.
 pub fn message_of(alloc: Global, attributes: &SignedAttributes) -> Result<Vec<u8>, AllocError>
     ensures { (members : List DerElement)
         → signed_attributes attributes.now ≡ attributes_element members

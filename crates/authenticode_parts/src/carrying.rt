@@ -1,4 +1,4 @@
-//! Certificates as signed data carries them.
+//! Certificates in the form of signed data.
 
 ghost use Rattle.std.specs.Prelude.{◌≡◌, IfOk, map};
 ghost use Rattle.cms_types.specs.CertificateChoices.{certificate_choice};
@@ -10,7 +10,7 @@ use der_core::{ListOf, Raw, whole_element};
 use std::alloc::{AllocError, Global};
 use x509_core::Cert;
 
-/// A certificate as signed data carries it: its octets as they are.
+/// A certificate as a member of signed data, with its octets as they are.
 pub fn member_of(alloc: Global, certificate: &Cert) -> Result<CertificateChoices, AllocError>
     ensures { IfOk result
         (λ member. certificate_choice member ≡ certificate_of certificate.now.elements) }

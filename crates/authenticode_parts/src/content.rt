@@ -1,4 +1,4 @@
-//! What is signed in the place of a program.
+//! What is signed instead of a program.
 
 ghost use Rattle.std.specs.Prelude.{◌≡◌, ◌∷◌, [], Some, IfOk, MatchResult};
 ghost use Rattle.asn1_types.specs.Elements.{object_identifier_of};
@@ -24,13 +24,13 @@ use der_core::{DerError, NewKids, Octets, Raw, Structure, explicit, leaf, whole_
 use sig_core::{HashAlgorithm, ShaVariant};
 use std::alloc::{AllocError, Global};
 
-/// A file of an SpcPeImageData, which is an SpcLink of the form `file`, and its text of the form
-/// `unicode` (Windows Authenticode Portable Executable Signature Format).
+/// The tag of the file in an SpcPeImageData, which is an SpcLink of the form `file`, and of its
+/// string of the form `unicode` (Windows Authenticode Portable Executable Signature Format).
 const FILE: u8 = 0xA0;
 
 const FILE_LINK: u8 = 0xA2;
 
-/// The digest of a file, which is a PE image.
+/// The indirect data with the digest of a file, which is a PE image.
 pub fn indirect_of(
     alloc: Global,
     hash: ShaVariant,
@@ -60,7 +60,7 @@ fn image_of(alloc: Global) -> Result<SpcAttributeTypeAndOptionalValue, AllocErro
     })
 }
 
-/// What is said of the image: no flag, and an empty text for its file.
+/// The SpcPeImageData: no flags, and an empty string for the file.
 fn image_value(alloc: Global) -> Result<Raw, AllocError>
     ensures { IfOk result (λ kept. kept.element ≡ image_octets) }
 {
@@ -75,7 +75,7 @@ fn image_value(alloc: Global) -> Result<Raw, AllocError>
     }
 }
 
-/// The digest of what is signed, of its contents octets (RFC 2315 9.3).
+/// The digest of a content, over its contents octets (RFC 2315 9.3).
 pub fn digest_of_content(
     alloc: Global,
     indirect: &SpcIndirectDataContent,
@@ -94,7 +94,7 @@ pub fn digest_of_content(
     }
 }
 
-/// What is signed, with its type.
+/// The indirect data with its type.
 pub fn content_of(
     alloc: Global,
     indirect: SpcIndirectDataContent,

@@ -1,4 +1,4 @@
-//! Signed data of one signer, of its parts.
+//! Signed data with one signer, from its parts.
 
 ghost use Rattle.std.specs.Prelude.{◌≡◌, ◌∷◌, [], Some, IfOk};
 ghost use Rattle.std.specs.Option.{option_map};
@@ -30,7 +30,7 @@ use sig_core::ShaVariant;
 use std::alloc::{AllocError, Global};
 use x509_core::Cert;
 
-/// What names a certificate: its issuer and its serial number (RFC 5652 10.2.4).
+/// The identifier of a certificate: its issuer and its serial number (RFC 5652 10.2.4).
 pub fn named_by(alloc: Global, certificate: &Cert) -> Result<SignerIdentifier, AllocError>
     ensures { IfOk result
         (λ sid. signer_identifier sid ≡ issuer_and_serial_of certificate.now.elements) }
@@ -43,7 +43,7 @@ pub fn named_by(alloc: Global, certificate: &Cert) -> Result<SignerIdentifier, A
     }))
 }
 
-/// The algorithm of keys of RSA (RFC 8017 C).
+/// The algorithm of RSA keys (RFC 8017 C).
 fn rsa_encryption(alloc: Global) -> Result<AlgorithmIdentifier, AllocError>
     ensures { IfOk result (λ algorithm. algorithm_identifier algorithm ≡ rsa_element) }
 {
@@ -52,7 +52,7 @@ fn rsa_encryption(alloc: Global) -> Result<AlgorithmIdentifier, AllocError>
     Ok(algorithm)
 }
 
-/// The signer that signs so.
+/// The signer with these parts.
 pub fn signer_info_of(
     alloc: Global,
     sid: SignerIdentifier,
@@ -84,7 +84,7 @@ pub fn signer_info_of(
     })
 }
 
-/// The algorithm of digests, alone in its list.
+/// The digest algorithm, as the only one in its list.
 pub fn digests_of(
     alloc: Global,
     hash: ShaVariant,
@@ -97,7 +97,7 @@ pub fn digests_of(
     Ok(digests)
 }
 
-/// The signer, alone in its list.
+/// The signer, as the only one in its list.
 pub fn signers_of(alloc: Global, signer: SignerInfo) -> Result<ListOf<SignerInfo>, AllocError>
     ensures { IfOk result
         (λ signers. list_element 0x31 signer_info signers ≡ set (signer_info signer ∷ [])) }
@@ -107,7 +107,7 @@ pub fn signers_of(alloc: Global, signer: SignerInfo) -> Result<ListOf<SignerInfo
     Ok(signers)
 }
 
-/// Signed data of its parts. It takes no memory.
+/// The signed data with these parts. It doesn't allocate.
 pub fn framed(
     alloc: Global,
     digest_algorithms: ListOf<AlgorithmIdentifier>,

@@ -1,7 +1,6 @@
-//! The parts that Authenticode signatures are made of (RFC 2315 9.1, 9.2; Windows Authenticode
-//! Portable Executable Signature Format): the content that stands for a file and its digest, the
-//! attributes that are signed and the signature over them, the certificates that are carried, and
-//! the frame around them.
+//! The parts of Authenticode signatures (RFC 2315 9.1, 9.2; Windows Authenticode Portable
+//! Executable Signature Format): the content that represents a file and its digest, the signed
+//! attributes and the signature over them, the certificates, and the signed data around them.
 #![tactic(auto)]
 
 mod attributes;

@@ -22,8 +22,8 @@ use sig_core::ShaVariant;
 use std::alloc::{AllocError, Global};
 use x509_core::Cert;
 
-/// The signature of a program by the first of certificates, of its parts: what is signed in the
-/// place of the program, the attributes, and the signature over them.
+/// The signature of a program by the first of the certificates, from its parts: the indirect data,
+/// the attributes, and the signature over them.
 pub fn program_signature(
     alloc: Global,
     bag: &[Cert],

@@ -1,4 +1,4 @@
-//! The certificates that a signature carries.
+//! The certificates in a signature.
 
 ghost use Rattle.std.specs.Prelude.{◌↔◌, IfOk, IsTrue, map};
 ghost use Rattle.authenticode_parts.specs.Carried.{HoldsCarried, HoldsWithoutRoots, IsRootCertificate, elements_of};
@@ -10,7 +10,7 @@ use der_core::ListOf;
 use std::alloc::{AllocError, Global};
 use x509_core::{Cert, CertType};
 
-/// Whether the certificate is a root's (RFC 5280 3.2).
+/// Whether this is a root certificate (RFC 5280 3.2).
 fn is_root(certificate: &Cert) -> bool
     ensures { IsTrue result ↔ IsRootCertificate certificate.now.elements }
 {
@@ -22,7 +22,7 @@ fn is_root(certificate: &Cert) -> bool
     }
 }
 
-/// Those that are no root's, in order.
+/// The certificates without the roots, in order.
 pub fn without_roots(alloc: Global, certificates: &[Cert]) -> Result<CertificateSet, AllocError>
     ensures { IfOk result (λ members. HoldsWithoutRoots (elements_of certificates.now)
         (map certificate_choice members)) }
@@ -38,7 +38,7 @@ pub fn without_roots(alloc: Global, certificates: &[Cert]) -> Result<Certificate
     Ok(members)
 }
 
-/// One certificate alone, or of others those that are no root's.
+/// A single certificate, or of several those that aren't roots.
 pub fn carried_of(alloc: Global, bag: &[Cert]) -> Result<CertificateSet, AllocError>
     ensures { IfOk result
         (λ members. HoldsCarried (elements_of bag.now) (map certificate_choice members)) }

@@ -11,7 +11,7 @@ use key_core::{PrivateKey, SignatureAlgorithm, SignatureError};
 use sig_core::{HashAlgorithm, Scheme};
 use std::alloc::Global;
 
-/// The signature of a message by RSA with the digest.
+/// The RSA signature of a message with the digest algorithm.
 pub fn signature_of<S: Scheme>(
     alloc: Global,
     hash: HashAlgorithm,
