@@ -1,4 +1,4 @@
--- A signature that is built step by step.
+-- Building a signature step by step.
 use Rattle.std.proofs.Common.{◌≡◌, ℕ, List, [], ◌∷◌, ◌++◌, map, Option, Some, None, MatchResult, refl, sym, ap, subst, ◌∙◌, inl, inr}
 use Rattle.std.specs.Prelude.{Result, Vec}
 use Rattle.std.specs.Borrow.{Bor}
@@ -33,7 +33,7 @@ use Rattle.authenticode_signature.specs.declared.builder.AuthenticodeSignatureBu
 use Rattle.authenticode_signature.specs.declared.builder_error.AuthenticodeSignatureBuilderError.{AuthenticodeSignatureBuilderError}
 use Rattle.authenticode_signature.specs.declared.builder_error.AuthenticodeSignatureBuilderError.TheVariants as errors
 
--- ---- what has to be given
+-- ---- the required arguments
 
 abbrev first_two : AuthenticodeSignatureBuilder → List (Step AuthenticodeSignatureBuilderError)
 first_two b = part_step errors.MissingDigestAlgorithm b.digest_algorithm ∷ supported_step b.digest_algorithm ∷ []
@@ -78,7 +78,7 @@ module _ (b : AuthenticodeSignatureBuilder) where
 pub not_for_code : (g : Given) (c : CertificateElements) → IsNamedFirst g c → (IsForCodeSigning g.bag c → ⊥) → RefusesBySteps errors.Memory (named_step g ∷ purpose_step g ∷ []) (errors.AuthenticodeError signatures.NoEKUCodeSigning)
 not_for_code g c first fails = inl (inr ((c, first), inl (c, first, fails, refl)))
 
--- ---- attributes that may not be given
+-- ---- optional attributes
 
 pub given_attributes : {X E : Type 0} (option : Option (List Attribute)) (list : List Attribute) (result : Result X E) (Is : List Attribute → X → Type 0) (Refuses : List Attribute → E → Type 0) → option ≡ Some list
     → MatchResult result (Is list) (Refuses list) → MatchResult result (Is (attributes_in option)) (Refuses (attributes_in option))
@@ -88,7 +88,7 @@ pub no_given_attributes : {X E : Type 0} (option : Option (List Attribute)) (res
     → MatchResult result (Is []) (Refuses []) → MatchResult result (Is (attributes_in option)) (Refuses (attributes_in option))
 no_given_attributes option result Is Refuses e holds = rw e holds
 
--- ---- the steps of what is given
+-- ---- the steps with the arguments
 
 module _ (signs : Signs) (b : AuthenticodeSignatureBuilder) (g : Given) where
   abbrev behind_signer : List (Step AuthenticodeSignatureBuilderError)
@@ -122,7 +122,7 @@ module _ (signs : Signs) (b : AuthenticodeSignatureBuilder) (g : Given) where
       → IsSignature (arithmetic judge signs pair) (algorithm_by g) g.key (message_by b g) signature → AreTaken (steps_of signs b g)
   all_taken judge pair c signature signer der bounded is = ((c, signer.first), ((c, signer), (der, (bounded, (is.signed, tt)))))
 
--- ---- the signature over what is signed
+-- ---- the signature over the message
 
 module _ (b : AuthenticodeSignatureBuilder) (g : Given) (algorithm : HashAlgorithm) (octets : List ℕ) (element : DerElement) (known : hash_of g.hash ≡ algorithm) (written : octets ≡ encoding (content_info g.content))
     (kept : element ≡ attributes_element (map attribute (attributes_in b.authenticated_attributes))) where
@@ -142,7 +142,7 @@ module _ (b : AuthenticodeSignatureBuilder) (g : Given) (algorithm : HashAlgorit
       (subst (λ (o : List ℕ). RefusesBySteps errors.Memory (key_step signs (RsaPkcs1v15 algorithm) g.key (message_in b.authenticated_attributes o (map attribute (attributes_in b.authenticated_attributes))) ∷ []) e) written
       (refused (map attribute (attributes_in b.authenticated_attributes)) kept))
 
--- ---- what is built
+-- ---- the signature
 
 pub built_of : (judge : Judge) (signs : Signs) (pair : Pair) (b : AuthenticodeSignatureBuilder) (g : Given) (built : SignedDataElements) (c : CertificateElements) (element : DerElement) (signature : List ℕ)
     → IsSigner g c → element ≡ attributes_element (map attribute (attributes_in b.authenticated_attributes)) → IsSignature (arithmetic judge signs pair) (algorithm_by g) g.key (message_by b g) signature

@@ -1,4 +1,5 @@
--- The issuer walk among the certificates that are carried: what it meets, it meets among all that are given, since a root has its own name as its issuer's.
+-- The issuer walk among the contained certificates: what it meets, it meets among all given ones,
+-- since a root is its own issuer.
 use Rattle.std.proofs.Common.{◌≡◌, ◌⊎◌, Bool, true, false, ℕ, zero, suc, List, [], ◌∷◌, Some, map, inl, inr, refl, sym, ap, subst, ◌∙◌, arith}
 use Rattle.std.specs.Prelude.{Contains, bytes_eq}
 use Rattle.std.proofs.lemmas.Bool.{both_ways}
@@ -13,16 +14,16 @@ use Rattle.authenticode_core.proofs.WalkSteps.{one_walk}
 use Rattle.authenticode_parts.specs.Carried.{AreCarried, AreWithoutRoots, IsRootCertificate}
 use Rattle.authenticode_signature.proofs.Walks.{begun, further, passed}
 
--- A walk that looks for a subject, by its octets, meets the certificate.
+-- A walk that looks for a subject, given by its octets, meets the certificate.
 abbrev Meets : List ℕ → List CertificateElements → CertificateElements → Type 0
 Meets subject [] d = ⊥
 Meets subject (c ∷ bag) d =
     ((encoding c.tbs.subject ≡ subject) × ((d ≡ c) ⊎ Meets (encoding c.tbs.issuer) bag d))
     ⊎ ((encoding c.tbs.subject ≡ subject → ⊥) × Meets subject bag d)
 
--- ---- the walk, and whom it meets
+-- ---- the walk, and what it meets
 
--- The walk by its places, with what stands there.
+-- The walk by its indices, with the certificates there.
 record Walk (bag : List CertificateElements) (subject : DerElement) : Type 0 where
   places : List ℕ
   walk : IsWalkFrom bag 0 subject places
@@ -116,7 +117,7 @@ walk_in [] subject = none subject
 walk_in (c ∷ bag) subject =
     decided c bag subject (bytes_eq (encoding c.tbs.subject) (encoding subject)) refl (walk_in bag c.tbs.issuer) (walk_in bag subject)
 
--- ---- among those that are carried
+-- ---- among the contained ones
 
 past_root : (c : CertificateElements) (bag : List CertificateElements) (subject : List ℕ) (d : CertificateElements) (test : Bool) → bytes_eq (encoding c.tbs.subject) subject ≡ test → IsRootCertificate c → Meets subject bag d → Meets subject (c ∷ bag) d
 past_root c bag subject d true e root m =
@@ -151,6 +152,6 @@ asks_before bag carried signer are asked =
     let at = all.meets asked.c (met_among bag carried (encoding signer.tbs.subject) asked.c are met) in
     record { places = all.places; walk = all.walk; place = at.0; among = at.1; c = asked.c; stands = at.2; purposes = asked.purposes }
 
--- one that may sign code among all may do so among those that are carried
+-- one that may sign code among all may do so among the contained ones
 pub still_for_code_signing : (bag carried : List CertificateElements) (signer : CertificateElements) → AreCarried bag carried → IsForCodeSigning bag signer → IsForCodeSigning carried signer
 still_for_code_signing bag carried signer are may = λ asked. may (asks_before bag carried signer are asked)

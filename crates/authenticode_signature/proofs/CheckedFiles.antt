@@ -1,4 +1,4 @@
--- A signature file as it is made is accepted under basic validation alone.
+-- A signature file as made is accepted under basic validation alone.
 use Rattle.std.proofs.Common.{◌≡◌, ℕ, ◌-◌, List, [], ◌∷◌, ◌++◌, Option, Result, Ok, Err, IfOk, MatchResult, map, length, take, inl, inr, refl, sym, ap, subst, ◌∙◌, arith, append-nil}
 use Rattle.std.specs.Prelude.{replicate, slice_range}
 use Rattle.std.specs.Int.{next_multiple_of}
@@ -63,7 +63,7 @@ one_signer : (signers : List SignerInfo) (element : DerElement) → map signer_i
 one_signer [] element e = absurd (cc)
 one_signer (s ∷ signers) element e = (s, cc)
 
--- ---- what names its certificate
+-- ---- the identifier of its certificate
 
 two : (a b x y : DerElement) → sequence (a ∷ x ∷ []) ≡ sequence (b ∷ y ∷ []) → (a ≡ b) × (x ≡ y)
 two a b x y e = (cc, cc)
@@ -181,7 +181,7 @@ module _ (judge : Judge) (p : Program) (first : CertificateElements) (others : L
   pub carries : IsBagOf (signed_data_elements value.signed_data) bag
   carries = subst (λ (f : SignedDataElements). IsBagOf f bag) (sym m.fields) is_bag
 
--- ---- what is asked of it
+-- ---- what is checked of it
 
 pub trusted : (judge : Judge) (policy : Policy) (f : SignedDataElements) (file_hash : List ℕ) → IsBasicAlone policy file_hash → VouchesFor judge f file_hash 0 → IsTrusted judge policy f by_the_first
 trusted judge policy f file_hash asked vouched = record {
@@ -215,7 +215,7 @@ pub padded_so : (octets : List ℕ) (element : DerElement) → IsDer element →
 padded_so octets element der is =
     (der, next_multiple_of (length octets) 8 - length octets, omega arith, ap (λ (o : List ℕ). o ++ replicate (next_multiple_of (length octets) 8 - length octets) 0) is)
 
--- the signed data that what is made has, and the certificates that it carries
+-- the signed data of the file, and the certificates that it contains
 module _ (judge : Judge) (policy : Policy) (first : CertificateElements) (others : List CertificateElements) (octets file_hash : List ℕ) (made : IsMadeSignature judge first others octets file_hash) where
   abbrev made_data : SignedDataElements
   made_data = signed_data_elements made.value.signed_data

@@ -1,4 +1,4 @@
--- One error tells of what isn't given to a builder of signatures, and none where all of it is given.
+-- One error reports a missing argument of a builder of signatures, and none does if all are given.
 use Rattle.std.proofs.Common.{◌≡◌, [], Option, Some, sym, ap, ◌∙◌}
 use Rattle.std.proofs.lemmas.Option.{none-some}
 use Rattle.sig_core.specs.declared.error.UnsupportedHashAlgorithmError.{UnsupportedHashAlgorithmError}

@@ -1,4 +1,4 @@
--- A signature that is made is one as a signature file has it.
+-- A made signature is one as in a signature file.
 use Rattle.std.proofs.Common.{◌≡◌, ℕ, List, [], ◌∷◌, Option, inl, inr, sym, subst}
 use Rattle.cms_types.specs.Pkcs7.{pkcs7}
 use Rattle.cms_types.specs.SignedData.{signed_data_elements}
@@ -22,7 +22,7 @@ use Rattle.authenticode_signature.specs.Making.{IsMadeOf}
 use Rattle.authenticode_core.proofs.BagSteps.{one_bag}
 use Rattle.authenticode_signature.proofs.CarriedWalks.{still_for_code_signing}
 
--- ---- those of a bag are certificates, and so are those that are carried
+-- ---- members of a bag are certificates, and so are the contained ones
 
 fit_in_bag : (members : List DerElement) (bag : List CertificateElements) → IsBag members bag → AreCertificates bag
 fit_in_bag [] bag none = subst AreCertificates (sym none) tt
@@ -39,7 +39,7 @@ fit_carried [] carried none fit = subst AreCertificates (sym none) tt
 fit_carried (c ∷ []) carried one fit = subst AreCertificates (sym one) fit
 fit_carried (c ∷ d ∷ bag) carried are fit = fit_without (c ∷ d ∷ bag) carried are fit
 
--- ---- none of those that are carried is a root's, unless it stands alone
+-- ---- no contained one is a root, unless it is the only one
 
 none_is_root : (bag carried : List CertificateElements) → AreWithoutRoots bag carried → NoneIsRoot carried
 none_is_root [] carried none = subst NoneIsRoot (sym none) tt
@@ -56,14 +56,14 @@ rootless_carried [] carried none = subst IsAloneOrNoRoot (sym none) tt
 rootless_carried (c ∷ []) carried one = subst IsAloneOrNoRoot (sym one) tt
 rootless_carried (c ∷ d ∷ bag) carried are = alone_or_none carried (none_is_root (c ∷ d ∷ bag) carried are)
 
--- ---- the first of all is the first that is carried, unless it is a root's
+-- ---- the first of all is the first contained one, unless it is a root
 
 first_carried : (first : CertificateElements) (others carried : List CertificateElements) → AreCarried (first ∷ others) carried → (IsRootCertificate first → others ≡ []) → (more : List CertificateElements) × (carried ≡ first ∷ more)
 first_carried first [] carried one root = ([], one)
 first_carried first (d ∷ others) carried (inl (is, are)) root = absurd (cc (root is))
 first_carried first (d ∷ others) carried (inr (other, more, is, are)) root = (more, is)
 
--- ---- what is made is as a signature file has it
+-- ---- a made signature is as in a signature file
 
 module _ (judge : Judge) (signs : Signs) (pair : Pair) (f : SignedDataElements) (hash : ShaVariant) (file_hash : List ℕ) (name : Option (List ℕ)) (key : PrivateKey) where
   made_for : (value : Pkcs7Certificate) (m : IsMadeOf (arithmetic judge signs pair) f hash file_hash name key (signed_data_elements value.signed_data)) → IsMadeWith pair key m.first m.others
@@ -85,7 +85,7 @@ module _ (judge : Judge) (signs : Signs) (pair : Pair) (f : SignedDataElements) 
         accepted = m.program.is_signature.accepted by.info by.pairs;
       }
 
-  -- the octets are a signature file by the first of these certificates, of which it carries some
+  -- the octets are a signature file by the first of these certificates, some of which it contains
   abbrev Carries : List ℕ → CertificateElements → List CertificateElements → Type 0
   Carries octets first others = (carried : List CertificateElements) × AreCarried (first ∷ others) (first ∷ carried) × IsMadeSignature judge first carried octets file_hash
 

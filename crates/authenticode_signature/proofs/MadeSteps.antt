@@ -1,4 +1,4 @@
--- A signature that is made step by step.
+-- Making a signature step by step.
 use Rattle.std.proofs.Common.{◌≡◌, ◌≢◌, ℕ, List, [], ◌∷◌, Option, Some, None, map, refl, ap, subst, ◌∙◌, inl, inr}
 use Rattle.asn1_types.specs.Ia5String.{RefusesCharSet}
 use Rattle.asn1_types.specs.declared.error.CharSetError.{CharSetError}
@@ -84,7 +84,7 @@ made_of judge signs pair f hash file_hash name key bag first made basic known is
       taken = (basic, (known, ((first, others, of), ((first, others, signer), taken))));
     }
 
--- ---- the steps behind
+-- ---- the later steps
 
 module _ (signs : Signs) (p : Program) (key : PrivateKey) (e : AuthenticodeError) where
   pub no_content : RefusesBySteps errors.Memory (writing_step (data_element p.hash p.file_hash ∷ []) ∷ []) e → RefusesBySteps errors.Memory (program_steps signs p key) e
@@ -159,7 +159,7 @@ pub unsealed_as : (signs : Signs) (algorithm : SignatureAlgorithm) (key : Privat
 unsealed_as signs algorithm key octets message source e same told refused =
     inl (inl (source, told, subst (λ (m : List ℕ). RefusesSignatureBy (sign_rules signs algorithm key m) source) same refused))
 
--- ---- a signature over the attributes that are kept
+-- ---- a signature over the stored attributes
 
 module _ (signs : Signs) (p : Program) (key : PrivateKey) (algorithm : HashAlgorithm) (digest : List ℕ) (attributes : DerElement) (known : algorithm ≡ hash_of p.hash) (digested : digest ≡ content_digest p.hash p.file_hash) where
   kept_as : attributes ≡ attributes_element (program_attributes p.opus digest) → attributes ≡ attributes_element (attributes_for p)
@@ -203,7 +203,7 @@ pub sealed_taken : (judge : Judge) (signs : Signs) (pair : Pair) (bag : List Cer
 sealed_taken judge signs pair bag first p key made digest same der bounded signed =
     ((der, tt), (subst (λ (d : List ℕ). AreDer (p.opus ∷ attributes_element (program_attributes p.opus d) ∷ [])) same bounded, (signed.is_signature.signed, tt)))
 
--- ---- what is said of the program by its name
+-- ---- what is said about the program, by its name
 
 pub not_signed_as : (signs : Signs) (f : SignedDataElements) (name : Option (List ℕ)) (hash : ShaVariant) (file_hash : List ℕ) (opus : DerElement) (key : PrivateKey) (e : AuthenticodeError) (bag : List CertificateElements) (first : CertificateElements)
     → opus ≡ opus_element name → IsBasicName name → hash_of hash ≢ SHA2_224 → IsBagOf f bag → IsFirstForSigning bag first

@@ -34,7 +34,7 @@ no_member element lent e none f m = none m.fits.0 (subst (λ (x : DerElement). I
 
 -- ---- several
 
--- The certificates before those that are left are read.
+-- The certificates before the rest are read.
 abbrev pub AreRead : List CertificateChoices → List CertificateChoices → List KeptCertificate → Type 0
 AreRead all rest kept = (bag : List CertificateElements) → IsBag (map certificate_choice rest) bag → IsBag (map certificate_choice all) (elements_of kept ++ bag)
 

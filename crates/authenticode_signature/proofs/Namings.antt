@@ -1,4 +1,4 @@
--- The certificate that the first of the signers names, among others.
+-- The certificate that the first signer identifies, among others.
 use Rattle.std.proofs.Common.{◌≡◌, ◌↔◌, ℕ, suc, ◌<◌, ◌≤◌, ◌⊎◌, List, [], ◌∷◌, Some, Bool, false, IsTrue, map, length, refl, sym, ap, subst, ◌∙◌, inl, inr, arith}
 use Rattle.std.specs.Prelude.{bytes_eq, slice_get}
 use Rattle.std.proofs.lemmas.Bool.{both_ways, cases_lt}
@@ -27,12 +27,12 @@ use Rattle.authenticode_core.specs.BagSigner.{IsNamedByFirst, HasNoSigner, HasIs
 use Rattle.authenticode_core.specs.Places.{HasNoPlace, HoldsOfNone, IsLeastPlace, StandsAt}
 use Rattle.authenticode_signature.specs.SigningCertificate.{FirstNames, IsNamedOtherwise, IsSigningCertificate}
 
--- ---- the place of a certificate
+-- ---- the index of a certificate
 
 pub stands_at : (certificates : List KeptCertificate) (place : ℕ) (k : KeptCertificate) → slice_get certificates place ≡ Some k → StandsAt (elements_of certificates) place k.elements
 stands_at certificates place k at = slice_get-map (λ (c : KeptCertificate). c.elements) certificates place ∙ ap (option_map (λ (c : KeptCertificate). c.elements)) at
 
--- one more place of which the rule doesn't hold
+-- one more index for which the rule doesn't hold
 one_more : (bag : List CertificateElements) (holds : CertificateElements → Type 0) (place : ℕ) (c : CertificateElements) → HoldsOfNone bag holds 0 place → StandsAt bag place c → (holds c → ⊥)
     → (other : ℕ) (d : CertificateElements) → other < suc place → StandsAt bag other d → holds d → (other < place) ⊎ (place ≤ other) → ⊥
 one_more bag holds place c none stands fails other d before at fits (inl less) = none other d (omega arith) less at fits
@@ -51,13 +51,13 @@ pub none_at_all : (certificates : List KeptCertificate) (holds : CertificateElem
 none_at_all certificates holds place none e at c later stands fits =
     none at c later (omega (arith, slice_get_within (elements_of certificates) at c stands, length-map certificates (λ (k : KeptCertificate). k.elements), e)) stands fits
 
--- the certificate at the place is the first one of which the rule holds
+-- the certificate at the index is the first for which the rule holds
 pub found_at : (certificates : List KeptCertificate) (holds : CertificateElements → Type 0) (place : ℕ) (k : KeptCertificate) → slice_get certificates place ≡ Some k → HoldsOfNone (elements_of certificates) holds 0 place → holds k.elements
     → (p : ℕ) × (slice_get certificates p ≡ Some k) × IsLeastPlace (elements_of certificates) holds 0 p k.elements
 found_at certificates holds place k at none fits =
     (place, at, record { later = omega arith; stands = stands_at certificates place k at; fits = fits; least = none })
 
--- ---- what the first of the signers names
+-- ---- what the first signer identifies
 
 heads : (a b : DerElement) (x y : List DerElement) → a ∷ x ≡ b ∷ y → a ≡ b
 heads a b x y e = cc
@@ -77,7 +77,7 @@ first_is (x ∷ others) signer sid at is =
 pub first_by_key : (signers : List SignerInfo) (signer : SignerInfo) (octets : List ℕ) → Some signer ≡ slice_get signers 0 → signer.sid ≡ named.SubjectKeyIdentifier octets → (o : List ℕ) × FirstNames signers (named.SubjectKeyIdentifier o)
 first_by_key signers signer octets at is = (octets, first_is signers signer (named.SubjectKeyIdentifier octets) at is)
 
--- it is named by one thing
+-- it is identified in one way
 pub not_otherwise : (signers : List SignerInfo) (value : IssuerAndSerialNumber) (e : AuthenticodeError) → FirstNames signers (named.IssuerAndSerialNumber value) → IsNamedOtherwise signers e → ⊥
 not_otherwise signers value (errors.MultipleSignerInfo count) f is = let none : f.signer ∷ f.others ≡ [] = sym f.first ∙ is.0 in absurd cc
 not_otherwise signers value errors.IncorrectSignerIdentifier f is =
@@ -124,7 +124,7 @@ pub no_signer : (signers : List SignerInfo) (value : IssuerAndSerialNumber) (cer
     → HasNoPlace (elements_of certificates) (HasIssuerAndSerial value) 0 → HasNoSigner (map signer_info signers) (elements_of certificates)
 no_signer signers value certificates f none place c later stands fits = none place c later stands ((names_it signers value c f).1 fits)
 
--- ---- whether a certificate is named
+-- ---- whether a certificate is identified
 
 pub is_named_by : (value : IssuerAndSerialNumber) (kept : KeptCertificate) (test : Bool) (issuer : List (List AttributeTypeAndValue)) → kept.certificate.tbs_certificate.serial_number ≡ value.serial_number
     → issuer ≡ kept.certificate.tbs_certificate.issuer → test ≡ bytes_eq (encoding (name issuer)) (encoding (name value.issuer)) → IsTrue test ↔ HasIssuerAndSerial value kept.elements

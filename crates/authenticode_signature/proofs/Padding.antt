@@ -31,7 +31,7 @@ one_unread octets m n (inr a) (inl b) = absurd (no_fault_where_first octets a.1.
 one_unread octets m n (inr a) (inr b) =
     same_malformed m n.at n.fault (first_once octets a.1.element b.1.element m.at n.at a.1.first b.1.first).1 (a.0 ∙ sym b.0)
 
--- ---- the cause is the one that is answered
+-- ---- the cause is the returned one
 
 pub unread_for : (octets : List ℕ) (m : Malformed) (source : DerError) → IsMalformedPadded octets m → IsNoSignedData octets source → der.Malformed m ≡ source
 unread_for octets m (der.Malformed n) unread cause = ap der.Malformed (one_unread octets m n unread cause)
@@ -47,7 +47,7 @@ shapeless_for octets element der.TooDeep padded cause = absurd cause
 shapeless_for octets element der.TooLong padded cause = absurd cause
 shapeless_for octets element der.Memory padded cause = absurd cause
 
--- there is none where signed data is spelled
+-- there is none where signed data is encoded
 pub none_for : (octets : List ℕ) (element : DerElement) (value : Pkcs7Certificate) (source : DerError) → IsPaddedEncoding octets element → element ≡ pkcs7 value → IsNoSignedData octets source → ⊥
 none_for octets element value (der.Malformed n) padded is cause = read_or_not octets element n padded cause
 none_for octets element value der.Shape padded is cause = cause.none value (one_element octets cause.element element cause.spelled padded ∙ is)

@@ -1,4 +1,4 @@
--- What a signature file has, and what it is read as.
+-- The content of a signature file, and what it is read as.
 use Rattle.std.proofs.Common.{◌≡◌, ◌⊎◌, List, ℕ, Bool, true, false, Result, Ok, Err, MatchResult, inl, inr, refl, sym, ap, subst, ◌∙◌, ltb-true, nat_lt, ◌^◌, if◌then◌else◌}
 use Rattle.std.specs.Prelude.{Vec}
 use Rattle.std.specs.declared.alloc.Global.{Global}
@@ -37,7 +37,7 @@ pub told_so : {A : Type 0} (asked : Result A WinCertificateError) (source : WinC
 told_so asked source e told (inl refused) = inl (source, told, refused)
 told_so asked source e told (inr out) = inr (told ∙ ap told_of_header out)
 
--- one cause is told as one error
+-- one cause is reported as one error
 pub told_as : {A : Type 0} (a b : WinCertificateError) (e : CheckError) → ◌≡◌ {A = Result A WinCertificateError} (Err a) (Err b) → e ≡ told_of_header a → e ≡ told_of_header b
 told_as a b e same told = told ∙ ap told_of_header (one_error a b same)
 

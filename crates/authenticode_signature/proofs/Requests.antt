@@ -1,4 +1,4 @@
--- Requests that are written.
+-- Writing requests.
 use Rattle.std.proofs.Common.{◌≡◌, ℕ, List, [], ◌∷◌, ◌++◌, length, sym, ap, subst, inl, inr, arith, length-append}
 use Rattle.der_core.specs.DerElement.{DerElement}
 use Rattle.der_core.specs.Refusals.{RefusesInner, IsFirstUnwritable}
@@ -24,7 +24,7 @@ first_alone : (x : DerElement) (e : DerError) → IsFirstUnwritable (x ∷ []) e
 first_alone x e (before, y, after, split, der, refused) =
     subst (λ (z : DerElement). RefusesToWrite z e) (sym (only_one before after x y split)) refused
 
--- why an element isn't written alone is why it isn't written
+-- why an element isn't written on its own is why it isn't written
 pub refused_alone : (x : DerElement) (e : DerError) → RefusesInner (x ∷ []) e → RefusesToWrite x e
 refused_alone x (der.Malformed m) refused = refused
 refused_alone x der.Shape refused = refused
@@ -32,7 +32,7 @@ refused_alone x der.TooDeep refused = first_alone x der.TooDeep refused
 refused_alone x der.TooLong refused = first_alone x der.TooLong refused
 refused_alone x der.Memory refused = tt
 
--- a request has few levels, so only its length keeps it from being written
+-- a request has few levels, so only its length can keep it from being written
 unwritten_request : (digest : List ℕ) (e : CertError) → IsUnwrittenCert elements.TimestampRequest (RefusesInner (asking_for digest ∷ [])) e
     → IsTooLong (asking_for digest) (stamp_refusal e)
 unwritten_request digest e (der.Malformed m, is, refused) = absurd refused

@@ -1,4 +1,4 @@
--- Signed data that is stamped, and why it isn't.
+-- Timestamping signed data, and why that fails.
 use Rattle.std.proofs.Common.{◌≡◌, List, [], ◌∷◌, ◌++◌, ℕ, map, take, Some, refl, sym, ap, subst, ◌∙◌, inl, inr}
 use Rattle.std.specs.Prelude.{slice_get}
 use Rattle.der_core.specs.Refusals.{RefusesInner}

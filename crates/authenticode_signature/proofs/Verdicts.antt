@@ -1,4 +1,4 @@
--- What is answered about the octets that are written is answered about the value, and nothing else is.
+-- The result for the written octets is the result for the value, and there is no other.
 use Rattle.std.proofs.Common.{◌≡◌, ◌≢◌, ℕ, List, [], ◌∷◌, Result, Ok, Err, MatchResult, inl, inr, refl, sym, ap, subst, ◌∙◌}
 use Rattle.cms_types.specs.SignedDataElements.{SignedDataElements}
 use Rattle.cms_types.specs.SignedView.{IsSignedView, data_elements}
@@ -29,7 +29,7 @@ use Rattle.authenticode_signature.specs.declared.pkcs7.Pkcs7.{Pkcs7}
 
 -- ---- the element and the fields of the octets are those of the value
 
--- a view can be had of the octets
+-- the octets have a view
 pub lies_there : (octets : List ℕ) (element : DerElement) (signed : Pkcs7) → IsKept octets element → IsKept octets (written signed) → element ≡ written signed
 lies_there octets element signed there kept = one_kept octets element (written signed) there kept
 
@@ -50,7 +50,7 @@ module _ (octets : List ℕ) (element : DerElement) (view : SignedView) (signed 
   broken_there policy e broken =
       subst (λ (f : SignedDataElements). IsFirstBroken (asked policy.basic (shape_rules f policy.file_hash)) e) (sym same_fields) broken
 
--- ---- answers about the value
+-- ---- results for the value
 
 deep_is_told : der.TooDeep ≢ der.Memory
 deep_is_told e = absurd cc
@@ -59,7 +59,7 @@ long_is_told : der.TooLong ≢ der.Memory
 long_is_told e = absurd cc
 
 module _ (judge : Judge) (policy : Policy) (element : DerElement) (f : SignedDataElements) where
-  -- a value without an encoding is told so
+  -- a value without an encoding is reported so
   pub unencodable : (e : DerError) → RefusesInner (element ∷ []) e → RefusesAuthenticodeBy (kept_rules judge policy element f) (of_der e)
   unencodable (der.Malformed m) refused = absurd refused
   unencodable der.Shape refused = absurd refused
@@ -70,7 +70,7 @@ module _ (judge : Judge) (policy : Policy) (element : DerElement) (f : SignedDat
   encodable : IsDer element → IsMet (HasNoEncoding element)
   encodable is e none = no_cause element none.0 is none.1
 
-  -- what the steps answer is answered
+  -- the result of the steps is returned
   pub answered_behind : (r : Result Accepted AuthenticodeError) → IsDer element → MatchResult r (IsTrusted judge policy f) (RefusesAuthenticodeBy (policy_rules judge policy f)) → IsVerdict judge policy element f r
   answered_behind (Ok a) is trusted = (is, trusted)
   answered_behind (Err e) is (inl broken) = inl (inr (encodable is, broken))

@@ -14,7 +14,7 @@ use Rattle.authenticode_signature.specs.Making.{HasNoFirstForSigning}
 use Rattle.authenticode_signature.specs.Walk.{IsWalkOf, SomeHasPurposes, AreAtPlaces}
 use Rattle.authenticode_signature.proofs.Namings.{stands_at}
 
--- A certificate at one of the places has an extended key usage.
+-- A certificate at one of the indices has an extended key usage.
 record Among (bag : List CertificateElements) (places : List ℕ) : Type 0 where
   place : ℕ
   among : Contains places place
@@ -57,7 +57,7 @@ some_of certificates [] items stand a = let among = a.among in absurd (omega (ar
 some_of certificates (place ∷ places) items (k, others, are, at, rest) a =
     subst SomeHasPurposes (sym are) (some_first certificates place places k others at (λ b. some_of certificates places others rest b) a (contains_cases place a.place places a.among))
 
--- the items of a walk ask for purposes where the certificates of the walk do
+-- the items of a walk have an extended key usage if the certificates of the walk do
 pub walk_asks : (signer : KeptCertificate) (certificates items : List KeptCertificate) → IsWalkOf signer certificates items → SomeHasPurposes items ↔ AsksForPurposes (elements_of certificates) signer.elements
 walk_asks signer certificates items w = (
   λ some.

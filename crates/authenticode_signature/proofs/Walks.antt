@@ -1,4 +1,4 @@
--- The certificates that an issuer walk gives stand at its places.
+-- An issuer walk yields the certificates at its indices.
 use Rattle.std.proofs.Common.{◌≡◌, ℕ, zero, suc, List, [], ◌∷◌, Some, Bool, true, false, map, refl, sym, subst, arith}
 use Rattle.std.specs.Prelude.{bytes_eq, if◌then◌else◌}
 use Rattle.std.proofs.lemmas.Bool.{both_ways}
@@ -77,7 +77,7 @@ begun c bag subject places has w = (
 
 -- ---- the whole walk
 
--- What a walk gives that looks for a subject from the first certificate on.
+-- What a walk yields that looks for a subject from the first certificate on.
 record Gives (subject : DerElement) (certificates items : List KeptCertificate) : Type 0 where
   places : List ℕ
   walk : IsWalkFrom (elements_of certificates) 0 subject places

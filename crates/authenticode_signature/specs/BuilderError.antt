@@ -1,4 +1,4 @@
--- The errors of builders of signatures, and their texts.
+-- The errors of building a signature, and their texts.
 use Rattle.std.specs.Prelude.{ℕ, List, codes}
 use Rattle.der_core.specs.ErrorText.{der_error_text}
 use Rattle.der_core.specs.declared.error.DerError.{DerError}
@@ -19,7 +19,7 @@ abbrev pub unwritten_in_builder : DerError → AuthenticodeSignatureBuilderError
 unwritten_in_builder der.Memory = errors.Memory
 unwritten_in_builder e = errors.Asn1DerError e
 
--- what is told of a signature that isn't built
+-- why a signature isn't built
 abbrev pub builder_error_text : AuthenticodeSignatureBuilderError → List ℕ
 builder_error_text errors.MissingDigestAlgorithm = codes "no digest algorithm is given"
 builder_error_text errors.MissingContentInfo = codes "no content is given"

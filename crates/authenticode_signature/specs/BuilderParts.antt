@@ -1,9 +1,9 @@
--- What is given to a builder, where it lies.
+-- The arguments of a builder, borrowed.
 use Rattle.authenticode_parts.specs.Carried.{elements_of}
 use Rattle.authenticode_signature.specs.Building.{Given}
 use Rattle.authenticode_signature.specs.declared.builder.building.Parts.{Parts}
 
--- what was given, by its parts
+-- the given arguments, by their parts
 abbrev pub given_of : Parts → Given
 given_of parts = record {
   hash = parts.hash;

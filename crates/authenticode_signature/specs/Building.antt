@@ -1,4 +1,4 @@
--- When a signature is built, and why it isn't: the steps in their order.
+-- When a signature is built, and why it isn't: the steps in order.
 use Rattle.std.specs.Prelude.{◌≡◌, ◌≢◌, ℕ, List, [], ◌∷◌, ◌++◌, map, true, Option, Some, None, Vec}
 use Rattle.std.specs.Option.{option_copied, option_map}
 use Rattle.std.specs.declared.alloc.Global.{Global}
@@ -45,7 +45,7 @@ use Rattle.authenticode_signature.specs.declared.builder.AuthenticodeSignatureBu
 use Rattle.authenticode_signature.specs.declared.builder_error.AuthenticodeSignatureBuilderError.{AuthenticodeSignatureBuilderError}
 use Rattle.authenticode_signature.specs.declared.builder_error.AuthenticodeSignatureBuilderError.TheVariants as errors
 
--- a builder of which nothing is asked
+-- an empty builder
 abbrev pub no_parts : AuthenticodeSignatureBuilder
 no_parts = record {
   certs = None;
@@ -57,10 +57,10 @@ no_parts = record {
   named = None;
 }
 
--- ---- what is given
+-- ---- the arguments
 
--- What has to be given: the digest algorithm, the content, the key, what names the certificate of
--- the signer, and certificates.
+-- The required arguments: the digest algorithm, the content, the key, the identifier of the
+-- signer's certificate, and certificates.
 pub record Given : Type 0 where
   pub hash : ShaVariant
   pub content : EncapsulatedContentInfo
@@ -68,12 +68,12 @@ pub record Given : Type 0 where
   pub named : IssuerAndSerialNumber
   pub bag : List CertificateElements
 
--- the certificates that are given, by the elements that are kept of them
+-- the given certificates, by their stored elements
 abbrev pub bag_in : Option (Vec KeptCertificate Global) → Option (List CertificateElements)
 bag_in certificates =
     option_map (λ (v : Vec KeptCertificate Global). elements_of v.items) certificates
 
--- The builder has what has to be given.
+-- The builder has the required arguments.
 pub record HasGiven (b : AuthenticodeSignatureBuilder) (g : Given) : Type 0 where
   pub hash : b.digest_algorithm ≡ Some (hash_of g.hash)
   pub content : b.content_info ≡ Some g.content
@@ -81,12 +81,12 @@ pub record HasGiven (b : AuthenticodeSignatureBuilder) (g : Given) : Type 0 wher
   pub named : b.named ≡ Some g.named
   pub bag : bag_in b.certs ≡ Some g.bag
 
--- the attributes that are signed, none where they aren't given
+-- the signed attributes, none if they aren't given
 abbrev pub attributes_in : Option (List Attribute) → List Attribute
 attributes_in None = []
 attributes_in (Some attributes) = attributes
 
--- what is signed: the attributes where they are given, else the octets of the content
+-- the octets that are signed: of the attributes if they are given, else of the content
 abbrev pub message_in : Option (List Attribute) → (content : List ℕ)
     → (attributes : List DerElement) → List ℕ
 message_in None content attributes = content
@@ -98,13 +98,13 @@ message_by b g =
     message_in b.authenticated_attributes (encoding (content_info g.content))
     (map attribute (attributes_in b.authenticated_attributes))
 
--- unsigned attributes are left out where there are none
+-- unsigned attributes are absent if there are none
 abbrev pub unsigned_in : Option (List UnsignedAttribute) → Option DerElement
 unsigned_in None = None
 unsigned_in (Some []) = None
 unsigned_in (Some (a ∷ attributes)) = Some (list_element 0xA1 unsigned_attribute (a ∷ attributes))
 
--- ---- what is built
+-- ---- the signature
 
 -- The parts of the signature.
 abbrev pub parts_by : AuthenticodeSignatureBuilder → Given → (carried : List CertificateElements)
@@ -119,18 +119,19 @@ parts_by b g carried signature = record {
   unsigned = unsigned_in b.unsigned_attributes;
 }
 
--- The certificate is the first of those that are named so.
+-- The certificate is the first with this issuer and serial number.
 abbrev pub IsNamedFirst : Given → CertificateElements → Type 0
 IsNamedFirst g c = (place : ℕ) × IsLeastPlace g.bag (HasIssuerAndSerial g.named) 0 place c
 
--- It is the signer's: the first that is named, and it may sign code (RFC 5280 4.2.1.12).
+-- It is the signer's: the first with this issuer and serial number, and it may sign code (RFC 5280
+-- 4.2.1.12).
 pub record IsSigner (g : Given) (c : CertificateElements) : Type 0 where
   pub first : IsNamedFirst g c
   pub code_signing : IsForCodeSigning g.bag c
 
 -- ---- steps
 
--- what is needed is given
+-- a required argument is given
 abbrev pub part_step : {X : Type 0} → AuthenticodeSignatureBuilderError → Option X
     → Step AuthenticodeSignatureBuilderError
 part_step {X} missing option = record {
@@ -138,7 +139,7 @@ part_step {X} missing option = record {
   refused = λ e. (option ≡ None) × (e ≡ missing);
 }
 
--- the digest algorithm is one that is signed with
+-- the digest algorithm is supported
 abbrev pub supported_step : Option HashAlgorithm → Step AuthenticodeSignatureBuilderError
 supported_step hash = record {
   taken = hash ≢ Some SHA2_224;
@@ -147,7 +148,7 @@ supported_step hash = record {
       (RefusesHash algorithm) e;
 }
 
--- one of the certificates is named
+-- one of the certificates has the issuer and the serial number
 abbrev pub named_step : Given → Step AuthenticodeSignatureBuilderError
 named_step g = record {
   taken = (c : CertificateElements) × IsNamedFirst g c;
@@ -164,7 +165,7 @@ purpose_step g = record {
       × (e ≡ errors.AuthenticodeError signatures.NoEKUCodeSigning);
 }
 
--- elements are written, the first of them first
+-- elements are written, in order
 abbrev pub element_step : List DerElement → Step AuthenticodeSignatureBuilderError
 element_step elements = record {
   taken = AreDer elements;
@@ -175,12 +176,12 @@ element_step elements = record {
 abbrev pub content_by : Given → List DerElement
 content_by g = content_info g.content ∷ []
 
--- what is written for the signed attributes, with what is written into strings of them
+-- what is written for the signed attributes, with their inner elements
 abbrev pub attributes_by : List Attribute → List DerElement
 attributes_by attributes =
     inner_attributes attributes ++ attributes_element (map attribute attributes) ∷ []
 
--- the algorithm of the signature
+-- the signature algorithm
 abbrev pub algorithm_by : Given → SignatureAlgorithm
 algorithm_by g = RsaPkcs1v15 (hash_of g.hash)
 
@@ -193,7 +194,7 @@ key_step signs algorithm key message = record {
       (RefusesSignatureBy (sign_rules signs algorithm key message));
 }
 
--- what has to be given, in its order
+-- the required arguments, in order
 abbrev pub part_steps : AuthenticodeSignatureBuilder → List (Step AuthenticodeSignatureBuilderError)
 part_steps b =
     part_step errors.MissingDigestAlgorithm b.digest_algorithm ∷ supported_step b.digest_algorithm ∷
@@ -202,7 +203,7 @@ part_steps b =
     part_step errors.MissingIssuerAndSerialNumber b.named ∷
     part_step errors.MissingCertificatesRequired b.certs ∷ []
 
--- the steps of what is given
+-- the steps with the arguments
 abbrev pub steps_of : Signs → AuthenticodeSignatureBuilder → Given
     → List (Step AuthenticodeSignatureBuilderError)
 steps_of signs b g =
@@ -210,7 +211,7 @@ steps_of signs b g =
     element_step (attributes_by (attributes_in b.authenticated_attributes)) ∷
     key_step signs (algorithm_by g) g.key (message_by b g) ∷ []
 
--- a step of what is given
+-- a step with the arguments
 abbrev pub of_given : AuthenticodeSignatureBuilder
     → (Given → Step AuthenticodeSignatureBuilderError) → Step AuthenticodeSignatureBuilderError
 of_given b step = record {
@@ -227,15 +228,15 @@ later_steps signs b =
     element_step (attributes_by (attributes_in b.authenticated_attributes)) ∷
     of_given b (λ g. key_step signs (algorithm_by g) g.key (message_by b g)) ∷ []
 
--- All steps, in their order.
+-- All steps, in order.
 abbrev pub building_steps : Signs → AuthenticodeSignatureBuilder
     → List (Step AuthenticodeSignatureBuilderError)
 building_steps signs b = part_steps b ++ later_steps signs b
 
--- ---- what holds of the signature that is built
+-- ---- the built signature
 
--- The signed data is the signature that the builder asks for, by this key and by the certificate
--- that is named.
+-- The signed data is the signature that the builder describes, by this key and by the identified
+-- certificate.
 pub record IsBuiltOf (scheme : KeyArithmetic) (b : AuthenticodeSignatureBuilder) (g : Given)
     (built : SignedDataElements) : Type 0 where
   pub signer : CertificateElements
@@ -246,7 +247,7 @@ pub record IsBuiltOf (scheme : KeyArithmetic) (b : AuthenticodeSignatureBuilder)
   pub is_signature : IsSignature scheme (algorithm_by g) g.key (message_by b g) signature
   pub fields : built ≡ signature_made (parts_by b g carried signature)
 
--- The signed data is what the builder asks for, and no step was refused.
+-- The signed data is what the builder describes, and no step failed.
 pub record IsBuiltSignature (scheme : KeyArithmetic) (b : AuthenticodeSignatureBuilder)
     (built : SignedDataElements) : Type 0 where
   pub given : Given

@@ -1,4 +1,4 @@
--- Signed data that signs nothing, and has certificates alone (RFC 5652 5.1).
+-- Signed data without signers, with certificates only (RFC 5652 5.1).
 use Rattle.std.specs.Prelude.{List, [], ◌∷◌, Some, None}
 use Rattle.asn1_types.specs.Elements.{integer_of, object_identifier_of}
 use Rattle.asn1_types.specs.declared.oids.TheConstants.{DATA}
@@ -7,8 +7,8 @@ use Rattle.cms_types.specs.SignedDataElements.{SignedDataElements}
 use Rattle.der_core.specs.DerElement.{DerElement, Constructed, row}
 use Rattle.der_core.specs.Elements.{set}
 
--- version 1, no digest algorithm, a content that is left out, of the type of data, the
--- certificates, revocation lists that are given, but none of them, no signer
+-- version 1, no digest algorithm, the type of data without a content, the certificates, revocation
+-- lists, present but empty, no signer
 abbrev pub certificates_alone : List DerElement → SignedDataElements
 certificates_alone certificates = record {
   version = integer_of (1 ∷ []);

@@ -1,2 +1,2 @@
--- Lemmas that facts of values rest on. Nothing in this folder needs reading: no public clause cites it.
+-- Lemmas about values. No public clause cites this folder.
 pub mod TokenStamps

@@ -1,4 +1,4 @@
--- Why a signature has no signature file, or a file no header.
+-- Why a signature has no signature file, or a file has no header.
 use Rattle.std.specs.Prelude.{◌≡◌, ◌⊎◌, ℕ, List, [], ◌∷◌, Result, Ok, Err, MatchResult, Vec}
 use Rattle.std.specs.declared.alloc.Global.{Global}
 use Rattle.der_core.specs.DerElement.{DerElement}
@@ -18,7 +18,7 @@ use Rattle.authenticode_signature.specs.Pkcs7.{written}
 use Rattle.authenticode_signature.specs.Refusals.{IsUnwrittenPkcs7, TellsOfSignedData}
 use Rattle.authenticode_signature.specs.declared.signature.AuthenticodeSignature.{AuthenticodeSignature}
 
--- it tells why what is asked for isn't there, unless memory ran out
+-- it reports why there is no result, unless memory ran out
 abbrev pub RefusesHeader : {A : Type 0} → Result A WinCertificateError → CheckError → Type 0
 RefusesHeader asked =
     OrMemory Memory
@@ -34,14 +34,14 @@ RefusesFile element kind e =
     × (RefusesHeader (current (encoding element) kind) e
     ⊎ RefusesHeader (encoded (wrapped kind (encoding element))) e))
 
--- What is answered for the element of a signature: the file that has it.
+-- The result for the element of a signature: the file with it.
 abbrev pub GivesFile : DerElement → CertificateType → Result (Vec ℕ Global) CheckError → Type 0
 GivesFile element kind result =
     MatchResult result
     (λ octets. IsSpelledWhole octets.items (wrapped kind (encoding element)) × IsDer element)
     (RefusesFile element kind)
 
--- What is answered for octets: the signature that the file has, or why it has none.
+-- The result for octets: the signature in the file, or why it has none.
 abbrev pub GivesSignature : List ℕ → Result AuthenticodeSignature CheckError → Type 0
 GivesSignature octets result =
     MatchResult result

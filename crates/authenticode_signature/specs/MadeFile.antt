@@ -1,4 +1,4 @@
--- A signature file as it is made.
+-- A signature file as this crate makes it.
 use Rattle.std.specs.Prelude.{◌≡◌, ◌≢◌, ⊤, ℕ, List, [], ◌∷◌, Option, Some, Result, Ok, IfOk, true, false}
 use Rattle.cms_types.specs.Pkcs7.{pkcs7}
 use Rattle.cms_types.specs.SignedData.{signed_data_elements}
@@ -31,34 +31,34 @@ use Rattle.authenticode_parts.specs.Carried.{IsRootCertificate}
 use Rattle.authenticode_parts.specs.MadeSignature.{signature_made}
 use Rattle.authenticode_parts.specs.SignedProgram.{IsBasicName, Program, algorithm_for, message_for, parts_for, program_of}
 
--- none of the certificates is a root's
+-- none of the certificates is a root
 abbrev pub NoneIsRoot : List CertificateElements → Type 0
 NoneIsRoot [] = ⊤
 NoneIsRoot (c ∷ others) = (IsRootCertificate c → ⊥) × NoneIsRoot others
 
--- none of them is, unless it stands alone
+-- none of them is, unless it is the only one
 abbrev pub IsAloneOrNoRoot : List CertificateElements → Type 0
 IsAloneOrNoRoot [] = ⊤
 IsAloneOrNoRoot (c ∷ []) = ⊤
 IsAloneOrNoRoot (c ∷ d ∷ others) = NoneIsRoot (c ∷ d ∷ others)
 
--- each has the shape of a certificate
+-- each has the structure of a certificate
 abbrev pub AreCertificates : List CertificateElements → Type 0
 AreCertificates [] = ⊤
 AreCertificates (c ∷ others) = Fits AreCertificateFields c × AreCertificates others
 
--- a certificate wrapped in the current revision
+-- a certificate wrapped with the current revision
 abbrev pub wrapped : CertificateType → List ℕ → WinCert
 wrapped kind octets =
     record { revision = WinCertificateRevision20; certificate_type = kind; certificate = octets }
 
--- The octets spell it, with zeros up to a multiple of eight, which the length counts.
+-- The octets are its encoding, with zeros up to a multiple of eight, which the length counts.
 pub record IsSpelledWhole (octets : List ℕ) (w : WinCert) : Type 0 where
   pub fits : FitsHeader (with_padding w).certificate
   pub spelled : octets ≡ spelling (with_padding w)
 
 -- The signed data is a signature of the program by the first of these certificates, which it
--- carries: it may sign code, and its key accepts the signature.
+-- contains: it may sign code, and its key accepts the signature.
 pub record IsMadeFor (judge : Judge) (p : Program) (first : CertificateElements)
     (others : List CertificateElements) (value : Pkcs7Certificate) : Type 0 where
   pub supported : hash_of p.hash ≢ SHA2_224
@@ -72,9 +72,9 @@ pub record IsMadeFor (judge : Judge) (p : Program) (first : CertificateElements)
   pub key : HasKey first info
   pub accepted : Accepts judge (algorithm_for p) info (message_for p) signature
 
--- The octets are a signature file as it is made by the first of these certificates, which it
--- carries, for the digest of a file: of revision 2.0 and of any type, with signed data of the form
--- in which a program of some name, or of none, is signed.
+-- The octets are a signature file as made by the first of these certificates, which it contains,
+-- for the digest of a file: with revision 2.0 and any type, and signed data in the form that signs
+-- a program with some name, or none.
 pub record IsMadeSignature (judge : Judge) (first : CertificateElements)
     (others : List CertificateElements) (octets : List ℕ) (file_hash : List ℕ) : Type 0 where
   pub kind : CertificateType
@@ -86,8 +86,8 @@ pub record IsMadeSignature (judge : Judge) (first : CertificateElements)
   pub basic : IsBasicName name
   pub made : IsMadeFor judge (program_of hash file_hash name) first others value
 
--- The private key pairs with that of the first certificate, which is no root's unless it stands
--- alone.
+-- The private key pairs with that of the first certificate, which isn't a root unless it is the
+-- only one.
 pub record IsMadeWith (pair : Pair) (key : PrivateKey) (first : CertificateElements)
     (others : List CertificateElements) : Type 0 where
   pub info : SubjectPublicKeyInfo
@@ -97,19 +97,19 @@ pub record IsMadeWith (pair : Pair) (key : PrivateKey) (first : CertificateEleme
 
 -- ---- its check
 
--- The policy asks for basic validation alone, with this digest of the file.
+-- The policy checks basic validation alone, with this digest of the file.
 pub record IsBasicAlone (policy : Policy) (file_hash : List ℕ) : Type 0 where
   pub basic : policy.basic ≡ true
   pub given : policy.file_hash ≡ Some file_hash
   pub signing : policy.signing ≡ false
 
--- the first certificate is the signer's, and no path and no excuse are told
+-- the first certificate is the signer's, without a path or an excuse
 abbrev pub by_the_first : Accepted
 by_the_first = record { signer = Some 0; path = []; excuse = excuses.None }
 
--- The answer is of the signed data in the octets, which carries these certificates and no others,
--- and vouches for the digest of a file by the first of them: it is accepted exactly where it is
--- trusted under the policy, out of memory aside.
+-- The result is that of the signed data in the octets, which contains these certificates and no
+-- others, and vouches for the digest of a file by the first of them: it is accepted exactly where
+-- it is trusted under the policy, out of memory aside.
 pub record IsCheckedBy (judge : Judge) (policy : Policy) (certificates : List CertificateElements)
     (octets file_hash : List ℕ) (answer : Result Accepted CheckError) : Type 0 where
   pub f : SignedDataElements

@@ -1,5 +1,5 @@
--- When a signature is made of signed data that has the certificates, and why it isn't: the steps in
--- their order.
+-- When a signature is made with the certificates of signed data, and why it isn't: the steps in
+-- order.
 use Rattle.std.specs.Prelude.{◌≡◌, ◌≢◌, ℕ, List, [], ◌∷◌, true, Option}
 use Rattle.cms_types.specs.SignedDataElements.{SignedDataElements}
 use Rattle.der_core.specs.DerElement.{DerElement}
@@ -31,14 +31,14 @@ pub record HasFirstForSigning (f : SignedDataElements) (first : CertificateEleme
 
 -- ---- steps
 
--- the name has characters of the basic plane alone
+-- the name has only characters of the basic plane
 abbrev pub name_step : Option (List ℕ) → Step AuthenticodeError
 name_step name = record {
   taken = IsBasicName name;
   refused = λ e. (IsBasicName name → ⊥) × (e ≡ errors.ProgramNameCharSet);
 }
 
--- the digest algorithm is one that is signed with
+-- the digest algorithm is supported
 abbrev pub hash_step : HashAlgorithm → Step AuthenticodeError
 hash_step hash = record {
   taken = hash ≢ SHA2_224;
@@ -74,14 +74,14 @@ HasNoFirstForSigning [] e = e ≡ errors.NoCertificates
 HasNoFirstForSigning (first ∷ others) e =
     (IsForCodeSigning (first ∷ others) first → ⊥) × (e ≡ errors.NoEKUCodeSigning)
 
--- elements are written, the first of them first
+-- elements are written, in order
 abbrev pub writing_step : List DerElement → Step AuthenticodeError
 writing_step elements = record {
   taken = AreDer elements;
   refused = Tells of_der (RefusesInner elements);
 }
 
--- the signed attributes are written, what is said of the program first
+-- the signed attributes are written, what is said about the program first
 abbrev pub attributes_written : Program → List DerElement
 attributes_written p = p.opus ∷ attributes_element (attributes_for p) ∷ []
 
@@ -92,24 +92,24 @@ sealing_step signs algorithm key message = record {
   refused = Tells of_signatures (RefusesSignatureBy (sign_rules signs algorithm key message));
 }
 
--- the steps that make a signature by a certificate
+-- the steps of a signature by a certificate
 abbrev pub program_steps : Signs → Program → PrivateKey → List (Step AuthenticodeError)
 program_steps signs p key =
     writing_step (data_element p.hash p.file_hash ∷ []) ∷ writing_step (attributes_written p) ∷
     sealing_step signs (algorithm_for p) key (message_for p) ∷ []
 
--- The steps, in their order.
+-- The steps, in order.
 abbrev pub making_steps : Signs → SignedDataElements → Option (List ℕ) → Program → PrivateKey
     → List (Step AuthenticodeError)
 making_steps signs f name p key =
     name_step name ∷ hash_step (hash_of p.hash) ∷ certificates_step f ∷ code_signing_step f ∷
     program_steps signs p key
 
--- ---- what is made
+-- ---- the signature
 
 -- The signed data is the signature of a program by the first certificate of others, which may sign
--- code: the program is given by the algorithm and the digest of the file, and its name, if it has
--- one. No step was refused.
+-- code: the program is given by the digest algorithm, the digest of the file, and its name, if any.
+-- No step failed.
 pub record IsMadeOf (scheme : KeyArithmetic) (f : SignedDataElements) (hash : ShaVariant)
     (file_hash : List ℕ) (name : Option (List ℕ)) (key : PrivateKey)
     (made : SignedDataElements) : Type 0 where

@@ -1,4 +1,4 @@
--- What is kept of signed data, by the elements that are written for it (RFC 2315 7, 9.1).
+-- Owned signed data, by the elements that are written for it (RFC 2315 7, 9.1).
 use Rattle.std.specs.Prelude.{◌≡◌, List}
 use Rattle.cms_types.specs.Pkcs7.{pkcs7}
 use Rattle.cms_types.specs.SignedData.{signed_data_elements}

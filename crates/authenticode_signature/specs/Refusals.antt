@@ -9,12 +9,12 @@ use Rattle.authenticode_core.specs.declared.error.AuthenticodeError.TheVariants 
 use Rattle.authenticode_core.specs.declared.pkcs7_error.Pkcs7Error.{Pkcs7Error}
 use Rattle.authenticode_core.specs.declared.pkcs7_error.Pkcs7Error.TheVariants as errors
 
--- out of memory is reported as such, any other cause by the structure and the cause
+-- out of memory is reported as such, any other cause with the structure
 abbrev pub unread : DerError → Pkcs7Error
 unread der.Memory = errors.Memory
 unread source = errors.Cert (certs.Asn1Deserialization structures.Pkcs7 source)
 
--- the same of signed data that can't be written
+-- the same for signed data that can't be written
 abbrev pub unwritten : DerError → Pkcs7Error
 unwritten der.Memory = errors.Memory
 unwritten source = errors.Cert (certs.Asn1Serialization structures.Pkcs7 source)
@@ -24,14 +24,14 @@ abbrev pub of_signed_data : Pkcs7Error → AuthenticodeError
 of_signed_data (errors.Cert e) = authenticode.CertError e
 of_signed_data errors.Memory = authenticode.Memory
 
--- the error tells of octets that aren't read, for a cause that refuses them
+-- the error reports that octets aren't read, and its cause refuses them
 abbrev pub IsUnreadPkcs7 : (DerError → Type 0) → Pkcs7Error → Type 0
 IsUnreadPkcs7 = Tells unread
 
--- the error tells of signed data that isn't written, for a cause that refuses it
+-- the error reports that signed data isn't written, and its cause refuses it
 abbrev pub IsUnwrittenPkcs7 : (DerError → Type 0) → Pkcs7Error → Type 0
 IsUnwrittenPkcs7 = Tells unwritten
 
--- the error of a signature tells so
+-- the error of a signature wraps such an error
 abbrev pub TellsOfSignedData : (Pkcs7Error → Type 0) → AuthenticodeError → Type 0
 TellsOfSignedData = Tells of_signed_data

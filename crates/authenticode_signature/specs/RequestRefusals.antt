@@ -13,15 +13,16 @@ use Rattle.authenticode_core.specs.declared.pkcs7_error.Pkcs7Error.{Pkcs7Error}
 use Rattle.authenticode_core.specs.declared.timestamp_error.TimestampError.{TimestampError}
 use Rattle.authenticode_core.specs.declared.timestamp_error.TimestampError.TheVariants as errors
 
--- the error tells of a token that isn't read
+-- the error reports a token that isn't read
 abbrev pub IsRefusedToken : (Pkcs7Error → Type 0) → TimestampError → Type 0
 IsRefusedToken Refuses e = (source : Pkcs7Error) × (e ≡ token_refusal source) × Refuses source
 
--- the error tells of a request that isn't written
+-- the error reports a request that isn't written
 abbrev pub IsRefusedRequest : (CertError → Type 0) → TimestampError → Type 0
 IsRefusedRequest = Tells stamp_refusal
 
--- the error tells that contents of a request pass 4,294,967,295 octets, or no memory was left
+-- the error reports that contents of a request are longer than 4,294,967,295 octets, or out of
+-- memory
 abbrev pub IsTooLong : DerElement → TimestampError → Type 0
 IsTooLong request =
     OrMemory errors.Memory (λ e.

@@ -12,8 +12,7 @@ use Rattle.authenticode_core.specs.BagSigner.{IsSignerPlace, HasNoSigner}
 use Rattle.authenticode_core.specs.declared.error.AuthenticodeError.{AuthenticodeError}
 use Rattle.authenticode_core.specs.declared.error.AuthenticodeError.TheVariants as errors
 
--- The certificate is one of these, and stands at the least place of those that the first of the
--- signers names.
+-- The certificate is one of these, at the least index of those that the first signer identifies.
 pub record IsSigningCertificate (signers : List SignerInfo) (certificates : List KeptCertificate)
     (c : KeptCertificate) : Type 0 where
   pub place : ℕ
@@ -21,22 +20,22 @@ pub record IsSigningCertificate (signers : List SignerInfo) (certificates : List
   pub is_signer : IsSignerPlace (map signer_info signers) (elements_of certificates) place
       c.elements
 
--- The first of the signers names its certificate by this.
+-- The first signer identifies its certificate by this.
 pub record FirstNames (signers : List SignerInfo) (sid : SignerIdentifier) : Type 0 where
   pub signer : SignerInfo
   pub others : List SignerInfo
   pub first : signers ≡ signer ∷ others
   pub named : signer.sid ≡ sid
 
--- why the first of the signers isn't named by an issuer and a serial number
+-- why the first signer has no issuer and serial number
 abbrev pub IsNamedOtherwise : List SignerInfo → AuthenticodeError → Type 0
 IsNamedOtherwise signers (errors.MultipleSignerInfo count) = (signers ≡ []) × (count ≡ 0)
 IsNamedOtherwise signers errors.IncorrectSignerIdentifier =
     (octets : List ℕ) × FirstNames signers (named.SubjectKeyIdentifier octets)
 IsNamedOtherwise signers _ = ⊥
 
--- Why none of the certificates is the signer's: the first signer isn't named by an issuer and a
--- serial number, or none of them has these.
+-- Why none of the certificates is the signer's: the first signer has no issuer and serial number,
+-- or none of the certificates has these.
 abbrev pub HasNoSigningCertificate : List SignerInfo → List KeptCertificate → AuthenticodeError
     → Type 0
 HasNoSigningCertificate signers certificates

@@ -1,4 +1,4 @@
--- Signed data that is stamped (Windows Authenticode Portable Executable Signature Format; RFC 5652
+-- Timestamping signed data (Windows Authenticode Portable Executable Signature Format; RFC 5652
 -- 11.4).
 use Rattle.std.specs.Prelude.{◌≡◌, ◌≢◌, ◌⊎◌, ⊤, ℕ, List, [], ◌∷◌, Ok, Err}
 use Rattle.sig_core.specs.declared.hash.HashAlgorithm.{HashAlgorithm}
@@ -18,29 +18,29 @@ pub record HasFirstSignature (signers : List SignerInfo) (octets : List ℕ) : T
   pub first : signers ≡ signer ∷ others
   pub signature : octets ≡ signer.signature
 
--- A token that may be given for the signature octets of the first signer.
+-- A token that may be issued for the signature octets of the first signer.
 pub record IsTokenFor (gives : Giving) (hash : HashAlgorithm) (signed : SignedData)
     (token : Pkcs7) : Type 0 where
   pub octets : List ℕ
   pub first : HasFirstSignature signed.signers_infos octets
   pub given : gives octets hash token
 
--- Signed data that is left by a modification by such a token.
+-- Signed data after a modification by such a token.
 pub record IsLeftByStamp (gives : Giving) (modifies : Modification) (hash : HashAlgorithm)
     (before after : SignedData) : Type 0 where
   pub token : Pkcs7
   pub given : IsTokenFor gives hash before token
   pub left : modifies token before (Ok after)
 
--- A modification by such a token comes to this error.
+-- A modification by such a token has this error.
 pub record IsRefusedStamp (gives : Giving) (modifies : Modification) (hash : HashAlgorithm)
     (before : SignedData) (e : TimestampError) : Type 0 where
   pub token : Pkcs7
   pub given : IsTokenFor gives hash before token
   pub refused : modifies token before (Err e)
 
--- Why signed data isn't stamped: there is no signer, the count of faults rose, or the modification
--- comes to the error.
+-- Why signed data isn't timestamped: there is no signer, the fault count rose, or the modification
+-- has the error.
 abbrev pub RefusesStamp : (gives : Giving) (modifies : Modification) (risen : Type 0)
     (hash : HashAlgorithm) (before : SignedData)
     → AuthenticodeError → Type 0

@@ -1,5 +1,5 @@
--- What is kept of a request for a timestamp (Windows Authenticode Portable Executable Signature
--- Format; RFC 5652 4, 5.2).
+-- Owned timestamp requests (Windows Authenticode Portable Executable Signature Format; RFC 5652 4,
+-- 5.2).
 use Rattle.std.specs.Prelude.{◌≡◌, ℕ, List, [], ◌∷◌, Option, Some, None}
 use Rattle.asn1_types.specs.Elements.{object_identifier_of}
 use Rattle.der_core.specs.DerElement.{DerElement}
@@ -31,7 +31,7 @@ abbrev pub data_of : ContentValue → Option (List ℕ)
 data_of (contents.Data octets) = Some octets
 data_of _ = None
 
--- and none where the content is left out
+-- and none without a content
 abbrev pub data_in : Option ContentValue → Option (List ℕ)
 data_in None = None
 data_in (Some content) = data_of content

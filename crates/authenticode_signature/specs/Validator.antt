@@ -1,4 +1,4 @@
--- What is asked of a signature that is kept, as it is set, and what is answered.
+-- What is checked of an owned signature, as configured, and the result.
 use Rattle.std.specs.Prelude.{◌≡◌, Bool, ℕ, List, ◌∷◌, Some, None, Result, MatchResult, true, false}
 use Rattle.cms_types.specs.SignedDataElements.{SignedDataElements}
 use Rattle.der_core.specs.DerElement.{DerElement}
@@ -19,24 +19,23 @@ use Rattle.authenticode_core.specs.declared.policy.Policy.{Policy}
 abbrev pub at_dates : DateCheck → Policy → Policy
 at_dates date policy = record policy { date = date }
 
--- the policy with this answer to whether a certificate has to be valid already
+-- the policy, with or without that a certificate has begun to be valid
 abbrev pub policy_with_not_before : Bool → Policy → Policy
 policy_with_not_before asked policy = record policy { not_before = asked }
 
--- the policy with this answer to whether a certificate has to be still valid
+-- the policy, with or without that a certificate hasn't expired
 abbrev pub policy_with_not_after : Bool → Policy → Policy
 policy_with_not_after asked policy = record policy { not_after = asked }
 
--- the policy with this answer to whether the chain is asked for
+-- the policy, with or without the chain
 abbrev pub policy_with_chain : Bool → Policy → Policy
 policy_with_chain asked policy = record policy { chain = asked }
 
--- the policy with this answer to whether the signer's certificate has to be valid, or its expiry
--- excused
+-- the policy, with or without that the signer's certificate is valid, or its expiry excused
 abbrev pub with_signing : Bool → Policy → Policy
 with_signing asked policy = record policy { signing = asked }
 
--- basic validation is asked for, of this digest
+-- basic validation is checked, with this digest
 abbrev pub with_basic : List ℕ → Policy → Policy
 with_basic file_hash policy = record policy { basic = true; file_hash = Some file_hash }
 
@@ -44,15 +43,15 @@ with_basic file_hash policy = record policy { basic = true; file_hash = Some fil
 abbrev pub without_basic : Policy → Policy
 without_basic policy = record policy { basic = false; file_hash = None }
 
--- ---- answers
+-- ---- results
 
--- the value has no encoding, for the cause that the error tells
+-- the value has no encoding, for the cause in the error
 abbrev pub HasNoEncoding : DerElement → Rule AuthenticodeError
 HasNoEncoding element e =
     (source : DerError) × CantBeWritten element source × (e ≡ errors.Asn1DerError source)
 
--- The rules of a value with this element and these fields, in their order: that it has an encoding,
--- then those of the policy.
+-- The rules for a value with this element and these fields, in order: that it has an encoding, then
+-- those of the policy.
 abbrev pub kept_rules : Judge → Policy → DerElement → SignedDataElements
     → List (Rule AuthenticodeError)
 kept_rules judge policy element f = HasNoEncoding element ∷ policy_rules judge policy f
@@ -61,7 +60,7 @@ kept_rules judge policy element f = HasNoEncoding element ∷ policy_rules judge
 abbrev pub IsKeptTrusted : Judge → Policy → DerElement → SignedDataElements → Accepted → Type 0
 IsKeptTrusted judge policy element f accepted = IsDer element × IsTrusted judge policy f accepted
 
--- The answer: that it is trusted; the first rule that is broken; want of memory.
+-- The result: that it is trusted; the first broken rule; out of memory.
 abbrev pub IsVerdict : Judge → Policy → DerElement → SignedDataElements
     → Result Accepted AuthenticodeError → Type 0
 IsVerdict judge policy element f r =

@@ -1,4 +1,4 @@
-//! Certificates alone, as signed data that signs nothing.
+//! Certificates as signed data without signers.
 
 ghost use Rattle.std.specs.Prelude.{◌≡◌, None, IfOk, map};
 ghost use Rattle.asn1_types.specs.Elements.{object_identifier_of};
@@ -18,7 +18,7 @@ use der_core::ListOf;
 use std::alloc::{AllocError, Global};
 use x509_core::Cert;
 
-/// Signed data of the certificates, as they are.
+/// Signed data without signers, with these certificates as they are.
 pub(crate) fn without_signers(
     alloc: Global,
     certificates: &[Cert],
@@ -40,7 +40,7 @@ pub(crate) fn without_signers(
     })
 }
 
-/// A content of the type of data that is left out (RFC 2315 8).
+/// The type of data without a content (RFC 2315 8).
 fn no_content(alloc: Global) -> Result<EncapsulatedContentInfo, AllocError>
     ensures { IfOk result
         (λ info. content_info info ≡ content_info_of (object_identifier_of DATA.now) None) }

@@ -1,4 +1,4 @@
-//! The certificates of signed data that is kept.
+//! The certificates of owned signed data.
 
 ghost use Rattle.std.specs.Prelude.{map, IfOk, MatchOption};
 ghost use Rattle.cms_types.specs.CertificateChoices.{certificate_choice};
@@ -31,8 +31,8 @@ pub(crate) fn certificates_of(
     Ok(certificates)
 }
 
-/// The certificate that an element is, None where it is none. Whether it is one is known before
-/// memory is asked for.
+/// The certificate in an element, None if it is none. The element is tested before anything is
+/// allocated.
 fn certificate_at(alloc: Global, element: &Raw) -> Result<Option<Cert>, AllocError>
     ensures { IfOk result (λ found. MatchOption found
         ((c : CertificateElements) → IsMember element.now.element c → ⊥)

@@ -1,4 +1,4 @@
-//! Signatures of any content, put together by a caller.
+//! Signatures over any content, from a caller's parts.
 
 ghost use Rattle.std.specs.Prelude.{◌≡◌, Some, None};
 ghost use Rattle.names_core.specs.Names.{sets_of};
@@ -15,8 +15,7 @@ use sig_core::HashAlgorithm;
 use x509_core::Cert;
 use x509_types::AttributeList;
 
-/// What is asked of a signature that is to be built: its content, its attributes, and who signs it
-/// (RFC 2315 9.1, 9.2).
+/// Builds a signature from its content, its attributes and its signer (RFC 2315 9.1, 9.2).
 pub struct AuthenticodeSignatureBuilder<'a> {
     certs: Option<Vec<Cert>>,
     digest_algorithm: Option<HashAlgorithm>,
@@ -27,8 +26,8 @@ pub struct AuthenticodeSignatureBuilder<'a> {
     named: Option<IssuerAndSerialNumber>,
 }
 
-/// Written out, so that dropping one is a call: else each function that drops one is proved through
-/// all its parts.
+/// By hand, so that dropping a builder is a call: else each function that drops one is proved
+/// through all its parts.
 impl Drop for AuthenticodeSignatureBuilder<'_> {
     fn drop(self) {
         let AuthenticodeSignatureBuilder {
@@ -44,7 +43,7 @@ impl Drop for AuthenticodeSignatureBuilder<'_> {
 }
 
 impl<'a> AuthenticodeSignatureBuilder<'a> {
-    /// A builder of which nothing is asked yet.
+    /// An empty builder.
     pub fn new() -> Self
         ensures { result ≡ no_parts }
     {
@@ -59,7 +58,7 @@ impl<'a> AuthenticodeSignatureBuilder<'a> {
         }
     }
 
-    /// The certificates, the signer's among them. The signature carries those that are no root's.
+    /// The certificates, the signer's among them. The signature contains those that aren't roots.
     pub fn certs(mut self, certs: Vec<Cert>) -> Self
         ensures { result ≡ record self.entry { certs = Some certs } }
     {
@@ -67,7 +66,7 @@ impl<'a> AuthenticodeSignatureBuilder<'a> {
         self
     }
 
-    /// The algorithm of digests.
+    /// The digest algorithm.
     pub fn digest_algorithm(mut self, digest_algorithm: HashAlgorithm) -> Self
         ensures { result ≡ record self.entry { digest_algorithm = Some digest_algorithm } }
     {
@@ -91,7 +90,7 @@ impl<'a> AuthenticodeSignatureBuilder<'a> {
         self
     }
 
-    /// The attributes that are signed in the place of the content, in this order.
+    /// The attributes that are signed instead of the content, in this order.
     pub fn authenticated_attributes(mut self, attributes: AttributeList) -> Self
         ensures { result ≡ record self.entry { authenticated_attributes = Some attributes } }
     {
@@ -99,7 +98,7 @@ impl<'a> AuthenticodeSignatureBuilder<'a> {
         self
     }
 
-    /// The attributes that aren't signed, in this order.
+    /// The unsigned attributes, in this order.
     pub fn unsigned_attributes(mut self, attributes: UnsignedAttributeList) -> Self
         ensures { result ≡ record self.entry { unsigned_attributes = Some attributes } }
     {
@@ -124,7 +123,7 @@ impl<'a> AuthenticodeSignatureBuilder<'a> {
     }
 }
 
-/// A builder of which nothing is asked yet.
+/// An empty builder.
 impl Default for AuthenticodeSignatureBuilder<'_> {
     ghost use Rattle.authenticode_signature.specs.Building.{no_parts};
 

@@ -1,4 +1,4 @@
-//! Why a signature isn't built.
+//! Errors of building a signature.
 
 ghost use Rattle.std.specs.Prelude.{◌≡◌, Some};
 ghost use Rattle.authenticode_signature.specs.BuilderError.{builder_error_text, builder_refusal, unwritten_in_builder};
@@ -10,8 +10,8 @@ use std::alloc::{AllocError, AllocFailed};
 use std::fmt::{self, Display};
 use thiserror::Error;
 
-/// Why a signature isn't built, in the order in which it is asked, but for those that
-/// `AuthenticodeError` has.
+/// Why a signature isn't built, in the order of the checks, except for those in
+/// `AuthenticodeError`.
 #[derive(Debug, Drop, Error)]
 pub enum AuthenticodeSignatureBuilderError {
     /// No digest algorithm is given.
@@ -24,12 +24,11 @@ pub enum AuthenticodeSignatureBuilderError {
     MissingIssuerAndSerialNumber,
     /// No certificates are given.
     MissingCertificatesRequired,
-    /// The digest algorithm, the signer's certificate or the key isn't one that signs. Never wraps
-    /// `Memory`.
+    /// The digest algorithm, the signer's certificate or the key can't sign. Never wraps `Memory`.
     AuthenticodeError(AuthenticodeError),
     /// The content or the attributes can't be written. Never wraps `Memory`.
     Asn1DerError(DerError),
-    /// No memory was left.
+    /// Out of memory.
     Memory,
 }
 

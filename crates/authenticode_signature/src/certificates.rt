@@ -1,4 +1,4 @@
-//! The certificates that vouch for a signer's, among those that a caller keeps.
+//! The issuers of a signer's certificate, among the certificates of a caller.
 
 ghost use Rattle.std.specs.Prelude.{◌≡◌, ◌∷◌, [], MatchOption};
 ghost use Rattle.std.specs.Iterator.{YieldsFirstRef, item_count};
@@ -10,7 +10,7 @@ use x509_core::Cert;
 
 /// The certificates of the issuer walk of a signer's certificate: the first whose subject is that
 /// of the signer's, then each next later one whose subject is the issuer of the one before (RFC
-/// 5280 6.1). The certificates are gone through once, and no memory is taken.
+/// 5280 6.1). The list is traversed once, and nothing is allocated.
 #[derive(Drop)]
 pub struct SignatureCertificatesIterator<'i> {
     subject: &'i [u8],
@@ -44,7 +44,7 @@ impl<'i> Iterator for SignatureCertificatesIterator<'i> {
     }
 }
 
-/// The first of the certificates with the subject, by its octets, and those behind it.
+/// The first certificate with the subject, given by its octets, and those after it.
 fn first_of<'i>(certificates: &'i [Cert], subject: &[u8]) -> Option<(&'i Cert, &'i [Cert])>
     ensures { MatchOption result (walked subject.now certificates.now ≡ [])
         (λ found. walked subject.now certificates.now

@@ -1,6 +1,5 @@
-//! Signed data and Authenticode signatures that a caller keeps: read from octets and written as
-//! octets, asked for their certificates, the signer's among them, and for what is signed, and
-//! stamped.
+//! Owned signed data and Authenticode signatures: reading and writing them, access to their
+//! certificates, the signer's among them, and to what is signed, and timestamping them.
 #![tactic(auto)]
 
 mod alone;

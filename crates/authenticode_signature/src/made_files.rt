@@ -1,4 +1,4 @@
-//! Signature files as they are made: written, read again, and checked.
+//! Signature files as this crate makes them: writing, reading and checking them.
 
 ghost use Rattle.std.specs.Prelude.{◌≡◌, ◌∷◌, List, Ok, Err, ℕ, MatchResult};
 ghost use Rattle.der_core.specs.Encoding.{encoding, IsDer};
@@ -21,9 +21,8 @@ use sig_core::Scheme;
 use std::alloc::Global;
 use wincert_core::{CertificateType, WinCertificate};
 
-/// The octets of the signature file that has the signature: it is written, and wrapped in the
-/// current revision of WIN_CERTIFICATE. It is refused as `to_der`, `from_certificate` and `encode`
-/// refuse.
+/// The signature file with the signature, wrapped in a WIN_CERTIFICATE with the current revision.
+/// The errors are those of `to_der`, `from_certificate` and `encode`.
 pub fn encode_signature(
     alloc: Global,
     signature: &AuthenticodeSignature,
@@ -36,13 +35,13 @@ pub fn encode_signature(
     spell(alloc, wrapped)
 }
 
-/// The signature in a signature file. It is refused as `decode` and `from_wincert` refuse.
+/// The signature in a signature file. The errors are those of `decode` and `from_wincert`.
 pub fn decode_signature(alloc: Global, octets: &[u8]) -> Result<AuthenticodeSignature, CheckError>
     ensures answer { GivesSignature octets.now result }
     // A refusal of the header comes even when memory runs out.
     ensures refused { (source : WinCertificateError) → contents_in octets.now ≡ Err source
         → result ≡ Err (told_of_header source) }
-    // What was made is read as it was made.
+    // A file is read as the signature that it was made of.
     ensures made { (p : Pkcs7) (certificate_type : CertificateType) → IsDer (written p)
         → IsSpelledWhole octets.now (wrapped certificate_type (encoding (written p)))
         → MatchResult result (λ s. s.0 ≡ p) (λ e. e ≡ Memory) }
@@ -50,8 +49,8 @@ pub fn decode_signature(alloc: Global, octets: &[u8]) -> Result<AuthenticodeSign
     read_file(alloc, octets)
 }
 
-/// The check of a signature file. One that is made is checked over the certificates that it
-/// carries, and accepted under basic validation alone with its own digest, unless memory runs out.
+/// Checks a signature file. One that was made here is checked with the certificates that it
+/// contains, and accepted under basic validation alone with its own digest, unless memory runs out.
 pub fn check_made<S: Scheme>(
     alloc: Global,
     octets: &[u8],
@@ -59,15 +58,15 @@ pub fn check_made<S: Scheme>(
     scheme: &S,
 ) -> Result<Accepted, CheckError>
     ensures answer { IsAnswer (S.judge scheme.now) policy.now octets.now result }
-    // A refusal of the header, of what the certificate is or of the form comes even when memory
-    // runs out.
+    // A refusal of the header, of the certificate's kind or of the form comes even when memory runs
+    // out.
     ensures refused { (e : CheckError) → RefusesForm policy.now octets.now e → result ≡ Err e }
-    // What is made is checked over its certificates, whatever the policy asks for.
+    // A file that was made is checked with its certificates, whatever the policy checks.
     ensures over { (first : CertificateElements) (others : List CertificateElements)
         (file_hash : List ℕ)
         → IsMadeSignature (S.judge scheme.now) first others octets.now file_hash
         → IsCheckedBy (S.judge scheme.now) policy.now (first ∷ others) octets.now file_hash result }
-    // What is made is accepted.
+    // A file that was made is accepted.
     ensures made { (first : CertificateElements) (others : List CertificateElements)
         (file_hash : List ℕ) → IsBasicAlone policy.now file_hash
         → IsMadeSignature (S.judge scheme.now) first others octets.now file_hash
@@ -87,7 +86,7 @@ fn read_file(alloc: Global, octets: &[u8]) -> Result<AuthenticodeSignature, Chec
     Ok(signature)
 }
 
-/// Octets in a WIN_CERTIFICATE of the current revision.
+/// Wraps octets in a WIN_CERTIFICATE with the current revision.
 fn wrap(
     alloc: Global,
     der: &[u8],
@@ -102,7 +101,7 @@ fn wrap(
     }
 }
 
-/// The octets of a WIN_CERTIFICATE.
+/// The encoding of a WIN_CERTIFICATE.
 fn spell(alloc: Global, wrapped: WinCertificate) -> Result<Vec<u8>, CheckError>
     ensures { MatchResult result (λ octets. encoded wrapped ≡ Ok octets.items)
         (RefusesHeader (encoded wrapped)) }
@@ -113,7 +112,7 @@ fn spell(alloc: Global, wrapped: WinCertificate) -> Result<Vec<u8>, CheckError>
     }
 }
 
-/// The WIN_CERTIFICATE that octets begin with.
+/// The WIN_CERTIFICATE at the start of octets.
 fn unwrap(alloc: Global, octets: &[u8]) -> Result<WinCertificate, CheckError>
     ensures answer { MatchResult result (λ w. contents_in octets.now ≡ Ok w.certificate)
         (RefusesHeader (contents_in octets.now)) }

@@ -1,4 +1,4 @@
-//! Signatures of programs, made step by step.
+//! Making signatures of programs, step by step.
 
 ghost use Rattle.std.specs.Prelude.{◌≡◌, ◌≢◌, ◌∷◌, [], List, ℕ, Err, None, IfOk, IfErr, IsOk, MatchResult};
 ghost use Rattle.std.specs.Option.{option_copied};
@@ -43,8 +43,8 @@ use signer::first_signer;
 use std::alloc::Global;
 use x509_core::Cert;
 
-/// A program that is signed: the algorithm of digests, as a variant that has an identifier too, the
-/// digest of the file, and what is said of the program.
+/// A program to be signed: the digest algorithm, also as a variant that has an OID, the digest of
+/// the file, and what is said about the program.
 #[derive(Clone, Copy)]
 struct Program<'a> {
     hash: ShaVariant,
@@ -54,9 +54,9 @@ struct Program<'a> {
 }
 
 impl AuthenticodeSignature {
-    /// The signature of a program by the first certificate of signed data, and by its private key.
-    /// It carries the certificates as they are, but for those of roots among several. It is refused
-    /// by the first of these: `ProgramNameCharSet` where a character of the name is past U+FFFF;
+    /// The signature of a program by the first certificate of signed data and its private key. It
+    /// contains the certificates as they are, without the roots if there are several. The first
+    /// error is returned: `ProgramNameCharSet` where a character of the name is past U+FFFF;
     /// `UnsupportedHashAlgorithmError` for SHA-224; `NoCertificates` where there are none;
     /// `NoEKUCodeSigning` where one of the issuer walk of the first has an extended key usage, and
     /// the first doesn't name code signing; `Asn1DerError` where the content or the attributes
@@ -79,8 +79,8 @@ impl AuthenticodeSignature {
             (option_copied program_name.entry)
             (program_of hash_algo file_hash.now (option_copied program_name.entry))
             private_key.now)) }
-        // Its file is a signature file as it is made, by the first certificate of all and others
-        // that it carries.
+        // Its file is a made signature file, by the first certificate of all and others, which it
+        // contains.
         ensures file { IfOk result (λ s. (first : CertificateElements)
             (others : List CertificateElements) → IsBagOf (fields_of pkcs7.now) (first ∷ others)
             → IsMadeWith (S.pair scheme.now) private_key.now first others
@@ -88,8 +88,7 @@ impl AuthenticodeSignature {
             → IsSpelledWhole octets (wrapped certificate_type (encoding (written s.0)))
             → (carried : List CertificateElements) × AreCarried (first ∷ others) (first ∷ carried)
             × IsMadeSignature (S.judge scheme.now) first carried octets file_hash.now) }
-        // A name past U+FFFF, and SHA-224 where there is no name, are reported even when memory
-        // runs out.
+        // A name past U+FFFF, and SHA-224 without a name, are reported, even when memory runs out.
         ensures refused { (IsBasicName (option_copied program_name.entry) → ⊥)
             → result ≡ Err errors.ProgramNameCharSet }
         ensures unsupported { option_copied program_name.entry ≡ None → hash_of hash_algo ≡ SHA2_224
@@ -111,7 +110,7 @@ impl AuthenticodeSignature {
     }
 }
 
-/// What is said of the program.
+/// The SpcSpOpusInfo of the program.
 fn opus_for(alloc: Global, name: Option<&str>) -> Result<SpcSpOpusInfo, AuthenticodeError>
     ensures answer { MatchResult result
         (λ info. (opus_info info ≡ opus_element (option_copied name.entry))
@@ -141,7 +140,7 @@ fn algorithm_of(hash: ShaVariant) -> Result<HashAlgorithm, AuthenticodeError>
     }
 }
 
-/// What is signed in the place of the program, and its digest.
+/// What is signed instead of the program, and its digest.
 fn content_for(
     alloc: Global,
     program: &Program<'_>,
@@ -162,7 +161,7 @@ fn content_for(
     }
 }
 
-/// The attributes that are signed.
+/// The signed attributes.
 fn signed_attributes_for(
     alloc: Global,
     opus: &SpcSpOpusInfo,

@@ -1,4 +1,4 @@
-//! Signed data as it stands in a WIN_CERTIFICATE, with zeros after it.
+//! Signed data in a WIN_CERTIFICATE, with zeros after it.
 
 ghost use Rattle.std.specs.Prelude.{◌≡◌, Err, MatchResult};
 ghost use Rattle.der_core.specs.Encoding.{IsPaddedEncoding};
@@ -12,8 +12,8 @@ use cms_types::{Pkcs7Certificate, SignedView};
 use der_core::{DerError, Structure};
 use std::alloc::Global;
 
-/// The signed data that octets are, with at most seven zeros after it, tested before memory is
-/// asked for.
+/// Reads signed data with at most seven zeros after it. The octets are tested before anything is
+/// allocated.
 pub(crate) fn read_padded(alloc: Global, octets: &[u8]) -> Result<Pkcs7Certificate, DerError>
     ensures answer { MatchResult result
         (λ value. IsPaddedEncoding octets.now (pkcs7 value))

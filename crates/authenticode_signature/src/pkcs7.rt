@@ -1,4 +1,4 @@
-//! Signed data that is kept.
+//! Owned signed data.
 
 ghost use Rattle.std.specs.Prelude.{◌≡◌, ◌≢◌, ◌∷◌, [], ℕ, IfOk, Err, MatchResult, map};
 ghost use Rattle.der_core.specs.DerElement.{DerElement};
@@ -29,14 +29,14 @@ use key_types::AlgorithmIdentifier;
 use std::alloc::{AllocError, Global};
 use x509_core::Cert;
 
-/// Signed data with its type (RFC 2315 7, 9.1; RFC 5652 3, 5.1), as a caller keeps it.
+/// Owned signed data with its type (RFC 2315 7, 9.1; RFC 5652 3, 5.1).
 #[derive(Debug)]
 pub struct Pkcs7 {
     pub(crate) signed: Pkcs7Certificate,
 }
 
-/// Written out, so that dropping one is a call: else each function that drops one is proved through
-/// all its parts.
+/// By hand, so that dropping signed data is a call: else each function that drops it is proved
+/// through all its parts.
 impl Drop for Pkcs7 {
     fn drop(self) {
         let Pkcs7 { signed: _signed } = self;
@@ -44,8 +44,9 @@ impl Drop for Pkcs7 {
 }
 
 impl Pkcs7 {
-    /// The signed data that octets are, all of them, and nothing else. Octets that are no element,
-    /// or one of another structure, are refused as `Asn1Deserialization` without memory.
+    /// Reads signed data with its type from exactly its octets (RFC 5652 3). Octets that are no
+    /// element, or another structure, are refused as `Asn1Deserialization`, even when memory runs
+    /// out.
     pub fn from_der(alloc: Global, der: &[u8]) -> Result<Pkcs7, Pkcs7Error>
         ensures answer { MatchResult result
             (λ p. IsWithin IsPkcs7Of der.now p.signed)
@@ -53,7 +54,7 @@ impl Pkcs7 {
         // Octets with a fault are refused with it, even when memory runs out.
         ensures faulty { (at : ℕ) (fault : DerFault) → IsExactFault der.now at fault
             → result ≡ Err (unread (der_errors.Malformed (record { at = at; fault = fault }))) }
-        // An element that is that of no signed data is refused as such, even when memory runs out.
+        // An element that is no signed data is refused as such, even when memory runs out.
         ensures shapeless { (element : DerElement) → IsDer element → der.now ≡ encoding element
             → ((value : Pkcs7Certificate) → element ≢ pkcs7 value)
             → result ≡ Err (unread der_errors.Shape) }
@@ -64,8 +65,8 @@ impl Pkcs7 {
         }
     }
 
-    /// Signed data that signs nothing, and carries the certificates as they are, in order. It is
-    /// refused only when out of memory.
+    /// Signed data without signers, with these certificates as they are, in order. It is refused
+    /// only when out of memory.
     pub fn of_certificates(alloc: Global, certificates: &[Cert]) -> Result<Pkcs7, Pkcs7Error>
         ensures { MatchResult result
             (λ p. fields_of p ≡ certificates_alone
@@ -77,8 +78,7 @@ impl Pkcs7 {
         })
     }
 
-    /// The octets that are written for it. It is refused as `Asn1Serialization` exactly where
-    /// `der_core::write` refuses its element.
+    /// The encoding. `Asn1Serialization` exactly where `der_core::write` refuses its element.
     pub fn to_der(&self, alloc: Global) -> Result<Vec<u8>, Pkcs7Error>
         ensures { MatchResult result
             (λ octets. (octets.items ≡ encoding (written self.now)) × IsDer (written self.now))
@@ -111,8 +111,8 @@ impl Pkcs7 {
         &self.signed.signed_data.content_info
     }
 
-    /// The certificates that the signed data carries, in order: its members that are certificates.
-    /// Want of memory is answered as such, and drops none of them.
+    /// The certificates in the signed data, in order: its members that are certificates. Out of
+    /// memory is reported as such, and no certificate is dropped.
     pub fn decode_certificates(&self, alloc: Global) -> Result<Vec<Cert>, AllocError>
         ensures { IfOk result (λ certificates. IsBag (members_of (fields_of self.now).certificates)
             (elements_of certificates.items)) }
@@ -123,7 +123,7 @@ impl Pkcs7 {
         }
     }
 
-    /// A copy of the value.
+    /// A copy of the signed data.
     pub fn try_clone(&self, alloc: Global) -> Result<Pkcs7, AllocError>
         ensures { IfOk result (λ copy. copy ≡ self.now) }
     {
@@ -141,7 +141,7 @@ impl Pkcs7 {
     }
 }
 
-/// The signed data that octets are, tested before memory is asked for.
+/// Reads signed data. The octets are tested before anything is allocated.
 fn read(alloc: Global, der: &[u8]) -> Result<Pkcs7Certificate, DerError>
     ensures answer { MatchResult result (IsWithin IsPkcs7Of der.now)
         (RefusesOctets IsPkcs7Of der.now) }

@@ -7,7 +7,7 @@ use authenticode_core::{AuthenticodeError, Pkcs7Error};
 use der_core::DerError;
 use x509_core::{CertError, Element};
 
-/// Why octets aren't read as signed data.
+/// The error for octets that aren't read as signed data.
 pub(crate) fn unread(source: DerError) -> Pkcs7Error
     ensures { result ≡ unread source }
 {
@@ -20,7 +20,7 @@ pub(crate) fn unread(source: DerError) -> Pkcs7Error
     }
 }
 
-/// Why a value isn't written as signed data.
+/// The error for a value that isn't written as signed data.
 pub(crate) fn unwritten(source: DerError) -> Pkcs7Error
     ensures { result ≡ unwritten source }
 {
@@ -33,7 +33,7 @@ pub(crate) fn unwritten(source: DerError) -> Pkcs7Error
     }
 }
 
-/// The error of a signature for one of signed data.
+/// An error of signed data as one of a signature.
 pub(crate) fn of_signature(error: Pkcs7Error) -> AuthenticodeError
     ensures { result ≡ of_signed_data error }
 {

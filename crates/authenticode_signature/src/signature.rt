@@ -1,4 +1,4 @@
-//! Authenticode signatures that are kept.
+//! Owned Authenticode signatures.
 
 ghost use Rattle.std.specs.Prelude.{◌≡◌, ◌≢◌, ◌∷◌, [], ℕ, IfOk, Err, MatchResult};
 ghost use Rattle.std.specs.Option.{option_copied, option_map};
@@ -31,15 +31,16 @@ use wincert_core::WinCertificate;
 use x509_core::Cert;
 use x509_types::Attribute;
 
-/// The signature of a signed program, as a caller keeps it (Windows Authenticode Portable
-/// Executable Signature Format): signed data whose content is indirect data. Whether it has that
-/// form, and whether it is good, isn't asked of one.
+/// The owned signature of a signed program (Windows Authenticode Portable Executable Signature
+/// Format): signed data whose content is indirect data. Neither its form nor its validity is
+/// checked when it is read.
 #[derive(Debug, Drop)]
 pub struct AuthenticodeSignature(pub Pkcs7);
 
 impl AuthenticodeSignature {
-    /// The signature that octets are, all of them, and nothing else. Octets that are no element, or
-    /// one of another structure, are refused as `Asn1Deserialization` without memory.
+    /// Reads a signature from exactly its octets (Windows Authenticode Portable Executable
+    /// Signature Format). Octets that are no element, or another structure, are refused as
+    /// `Asn1Deserialization`, even when memory runs out.
     pub fn from_der(alloc: Global, der: &[u8]) -> Result<AuthenticodeSignature, AuthenticodeError>
         ensures answer { MatchResult result
             (λ s. IsWithin IsPkcs7Of der.now s.0.signed)
@@ -48,7 +49,7 @@ impl AuthenticodeSignature {
         ensures faulty { (at : ℕ) (fault : DerFault) → IsExactFault der.now at fault
             → result ≡ Err
             (of_signed_data (unread (der_errors.Malformed (record { at = at; fault = fault })))) }
-        // An element that is that of no signed data is refused as such, even when memory runs out.
+        // An element that is no signed data is refused as such, even when memory runs out.
         ensures shapeless { (element : DerElement) → IsDer element → der.now ≡ encoding element
             → ((value : Pkcs7Certificate) → element ≢ pkcs7 value)
             → result ≡ Err (of_signed_data (unread der_errors.Shape)) }
@@ -59,8 +60,7 @@ impl AuthenticodeSignature {
         }
     }
 
-    /// The octets that are written for it. It is refused as `Asn1Serialization` exactly where
-    /// `der_core::write` refuses its element.
+    /// The encoding. `Asn1Serialization` exactly where `der_core::write` refuses its element.
     pub fn to_der(&self, alloc: Global) -> Result<Vec<u8>, AuthenticodeError>
         ensures { MatchResult result
             (λ octets. (octets.items ≡ encoding (written self.now.0)) × IsDer (written self.now.0))
@@ -72,8 +72,8 @@ impl AuthenticodeSignature {
         }
     }
 
-    /// The signature in a WIN_CERTIFICATE: its certificate is signed data and at most seven zeros
-    /// after it. Other octets are refused as `Asn1Deserialization` without memory.
+    /// The signature in a WIN_CERTIFICATE: its certificate is signed data with at most seven zeros
+    /// after it. Other octets are refused as `Asn1Deserialization`, even when memory runs out.
     pub fn from_wincert(
         alloc: Global,
         cert: &WinCertificate,
@@ -81,7 +81,7 @@ impl AuthenticodeSignature {
         ensures answer { MatchResult result
             (λ s. IsPaddedEncoding cert.now.certificate (written s.0))
             (TellsOfSignedData (IsUnreadPkcs7 (RefusesPadded cert.now.certificate))) }
-        // What is no signed data is refused as such, even when memory runs out.
+        // Octets that are no signed data are refused as such, even when memory runs out.
         ensures refused { (source : DerError) → IsNoSignedData cert.now.certificate source
             → result ≡ Err (of_signed_data (unread source)) }
     {
@@ -92,7 +92,7 @@ impl AuthenticodeSignature {
     }
 
     /// The signer's certificate: the first of the certificates with the issuer and the serial
-    /// number that the first of the signers names.
+    /// number of the first signer.
     pub fn signing_certificate<'a>(
         &self,
         alloc: Global,
@@ -101,15 +101,15 @@ impl AuthenticodeSignature {
         ensures found { MatchResult result
             (λ c. IsSigningCertificate (signer_infos_of self.now.0) certificates.now c.now)
             (HasNoSigningCertificate (signer_infos_of self.now.0) certificates.now) }
-        // Where there is no signer, or the first is named by the identifier of a key, that is told
-        // even when memory runs out.
+        // A missing signer, and one that is identified by a key identifier, is reported, even when
+        // memory runs out.
         ensures refused { (e : AuthenticodeError) → IsNamedOtherwise (signer_infos_of self.now.0) e
             → result ≡ Err e }
     {
         signing_certificate_of(alloc, self.0.signer_infos(), certificates)
     }
 
-    /// The digest of the file, where the content is indirect data.
+    /// The digest of the file, if the content is indirect data.
     pub fn file_hash(&self, alloc: Global) -> Result<Option<Vec<u8>>, AllocError>
         ensures { IfOk result (λ hash. option_map (λ octets. octets.items) hash
             ≡ file_hash_in self.now.0.signed.signed_data.content_info.content) }
@@ -151,7 +151,7 @@ impl AuthenticodeSignature {
         }
     }
 
-    /// A copy of the value.
+    /// A copy of the signature.
     pub fn try_clone(&self, alloc: Global) -> Result<AuthenticodeSignature, AllocError>
         ensures { IfOk result (λ copy. copy ≡ self.now) }
     {

@@ -1,4 +1,4 @@
-//! The certificate of the signer, among certificates that a caller keeps.
+//! The signer's certificate, among the certificates of a caller.
 
 ghost use Rattle.std.specs.Prelude.{◌≡◌, ◌↔◌, Some, Err, IfOk, IsTrue, MatchOption, MatchResult, slice_get, ℕ};
 ghost use Rattle.authenticode_parts.specs.Carried.{elements_of};
@@ -18,7 +18,7 @@ use names_core::DirectoryName;
 use std::alloc::{AllocError, Global};
 use x509_core::Cert;
 
-/// The first of the certificates that the first of the signers names (RFC 5652 5.3).
+/// The first of the certificates that the first signer identifies (RFC 5652 5.3).
 pub(crate) fn signing_certificate_of<'a>(
     alloc: Global,
     signers: &[SignerInfo],
@@ -27,7 +27,7 @@ pub(crate) fn signing_certificate_of<'a>(
     ensures found { MatchResult result
         (λ c. IsSigningCertificate signers.now certificates.now c.now)
         (HasNoSigningCertificate signers.now certificates.now) }
-    // What the first signer doesn't name is told before memory is asked for.
+    // A signer without issuer and serial number is reported before anything is allocated.
     ensures refused { (e : AuthenticodeError) → IsNamedOtherwise signers.now e → result ≡ Err e }
 {
     let named = named_by_first(signers)?;
@@ -38,7 +38,7 @@ pub(crate) fn signing_certificate_of<'a>(
     }
 }
 
-/// The issuer and the serial number that the first of the signers names.
+/// The issuer and the serial number of the first signer.
 fn named_by_first(signers: &[SignerInfo]) -> Result<&IssuerAndSerialNumber, AuthenticodeError>
     ensures { MatchResult result
         (λ value. FirstNames signers.now (named.IssuerAndSerialNumber value.now))
@@ -55,7 +55,7 @@ fn named_by_first(signers: &[SignerInfo]) -> Result<&IssuerAndSerialNumber, Auth
     }
 }
 
-/// The first of the certificates with the issuer and the serial number.
+/// The first certificate with the issuer and the serial number.
 pub(crate) fn first_named<'a>(
     alloc: Global,
     certificates: &'a [Cert],
@@ -75,7 +75,7 @@ pub(crate) fn first_named<'a>(
     Ok(None)
 }
 
-/// Whether the certificate has the issuer and the serial number. The name is copied only where the
+/// Whether the certificate has the issuer and the serial number. The name is copied only if the
 /// number is the same.
 fn is_named(
     alloc: Global,

@@ -1,4 +1,4 @@
-//! Signatures that are stamped.
+//! Timestamping signatures.
 
 ghost use Rattle.std.specs.Prelude.{◌≡◌, ◌≤◌, [], IfErr, OnErr, OnOk, Err, MatchOption};
 ghost use Rattle.cms_types.specs.declared.signer_info.SignerInfo.{SignerInfo};
@@ -16,8 +16,8 @@ use sig_core::HashAlgorithm;
 use std::alloc::Global;
 
 impl AuthenticodeSignature {
-    /// Stamps the signature: the timestamper gives a token for the signature octets of the first
-    /// signer, and puts it into the signed data. A refusal leaves the signature as it is.
+    /// Timestamps the signature: the timestamper issues a token for the signature octets of the
+    /// first signer, and adds it to the signed data. A refusal leaves the signature as it is.
     pub fn timestamp<T: Timestamper>(
         &mut self,
         alloc: Global,
@@ -31,7 +31,7 @@ impl AuthenticodeSignature {
             (RefusesStamp (T.gives timestamper.old) (T.modifies timestamper.old)
             (HasRisen (T.faults timestamper.old) (T.faults timestamper.new)) hash_algo
             self.old.0.signed.signed_data) }
-        // A missing signer is reported even when memory runs out, and no token is asked for.
+        // A missing signer is reported, even when memory runs out, and no token is requested.
         ensures no_signer { signer_infos_of self.old.0 ≡ []
             → result ≡ Err (errors.MultipleSignerInfo 0) }
         ensures not_asked { signer_infos_of self.old.0 ≡ [] → timestamper.new ≡ timestamper.old }
@@ -55,7 +55,7 @@ impl AuthenticodeSignature {
     }
 }
 
-/// The signature octets of the first of the signers.
+/// The signature octets of the first signer.
 fn first_signature(signers: &[SignerInfo]) -> Option<&[u8]>
     ensures { MatchOption result (signers.now ≡ [])
         (λ octets. HasFirstSignature signers.now octets.now) }
@@ -66,7 +66,7 @@ fn first_signature(signers: &[SignerInfo]) -> Option<&[u8]>
     }
 }
 
-/// The error of a signature for that of a timestamp.
+/// An error of a timestamp as one of a signature.
 fn of_timestamp(error: TimestampError) -> AuthenticodeError
     ensures { result ≡ of_timestamp error }
 {

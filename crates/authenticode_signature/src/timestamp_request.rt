@@ -1,4 +1,4 @@
-//! Requests for timestamps that are kept.
+//! Owned timestamp requests.
 
 ghost use Rattle.std.specs.Prelude.{◌≡◌, ◌≢◌, ◌↔◌, ◌∷◌, [], ℕ, Some, IfOk, IsTrue, Err, MatchResult};
 ghost use Rattle.std.specs.Option.{option_copied};
@@ -27,15 +27,15 @@ use der_core::{Octets, Structure};
 use std::alloc::{AllocError, Global};
 use x509_core::{CertError, Element};
 
-/// A request for a timestamp as Authenticode has it (Windows Authenticode Portable Executable
-/// Signature Format), as a caller keeps it.
+/// An owned timestamp request in the form of Authenticode (Windows Authenticode Portable Executable
+/// Signature Format).
 #[derive(Debug, Drop)]
 pub struct TimestampRequest {
     request: RequestValue,
 }
 
 impl TimestampRequest {
-    /// The request for a timestamp of these octets: they are its content, of type data.
+    /// The timestamp request for these octets, which are its content, of type data.
     pub fn new(alloc: Global, digest: &[u8]) -> Result<TimestampRequest, AllocError>
         ensures { IfOk result (λ r. requested r ≡ asking_for digest.now) }
     {
@@ -54,7 +54,7 @@ impl TimestampRequest {
         &self.request.content
     }
 
-    /// The content with its type, taken out.
+    /// The content with its type, by value.
     pub fn into_content(self) -> EncapsulatedContentInfo
         ensures { result ≡ self.request.content }
     {
@@ -63,8 +63,7 @@ impl TimestampRequest {
         content
     }
 
-    /// The octets that a timestamp is asked for, None exactly where the content isn't octets of
-    /// type data.
+    /// The octets to be timestamped, None exactly where the content isn't octets of type data.
     pub fn digest(&self) -> Option<&[u8]>
         ensures { option_copied result ≡ data_in self.now.request.content.content }
     {
@@ -74,8 +73,9 @@ impl TimestampRequest {
         }
     }
 
-    /// The request that octets are, all of them, and nothing else. Octets that are no element, or
-    /// one of another structure, are refused as `Asn1Deserialization` without memory.
+    /// Reads a timestamp request from exactly its octets (Windows Authenticode Portable Executable
+    /// Signature Format). Octets that are no element, or another structure, are refused as
+    /// `Asn1Deserialization`, even when memory runs out.
     pub fn from_der(alloc: Global, der: &[u8]) -> Result<TimestampRequest, CertError>
         ensures answer { MatchResult result
             (λ r. IsWithin IsRequestOf der.now r.request)
@@ -84,7 +84,7 @@ impl TimestampRequest {
         ensures faulty { (at : ℕ) (fault : DerFault) → IsExactFault der.now at fault
             → result ≡ Err (errors.Asn1Deserialization elements.TimestampRequest
             (der_errors.Malformed (record { at = at; fault = fault }))) }
-        // An element that is that of no request is refused as such, even when memory runs out.
+        // An element that is no request is refused as such, even when memory runs out.
         ensures shapeless { (element : DerElement) → IsDer element → der.now ≡ encoding element
             → ((value : RequestValue) → element ≢ timestamp_request value)
             → result ≡ Err (errors.Asn1Deserialization elements.TimestampRequest der_errors.Shape) }
@@ -95,8 +95,7 @@ impl TimestampRequest {
         }
     }
 
-    /// The octets that are written for it. It is refused as `Asn1Serialization` exactly where
-    /// `der_core::write` refuses its element.
+    /// The encoding. `Asn1Serialization` exactly where `der_core::write` refuses its element.
     pub fn to_der(&self, alloc: Global) -> Result<Vec<u8>, CertError>
         ensures { MatchResult result
             (λ octets. (octets.items ≡ encoding (requested self.now)) × IsDer (requested self.now))
@@ -108,7 +107,7 @@ impl TimestampRequest {
         }
     }
 
-    /// A copy of the value.
+    /// A copy of the request.
     pub fn try_clone(&self, alloc: Global) -> Result<TimestampRequest, AllocError>
         ensures { IfOk result (λ copy. copy ≡ self.now) }
     {
@@ -118,7 +117,7 @@ impl TimestampRequest {
     }
 }
 
-/// The content of type data that has these octets (RFC 5652 4).
+/// The content of type data with these octets (RFC 5652 4).
 fn data_content(alloc: Global, octets: &[u8]) -> Result<EncapsulatedContentInfo, AllocError>
     ensures { IfOk result (λ info. content_info info ≡ content_info_of
         (object_identifier_of DATA.now) (Some (octet_string octets.now))) }
@@ -146,7 +145,7 @@ impl From<TimestampRequest> for RequestValue {
     }
 }
 
-/// Requests are equal exactly where their octets are.
+/// Requests are equal exactly where their encodings are.
 impl PartialEq for TimestampRequest {
     ghost use Rattle.der_core.specs.Equality.{same_octets};
     ghost use Rattle.der_core.specs.Facts.Equality.{same_octets_per};

@@ -1,4 +1,4 @@
-//! Where timestamps come from.
+//! Sources of timestamps.
 
 ghost use Rattle.std.specs.Prelude.{◌≡◌, ℕ, Ok, Err, IfOk, OnOk, OnErr, IfErr, Result};
 ghost use Rattle.der_core.specs.Rules.{OrMemory};
@@ -15,21 +15,20 @@ use cms_types::SignedData;
 use sig_core::HashAlgorithm;
 use std::alloc::Global;
 
-/// Who gives timestamps, as signed data of their own that are called tokens, and puts them into
-/// signed data.
+/// Issues timestamps, as signed data called tokens, and adds them to signed data.
 pub trait Timestamper {
-    // Which tokens it may give for octets and a digest algorithm.
+    // Which tokens it may issue for octets and a digest algorithm.
     ghost gives: { Self → Giving };
 
-    // What its modification of signed data by a token may come to.
+    // The outcome of its modification of signed data by a token.
     ghost modifies: { Self → Modification };
 
     // How often it has failed.
     ghost faults: { Self → ℕ };
 
-    /// A token for these octets, which aren't hashed: `AuthenticodeSignature::timestamp` hands in
-    /// those of its first signer's signature. It is refused for want of memory, and else only where
-    /// the count of faults rose in this call or stands at its last value.
+    /// A token for these octets, unhashed: `AuthenticodeSignature::timestamp` passes those of the
+    /// first signer's signature. It fails when out of memory, and otherwise only if the fault count
+    /// rose in this call or is at its maximum.
     fn timestamp(
         &mut self,
         alloc: Global,
@@ -43,8 +42,8 @@ pub trait Timestamper {
         ensures same_tokens { GiveAlike (gives self.old) (gives self.new) }
         ensures same_modification { ModifyAlike (modifies self.old) (modifies self.new) };
 
-    /// Puts the token into the signed data. It is refused for want of memory, and else exactly with
-    /// the error that this modification comes to; then nothing is changed.
+    /// Adds the token to the signed data. It fails when out of memory, and otherwise exactly with
+    /// the error that this modification has; then nothing is changed.
     fn modify_signed_data(
         &self,
         token: Pkcs7,
@@ -56,7 +55,7 @@ pub trait Timestamper {
             (OrMemory errors.Memory (λ e. modifies self.now token signed_data.old (Err e))) }
         ensures unchanged { OnErr result (signed_data.new ≡ signed_data.old) };
 
-    // Where a modification comes to an error it comes to nothing else.
+    // A modification with an error has no other outcome.
     ghost one_outcome: { (timestamper : Self) (token : Pkcs7) (before : SignedData)
         (e : TimestampError) (outcome : Result SignedData TimestampError)
         → modifies timestamper token before (Err e) → modifies timestamper token before outcome

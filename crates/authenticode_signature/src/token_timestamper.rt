@@ -1,4 +1,4 @@
-//! A timestamper that has one token for all.
+//! A timestamper with one token for everything.
 
 ghost use Rattle.std.specs.Prelude.{◌≡◌, ◌≢◌, ◌⊎◌, ◌∷◌, ◌++◌, [], ℕ, Ok, Err, IfOk, IfErr, OnOk, OnErr, MatchResult};
 ghost use Rattle.der_core.specs.DerElement.{DerElement};
@@ -33,16 +33,16 @@ use sig_core::HashAlgorithm;
 use std::alloc::{AllocError, Global};
 use x509_core::{CertError, Element};
 
-/// A timestamper that has a token at hand, and gives it for whatever is to be stamped. Whether it
-/// is a token for this isn't asked.
+/// A timestamper with a fixed token, which it issues for whatever is timestamped. Whether the token
+/// is one for that isn't checked.
 #[derive(Debug, Drop)]
 pub struct TokenTimestamper {
     token: Pkcs7,
 }
 
 impl TokenTimestamper {
-    /// The timestamper with the token that octets are, all of them, and nothing else. Octets that
-    /// are no element, or one of another structure, are refused as `Pkcs7::from_der` refuses them.
+    /// Reads the token of the timestamper from exactly its octets (RFC 5652 3). The errors are
+    /// those of `Pkcs7::from_der`.
     pub fn from_der(alloc: Global, der: &[u8]) -> Result<TokenTimestamper, TimestampError>
         ensures answer { MatchResult result
             (λ t. IsWithin IsPkcs7Of der.now t.token.signed)
@@ -51,7 +51,7 @@ impl TokenTimestamper {
         ensures faulty { (at : ℕ) (fault : DerFault) → IsExactFault der.now at fault
             → result ≡ Err
             (token_refusal (unread (der_errors.Malformed (record { at = at; fault = fault })))) }
-        // An element that is that of no signed data is refused as such, even when memory runs out.
+        // An element that is no signed data is refused as such, even when memory runs out.
         ensures shapeless { (element : DerElement) → IsDer element → der.now ≡ encoding element
             → ((value : Pkcs7Certificate) → element ≢ pkcs7 value)
             → result ≡ Err (token_refusal (unread der_errors.Shape)) }
@@ -62,8 +62,8 @@ impl TokenTimestamper {
         }
     }
 
-    /// The octets of a request for a timestamp of these octets, for an authority to answer with a
-    /// token. It is refused exactly where some contents would pass 4,294,967,295 octets.
+    /// The encoding of a timestamp request for these octets, to be sent to a timestamp authority.
+    /// It is refused exactly where some contents would be longer than 4,294,967,295 octets.
     pub fn request(&self, alloc: Global, digest: &[u8]) -> Result<Vec<u8>, TimestampError>
         ensures { MatchResult result
             (λ octets. (octets.items ≡ encoding (asking_for digest.now))
@@ -74,7 +74,7 @@ impl TokenTimestamper {
         written(alloc, &request)
     }
 
-    /// A copy of the value.
+    /// A copy of the timestamper.
     pub fn try_clone(&self, alloc: Global) -> Result<TokenTimestamper, AllocError>
         ensures { IfOk result (λ copy. copy ≡ self.now) }
     {
@@ -84,7 +84,7 @@ impl TokenTimestamper {
     }
 }
 
-/// The octets of the request.
+/// The encoding of the request.
 fn written(alloc: Global, request: &TimestampRequest) -> Result<Vec<u8>, TimestampError>
     ensures { MatchResult result
         (λ octets. (octets.items ≡ encoding (requested request.now))
@@ -131,7 +131,7 @@ impl Timestamper for TokenTimestamper {
         ensures refused { IfErr result
             (OrMemory errors.Memory (λ e. token_modifies token signed_data.old (Err e))) }
         ensures unchanged { OnErr result (signed_data.new ≡ signed_data.old) }
-        // Where there is no signer on either side, that is reported even when memory runs out.
+        // A missing signer on either side is reported, even when memory runs out.
         ensures empty { (signed_data.old.signers_infos ≡ []) ⊎ (signer_infos_of token ≡ [])
             → result ≡ Err errors.TimestampTokenEmpty }
     {
@@ -146,7 +146,7 @@ impl Timestamper for TokenTimestamper {
     }
 }
 
-/// The signers, the first of them with a counter-signature more by the first of the countersigners.
+/// The signers, with the first countersigner added as a counter-signature to the first of them.
 fn stamped_signers(
     alloc: Global,
     countersigners: &[SignerInfo],
@@ -186,7 +186,7 @@ fn countersignature(
     }
 }
 
-/// A copy of the signer with an unsigned attribute more.
+/// A copy of the signer with one more unsigned attribute.
 fn stamped_signer(
     alloc: Global,
     signer: &SignerInfo,
@@ -204,7 +204,7 @@ fn stamped_signer(
     Ok(stamped)
 }
 
-/// Copies of the certificates of both, left out exactly where both are.
+/// Copies of the certificates of both, absent exactly if both are.
 fn joined_certificates(
     alloc: Global,
     own: &Option<CertificateSet>,
@@ -223,7 +223,7 @@ fn joined_certificates(
     }
 }
 
-/// The list with copies of the values behind its own.
+/// The list with copies of the values appended.
 fn with_copies<T: Structure>(
     alloc: Global,
     mut list: ListOf<T>,

@@ -1,4 +1,4 @@
-//! Whether a signature that is kept is trusted.
+//! Validating owned signatures.
 
 ghost use Rattle.std.specs.Prelude.{◌≡◌, true, false, Err, Result, MatchResult};
 ghost use Rattle.der_core.specs.Kept.{IsKept};
@@ -21,8 +21,7 @@ use names_core::UtcDate;
 use sig_core::Scheme;
 use std::alloc::Global;
 
-/// Asks whether a signature that is kept is trusted. Of the setters of one kind the last call
-/// counts.
+/// Validates an owned signature. Of the setters of one kind the last call counts.
 #[derive(Drop)]
 pub struct AuthenticodeValidator<'a> {
     signature: &'a AuthenticodeSignature,
@@ -30,8 +29,8 @@ pub struct AuthenticodeValidator<'a> {
 }
 
 impl AuthenticodeSignature {
-    /// A validator that asks for all, to which no digest of the file and no date are given. It
-    /// takes no memory.
+    /// A validator with all checks, without a digest of the file or a date yet. It doesn't
+    /// allocate.
     pub fn authenticode_verifier(&self, alloc: Global) -> AuthenticodeValidator<'_>
         ensures policy { result.policy ≡ first_policy }
         ensures signature { result.signature.now ≡ self.now }
@@ -44,7 +43,7 @@ impl AuthenticodeSignature {
 }
 
 impl<'a> AuthenticodeValidator<'a> {
-    /// The date at which certificates have to be valid. It takes the place of an interval.
+    /// The date at which certificates must be valid. It replaces an interval.
     pub fn exact_date(self, exact: UtcDate) -> Self
         ensures policy { result.policy ≡ at_dates (dates.Exact exact) self.entry.policy }
         ensures signature { result.signature.now ≡ self.entry.signature.now }
@@ -52,8 +51,8 @@ impl<'a> AuthenticodeValidator<'a> {
         self.at(DateCheck::Exact(exact))
     }
 
-    /// The interval: certificates have to be valid already at its upper end and still at its lower
-    /// one. It takes the place of a date.
+    /// The interval: certificates must be valid already at its upper end and still at its lower
+    /// one. It replaces a date.
     pub fn interval_date(self, lower: UtcDate, upper: UtcDate) -> Self
         ensures policy { result.policy ≡ at_dates (dates.Interval lower upper) self.entry.policy }
         ensures signature { result.signature.now ≡ self.entry.signature.now }
@@ -61,7 +60,7 @@ impl<'a> AuthenticodeValidator<'a> {
         self.at(DateCheck::Interval { lower, upper })
     }
 
-    /// The moments at which certificates have to be valid.
+    /// The date or interval for which certificates must be valid.
     fn at(self, date: DateCheck) -> Self
         ensures policy { result.policy ≡ at_dates date self.entry.policy }
         ensures signature { result.signature.now ≡ self.entry.signature.now }
@@ -74,7 +73,7 @@ impl<'a> AuthenticodeValidator<'a> {
         AuthenticodeValidator { signature, policy }
     }
 
-    /// Certificates have to be valid already.
+    /// Certificates must have begun to be valid.
     pub fn require_not_before_check(mut self) -> Self
         ensures policy { result.policy ≡ policy_with_not_before true self.entry.policy }
         ensures signature { result.signature.now ≡ self.entry.signature.now }
@@ -83,7 +82,7 @@ impl<'a> AuthenticodeValidator<'a> {
         self
     }
 
-    /// Certificates may be valid later.
+    /// Certificates may become valid later.
     pub fn ignore_not_before_check(mut self) -> Self
         ensures policy { result.policy ≡ policy_with_not_before false self.entry.policy }
         ensures signature { result.signature.now ≡ self.entry.signature.now }
@@ -92,7 +91,7 @@ impl<'a> AuthenticodeValidator<'a> {
         self
     }
 
-    /// Certificates have to be valid still.
+    /// Certificates must not have expired.
     pub fn require_not_after_check(mut self) -> Self
         ensures policy { result.policy ≡ policy_with_not_after true self.entry.policy }
         ensures signature { result.signature.now ≡ self.entry.signature.now }
@@ -110,7 +109,7 @@ impl<'a> AuthenticodeValidator<'a> {
         self
     }
 
-    /// The certificate of the signer has to be linked to those of its issuers.
+    /// The signer's certificate must be linked to those of its issuers.
     pub fn require_chain_check(mut self) -> Self
         ensures policy { result.policy ≡ policy_with_chain true self.entry.policy }
         ensures signature { result.signature.now ≡ self.entry.signature.now }
@@ -119,7 +118,7 @@ impl<'a> AuthenticodeValidator<'a> {
         self
     }
 
-    /// The certificates of the issuers aren't looked at.
+    /// The issuers' certificates are ignored.
     pub fn ignore_chain_check(mut self) -> Self
         ensures policy { result.policy ≡ policy_with_chain false self.entry.policy }
         ensures signature { result.signature.now ≡ self.entry.signature.now }
@@ -128,7 +127,7 @@ impl<'a> AuthenticodeValidator<'a> {
         self
     }
 
-    /// The certificate of the signer is asked for.
+    /// The signer's certificate is checked.
     pub fn require_signing_certificate_check(mut self) -> Self
         ensures policy { result.policy ≡ with_signing true self.entry.policy }
         ensures signature { result.signature.now ≡ self.entry.signature.now }
@@ -137,7 +136,7 @@ impl<'a> AuthenticodeValidator<'a> {
         self
     }
 
-    /// The certificate of the signer isn't asked for, but for its key by basic validation.
+    /// The signer's certificate isn't checked, except that basic validation uses its key.
     pub fn ignore_signing_certificate_check(mut self) -> Self
         ensures policy { result.policy ≡ with_signing false self.entry.policy }
         ensures signature { result.signature.now ≡ self.entry.signature.now }
@@ -146,7 +145,7 @@ impl<'a> AuthenticodeValidator<'a> {
         self
     }
 
-    /// The form, the digest of the file, which is this, and the signature are asked for.
+    /// The form, the digest of the file, which must be this, and the signature are checked.
     pub fn require_basic_authenticode_validation(self, file_hash: Octets) -> Self
         ensures policy { result.policy ≡ with_basic file_hash self.entry.policy }
         ensures signature { result.signature.now ≡ self.entry.signature.now }
@@ -160,7 +159,7 @@ impl<'a> AuthenticodeValidator<'a> {
         AuthenticodeValidator { signature, policy }
     }
 
-    /// Neither the form nor the digest of the file nor the signature is asked for.
+    /// Neither the form nor the digest of the file nor the signature is checked.
     pub fn ignore_basic_authenticode_validation(self) -> Self
         ensures policy { result.policy ≡ without_basic self.entry.policy }
         ensures signature { result.signature.now ≡ self.entry.signature.now }
@@ -174,8 +173,8 @@ impl<'a> AuthenticodeValidator<'a> {
         AuthenticodeValidator { signature, policy }
     }
 
-    /// Whether the signature is trusted, as it is written: `check_wincert` answers so to its octets
-    /// in a WIN_CERTIFICATE. A value without an encoding is refused before any step, as
+    /// Validates the signature as written: the result is that of `check_wincert` for its encoding
+    /// in a WIN_CERTIFICATE. A value without an encoding is refused before any check, as
     /// `Asn1DerError` with the cause for which `der_core::write` refuses its element.
     pub fn verify<S: Scheme>(
         &self,
@@ -184,7 +183,7 @@ impl<'a> AuthenticodeValidator<'a> {
     ) -> Result<Accepted, AuthenticodeError>
         ensures answer { IsVerdict (S.judge scheme.now) self.now.policy
             (written self.now.signature.now.0) (fields_of self.now.signature.now.0) result }
-        // No other answer has its cause, want of memory aside.
+        // No other result has its cause, out of memory aside.
         ensures only { (other : Result Accepted AuthenticodeError)
             → IsVerdict (S.judge scheme.now) self.now.policy (written self.now.signature.now.0)
             (fields_of self.now.signature.now.0) other
@@ -207,7 +206,8 @@ fn check_octets<S: Scheme>(
         → MatchResult result
         (IsTrusted (S.judge scheme.now) policy.now (fields_of signed))
         (RefusesAuthenticodeBy (policy_rules (S.judge scheme.now) policy.now (fields_of signed))) }
-    // A refusal of the form comes whatever memory there is, and that no digest is given, too.
+    // A refusal of the form comes however much memory there is, and so does that of a missing
+    // digest.
     ensures shape { (signed : Pkcs7) → IsKept octets.now (written signed) → (e : AuthenticodeError)
         → IsFirstBroken
         (asked policy.now.basic (shape_rules (fields_of signed) policy.now.file_hash)) e

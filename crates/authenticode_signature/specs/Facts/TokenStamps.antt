@@ -1,4 +1,4 @@
--- A modification by a token that comes to an error comes to nothing else.
+-- A modification by a token with an error has no other outcome.
 use Rattle.std.specs.Prelude.{◌≡◌, ◌≢◌, ◌⊎◌, List, [], ◌∷◌, Result, Ok, Err}
 use Rattle.std.proofs.Common.{refl, sym, ap, subst, ◌∙◌, inl, inr, arith}
 use Rattle.der_core.specs.DerElement.{DerElement}
@@ -22,7 +22,7 @@ use Rattle.authenticode_signature.specs.declared.pkcs7.Pkcs7.{Pkcs7}
 
 -- ---- causes
 
--- an element in bounds is refused only when out of memory
+-- an element within limits is refused only when out of memory
 not_unwritable : (element : DerElement) → IsDer element → (source : DerError) → source ≢ der.Memory → RefusesToWrite element source → ⊥
 not_unwritable element is (der.Malformed m) known refused = refused
 not_unwritable element is der.Shape known refused = refused
@@ -30,7 +30,7 @@ not_unwritable element is der.TooDeep known refused = omega (arith, is.nested, r
 not_unwritable element is der.TooLong known refused = refused.1 is.short
 not_unwritable element is der.Memory known refused = known refl
 
--- one cause refuses an element beside want of memory
+-- one cause refuses an element, out of memory aside
 one_cause : (element : DerElement) (a b : DerError) → a ≢ der.Memory → b ≢ der.Memory → RefusesToWrite element a → RefusesToWrite element b → a ≡ b
 one_cause element (der.Malformed m) b known known' refused refused' = absurd refused
 one_cause element der.Shape b known known' refused refused' = absurd refused
@@ -56,7 +56,7 @@ not_none : (signers others : List SignerInfo) (a : SignerInfo) → signers ≡ [
 not_none signers others a e f =
     let same : ◌≡◌ {A = List SignerInfo} [] (a ∷ others) = sym e ∙ f in cc
 
--- the one element that is kept is in bounds
+-- a single stored element is within limits
 kept_der : (items : List KeptElement) (element : DerElement) → elements_of_kept items ≡ element ∷ [] → IsDer element
 kept_der [] element e = absurd (cc e)
 kept_der (kept ∷ items) element e =

@@ -1,4 +1,4 @@
-//! The signature that is built, step by step.
+//! Building the signature, step by step.
 
 ghost use Rattle.std.specs.Prelude.{◌≡◌, ◌∷◌, [], List, Some, Err, IfOk, MatchResult, map};
 ghost use Rattle.std.specs.Option.{option_map};
@@ -46,7 +46,7 @@ use std::alloc::{AllocError, Global};
 use x509_core::Cert;
 use x509_types::AttributeList;
 
-/// What is given of what has to be, where it lies; the algorithm of digests as a variant, too.
+/// The required arguments that are given, borrowed; the digest algorithm as a variant, too.
 #[derive(Clone, Copy)]
 struct Parts<'b> {
     hash: ShaVariant,
@@ -58,14 +58,14 @@ struct Parts<'b> {
 }
 
 impl AuthenticodeSignatureBuilder<'_> {
-    /// The signature. It carries the certificates as they are, but for those of roots. It is
-    /// refused by the first of these: `MissingDigestAlgorithm`; `UnsupportedHashAlgorithmError` for
-    /// SHA-224; `MissingContentInfo`; `MissingSigningKey`; `MissingIssuerAndSerialNumber`;
+    /// Builds the signature. It contains the certificates as they are, without the roots. The first
+    /// error is returned: `MissingDigestAlgorithm`; `UnsupportedHashAlgorithmError` for SHA-224;
+    /// `MissingContentInfo`; `MissingSigningKey`; `MissingIssuerAndSerialNumber`;
     /// `MissingCertificatesRequired`, each where it isn't given;
-    /// `NoCertificatesAssociatedWithIssuerAndSerialNumber` where none of the certificates is named;
-    /// `NoEKUCodeSigning` where one of the issuer walk of the first that is named has an extended
-    /// key usage, and that first doesn't name code signing; `Asn1DerError` where the content or the
-    /// attributes can't be written; `SignatureError` where the key doesn't sign.
+    /// `NoCertificatesAssociatedWithIssuerAndSerialNumber` where no certificate has that issuer and
+    /// serial number; `NoEKUCodeSigning` where one of the issuer walk of the first that has them
+    /// has an extended key usage, and that first doesn't name code signing; `Asn1DerError` where
+    /// the content or the attributes can't be written; `SignatureError` where the key doesn't sign.
     pub fn build<S: Scheme>(
         self,
         alloc: Global,
@@ -76,14 +76,14 @@ impl AuthenticodeSignatureBuilder<'_> {
             (arithmetic (S.judge scheme.now) (S.signs scheme.now) (S.pair scheme.now))
             self.entry (fields_of s.0))
             (RefusesBySteps errors.Memory (building_steps (S.signs scheme.now) self.entry)) }
-        // What isn't given, and SHA-224, is reported even when memory runs out.
+        // A missing argument, and SHA-224, is reported, even when memory runs out.
         ensures refused { (e : AuthenticodeSignatureBuilderError)
             → IsFirstUntaken (part_steps self.entry) e → result ≡ Err e }
     {
         self.signature(alloc, scheme)
     }
 
-    /// The signature that is asked for.
+    /// The signature that the builder describes.
     fn signature<S: Scheme>(
         &self,
         alloc: Global,
@@ -102,7 +102,7 @@ impl AuthenticodeSignatureBuilder<'_> {
         Ok(AuthenticodeSignature(built))
     }
 
-    /// What has to be given.
+    /// The required arguments.
     fn given(&self) -> Result<Parts<'_>, AuthenticodeSignatureBuilderError>
         ensures { MatchResult result
             (λ parts. HasGiven self.now (given_of parts) × AreTaken (part_steps self.now)
@@ -152,7 +152,7 @@ impl AuthenticodeSignatureBuilder<'_> {
         }
     }
 
-    /// The signature of what is given.
+    /// The signature with the given arguments.
     fn built<S: Scheme>(
         &self,
         alloc: Global,
@@ -176,7 +176,7 @@ impl AuthenticodeSignatureBuilder<'_> {
         Ok(built)
     }
 
-    /// The signature over what is signed.
+    /// The signature over the message.
     fn sealed<S: Scheme>(
         &self,
         alloc: Global,
@@ -205,7 +205,7 @@ impl AuthenticodeSignatureBuilder<'_> {
         }
     }
 
-    /// What is signed: the attributes where they are given, else the content.
+    /// The octets that are signed: of the attributes if they are given, else of the content.
     fn message(
         &self,
         alloc: Global,
@@ -223,7 +223,7 @@ impl AuthenticodeSignatureBuilder<'_> {
         }
     }
 
-    /// The signature, of its parts.
+    /// The signature from its parts.
     fn joined(
         &self,
         alloc: Global,
@@ -248,7 +248,7 @@ impl AuthenticodeSignatureBuilder<'_> {
         Ok(Pkcs7::from(made))
     }
 
-    /// The attributes that aren't signed, None where there are none of them.
+    /// The unsigned attributes, None if there are none.
     fn unsigned(&self, alloc: Global) -> Result<Option<UnsignedAttributeList>, AllocError>
         ensures { IfOk result
             (λ attributes. option_map (list_element 0xA1 unsigned_attribute) attributes
@@ -261,7 +261,7 @@ impl AuthenticodeSignatureBuilder<'_> {
     }
 }
 
-/// The first of the certificates that is named.
+/// The first certificate with the given issuer and serial number.
 fn named_signer<'b>(
     alloc: Global,
     given: &Parts<'b>,
@@ -277,7 +277,8 @@ fn named_signer<'b>(
     Ok(signer)
 }
 
-/// One of the certificates is named, and the first that is may sign code.
+/// Checks that one of the certificates has the given issuer and serial number, and that the first
+/// that has them may sign code.
 fn expect_signer(alloc: Global, given: &Parts<'_>) -> Result<(), AuthenticodeSignatureBuilderError>
     ensures { let g = given_of given.now in MatchResult result
         (λ _. (c : CertificateElements) × IsSigner g c)
@@ -293,7 +294,7 @@ fn expect_signer(alloc: Global, given: &Parts<'_>) -> Result<(), AuthenticodeSig
     }
 }
 
-/// The octets of the content with its type.
+/// The encoding of the content with its type.
 fn written_content(
     alloc: Global,
     given: &Parts<'_>,
@@ -308,7 +309,7 @@ fn written_content(
     }
 }
 
-/// The attributes that are signed, none where they aren't given.
+/// The signed attributes, empty if they aren't given.
 fn attributes_for(
     alloc: Global,
     given: &Option<AttributeList>,
@@ -335,7 +336,7 @@ fn no_attributes(alloc: Global) -> Result<SignedAttributes, AuthenticodeSignatur
     kept_attributes(alloc, &none)
 }
 
-/// The attributes as a signer carries them.
+/// Signed attributes in the form of a signer.
 fn kept_attributes(
     alloc: Global,
     list: &AttributeList,

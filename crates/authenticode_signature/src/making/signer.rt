@@ -1,4 +1,4 @@
-//! The certificate that signs.
+//! The signer's certificate.
 
 ghost use Rattle.std.specs.Prelude.{◌↔◌, IsTrue, MatchResult};
 ghost use Rattle.authenticode_parts.specs.Carried.{elements_of};
@@ -11,7 +11,7 @@ use asn1_types::oids::KP_CODE_SIGNING;
 use authenticode_core::AuthenticodeError;
 use x509_core::Cert;
 
-/// The first of the certificates, which has to be one for code signing.
+/// The first of the certificates, which must be allowed to sign code.
 pub(super) fn first_signer(bag: &[Cert]) -> Result<&Cert, AuthenticodeError>
     ensures { MatchResult result
         (λ first. IsFirstForSigning (elements_of bag.now) first.now.elements)
@@ -27,8 +27,8 @@ pub(super) fn first_signer(bag: &[Cert]) -> Result<&Cert, AuthenticodeError>
     }
 }
 
-/// Whether a certificate names code signing, where one of its issuer walk among others has an
-/// extended key usage (RFC 5280 4.2.1.12).
+/// Whether a certificate names code signing, if one of its issuer walk among others has an extended
+/// key usage (RFC 5280 4.2.1.12).
 pub(crate) fn may_sign_code(signer: &Cert, certificates: &[Cert]) -> bool
     ensures { IsTrue result ↔ IsForCodeSigning (elements_of certificates.now) signer.now.elements }
 {

@@ -2,7 +2,7 @@ use Rattle.std.proofs.Common.{◌≡◌, length}
 use Rattle.authenticode_signature.specs.Walk.{walked}
 use Rattle.authenticode_signature.proofs.certificates.first_of.Given as goal
 
--- the certificates that were passed give nothing
+-- the passed certificates yield nothing
 abbrev pub invariant-loop-certificate : goal.invariant-loop-certificate
 invariant-loop-certificate l = walked l.subject l.rest ≡ walked l.subject l.fn.certificates
 

@@ -3,6 +3,6 @@ use Rattle.authenticode_core.specs.Places.{HoldsOfNone}
 use Rattle.authenticode_core.specs.BagSigner.{HasIssuerAndSerial}
 use Rattle.authenticode_signature.proofs.signing_certificate.first_named.Given as goal
 
--- none of the certificates that were passed is named
+-- none of the passed certificates is identified
 abbrev pub invariant-loop-certificate : goal.invariant-loop-certificate
 invariant-loop-certificate l = HoldsOfNone (elements_of l.certificates) (HasIssuerAndSerial l.named) 0 l.certificate-index

@@ -2,7 +2,7 @@ use Rattle.std.proofs.Common.{◌↔◌, length}
 use Rattle.authenticode_signature.specs.Walk.{SomeHasPurposes, items_left}
 use Rattle.authenticode_signature.proofs.making.signer.asks_for_purposes.Given as goal
 
--- none of those that were passed has one
+-- none of the passed ones has one
 abbrev pub invariant-loop-certificate : goal.invariant-loop-certificate
 invariant-loop-certificate l = SomeHasPurposes (items_left l.initial.walk) ↔ SomeHasPurposes (items_left l.walk)
 

@@ -54,7 +54,7 @@ returns-clause-answer g c =
     (subst (λ (ks : List KeptCertificate). IsBagOf (fields_of c.args.pkcs7.now) (elements_of ks)) (sym other) c.in_ok-bag.ensures)
     (subst (λ (ks : List KeptCertificate). IsFirstForSigning (elements_of ks) c.in_ok-first.first.now.elements) (list ∙ sym other) c.in_ok-first.ensures) c.in_ok-made.ensures.0 c.in_ok-made.ensures.1
 
--- ---- the file of what is made
+-- ---- the file of the signature
 
 pub returns-clause-file : goal.returns-clause-file
 returns-clause-file g c =
