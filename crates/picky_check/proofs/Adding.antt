@@ -1,4 +1,4 @@
--- Files that are added to a shelf in memory, and found by name.
+-- Adding files to a shelf in memory, and finding them by name.
 use Rattle.std.proofs.Common.{◌≡◌, ℕ, zero, suc, ◌+◌, ◌<◌, List, [], ◌∷◌, ◌++◌, length, take, Bool, true, false, Option, Some, None, refl, sym, ◌∙◌, ap, arith, string_bytes}
 use Rattle.std.specs.Prelude.{bytes_eq, slice_get, if◌then◌else◌, option_map}
 use Rattle.std.specs.Option.{option_or}
@@ -31,7 +31,7 @@ pub octets_at-push : (files : List StoredFile) (file : StoredFile) (picked : Opt
 octets_at-push files file None within = refl
 octets_at-push files file (Some index) within = ap (λ (found : Option StoredFile). or_empty (option_map octets_of found)) (slice_get-front files (file ∷ []) index (within index refl))
 
--- the first files and one more: that one where it has the name
+-- the first files and one more: that one if it has the name
 pub latest-found : (files : List StoredFile) (file : StoredFile) (place : ℕ) (name : List ℕ)
     → place < length files → file ≡ get_or files place file
     → bytes_eq (string_bytes file.name) name ≡ true

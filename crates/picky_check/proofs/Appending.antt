@@ -1,4 +1,4 @@
--- A text that is appended piece by piece.
+-- Appending a text piece by piece.
 use Rattle.std.proofs.Common.{◌≡◌, ℕ, ◌+◌, ◌-◌, List, [], ◌++◌, length, take, drop, Option, Some, sym, ◌∙◌, ap, arith, subst, append_assoc, append-nil, length-drop}
 use Rattle.std.proofs.lemmas.List.{take_all}
 use Rattle.std.proofs.Math.Seq.{take-add}
@@ -40,7 +40,7 @@ lowers_more first next last m n front piece room is =
     let after = piece (room - m) before.1 in
     (omega (arith, before.0, after.0), after.1 ∙ ap Some (omega arith))
 
--- where nothing more is taken, the room was used up
+-- if nothing more is accepted, the room was used up
 pub used_up : (first next : Option ℕ) (n : ℕ) (piece : List ℕ) → Lowers first n next
     → IsFull next piece → (room : ℕ) → first ≡ Some room → room ≡ n
 used_up first next n piece lowered full room is =

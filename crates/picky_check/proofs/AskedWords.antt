@@ -1,4 +1,4 @@
--- The words of a command, by the texts of its words.
+-- The words of a command, by their texts.
 use Rattle.std.proofs.Common.{◌≡◌, ℕ, ◌-◌, ◌≤◌, List, [], ◌∷◌, length, get_or, take, drop, map, option_map, Bool, true, Option, Some, None, IsSome, refl, sym, ap, subst, ◌∙◌, arith}
 use Rattle.std.specs.Prelude.{codes}
 use Rattle.std.specs.Str.{bytes_eq}
@@ -14,7 +14,7 @@ pub some_is : {A : Type 0} (o : Option A) → IsSome o → (x : A) × (o ≡ Som
 some_is (Some x) there = (x, refl)
 some_is None there = absurd cc
 
--- where there are three words behind it and the last is a hash, they ask for a job
+-- if there are three words after it and the last is a hash, they request a job
 pub basic_asks : {W : Type 0} (text : W → List ℕ) (words : List W) (word : W) → length words ≡ 3 → word ≡ get_or words 2 word → IsSome (asked_hash (text word))
     → (job : Job) × AsksFor (codes "basic" ∷ map text words) job
 basic_asks text (signature ∷ table ∷ hash ∷ []) word three last there =
@@ -22,7 +22,7 @@ basic_asks text (signature ∷ table ∷ hash ∷ []) word three last there =
     (Basic (text signature) (text table) known.0, record { word = text hash; words_are = refl; hash_is = ap (λ w. asked_hash (text w)) (sym last) ∙ known.1 })
 basic_asks text words word three last there = absurd (omega arith)
 
--- the words behind the first, as the code has them
+-- the words after the first, as in the code
 abbrev pub behind : {W : Type 0} → List W → List W
 behind words = take (length words - 1) (drop 1 words)
 
@@ -33,7 +33,7 @@ words_are text (word ∷ words) first command some is said =
     let all = take_all (length (word ∷ words) - 1) words (omega arith) in
     cc
 
--- the test of a command's word says that it is that word
+-- the test for a command's word says that it is that word
 pub text_is : (text other : List ℕ) (test : Bool) → test ≡ bytes_eq text other → test ≡ true → text ≡ other
 text_is text other test is holds = (bytes_eq-Decides text other).0 (sym is ∙ holds)
 
@@ -43,13 +43,13 @@ first_word x y xs ys are = cc
 chain_is_not_check : codes "chain" ≡ codes "check" → ⊥
 chain_is_not_check is = omega (arith, ap (λ (word : List ℕ). get_or word 2 0) is)
 
--- what is found, where something is
+-- what is found, if anything
 pub found : {A B : Type 0} (f : A → B) (o : Option A) (x : A) (b : Option B) → option_map f o ≡ b → o ≡ Some x → b ≡ Some (f x)
 found f o x b is some = sym is ∙ ap (option_map f) some
 
 -- ---- words of `check`
 
--- the words behind the first four, as the code has them
+-- the words after the first four, as in the code
 abbrev pub behind_four : {W : Type 0} → List W → List W
 behind_four words = take (length words - 4) (drop 4 words)
 
@@ -92,7 +92,7 @@ module _ (signature table hash_word date_word : List ℕ) (option_words : List (
   no_chain t d names asked =
       chain_is_not_check (sym (first_word (codes "check") (codes "chain") (signature ∷ table ∷ hash_word ∷ date_word ∷ option_words) (t ∷ asked.word ∷ names) asked.words_are))
 
-  -- where those behind the date are no options, they ask for nothing
+  -- if those after the date are no options, they are no command
   pub no_check : ((o : CheckOptions) → AreOptions option_words o → ⊥) → (job : Job) → AsksFor Words job → ⊥
   no_check none (Basic s t h) asked = let are = asked.words_are in absurd cc
   no_check none (Check s t h d o) asked = none o (options_in s t h d o asked)
@@ -113,7 +113,7 @@ module _ (signature table hash_word date_word : List ℕ) (option_words : List (
       },
     )
 
-    -- they ask for one job
+    -- they request one job
     pub only_check : (hash : List ℕ) → asked_hash hash_word ≡ Some hash → ((d : GeneralizedTime) → IsDateWord date_word d → Some date ≡ Some d)
         → ((o : CheckOptions) → AreOptions option_words o → Some options ≡ Some o) → (job : Job) → AsksFor Words job
         → Some (Check signature table hash date options) ≡ Some job

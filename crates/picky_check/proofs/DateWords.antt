@@ -1,4 +1,4 @@
--- The octets of a word that is a day are those of the first second of that day.
+-- The octets of a day's word are those of the first second of that day.
 use Rattle.std.proofs.Common.{◌≡◌, ◌↔◌, ℕ, ◌+◌, ◌/◌, ◌%◌, List, [], ◌∷◌, length, get_or, inl, inr, refl, ap, arith}
 use Rattle.asn1_types.specs.Time.{generalized_contents}
 use Rattle.asn1_types.specs.declared.generalized_time.GeneralizedTime.{GeneralizedTime}
@@ -13,7 +13,7 @@ first_digit n none = rw none refl
 last_digit : (n : ℕ) → n ≡ 0 → 48 + n % 10 ≡ 48
 last_digit n none = rw none refl
 
--- the octets of a day, without the marks, and with the digits of midnight
+-- the octets of a day, without separators, and with the digits of midnight
 abbrev spelled : List ℕ → List ℕ
 spelled word =
     get_or word 0 0 ∷ get_or word 1 0 ∷ get_or word 2 0 ∷ get_or word 3 0 ∷ get_or word 5 0 ∷ get_or word 6 0 ∷ get_or word 8 0 ∷ get_or word 9 0

@@ -9,11 +9,11 @@ stands f none = elim f.reported [
   | inr same ↦ same
 ]
 
--- where none failed so far
+-- if none failed so far
 pub none_failed : {HasFailed : Type 0} {before now : ℕ} → now ≡ before → FailsOnce HasFailed before now
 none_failed same = record { once = omega (arith, same); reported = inr same }
 
--- where none failed before
+-- if none failed before
 pub failed_then : {HasFailed : Type 0} {before between now : ℕ} → between ≡ before → FailsOnce HasFailed between now → FailsOnce HasFailed before now
 failed_then {HasFailed} {now = now} same f = subst (λ (n : ℕ). FailsOnce HasFailed n now) same f
 

@@ -1,4 +1,4 @@
--- What is found out about the files of a job follows from how they were read and what they say.
+-- The result for the files of a job follows from reading them and from their contents.
 use Rattle.std.proofs.Common.{◌≡◌, ℕ, List, [], ◌∷◌, ◌++◌, Option, IsSome, Result, Err, IfOk, IfErr, inl, inr, refl, subst}
 use Rattle.std.proofs.lemmas.List.Elements.{All-cons, All-nil}
 use Rattle.std.proofs.lemmas.Result.{IfOk-weaker, IfErr-weaker}
@@ -67,7 +67,7 @@ none_long files names contents ahead behind name whole are l =
 
 -- ---- inquiries
 
--- where there was no memory for the job itself
+-- if memory ran out for the job itself
 pub IsInquiry-memory : (before after : ShelfState) (job : Job) → IsInquiry before after job (Err stop.Memory)
 IsInquiry-memory before after job = record {
   reported = tt;
@@ -82,7 +82,7 @@ module _ (before after : ShelfState) (job : Job) where
   all_short : (contents : List (List ℕ)) → AreWholeFiles before.files (files_of job) contents → IsSome before.files → FindsLongFile before after (files_of job) → ⊥
   all_short contents whole t l = none_long before.files (files_of job) contents l.ahead l.behind l.name whole l.names_are (l.is_long t)
 
-  -- where the files were not all read
+  -- if the files were not all read
   pub IsInquiry-unread : (e : FileError) → AreUnread before after (files_of job) e → IsInquiry before after job (Err (stop_for_file e))
   IsInquiry-unread file.Fault h = record {
     reported = tt;
@@ -113,7 +113,7 @@ module _ (before after : ShelfState) (job : Job) where
     stopped_for_text stop.Shelf bad = absurd bad
     stopped_for_text stop.TooLong bad = absurd bad
 
-    -- where all files were read
+    -- if all files were read
     pub IsInquiry-read : (result : Result Report Stop)
         → IfOk result (λ report. (rows : List VerdictRow) × (answer : Answer)
         × IsTable (table_in job contents) rows × IsAnswerTo (verdict_of rows) job contents answer

@@ -6,7 +6,7 @@ use Rattle.picky_check.specs.declared.options.CheckOption.TheVariants as option
 use Rattle.picky_check.specs.declared.options.CheckOptions.{CheckOptions}
 use Rattle.picky_check.specs.Options.{AreOptions, AreWordsOf, BeginsWithOption, IsAbsent, AreOnce, no_options, standing, with_option}
 
--- ---- the first option, and those behind it
+-- ---- the first option, and the later ones
 
 no_words : (o : CheckOption) (rest : List (List ℕ)) → BeginsWithOption o [] rest → ⊥
 no_words (option.Until date) rest begins = let are = begins.1 in absurd cc
@@ -25,7 +25,7 @@ of_none (o ∷ others) are = absurd (no_words o are.0 are.1)
 pub only_none : (o : CheckOptions) → AreOptions [] o → o ≡ no_options
 only_none o h = h.stand ∙ of_none h.options h.are_words
 
--- The words begin with an option, and these stand behind it.
+-- The words begin with an option, and these follow it.
 pub record AreSplit (words : List (List ℕ)) (o : CheckOptions) : Type 0 where
   pub first : CheckOption
   pub rest : List (List ℕ)
@@ -60,13 +60,13 @@ joined words rest first others o begins h absent stand = record {
   stand = stand ∙ ap (with_option first) h.stand;
 }
 
--- ---- options that were read, and those that are left
+-- ---- options that were read, and the rest
 
 -- one of two is none, and the third is the other one
 abbrev Joins : {A : Type 0} → (none a b c : A) → Type 0
 Joins none a b c = ((a ≡ none) × (c ≡ b)) ⊎ ((b ≡ none) × (c ≡ a))
 
--- None stands in both, and the third are those of both.
+-- No option is in both, and the third has those of both.
 pub record AreTogether (a b c : CheckOptions) : Type 0 where
   pub until : Joins {A = Option GeneralizedTime} None a.until b.until c.until
   pub no_before : Joins false a.no_before b.no_before c.no_before
@@ -106,7 +106,7 @@ some_is_not_none date is = absurd cc
 true_is_not_false : true ≡ false → ⊥
 true_is_not_false is = absurd cc
 
--- the first of those that are left is read
+-- the first of the rest is read
 moves : {A : Type 0} (none x a b c : A) → (x ≡ none → ⊥) → b ≡ none → Joins none a x c → (a ≡ none) × Joins none x b c
 moves none x a b c some left (inl h) = (h.0, inr (left, h.1))
 moves none x a b c some left (inr h) = absurd (some h.0)
@@ -145,7 +145,7 @@ unread_one option.NoChain a b c absent h =
     let m = moves_back false true a.no_chain b.no_chain c.no_chain true_is_not_false absent h.no_chain in
     (m.0, record { until = h.until; no_before = h.no_before; no_after = h.no_after; no_chain = m.1 })
 
--- there are no words where there isn't one
+-- there are no words if there isn't a first one
 pub nothing_left : {W : Type 0} (text : W → List ℕ) (words : List W) → length words < 1 → map text words ≡ []
 nothing_left text [] short = refl
 nothing_left text (word ∷ words) short = absurd (omega arith)
@@ -155,7 +155,7 @@ pub record AreRead (words rest : List (List ℕ)) (read : CheckOptions) : Type 0
   pub left : (all : CheckOptions) → AreOptions words all → (others : CheckOptions) × AreOptions rest others × AreTogether read others all
   pub sound : (others all : CheckOptions) → AreOptions rest others → AreTogether read others all → AreOptions words all
 
--- where none was read
+-- if none was read
 pub none_read : (words : List (List ℕ)) → AreRead words words no_options
 none_read words = record {
   left = λ all h. (all, h, nothing_ahead all);
@@ -163,7 +163,7 @@ none_read words = record {
 }
 
 module _ (words rest : List (List ℕ)) (read : CheckOptions) (h : AreRead words rest read) where
-  -- where nothing is left
+  -- if nothing is left
   pub all_read : rest ≡ [] → AreOptions words read
   all_read none = h.sound no_options read (subst (λ (r : List (List ℕ)). AreOptions r no_options) (sym none) none_are) (nothing_behind read)
 
@@ -180,7 +180,7 @@ module _ (words rest : List (List ℕ)) (read : CheckOptions) (h : AreRead words
     together : (all : CheckOptions) (is : AreOptions words all) → AreTogether read (with_option (next all is).first (next all is).others) all
     together all is = subst (λ (o : CheckOptions). AreTogether read o all) (next all is).stand (h.left all is).2
 
-    -- where the rest begins with no option
+    -- if the rest begins with no option
     pub none_next : ((first : CheckOption) (others : List (List ℕ)) → BeginsWithOption first (word ∷ behind) others → ⊥) → (all : CheckOptions) → AreOptions words all → ⊥
     none_next none all is = let n = next all is in none n.first n.rest n.begins
 
@@ -195,11 +195,11 @@ module _ (words rest : List (List ℕ)) (read : CheckOptions) (h : AreRead words
           (subst (λ (o : CheckOption). AreTogether read (with_option o n.others) all) (sym same.0) (together all is)) in
           (r.0, (n.others, subst (λ (w : List (List ℕ)). AreOptions w n.others) (sym same.1) n.are_others, r.1))
 
-      -- where it begins with one that was read
+      -- if it begins with one that was read
       pub not_again : (IsAbsent first read → ⊥) → (all : CheckOptions) → AreOptions words all → ⊥
       not_again there all is = there (read_next all is).0
 
-      -- where it begins with one that wasn't
+      -- if it begins with one that wasn't
       pub one_more : IsAbsent first read → BeginsWithOption first (word ∷ behind) others → AreRead words others (with_option first read)
       one_more absent begins = record {
         left = λ all is. (read_next all is).1;

@@ -1,4 +1,4 @@
--- Certificates that are read one behind another.
+-- Reading certificates one after another.
 use Rattle.std.proofs.Common.{◌≡◌, ℕ, List, [], ◌∷◌, ◌++◌, map, length, Some, Result, Ok, Err, inl, inr, append_assoc, refl, sym, ap, ap₂, subst, ◌∙◌}
 use Rattle.asn1_types.specs.declared.generalized_time.GeneralizedTime.{GeneralizedTime}
 use Rattle.der_core.specs.Refusals.{RefusesOctets}
@@ -14,19 +14,19 @@ use Rattle.x509_core.specs.declared.error.CertError.{CertError}
 use Rattle.x509_core.specs.declared.error.CertError.TheVariants as cert
 use Rattle.picky_check.specs.ChainAnswer.{AreKeptCertificates, IsFirstUnread, IsAnswerOver, IsChainAnswer, all_checks}
 
--- where the first isn't read
+-- if the first isn't read
 pub first_unread : (octets : List ℕ) (others all : List (List ℕ)) (e : CertError) → all ≡ octets ∷ others → IsUnreadCert elements.Certificate (RefusesOctets IsCertificate octets) e → IsFirstUnread all e
 first_unread octets others all e are unread = subst (λ (xs : List (List ℕ)). IsFirstUnread xs e) (sym are) (inl unread)
 
--- where there was no memory to keep it
+-- if memory ran out for storing it
 pub unkept : (octets : List ℕ) (others all : List (List ℕ)) → all ≡ octets ∷ others → IsFirstUnread all cert.Memory
 unkept octets others all are = first_unread octets others all cert.Memory are (der.Memory, refl, tt)
 
--- where it is read, and one behind it isn't
+-- if it is read, and a later one isn't
 pub later_unread : (octets : List ℕ) (others all : List (List ℕ)) (e : CertError) (certificate : KeptCertificate) → all ≡ octets ∷ others → kept_octets certificate ≡ octets → IsFirstUnread others e → IsFirstUnread all e
 later_unread octets others all e certificate are kept unread = subst (λ (xs : List (List ℕ)). IsFirstUnread xs e) (sym are) (inr ((certificate, kept), unread))
 
--- where it is read, and all behind it are
+-- if it is read, and so are all later ones
 pub read_behind : (octets : List ℕ) (others all : List (List ℕ)) (certificate : KeptCertificate) (before kept after : List KeptCertificate)
     → all ≡ octets ∷ others → kept_octets certificate ≡ octets → kept ≡ before ++ certificate ∷ []
     → (read : List KeptCertificate) × (after ≡ kept ++ read) × AreKeptCertificates others read
@@ -37,9 +37,9 @@ read_behind octets others all certificate before kept after are is pushed h = (
   ap₂ (λ (x : List ℕ) (xs : List (List ℕ)). x ∷ xs) is h.2 ∙ sym are,
 )
 
--- ---- answers about a certificate that was read
+-- ---- results for a certificate that was read
 
--- where an answer is about it, it is about its octets
+-- a result for it is one for its octets
 pub answer_over : (judge : Judge) (date : GeneralizedTime) (octets : List ℕ) (others : List (List ℕ)) (checked : KeptCertificate) (answer : Result ℕ CertError)
     → kept_octets checked ≡ octets → IsAnswerOver judge date checked others answer → IsChainAnswer judge date (octets ∷ others) answer
 answer_over judge date octets others checked (Ok count) kept (inl unread) = absurd unread
@@ -47,7 +47,7 @@ answer_over judge date octets others checked (Err e) kept (inl unread) = inl (in
 answer_over judge date octets others checked answer kept (inr judged) =
     inr (checked ∷ judged.0, ap₂ (λ (x : List ℕ) (xs : List (List ℕ)). x ∷ xs) kept judged.1, judged.2)
 
--- all that was read are the parents, where nothing was read before
+-- all that was read are the parents, if nothing was read before
 module _ (judge : Judge) (date : GeneralizedTime) (octets : List (List ℕ)) (checked : KeptCertificate) (before all : List KeptCertificate) (none : before ≡ [])
     (read : (x : List KeptCertificate) × (all ≡ before ++ x) × AreKeptCertificates octets x) where
   are_all : AreKeptCertificates octets all

@@ -1,11 +1,11 @@
--- A file that is read piece by piece.
+-- Reading a file piece by piece.
 use Rattle.std.proofs.Common.{◌≡◌, ℕ, ◌+◌, ◌<◌, inl, inr, List, [], ◌++◌, length, take, drop, Option, Some, refl, sym, ◌∙◌, ap, arith, append_assoc, append-nil, length-append}
 use Rattle.std.proofs.lemmas.List.{take-append-drop}
 use Rattle.der_core.specs.Counts.{GoesOn, HasRisen, RisesBy}
 use Rattle.picky_check.specs.Limits.{longest_file}
 use Rattle.picky_check.specs.Shelf.{Files, file_of, IsPicked, Moves}
 
--- what was read so far of the file of this name, and what is left of it
+-- what was read so far of the file with this name, and the rest of it
 pub record HasRead (files : Option Files) (name octets : List ℕ) (rest : Option (List ℕ)) : Type 0 where
   pub file : List ℕ
   pub named : file_of files name ≡ Some file

@@ -14,11 +14,11 @@ use Rattle.picky_check.specs.Answer.{IsSignatureAnswer}
 use Rattle.picky_check.specs.Report.{Answer, OfSignature, OfChain, WantsMemory}
 use Rattle.picky_check.specs.Inquiry.{IsReported, GivesReport, Reports}
 
--- what is reported is given
+-- what is reported is the answer
 pub GivesReport-reported : (answer : Answer) (result : Result Report Stop) → IsReported answer result → GivesReport answer result
 GivesReport-reported answer result h other = h
 
--- an answer that is want of memory isn't reported, so that memory ran out
+-- out of memory isn't reported, so memory ran out
 pub out_of_memory : (answer other : Answer) (result : Result Report Stop) → WantsMemory answer → IsReported answer result
     → IsReported other result
 out_of_memory answer other (Ok report) wants h = absurd (h.reportable wants)
@@ -33,7 +33,7 @@ pub reported_is : (Is : Answer → Type 0) (answer : Answer) (result : Result Re
 reported_is Is answer (Ok report) is h only = record { reported = (answer, is, h); stopped = tt; only = only }
 reported_is Is answer (Err s) is h only = record { reported = tt; stopped = h; only = only }
 
--- ---- of a signature file
+-- ---- for a signature file
 
 same_or_memory : (a b : Result Accepted CheckError) → AreOneUnlessMemory check.Memory a b → WantsMemory (OfSignature a) ⊎ (WantsMemory (OfSignature b) ⊎ (a ≡ b))
 same_or_memory a b (inl same) = inr (inr same)

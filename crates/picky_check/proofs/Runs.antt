@@ -1,4 +1,4 @@
--- What a run does follows from what was found out about the files, and from what the sink took.
+-- What a run does follows from the result for the files, and from what the sink accepted.
 use Rattle.std.proofs.Common.{◌≡◌, ◌≢◌, ◌⊎◌, ℕ, ◌<◌, ◌≤◌, List, length, IsSome, Result, Ok, Err, inl, inr, refl, sym, ◌∙◌, ap, subst, arith}
 use Rattle.std.specs.Prelude.{string_bytes}
 use Rattle.der_core.specs.Counts.{HasRisen}
@@ -81,7 +81,7 @@ low (OfSignature (Err e)) = omega arith
 low (OfChain (Ok count)) = omega arith
 low (OfChain (Err e)) = omega arith
 
--- a sink that has room for a text takes it whole
+-- a sink that has room for a text accepts it whole
 no_room : (text : List ℕ) (out out_now : SinkState) → IsCutShort text out out_now
     → HasRoom out.room (length text) → ⊥
 no_room text out out_now cut has = omega (arith, cut.short, cut.full has.0 has.1, has.2)
@@ -97,7 +97,7 @@ lacks_room answer report out out_now h cut =
     no_room (report_line answer) out out_now (cut_line answer report out out_now h cut)
 
 module _ (words : List (List ℕ)) (shelf shelf_now : ShelfState) (settled : AsksForNothing words ⊎ ((job : Job) × AsksFor words job)) where
-  -- where there is no report
+  -- if there is no report
   module _ (s : Stop)
       (unasked : AsksForNothing words → ◌≡◌ {A = Result Report Stop} (Err s) (Err stop.Usage))
       (asked : (job : Job) → AsksFor words job → IsInquiry shelf shelf_now job (Err s)) where
@@ -107,7 +107,7 @@ module _ (words : List (List ℕ)) (shelf shelf_now : ShelfState) (settled : Ask
     is_usage_status : AsksForNothing words → status_for s ≡ 2
     is_usage_status none = let e = unasked none in let same : s ≡ stop.Usage = cc in ap status_for same
 
-    -- a stop for another reason than usage is of a job
+    -- a stop for another reason than usage is one of a job
     stopped_job : (t : Stop) → t ≢ stop.Usage → s ≡ t → (job : Job) × AsksFor words job
         × IsStopped shelf shelf_now job t
     stopped_job t other is = elim settled [
@@ -144,7 +144,7 @@ module _ (words : List (List ℕ)) (shelf shelf_now : ShelfState) (settled : Ask
       missing_status ahead (inl h) = inl (stop_status s stop.Shelf h)
       missing_status ahead (inr h) = let e = h.0 in let same : s ≡ stop.TooLong = cc in inr (ap status_for same, h.1)
 
-  -- where there is a report, and the sink took all of its line, or a front of it
+  -- if there is a report, and the sink accepted its line, or a prefix of it
   module _ (report : Report)
       (unasked : AsksForNothing words → ◌≡◌ {A = Result Report Stop} (Ok report) (Err stop.Usage))
       (asked : (job : Job) → AsksFor words job
@@ -176,7 +176,7 @@ module _ (words : List (List ℕ)) (shelf shelf_now : ShelfState) (settled : Ask
     low_status : report.status < 2
     low_status = omega (arith, low the_answer.0, the_answer.1.status)
 
-    -- the report is that of each answer that is given
+    -- the report is that of each answer
     given : (job : Job) (answer : Answer) → AsksFor words job → shelf.is_quiet → IsSome shelf.files
         → IsAnswered shelf.files job answer → (WantsMemory answer → ⊥) → IsReportOf answer report
     given job answer some q t a reportable = (asked job some).answered answer t a q reportable

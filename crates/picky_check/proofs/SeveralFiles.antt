@@ -1,4 +1,4 @@
--- What is read of several files, or why they aren't all read, follows from one of them and the rest.
+-- Reading several files, or why they aren't all read, follows from one of them and the rest.
 use Rattle.std.proofs.Common.{◌≡◌, ◌≢◌, ℕ, suc, ◌+◌, List, [], ◌∷◌, ◌++◌, length, Option, Some, None, IsSome, refl, sym, ap, subst, arith}
 use Rattle.std.proofs.lemmas.List.Elements.{All-head, All-tail}
 use Rattle.std.proofs.lemmas.List.Sums.{sum_by-cons}
@@ -48,11 +48,11 @@ not_long files name octets whole long =
 pub not_missing : (files : Option Files) (name octets : List ℕ) → IsWholeFile files name octets → IsMissingFile files name → ⊥
 not_missing files name octets whole m = no_file (file_of files name) octets m.none (whole.as_told m.told)
 
--- files of a shelf that tells the same ones
+-- files of a shelf that exposes the same ones
 pub whole_along : (files others : Option Files) (names contents : List (List ℕ)) → files ≡ others → AreWholeFiles files names contents → AreWholeFiles others names contents
 whole_along files others names contents same = subst (λ (f : Option Files). AreWholeFiles f names contents) same
 
--- ---- one file, and those behind it
+-- ---- one file, and the later ones
 
 rises_with : (octets : List ℕ) (contents : List (List ℕ)) (more before between after : ℕ) → RisesBy (length octets) before between
     → RisesBy (total_length contents + more) between after → RisesBy (total_length (octets ∷ contents) + more) before after
@@ -61,7 +61,7 @@ rises_with octets contents more before between after first rest =
     let total = sum_by-cons (λ (o : List ℕ). length o) octets contents in
     subst (λ (n : ℕ). RisesBy n before after) (omega (arith, total)) all
 
--- where there was no memory
+-- if memory ran out
 pub unread_memory : (before after : ShelfState) (names : List (List ℕ)) → AreUnread before after names file.Memory
 unread_memory before after names = record {
   failed = λ e. absurd cc;
@@ -81,7 +81,7 @@ module _ (before between after : ShelfState) (name : List ℕ) (names : List (Li
   long_ahead long missing (one ∷ ahead) behind other are m l =
       (0, one, omega arith, refl, subst (IsLongFile before.files) (first_is name one names (ahead ++ other ∷ behind) are) (long l m.told))
 
-  -- the first is there, where it is longer than is read, and where it is ahead of one that is
+  -- the first exists, if it is too long, or earlier than one that is
   there_first : (ahead behind : List (List ℕ)) (other : List ℕ) → name ∷ names ≡ ahead ++ other ∷ behind
       → IsLongFile before.files other → HasFiles before.files ahead → IsSome (file_of before.files name)
   there_first [] behind other are long there =
@@ -90,7 +90,7 @@ module _ (before between after : ShelfState) (name : List ℕ) (names : List (Li
       subst (λ (n : List ℕ). IsSome (file_of before.files n)) (sym (first_is name one names (ahead ++ other ∷ behind) are))
       (All-head (λ (n : List ℕ). IsSome (file_of before.files n)) one ahead there)
 
-  -- where the first file isn't read
+  -- if the first file isn't read
   pub unread_first : (e ≡ file.Fault → HasRisen before.faults after.faults)
       → (before.is_quiet → IsSome (file_of before.files name) → e ≢ file.Fault)
       → (e ≡ file.TooLong → HandsOut (longest_file + 1) before after)
@@ -116,7 +116,7 @@ module _ (before between after : ShelfState) (name : List ℕ) (names : List (Li
     missing = long_ahead long missing;
   }
 
-  -- where it is read, and one behind it isn't
+  -- if it is read, and a later one isn't
   module _ (octets : List ℕ) (whole : IsWholeFile before.files name octets) (same : between.files ≡ before.files)
       (quiet : before.is_quiet → IsSome (file_of before.files name) → between.is_quiet)
       (faults : GoesOn before.faults between.faults) (given : HandsOut (length octets) before between)

@@ -1,4 +1,4 @@
--- Answers about the same octets of certificates are of one kind.
+-- Results for the same octets of certificates are of one kind.
 use Rattle.std.proofs.Common.{◌≡◌, ◌⊎◌, ℕ, List, [], ◌∷◌, ◌++◌, map, Option, Some, Result, Ok, Err, inl, inr, refl, sym, ap, subst, ◌∙◌}
 use Rattle.std.specs.Prelude.{codes}
 use Rattle.std.proofs.Math.Logic.{∥∥₁_elim}
@@ -46,7 +46,7 @@ same_certificates (x ∷ xs) (y ∷ ys) same =
 spells_none : (kept : KeptCertificate) → ((c : Certificate) → IsCertificate (certificate_of kept.elements) c → ⊥) → ⊥
 spells_none kept none = ∥∥₁_elim kept.spelled (λ x y. absurd x) (λ are. none kept.certificate (record { elements = kept.elements; is = refl; spelled = are }))
 
--- what is a certificate is refused only when out of memory
+-- octets of a certificate are refused only when out of memory
 refused_for_memory : (kept : KeptCertificate) (octets : List ℕ) (source : DerError) → kept_octets kept ≡ octets → RefusesOctets IsCertificate octets source → source ≡ der.Memory
 refused_for_memory kept octets (der.Malformed m) is refused =
     absurd (no_fault_where_whole octets (certificate_of kept.elements) m.at m.fault kept.der (sym is) refused)
@@ -57,7 +57,7 @@ refused_for_memory kept octets der.TooDeep is refused = absurd refused
 refused_for_memory kept octets der.TooLong is refused = absurd refused
 refused_for_memory kept octets der.Memory is refused = refl
 
--- where all are certificates, none is refused but for want of memory
+-- if all are certificates, none is refused except for out of memory
 unread_is_memory : (octets : List (List ℕ)) (certificates : List KeptCertificate) (e : CertError) → AreKeptCertificates octets certificates → IsFirstUnread octets e → e ≡ cert.Memory
 unread_is_memory [] certificates e are unread = absurd unread
 unread_is_memory (one ∷ others) [] e are unread = absurd cc
@@ -65,7 +65,7 @@ unread_is_memory (one ∷ others) (kept ∷ certificates) e are (inl refused) =
     refused.1 ∙ ap (unread elements.Certificate) (refused_for_memory kept one refused.0 (cc) refused.2)
 unread_is_memory (one ∷ others) (kept ∷ certificates) e are (inr behind) = unread_is_memory others certificates e (cc) behind.1
 
--- one is want of memory, or they have one name
+-- one is out of memory, or they have one name
 abbrev IsNamedAlike : CertError → CertError → Type 0
 IsNamedAlike e f = (e ≡ cert.Memory) ⊎ ((f ≡ cert.Memory) ⊎ (cert_error_name e ≡ cert_error_name f))
 
@@ -76,7 +76,7 @@ unread_name der.TooDeep = inr refl
 unread_name der.TooLong = inr refl
 unread_name der.Memory = inl refl
 
--- octets that are no certificate are refused by this name
+-- octets that are no certificate are refused with this name
 first_name : (octets : List (List ℕ)) (e : CertError) → IsFirstUnread octets e → (e ≡ cert.Memory) ⊎ (cert_error_name e ≡ codes "Asn1Deserialization")
 first_name [] e h = absurd h
 first_name (one ∷ others) e (inl refused) =
@@ -92,7 +92,7 @@ unread_alike octets e f a b = elim (first_name octets e a) [
   ]
 ]
 
--- ---- answers about the same octets
+-- ---- results for the same octets
 
 wants : (e : CertError) → e ≡ cert.Memory → WantsMemory (OfChain (Err e))
 wants e is = subst (λ (x : CertError). WantsMemory (OfChain (Err x))) (sym is) tt
@@ -106,7 +106,7 @@ one_count : (judge : Judge) (date : GeneralizedTime) (certificates : List KeptCe
 one_count judge date [] m n a b = absurd a
 one_count judge date (checked ∷ parents) m n a b = a.0 ∙ sym b.0
 
--- what is accepted breaks no rule, and one error tells of the first that is broken
+-- what is accepted breaks no rule, and one error reports the first broken one
 module _ (unbroken : (judge : Judge) (checks : ChainChecks) (checked : KeptCertificate) (given : Option (List KeptCertificate)) (e : CertError)
     → IsAccepted judge checks checked given → IsFirstBroken (chain_rules judge checks checked given) e → ⊥)
     (once : (judge : Judge) (checks : ChainChecks) (checked : KeptCertificate) (given : Option (List KeptCertificate)) (e f : CertError)

@@ -1,4 +1,4 @@
--- What is accepted of certificates is vouched for.
+-- Accepted certificates are vouched for.
 use Rattle.std.proofs.Common.{◌≡◌, List, [], ◌∷◌, ℕ, ◌+◌, length, Option, Some, Ok, inl, inr, refl, subst}
 use Rattle.asn1_types.specs.declared.generalized_time.GeneralizedTime.{GeneralizedTime}
 use Rattle.sig_core.specs.declared.verdict_row.VerdictRow.{VerdictRow}

@@ -1,4 +1,4 @@
--- What is accepted of a signature file is vouched for.
+-- An accepted signature file is vouched for.
 use Rattle.std.proofs.Common.{◌≡◌, List, ℕ, ◌+◌, length, Option, Some, Ok, refl, subst}
 use Rattle.asn1_types.specs.declared.generalized_time.GeneralizedTime.{GeneralizedTime}
 use Rattle.cms_types.specs.SignedDataElements.{SignedDataElements}

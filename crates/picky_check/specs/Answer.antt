@@ -1,4 +1,4 @@
--- What the files say that a job names: the answer, or that the table is none.
+-- The result for the files of a job, or that the verdict table has a bad line.
 use Rattle.std.specs.Prelude.{ℕ, List, [], ◌∷◌, Option, Result}
 use Rattle.asn1_types.specs.declared.generalized_time.GeneralizedTime.{GeneralizedTime}
 use Rattle.sig_core.specs.declared.verdict_row.VerdictRow.{VerdictRow}
@@ -16,30 +16,30 @@ use Rattle.picky_check.specs.ReadFiles.{HandsOut, total_length}
 use Rattle.picky_check.specs.Shelf.{Files, ShelfState}
 use Rattle.picky_check.specs.Words.{Job, Basic, Check, Chain, files_of}
 
--- the text of the table, among the contents of the files
+-- the text of the verdict table, among the contents of the files
 abbrev pub table_in : Job → List (List ℕ) → List ℕ
 table_in (Basic signature table hash) (octets ∷ text ∷ others) = text
 table_in (Check signature table hash date options) (octets ∷ text ∷ others) = text
 table_in (Chain table date certificates) (text ∷ others) = text
 table_in job contents = []
 
--- An answer of the check of a signature file, under what is asked of it. It is a record, so that
--- proofs hand it on as one thing.
+-- A result of the check of a signature file under a policy. It is a record, so that proofs pass it
+-- on as one thing.
 pub record IsCheckAnswer (judge : Judge) (policy : Policy) (octets : List ℕ)
     (given : Result Accepted CheckError) : Type 0 where
   pub is : IsAnswer judge policy octets given
 
--- an answer about the octets of a signature file
+-- a result for the octets of a signature file
 abbrev pub IsSignatureAnswer : Judge → Policy → (octets : List ℕ) → Answer → Type 0
 IsSignatureAnswer judge policy octets (OfSignature given) = IsCheckAnswer judge policy octets given
 IsSignatureAnswer judge policy octets (OfChain given) = ⊥
 
--- an answer about the octets of certificates
+-- a result for the octets of certificates
 abbrev pub IsCertificateAnswer : Judge → GeneralizedTime → List (List ℕ) → Answer → Type 0
 IsCertificateAnswer judge date octets (OfSignature given) = ⊥
 IsCertificateAnswer judge date octets (OfChain given) = IsChainAnswer judge date octets given
 
--- The answer to a job about the contents of its files, where these are the verdicts of its table.
+-- The result of a job for the contents of its files, with the verdicts of its table.
 abbrev pub IsAnswerTo : Judge → Job → List (List ℕ) → Answer → Type 0
 IsAnswerTo judge (Basic signature table hash) (octets ∷ others) answer =
     IsSignatureAnswer judge (basic_policy hash) octets answer
@@ -49,8 +49,8 @@ IsAnswerTo judge (Chain table date certificates) (text ∷ octets) answer =
     IsCertificateAnswer judge date octets answer
 IsAnswerTo judge job contents answer = ⊥
 
--- The answer to a job, by the verdicts of its table. The contents are those of the named files, as
--- far as the shelf exposes its files.
+-- The result of a job, with the verdicts of its table. The contents are those of the named files,
+-- as far as the shelf exposes its files.
 pub record IsAnswered (files : Option Files) (job : Job) (answer : Answer) : Type 0 where
   pub contents : List (List ℕ)
   pub rows : List VerdictRow
@@ -58,22 +58,22 @@ pub record IsAnswered (files : Option Files) (job : Job) (answer : Answer) : Typ
   pub is_table : IsTable (table_in job contents) rows
   pub is_answer : IsAnswerTo (verdict_of rows) job contents answer
 
--- The files of a job, with a text that has a bad line in the place of the table: they are the named
--- files, as far as the shelf exposes its files.
+-- The files of a job, whose table has a bad line: they are the named files, as far as the shelf
+-- exposes its files.
 pub record HasBadTable (files : Option Files) (job : Job) : Type 0 where
   pub contents : List (List ℕ)
   pub number : ℕ
   pub are_files : AreWholeFiles files (files_of job) contents
   pub bad_line : IsFirstBadLine (table_in job contents) number
 
--- ---- with just the octets of the files handed out
+-- ---- where exactly the octets of the files were handed out
 
--- The answer to a job, about files that were read.
+-- The result of a job, for files that were read.
 pub record AnswersRead (before after : ShelfState) (job : Job) (answer : Answer) : Type 0 where
   pub is_answered : IsAnswered before.files job answer
   pub given : HandsOut (total_length is_answered.contents) before after
 
--- A text with a bad line, among files that were read.
+-- A table with a bad line, among files that were read.
 pub record FindsBadTable (before after : ShelfState) (job : Job) : Type 0 where
   pub has_bad_table : HasBadTable before.files job
   pub given : HandsOut (total_length has_bad_table.contents) before after

@@ -1,4 +1,4 @@
--- What is answered about a certificate over its parents, by their octets.
+-- The result for a certificate with its parents, from their octets.
 use Rattle.std.specs.Prelude.{◌≡◌, ◌⊎◌, ℕ, List, [], ◌∷◌, length, map, Some, Result, Ok, Err}
 use Rattle.std.specs.Result.{IsErrAnd}
 use Rattle.asn1_types.specs.declared.generalized_time.GeneralizedTime.{GeneralizedTime}
@@ -15,15 +15,15 @@ use Rattle.x509_core.specs.declared.error.CertError.{CertError}
 use Rattle.x509_core.specs.declared.validator.ChainChecks.{ChainChecks}
 use Rattle.x509_core.specs.declared.window.DateCheck.TheVariants as dates
 
--- all is asked for: the validity of each certificate at this moment, the parents, and a root
+-- all is checked: the validity of each certificate at this moment, the parents, and the root
 abbrev pub all_checks : GeneralizedTime → ChainChecks
 all_checks date = checks_at (dates.Exact date) first_checks
 
--- the octets are those of these certificates, as they are kept
+-- the octets are those of these certificates
 abbrev pub AreKeptCertificates : List (List ℕ) → List KeptCertificate → Type 0
 AreKeptCertificates octets certificates = map kept_octets certificates ≡ octets
 
--- The error is about the first octets that aren't a certificate.
+-- The error is that of the first octets that aren't a certificate.
 abbrev pub IsFirstUnread : List (List ℕ) → CertError → Type 0
 IsFirstUnread [] e = ⊥
 IsFirstUnread (octets ∷ others) e =
@@ -31,8 +31,8 @@ IsFirstUnread (octets ∷ others) e =
     ⊎ (((certificate : KeptCertificate) × (kept_octets certificate ≡ octets))
     × IsFirstUnread others e)
 
--- The first certificate is accepted over the others, and these are counted; or the error is that of
--- the first rule that is broken.
+-- The first certificate is accepted with the others, and these are counted; or the error reports
+-- the first broken rule.
 abbrev pub IsChainJudged : Judge → GeneralizedTime → List KeptCertificate → Result ℕ CertError
     → Type 0
 IsChainJudged judge date [] answer = ⊥
@@ -41,15 +41,15 @@ IsChainJudged judge date (checked ∷ parents) (Ok count) =
 IsChainJudged judge date (checked ∷ parents) (Err e) =
     RefusesCertBy (chain_rules judge (all_checks date) checked (Some parents)) e
 
--- Octets that aren't all certificates are refused for the first that is none; else the answer is
--- one about the certificates.
+-- Octets that aren't all certificates are refused for the first that is none; else the result is
+-- that for the certificates.
 abbrev pub IsChainAnswer : Judge → GeneralizedTime → List (List ℕ) → Result ℕ CertError → Type 0
 IsChainAnswer judge date octets answer =
     IsErrAnd answer (IsFirstUnread octets)
     ⊎ ((certificates : List KeptCertificate) × AreKeptCertificates octets certificates
     × IsChainJudged judge date certificates answer)
 
--- The same for a certificate that was read, about the octets of the others.
+-- The same for a certificate that was read, and the octets of the others.
 abbrev pub IsAnswerOver : Judge → GeneralizedTime → KeptCertificate → List (List ℕ)
     → Result ℕ CertError → Type 0
 IsAnswerOver judge date checked octets answer =

@@ -1,4 +1,4 @@
--- Acceptance means vouched for: a certificate over its parents.
+-- Acceptance means vouched for: a certificate with its parents.
 use Rattle.std.specs.Prelude.{List, ◌∷◌, ◌+◌, length, ℕ, Option, true}
 use Rattle.asn1_types.specs.declared.generalized_time.GeneralizedTime.{GeneralizedTime}
 use Rattle.sig_core.specs.declared.verdict_row.VerdictRow.{VerdictRow}
@@ -18,17 +18,17 @@ use Rattle.picky_check.specs.Shelf.{ShelfState}
 use Rattle.picky_check.specs.Sink.{Appends}
 use Rattle.picky_check.specs.Words.{Chain, AsksFor}
 
--- a certificate has to be valid at this moment: already, and still
+-- a certificate must be valid at this moment: already, and still
 abbrev pub window_at : GeneralizedTime → Window
 window_at date = record { date = dates.Exact date; not_before = true; not_after = true }
 
 -- The words are chain TABLE DATE CERT .. The octets of the files CERT are certificates, and the
--- text of the file TABLE is a table, as far as the shelf exposes its files; and exactly these
--- octets and this text were handed out. The first certificate is valid at DATE. Each of the others
--- is, and may have issued the one before it: it is a CA certificate, its path length allows those
--- between, names and key identifiers agree, and the table accepts the signature over the octets
--- that the file holds. The last is a root. If the sink exposes its contents, exactly the line that
--- says how many these others are has been appended.
+-- text of the file TABLE is a verdict table, as far as the shelf exposes its files; and exactly
+-- these octets and this text were handed out. The first certificate is valid at DATE. Each of the
+-- others is, and may have issued the one before it: it is a CA certificate, its path length allows
+-- those between, names and key identifiers agree, and the table accepts the signature over the
+-- octets in the file. The last is a root. If the sink exposes its contents, exactly the line with
+-- the number of these others has been appended.
 pub record IsVouchedChain (words : List (List ℕ)) (shelf shelf_now : ShelfState)
     (held held_now : Option (List ℕ)) : Type 0 where
   pub table : List ℕ

@@ -1,4 +1,4 @@
--- The word DATE: a day, or a moment of one (ISO 8601).
+-- The word DATE: a day, or a second of one (ISO 8601).
 use Rattle.std.specs.Prelude.{◌≡◌, ◌⊎◌, ℕ, ◌/◌, ◌%◌, List, ◌++◌, codes}
 use Rattle.asn1_types.specs.Time.{two_digits, year_of, month_of, day_of, hour_of, minute_of, second_of}
 use Rattle.asn1_types.specs.declared.generalized_time.GeneralizedTime.{GeneralizedTime}
@@ -21,6 +21,6 @@ pub record IsMidnight (t : GeneralizedTime) : Type 0 where
   pub minute : minute_of t ≡ 0
   pub second : second_of t ≡ 0
 
--- The word is this moment in digits, or its day alone where it is the day's first second.
+-- The word is this moment in digits, or only its day if it is the day's first second.
 abbrev pub IsDateWord : List ℕ → GeneralizedTime → Type 0
 IsDateWord word t = ((word ≡ day_text t) × IsMidnight t) ⊎ (word ≡ moment_text t)

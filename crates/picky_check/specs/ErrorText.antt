@@ -9,6 +9,6 @@ file_error_text files.Fault = codes "the file can't be read"
 file_error_text files.TooLong = codes "the file has more than 16777216 octets"
 file_error_text files.Memory = codes "out of memory"
 
--- what is told of a shelf or a sink that failed
+-- that a shelf or a sink failed
 abbrev pub failed_text : List ℕ
 failed_text = codes "the outside failed"

@@ -17,10 +17,10 @@ use Rattle.picky_check.specs.Shelf.{ShelfState}
 use Rattle.picky_check.specs.Sink.{Appends}
 use Rattle.picky_check.specs.Words.{Basic, Check, AsksFor}
 
--- The octets of the file SIG hold one signed data, and the text of the file TABLE is a table, as
--- far as the shelf exposes its files; and exactly these octets and this text were handed out. By
--- the verdicts of the table the signed data vouches for the digest HASH, under the key of the
--- signer's certificate, whose index is `accepted.signer`.
+-- The octets of the file SIG contain one signed data, and the text of the file TABLE is a verdict
+-- table, as far as the shelf exposes its files; and exactly these octets and this text were handed
+-- out. By the verdicts of the table the signed data vouches for the digest HASH, under the key of
+-- the signer's certificate, whose index is `accepted.signer`.
 pub record IsVouchedFile (signature table hash : List ℕ) (shelf shelf_now : ShelfState)
     (rows : List VerdictRow) (signed_data : SignedDataElements) (accepted : Accepted)
     : Type 0 where
@@ -34,13 +34,13 @@ pub record IsVouchedFile (signature table hash : List ℕ) (shelf shelf_now : Sh
   -- the one signed data
   pub holds : HasSignedData octets signed_data
   pub one : (other : SignedDataElements) → HasSignedData octets other → other ≡ signed_data
-  -- the signature, under the key of the certificate at the index that is reported
+  -- the signature, under the key of the certificate at the reported index
   pub place : ℕ
   pub place_is : accepted.signer ≡ Some place
   pub vouches : VouchesFor (verdict_of rows) signed_data hash place
 
 -- The words are basic SIG TABLE HASH, and these files vouch for HASH. If the sink exposes its
--- contents, exactly the line of what is accepted has been appended: the index of the signer's
+-- contents, exactly the line of the acceptance has been appended: the index of the signer's
 -- certificate, no path and no excuse.
 pub record IsVouchedFor (words : List (List ℕ)) (shelf shelf_now : ShelfState)
     (held held_now : Option (List ℕ)) : Type 0 where
@@ -57,14 +57,14 @@ pub record IsVouchedFor (words : List (List ℕ)) (shelf shelf_now : ShelfState)
   pub written : Appends held (accepted_line accepted) held_now
 
 -- The words are check SIG TABLE HASH DATE and options, and these files vouch for HASH. If the sink
--- exposes its contents, exactly the line of what is accepted has been appended: the index of the
+-- exposes its contents, exactly the line of the acceptance has been appended: the index of the
 -- signer's certificate, a path and an excuse. Without an excuse that certificate is valid at DATE:
--- its validity has begun by then, or by the date of --until, and hasn't ended before, but for what
--- the options leave out. The path is its issuer path, or empty under --no-chain. Each certificate
--- of the path is valid too and may have issued the one before it: it is a CA certificate, its path
--- length allows those between, names and key identifiers agree, and the table accepts the signature
--- over the octets that the file holds. An excuse is reported only of an expired certificate whose
--- expiry it excuses, with an empty path.
+-- its validity has begun by then, or by the date of --until, and hasn't ended before, except for
+-- what the options leave out. The path is its issuer path, or empty under --no-chain. Each
+-- certificate of the path is valid too and may have issued the one before it: it is a CA
+-- certificate, its path length allows those between, names and key identifiers agree, and the table
+-- accepts the signature over the octets in the file. An excuse is reported only for an expired
+-- certificate whose expiry it excuses, with an empty path.
 pub record IsVouchedSignature (words : List (List ℕ)) (shelf shelf_now : ShelfState)
     (held held_now : Option (List ℕ)) : Type 0 where
   pub signature : List ℕ

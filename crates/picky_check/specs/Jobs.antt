@@ -1,4 +1,4 @@
--- A job and the contents of its files, as the program holds them.
+-- A job and the contents of its files, as the program stores them.
 use Rattle.std.specs.Prelude.{ℕ, List, ◌∷◌, map, string_bytes}
 use Rattle.picky_check.specs.declared.files.Contents.{Contents}
 use Rattle.picky_check.specs.declared.files.Names.{Names}
@@ -6,7 +6,7 @@ use Rattle.picky_check.specs.declared.words.Job.{Job as HeldJob}
 use Rattle.picky_check.specs.declared.words.Job.TheVariants as held
 use Rattle.picky_check.specs.Words.{Job, Basic, Check, Chain}
 
--- the job that it is
+-- the job
 abbrev pub job_held : HeldJob → Job
 job_held (held.Basic signature table hash) = Basic signature.now table.now hash.items
 job_held (held.Check signature table hash date options) =

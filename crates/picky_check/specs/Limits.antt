@@ -1,18 +1,18 @@
--- How long a file may be, and what it is to have one or none by its name.
+-- The maximal length of a file, and whether a file with a name exists.
 use Rattle.std.specs.Prelude.{ℕ, List, ◌≡◌, ◌<◌, ◌≤◌, length, Option, Some, None, IsSome, All, Any}
 use Rattle.std.specs.List.{AllZip}
 use Rattle.picky_check.specs.Shelf.{Files, file_of}
 
--- octets of the longest file that is read whole: 16 MiB
+-- the length of the longest file that is read: 16 MiB
 abbrev pub longest_file : ℕ
 longest_file = 16777216
 
--- These octets are the whole file of this name, as far as the shelf exposes its files.
+-- These octets are the whole file with this name, as far as the shelf exposes its files.
 pub record IsWholeFile (files : Option Files) (name octets : List ℕ) : Type 0 where
   pub as_told : IsSome files → file_of files name ≡ Some octets
   pub short : length octets ≤ longest_file
 
--- The shelf exposes a file of this name that is longer than is read.
+-- The shelf exposes a file with this name that is too long.
 abbrev pub IsLongFile : Option Files → List ℕ → Type 0
 IsLongFile files name = (file : List ℕ) × (file_of files name ≡ Some file)
     × (longest_file < length file)
@@ -24,7 +24,7 @@ pub record IsMissingFile (files : Option Files) (name : List ℕ) : Type 0 where
 
 -- ---- several files, in order
 
--- these are the whole files of these names
+-- these are the whole files with these names
 abbrev pub AreWholeFiles : Option Files → (names contents : List (List ℕ)) → Type 0
 AreWholeFiles files names contents = AllZip (IsWholeFile files) names contents
 
@@ -32,6 +32,6 @@ AreWholeFiles files names contents = AllZip (IsWholeFile files) names contents
 abbrev pub HasFiles : Option Files → List (List ℕ) → Type 0
 HasFiles files names = All (λ name. IsSome (file_of files name)) names
 
--- one of them is longer than is read
+-- one of them is too long
 abbrev pub HasLongFile : Option Files → List (List ℕ) → Type 0
 HasLongFile files names = Any (IsLongFile files) names

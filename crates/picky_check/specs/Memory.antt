@@ -1,4 +1,4 @@
--- Shelves and sinks in memory: what they hold and tell.
+-- Shelves and sinks in memory: their contents and what they expose.
 use Rattle.std.specs.Prelude.{ℕ, Bool, ◌+◌, ◌==◌, min, List, ◌≡◌, ◌<◌, drop, Option, Some, if◌then◌else◌, bytes_eq, All}
 use Rattle.der_core.specs.Counts.{last_count}
 use Rattle.picky_check.specs.declared.memory.Calls.{Calls}
@@ -13,24 +13,24 @@ use Rattle.picky_check.specs.Stored.{latest_file, octets_at}
 abbrev pub shelf_files : MemShelf → Option Files
 shelf_files shelf = Some (latest_file shelf.files.items)
 
--- the file under the name is this one from now on, and the others stay
+-- the file with this name is this one from now on, and the others stay
 abbrev pub AddsFile : Option Files → List ℕ → List ℕ → Option Files → Type 0
 AddsFile before name octets after = (other : List ℕ)
     → file_of after other ≡ (if bytes_eq name other then Some octets else file_of before other)
 
--- what is left to read
+-- the octets left to read
 abbrev pub shelf_rest : MemShelf → List ℕ
 shelf_rest shelf = drop shelf.at (octets_at shelf.files.items shelf.picked)
 
--- how many octets it has handed out
+-- the number of octets handed out
 abbrev pub shelf_given : MemShelf → ℕ
 shelf_given shelf = shelf.given
 
--- how often it has failed
+-- the number of faults
 abbrev pub shelf_faults : MemShelf → ℕ
 shelf_faults shelf = shelf.calls.faults
 
--- how many calls it has answered, which is the number of the next
+-- the number of calls served, which is the number of the next one
 abbrev pub shelf_calls : MemShelf → ℕ
 shelf_calls shelf = shelf.calls.count
 
@@ -42,7 +42,7 @@ shelf_failing shelf = shelf.calls.failing.items
 abbrev pub is_set_to_fail : MemShelf → Bool
 is_set_to_fail shelf = list_any (λ call. call == shelf_calls shelf) (shelf_failing shelf)
 
--- a call more was answered
+-- one more call was served
 pub record IsNextCall (before after : MemShelf) : Type 0 where
   pub calls : shelf_calls after ≡ min (shelf_calls before + 1) last_count
   pub failing : shelf_failing after ≡ shelf_failing before
@@ -55,7 +55,7 @@ is_quiet_from_now calls = All (λ call. call < calls.count) calls.failing.items
 abbrev pub shelf_is_quiet : MemShelf → Type 0
 shelf_is_quiet shelf = is_quiet_from_now shelf.calls
 
--- what is seen of a shelf in memory
+-- the observable state of a shelf in memory
 abbrev pub shelf_state : MemShelf → ShelfState
 shelf_state shelf = record {
   files = shelf_files shelf;
@@ -65,7 +65,7 @@ shelf_state shelf = record {
   is_quiet = shelf_is_quiet shelf;
 }
 
--- what is left to read and the counts stay
+-- the octets left to read and the counts stay
 pub record KeepsPlace (before after : MemShelf) : Type 0 where
   pub rest : shelf_rest after ≡ shelf_rest before
   pub given : after.given ≡ before.given
@@ -76,15 +76,15 @@ pub record KeepsPlace (before after : MemShelf) : Type 0 where
 abbrev pub sink_held : MemSink → List ℕ
 sink_held sink = sink.octets.items
 
--- how many octets it can still take
+-- the number of octets it can still accept
 abbrev pub sink_room : MemSink → ℕ
 sink_room sink = sink.room
 
--- how often it has failed
+-- the number of faults
 abbrev pub sink_faults : MemSink → ℕ
 sink_faults sink = sink.faults
 
--- what is seen of a sink in memory
+-- the observable state of a sink in memory
 abbrev pub sink_state : MemSink → SinkState
 sink_state sink = record {
   held = Some (sink_held sink);

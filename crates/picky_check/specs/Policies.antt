@@ -1,4 +1,4 @@
--- What the commands ask of a signature file.
+-- The policies of the commands for a signature file.
 use Rattle.std.specs.Prelude.{ℕ, List, Option, Some, None, true, false, not}
 use Rattle.asn1_types.specs.declared.generalized_time.GeneralizedTime.{GeneralizedTime}
 use Rattle.authenticode_core.specs.declared.policy.Policy.{Policy}
@@ -6,7 +6,7 @@ use Rattle.x509_core.specs.declared.window.DateCheck.{DateCheck}
 use Rattle.x509_core.specs.declared.window.DateCheck.TheVariants as dates
 use Rattle.picky_check.specs.declared.options.CheckOptions.{CheckOptions}
 
--- basic: the form, the digest HASH and the signature, and nothing of the signer's certificate
+-- basic: the form, the digest HASH and the signature, without the signer's certificate
 abbrev pub basic_policy : (hash : List ℕ) → Policy
 basic_policy hash = record {
   basic = true;
@@ -18,13 +18,13 @@ basic_policy hash = record {
   date = dates.Absent;
 }
 
--- the moment DATE, or those from it to the other one
+-- the date DATE, or the interval from it to the other one
 abbrev pub moments : (date : GeneralizedTime) (until : Option GeneralizedTime) → DateCheck
 moments date None = dates.Exact date
 moments date (Some other) = dates.Interval date other
 
--- check: that, and the signer's certificate over those of its issuers, all of them valid at DATE,
--- but for what the options leave out
+-- check: the same, and the signer's certificate with those of its issuers, all of them valid at
+-- DATE, except for what the options leave out
 abbrev pub check_policy : (hash : List ℕ) → (date : GeneralizedTime) → CheckOptions → Policy
 check_policy hash date o = record {
   basic = true;

@@ -1,4 +1,4 @@
--- What is read of several files, in their order, or why they aren't all read.
+-- Reading several files, in order, or why they aren't all read.
 use Rattle.std.specs.Prelude.{◌≡◌, ◌≢◌, ℕ, ◌+◌, ◌*◌, ◌≤◌, List, ◌∷◌, ◌++◌, length, sum_by, IsSome}
 use Rattle.der_core.specs.Counts.{GoesOn, HasRisen, RisesBy}
 use Rattle.picky_check.specs.declared.error.FileError.{FileError}
@@ -6,27 +6,26 @@ use Rattle.picky_check.specs.declared.error.FileError.TheVariants as file
 use Rattle.picky_check.specs.Limits.{longest_file, IsLongFile, IsMissingFile, AreWholeFiles, HasFiles, HasLongFile}
 use Rattle.picky_check.specs.Shelf.{ShelfState}
 
--- how many octets the files have together
+-- the total length of the files
 abbrev pub total_length : List (List ℕ) → ℕ
 total_length contents = sum_by (λ octets. length octets) contents
 
--- Just this many octets were handed out.
+-- Exactly this many octets were handed out.
 abbrev pub HandsOut : (number : ℕ) (before after : ShelfState) → Type 0
 HandsOut number before after = RisesBy number before.given after.given
 
--- At most one octet more than the longest file has was handed out of each of this many files.
+-- At most one octet more than the longest file was handed out of each of this many files.
 abbrev pub HandsOutAtMost : (files : ℕ) (before after : ShelfState) → Type 0
 HandsOutAtMost files before after = after.given ≤ before.given + files * (longest_file + 1)
 
--- These are the whole files of these names, as far as the shelf exposes its files, and exactly
+-- These are the whole files with these names, as far as the shelf exposes its files, and exactly
 -- their octets were handed out.
 pub record AreRead (before after : ShelfState) (names contents : List (List ℕ)) : Type 0 where
   pub are_files : AreWholeFiles before.files names contents
   pub given : HandsOut (total_length contents) before after
 
--- One of the files is longer than is read, as far as the shelf exposes its files. Exactly the
--- octets of the files ahead of it were handed out, and of itself one more than the longest file
--- has.
+-- One of the files is too long, as far as the shelf exposes its files. Exactly the octets of the
+-- earlier files were handed out, and of the long file one octet more than the limit.
 pub record FindsLongFile (before after : ShelfState) (names : List (List ℕ)) : Type 0 where
   pub ahead : List (List ℕ)
   pub name : List ℕ
@@ -36,20 +35,20 @@ pub record FindsLongFile (before after : ShelfState) (names : List (List ℕ)) :
   pub are_files : AreWholeFiles before.files ahead contents
   pub is_long : IsSome before.files → IsLongFile before.files name
   pub given : HandsOut (total_length contents + (longest_file + 1)) before after
-  -- so it rose by more than the longest file has, or stands at its last value
+  -- so the count rose by more than the longest file has, or is at its maximum
   pub counted : GoesOn before.given after.given
 
--- Why the files of these names weren't all read.
+-- Why the files with these names weren't all read.
 pub record AreUnread (before after : ShelfState) (names : List (List ℕ))
     (e : FileError) : Type 0 where
   -- the shelf failed
   pub failed : e ≡ file.Fault → HasRisen before.faults after.faults
-  -- A quiet shelf that has all of them, or all ahead of one that is too long, doesn't fail.
+  -- A quiet shelf that has all of them, or all before one that is too long, doesn't fail.
   pub quiet : before.is_quiet → HasFiles before.files names → e ≢ file.Fault
   pub long : (ahead behind : List (List ℕ)) (name : List ℕ) → names ≡ ahead ++ name ∷ behind
       → IsLongFile before.files name → before.is_quiet → HasFiles before.files ahead
       → e ≢ file.Fault
   pub too_long : e ≡ file.TooLong → FindsLongFile before after names
-  -- where one is missing, those behind it aren't read
+  -- if one is missing, the later ones aren't read
   pub missing : (ahead behind : List (List ℕ)) (name : List ℕ) → names ≡ ahead ++ name ∷ behind
       → IsMissingFile before.files name → e ≡ file.TooLong → HasLongFile before.files ahead

@@ -1,4 +1,4 @@
--- What is answered, and the line that a run reports.
+-- The answer, and the line that a run reports.
 use Rattle.std.specs.Prelude.{ℕ, List, [], ◌∷◌, ◌++◌, Option, Some, None, Result, Ok, Err, codes, decimal, flat_map}
 use Rattle.authenticode_core.specs.declared.accepted.Accepted.{Accepted}
 use Rattle.authenticode_core.specs.declared.accepted.Excuse.{Excuse}
@@ -12,14 +12,14 @@ use Rattle.x509_core.specs.ErrorName.{cert_error_name}
 use Rattle.x509_core.specs.declared.error.CertError.{CertError}
 use Rattle.x509_core.specs.declared.error.CertError.TheVariants as cert
 
--- what is answered
+-- the answer
 pub data Answer : Type 0 where
-  -- about a signature file
+  -- for a signature file
   OfSignature : Result Accepted CheckError → Answer
-  -- about a certificate over its parents: how many these are, or why it is refused
+  -- for a certificate with its parents: their number, or why it is refused
   OfChain : Result ℕ CertError → Answer
 
--- want of memory, which isn't reported
+-- out of memory, which isn't reported
 abbrev pub WantsMemory : Answer → Type 0
 WantsMemory (OfSignature (Err check.Memory)) = Unit {0}
 WantsMemory (OfChain (Err cert.Memory)) = Unit {0}
@@ -31,16 +31,16 @@ excuse_word excuse.None = codes "none"
 excuse_word excuse.Bag = codes "bag"
 excuse_word excuse.Token = codes "token"
 
--- a place, in decimal, or nothing
+-- an index, in decimal, or nothing
 abbrev pub place_text : Option ℕ → List ℕ
 place_text (Some place) = decimal place
 place_text None = []
 
--- what stands between places
+-- the separator between indices
 abbrev comma : ℕ
 comma = 0x2C
 
--- places with commas between
+-- indices separated by commas
 abbrev pub places_text : List ℕ → List ℕ
 places_text [] = []
 places_text (first ∷ others) = decimal first ++ flat_map (λ place. comma ∷ decimal place) others
@@ -60,7 +60,7 @@ parents_line count = codes "accepted parents=" ++ decimal count ++ newline ∷ [
 abbrev pub refused_line : CheckError → List ℕ
 refused_line e = codes "refused " ++ refusal_name e ++ newline ∷ []
 
--- refused NAME, of a chain
+-- refused NAME, for a chain
 abbrev pub refused_chain_line : CertError → List ℕ
 refused_chain_line e = codes "refused " ++ cert_error_name e ++ newline ∷ []
 

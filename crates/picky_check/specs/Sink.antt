@@ -1,20 +1,20 @@
--- What is seen of a sink, and what its calls do.
+-- The observable state of a sink, and what its calls do.
 use Rattle.std.specs.Prelude.{ℕ, List, ◌≡◌, ◌<◌, ◌≤◌, ◌-◌, ◌++◌, length, take, Option, Some}
 
--- What is seen of a sink at one moment.
+-- The observable state of a sink at one moment.
 pub record SinkState : Type 0 where
-  -- the octets that it holds, if it exposes them
+  -- its contents, if it exposes them
   pub held : Option (List ℕ)
-  -- how many octets it can still take, if it exposes that
+  -- the number of octets it can still accept, if it exposes that
   pub room : Option ℕ
-  -- how often it has failed
+  -- the number of faults
   pub faults : ℕ
 
 -- the contents of a sink that exposes them have grown by these octets
 abbrev pub Appends : Option (List ℕ) → List ℕ → Option (List ℕ) → Type 0
 Appends before more after = (held : List ℕ) → before ≡ Some held → after ≡ Some (held ++ more)
 
--- it holds what it held, or has the room that it had
+-- the contents or the room are unchanged
 abbrev pub Keeps : {A : Type 0} → Option A → Option A → Type 0
 Keeps {A} before after = (value : A) → before ≡ Some value → after ≡ Some value
 
@@ -26,12 +26,11 @@ Lowers before n after = (room : ℕ) → before ≡ Some room → (n ≤ room) �
 abbrev pub HasRoom : Option ℕ → ℕ → Type 0
 HasRoom room n = (left : ℕ) × (room ≡ Some left) × (n ≤ left)
 
--- it refuses only a piece that isn't empty, where no room is left
+-- it refuses only a nonempty piece, if no room is left
 abbrev pub IsFull : Option ℕ → List ℕ → Type 0
 IsFull before piece = (room : ℕ) → before ≡ Some room → (room ≡ 0) × (0 < length piece)
 
--- A prefix of a text was appended, and not all of it: if the sink exposed its room, as much as it
--- had.
+-- A proper prefix of a text was appended, as long as the room if the sink exposed that.
 pub record IsCutShort (text : List ℕ) (before after : SinkState) : Type 0 where
   pub count : ℕ
   pub short : count < length text

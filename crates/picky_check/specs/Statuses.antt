@@ -9,7 +9,7 @@ accepted = 0
 abbrev pub refused : ℕ
 refused = 1
 
--- the words ask for nothing
+-- the words are no command
 abbrev pub usage : ℕ
 usage = 2
 
@@ -25,7 +25,7 @@ shelf_failed = 4
 abbrev pub sink_failed : ℕ
 sink_failed = 5
 
--- a file is longer than is read
+-- a file is too long
 abbrev pub too_long : ℕ
 too_long = 6
 

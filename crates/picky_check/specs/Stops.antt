@@ -8,13 +8,13 @@ use Rattle.picky_check.specs.declared.stop.Stop.{Stop}
 use Rattle.picky_check.specs.Statuses as statuses
 use Rattle.picky_check.specs.declared.stop.Stop.TheVariants.{Usage, BadTable, Shelf, TooLong, Memory}
 
--- where a file wasn't read
+-- for a file that wasn't read
 abbrev pub stop_for_file : FileError → Stop
 stop_for_file file.Fault = Shelf
 stop_for_file file.TooLong = TooLong
 stop_for_file file.Memory = Memory
 
--- where a text isn't a table
+-- for a text that isn't a table
 abbrev pub stop_for_table : TableError → Stop
 stop_for_table (table.BadLine number) = BadTable
 stop_for_table table.Memory = Memory

@@ -1,4 +1,4 @@
--- What the words of a command line ask for.
+-- The commands of the command line.
 use Rattle.std.specs.Prelude.{◌≡◌, ◌≤◌, ℕ, List, [], ◌∷◌, length, Option, Some, None, Result, Ok, Err, nat_le, ◌&&◌, if◌then◌else◌, codes}
 use Rattle.hex.specs.Hex.{decode_of}
 use Rattle.hex.specs.declared.error.FromHexError.{FromHexError}
@@ -7,31 +7,31 @@ use Rattle.picky_check.specs.declared.options.CheckOptions.{CheckOptions}
 use Rattle.picky_check.specs.DateWord.{IsDateWord}
 use Rattle.picky_check.specs.Options.{AreOptions}
 
--- what is asked for
+-- a command with its arguments
 pub data Job : Type 0 where
-  -- the form of the file SIG, its digest, which is HASH, and its signature, which TABLE accepts
+  -- the form of the file SIG, its digest HASH, and its signature, which TABLE accepts
   Basic : (signature table hash : List ℕ) → Job
-  -- the same, and the certificate of its signer over those of its issuers, at DATE, but for what
-  -- the options leave out
+  -- the same, and the signer's certificate with those of its issuers, at DATE, except for what the
+  -- options leave out
   Check : (signature table hash : List ℕ) → (date : GeneralizedTime) → (options : CheckOptions)
       → Job
-  -- the first of the files CERT over the others, its parents, at DATE, by the signatures that TABLE
-  -- accepts
+  -- the first of the files CERT with the others as its parents, at DATE, by the signatures that
+  -- TABLE accepts
   Chain : (table : List ℕ) → (date : GeneralizedTime) → (certificates : List (List ℕ)) → Job
 
--- the names of its files, in the order in which they are read
+-- the names of its files, in the order of reading
 abbrev pub files_of : Job → List (List ℕ)
 files_of (Basic signature table hash) = signature ∷ table ∷ []
 files_of (Check signature table hash date options) = signature ∷ table ∷ []
 files_of (Chain table date certificates) = table ∷ certificates
 
--- these octets, where there are 1 to 64
+-- these octets, if there are 1 to 64
 abbrev pub sized : Result (List ℕ) FromHexError → Option (List ℕ)
 sized (Ok octets) =
     if nat_le 1 (length octets) && nat_le (length octets) 64 then Some octets else None
 sized (Err e) = None
 
--- HASH: 1 to 64 octets in hexadecimal digits of either case
+-- HASH: 1 to 64 octets in hexadecimal, digits of either case
 abbrev pub asked_hash : List ℕ → Option (List ℕ)
 asked_hash word = sized (decode_of word)
 
@@ -61,13 +61,13 @@ pub record IsChain (words : List (List ℕ)) (table : List ℕ) (date : Generali
   pub some : 1 ≤ length certificates
   pub most : length certificates ≤ 32
 
--- The table of the commands: the words ask for this job.
+-- The table of commands: the words request this job.
 abbrev pub AsksFor : List (List ℕ) → Job → Type 0
 AsksFor words (Basic signature table hash) = IsBasic words signature table hash
 AsksFor words (Check signature table hash date options) =
     IsCheck words signature table hash date options
 AsksFor words (Chain table date certificates) = IsChain words table date certificates
 
--- the words are of no command
+-- the words are no command
 abbrev pub AsksForNothing : List (List ℕ) → Type 0
 AsksForNothing words = (job : Job) → AsksFor words job → ⊥

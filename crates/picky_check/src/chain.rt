@@ -1,4 +1,4 @@
-//! Whether a certificate is accepted over its parents, by their octets.
+//! Validating a certificate with its parents, from their octets.
 
 ghost use Rattle.std.specs.Prelude.{◌≡◌, ◌++◌, ◌∷◌, List, Some, map, IfErr, MatchResult, OnOk};
 ghost use Rattle.x509_core.specs.Chain.{IsAccepted, chain_rules};
@@ -11,9 +11,8 @@ use sig_core::Scheme;
 use std::alloc::Global;
 use x509_core::{Cert, CertError};
 
-/// Whether the certificate that octets are is accepted over those that others are, the nearest
-/// parent first, at a date: how many parents these are. All checks of `CertValidator` are on, and a
-/// root is asked for.
+/// Validates a certificate at a date with its parents, the nearest first, all given by their
+/// octets; returns the number of parents. All checks of `CertValidator` are on, the root included.
 pub(crate) fn check_chain<S: Scheme>(
     alloc: Global,
     checked: &[u8],
@@ -28,7 +27,7 @@ pub(crate) fn check_chain<S: Scheme>(
     check_over(alloc, &checked, parents, date, scheme)
 }
 
-/// The number of parents over which a certificate that was read is accepted.
+/// Validates a certificate that was read; returns the number of its parents.
 fn check_over<S: Scheme>(
     alloc: Global,
     checked: &Cert,
@@ -45,7 +44,7 @@ fn check_over<S: Scheme>(
     Ok(read.len())
 }
 
-/// Reads certificates behind those that were read.
+/// Reads certificates and appends them to those already read.
 fn read_certificates(
     alloc: Global,
     octets: &[Vec<u8>],
@@ -63,7 +62,7 @@ fn read_certificates(
     read_certificates(alloc, others, certificates)
 }
 
-/// Whether a certificate is accepted over its parents, the nearest first.
+/// Validates a certificate with its parents, the nearest first.
 fn accept<S: Scheme>(
     alloc: Global,
     checked: &Cert,

@@ -8,8 +8,8 @@ ghost use Rattle.picky_check.specs.DateWord.{IsDateWord, day_text, moment_text};
 use asn1_types::GeneralizedTime;
 use names_core::UtcDate;
 
-/// The date that a word says, `YYYY-MM-DD` or `YYYY-MM-DDTHH:MM:SS`, None exactly where it says no
-/// moment that exists.
+/// The date in a word, `YYYY-MM-DD` or `YYYY-MM-DDTHH:MM:SS`. None exactly if it names no existing
+/// second.
 pub(crate) fn date_of(word: &str) -> Option<UtcDate>
     ensures said { MatchOption result
         ((t : GeneralizedTime) → IsDateWord word.now t → ⊥)
@@ -21,8 +21,8 @@ pub(crate) fn date_of(word: &str) -> Option<UtcDate>
     Some(UtcDate::from(time))
 }
 
-/// The octets that spell the date of a word as a time of certificates (RFC 5280 4.1.2.5.2), where
-/// the word has a form of dates.
+/// The contents octets of the date of a word as a GeneralizedTime (RFC 5280 4.1.2.5.2), if the word
+/// has the form of a date.
 fn date_contents(word: &[u8]) -> Option<[u8; 15]>
     ensures { MatchOption result
         ((t : GeneralizedTime) → IsDateWord word.now t → ⊥)
@@ -35,7 +35,7 @@ fn date_contents(word: &[u8]) -> Option<[u8; 15]>
     }
 }
 
-/// The contents octets of the first moment of a day, where the word is one.
+/// The contents octets of the first second of a day, if the word is one.
 fn day_contents(word: &[u8]) -> Option<[u8; 15]>
     ensures { MatchOption result
         ((t : GeneralizedTime) → word.now ≢ day_text t)
@@ -51,7 +51,7 @@ fn day_contents(word: &[u8]) -> Option<[u8; 15]>
     ])
 }
 
-/// The contents octets of a moment, where the word is one.
+/// The contents octets of a date with a time, if the word is one.
 fn moment_contents(word: &[u8]) -> Option<[u8; 15]>
     ensures { MatchOption result
         ((t : GeneralizedTime) → word.now ≢ moment_text t)
@@ -67,7 +67,7 @@ fn moment_contents(word: &[u8]) -> Option<[u8; 15]>
     ])
 }
 
-/// Whether the marks between the numbers of a moment stand there.
+/// Whether the word has the separators of a date with a time.
 fn has_marks(word: &[u8]) -> bool
     requires { length word.now ≡ 19 }
     ensures { IsTrue result ↔ ((slice_index word.now 4 ≡ 45) × (slice_index word.now 7 ≡ 45)

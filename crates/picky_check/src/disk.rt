@@ -1,4 +1,4 @@
-//! Real files and standard output. They tell nothing of what they hold.
+//! Real files and standard output. They don't expose their contents.
 
 ghost use Rattle.std.specs.Prelude.{◌≡◌};
 
@@ -7,7 +7,7 @@ use std::io::Printer;
 use std::rt::Files;
 use std::{fs, io};
 
-/// What opens the files of a file system by their paths.
+/// Opens the files of a file system by path.
 #[derive(Drop)]
 pub struct Paths<'a, R: Files>(&'a R);
 
@@ -19,11 +19,11 @@ impl<R: Files> Opener for Paths<'_, R> {
     }
 }
 
-/// Files by their paths.
+/// Files by path.
 pub type DirShelf<'a, R> = ReaderShelf<Paths<'a, R>>;
 
 impl<'a, R: Files> ReaderShelf<Paths<'a, R>> {
-    /// No file is picked, and nothing is counted yet.
+    /// A shelf with no file picked and no counts.
     pub fn new(rt: &'a R) -> Self
         ensures none_given { (⟦<ReaderShelf<Paths<'a, R>> as Shelf>⟧.state result).given ≡ 0 }
         ensures no_faults { (⟦<ReaderShelf<Paths<'a, R>> as Shelf>⟧.state result).faults ≡ 0 }
@@ -36,7 +36,7 @@ impl<'a, R: Files> ReaderShelf<Paths<'a, R>> {
 pub type OutSink<'a, R> = WriterSink<Printer<'a, R>>;
 
 impl<'a, R: Print> WriterSink<Printer<'a, R>> {
-    /// Nothing is counted yet.
+    /// A sink with no counts.
     pub fn new(rt: &'a R) -> Self
         ensures { (⟦<WriterSink<Printer<'a, R>> as Sink>⟧.state result).faults ≡ 0 }
     {

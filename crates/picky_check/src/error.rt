@@ -14,9 +14,9 @@ use thiserror::Error;
 pub enum FileError {
     /// The shelf failed, or has no file of this name.
     Fault,
-    /// The file has more than 16,777,216 octets.
+    /// The file is longer than 16,777,216 octets.
     TooLong,
-    /// No memory was left.
+    /// Out of memory.
     Memory,
 }
 

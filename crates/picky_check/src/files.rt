@@ -15,8 +15,8 @@ const LONGEST_FILE: usize = 16_777_216;
 
 const PIECE: usize = 16_384;
 
-/// Reads the whole file of this name: at most 16,777,216 octets, and one more to know that there
-/// are more.
+/// Reads the whole file with this name: at most 16,777,216 octets, and one more to detect a longer
+/// file.
 pub fn read_file<F: Shelf>(alloc: Global, shelf: &mut F, name: &str) -> Result<Vec<u8>, FileError>
     ensures whole { IfOk result (λ octets.
         IsWholeFile (F.state shelf.old).files name.now octets.items) }
@@ -37,7 +37,7 @@ pub fn read_file<F: Shelf>(alloc: Global, shelf: &mut F, name: &str) -> Result<V
     ensures no_fault { (F.state shelf.old).is_quiet
         → IsSome (file_of (F.state shelf.old).files name.now)
         → ¬ IsErrOf result FileError.Fault }
-    // A call that failed is the last, and is reported.
+    // A failed call is the last one, and is reported.
     ensures once { FailsOnce (result ≡ Err FileError.Fault)
         (F.state shelf.old).faults (F.state shelf.new).faults }
 
@@ -70,7 +70,7 @@ pub fn write_report<O: Sink>(out: &mut O, text: &str) -> Result<(), Failed>
     ensures cut { OnErr result (IsCutShort text.now (O.state out.old) (O.state out.new)) }
     ensures counted { (O.state out.old).faults ≤ (O.state out.new).faults }
     ensures cause { OnErr result (HasRisen (O.state out.old).faults (O.state out.new).faults) }
-    // A call that failed is the last, and is reported.
+    // A failed call is the last one, and is reported.
     ensures once { FailsOnce (IsErr result) (O.state out.old).faults (O.state out.new).faults }
     ensures room { HasRoom (O.state out.old).room (length text.now) → IsOk result }
 {
@@ -82,7 +82,7 @@ pub fn write_report<O: Sink>(out: &mut O, text: &str) -> Result<(), Failed>
     Ok(())
 }
 
-/// The names of files that are read, in order: there are at least two.
+/// The names of the files to read, in order: at least two.
 #[derive(Clone, Copy, Debug)]
 pub(crate) struct Names<'a> {
     pub(crate) first: &'a str,
@@ -90,7 +90,7 @@ pub(crate) struct Names<'a> {
     pub(crate) others: &'a [String],
 }
 
-/// The contents of files that were read, in order.
+/// The contents of the files that were read, in order.
 #[derive(Debug, Drop)]
 pub(crate) struct Contents {
     pub(crate) first: Vec<u8>,
@@ -98,7 +98,7 @@ pub(crate) struct Contents {
     pub(crate) others: Vec<Vec<u8>>,
 }
 
-/// Reads whole files, in their order.
+/// Reads whole files, in order.
 pub(crate) fn read_files<F: Shelf>(
     alloc: Global,
     shelf: &mut F,
@@ -124,7 +124,7 @@ pub(crate) fn read_files<F: Shelf>(
     })
 }
 
-/// Reads whole files behind those that were read.
+/// Reads whole files and appends them to those already read.
 fn read_others<F: Shelf>(
     alloc: Global,
     shelf: &mut F,

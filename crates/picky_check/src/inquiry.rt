@@ -1,4 +1,4 @@
-//! What is found out about the files that the words name: a report, or why there is none.
+//! The report about the files that the words name, or why there is none.
 
 ghost use Rattle.std.specs.Prelude.{◌≡◌, ◌⊎◌, ◌∷◌, ℕ, Err, length, map, string_bytes, IfOk, IfErr, List};
 ghost use Rattle.der_core.specs.Counts.{FailsOnce};
@@ -24,7 +24,7 @@ use sig_core::{Scheme, VerdictTable};
 use std::alloc::Global;
 use x509_core::{chains_break_no_rule, chains_have_one_answer};
 
-/// The report that the words ask for.
+/// The report that the words request.
 pub(crate) fn inquire<F: Shelf>(
     alloc: Global,
     words: &[String],
@@ -47,7 +47,7 @@ pub(crate) fn inquire<F: Shelf>(
     }
 }
 
-/// Reads the files of a job, and judges what they hold.
+/// Reads the files of a job, and reports on their contents.
 fn answer<F: Shelf>(alloc: Global, shelf: &mut F, job: &Job<'_>) -> Result<Report, Stop>
     ensures found { IsInquiry (F.state shelf.old) (F.state shelf.new) (job_held job.now) result }
     ensures at_most { HandsOutAtMost (length (files_of (job_held job.now)))
@@ -59,7 +59,7 @@ fn answer<F: Shelf>(alloc: Global, shelf: &mut F, job: &Job<'_>) -> Result<Repor
     judge(alloc, job, &contents)
 }
 
-/// The report of the contents of the files of a job, judged by the text of the table among them.
+/// The report on the contents of a job's files, by the verdict table among them.
 fn judge(alloc: Global, asked: &Job<'_>, read: &Contents) -> Result<Report, Stop>
     ensures reported { IfOk result (λ report. (rows : List VerdictRow) × (answer : Answer)
         × IsTable (table_in (job_held asked.now) (contents_held read.now)) rows
@@ -80,7 +80,7 @@ fn judge(alloc: Global, asked: &Job<'_>, read: &Contents) -> Result<Report, Stop
 }
 
 impl Job<'_> {
-    /// The text of the table, among the contents of the files.
+    /// The text of the verdict table, among the contents of the files.
     fn table_in<'a>(&self, read: &'a Contents) -> &'a [u8]
         ensures { result.now ≡ table_in (job_held self.now) (contents_held read.now) }
     {
@@ -91,7 +91,7 @@ impl Job<'_> {
     }
 }
 
-/// The report of the contents of the files of a job, judged by a scheme.
+/// The report on the contents of a job's files, by a scheme.
 fn judge_by<S: Scheme>(
     alloc: Global,
     asked: &Job<'_>,
@@ -119,7 +119,7 @@ fn judge_by<S: Scheme>(
     }
 }
 
-/// The report of the octets of a signature file, judged by a scheme under a policy.
+/// The report on the octets of a signature file, by a scheme and a policy.
 fn judge_signature<S: Scheme>(
     alloc: Global,
     octets: &[u8],
@@ -132,7 +132,7 @@ fn judge_signature<S: Scheme>(
     report_of(alloc, &answer)
 }
 
-/// The report of the octets of a certificate and its parents, judged by a scheme at a date.
+/// The report on the octets of a certificate and its parents, by a scheme and at a date.
 fn judge_chain<S: Scheme>(
     alloc: Global,
     checked: &[u8],

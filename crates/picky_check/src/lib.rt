@@ -1,4 +1,4 @@
-//! The command line over files and an output that callers hand in: words, files, report.
+//! The command line program over files and an output from the caller: words, files, report.
 #![tactic(auto)]
 
 mod chain;

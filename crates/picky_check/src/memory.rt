@@ -1,4 +1,4 @@
-//! A shelf and a sink in memory, which tell all that they hold. Calls of the shelf can be set to
+//! A shelf and a sink in memory, which expose all their contents. Calls of the shelf can be set to
 //! fail.
 
 ghost use Rattle.std.specs.Prelude.{◌≡◌, ◌<◌, ◌≤◌, ◌+◌, ℕ, List, [], ◌∷◌, ◌++◌, length, Some, None, IfOk, OnOk, OnErr, IsOk, IsErr, IsSome, true, false, vec_capacity, drop, is_err, min, ◌==◌};
@@ -9,7 +9,7 @@ use crate::stored::{StoredFile, after, find_latest, octets_at};
 use crate::{Failed, Shelf, Sink};
 use std::alloc::{AllocError, Global};
 
-// The calls that a shelf has answered, and those that are set to fail.
+// The calls that a shelf has served, and those that are set to fail.
 #[derive(Drop)]
 struct Calls {
     failing: Vec<u64>,
@@ -31,7 +31,7 @@ pub struct MemShelf {
     ghost within: { (index : ℕ) → picked ≡ Some index → index < length files.items },
 }
 
-/// Octets in memory, as many as there is room for.
+/// Octets in memory, up to a limit.
 #[derive(Drop)]
 pub struct MemSink {
     octets: Vec<u8>,
@@ -44,7 +44,7 @@ pub struct MemSink {
 impl Calls {
     ghost use Rattle.picky_check.specs.Memory.{is_quiet_from_now};
 
-    // Counts a call, which fails where it is set to.
+    // Counts a call, which fails if it is set to.
     fn begin(&mut self) -> Result<(), Failed>
         ensures set { is_err result
             ≡ list_any (λ call. call == self.old.count) self.old.failing.items }
@@ -100,7 +100,7 @@ impl MemShelf {
         }
     }
 
-    /// Adds a file. Of two with one name the later counts.
+    /// Adds a file. Of two with the same name the later counts.
     pub fn add(&mut self, name: &str, bytes: &[u8]) -> Result<(), AllocError>
         ensures added { OnOk result
             (AddsFile (shelf_files self.old) name.now bytes.now (shelf_files self.new)) }
@@ -116,7 +116,7 @@ impl MemShelf {
         Ok(())
     }
 
-    /// Sets a call to fail. Calls of both kinds are counted together, from 0.
+    /// Sets a call to fail. Calls of both kinds are numbered together, from 0.
     pub fn fail_at(&mut self, call: u64) -> Result<(), AllocError>
         ensures set { OnOk result (shelf_failing self.new ≡ shelf_failing self.old ++ call ∷ []) }
         ensures not_set { OnErr result (shelf_failing self.new ≡ shelf_failing self.old) }
@@ -189,7 +189,7 @@ impl Shelf for MemShelf {
 impl MemSink {
     ghost use Rattle.picky_check.specs.Memory.{sink_held, sink_room, sink_faults};
 
-    /// An empty sink with room for as many octets, which it reserves first.
+    /// An empty sink with room for this many octets, which are reserved at once.
     pub fn with_room(alloc: Global, room: usize) -> Result<Self, AllocError>
         ensures empty { IfOk result (λ sink. sink_held sink ≡ []) }
         ensures room { IfOk result (λ sink. sink_room sink ≡ room) }
@@ -202,7 +202,7 @@ impl MemSink {
         })
     }
 
-    /// What it has taken.
+    /// The octets written so far.
     pub fn held(&self) -> &[u8]
         ensures { result.now ≡ sink_held self.now }
     {

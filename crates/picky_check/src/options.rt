@@ -1,4 +1,4 @@
-//! The options of `check`, behind its DATE.
+//! The options of `check`, after its DATE.
 
 ghost use Rattle.std.specs.Prelude.{◌≡◌, ◌≤◌, ◌∷◌, codes, ℕ, List, length, map, string_bytes, Some, IfSome, MatchOption};
 ghost use Rattle.picky_check.specs.Options.{AreOptions, BeginsWithOption, IsAbsent, no_options, with_option};
@@ -13,15 +13,15 @@ use names_core::UtcDate;
 pub(crate) enum CheckOption {
     /// `--until DATE`: the other end of the interval.
     Until(UtcDate),
-    /// `--no-before`: a certificate needn't be valid already.
+    /// `--no-before`: a certificate needn't have begun to be valid.
     NoBefore,
-    /// `--no-after`: a certificate needn't be valid still.
+    /// `--no-after`: a certificate may have expired.
     NoAfter,
     /// `--no-chain`: the signer's certificate needn't be linked to those of its issuers.
     NoChain,
 }
 
-/// Which options stand behind DATE.
+/// The options given after DATE.
 #[derive(Clone, Copy, Debug)]
 pub(crate) struct CheckOptions {
     pub(crate) until: Option<UtcDate>,
@@ -31,7 +31,7 @@ pub(crate) struct CheckOptions {
 }
 
 impl CheckOptions {
-    /// None stands there.
+    /// No options.
     fn none() -> Self
         ensures { result ≡ no_options }
     {
@@ -43,7 +43,7 @@ impl CheckOptions {
         }
     }
 
-    /// One more stands there, None where it does already.
+    /// The options with one more, None if it is given already.
     fn with(self, option: CheckOption) -> Option<Self>
         ensures { MatchOption result
             (IsAbsent option self → ⊥)
@@ -71,7 +71,7 @@ impl CheckOptions {
     }
 }
 
-/// The options that the words are, None exactly where they aren't options, each at most once.
+/// Parses the words as options. None exactly if they aren't options, each at most once.
 pub(crate) fn options_of(words: &[String]) -> Option<CheckOptions>
     ensures stand { MatchOption result
         ((options : OptionsOfCheck) → AreOptions (map string_bytes words.now) options → ⊥)
@@ -91,14 +91,14 @@ pub(crate) fn options_of(words: &[String]) -> Option<CheckOptions>
     Some(options)
 }
 
-/// An option, and the words behind it.
+/// An option, and the words after it.
 #[derive(Clone, Copy, Debug)]
 struct FirstOption<'a> {
     option: CheckOption,
     behind: &'a [String],
 }
 
-/// The option that the words begin with: a word, and those behind it.
+/// The option at the start of the words: a word, and those after it.
 fn first_option<'a>(word: &str, others: &'a [String]) -> Option<FirstOption<'a>>
     ensures first { IfSome result (λ first. BeginsWithOption first.option
         (word.now ∷ map string_bytes others.now) (map string_bytes first.behind.now)) }
@@ -121,7 +121,7 @@ fn first_option<'a>(word: &str, others: &'a [String]) -> Option<FirstOption<'a>>
     })
 }
 
-/// The option `--until`, whose DATE the words begin with.
+/// The option `--until`, whose DATE is the first of the words.
 fn until_of(words: &[String]) -> Option<FirstOption<'_>>
     ensures first { IfSome result (λ first. BeginsWithOption first.option
         (codes "--until" ∷ map string_bytes words.now) (map string_bytes first.behind.now)) }

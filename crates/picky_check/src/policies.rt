@@ -1,4 +1,4 @@
-//! What the commands ask of a signature file.
+//! The policies of the commands for a signature file.
 
 ghost use Rattle.std.specs.Prelude.{◌≡◌, IfOk};
 ghost use Rattle.picky_check.specs.Policies.{basic_policy, check_policy, moments};
@@ -9,7 +9,7 @@ use der_core::Octets;
 use names_core::UtcDate;
 use std::alloc::{AllocError, Global};
 
-/// What `basic` asks: nothing of the signer's certificate.
+/// The policy of `basic`: the signer's certificate isn't checked.
 pub(crate) fn basic_policy(alloc: Global, hash: &[u8]) -> Result<Policy, AllocError>
     ensures { IfOk result (λ policy. policy ≡ basic_policy hash.now) }
 {
@@ -24,7 +24,7 @@ pub(crate) fn basic_policy(alloc: Global, hash: &[u8]) -> Result<Policy, AllocEr
     })
 }
 
-/// What `check` asks, by its options.
+/// The policy of `check`, by its options.
 pub(crate) fn check_policy(
     alloc: Global,
     hash: &[u8],
@@ -44,7 +44,7 @@ pub(crate) fn check_policy(
     })
 }
 
-/// The moment, or those from it to another one.
+/// The date, or the interval from it to another one.
 fn moments(date: UtcDate, until: Option<UtcDate>) -> DateCheck
     ensures { result ≡ moments date until }
 {

@@ -1,4 +1,4 @@
-//! A run of the program: words, files, report, and the status that it ends with.
+//! A run of the program: words, files, report, and exit status.
 
 ghost use Rattle.std.specs.Prelude.{◌≡◌, ◌⊎◌, length, map, string_bytes};
 ghost use Rattle.std.specs.IoError.{error_kind};
@@ -18,24 +18,24 @@ use authenticode_core::one_signed_data;
 use std::alloc::Global;
 use std::io::{Error, ErrorKind};
 
-/// Does what the words ask for with files of the shelf, writes one line to the sink where there is
-/// an answer, and gives the exit status, one of those that have names here.
+/// Runs the command that the words request, with files of the shelf; writes one line to the sink if
+/// there is a result, and returns the exit status, one of the constants here.
 pub fn run<F: Shelf, O: Sink>(alloc: Global, words: &[String], shelf: &mut F, out: &mut O) -> u8
     // Acceptance means vouched for.
     ensures vouched_for { result ≡ statuses.accepted
         → IsVouched (map string_bytes words.now) (F.state shelf.old) (F.state shelf.new)
         (O.state out.old).held (O.state out.new).held }
-    // Nothing is read where nothing is asked for.
+    // Nothing is read if the words are no command.
     ensures unread { AsksForNothing (map string_bytes words.now) → shelf.new ≡ shelf.old }
-    // Whatever the status, at most one octet more than the longest file has is read of each file.
+    // Whatever the status, at most one octet more than the longest file is read of each file.
     ensures at_most { (job : Job) → AsksFor (map string_bytes words.now) job
         → HandsOutAtMost (length (files_of job)) (F.state shelf.old) (F.state shelf.new) }
-    // A call of the shelf or of the sink that failed is the last, and the status reports it.
+    // A failed call of the shelf or of the sink is the last one, and the status reports it.
     ensures shelf_once { FailsOnce (result ≡ statuses.shelf_failed) (F.state shelf.old).faults
         (F.state shelf.new).faults }
     ensures sink_once { FailsOnce (result ≡ statuses.sink_failed) (O.state out.old).faults
         (O.state out.new).faults }
-    // What each status says, and when it comes.
+    // What each status means, and when it is returned.
     ensures ends { IsRun (map string_bytes words.now) (F.state shelf.old) (F.state shelf.new)
         (O.state out.old) (O.state out.new) result }
 {
@@ -47,7 +47,7 @@ pub fn run<F: Shelf, O: Sink>(alloc: Global, words: &[String], shelf: &mut F, ou
     }
 }
 
-/// Writes the line of a report. The status is the report's where the sink took all of it.
+/// Writes the line of a report. Returns the report's status if the sink accepted all of it.
 fn deliver<O: Sink>(out: &mut O, report: &Report) -> u8
     ensures delivered { ((result ≡ report.now.status)
         × Appends (O.state out.old).held (string_bytes report.now.line) (O.state out.new).held)
@@ -63,8 +63,8 @@ fn deliver<O: Sink>(out: &mut O, report: &Report) -> u8
     }
 }
 
-/// The exit status where the words of the command line can't be had, by the reason: there was no
-/// memory for them, or one isn't UTF-8 and so they ask for nothing.
+/// The exit status if the words of the command line aren't available, by the reason: out of memory,
+/// or a word that isn't UTF-8, which is a usage error.
 pub fn status_without_words(reason: &Error) -> u8
     ensures memory { error_kind reason.now ≡ ErrorKind.OutOfMemory
         → result ≡ statuses.out_of_memory }

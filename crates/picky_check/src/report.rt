@@ -1,4 +1,4 @@
-//! The line that a run reports, and the status that goes with it.
+//! The line that a run reports, and its status.
 
 ghost use Rattle.std.specs.Prelude.{◌≡◌, ◌++◌, IfOk, OnOk, string_bytes};
 ghost use Rattle.picky_check.specs.Inquiry.{IsReported};
@@ -9,14 +9,14 @@ use authenticode_core::{Accepted, CheckError, Excuse};
 use std::alloc::{AllocError, Global};
 use x509_core::CertError;
 
-/// What is written, and the status that the run ends with.
+/// The line of a run, and its exit status.
 #[derive(Debug, Drop)]
 pub(crate) struct Report {
     pub(crate) status: u8,
     pub(crate) line: String,
 }
 
-/// The report of an answer about a signature file.
+/// The report of the result for a signature file.
 pub(crate) fn report_of(
     alloc: Global,
     answer: &Result<Accepted, CheckError>,
@@ -36,7 +36,7 @@ pub(crate) fn report_of(
     }
 }
 
-/// The report of an answer about a certificate over its parents, of which there are so many.
+/// The report of the result for a certificate with this many parents.
 pub(crate) fn chain_report_of(
     alloc: Global,
     answer: &Result<usize, CertError>,
@@ -56,8 +56,8 @@ pub(crate) fn chain_report_of(
     }
 }
 
-/// The line of an accepted signature, `accepted signer=S path=P,P excuse=E` and a newline: places
-/// in decimal, with commas between those of the path.
+/// The line of an accepted signature, `accepted signer=S path=P,P excuse=E` and a newline: indices
+/// in decimal, those of the path separated by commas.
 pub fn accepted_line(alloc: Global, accepted: &Accepted) -> Result<String, AllocError>
     ensures { IfOk result (λ line. string_bytes line ≡ accepted_line accepted.now) }
 {
@@ -102,7 +102,7 @@ pub fn refused_line(alloc: Global, error: &CheckError) -> Result<String, AllocEr
     format!(in alloc; "refused {}\n", error.name(alloc)?)
 }
 
-/// The line of a certificate that is accepted over so many parents, `accepted parents=K` and a
+/// The line of a certificate that is accepted with this many parents, `accepted parents=K` and a
 /// newline.
 pub fn parents_line(alloc: Global, count: usize) -> Result<String, AllocError>
     ensures { IfOk result (λ line. string_bytes line ≡ parents_line count) }
@@ -110,7 +110,7 @@ pub fn parents_line(alloc: Global, count: usize) -> Result<String, AllocError>
     format!(in alloc; "accepted parents={count}\n")
 }
 
-/// The line of a certificate that is refused over its parents, `refused NAME` and a newline.
+/// The line of a certificate that is refused with its parents, `refused NAME` and a newline.
 pub fn refused_chain_line(alloc: Global, error: &CertError) -> Result<String, AllocError>
     ensures { IfOk result (λ line. string_bytes line ≡ refused_chain_line error.now) }
 {

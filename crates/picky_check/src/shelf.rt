@@ -1,4 +1,4 @@
-//! Where files are read from.
+//! Sources of files.
 
 ghost use Rattle.std.specs.Prelude.{◌≡◌, ◌≤◌, ℕ, List, Some, length, IfOk, OnOk, OnErr, IsOk, IsErr, IsSome};
 ghost use Rattle.der_core.specs.Counts.{GoesOn, HasRisen, FailsOnce, RisesBy};
@@ -8,7 +8,7 @@ ghost use Rattle.picky_check.specs.Shelf.{ShelfState, file_of, IsPicked, Moves};
 use std::fmt;
 use thiserror::Error;
 
-/// The outside failed.
+/// The device failed.
 #[derive(Clone, Copy, Debug, PartialEq, Eq, Error)]
 pub struct Failed;
 
@@ -20,13 +20,13 @@ impl fmt::Display for Failed {
     }
 }
 
-/// Files that are picked by name and read piece by piece. A call that fails counts one fault, and
-/// no other call counts any.
+/// Files that are picked by name and read piece by piece. A failed call counts one fault, and no
+/// other call counts any.
 pub trait Shelf {
-    /// What is seen of it.
+    /// Its observable state.
     ghost state: { Self → ShelfState };
 
-    /// Begins with the file of this name. A missing name is a fault.
+    /// Starts reading the file with this name. A missing name is a fault.
     fn pick(&mut self, name: &str) -> Result<(), Failed>
         ensures picked { OnOk result (IsSome (state self.old).files
             → IsPicked (state self.old).files name.now (state self.new).rest) }
@@ -40,8 +40,8 @@ pub trait Shelf {
         ensures quiet { (state self.old).is_quiet → IsSome (file_of (state self.old).files name.now)
             → IsOk result × (state self.new).is_quiet };
 
-    /// Moves octets of the picked file to the front of the piece, and says how many. None are
-    /// moved only at the end of the file, or to a piece without room.
+    /// Moves octets of the picked file to the start of the piece, and returns their number. It is 0
+    /// only at the end of the file, or for an empty piece.
     fn read(&mut self, into: &mut [u8]) -> Result<usize, Failed>
         ensures bound { IfOk result (λ n. n ≤ length into.old) }
         ensures moved { IfOk result (λ n. (before : List ℕ) → (state self.old).rest ≡ Some before

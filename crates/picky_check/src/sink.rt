@@ -1,4 +1,4 @@
-//! Where a report is written to.
+//! Outputs for a report.
 
 ghost use Rattle.std.specs.Prelude.{◌≡◌, ◌<◌, ◌≤◌, length, take, IfOk, OnErr, IsErr};
 ghost use Rattle.der_core.specs.Counts.{GoesOn, HasRisen, FailsOnce};
@@ -6,13 +6,14 @@ ghost use Rattle.picky_check.specs.Sink.{SinkState, Appends, Keeps, Lowers, IsFu
 
 use crate::Failed;
 
-/// An output that takes octets piece by piece. A call that fails counts one fault, and no other
-/// call counts any.
+/// An output that accepts octets piece by piece. A failed call counts one fault, and no other call
+/// counts any.
 pub trait Sink {
-    /// What is seen of it.
+    /// Its observable state.
     ghost state: { Self → SinkState };
 
-    /// Takes octets from the front of the piece, and says how many: none only of an empty piece.
+    /// Accepts octets from the start of the piece, and returns their number: 0 only for an empty
+    /// piece.
     fn write(&mut self, piece: &[u8]) -> Result<usize, Failed>
         ensures bound { IfOk result (λ n. n ≤ length piece.now) }
         ensures some { IfOk result (λ n. 0 < length piece.now → 0 < n) }

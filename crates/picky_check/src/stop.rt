@@ -10,9 +10,9 @@ use std::alloc::{AllocError, AllocFailed};
 
 /// The signature is accepted.
 pub const ACCEPTED: u8 = 0;
-/// It is refused.
+/// The signature is refused.
 pub const REFUSED: u8 = 1;
-/// The words ask for nothing.
+/// The words are no command.
 pub const USAGE: u8 = 2;
 /// The verdict table has a bad line.
 pub const BAD_TABLE: u8 = 3;
@@ -22,7 +22,7 @@ pub const SHELF_FAILED: u8 = 4;
 pub const SINK_FAILED: u8 = 5;
 /// A file has more than 16,777,216 octets.
 pub const TOO_LONG: u8 = 6;
-/// There was no memory left.
+/// Out of memory.
 pub const OUT_OF_MEMORY: u8 = 7;
 
 /// Why there is nothing to report.

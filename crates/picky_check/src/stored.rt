@@ -9,7 +9,7 @@ pub(crate) struct StoredFile {
     pub(crate) octets: Vec<u8>,
 }
 
-// The place of the file of this name; of two, of the one that was added later.
+// The index of the file with this name; of two, of the one that was added later.
 pub(crate) fn find_latest(files: &[StoredFile], name: &str) -> Option<usize>
     ensures found { latest_file files.now name.now ≡ found_at files.now result }
     ensures within { IfSome result (λ place. place < length files.now) }
@@ -23,7 +23,7 @@ pub(crate) fn find_latest(files: &[StoredFile], name: &str) -> Option<usize>
     found
 }
 
-// The octets of the file that stands there, none where none is picked.
+// The octets of the file at the index, none if none is picked.
 pub(crate) fn octets_at(files: &[StoredFile], picked: Option<usize>) -> &[u8]
     requires { (place : ℕ) → picked ≡ Some place → place < length files.now }
     ensures { result.now ≡ octets_at files.now picked }

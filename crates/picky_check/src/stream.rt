@@ -1,4 +1,4 @@
-//! A shelf over readers and a sink over a writer. They tell what these know, and count each error.
+//! A shelf over readers and a sink over a writer. They expose what those do, and count each error.
 
 ghost use Rattle.std.specs.Prelude.{◌≡◌, ◌≤◌, ◌+◌, None, Option, option_map, IfOk};
 ghost use Rattle.der_core.specs.Counts.{last_count, GoesOn, HasRisen};
@@ -9,15 +9,15 @@ use crate::{Failed, Shelf, Sink};
 use std::io;
 use std::io::{Read, Write};
 
-/// What opens files by their names.
+/// Opens files by name.
 pub trait Opener {
-    /// An open file, read from its first octet on.
+    /// An open file, read from its first octet.
     type Reader: Read + Drop;
 
-    /// The files by name, where they are known.
+    /// The files by name, if they are exposed.
     ghost files: { Self → Option Files } = { λ _. None };
 
-    /// Opens the file of this name, with all of it left to read.
+    /// Opens the file with this name, with all of it left to read.
     fn open(&self, name: &str) -> io::Result<Self::Reader>
         ensures { IfOk result (λ reader.
             IsOpened (files self.now) name.now (Self.Reader.remaining reader)) };
@@ -35,7 +35,7 @@ pub struct ReaderShelf<D: Opener> {
 }
 
 impl<D: Opener> ReaderShelf<D> {
-    /// Over the files of this opener. No file is picked, and nothing is counted yet.
+    /// A shelf over this opener, with no file picked and no counts.
     pub fn over(opener: D) -> Self
         ensures files { (⟦<ReaderShelf<D> as Shelf>⟧.state result).files ≡ D.files opener }
         ensures none_given { (⟦<ReaderShelf<D> as Shelf>⟧.state result).given ≡ 0 }
@@ -91,8 +91,8 @@ impl<D: Opener> Shelf for ReaderShelf<D> {
     }
 }
 
-/// Octets that go to a writer. An error of it is a fault, and so is a write that takes nothing
-/// of a piece that isn't empty.
+/// Octets that go to a writer. An error of the writer is a fault, and so is a write that accepts
+/// nothing of a nonempty piece.
 #[derive(Drop)]
 pub struct WriterSink<W> {
     writer: W,
@@ -101,7 +101,7 @@ pub struct WriterSink<W> {
 }
 
 impl<W: Write> WriterSink<W> {
-    /// Over this writer. Nothing is counted yet.
+    /// A sink over this writer, with no counts.
     pub fn over(writer: W) -> Self
         ensures held { (⟦<WriterSink<W> as Sink>⟧.state result).held ≡ W.contents writer }
         ensures no_faults { (⟦<WriterSink<W> as Sink>⟧.state result).faults ≡ 0 }

@@ -1,4 +1,4 @@
-//! What the words of a command line ask for.
+//! The commands of the command line.
 
 ghost use Rattle.std.specs.Prelude.{◌≡◌, Some, None, map, IfOk, IfSome, IsErr, IsSome, MatchOption, option_map, string_bytes, ◌∷◌, codes, Ok};
 ghost use Rattle.picky_check.specs.Jobs.{job_held, names_held};
@@ -10,22 +10,22 @@ use crate::options::{CheckOptions, options_of};
 use names_core::UtcDate;
 use std::alloc::{AllocError, Global};
 
-/// The most octets of a hash.
+/// The maximal length of a hash, in octets.
 const LONGEST_HASH: usize = 64;
 
-/// The most parents of a certificate.
+/// The maximal number of parents of a certificate.
 const MOST_PARENTS: usize = 31;
 
-/// What is asked for.
+/// A command with its arguments.
 #[derive(Debug, Drop)]
 pub(crate) enum Job<'a> {
-    /// The form of one signature file, its digest and its signature.
+    /// Checks the form of one signature file, its digest and its signature.
     Basic {
         signature: &'a str,
         table: &'a str,
         hash: Vec<u8>,
     },
-    /// The same, and the signer's certificate over those of its issuers, from a date on.
+    /// The same, and the signer's certificate with those of its issuers, at a date or from it on.
     Check {
         signature: &'a str,
         table: &'a str,
@@ -33,7 +33,7 @@ pub(crate) enum Job<'a> {
         date: UtcDate,
         options: CheckOptions,
     },
-    /// A certificate over its parents, at a date.
+    /// Validates a certificate with its parents, at a date.
     Chain {
         table: &'a str,
         date: UtcDate,
@@ -43,7 +43,7 @@ pub(crate) enum Job<'a> {
 }
 
 impl Job<'_> {
-    /// The names of its files, in the order in which they are read.
+    /// The names of its files, in the order of reading.
     pub(crate) fn names(&self) -> Names<'_>
         ensures { names_held result ≡ files_of (job_held self.now) }
     {
@@ -76,8 +76,7 @@ impl Job<'_> {
     }
 }
 
-/// The job that the words ask for, if they are in the table of commands. Memory is asked for only
-/// where they are.
+/// Parses the words, by the table of commands. Nothing is allocated if they are no command.
 pub(crate) fn job_of(alloc: Global, words: &[String]) -> Result<Option<Job<'_>>, AllocError>
     ensures asked { IfOk result (λ asked. MatchOption asked
         (AsksForNothing (map string_bytes words.now))
@@ -98,7 +97,7 @@ pub(crate) fn job_of(alloc: Global, words: &[String]) -> Result<Option<Job<'_>>,
     }
 }
 
-/// The job of the words behind `basic`.
+/// Parses the words after `basic`.
 fn basic_of(alloc: Global, words: &[String]) -> Result<Option<Job<'_>>, AllocError>
     ensures asked { IfOk result (λ asked. MatchOption asked
         (AsksForNothing (codes "basic" ∷ map string_bytes words.now))
@@ -121,7 +120,7 @@ fn basic_of(alloc: Global, words: &[String]) -> Result<Option<Job<'_>>, AllocErr
     }))
 }
 
-/// The job of the words behind `check`.
+/// Parses the words after `check`.
 fn check_of(alloc: Global, words: &[String]) -> Result<Option<Job<'_>>, AllocError>
     ensures asked { IfOk result (λ asked. MatchOption asked
         (AsksForNothing (codes "check" ∷ map string_bytes words.now))
@@ -152,7 +151,7 @@ fn check_of(alloc: Global, words: &[String]) -> Result<Option<Job<'_>>, AllocErr
     }))
 }
 
-/// The job of the words behind `chain`.
+/// Parses the words after `chain`.
 fn chain_of(words: &[String]) -> Option<Job<'_>>
     ensures asked { MatchOption result
         (AsksForNothing (codes "chain" ∷ map string_bytes words.now))
@@ -175,7 +174,7 @@ fn chain_of(words: &[String]) -> Option<Job<'_>>
     })
 }
 
-// 1 to 64 octets in hexadecimal digits of either case.
+// 1 to 64 octets in hexadecimal, digits of either case.
 fn asked_hash(alloc: Global, word: &str) -> Result<Option<Vec<u8>>, AllocError>
     ensures value { IfOk result (λ hash. option_map (λ h. h.items) hash ≡ asked_hash word.now) }
     ensures memory { IsErr result → IsSome (asked_hash word.now) }

@@ -4,21 +4,18 @@ use Rattle.picky_check.proofs.AskedWords.{behind, words_are}
 use Rattle.picky_check.proofs.ReadCertificates.{unkept, later_unread, read_behind}
 use Rattle.picky_check.proofs.chain.+read_certificates.Goals as goal
 
--- src/chain.rt:44:5
 pub returns-in_err-push-clause-unread : goal.returns-in_err-push-clause-unread
 returns-in_err-push-clause-unread t c =
     let p = err_from_is_err_and c.from_residual-in_err-push.result c.from_residual-in_err-push.ensures.1 in
     let are = words_are (λ octets. octets.items) c.args.octets.now c.first-item.result c.deref.result.now c.in-len1-up.len_at_least c.first-item.is (sym c.deref.ensures.value) in
     rw (p.1, p.2) (unkept c.deref.result.now (map (λ octets. octets.items) (behind c.args.octets.now)) (map (λ octets. octets.items) c.args.octets.now) are)
 
--- src/chain.rt:35:1
 pub returns-clause-read : goal.returns-clause-read
 returns-clause-read t c =
     let are = words_are (λ octets. octets.items) c.args.octets.now c.first-item.result c.deref.result.now c.in-len1-up.len_at_least c.first-item.is (sym c.deref.ensures.value) in
     on_ok_weaker c.read_certificates.result (λ h. read_behind c.deref.result.now (map (λ octets. octets.items) (behind c.args.octets.now)) (map (λ octets. octets.items) c.args.octets.now)
     c.in_ok-from_der.field-0 c.args.certificates.now.items c.push.new.self.items c.read_certificates.new.certificates.items are c.in_ok-from_der.ensures.kept c.in_ok-push.ensures.items h) c.read_certificates.ensures.read
 
--- src/chain.rt:35:1
 pub returns-clause-unread : goal.returns-clause-unread
 returns-clause-unread t c =
     let are = words_are (λ octets. octets.items) c.args.octets.now c.first-item.result c.deref.result.now c.in-len1-up.len_at_least c.first-item.is (sym c.deref.ensures.value) in

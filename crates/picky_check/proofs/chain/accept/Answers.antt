@@ -11,7 +11,7 @@ use Rattle.x509_core.specs.declared.validator.ChainChecks.{ChainChecks}
 use Rattle.x509_core.specs.declared.window.DateCheck.TheVariants as dates
 use Rattle.picky_check.proofs.chain.accept.Goals as goal
 
--- the answer is that by the checks and about the certificate that were set
+-- the result is that of the configured checks for the configured certificate
 answer_of : {T : Type 0} (judge : Judge) (given : Option (List KeptCertificate)) (a b : ChainChecks) (x y : KeptCertificate) (r : Result T CertError) → a ≡ b → x ≡ y
     → MatchResult r (λ _. IsAccepted judge a x given) (RefusesCertBy (chain_rules judge a x given))
     → MatchResult r (λ _. IsAccepted judge b y given) (RefusesCertBy (chain_rules judge b y given))
@@ -19,7 +19,7 @@ answer_of judge given a b x y r checks certificate h =
     subst (λ (c : ChainChecks). MatchResult r (λ _. IsAccepted judge c y given) (RefusesCertBy (chain_rules judge c y given))) checks
     (subst (λ (k : KeptCertificate). MatchResult r (λ _. IsAccepted judge a k given) (RefusesCertBy (chain_rules judge a k given))) certificate h)
 
--- the iterator that was set, over these in their order, gives them
+-- the configured iterator over these yields them in order
 given_by : (chain : Option (Iter KeptCertificate)) (iterator : Iter KeptCertificate) (parents : List KeptCertificate)
     → chain ≡ Some iterator → iterator.rest.now ≡ parents → YieldsParents fronts chain (Some parents)
 given_by chain iterator parents is are = rw is (subst (AlwaysYields fronts lent iterator) are (slice_gives iterator))

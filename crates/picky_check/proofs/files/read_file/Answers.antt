@@ -103,7 +103,7 @@ returns-clause-more_given g c _ =
     let long : length c.loop-piece.octets.items ≡ 16777217 = omega (arith, c.loop-piece-test.false, c.loop-piece.invariant.within, c.len.ensures) in
     subst (λ n. RisesBy n (g.F.Shelf.state c.args.shelf.now).given (g.F.Shelf.state c.loop-piece.shelf).given) long c.loop-piece.invariant.given
 
--- ---- at most one octet more than the longest file has
+-- ---- at most one octet more than the longest file
 
 pub returns-in_err-pick-clause-at_most : goal.returns-in_err-pick-clause-at_most
 returns-in_err-pick-clause-at_most g c = omega (arith, c.pick.ensures.none_given)

@@ -2,7 +2,7 @@ use Rattle.std.proofs.Common.{length, take, ◌-◌, ◌≤◌, ◌≡◌}
 use Rattle.picky_check.specs.Sink.{Appends, Lowers}
 use Rattle.picky_check.proofs.files.write_report.Given as goal
 
--- so far the front of the text was appended, and the room is less by its length
+-- so far a prefix of the text was appended, and the room is less by its length
 abbrev pub invariant-loop-done : goal.invariant-loop-done
 invariant-loop-done g l = record {
   within : l.done ≤ length l.octets;
