@@ -1,5 +1,5 @@
-//! What programs share that answer to rows of a file: the run, rows, the words of them, lines that
-//! are answered, whether values come back as they were read, and how long work takes.
+//! What the golden programs share: running over a file of test vectors, a vector and its words,
+//! output lines, whether values round-trip, and timing.
 #![tactic(auto)]
 
 mod line;

@@ -1,4 +1,4 @@
-//! Lines that are put together word by word.
+//! Output lines, built word by word.
 
 use crate::unanswered::Unanswered;
 use crate::words::word_of;
@@ -7,8 +7,8 @@ use der_core::DerError;
 use std::alloc::Global;
 use std::fmt;
 
-/// Words, a space between. Why the row isn't answered, as where memory ran out, is kept and told at
-/// the end, so that nothing between has to be asked whether it went well.
+/// Words separated by spaces. The reason why a vector has no output, such as out of memory, is
+/// stored and returned at the end, so that no step before has to be checked.
 #[derive(Drop)]
 pub struct Line {
     alloc: Global,
@@ -26,24 +26,24 @@ impl Line {
         }
     }
 
-    /// A text right behind what stands there.
+    /// Appends a text without a space.
     pub fn mark(&mut self, text: &str) {
         if self.text.push_str(text).is_err() {
             self.lose(Unanswered::Memory);
         }
     }
 
-    /// The row isn't answered.
+    /// The vector has no output, for this reason.
     pub fn lose(&mut self, why: Unanswered) {
         self.lost = Some(why);
     }
 
-    /// No call has the row.
+    /// No call takes this vector.
     pub fn no_call(&mut self) {
         self.lose(Unanswered::NoCall);
     }
 
-    /// A word.
+    /// Appends a word.
     pub fn word(&mut self, word: &str) {
         if !self.text.is_empty() {
             self.mark(" ");
@@ -51,7 +51,7 @@ impl Line {
         self.mark(word);
     }
 
-    /// The word of octets.
+    /// Appends octets.
     pub fn octets(&mut self, octets: &[u8]) {
         match word_of(self.alloc, octets) {
             Ok(word) => self.word(word.as_str()),
@@ -59,7 +59,7 @@ impl Line {
         }
     }
 
-    /// The word of octets, `none` where there are none.
+    /// Appends octets, or `none`.
     pub fn given(&mut self, octets: Option<&[u8]>) {
         match octets {
             Some(octets) => self.octets(octets),
@@ -67,7 +67,7 @@ impl Line {
         }
     }
 
-    /// The word of octets that were asked for, or why there are none.
+    /// Appends octets, or the text of the error.
     pub fn made<E: fmt::Display + Drop>(&mut self, octets: Result<Vec<u8>, E>) {
         match octets {
             Ok(octets) => self.octets(&octets),
@@ -75,7 +75,7 @@ impl Line {
         }
     }
 
-    /// What a value is shown as.
+    /// Appends the text of a value.
     pub fn shown<T: fmt::Display>(&mut self, value: &T) {
         match format!(in self.alloc; "{value}") {
             Ok(text) => self.word(text.as_str()),
@@ -83,7 +83,7 @@ impl Line {
         }
     }
 
-    /// The word of the octets of what a value is shown as.
+    /// Appends the text of a value as octets.
     pub fn text<T: fmt::Display>(&mut self, value: &T) {
         match format!(in self.alloc; "{value}") {
             Ok(text) => self.octets(text.as_bytes()),
@@ -91,7 +91,7 @@ impl Line {
         }
     }
 
-    /// What a value is called in its code.
+    /// Appends the name of a value in the source.
     pub fn named<T: fmt::Debug>(&mut self, value: &T) {
         match format!(in self.alloc; "{value:?}") {
             Ok(text) => self.word(text.as_str()),
@@ -99,7 +99,7 @@ impl Line {
         }
     }
 
-    /// `Shape` where the element has another shape, else the text of the error.
+    /// Appends `Shape` if the element has another structure, else the text of the error.
     pub fn refused(&mut self, error: DerError) {
         match error {
             DerError::Shape => self.word("Shape"),
@@ -107,7 +107,7 @@ impl Line {
         }
     }
 
-    /// Whether something comes back as it was, or why it isn't known.
+    /// Appends whether a value round-trips, or why that isn't known.
     pub fn same(&mut self, same: Result<bool, DerError>) {
         match same {
             Ok(true) => self.word("same"),
@@ -116,7 +116,7 @@ impl Line {
         }
     }
 
-    /// `equal` or `unlike`, or why it isn't known.
+    /// Appends `equal` or `unlike`, or why that isn't known.
     pub fn equal(&mut self, equal: Result<bool, DerError>) {
         match equal {
             Ok(true) => self.word("equal"),
@@ -125,7 +125,7 @@ impl Line {
         }
     }
 
-    /// The text of the words.
+    /// The words as text.
     pub fn into_text(self) -> Result<String, Unanswered> {
         match self.lost {
             None => Ok(self.text),
@@ -133,7 +133,7 @@ impl Line {
         }
     }
 
-    /// The text of the words that answer to a row.
+    /// The words as the output for a vector.
     pub fn answer_to(self, row: &str) -> Result<String> {
         match self.into_text() {
             Ok(text) => Ok(text),

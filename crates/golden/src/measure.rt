@@ -1,13 +1,13 @@
-//! How long work takes, for the programs of `bench/`.
+//! Timing, for the programs of `bench/`.
 
 use anyhow::Result;
 use std::alloc::Global;
 use std::io::Write;
 use std::time::CpuClock;
 
-/// Does each work so many times, and prints a line: its name, for each 1 where it is done and 0 where
-/// it can't be, the nanoseconds that all took together, and a sum over the numbers that it gave, so
-/// that it is needed.
+/// Does the work for each item this often, and prints a line: its name, for each item 1 if it
+/// succeeded and else 0, the total nanoseconds, and a sum over the numbers returned, so that the
+/// work isn't optimized away.
 pub fn print_time<T, F: Fn(&T) -> Option<usize>>(
     alloc: Global,
     clock: &impl CpuClock,

@@ -1,4 +1,4 @@
-//! Why nothing is put together of words.
+//! Why no value is made from words.
 
 use crate::line::Line;
 use crate::unanswered::Unanswered;
@@ -12,7 +12,7 @@ pub enum NoValue {
 }
 
 impl NoValue {
-    /// The text of the refusal.
+    /// Prints the text of the refusal.
     pub fn print(self, line: &mut Line) {
         match self {
             NoValue::Refused(error) => line.shown(&error),

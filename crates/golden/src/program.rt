@@ -1,4 +1,4 @@
-//! Programs that answer to rows of a file.
+//! Programs that run over a file of test vectors.
 
 use crate::line::Line;
 use crate::row::{Args, Row};
@@ -8,7 +8,7 @@ use std::fs::Files;
 use std::io::{BufWriter, Write};
 use std::{fs, io};
 
-/// Prints for each row of a file what is answered to its text.
+/// Prints the output for each vector of a file, given its text.
 pub fn print_answers<R, F>(rt: &R, path: &str, answer: F) -> Result<()>
 where
     R: AllocGlobal + Files + Print,
@@ -25,7 +25,7 @@ where
     Ok(())
 }
 
-/// Prints for each row of a file the line that is put together of its words.
+/// Prints a line for each vector of a file, given its words.
 pub fn print_rows<R, F>(rt: &R, path: &str, print: F) -> Result<()>
 where
     R: AllocGlobal + Files + Print,

@@ -1,10 +1,11 @@
-//! Rows, and what calls take of them.
+//! Test vectors, and the arguments of calls in them.
 
 use crate::unanswered::Unanswered;
 use crate::words::octets_of;
 use std::alloc::{AllocError, Global};
 
-/// The words of a row, a space between, and the octets of each, None where it is none of octets.
+/// The words of a vector, separated by spaces, and the octets of each, None if it isn't one of
+/// octets.
 #[derive(Drop)]
 pub struct Row<'a> {
     words: Vec<&'a str>,
@@ -18,7 +19,7 @@ impl<'a> Row<'a> {
         Ok(Row { words, octets })
     }
 
-    /// All words, and their octets.
+    /// All words, with their octets.
     pub fn args(&self) -> Args<'_> {
         Args {
             words: &self.words,
@@ -43,7 +44,7 @@ fn octets_in(alloc: Global, word: &str) -> Result<Option<Vec<u8>>, AllocError> {
     }
 }
 
-/// Words of a row, and the octets of each.
+/// Words of a vector, and the octets of each.
 #[derive(Clone, Copy)]
 pub struct Args<'a> {
     pub words: &'a [&'a str],
@@ -51,7 +52,7 @@ pub struct Args<'a> {
 }
 
 impl<'a> Args<'a> {
-    /// The first word, and those behind it.
+    /// The first word, and the ones after it.
     pub fn split(self) -> Option<(&'a str, Args<'a>)> {
         match (self.words, self.octets) {
             ([first, words @ ..], [_, octets @ ..]) => Some((first, Args { words, octets })),
@@ -59,7 +60,7 @@ impl<'a> Args<'a> {
         }
     }
 
-    /// The octets of the word at a place, None for `none`.
+    /// The octets of the word at an index, None for `none`.
     pub fn given(self, place: usize) -> Result<Option<&'a [u8]>, Unanswered> {
         match (self.words.get(place), self.octets.get(place)) {
             (Some(word), _) if *word == "none" => Ok(None),

@@ -1,4 +1,4 @@
-//! Why a row isn't answered.
+//! Why a vector has no output.
 
 use std::alloc::{AllocError, AllocFailed};
 use thiserror::Error;
@@ -8,13 +8,13 @@ pub enum Unanswered {
     /// Each call takes another number of words, or other words.
     #[error("no call has such a row")]
     NoCall,
-    /// A word of octets is neither of hexadecimal digits nor `-`.
+    /// A word of octets is neither hexadecimal nor `-`.
     #[error("a word is none of octets")]
     NoOctets,
-    /// Octets that stand for a text are none in UTF-8.
+    /// The octets of a text aren't UTF-8.
     #[error("octets are no text")]
     NoText,
-    /// No memory was left.
+    /// Out of memory.
     #[error("out of memory")]
     Memory,
 }

@@ -1,9 +1,9 @@
-//! Structures that are read of elements, copied, compared and written again.
+//! Structures that are read from elements, copied, compared and written again.
 
 use der_core::{DerError, Structure, read_exact};
 use std::alloc::Global;
 
-/// The value that an element spells.
+/// The value that an element encodes.
 pub fn value_of<T: Structure>(alloc: Global, element: &[u8]) -> Result<T, DerError> {
     T::read(alloc, &read_exact(alloc, element)?)
 }
@@ -33,12 +33,12 @@ fn is_written_as<T: Structure>(alloc: Global, value: &T, element: &[u8]) -> Resu
     Ok(octets.as_slice() == element)
 }
 
-/// Whether a value is this one. It is let go here, for all types at once.
+/// Whether a value is this one. It is dropped here, for all types at once.
 pub fn equals<T: PartialEq + Drop>(given: T, value: &T) -> bool {
     given == *value
 }
 
-/// Whether a call gave this value. What it gave is let go here.
+/// Whether a call returned this value. The result is dropped here.
 pub fn gives<T: PartialEq + Drop, E: Drop>(given: Result<T, E>, value: &T) -> bool {
     match given {
         Ok(given) => given == *value,
@@ -46,7 +46,7 @@ pub fn gives<T: PartialEq + Drop, E: Drop>(given: Result<T, E>, value: &T) -> bo
     }
 }
 
-/// Whether a call gave these octets.
+/// Whether a call returned these octets.
 pub fn gives_octets<E: Drop>(given: Result<Vec<u8>, E>, octets: &[u8]) -> bool {
     match given {
         Ok(given) => given.as_slice() == octets,
@@ -54,7 +54,7 @@ pub fn gives_octets<E: Drop>(given: Result<Vec<u8>, E>, octets: &[u8]) -> bool {
     }
 }
 
-/// Whether the values of two elements are equal, asked both ways.
+/// Whether the values of two elements are equal, compared both ways.
 pub fn are_equal<T: Structure + PartialEq>(
     alloc: Global,
     one: &[u8],

@@ -1,11 +1,11 @@
-//! The words of a row.
+//! The words of a vector.
 
 use crate::unanswered::Unanswered;
 use hex::FromHexError;
 use std::alloc::{AllocError, Global};
 use std::str::FromStr;
 
-/// The octets of a word in hexadecimal digits, `-` for none.
+/// The octets of a word in hexadecimal, `-` for none.
 pub fn octets_of(alloc: Global, word: &str) -> Result<Vec<u8>, Unanswered> {
     if word == "-" {
         return Ok(Vec::new(alloc));
@@ -17,7 +17,7 @@ pub fn octets_of(alloc: Global, word: &str) -> Result<Vec<u8>, Unanswered> {
     }
 }
 
-/// The text of octets.
+/// The text in octets.
 pub fn text_of(octets: &[u8]) -> Result<&str, Unanswered> {
     match str::from_utf8(octets) {
         Ok(text) => Ok(text),
@@ -25,7 +25,7 @@ pub fn text_of(octets: &[u8]) -> Result<&str, Unanswered> {
     }
 }
 
-/// What `true` and `false` say.
+/// The flag for `true` or `false`.
 pub fn flag_of(word: &str) -> Result<bool, Unanswered> {
     match word {
         "true" => Ok(true),
@@ -34,7 +34,7 @@ pub fn flag_of(word: &str) -> Result<bool, Unanswered> {
     }
 }
 
-/// A number in decimal digits.
+/// A decimal number.
 pub fn number_of<T: FromStr>(word: &str) -> Result<T, Unanswered>
 where
     T::Err: Drop,
@@ -45,7 +45,7 @@ where
     }
 }
 
-/// The word of octets.
+/// Octets as a word.
 pub fn word_of(alloc: Global, octets: &[u8]) -> Result<String, AllocError> {
     if octets.is_empty() {
         String::from_str(alloc, "-")
