@@ -1,4 +1,4 @@
-//! A case, and what is answered to it.
+//! A case, and its output.
 
 use crate::line::{accepted_line, refused_line};
 use anyhow::{Result, bail};
@@ -9,7 +9,7 @@ use sig_core::VerdictTable;
 use std::alloc::Global;
 use x509_core::DateCheck;
 
-/// A signature file, what is asked of it, and a table.
+/// A signature file, its policy, and a verdict table.
 #[derive(Drop)]
 pub struct Case {
     pub file: Vec<u8>,
@@ -17,7 +17,7 @@ pub struct Case {
     table: VerdictTable,
 }
 
-/// The case of three words.
+/// The case from three words.
 pub fn case_of(alloc: Global, file: &str, hash: &str, table: &str) -> Result<Case> {
     Ok(Case {
         file: octets_of(alloc, file)?,
@@ -26,7 +26,7 @@ pub fn case_of(alloc: Global, file: &str, hash: &str, table: &str) -> Result<Cas
     })
 }
 
-/// Basic validation alone, for a digest.
+/// Basic validation alone, with a digest.
 fn policy_of(alloc: Global, word: &str) -> Result<Policy> {
     let hash = octets_of(alloc, word)?;
     Ok(Policy {
@@ -45,7 +45,7 @@ fn table_of(alloc: Global, word: &str) -> Result<VerdictTable> {
     Ok(VerdictTable::parse(alloc, &text)?)
 }
 
-/// The line for what a file is answered in a case.
+/// The line for the result for a file in a case.
 pub fn answer(alloc: Global, case: &Case, file: &[u8]) -> Result<String> {
     told(
         alloc,
@@ -53,7 +53,7 @@ pub fn answer(alloc: Global, case: &Case, file: &[u8]) -> Result<String> {
     )
 }
 
-/// The line for an answer.
+/// The line for a result.
 fn told(alloc: Global, answer: &Result<Accepted, CheckError>) -> Result<String> {
     match answer {
         Ok(accepted) => accepted_line(alloc, accepted),
@@ -61,13 +61,13 @@ fn told(alloc: Global, answer: &Result<Accepted, CheckError>) -> Result<String> 
     }
 }
 
-/// The line for what the file is answered with a change.
+/// The line for the result for the file with a change.
 pub fn answer_to_change(alloc: Global, case: &Case, change: &str) -> Result<String> {
     let file = changed(alloc, &case.file, &octets_of(alloc, change)?)?;
     answer(alloc, case, &file)
 }
 
-/// A copy of a file in which another octet stands at the place that a change names.
+/// A copy of a file with another octet at the offset that a change names.
 fn changed(alloc: Global, file: &[u8], change: &[u8]) -> Result<Vec<u8>> {
     let [high, low, octet] = change else {
         bail!("a change has three octets");

@@ -1,4 +1,4 @@
-//! The line of an answer: what is accepted, or the name of a refusal and its fields.
+//! The line for a result: what is accepted, or the name of a refusal and its fields.
 
 use anyhow::Result;
 use authenticode_core::{Accepted, AuthenticodeError, CheckError};
@@ -24,7 +24,7 @@ pub fn refused_line(alloc: Global, error: &CheckError) -> Result<String> {
     Ok(format!(in alloc; "{name}{fields}")?)
 }
 
-/// The fields, a space before each.
+/// The fields, with a space before each.
 fn fields(alloc: Global, error: &AuthenticodeError) -> Result<String> {
     Ok(match error {
         AuthenticodeError::CertError(error) => format!(in alloc; " {error}")?,
@@ -54,7 +54,7 @@ fn fields(alloc: Global, error: &AuthenticodeError) -> Result<String> {
     })
 }
 
-/// The words of octets, a space before each.
+/// Octets as words, with a space before each.
 fn two_words(alloc: Global, one: &[u8], other: &[u8]) -> Result<String> {
     let one = word_of(alloc, one)?;
     let other = word_of(alloc, other)?;

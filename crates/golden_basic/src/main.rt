@@ -1,14 +1,14 @@
-//! What `check_wincert` answers to many signature files under a policy of basic validation alone.
+//! The results of `check_wincert` for many signature files under a policy of basic validation
+//! alone.
 //!
 //! ```text
 //! golden_basic FILE
 //! ```
 //!
-//! Each line of FILE is a case, its words in hexadecimal digits, `-` for none: a signature file,
-//! the digest that is asked for, the text of a verdict table, and any number of changes. A change
-//! is a place in two octets and the octet that stands there instead. A line is printed for the file
-//! as it is, and one for each change of it. `tools/golden/golden_basic.py` makes such a file, and
-//! the answers to it.
+//! Each line of FILE is a case, its words in hexadecimal, `-` for none: a signature file, the
+//! expected digest, the text of a verdict table, and any number of changes. A change is an offset
+//! in two octets and the octet to put there. A line is printed for the file as it is, and one for
+//! each change of it. `tools/golden/golden_basic.py` makes such a file, and its golden output.
 #![tactic(auto)]
 
 mod case;
@@ -37,7 +37,7 @@ fn print_answers(alloc: Global, cases: &str, out: &mut impl Write) -> Result<()>
     Ok(())
 }
 
-/// The lines for a case: for its file as it is, and for each change of it.
+/// Prints the lines of a case: for its file as it is, and for each change of it.
 fn print_case(alloc: Global, text: &str, out: &mut impl Write) -> Result<()> {
     let mut words = text.split(' ');
     let (Some(file), Some(hash), Some(table)) = (words.next(), words.next(), words.next()) else {
