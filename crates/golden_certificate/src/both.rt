@@ -1,5 +1,4 @@
-//! What is answered to octets by the value of its own, by the one that is lent, and by the
-//! certificate that is kept.
+//! The results for octets as an owned value, as a borrowed view, and as a stored certificate.
 
 use crate::{details, kept, view};
 use der_core::{DerError, Structure, exact_elem};
@@ -9,7 +8,7 @@ use std::alloc::{AllocError, Global};
 use x509_core::Cert;
 use x509_types::{CertView, Certificate};
 
-/// The answer of the value, of the one that is lent and of the one that is kept, a bar between.
+/// Prints the results for the value, the view and the stored certificate, separated by bars.
 pub fn print(alloc: Global, octets: &[u8], line: &mut Line) {
     print_owned(alloc, octets, line);
     line.word("|");
@@ -18,7 +17,7 @@ pub fn print(alloc: Global, octets: &[u8], line: &mut Line) {
     print_kept(alloc, octets, line);
 }
 
-/// Some octets, others so many times behind them, and some at the end.
+/// A prefix, octets repeated this often, and a suffix.
 pub fn repeated(
     alloc: Global,
     begin: &[u8],
@@ -34,7 +33,7 @@ pub fn repeated(
     Ok(octets)
 }
 
-/// Whether the certificate comes back as it was read, and the digest of its fields; or the refusal.
+/// Prints whether the certificate round-trips, and the digest of its fields; or the refusal.
 fn print_owned(alloc: Global, octets: &[u8], line: &mut Line) {
     match Certificate::from_der(alloc, octets) {
         Ok(certificate) => {
@@ -52,8 +51,7 @@ fn print_fields(alloc: Global, certificate: &Certificate, line: &mut Line) {
     print_digest(fields, line);
 }
 
-/// The digest of the fields of the certificate where it lies, and of what its extensions say; or
-/// the refusal.
+/// Prints the digest of the borrowed fields of the certificate and its extensions; or the refusal.
 fn print_lent(alloc: Global, octets: &[u8], line: &mut Line) {
     match exact_elem(octets) {
         Ok(elem) => match CertView::read(elem) {
@@ -70,7 +68,7 @@ fn print_view(alloc: Global, view: &CertView<'_>, line: &mut Line) {
     print_digest(fields, line);
 }
 
-/// The digests of what a caller asks for, and of the fields where the kept octets lie; or the
+/// Prints the digests of the accessors' results and of the fields of the stored octets; or the
 /// refusal.
 fn print_kept(alloc: Global, octets: &[u8], line: &mut Line) {
     match Cert::from_der(alloc, octets) {
@@ -95,7 +93,7 @@ fn print_refusal(error: DerError, line: &mut Line) {
     }
 }
 
-/// The first half of the SHA-256 of the words of a line.
+/// Prints the first half of the SHA-256 of the words of a line.
 fn print_digest(fields: Line, line: &mut Line) {
     match fields.into_text() {
         Ok(text) => line.octets(&Sha256::digest(text.as_bytes())[..16]),

@@ -1,11 +1,11 @@
-//! What is printed of a certificate that is a value of its own.
+//! Printing a certificate as an owned value.
 
 use der_core::{Octets, Structure};
 use golden::Line;
 use std::alloc::Global;
 use x509_types::{Certificate, TbsCertificate, Time, Version};
 
-/// The fields in order, and the octets that are written.
+/// The fields in order, and the encoding.
 pub fn print(alloc: Global, certificate: &Certificate, line: &mut Line) {
     print_head(alloc, &certificate.tbs_certificate, line);
     print_tail(alloc, &certificate.tbs_certificate, line);
@@ -13,7 +13,7 @@ pub fn print(alloc: Global, certificate: &Certificate, line: &mut Line) {
     line.made(certificate.to_der(alloc));
 }
 
-/// The version, the serial number, the algorithm, the issuer and the times.
+/// The version, the serial number, the algorithm, the issuer and the validity.
 fn print_head(alloc: Global, tbs: &TbsCertificate, line: &mut Line) {
     line.word(version(tbs.version));
     line.octets(tbs.serial_number.as_signed_bytes_be());
@@ -23,7 +23,7 @@ fn print_head(alloc: Global, tbs: &TbsCertificate, line: &mut Line) {
     print_time(&tbs.validity.not_after, line);
 }
 
-/// The subject, the key and the fields that may be left out behind it.
+/// The subject, the key and the optional fields after it.
 fn print_tail(alloc: Global, tbs: &TbsCertificate, line: &mut Line) {
     line.made(tbs.subject.to_der(alloc));
     line.made(tbs.subject_public_key_info.to_der(alloc));
@@ -58,7 +58,7 @@ fn print_id(id: &Option<Octets>, line: &mut Line) {
     }
 }
 
-/// The form of a time, and its moment.
+/// The form of a Time, and its date.
 pub fn print_time(time: &Time, line: &mut Line) {
     match time {
         Time::Utc(moment) => {

@@ -1,4 +1,4 @@
-//! What is printed of a certificate that is kept, and of two of which one may be the parent.
+//! Printing a stored certificate, and whether one certificate is the parent of another.
 
 use crate::view::{print_flag, print_length};
 use der_core::{DerError, Raw, Structure, is_same};
@@ -8,7 +8,7 @@ use std::alloc::{AllocError, Global};
 use x509_core::{Cert, CertError, CertType};
 use x509_types::{AlgorithmIdentifier, AuthorityKeyIdentifier, BasicConstraints, Certificate};
 
-/// Whether the octets come back, as they were kept and written anew, and what a caller asks for; or
+/// Prints whether the octets round-trip, as stored and written anew, and the accessors' results; or
 /// why there is no certificate.
 pub fn print(alloc: Global, octets: &[u8], line: &mut Line) {
     match Cert::from_der(alloc, octets) {
@@ -17,7 +17,7 @@ pub fn print(alloc: Global, octets: &[u8], line: &mut Line) {
     }
 }
 
-/// Whether one certificate is the parent of another, else why not.
+/// Prints whether one certificate is the parent of another, else why not.
 pub fn print_parent(alloc: Global, parent: &[u8], child: &[u8], line: &mut Line) {
     match Cert::from_der(alloc, parent) {
         Ok(parent) => print_parent_of(alloc, &parent, child, line),
@@ -39,7 +39,7 @@ fn print_link(alloc: Global, parent: &Cert, child: &Cert, line: &mut Line) {
     }
 }
 
-/// The octets of a certificate with another algorithm of its signature, or why there are none.
+/// Prints the encoding of a certificate with another signature algorithm, or why there is none.
 pub fn print_written(alloc: Global, octets: &[u8], algorithm: &[u8], line: &mut Line) {
     match signed_by(alloc, octets, algorithm) {
         Ok(certificate) => print_made(alloc, Cert::from_certificate(alloc, certificate), line),
@@ -71,7 +71,7 @@ fn print_made(alloc: Global, made: Result<Cert, CertError>, line: &mut Line) {
     }
 }
 
-/// What is printed of a certificate that was read of these octets.
+/// Prints a certificate that was read from these octets.
 pub fn print_certificate(alloc: Global, cert: &Cert, octets: &[u8], line: &mut Line) {
     line.same(is_copied(alloc, cert, octets));
     print_anew(alloc, cert, octets, line);
@@ -81,14 +81,14 @@ pub fn print_certificate(alloc: Global, cert: &Cert, octets: &[u8], line: &mut L
     line.shown(&cert.extensions().len());
 }
 
-/// Whether a certificate and a copy of it are equal, and have these octets and one key.
+/// Whether a certificate and its copy are equal, and have these octets and one key.
 fn is_copied(alloc: Global, cert: &Cert, octets: &[u8]) -> Result<bool, DerError> {
     let copy = cert.try_clone(alloc)?;
     let is_equal = copy == *cert && has_octets(alloc, &copy, octets);
     Ok(equals(copy.into_public_key(), cert.public_key()) && is_equal)
 }
 
-/// Whether the octets that are written for the value are these, else why there are none.
+/// Prints whether the value is written as these octets, else why it isn't.
 fn print_anew(alloc: Global, cert: &Cert, octets: &[u8], line: &mut Line) {
     match made_anew(alloc, cert) {
         Ok(again) => line.same(Ok(has_octets(alloc, &again, octets))),
@@ -96,7 +96,7 @@ fn print_anew(alloc: Global, cert: &Cert, octets: &[u8], line: &mut Line) {
     }
 }
 
-/// The certificate that is made of the value of a certificate.
+/// The certificate made from the value of a certificate.
 fn made_anew(alloc: Global, cert: &Cert) -> Result<Cert, CertError> {
     let copy = cert.try_clone(alloc)?;
     Cert::from_certificate(alloc, copy.into_certificate())
@@ -107,7 +107,7 @@ fn has_octets(alloc: Global, cert: &Cert, octets: &[u8]) -> bool {
     gives_octets(cert.to_der(alloc), octets) && is_same(cert.as_bytes(), octets)
 }
 
-/// The kind, the dates, the names, the number and the algorithm.
+/// The type, the dates, the names, the serial number and the algorithm.
 fn print_fields(alloc: Global, cert: &Cert, line: &mut Line) {
     line.word(kind(cert.ty()));
     line.shown(&cert.valid_not_before());
@@ -134,7 +134,7 @@ fn print_name(name: Result<DirectoryName, AllocError>, line: &mut Line) {
     }
 }
 
-/// What the first key identifiers and basic constraints say, or that there are none.
+/// The first key identifiers and basic constraints, or that there are none.
 fn print_said(cert: &Cert, line: &mut Line) {
     match cert.subject_key_identifier() {
         Ok(key) => line.octets(key),

@@ -1,17 +1,18 @@
-//! What is answered to rows of a file on certificates, for a comparison with other answers.
+//! Output for a file of test vectors about certificates, for comparison with golden output.
 //!
 //! ```text
 //! golden_certificate FILE
 //! golden_certificate FILE TIMES
 //! ```
 //!
-//! A row is a call and its arguments, a space between: `structure certificate OCTETS`, `view
-//! certificate OCTETS`, `kept certificate OCTETS`, `written certificate OCTETS ALGORITHM`, `parent
-//! certificate OCTETS OCTETS`, `unlike certificate OCTETS OCTETS`, `both certificate OCTETS`, or
-//! `both certificate BEGIN PART TIMES END`. Octets stand in hexadecimal digits. A line is printed
-//! for each row. `tools/golden/golden_value.py` makes rows and lines.
+//! A vector is a call and its arguments, separated by spaces: `structure certificate OCTETS`,
+//! `view certificate OCTETS`, `kept certificate OCTETS`, `written certificate OCTETS ALGORITHM`,
+//! `parent certificate OCTETS OCTETS`, `unlike certificate OCTETS OCTETS`,
+//! `both certificate OCTETS`, or `both certificate BEGIN PART TIMES END`. Octets are in
+//! hexadecimal. A line is printed for each vector. `tools/golden/golden_value.py` makes vectors and
+//! golden output.
 //!
-//! With TIMES the file has certificates one after another; each is read so many times, for
+//! With TIMES the file is a sequence of certificates; each is read this often, for
 //! `bench/certificates/certificates.py`.
 #![tactic(auto)]
 

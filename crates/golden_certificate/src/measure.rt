@@ -1,4 +1,4 @@
-//! How long certificates take to be read, for `bench/certificates/certificates.py`.
+//! Timing the reading of certificates, for `bench/certificates/certificates.py`.
 
 use crate::view::{first_in, octets};
 use anyhow::Result;
@@ -11,8 +11,8 @@ use std::time::CpuClock;
 use x509_core::Cert;
 use x509_types::{CertView, Time};
 
-/// Reads each certificate of a file so many times: lent where it lies, with each field, and as a
-/// certificate that is kept with its octets.
+/// Reads each certificate of a file this often: as a borrowed view with each field, and as a
+/// certificate stored with its octets.
 pub fn print_times(
     alloc: Global,
     clock: &impl CpuClock,
@@ -70,7 +70,7 @@ fn lent(octets: &[u8]) -> Option<usize> {
     }
 }
 
-/// How many octets the fields have.
+/// The total length of the fields in octets.
 fn fields(view: CertView<'_>) -> usize {
     let fields = [
         view.tbs(),
@@ -96,7 +96,7 @@ fn fields(view: CertView<'_>) -> usize {
     sum
 }
 
-/// A sum over the years and what extensions say.
+/// A sum over the years and the extensions' fields.
 fn said(view: CertView<'_>) -> usize {
     let numbers = [
         year(&view.not_before()),

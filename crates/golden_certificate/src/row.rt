@@ -1,11 +1,11 @@
-//! Rows, and what is answered to them.
+//! Test vectors, and their output.
 
 use crate::{both, details, kept, view};
 use golden::{Args, Line, Unanswered, are_equal, comes_back, number_of, value_of};
 use std::alloc::Global;
 use x509_types::Certificate;
 
-/// The answer to a row.
+/// Prints the output for a vector.
 pub fn print(alloc: Global, args: Args<'_>, line: &mut Line) {
     match (args.words, args.octets) {
         ([call, "certificate", words @ ..], [_, _, octets @ ..]) => {
@@ -45,7 +45,7 @@ fn print_two(alloc: Global, call: &str, one: &[u8], other: &[u8], line: &mut Lin
     }
 }
 
-/// The answer to octets that are put together, the second of them so many times.
+/// Prints the output for octets with a repeated part.
 fn print_repeated(alloc: Global, parts: (&[u8], &[u8], &[u8]), times: &str, line: &mut Line) {
     match repeated(alloc, parts, times) {
         Ok(octets) => both::print(alloc, &octets, line),
@@ -61,7 +61,7 @@ fn repeated(
     Ok(both::repeated(alloc, begin, part, number_of(times)?, end)?)
 }
 
-/// Whether the certificate comes back as it was read, and its fields; or that there is none.
+/// Prints whether the certificate round-trips, and its fields; or that there is none.
 fn print_structure(alloc: Global, element: &[u8], line: &mut Line) {
     match value_of::<Certificate>(alloc, element) {
         Ok(certificate) => {
@@ -73,7 +73,7 @@ fn print_structure(alloc: Global, element: &[u8], line: &mut Line) {
     }
 }
 
-/// The fields of the first certificate in the octets; or that there is none.
+/// Prints the fields of the first certificate in the octets; or that there is none.
 fn print_view(octets: &[u8], line: &mut Line) {
     match view::first_in(octets) {
         Ok(Some(view)) => view::print(&view, line),

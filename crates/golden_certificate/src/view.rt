@@ -1,4 +1,4 @@
-//! What is printed of a certificate where it lies.
+//! Printing a borrowed certificate.
 
 use crate::details::print_time;
 use asn1_types::oids::{KP_CODE_SIGNING, KP_TIME_STAMPING};
@@ -6,7 +6,7 @@ use der_core::{Cursor, Elem, Malformed};
 use golden::Line;
 use x509_types::CertView;
 
-/// The first certificate in the octets, None where the first element is that of none.
+/// The first certificate in the octets, None if the first element isn't one.
 pub fn first_in(octets: &[u8]) -> Result<Option<CertView<'_>>, Malformed> {
     match Cursor::new(octets).next()? {
         Some(elem) => Ok(CertView::read(elem)),
@@ -14,7 +14,7 @@ pub fn first_in(octets: &[u8]) -> Result<Option<CertView<'_>>, Malformed> {
     }
 }
 
-/// The fields in order, each in its octets, what is signed and what extensions say last.
+/// The fields in order, each as octets, then what is signed and the fields of extensions.
 pub fn print(view: &CertView<'_>, line: &mut Line) {
     print_head(view, line);
     print_key(view, line);
@@ -42,7 +42,7 @@ fn print_key(view: &CertView<'_>, line: &mut Line) {
     line.octets(view.key());
 }
 
-/// The fields behind the key, the algorithm, the signature, and what is signed.
+/// The fields after the key, the algorithm, the signature, and what is signed.
 fn print_tail(view: &CertView<'_>, line: &mut Line) {
     line.given(view.issuer_unique_id());
     line.given(view.subject_unique_id());
@@ -52,7 +52,7 @@ fn print_tail(view: &CertView<'_>, line: &mut Line) {
     line.octets(view.tbs());
 }
 
-/// What the first basic constraints and the first key identifiers say.
+/// The fields of the first basic constraints and the first key identifiers.
 fn print_said(view: &CertView<'_>, line: &mut Line) {
     print_flag(view.ca(), line);
     print_length(view.path_length(), line);
@@ -60,7 +60,7 @@ fn print_said(view: &CertView<'_>, line: &mut Line) {
     line.given(view.authority_key_identifier());
 }
 
-/// What is true or false, `none` where neither is said.
+/// A flag, `none` if absent.
 pub fn print_flag(flag: Option<bool>, line: &mut Line) {
     match flag {
         Some(flag) => line.shown(&flag),
@@ -68,7 +68,7 @@ pub fn print_flag(flag: Option<bool>, line: &mut Line) {
     }
 }
 
-/// A path length, `none` where none is given.
+/// A path length, `none` if absent.
 pub fn print_length(length: Option<u8>, line: &mut Line) {
     match length {
         Some(length) => line.shown(&length),
@@ -76,7 +76,7 @@ pub fn print_length(length: Option<u8>, line: &mut Line) {
     }
 }
 
-/// Whether there is an extended key usage, and whether some of them holds code signing, and time
+/// Whether there is an extended key usage, and whether some of them name code signing, and time
 /// stamping.
 fn print_purposes(view: &CertView<'_>, line: &mut Line) {
     line.shown(&view.has_purposes());
@@ -84,7 +84,7 @@ fn print_purposes(view: &CertView<'_>, line: &mut Line) {
     line.shown(&view.names(KP_TIME_STAMPING));
 }
 
-/// The octets of an element, where it is given.
+/// The octets of an element, if present.
 pub fn octets(elem: Option<Elem<'_>>) -> Option<&[u8]> {
     match elem {
         Some(elem) => Some(elem.whole),
