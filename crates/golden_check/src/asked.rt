@@ -1,4 +1,4 @@
-//! What is asked of a file: five words with commas between.
+//! A policy and a change of the file: five words separated by commas.
 
 use anyhow::{Context, Result, bail};
 use asn1_types::GeneralizedTime;
@@ -9,7 +9,7 @@ use names_core::UtcDate;
 use std::alloc::Global;
 use x509_core::DateCheck;
 
-/// What is asked, and the change of the file, `-` for none.
+/// The policy, and the change of the file, `-` for none.
 #[derive(Drop)]
 pub struct Asked<'a> {
     pub policy: Policy,
@@ -29,7 +29,7 @@ pub fn asked_of(alloc: Global, text: &str) -> Result<Asked<'_>> {
     })
 }
 
-/// A flag is on where its letter stands there.
+/// A flag is on if its letter is there.
 fn policy_of(flags: &str, file_hash: Option<Octets>, date: DateCheck) -> Result<Policy> {
     let mut policy = Policy {
         basic: false,
@@ -68,7 +68,7 @@ fn hash_of(alloc: Global, word: &str) -> Result<Option<Octets>> {
     Ok(Some(Octets::from_slice(alloc, &octets)?))
 }
 
-/// One date where no upper end is given.
+/// A single date if no upper end is given.
 fn dates_of(lower: &str, upper: &str) -> Result<DateCheck> {
     if lower == "-" {
         return Ok(DateCheck::Absent);

@@ -1,4 +1,4 @@
-//! A case, and what is answered to it.
+//! A case, and its output.
 
 use crate::asked::asked_of;
 use crate::kept::kept_line;
@@ -9,14 +9,14 @@ use golden::octets_of;
 use sig_core::VerdictTable;
 use std::alloc::Global;
 
-/// A signature file and a table.
+/// A signature file and a verdict table.
 #[derive(Drop)]
 pub struct Case {
     file: Vec<u8>,
     table: VerdictTable,
 }
 
-/// The case of two words.
+/// The case from two words.
 pub fn case_of(alloc: Global, file: &str, table: &str) -> Result<Case> {
     Ok(Case {
         file: octets_of(alloc, file)?,
@@ -24,7 +24,7 @@ pub fn case_of(alloc: Global, file: &str, table: &str) -> Result<Case> {
     })
 }
 
-/// The table of rows with `:` for each space and `;` for each newline, `-` for none.
+/// The table, with `:` for each space and `;` for each newline, `-` for none.
 fn table_of(alloc: Global, word: &str) -> Result<VerdictTable> {
     if word == "-" {
         return Ok(VerdictTable::parse(alloc, b"")?);
@@ -34,7 +34,7 @@ fn table_of(alloc: Global, word: &str) -> Result<VerdictTable> {
     Ok(VerdictTable::parse(alloc, text.as_bytes())?)
 }
 
-/// The line for what is answered where this is asked in a case.
+/// The line for a policy and a change in a case.
 pub fn answer(alloc: Global, case: &Case, text: &str) -> Result<String> {
     let asked = asked_of(alloc, text)?;
     if asked.change == "-" {
@@ -45,8 +45,7 @@ pub fn answer(alloc: Global, case: &Case, text: &str) -> Result<String> {
     line_of(alloc, &file, &asked.policy, &case.table)
 }
 
-/// The line for what is answered, after `differs` where the signature, as it is kept, is answered
-/// otherwise.
+/// The line for the result, after `differs` if the result for the owned signature is another.
 fn line_of(alloc: Global, file: &[u8], policy: &Policy, table: &VerdictTable) -> Result<String> {
     let line = file_line(alloc, file, policy, table)?;
     match kept_line(alloc, file, policy, table)? {
@@ -59,7 +58,7 @@ fn file_line(alloc: Global, file: &[u8], policy: &Policy, table: &VerdictTable) 
     told(alloc, &check_wincert(alloc, file, policy, table))
 }
 
-/// A copy of a file in which another octet stands at the place that a change names.
+/// A copy of a file with another octet at the offset that a change names.
 fn changed(alloc: Global, file: &[u8], change: &[u8]) -> Result<Vec<u8>> {
     let [high, low, octet] = change else {
         bail!("a change has three octets");

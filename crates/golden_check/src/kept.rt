@@ -1,4 +1,4 @@
-//! The same asked of the signature in a file, as it is kept.
+//! The same check on the owned signature of a file.
 
 use crate::line::told;
 use anyhow::Result;
@@ -9,8 +9,8 @@ use sig_core::VerdictTable;
 use std::alloc::{AllocError, Global};
 use wincert_core::WinCertificate;
 
-/// The line for what the validator of the signature in a file answers, None where no signature is
-/// read of it.
+/// The line for the result of the signature's validator, None if no signature is read from the
+/// file.
 pub fn kept_line(
     alloc: Global,
     file: &[u8],
@@ -45,7 +45,7 @@ fn copy_of(alloc: Global, hash: &Option<Octets>) -> Result<Option<Octets>, Alloc
     }
 }
 
-/// What the validator answers that is set as a policy says.
+/// The result of the validator, configured by a policy.
 fn verified(
     alloc: Global,
     signature: &AuthenticodeSignature,
@@ -74,7 +74,7 @@ fn verified_by(
     }
 }
 
-/// Basic validation without a digest is what a validator begins with.
+/// A validator begins with basic validation and without a digest.
 fn with_basic<'a>(
     verifier: AuthenticodeValidator<'a>,
     asked: bool,
@@ -131,7 +131,7 @@ fn with_not_after<'a>(
     }
 }
 
-/// An interval takes the place of a date.
+/// An interval replaces a date.
 fn with_dates<'a>(
     verifier: AuthenticodeValidator<'a>,
     dates: DateCheck,

@@ -1,10 +1,10 @@
-//! The line of an answer: that of a report, and the text of a refusal.
+//! The line for a result: that of a report, and the text of a refusal.
 
 use anyhow::Result;
 use authenticode_core::{Accepted, CheckError, Excuse};
 use std::alloc::{AllocError, Global};
 
-/// The line for an answer.
+/// The line for a result.
 pub fn told(alloc: Global, answer: &Result<Accepted, CheckError>) -> Result<String> {
     match answer {
         Ok(accepted) => accepted_line(alloc, accepted),

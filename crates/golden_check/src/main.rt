@@ -1,19 +1,19 @@
-//! What `check_wincert` answers to many signature files under many policies, and whether the
-//! validator of the signature in each, as it is kept, answers the same.
+//! The results of `check_wincert` for many signature files under many policies, and whether the
+//! validator of each owned signature returns the same.
 //!
 //! ```text
 //! golden_check FILE
 //! ```
 //!
-//! Each line of FILE is a case: a signature file in hexadecimal digits; a verdict table with `:`
-//! for each space and `;` for each newline; and what is asked, any number of times. A line is
-//! printed for each of these, with `differs` before it where the validator answers otherwise.
+//! Each line of FILE is a case: a signature file in hexadecimal; a verdict table with `:` for each
+//! space and `;` for each newline; and any number of policies. A line is printed for each policy,
+//! with `differs` before it if the result of the validator is another.
 //!
-//! What is asked are five words with commas between: a letter for each flag that is on, `b` for
-//! basic, `s` for signing, `f` and `l` for the first and the last end of validities, `c` for the
-//! chain; the digest of the file; the date, or the lower end of the dates, as `20250101000000Z`;
-//! the upper end; and a place in the file in two octets with the octet that stands there instead.
-//! `-` stands for none. `tools/golden/golden_check.py` makes such a file, and the answers to it.
+//! A policy is five words separated by commas: a letter for each flag that is on, `b` for basic,
+//! `s` for signing, `f` and `l` for the first and the last end of validities, `c` for the chain;
+//! the digest of the file; the date, or the lower end of the dates, as `20250101000000Z`; the upper
+//! end; and an offset in the file in two octets with the octet to put there. `-` is none.
+//! `tools/golden/golden_check.py` makes such a file, and its golden output.
 #![tactic(auto)]
 
 mod asked;
@@ -46,7 +46,7 @@ fn print_answers(alloc: Global, cases: &str, out: &mut impl Write) -> Result<()>
     Ok(())
 }
 
-/// The lines for a case, one for each time that something is asked.
+/// Prints the lines of a case, one for each policy.
 fn print_case(alloc: Global, text: &str, out: &mut impl Write) -> Result<()> {
     let mut words = text.split(' ');
     let (Some(file), Some(table)) = (words.next(), words.next()) else {
