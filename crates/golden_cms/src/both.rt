@@ -1,4 +1,4 @@
-//! What is answered to octets by the signed data that is kept and by the one that is lent.
+//! The results for octets as owned and as borrowed signed data.
 
 use crate::details::Details;
 use crate::structures::is_written;
@@ -9,7 +9,7 @@ use golden::{Line, Unanswered};
 use sha2::{Digest, Sha256};
 use std::alloc::Global;
 
-/// The answer of the value that is kept, a bar, and that of the one that is lent.
+/// Prints the result for the owned value, a bar, and that for the borrowed one.
 pub fn print(alloc: Global, kind: &str, octets: &[u8], line: &mut Line) {
     if kind != "pkcs7" {
         return line.no_call();
@@ -19,7 +19,7 @@ pub fn print(alloc: Global, kind: &str, octets: &[u8], line: &mut Line) {
     print_lent(alloc, octets, line);
 }
 
-/// Whether the value comes back as it was read, and the digest of its fields; or the refusal.
+/// Prints whether the value round-trips, and the digest of its fields; or the refusal.
 fn print_kept<T: Structure + Details>(alloc: Global, octets: &[u8], line: &mut Line) {
     match T::from_der(alloc, octets) {
         Ok(value) => print_value(alloc, octets, &value, line),
@@ -38,7 +38,7 @@ fn details_of<T: Details>(alloc: Global, value: &T) -> Result<String, Unanswered
     fields.into_text()
 }
 
-/// The digest of the fields of the signed data where it lies; or the refusal.
+/// Prints the digest of the borrowed fields of the signed data; or the refusal.
 fn print_lent(alloc: Global, octets: &[u8], line: &mut Line) {
     match Cursor::new(octets).next() {
         Ok(Some(elem)) => match SignedView::read(elem) {
@@ -63,7 +63,7 @@ fn print_refused(error: DerError, line: &mut Line) {
     }
 }
 
-/// The first half of the SHA-256 of a text.
+/// Prints the first half of the SHA-256 of a text.
 fn print_digest(text: Result<String, Unanswered>, line: &mut Line) {
     match text {
         Ok(text) => line.octets(&Sha256::digest(text.as_bytes())[..16]),

@@ -1,4 +1,4 @@
-//! What is printed of a value beside whether it comes back as it was read.
+//! Printing a value, beside whether it round-trips.
 
 use asn1_types::ObjectIdentifier;
 use cms_types::{
@@ -10,7 +10,7 @@ use cms_types::{
 use der_core::{Octets, Raw};
 use golden::Line;
 
-/// A value of which details are printed.
+/// A value whose details are printed.
 pub trait Details {
     fn print(&self, line: &mut Line);
 }
@@ -233,7 +233,7 @@ fn print_all<T: Details>(values: &[T], line: &mut Line) {
     line.word("]");
 }
 
-/// The details of a value that may be left out.
+/// The details of an optional value.
 fn print_option<T: Details>(value: &Option<T>, line: &mut Line) {
     match value {
         Some(value) => value.print(line),

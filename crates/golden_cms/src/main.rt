@@ -1,17 +1,17 @@
-//! What is answered to rows of a file on structures of PKCS #7 and Authenticode, for a comparison
-//! with other answers.
+//! Output for a file of test vectors about structures of PKCS #7 and Authenticode, for comparison
+//! with golden output.
 //!
 //! ```text
 //! golden_cms FILE
 //! golden_cms FILE TIMES
 //! ```
 //!
-//! A row is a call and its arguments, a space between: `structure KIND OCTETS`, `both pkcs7
-//! OCTETS`, `unlike KIND OCTETS OCTETS`, `members KIND OCTETS`, `make string TEXT` or `make sha
-//! NAME`. Octets and texts stand in hexadecimal digits, `-` for none. A line is printed for each
-//! row. `tools/golden/golden_value.py` makes rows and lines.
+//! A vector is a call and its arguments, separated by spaces: `structure KIND OCTETS`,
+//! `both pkcs7 OCTETS`, `unlike KIND OCTETS OCTETS`, `members KIND OCTETS`, `make string TEXT` or
+//! `make sha NAME`. Octets and texts are in hexadecimal, `-` for none. A line is printed for each
+//! vector. `tools/golden/golden_value.py` makes vectors and golden output.
 //!
-//! With TIMES the file is signed data, which is read so many times, for
+//! With TIMES the file is signed data, which is read this often, for
 //! `bench/signed_data/signed_data.py`.
 #![tactic(auto)]
 

@@ -1,4 +1,4 @@
-//! Values that are made of texts and names, and written.
+//! Values made from texts and names, and written.
 
 use cms_types::{SpcString, new_sha};
 use der_core::Structure;
@@ -6,7 +6,7 @@ use golden::{Args, Line, text_of};
 use sig_core::ShaVariant;
 use std::alloc::Global;
 
-/// What is made.
+/// Prints what is made.
 pub fn print(alloc: Global, kind: &str, args: Args<'_>, line: &mut Line) {
     match (kind, args.words, args.octets) {
         ("string", _, [Some(octets)]) => match text_of(octets) {
@@ -21,7 +21,7 @@ pub fn print(alloc: Global, kind: &str, args: Args<'_>, line: &mut Line) {
     }
 }
 
-/// The octets of a string of a text, or what the error is called that is answered for it.
+/// Prints the octets of a string with this text, or the name of the error.
 fn print_string(alloc: Global, text: &str, line: &mut Line) {
     match SpcString::from_text(alloc, text) {
         Ok(string) => line.made(string.to_der(alloc)),
@@ -29,7 +29,7 @@ fn print_string(alloc: Global, text: &str, line: &mut Line) {
     }
 }
 
-/// The octets of the identifier of a digest algorithm.
+/// Prints the octets of the AlgorithmIdentifier of a digest algorithm.
 fn print_sha(alloc: Global, variant: ShaVariant, line: &mut Line) {
     match new_sha(alloc, variant) {
         Ok(algorithm) => line.made(algorithm.to_der(alloc)),

@@ -1,4 +1,4 @@
-//! How long signed data takes to be read, for `bench/signed_data/signed_data.py`.
+//! Timing the reading of signed data, for `bench/signed_data/signed_data.py`.
 
 use anyhow::Result;
 use cms_types::{Pkcs7Certificate, SignedView};
@@ -9,7 +9,7 @@ use std::io::Write;
 use std::slice;
 use std::time::CpuClock;
 
-/// Reads a file of signed data so many times: lent where it lies, and as a value that is kept.
+/// Reads a file of signed data this often: borrowed, and as an owned value.
 pub fn print_times(
     alloc: Global,
     clock: &impl CpuClock,
@@ -31,7 +31,7 @@ pub fn print_times(
     Ok(())
 }
 
-/// How many signers the value has that is read.
+/// The number of signers of the owned value.
 fn kept(alloc: Global, octets: &[u8]) -> Option<usize> {
     let value = Pkcs7Certificate::from_der(alloc, octets).ok()?;
     let count = value.signed_data.signers_infos.len();
@@ -39,7 +39,7 @@ fn kept(alloc: Global, octets: &[u8]) -> Option<usize> {
     Some(count)
 }
 
-/// How many octets the digest algorithms take, of signed data that is lent.
+/// The length of the digest algorithms of the borrowed value, in octets.
 fn lent(octets: &[u8]) -> Option<usize> {
     match Cursor::new(octets).next() {
         Ok(Some(elem)) => Some(

@@ -1,5 +1,4 @@
-//! Signers and tokens that are put together as members of counter-signatures, and read of them
-//! again.
+//! Signers and tokens that are made members of counter-signatures, and read back.
 
 use crate::structures::is_written;
 use cms_types::{
@@ -11,7 +10,7 @@ use golden::Line;
 use std::alloc::{AllocError, Global};
 use std::slice;
 
-/// What is answered of members.
+/// Prints the results for members.
 pub fn print(alloc: Global, kind: &str, octets: &[u8], line: &mut Line) {
     match kind {
         "signer_info" => print_signers(alloc, octets, line),
@@ -21,7 +20,7 @@ pub fn print(alloc: Global, kind: &str, octets: &[u8], line: &mut Line) {
     }
 }
 
-/// How many members there are of one signer, and what the first and the second are.
+/// The number of members made from one signer, and the first and the second of them.
 fn print_signers(alloc: Global, octets: &[u8], line: &mut Line) {
     match signers_of(alloc, octets) {
         Ok(values) => {
@@ -33,19 +32,19 @@ fn print_signers(alloc: Global, octets: &[u8], line: &mut Line) {
     }
 }
 
-/// The values of the one signer that is read of octets.
+/// The values with the one signer in the octets.
 fn signers_of(alloc: Global, octets: &[u8]) -> Result<SignerValues, DerError> {
     values_of_signer(alloc, SignerInfo::from_der(alloc, octets)?)
 }
 
-/// The values of one signer, which is let go.
+/// The values with one signer, which is dropped.
 fn values_of_signer(alloc: Global, signer: SignerInfo) -> Result<SignerValues, DerError> {
     let values = SignerValues::from_signers(alloc, slice::from_ref(&signer));
     drop(signer);
     values
 }
 
-/// How many members there are of one token, and what the first and the second are.
+/// The number of members made from one token, and the first and the second of them.
 fn print_tokens(alloc: Global, octets: &[u8], line: &mut Line) {
     match tokens_of(alloc, octets) {
         Ok(values) => {
@@ -57,12 +56,12 @@ fn print_tokens(alloc: Global, octets: &[u8], line: &mut Line) {
     }
 }
 
-/// The values of the one token that is read of octets.
+/// The values with the one token in the octets.
 fn tokens_of(alloc: Global, octets: &[u8]) -> Result<TokenValues, DerError> {
     values_of_token(alloc, Pkcs7Certificate::from_der(alloc, octets)?)
 }
 
-/// The values of one token, which is let go.
+/// The values with one token, which is dropped.
 fn values_of_token(alloc: Global, token: Pkcs7Certificate) -> Result<TokenValues, DerError> {
     let values = TokenValues::from_tokens(alloc, slice::from_ref(&token));
     drop(token);
@@ -83,7 +82,7 @@ fn print_member<T: Structure>(
     }
 }
 
-/// How many octets a signer has that holds itself as a counter-signature; or that it is too deep.
+/// The length of a signer with itself as a counter-signature; or that it is too deep.
 fn print_within(alloc: Global, octets: &[u8], line: &mut Line) {
     match within(alloc, octets) {
         Ok(values) => print_first_length(&values, line),
@@ -98,7 +97,7 @@ fn within(alloc: Global, octets: &[u8]) -> Result<SignerValues, DerError> {
     values_of_signer(alloc, with_unsigned(signer, attributes))
 }
 
-/// The attributes of a signer that the one of the octets counter-signs.
+/// The attributes of a signer that is counter-signed by the one in the octets.
 fn counter_signed(alloc: Global, octets: &[u8]) -> Result<UnsignedAttributeList, DerError> {
     let mut attributes = ListOf::new(alloc);
     attributes.push(UnsignedAttribute::CounterSign(signers_of(alloc, octets)?))?;
@@ -110,7 +109,7 @@ fn with_unsigned(mut signer: SignerInfo, attributes: UnsignedAttributeList) -> S
     signer
 }
 
-/// How many octets the first member has.
+/// The length of the first member.
 fn print_first_length(values: &SignerValues, line: &mut Line) {
     match values.as_slice() {
         [first] => line.shown(&first.as_bytes().len()),

@@ -1,4 +1,4 @@
-//! Structures that are read of elements, copied and written again.
+//! Structures that are read from elements, copied and written again.
 
 use crate::details::Details;
 use cms_types::{
@@ -10,7 +10,7 @@ use der_core::{DerError, DerFault, Malformed, Structure};
 use golden::{Line, are_equal, comes_back, value_of};
 use std::alloc::Global;
 
-/// What is read of an element.
+/// Prints what is read from an element.
 pub fn print(alloc: Global, kind: &str, element: &[u8], line: &mut Line) {
     match kind {
         "digest_info" => read_of::<DigestInfo>(alloc, element, line),
@@ -24,7 +24,7 @@ pub fn print(alloc: Global, kind: &str, element: &[u8], line: &mut Line) {
     }
 }
 
-/// The same of lists of trust and of what stands in signed data.
+/// The same for trust lists and for the parts of signed data.
 fn print_signed(alloc: Global, kind: &str, element: &[u8], line: &mut Line) {
     match kind {
         "trust_list" => read_of::<Ctl>(alloc, element, line),
@@ -39,7 +39,7 @@ fn print_signed(alloc: Global, kind: &str, element: &[u8], line: &mut Line) {
     }
 }
 
-/// Whether two elements spell equal values.
+/// Whether two elements encode equal values.
 pub fn print_unlike(alloc: Global, kind: &str, (one, other): (&[u8], &[u8]), line: &mut Line) {
     let equal = match kind {
         "digest_info" => are_equal::<DigestInfo>(alloc, one, other),
@@ -60,7 +60,7 @@ pub fn print_unlike(alloc: Global, kind: &str, (one, other): (&[u8], &[u8]), lin
     line.equal(equal);
 }
 
-/// Whether the value comes back as it was read, and its details; or that there is none.
+/// Whether the value round-trips, and its details; or that there is none.
 fn read_of<T: Structure + PartialEq + Details>(alloc: Global, element: &[u8], line: &mut Line) {
     match value_of::<T>(alloc, element) {
         Ok(value) => print_value(alloc, element, &value, line),
@@ -99,7 +99,7 @@ pub fn is_written<T: Structure>(alloc: Global, octets: &[u8], value: &T) -> Resu
     Ok(written.as_slice() == octets && copied.as_slice() == octets)
 }
 
-/// A refusal; that the element is too deep by a word.
+/// Prints a refusal; `TooDeep` as one word.
 fn print_refused(error: DerError, line: &mut Line) {
     match error {
         DerError::Malformed(

@@ -1,10 +1,10 @@
-//! What is printed of signed data where it lies.
+//! Printing borrowed signed data.
 
 use cms_types::{SignedView, SignerView};
 use der_core::{Cursor, Elem};
 use golden::Line;
 
-/// The fields in order, but for the revocation lists, each in its octets.
+/// The fields in order, except for the revocation lists, each as octets.
 pub fn print(view: SignedView<'_>, line: &mut Line) {
     line.shown(&view.version());
     print_all(view.digest_algorithms(), line);
@@ -14,7 +14,7 @@ pub fn print(view: SignedView<'_>, line: &mut Line) {
     print_signers(view.signers(), line);
 }
 
-/// The octets of elements one after another, in brackets.
+/// The octets of elements, in brackets.
 fn print_all(mut elements: Cursor<'_>, line: &mut Line) {
     line.word("[");
     // An element takes octets, so there are no more elements than octets.
@@ -27,7 +27,7 @@ fn print_all(mut elements: Cursor<'_>, line: &mut Line) {
     line.word("]");
 }
 
-/// The fields of signers one after another, in brackets.
+/// The fields of signers, in brackets.
 fn print_signers(mut elements: Cursor<'_>, line: &mut Line) {
     line.word("[");
     for _ in 0..elements.rest().len() {
@@ -57,7 +57,7 @@ fn print_fields(view: SignerView<'_>, line: &mut Line) {
     line.given(octets_of(view.unsigned_attributes()));
 }
 
-/// The issuer and the serial number that name the signer's certificate.
+/// The issuer and the serial number that identify the signer's certificate.
 fn print_named(view: SignerView<'_>, line: &mut Line) {
     match view.issuer_and_serial() {
         Some((issuer, serial_number)) => {
@@ -68,7 +68,7 @@ fn print_named(view: SignerView<'_>, line: &mut Line) {
     }
 }
 
-/// The octets of an element that may be left out.
+/// The octets of an optional element.
 fn octets_of(elem: Option<Elem<'_>>) -> Option<&[u8]> {
     match elem {
         Some(elem) => Some(elem.whole),
