@@ -1,4 +1,4 @@
-//! The answers of the readers to some octets.
+//! The results of the readers for some octets.
 
 ghost use Rattle.der_core.specs.Encoding.{IsDer};
 
@@ -6,12 +6,12 @@ use der_core::{Cursor, DerError, Malformed, Tree, read_exact, read_first, write}
 use std::alloc::Global;
 use std::fmt;
 
-/// What a call of the reader answers.
+/// The result of a call of the reader.
 #[derive(Clone, Copy, Debug)]
 pub enum Answer {
-    /// An element was read that takes so many octets, and writing it gives them.
+    /// An element of this length was read, and writing it gives its octets.
     Read(usize),
-    /// An element was read, and writing it gives other octets, which never comes.
+    /// An element was read, and writing it gives other octets, which never happens.
     Rewritten,
     /// The octets are refused.
     Refused(Malformed),
@@ -27,7 +27,7 @@ impl fmt::Display for Answer {
     }
 }
 
-/// Adds the answers of `read_first`, of `read_exact` and of a cursor, as a line.
+/// Appends the results of `read_first`, of `read_exact` and of a cursor, as a line.
 pub fn push_answers(alloc: Global, lines: &mut String, octets: &[u8]) -> Result<(), DerError> {
     let first = first_answer(alloc, octets)?;
     let exact = exact_answer(alloc, octets)?;
@@ -35,7 +35,7 @@ pub fn push_answers(alloc: Global, lines: &mut String, octets: &[u8]) -> Result<
     push_elements(lines, octets)
 }
 
-/// Adds how many octets each element takes that a cursor gives, and how it ends.
+/// Appends the length of each element that a cursor yields, and how it ends.
 fn push_elements(lines: &mut String, octets: &[u8]) -> Result<(), DerError> {
     let mut cursor = Cursor::new(octets);
     loop {
@@ -69,7 +69,7 @@ fn exact_answer(alloc: Global, octets: &[u8]) -> Result<Answer, DerError> {
     }
 }
 
-/// The answer where a tree was read, and the octets that it took.
+/// The result for a tree, and the octets that it was read from.
 fn answer_of(alloc: Global, tree: &Tree, taken: &[u8]) -> Result<Answer, DerError>
     requires { IsDer tree.now }
 {

@@ -1,4 +1,4 @@
-//! Digests of the answers to whole blocks of inputs.
+//! Digests of the results for whole blocks of inputs.
 
 ghost use Rattle.std.specs.Prelude.{◌≤◌};
 
@@ -10,7 +10,7 @@ use sha2::{Digest, Sha256};
 use std::alloc::{AllocError, Global};
 use std::io::Write;
 
-/// The inputs of a block agree in all but so many octets at their end.
+/// The inputs of a block agree except for this many octets at their end.
 const FREE_OCTETS: u8 = 2;
 
 /// Prints the digest of each block of a family.
@@ -26,7 +26,7 @@ pub fn print_digests(alloc: Global, family: &Family, out: &mut impl Write) -> Re
     Ok(())
 }
 
-/// The SHA-256 of the answer lines of all inputs that are a block's octets and `free` more.
+/// The SHA-256 of the output lines of all inputs that are a block's octets and `free` more.
 fn block_digest(alloc: Global, block: &[u8], free: u8) -> Result<[u8; 32], DerError>
     requires { free ≤ FREE_OCTETS }
 {
@@ -41,14 +41,14 @@ fn block_digest(alloc: Global, block: &[u8], free: u8) -> Result<[u8; 32], DerEr
     Ok(hasher.finalize())
 }
 
-/// How many strings of so many octets there are.
+/// The number of strings of this many octets.
 fn strings(count: u8) -> u32
     requires { count ≤ 3 }
 {
     1 << (8 * u32::from(count))
 }
 
-/// The octets, and a number in `count` more, the most significant first.
+/// The octets, and a number in `count` more, in big-endian order.
 fn extended(alloc: Global, octets: &[u8], number: u32, count: u8) -> Result<Vec<u8>, AllocError>
     requires { count ≤ 3 }
 {
@@ -57,7 +57,7 @@ fn extended(alloc: Global, octets: &[u8], number: u32, count: u8) -> Result<Vec<
     Ok(input)
 }
 
-/// The octets in hexadecimal digits, or `-` for none.
+/// The octets in hexadecimal, or `-` for none.
 fn spelled(alloc: Global, octets: &[u8]) -> Result<String, AllocError> {
     if octets.is_empty() {
         String::from_str(alloc, "-")

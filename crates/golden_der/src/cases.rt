@@ -1,4 +1,4 @@
-//! Answers to the cases of a file.
+//! Results for the cases of a file.
 
 ghost use Rattle.std.specs.Prelude.{◌<◌, length, IfSome};
 
@@ -7,7 +7,7 @@ use anyhow::{Context, Result};
 use std::alloc::Global;
 use std::io::Write;
 
-/// Prints the answer line of each case in a file.
+/// Prints the output line of each case in a file.
 pub fn print_answers(alloc: Global, file: &[u8], out: &mut impl Write) -> Result<()> {
     let mut line = String::new(alloc);
     let mut rest = file;
@@ -21,7 +21,7 @@ pub fn print_answers(alloc: Global, file: &[u8], out: &mut impl Write) -> Result
     Ok(())
 }
 
-/// The first case of a file, and what follows it; `None` where the file ends within the case.
+/// The first case of a file, and the rest; `None` if the file ends within the case.
 fn first_case(file: &[u8]) -> Option<(&[u8], &[u8])>
     ensures { IfSome result (λ x. length x.1.now < length file.now) }
 {

@@ -6,7 +6,7 @@ ghost use Rattle.golden_der.specs.declared.family.TheConstants.{MOST_OCTETS};
 use anyhow::{Context, Result, bail};
 use std::alloc::Global;
 
-/// How many octets may follow a prefix.
+/// The maximal number of octets after a prefix.
 const MOST_OCTETS: u8 = 3;
 
 /// All inputs that are a prefix and `count` more octets.
@@ -18,7 +18,7 @@ pub struct Family {
 }
 
 impl Family {
-    /// The family of a prefix, in hexadecimal digits or `-` for none, and a decimal count.
+    /// The family of a prefix, in hexadecimal or `-` for none, and a decimal count.
     pub fn from_words(alloc: Global, prefix: &str, count: &str) -> Result<Family> {
         let prefix = octets_of(alloc, prefix)?;
         let count = count.parse::<u8>().context("reading the count")?;
@@ -29,7 +29,7 @@ impl Family {
     }
 }
 
-/// Octets in hexadecimal digits, or `-` for none.
+/// Octets in hexadecimal, or `-` for none.
 fn octets_of(alloc: Global, word: &str) -> Result<Vec<u8>> {
     if word == "-" {
         return Ok(Vec::new(alloc));

@@ -1,4 +1,4 @@
-//! What the reader of DER makes of many inputs, for a comparison with another reader.
+//! Results of the DER reader for many inputs, for comparison with another reader.
 //!
 //! ```text
 //! golden_der cases FILE
@@ -6,8 +6,8 @@
 //! golden_der count FILE
 //! ```
 //!
-//! `tools/golden/compare_readers.py` says what the first two ask for and what is printed. The third
-//! prints how many elements the file has, for `bench/cursor/cursor.py`.
+//! `tools/golden/compare_readers.py` documents the first two and their output. The third prints the
+//! number of elements in the file, for `bench/cursor/cursor.py`.
 #![tactic(auto)]
 
 mod answer;

@@ -1,4 +1,4 @@
-//! What the words of a command line ask for.
+//! The command line.
 
 use crate::family::Family;
 use anyhow::{Result, bail};
@@ -6,11 +6,11 @@ use std::alloc::Global;
 
 #[derive(Debug, Drop)]
 pub enum Request<'a> {
-    /// The answers to the cases of a file.
+    /// The results for the cases of a file.
     Cases { path: &'a str },
-    /// Digests of the answers to a family of inputs.
+    /// Digests of the results for a family of inputs.
     Digests(Family),
-    /// How many elements a file has.
+    /// The number of elements in a file.
     Count { path: &'a str },
 }
 

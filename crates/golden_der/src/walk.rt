@@ -1,13 +1,13 @@
-//! All elements of some octets, one after another and each before those inside it.
+//! All elements in some octets, in order, each before those inside it.
 
 use der_core::{Cursor, MAX_NESTING, Malformed};
 
-/// How many elements octets have, those inside others among them.
+/// The number of elements in octets, nested ones included.
 pub fn count_elements(octets: &[u8]) -> Result<u64, Malformed> {
     count_within(Cursor::new(octets), MAX_NESTING)
 }
 
-/// How many elements a cursor gives, with those of so many levels inside them.
+/// The number of elements that a cursor yields, with those nested up to this many levels.
 fn count_within(mut cursor: Cursor<'_>, levels: u8) -> Result<u64, Malformed> {
     let Some(inner) = levels.checked_sub(1) else {
         return Ok(0);
