@@ -1,4 +1,4 @@
-//! What is printed of a value beside whether it comes back as it was read: of an attribute.
+//! Printing an attribute, beside whether it round-trips.
 
 use crate::details::Details;
 use der_core::{ListOf, Octets, Raw, Structure};
@@ -6,8 +6,7 @@ use golden::Line;
 use std::alloc::Global;
 use x509_types::{Attribute, AttributeValues, Extensions, OidList};
 
-/// The identifier, the kind of the values, how many there are, each, and the octets that are
-/// written.
+/// The OID, the kind of the values, their number, each, and the encoding.
 impl Details for Attribute {
     fn print(&self, alloc: Global, line: &mut Line) {
         line.shown(&self.ty);
@@ -49,7 +48,7 @@ fn print_requests(alloc: Global, requests: &ListOf<Extensions>, line: &mut Line)
     }
 }
 
-/// How many extensions there are, and each.
+/// The number of extensions, and each.
 fn print_extensions(alloc: Global, request: &Extensions, line: &mut Line) {
     line.shown(&request.len());
     for extension in request.as_slice() {

@@ -1,4 +1,4 @@
-//! Attributes that are put together of parts.
+//! Attributes from their parts.
 
 use crate::details::Details;
 use asn1_types::ObjectIdentifier;
@@ -7,7 +7,7 @@ use golden::{Line, value_of};
 use std::alloc::Global;
 use x509_types::{Attribute, AttributeValues, Extensions};
 
-/// The details of the attribute, or that there is none.
+/// Prints the details of the attribute, or that there is none.
 pub fn print(alloc: Global, call: &str, octets: &[Option<Vec<u8>>], line: &mut Line) {
     match (call, octets) {
         ("extension_request", [Some(extensions)]) => {
@@ -22,7 +22,7 @@ pub fn print(alloc: Global, call: &str, octets: &[Option<Vec<u8>>], line: &mut L
     }
 }
 
-/// An attribute, whether there is none, or why it isn't known.
+/// An attribute, that there is none, or why it isn't known.
 type Made = Result<Option<Attribute>, DerError>;
 
 fn print_made(alloc: Global, made: Made, line: &mut Line) {
@@ -41,7 +41,7 @@ fn extension_request(alloc: Global, extensions: &[u8]) -> Made {
     Ok(Some(Attribute::new_extension_request(alloc, extensions)?))
 }
 
-/// The attribute of an identifier and the values of another attribute.
+/// The attribute with an OID and the values of another attribute.
 fn with_values_of(alloc: Global, ty: &[u8], element: &[u8]) -> Made {
     let ty = ObjectIdentifier::from_content(alloc, ty)?;
     Ok(Attribute::new(ty, values_of(alloc, element)?))

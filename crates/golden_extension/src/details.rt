@@ -1,4 +1,4 @@
-//! What is printed of a value beside whether it comes back as it was read: of an extension.
+//! Printing an extension, beside whether it round-trips.
 
 use asn1_types::BitString;
 use asn1_types::oids::KP_CODE_SIGNING;
@@ -10,12 +10,12 @@ use x509_types::{
     RawGeneralNames,
 };
 
-/// A value of which details are printed.
+/// A value whose details are printed.
 pub trait Details {
     fn print(&self, alloc: Global, line: &mut Line);
 }
 
-/// The identifier, whether it is critical, the value, and the octets that are written.
+/// The OID, whether it is critical, the value, and the encoding.
 impl Details for Extension {
     fn print(&self, alloc: Global, line: &mut Line) {
         line.shown(self.extn_id());
@@ -61,7 +61,7 @@ pub fn print_bits(bits: &BitString, line: &mut Line) {
     line.octets(bits.payload_view());
 }
 
-/// A digit a flag, the first for bit 0.
+/// A digit for each flag, the first for bit 0.
 fn print_flags(usage: &KeyUsage, line: &mut Line) {
     let flags = [
         usage.digital_signature(),
@@ -108,7 +108,7 @@ fn print_extended_key_usage(alloc: Global, usage: &ExtendedKeyUsage, line: &mut 
     line.shown(&usage.contains(KP_CODE_SIGNING));
 }
 
-/// The purposes with a comma between, `-` for none.
+/// The extended key usages separated by commas, `-` for none.
 fn purposes(alloc: Global, usage: &ExtendedKeyUsage) -> Result<String, AllocError> {
     let mut text = String::new(alloc);
     for purpose in usage.as_slice() {

@@ -1,5 +1,4 @@
-//! What is printed of a value beside whether it comes back as it was read: of validities and
-//! general names.
+//! Printing validities and general names, beside whether they round-trip.
 
 use crate::details::Details;
 use asn1_types::Ia5String;
@@ -29,7 +28,7 @@ fn print_time(time: &Time, line: &mut Line) {
     }
 }
 
-/// How many there are, and each.
+/// Their number, and each.
 impl Details for RawGeneralNames {
     fn print(&self, _alloc: Global, line: &mut Line) {
         line.shown(&self.len());

@@ -1,4 +1,4 @@
-//! Lists of general names that are searched, and made of their names again.
+//! Lists of general names that are searched, and made from their names again.
 
 use asn1_types::Ia5String;
 use der_core::DerError;
@@ -7,8 +7,8 @@ use names_core::{DirectoryName, GeneralNames};
 use std::alloc::{AllocError, Global};
 use x509_types::RawGeneralNames;
 
-/// How many names an element spells, the first of a host and the first of the directory among them,
-/// and whether the list of its names is equal to it.
+/// The number of names in an element, the first host and the first directory name among them, and
+/// whether the list made from its names is equal to it.
 pub fn print(alloc: Global, kind: &str, element: &[u8], line: &mut Line) {
     if kind != "general_names" {
         return line.no_call();
@@ -54,7 +54,7 @@ fn print_directory(name: Result<Option<DirectoryName>, AllocError>, line: &mut L
     }
 }
 
-/// Whether the list that is made of the names is equal to the one that has them.
+/// Whether the list made from the names is equal to the one that has them.
 fn is_made_anew(alloc: Global, names: &GeneralNames) -> Result<bool, DerError> {
     let listed = GeneralNames::from_list(alloc, names.to_general_names(alloc)?)?;
     Ok(equals(listed, names))

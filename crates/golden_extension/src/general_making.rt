@@ -1,4 +1,4 @@
-//! General names that are put together of parts.
+//! General names from their parts.
 
 use crate::general_details::print_name;
 use asn1_types::{CharSetError, ObjectIdentifier};
@@ -9,8 +9,8 @@ use std::alloc::{AllocError, Global};
 use std::fmt;
 use x509_types::{DirectoryString, RawGeneralName};
 
-/// The octets of a name, its details, and whether it comes back from its raw name, or what the
-/// error is called that is answered for it.
+/// Prints the octets of a name, its details, and whether it comes back from its raw name, or the
+/// name of the error.
 pub fn print(alloc: Global, call: &str, octets: &[Option<Vec<u8>>], line: &mut Line) {
     match (call, octets) {
         ("rfc822_name" | "dns_name" | "uri" | "directory_name" | "edi_party_name", [Some(text)]) =>
@@ -68,7 +68,7 @@ fn of_text(alloc: Global, call: &str, text: &str) -> Result<GeneralName, CharSet
     }
 }
 
-/// The name of one common name.
+/// The name with one common name.
 fn directory_name(alloc: Global, text: &str) -> Result<GeneralName, AllocError> {
     let name = DirectoryName::new_common_name(alloc, text)?;
     Ok(GeneralName::new_directory_name(name))
@@ -109,7 +109,7 @@ fn raw_of(alloc: Global, name: &GeneralName) -> Result<RawGeneralName, AllocErro
     Ok(RawGeneralName::from(name.try_clone(alloc)?))
 }
 
-/// Whether a name is the one that is made of its raw name.
+/// Whether a name is the one made from its raw name.
 fn comes_back(alloc: Global, name: &GeneralName) -> Result<bool, DerError> {
     Ok(equals(GeneralName::from(raw_of(alloc, name)?), name))
 }

@@ -1,4 +1,4 @@
-//! Extensions that are put together of parts.
+//! Extensions from their parts.
 
 use crate::details::Details;
 use asn1_types::ObjectIdentifier;
@@ -7,7 +7,7 @@ use golden::{Args, Line, NoValue, Unanswered, flag_of, number_of};
 use std::alloc::Global;
 use x509_types::{ExtendedKeyUsage, Extension, KeyUsage, OidList, RawGeneralNames};
 
-/// The octets of the extension, and its details, or that there is none.
+/// Prints the octets of the extension, and its details, or that there is none.
 pub fn print(alloc: Global, call: &str, args: Args<'_>, line: &mut Line) {
     match (call, args.words) {
         ("basic_constraints", [ca, pathlen]) => {
@@ -21,7 +21,7 @@ pub fn print(alloc: Global, call: &str, args: Args<'_>, line: &mut Line) {
     }
 }
 
-/// The same of an extension that is put together of octets.
+/// The same for an extension from octets.
 fn print_of_octets(alloc: Global, call: &str, octets: &[Option<Vec<u8>>], line: &mut Line) {
     match (call, octets) {
         ("non_critical", [Some(octets)]) => print_made(alloc, non_critical(alloc, octets), line),
@@ -53,13 +53,13 @@ fn print_made(alloc: Global, made: Made, line: &mut Line) {
     }
 }
 
-/// The octets of an extension, and its details.
+/// Prints the octets of an extension, and its details.
 fn print_extension(alloc: Global, extension: &Extension, line: &mut Line) {
     line.made(extension.to_der(alloc));
     extension.print(alloc, line);
 }
 
-/// Whether it is an authority, and a path length, `none` for none.
+/// Basic constraints with a CA flag and a path length, `none` for none.
 fn basic_constraints(alloc: Global, ca: &str, pathlen: &str) -> Made {
     let ca = flag_of(ca)?;
     let pathlen = match pathlen {
@@ -69,7 +69,7 @@ fn basic_constraints(alloc: Global, ca: &str, pathlen: &str) -> Made {
     Ok(Extension::new_basic_constraints(alloc, ca, pathlen)?)
 }
 
-/// A usage by its flags as a number.
+/// A key usage with its flags as a number.
 fn key_usage(alloc: Global, flags: &str) -> Made {
     let usage = KeyUsage::new(alloc, number_of(flags)?)?;
     Ok(Extension::new_key_usage(alloc, usage)?)
@@ -92,7 +92,7 @@ fn extended_key_usage(alloc: Global, purposes: &[Option<Vec<u8>>]) -> Made {
     Ok(Extension::new_extended_key_usage(alloc, ExtendedKeyUsage::new(list))?)
 }
 
-/// Other names of the subject, or of the issuer.
+/// Alternative names of the subject, or of the issuer.
 fn alt_name(alloc: Global, call: &str, names: &[u8]) -> Made {
     let names = RawGeneralNames::from_der(alloc, names)?;
     Ok(match call {
@@ -101,7 +101,7 @@ fn alt_name(alloc: Global, call: &str, names: &[u8]) -> Made {
     })
 }
 
-/// The key identifier of the subject, or of the authority.
+/// The subject or the authority key identifier.
 fn key_identifier(alloc: Global, call: &str, key: &[u8]) -> Made {
     Ok(match call {
         "subject_key" => Extension::new_subject_key_identifier(alloc, key)?,

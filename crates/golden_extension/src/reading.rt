@@ -1,4 +1,4 @@
-//! Structures that are read of elements, copied and written again.
+//! Structures that are read from elements, copied and written again.
 
 use crate::details::Details;
 use der_core::Structure;
@@ -7,7 +7,7 @@ use request_types::CertificationRequest;
 use std::alloc::Global;
 use x509_types::{Attribute, Extension, RawGeneralNames, Validity};
 
-/// What is read of an element.
+/// Prints what is read from an element.
 pub fn print(alloc: Global, kind: &str, element: &[u8], line: &mut Line) {
     match kind {
         "extension" => read_of::<Extension>(alloc, element, line),
@@ -19,7 +19,7 @@ pub fn print(alloc: Global, kind: &str, element: &[u8], line: &mut Line) {
     }
 }
 
-/// Whether the value comes back as it was read, and its details; or that there is none.
+/// Whether the value round-trips, and its details; or that there is none.
 fn read_of<T: Structure + PartialEq + Details>(alloc: Global, element: &[u8], line: &mut Line) {
     match value_of::<T>(alloc, element) {
         Ok(value) => print_value(alloc, element, &value, line),
@@ -37,7 +37,7 @@ fn print_value<T: Structure + PartialEq + Details>(
     value.print(alloc, line);
 }
 
-/// Whether two elements spell equal values.
+/// Whether two elements encode equal values.
 pub fn print_unlike(alloc: Global, kind: &str, (one, other): (&[u8], &[u8]), line: &mut Line) {
     let equal = match kind {
         "extension" => are_equal::<Extension>(alloc, one, other),

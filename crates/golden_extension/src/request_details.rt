@@ -1,4 +1,4 @@
-//! What is printed of a value beside whether it comes back as it was read: of a request.
+//! Printing a certification request, beside whether it round-trips.
 
 use crate::details::{Details, print_bits};
 use der_core::Structure;
@@ -7,8 +7,7 @@ use request_types::CertificationRequest;
 use std::alloc::Global;
 use x509_types::AttributeList;
 
-/// The subject, the key, the attributes, the algorithm of the signature, its octets, and the octets
-/// that are written.
+/// The subject, the key, the attributes, the signature algorithm, the signature, and the encoding.
 impl Details for CertificationRequest {
     fn print(&self, alloc: Global, line: &mut Line) {
         let asked = &self.certification_request_info;
@@ -21,7 +20,7 @@ impl Details for CertificationRequest {
     }
 }
 
-/// How many attributes there are, and each; or that they are left out.
+/// The number of attributes, and each; or that they are absent.
 fn print_attributes(alloc: Global, given: &Option<AttributeList>, line: &mut Line) {
     match given {
         Some(attributes) => {

@@ -1,10 +1,10 @@
-//! Rows, and who answers them.
+//! Dispatching test vectors.
 
 use crate::{attribute_making, general_finding, general_making, making, reading};
 use golden::{Args, Line};
 use std::alloc::Global;
 
-/// The answer to a row.
+/// Prints the output for a vector.
 pub fn print(alloc: Global, args: Args<'_>, line: &mut Line) {
     match args.split() {
         Some((call, args)) => print_subject(alloc, call, args, line),
@@ -34,7 +34,7 @@ fn print_call(alloc: Global, (call, subject): (&str, &str), args: Args<'_>, line
     }
 }
 
-/// What is put together.
+/// Prints a value from its parts.
 fn print_made(alloc: Global, subject: &str, args: Args<'_>, line: &mut Line) {
     match args.split() {
         Some((call, args)) => print_parts(alloc, (subject, call), args, line),
