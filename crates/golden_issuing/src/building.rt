@@ -1,4 +1,4 @@
-//! Certificates that are built.
+//! Building certificates.
 
 use crate::settings::{Setting, settings_of};
 use crate::telling::{print_name, print_refused};
@@ -12,8 +12,8 @@ use std::alloc::{AllocError, Global};
 use x509_core::Cert;
 use x509_issuing::CertificateBuilder;
 
-/// The octets of the certificate, whether they come back, its subject and its issuer; or the name
-/// and the text of the refusal.
+/// Prints the octets of the certificate, whether they round-trip, its subject and its issuer; or
+/// the name and the text of the refusal.
 pub fn print<S: Scheme>(alloc: Global, words: &str, scheme: &S, line: &mut Line) -> Result<()> {
     let words: Vec<&str> = words.split(' ').collect(alloc)?;
     let [word, key, settings @ ..] = words.as_slice() else {
@@ -50,7 +50,7 @@ fn print_by<S: Scheme>(
     }
 }
 
-/// A builder with these settings, of which the first is the last of the list; the key is the
+/// A builder with these settings, applied from the last of the list to the first; the key is the
 /// issuer's.
 fn builder_of<'a>(
     alloc: Global,
@@ -64,12 +64,12 @@ fn builder_of<'a>(
     Ok(builder)
 }
 
-/// A builder to which nothing is given, and to which the key may be lent.
+/// An empty builder that may borrow the key.
 fn empty<'a>(alloc: Global, _key: &'a PrivateKey) -> CertificateBuilder<'a> {
     CertificateBuilder::new(alloc)
 }
 
-/// The builder with what is set, where something is.
+/// The builder with the settings, if any.
 fn with<'a>(
     builder: CertificateBuilder<'a>,
     setting: Option<Setting>,
@@ -101,7 +101,7 @@ fn print_certificate(alloc: Global, certificate: &Cert, line: &mut Line) {
     print_name(certificate.issuer_name(alloc), line);
 }
 
-/// Whether the certificate is read of its octets, and is the one that is made of its value.
+/// Whether the certificate is read from its octets, and is the one made from its value.
 fn comes_back(alloc: Global, certificate: &Cert) -> Result<bool, DerError> {
     Ok(is_read(alloc, certificate) && is_made_anew(alloc, certificate)?)
 }

@@ -1,4 +1,4 @@
-//! Certificates over their parents.
+//! Validating certificates with their parents.
 
 use crate::telling::print_refused;
 use crate::words::{certificate_of, date_of, two_of};
@@ -12,7 +12,7 @@ use x509_core::{Cert, CertValidator};
 
 type Validator<'a> = CertValidator<'a, 'a, Iter<'a, Cert>>;
 
-/// A setter, without what is set.
+/// A setter, without its value.
 #[derive(Clone, Copy)]
 enum Setter {
     ExactDate,
@@ -24,7 +24,7 @@ enum Setter {
     ChainCheck(bool),
 }
 
-/// The dates and the parents that setters give.
+/// The dates and the parents for setters.
 #[derive(Clone, Copy)]
 struct Given<'a> {
     lower: &'a UtcDate,
@@ -32,8 +32,8 @@ struct Given<'a> {
     parents: &'a [Cert],
 }
 
-/// `accepted`, or the name and the text of the refusal. The first certificate is the one that is
-/// asked about.
+/// Prints `accepted`, or the name and the text of the refusal. The first certificate is the
+/// validated one.
 pub fn print<S: Scheme>(alloc: Global, words: &str, scheme: &S, line: &mut Line) -> Result<()> {
     let words: Vec<&str> = words.split(' ').collect(alloc)?;
     let [certificates, dates, setters @ ..] = words.as_slice() else {
@@ -64,7 +64,7 @@ fn print_asked<S: Scheme>(
     Ok(())
 }
 
-/// Certificates, a comma between.
+/// Certificates, separated by commas.
 pub fn certificates_of(alloc: Global, words: &str) -> Result<Vec<Cert>> {
     let mut certificates = Vec::new(alloc);
     for word in words.split(',') {
@@ -133,8 +133,8 @@ fn print_verdict<S: Scheme>(alloc: Global, validator: Validator<'_>, scheme: &S,
     }
 }
 
-/// Whether one certificate is the parent of another by names and key identifiers, else the name and
-/// the text of the refusal; of octets that are no certificate those too.
+/// Prints whether one certificate is the parent of another by names and key identifiers, else the
+/// name and the text of the refusal; those of octets that are no certificate, too.
 pub fn print_parent(alloc: Global, words: &str, line: &mut Line) -> Result<()> {
     let (parent, children) = words.split_once(' ').context("two certificates are given")?;
     let octets = octets_of(alloc, parent)?;

@@ -1,13 +1,13 @@
-//! What is answered to rows of a file on certificates that are built, requests, and certificates
-//! over their parents.
+//! Output for a file of test vectors about building certificates, requests, and certificates with
+//! their parents.
 //!
 //! ```text
 //! golden_issuing FILE
 //! golden_issuing FILE TIMES
 //! ```
 //!
-//! A row has words, a space between. The first is the scheme: `demo`, or the text of a verdict
-//! table. Behind it stands one of these:
+//! A vector has words separated by spaces. The first is the scheme: `demo`, or the text of a
+//! verdict table. One of these follows:
 //!
 //! ```text
 //! build WORD KEY SETTER=VALUE ..
@@ -17,13 +17,13 @@
 //! parent PARENT CERTIFICATE
 //! ```
 //!
-//! Octets stand in hexadecimal digits, `-` for none. KEY is a private key in PKCS #8, a date is the
-//! contents of a GeneralizedTime. A line is printed for each row. `tools/golden/golden_issuing.py`
-//! makes rows and lines.
+//! Octets are in hexadecimal, `-` for none. KEY is a private key in PKCS #8, a date is the contents
+//! of a GeneralizedTime. A line is printed for each vector. `tools/golden/golden_issuing.py` makes
+//! vectors and golden output.
 //!
-//! With TIMES the file has certificates, a comma between, the first issued by the second and so on,
-//! a date, and the key of the second. The chain is judged and the first is built so many times, for
-//! `bench/issuing/issuing.py`.
+//! With TIMES the file has certificates separated by commas, the first issued by the second and so
+//! on, a date, and the key of the second. The chain is validated and the first is built this often,
+//! for `bench/issuing/issuing.py`.
 #![tactic(auto)]
 
 mod building;
@@ -64,7 +64,7 @@ fn text_of(alloc: Global, row: &str) -> Result<String> {
     line.answer_to(row)
 }
 
-/// The line for a row: its scheme, and what is called.
+/// Prints the line for a vector: its scheme, and the call.
 fn answer(alloc: Global, row: &str, line: &mut Line) -> Result<()> {
     let (scheme, call) = row.split_once(' ').context("a row has words")?;
     if scheme == "demo" {

@@ -1,4 +1,4 @@
-//! How long a chain takes to be judged and a certificate to be built, for
+//! Timing the validation of a chain and the building of a certificate, for
 //! `bench/issuing/issuing.py`.
 
 ghost use Rattle.sig_core.specs.declared.scheme.Verdict.TheVariants.{Accept};
@@ -19,7 +19,7 @@ use x509_core::Cert;
 use x509_issuing::CertificateBuilder;
 use x509_types::KeyUsage;
 
-/// A scheme that answers at once: it accepts every signature, and makes each of the same octets.
+/// A scheme that does no work: it accepts every signature, and signs with fixed octets.
 #[derive(Drop)]
 struct AtOnce;
 
@@ -77,14 +77,14 @@ struct Work {
     key: PrivateKey,
 }
 
-/// What is done so many times.
+/// The timed jobs.
 #[derive(Clone, Copy)]
 enum Job {
-    /// The certificate is judged over its parents.
+    /// Validating the certificate with its parents.
     Judging,
-    /// All are read, and it is judged.
+    /// Reading all of them, and validating it.
     Reading,
-    /// It is built anew.
+    /// Building it anew.
     Building,
 }
 
@@ -99,7 +99,7 @@ impl Job {
         }
     }
 
-    /// A number of what is done, None where it can't be done.
+    /// Does the job and returns a number, None if it fails.
     fn done(self, alloc: Global, work: &Work) -> Option<usize> {
         match self {
             Job::Judging => accepted(alloc, &work.certificates, &work.date),
@@ -109,7 +109,7 @@ impl Job {
     }
 }
 
-/// A line for each job.
+/// Prints a line for each job.
 pub fn print_times(
     alloc: Global,
     clock: &impl CpuClock,
@@ -146,7 +146,7 @@ fn print_jobs(
     Ok(())
 }
 
-/// What the words of a row say: certificates, a date, a key.
+/// The work in the words of a vector: certificates, a date, a key.
 fn work_of(alloc: Global, row: &str) -> Result<Work> {
     let words: Vec<&str> = row.split(' ').collect(alloc)?;
     let [certificates, date, key] = words.as_slice() else {
@@ -169,7 +169,7 @@ fn octets_of(alloc: Global, certificates: &[Cert]) -> Result<Vec<Vec<u8>>, Alloc
     Ok(all)
 }
 
-/// The number of certificates, where the first is accepted over the others.
+/// The number of certificates, if the first is accepted with the others as its parents.
 fn accepted(alloc: Global, certificates: &[Cert], date: &UtcDate) -> Option<usize> {
     let (checked, parents) = certificates.split_first()?;
     let validator = checked.verifier().exact_date(date).chain(parents.iter());
@@ -186,7 +186,7 @@ fn read(alloc: Global, work: &Work) -> Option<usize> {
     accepted(alloc, &certificates, &work.date)
 }
 
-/// The number of octets of a certificate like the first, by the second.
+/// The length of a certificate like the first, issued by the second.
 fn built(alloc: Global, work: &Work) -> Option<usize> {
     let [like, authority, ..] = work.certificates.as_slice() else {
         return None;

@@ -1,4 +1,4 @@
-//! Requests that are read, judged and generated.
+//! Requests that are read, verified and generated.
 
 use crate::telling::{print_name, print_told};
 use crate::words::{algorithm_of, attributes_of, key_of, name_of};
@@ -13,8 +13,8 @@ use std::alloc::{AllocError, Global};
 use x509_core::CsrError;
 use x509_issuing::Csr;
 
-/// Whether the octets come back, the key, the subject and what is told of the signature; or the
-/// text of the refusal.
+/// Prints whether the octets round-trip, the key, the subject and the verdict on the signature; or
+/// the text of the refusal.
 pub fn print<S: Scheme>(alloc: Global, octets: &str, scheme: &S, line: &mut Line) -> Result<()> {
     let octets = octets_of(alloc, octets)?;
     print_request(alloc, &octets, scheme, line);
@@ -35,8 +35,8 @@ fn print_read<S: Scheme>(alloc: Global, csr: &Csr, octets: &[u8], scheme: &S, li
     print_verdict(alloc, csr, scheme, line);
 }
 
-/// Whether a request has these octets, is the one that is made of the structure, and says of its
-/// subject what a copy says.
+/// Whether a request has these octets, is the one made from the structure, and has the same subject
+/// as its copy.
 fn comes_back(alloc: Global, csr: &Csr, octets: &[u8]) -> Result<bool, DerError> {
     let has_octets = gives_octets(csr.to_der(alloc), octets);
     let is_made_anew = is_made_anew(alloc, csr, octets);
@@ -56,7 +56,7 @@ fn has_subject(alloc: Global, csr: &Csr) -> Result<bool, AllocError> {
     Ok(equals(key, csr.public_key()) && name == subject)
 }
 
-/// What is told of the signature.
+/// Prints the verdict on the signature.
 fn print_verdict<S: Scheme>(alloc: Global, csr: &Csr, scheme: &S, line: &mut Line) {
     match csr.verify(alloc, scheme) {
         Ok(()) => line.word("accepted"),
@@ -64,9 +64,9 @@ fn print_verdict<S: Scheme>(alloc: Global, csr: &Csr, scheme: &S, line: &mut Lin
     }
 }
 
-/// The octets of the request that the key makes, whether they come back, and what is told of its
-/// signature; or the text of the refusal. Without a word of attributes it is made by the call
-/// without.
+/// Prints the octets of the request generated with the key, whether they round-trip, and the
+/// verdict on its signature; or the text of the refusal. Without attributes it uses the call
+/// without them.
 pub fn generate<S: Scheme>(alloc: Global, words: &str, scheme: &S, line: &mut Line) -> Result<()> {
     let words: Vec<&str> = words.split(' ').collect(alloc)?;
     let [algorithm, key, subject, attributes @ ..] = words.as_slice() else {
@@ -122,7 +122,7 @@ fn print_generated<S: Scheme>(alloc: Global, csr: &Csr, scheme: &S, line: &mut L
     print_verdict(alloc, csr, scheme, line);
 }
 
-/// Whether the request is read of its octets.
+/// Whether the request is read from its octets.
 fn is_read(alloc: Global, csr: &Csr) -> bool {
     match csr.to_der(alloc) {
         Ok(octets) => gives(Csr::from_der(alloc, &octets), csr),

@@ -1,4 +1,4 @@
-//! What is set of a builder, a word a setter.
+//! Builder settings, one word for each setter.
 
 use crate::words::{
     algorithm_of, certificate_of, date_of, kept_of, method_of, name_of, names_of, two_of,
@@ -13,7 +13,7 @@ use x509_core::Cert;
 use x509_issuing::{CertificateBuilder, Csr};
 use x509_types::{ExtendedKeyUsage, KeyUsage};
 
-/// What a call sets. The key of an issuer is handed in where it is set.
+/// The setting of a call. The issuer's key is passed when it is applied.
 #[derive(Drop)]
 pub enum Setting {
     Issuer(IssuerSetting),
@@ -22,7 +22,7 @@ pub enum Setting {
     Plain(PlainSetting),
 }
 
-/// Who issues the certificate.
+/// The issuer of the certificate.
 #[derive(Drop)]
 pub enum IssuerSetting {
     SelfSigned(DirectoryName),
@@ -30,14 +30,14 @@ pub enum IssuerSetting {
     Cert(Cert),
 }
 
-/// Whose certificate it is.
+/// The subject of the certificate.
 #[derive(Drop)]
 pub enum SubjectSetting {
     Named(DirectoryName, PublicKey),
     Request(Csr),
 }
 
-/// What stands in the certificate besides.
+/// The other fields of the certificate.
 #[derive(Drop)]
 pub enum FieldSetting {
     AuthorityKeyIdentifier(Octets),
@@ -48,7 +48,7 @@ pub enum FieldSetting {
     IssuerAltName(GeneralNames),
 }
 
-/// What takes no memory.
+/// Settings that don't allocate.
 #[derive(Clone, Copy)]
 pub enum PlainSetting {
     Validity(UtcDate, UtcDate),
@@ -59,7 +59,7 @@ pub enum PlainSetting {
     Inherits(bool),
 }
 
-/// What words `SETTER=VALUE` set, the last of them first.
+/// The settings in words `SETTER=VALUE`, the last of them first.
 pub fn settings_of(alloc: Global, words: &[&str]) -> Result<Vec<Setting>> {
     let mut settings = Vec::new(alloc);
     for word in words.iter().rev() {
@@ -104,7 +104,7 @@ fn octets_setting_of(alloc: Global, setter: &str, value: &str) -> Result<Setting
     }))
 }
 
-/// Other names of the subject or the issuer.
+/// Alternative names of the subject or the issuer.
 fn alt_name_of(alloc: Global, setter: &str, value: &str) -> Result<Setting> {
     let names = names_of(alloc, value)?;
     Ok(Setting::Field(match setter {
@@ -130,7 +130,7 @@ fn validity_of(value: &str) -> Result<PlainSetting> {
     Ok(PlainSetting::Validity(date_of(from)?, date_of(to)?))
 }
 
-/// The name and the public key, a comma between.
+/// The name and the public key, separated by a comma.
 fn subject_of(alloc: Global, value: &str) -> Result<Setting> {
     let (name, key) = two_of(value)?;
     let octets = octets_of(alloc, key)?;
@@ -155,7 +155,7 @@ fn purposes_of(alloc: Global, value: &str) -> Result<Setting> {
     Ok(Setting::Field(FieldSetting::ExtendedKeyUsage(purposes)))
 }
 
-/// One name of the directory.
+/// One directory name.
 fn directory_of(alloc: Global, value: &str) -> Result<Setting> {
     let name = name_of(alloc, value)?;
     let names = GeneralNames::new_directory_name(alloc, name)?;
@@ -163,7 +163,7 @@ fn directory_of(alloc: Global, value: &str) -> Result<Setting> {
 }
 
 impl Setting {
-    /// The builder with what is set. The key is the issuer's.
+    /// The builder with a setting. The key is the issuer's.
     pub fn set<'a>(
         self,
         builder: CertificateBuilder<'a>,
@@ -229,7 +229,7 @@ impl PlainSetting {
     }
 }
 
-/// The builder under the certificate of an issuer.
+/// The builder with the certificate of an issuer.
 pub fn issued_under<'a>(
     mut builder: CertificateBuilder<'a>,
     certificate: &Cert,

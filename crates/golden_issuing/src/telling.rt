@@ -1,4 +1,4 @@
-//! What is printed of names and of errors.
+//! Printing names and errors.
 
 use golden::Line;
 use names_core::DirectoryName;
@@ -25,7 +25,7 @@ pub fn print_refused(alloc: Global, error: &CertError, line: &mut Line) {
     }
 }
 
-/// The text of an error, which is let go here alone.
+/// Prints the text of an error, which is dropped only here.
 pub fn print_told(error: CsrError, line: &mut Line) {
     line.shown(&error);
 }

@@ -1,4 +1,4 @@
-//! The values of words.
+//! Parsing words.
 
 use anyhow::{Context, Result, bail};
 use asn1_types::GeneralizedTime;
@@ -16,7 +16,7 @@ pub fn table_of(alloc: Global, word: &str) -> Result<VerdictTable> {
     Ok(VerdictTable::parse(alloc, &text)?)
 }
 
-/// A private key. A public one that isn't in it is that of the demonstration scheme.
+/// A private key. A public key that isn't in it is derived by the demonstration scheme.
 pub fn key_of(alloc: Global, word: &str) -> Result<PrivateKey> {
     let octets = octets_of(alloc, word)?;
     Ok(PrivateKey::from_pkcs8(alloc, &octets, &DemoScheme::new())?)
@@ -42,7 +42,7 @@ pub fn kept_of(alloc: Global, word: &str) -> Result<Octets> {
     Ok(Octets::from_slice(alloc, &octets)?)
 }
 
-/// Attributes, a comma between.
+/// Attributes, separated by commas.
 pub fn attributes_of(alloc: Global, words: &str) -> Result<AttributeList> {
     let mut attributes = AttributeList::new(alloc);
     for word in words.split(',') {
@@ -61,13 +61,13 @@ pub fn date_of(word: &str) -> Result<UtcDate> {
     Ok(UtcDate::from(time.context("no moment is written so")?))
 }
 
-/// Two words, a comma between.
+/// Two words, separated by a comma.
 pub fn two_of(word: &str) -> Result<(&str, &str)> {
     word.split_once(',')
         .context("two words are given, a comma between")
 }
 
-/// An algorithm by `rsa` or `ecdsa`, a colon and its digest, or by `ed25519`.
+/// An algorithm as `rsa` or `ecdsa`, a colon and its digest, or as `ed25519`.
 pub fn algorithm_of(word: &str) -> Result<SignatureAlgorithm> {
     match word.split_once(':') {
         Some(("rsa", hash)) => Ok(SignatureAlgorithm::RsaPkcs1v15(hash_of(hash)?)),
@@ -77,7 +77,7 @@ pub fn algorithm_of(word: &str) -> Result<SignatureAlgorithm> {
     }
 }
 
-/// How keys are identified, by `whole` or `leftmost`, a colon and the digest.
+/// How key identifiers are generated, as `whole` or `leftmost`, a colon and the digest.
 pub fn method_of(word: &str) -> Result<KeyIdGenMethod> {
     match word.split_once(':') {
         Some(("whole", hash)) => Ok(KeyIdGenMethod::SPKFullDER(hash_of(hash)?)),
