@@ -1,4 +1,4 @@
-//! The line for certificates alone.
+//! The line for certificates without signers.
 
 use crate::line::print_octets;
 use crate::words::certificates_of;
@@ -6,7 +6,7 @@ use anyhow::Result;
 use authenticode_signature::Pkcs7;
 use std::alloc::Global;
 
-/// Signed data that has the certificates of signed data, and nothing else.
+/// Prints signed data with the certificates of signed data, and nothing else.
 pub fn print_alone(alloc: Global, signed_data: &str, line: &mut String) -> Result<()> {
     let certificates = certificates_of(alloc, signed_data)?;
     let alone = Pkcs7::of_certificates(alloc, &certificates)?;

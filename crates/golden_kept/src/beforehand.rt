@@ -1,4 +1,4 @@
-//! A scheme that has a signature from elsewhere.
+//! A scheme with a signature from another program.
 
 ghost use Rattle.std.specs.Prelude.{bytes_eq};
 ghost use Rattle.sig_core.specs.declared.scheme.Verdict.TheVariants.{Reject};
@@ -8,8 +8,8 @@ use golden::octets_of;
 use sig_core::{Scheme, SchemeError, SchemeKind, SigAlg, Verdict};
 use std::alloc::{AllocError, Global};
 
-/// The signature of one message, which another program made beforehand. No other message is signed,
-/// and no signature is judged.
+/// The signature of one message, which another program made. No other message is signed, and no
+/// signature is verified.
 #[derive(Drop)]
 pub struct Beforehand {
     message: Vec<u8>,
@@ -17,7 +17,7 @@ pub struct Beforehand {
 }
 
 impl Beforehand {
-    /// The scheme of a message and its signature, a colon between.
+    /// The scheme for a message and its signature, separated by a colon.
     pub fn of(alloc: Global, word: &str) -> Result<Beforehand> {
         let (message, signature) = word.split_once(':').context("a message and its signature")?;
         let message = octets_of(alloc, message)?;

@@ -1,4 +1,4 @@
-//! The line for a signature that is built.
+//! The line for a built signature.
 
 use crate::line::print_signature_octets;
 use crate::settings::{Setting, settings_of};
@@ -9,7 +9,7 @@ use key_core::PrivateKey;
 use sig_core::Scheme;
 use std::alloc::{AllocError, Global};
 
-/// The signature that is built with a private key and what is set.
+/// Prints the signature built with a private key and settings.
 pub fn print_built<S: Scheme>(
     alloc: Global,
     words: &str,
@@ -46,7 +46,7 @@ fn print_by<S: Scheme>(
     print_signature(alloc, builder, scheme, line)
 }
 
-/// A builder with these settings, of which the first is the last of the list.
+/// A builder with these settings, applied from the last of the list to the first.
 fn builder_of(mut settings: Vec<Setting>, key: &PrivateKey) -> AuthenticodeSignatureBuilder<'_> {
     let mut builder = empty(key);
     for _ in 0..settings.len() {
@@ -55,12 +55,12 @@ fn builder_of(mut settings: Vec<Setting>, key: &PrivateKey) -> AuthenticodeSigna
     builder
 }
 
-/// A builder of which nothing is asked, and to which the key may be lent.
+/// An empty builder that may borrow the key.
 fn empty(_key: &PrivateKey) -> AuthenticodeSignatureBuilder<'_> {
     AuthenticodeSignatureBuilder::new()
 }
 
-/// The builder with what is set, where something is.
+/// The builder with the settings, if any.
 fn with<'a>(
     builder: AuthenticodeSignatureBuilder<'a>,
     setting: Option<Setting>,
@@ -72,7 +72,7 @@ fn with<'a>(
     }
 }
 
-/// The octets that are written for the signature, or why it isn't built.
+/// Prints the encoding of the signature, or why it isn't built.
 fn print_signature<S: Scheme>(
     alloc: Global,
     builder: AuthenticodeSignatureBuilder<'_>,

@@ -6,8 +6,8 @@ use authenticode_signature::{AuthenticodeSignature, SignatureCertificatesIterato
 use std::alloc::{AllocError, Global};
 use x509_core::Cert;
 
-/// What the signature says that octets are: its certificates, what is signed, and whether it is
-/// written as it was read. Octets that are no signature are told so.
+/// Prints the signature in octets: its certificates, what is signed, and whether it is written as
+/// it was read; or that they are no signature.
 pub fn print_kept(alloc: Global, octets: &[u8], line: &mut String) -> Result<()> {
     match AuthenticodeSignature::from_der(alloc, octets) {
         Ok(signature) => print_signature(alloc, octets, &signature, line),
@@ -15,7 +15,7 @@ pub fn print_kept(alloc: Global, octets: &[u8], line: &mut String) -> Result<()>
     }
 }
 
-/// Want of memory ends the run.
+/// Out of memory ends the run.
 fn print_unread(error: &AuthenticodeError, line: &mut String) -> Result<(), AllocError> {
     match error {
         AuthenticodeError::Memory => Err(AllocError),
@@ -35,7 +35,7 @@ fn print_signature(
     print_written(alloc, octets, signature, line)
 }
 
-/// How many certificates there are, and where those of the signer and of its issuers stand.
+/// The number of certificates, and the indices of the signer's and its issuers'.
 fn print_certificates(
     alloc: Global,
     signature: &AuthenticodeSignature,
@@ -46,7 +46,7 @@ fn print_certificates(
     print_signer(alloc, signature, &certificates, line)
 }
 
-/// The certificate of the signer and those of its issuers, nothing where there is none.
+/// The certificates of the signer and its issuers, nothing if there is none.
 fn print_signer(
     alloc: Global,
     signature: &AuthenticodeSignature,
@@ -60,7 +60,7 @@ fn print_signer(
     }
 }
 
-/// The place of the signer's certificate, and those of the issuer walk, in parentheses where the
+/// The index of the signer's certificate, and those of the issuer walk, in parentheses if the
 /// certificate has the signer's subject.
 fn print_places(signer: &Cert, certificates: &[Cert], line: &mut String) -> Result<(), AllocError> {
     let place = place_of(signer, certificates, 0);
@@ -86,7 +86,7 @@ fn print_place(place: usize, is_signer: bool, line: &mut String) -> Result<(), A
     }
 }
 
-/// The least place of the certificate, from one on, and how many there are where it stands nowhere.
+/// The least index of the certificate, from one on, and the length of the list if it isn't there.
 fn place_of(certificate: &Cert, certificates: &[Cert], from: usize) -> usize {
     for (place, one) in certificates.iter().enumerate() {
         if place >= from && *one == *certificate {
@@ -108,7 +108,7 @@ fn print_hash(
     }
 }
 
-/// Octets in hexadecimal digits behind a word.
+/// A word, then octets in hexadecimal.
 pub fn print_octets(
     alloc: Global,
     word: &str,
@@ -119,7 +119,7 @@ pub fn print_octets(
     write!(line, "{word}{digits}")
 }
 
-/// How many attributes of each kind the first signer has.
+/// The number of attributes of each kind of the first signer.
 fn print_counts(signature: &AuthenticodeSignature, line: &mut String) -> Result<(), AllocError> {
     let signed = signature.authenticated_attributes();
     let unsigned = signature.unauthenticated_attributes();
@@ -138,7 +138,7 @@ fn print_count(name: &str, count: Option<usize>, line: &mut String) -> Result<()
     }
 }
 
-/// Whether the signature is written as other octets than those that were read.
+/// Whether the signature is written as other octets than it was read from.
 fn print_written(
     alloc: Global,
     octets: &[u8],
@@ -151,12 +151,12 @@ fn print_written(
     Ok(())
 }
 
-/// The octets of a signature.
+/// The encoding of a signature.
 fn written(alloc: Global, signature: &AuthenticodeSignature) -> Result<Vec<u8>> {
     Ok(signature.to_der(alloc)?)
 }
 
-/// The octets of a signature behind a word.
+/// A word, then the encoding of a signature.
 pub fn print_signature_octets(
     alloc: Global,
     word: &str,
@@ -167,7 +167,7 @@ pub fn print_signature_octets(
     Ok(print_octets(alloc, word, &octets, line)?)
 }
 
-/// Why there is no signature. Want of memory ends the run.
+/// Why there is no signature. Out of memory ends the run.
 pub fn print_refused(error: &AuthenticodeError, line: &mut String) -> Result<(), AllocError> {
     match error {
         AuthenticodeError::Memory => Err(AllocError),

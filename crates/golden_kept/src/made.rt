@@ -1,4 +1,4 @@
-//! The line for the signature of a program that is made.
+//! The line for the made signature of a program.
 
 use crate::line::{print_refused, print_signature_octets};
 use crate::words::{key_of, signed_data_of, variant_of};
@@ -9,8 +9,7 @@ use key_core::PrivateKey;
 use sig_core::{Scheme, ShaVariant};
 use std::alloc::Global;
 
-/// What is signed: the digest of a file by an algorithm, and the name of the program, where it has
-/// one.
+/// What is signed: the digest of a file with its algorithm, and the name of the program, if any.
 #[derive(Clone, Copy)]
 struct Program<'a> {
     digest: ShaVariant,
@@ -18,8 +17,8 @@ struct Program<'a> {
     name: Option<&'a str>,
 }
 
-/// The signature that is made of a private key, signed data with the certificates, the name of a
-/// digest algorithm, a digest, and the name of the program, where it has one.
+/// Prints the signature made with a private key, signed data with the certificates, the name of a
+/// digest algorithm, a digest, and the name of the program, if any.
 pub fn print_made<S: Scheme>(
     alloc: Global,
     words: &str,
@@ -94,7 +93,7 @@ fn print_by<S: Scheme>(
     print_signature(alloc, signed, &key, program, scheme, line)
 }
 
-/// The octets that are written for the signature, or why it isn't made.
+/// Prints the encoding of the signature, or why it isn't made.
 fn print_signature<S: Scheme>(
     alloc: Global,
     signed: &Pkcs7,

@@ -1,11 +1,11 @@
-//! What signatures that are kept say of their certificates and of what is signed, what is made of
-//! them by a time stamp, and the signatures that are made.
+//! The certificates and the signed contents of owned signatures, timestamping them, and making
+//! signatures.
 //!
 //! ```text
 //! golden_kept FILE
 //! ```
 //!
-//! A line of FILE has words, a space between, and is one of these:
+//! A line of FILE has words separated by spaces, and is one of these:
 //!
 //! ```text
 //! SIGNED_DATA
@@ -15,13 +15,13 @@
 //! build SCHEME KEY SETTER=VALUE ..
 //! ```
 //!
-//! Octets stand in hexadecimal digits, `-` for none. SCHEME is `demo`, or a message and its
-//! signature, a colon between, KEY a private key in PKCS #8, and DIGEST the name of an algorithm.
-//! `tools/golden/golden_kept.py` makes such a file, and the answers to it. To signed data it is
-//! that of `golden_path`, then the digest of the file, and how many signed and how many unsigned
-//! attributes the first signer has, `-` where there is none; with a token the signed data that is
-//! stamped by it; else signed data with the certificates alone, the signature of a program that is
-//! made by them, and that which a builder makes; or why there is none.
+//! Octets are in hexadecimal, `-` for none. SCHEME is `demo`, or a message and its signature
+//! separated by a colon, KEY a private key in PKCS #8, and DIGEST the name of an algorithm.
+//! `tools/golden/golden_kept.py` makes such a file, and its golden output. For signed data that is
+//! the output of `golden_path`, then the digest of the file, and the number of signed and of
+//! unsigned attributes of the first signer, `-` without one; with a token the timestamped signed
+//! data; else signed data with the certificates alone, the signature of a program made with them,
+//! and the one that a builder makes; or why there is none.
 #![tactic(auto)]
 
 mod alone;
@@ -53,7 +53,7 @@ fn main(rt: HostRuntime) -> Result<()> {
     print_answers(&rt, path.as_str(), answer)
 }
 
-/// The answer to a row.
+/// The output for a vector.
 fn answer(alloc: Global, row: &str) -> Result<String> {
     let mut line = String::new(alloc);
     print_answer(alloc, row, &mut line)?;
@@ -67,7 +67,7 @@ fn print_answer(alloc: Global, row: &str, line: &mut String) -> Result<()> {
     }
 }
 
-/// What is answered to a row of several words.
+/// The output for a vector of several words.
 fn print_words(alloc: Global, first: &str, words: &str, line: &mut String) -> Result<()> {
     match first {
         "alone" => print_alone(alloc, words, line),
@@ -80,7 +80,7 @@ fn print_words(alloc: Global, first: &str, words: &str, line: &mut String) -> Re
     }
 }
 
-/// What is made under the scheme that the first of the words names.
+/// Prints what is made with the scheme that the first of the words names.
 fn print_under(alloc: Global, call: &str, words: &str, line: &mut String) -> Result<()> {
     let (scheme, words) = words.split_once(' ').context("a call has words")?;
     if scheme == "demo" {

@@ -1,4 +1,4 @@
-//! What is set of a builder, a word a setter.
+//! Builder settings, one word for each setter.
 
 use crate::words::{attributes_of, certificates_of, content_of, hash_of, unsigned_of};
 use anyhow::{Context, Result, bail};
@@ -14,7 +14,7 @@ use std::alloc::Global;
 use x509_core::Cert;
 use x509_types::AttributeList;
 
-/// What a call sets. The private key is handed in where it is set.
+/// The setting of a call. The private key is passed when it is applied.
 #[derive(Drop)]
 pub enum Setting {
     Certs(Vec<Cert>),
@@ -26,7 +26,7 @@ pub enum Setting {
     IssuerAndSerialNumber(DirectoryName, IntegerAsn1),
 }
 
-/// What words `SETTER=VALUE` set, the last of them first.
+/// The settings in words `SETTER=VALUE`, the last of them first.
 pub fn settings_of(alloc: Global, words: &[&str]) -> Result<Vec<Setting>> {
     let mut settings = Vec::new(alloc);
     for word in words.iter().rev() {
@@ -66,7 +66,7 @@ fn named_of(alloc: Global, value: &str) -> Result<Setting> {
 }
 
 impl Setting {
-    /// The builder with what is set. The key is the one that signs.
+    /// The builder with a setting. The key is the signer's.
     pub fn set<'a>(
         self,
         builder: AuthenticodeSignatureBuilder<'a>,

@@ -1,4 +1,4 @@
-//! The line for a signature into which a token is put.
+//! The line for a timestamped signature.
 
 use crate::line::{print_refused, print_signature_octets};
 use anyhow::Result;
@@ -6,7 +6,7 @@ use authenticode_signature::{AuthenticodeSignature, TokenTimestamper};
 use sig_core::HashAlgorithm;
 use std::alloc::Global;
 
-/// What is made of the signature that octets are by a token.
+/// Prints the signature in octets, timestamped by a token.
 pub fn print_stamped(alloc: Global, octets: &[u8], token: &[u8], line: &mut String) -> Result<()> {
     let mut signature = signature_of(alloc, octets)?;
     let mut timestamper = timestamper_of(alloc, token)?;
@@ -21,7 +21,7 @@ fn signature_of(alloc: Global, octets: &[u8]) -> Result<AuthenticodeSignature> {
     Ok(AuthenticodeSignature::from_der(alloc, octets)?)
 }
 
-/// The octets that are written for the signature when it is stamped, or why it isn't.
+/// Prints the encoding of the timestamped signature, or why it isn't timestamped.
 fn print_stamp(
     alloc: Global,
     signature: &mut AuthenticodeSignature,

@@ -1,4 +1,4 @@
-//! The values of words.
+//! Parsing words.
 
 use anyhow::{Result, bail};
 use authenticode_signature::Pkcs7;
@@ -11,7 +11,7 @@ use std::alloc::Global;
 use x509_core::Cert;
 use x509_types::{Attribute, AttributeList};
 
-/// A private key. A public one that isn't in it is that of the demonstration scheme.
+/// A private key. A public key that isn't in it is derived by the demonstration scheme.
 pub fn key_of(alloc: Global, word: &str) -> Result<PrivateKey> {
     let octets = octets_of(alloc, word)?;
     Ok(PrivateKey::from_pkcs8(alloc, &octets, &DemoScheme::new())?)
@@ -33,7 +33,7 @@ pub fn content_of(alloc: Global, word: &str) -> Result<EncapsulatedContentInfo> 
     Ok(EncapsulatedContentInfo::from_der(alloc, &octets)?)
 }
 
-/// Attributes, a comma between, `-` for none of them.
+/// Attributes, separated by commas, `-` for none of them.
 pub fn attributes_of(alloc: Global, words: &str) -> Result<AttributeList> {
     let mut attributes = ListOf::new(alloc);
     if words == "-" {
@@ -50,7 +50,7 @@ fn attribute_of(alloc: Global, word: &str) -> Result<Attribute> {
     Ok(Attribute::from_der(alloc, &octets)?)
 }
 
-/// Attributes that aren't signed, a comma between, `-` for none of them.
+/// Unsigned attributes, separated by commas, `-` for none of them.
 pub fn unsigned_of(alloc: Global, words: &str) -> Result<UnsignedAttributeList> {
     let mut attributes = ListOf::new(alloc);
     if words == "-" {
