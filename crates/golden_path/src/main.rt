@@ -1,12 +1,12 @@
-//! Where the certificates of signed data, that of its signer and those of the issuers stand.
+//! The indices of the certificates of signed data: the signer's and its issuers'.
 //!
 //! ```text
 //! golden_path FILE
 //! ```
 //!
-//! Each line of FILE is signed data in hexadecimal digits. `tools/golden/golden_path.py` makes such
-//! a file, and the answers to it: how many certificates there are, the place of the signer's, as
-//! the check tells it, and the places of the issuer walk, those that aren't on the issuer path in
+//! Each line of FILE is signed data in hexadecimal. `tools/golden/golden_path.py` makes such a
+//! file, and its golden output: the number of certificates, the index of the signer's as the check
+//! reports it, and the indices of the issuer walk, those that aren't on the issuer path in
 //! parentheses.
 #![tactic(auto)]
 
@@ -52,7 +52,7 @@ fn answer_of(alloc: Global, octets: &[u8]) -> Result<String> {
     Ok(format!(in alloc; "no signed data\n")?)
 }
 
-/// The line for the places in signed data.
+/// The line with the indices for signed data.
 fn places_of(alloc: Global, signed_data: &SignedView<'_>) -> Result<String>
     requires { (element : DerElement) × IsSignedView element signed_data.now }
 {
@@ -70,8 +70,8 @@ fn places_of(alloc: Global, signed_data: &SignedView<'_>) -> Result<String>
     Ok(line)
 }
 
-/// The certificate of the signer, where the check tells its place. Neither a date nor a chain is
-/// asked for.
+/// The signer's certificate, if the check reports its index. Neither dates nor the chain are
+/// checked.
 fn signer_of<'a>(alloc: Global, signed_data: &SignedView<'a>) -> Option<BagCertificate<'a>>
     requires { (element : DerElement) × IsSignedView element signed_data.now }
 {
@@ -86,7 +86,7 @@ fn signer_of<'a>(alloc: Global, signed_data: &SignedView<'a>) -> Option<BagCerti
     }
 }
 
-/// The certificate at a place of the bag.
+/// The certificate at an index of the bag.
 fn certificate_at<'a>(
     signed_data: &SignedView<'a>,
     place: Option<usize>,
@@ -100,7 +100,7 @@ fn certificate_at<'a>(
     None
 }
 
-/// The place of a certificate of the issuer walk, in parentheses where it isn't on the issuer path.
+/// The index of a certificate of the issuer walk, in parentheses if it isn't on the issuer path.
 fn walk_word(
     alloc: Global,
     signer: &BagCertificate<'_>,
