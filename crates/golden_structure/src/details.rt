@@ -1,4 +1,4 @@
-//! What is printed of a value beside whether it comes back as it was read.
+//! Printing a value, beside whether it round-trips.
 
 use asn1_types::{BitString, Ia5String, IntegerAsn1, ObjectIdentifier};
 use golden::{Line, Unanswered};
@@ -11,7 +11,7 @@ use x509_types::{
     RelativeDistinguishedName, RsaPublicKey, SubjectKey, SubjectPublicKeyInfo,
 };
 
-/// A value of which details are printed.
+/// A value whose details are printed.
 pub trait Details {
     fn print(&self, alloc: Global, line: &mut Line);
 }
@@ -94,7 +94,7 @@ impl Details for PrivateKeyValue {
     }
 }
 
-/// The details of a value that may be left out.
+/// The details of an optional value.
 fn print_option<T: Details>(alloc: Global, value: &Option<T>, line: &mut Line) {
     match value {
         Some(value) => value.print(alloc, line),

@@ -1,4 +1,4 @@
-//! Keys that are put together of parts, read and written.
+//! Keys from their parts, read and written.
 
 use crate::details::Details;
 use asn1_types::{BitString, ObjectIdentifier};
@@ -11,7 +11,7 @@ use key_core::{
 use std::alloc::{AllocError, Global};
 use std::fmt;
 
-/// What is made of the parts.
+/// Prints what is made from the parts.
 pub fn print(alloc: Global, call: &str, args: Args<'_>, line: &mut Line) {
     match (call, args.octets) {
         ("rsa_components", [Some(modulus), Some(exponent)]) => print_rsa(
@@ -59,7 +59,7 @@ fn print_ed(alloc: Global, oid: &[u8], octets: &[u8], line: &mut Line) {
     }
 }
 
-/// The octets of a key of RSA without its algorithm, or the text of the refusal.
+/// The octets of an RSA key without its algorithm, or the text of the refusal.
 fn print_pkcs1(alloc: Global, octets: &[u8], line: &mut Line) {
     match PublicKey::from_der(alloc, octets) {
         Ok(key) => line.made(key.to_pkcs1(alloc)),
@@ -79,7 +79,7 @@ pub fn print_made<E: fmt::Display + Drop>(
     }
 }
 
-/// The octets of a public key, its details and whether it comes back from what it lends.
+/// The octets of a public key, its details and whether it comes back from its SubjectPublicKeyInfo.
 fn print_key(alloc: Global, key: &PublicKey, line: &mut Line) {
     line.made(key.to_der(alloc));
     line.named(&key.kind());
@@ -95,8 +95,8 @@ fn comes_back(alloc: Global, key: &PublicKey) -> Result<bool, AllocError> {
     Ok(equals(PublicKey::from(info), key))
 }
 
-/// The octets of a private key with an algorithm, and with attributes and a public key where these
-/// are there, and its details; `None` where the parts don't belong together.
+/// The octets of a private key with an algorithm, and with attributes and a public key if they are
+/// given, and its details; `None` if the parts don't belong together.
 fn print_private(alloc: Global, args: Args<'_>, line: &mut Line) {
     match private_key_info(alloc, args) {
         Ok(Some(info)) => {
@@ -129,7 +129,7 @@ fn private_key_info(alloc: Global, args: Args<'_>) -> Result<Option<PrivateKeyIn
     Ok(PrivateKeyInfo::new(version_of(version)?, algorithm, key, attributes, public_key))
 }
 
-/// A private key by its kind, its element or, of a curve 25519 or 448, its octets.
+/// A private key by its kind, and its element or, for Curve25519 and Curve448, its octets.
 fn private_key(alloc: Global, kind: &str, octets: &[u8]) -> Result<PrivateKeyValue, NoValue> {
     match kind {
         "Rsa" => Ok(PrivateKeyValue::Rsa(RsaPrivateKey::from_der(alloc, octets)?)),

@@ -1,4 +1,4 @@
-//! Values that are put together of parts, and written.
+//! Values from their parts, and written.
 
 use crate::details::Details;
 use asn1_types::{BitString, CharSetError, Ia5String, ObjectIdentifier, oids};
@@ -8,7 +8,7 @@ use names_core::DirectoryName;
 use std::alloc::Global;
 use x509_types::{AlgorithmIdentifier, NameAttr, SubjectKey, SubjectPublicKeyInfo};
 
-/// The octets of what is put together, and its details.
+/// Prints the octets of the value, and its details.
 pub fn print(alloc: Global, call: &str, args: Args<'_>, line: &mut Line) {
     match (call, args.octets) {
         ("algorithm", [Some(oid)]) => print_made(alloc, algorithm(alloc, oid, None), line),
@@ -26,7 +26,7 @@ pub fn print(alloc: Global, call: &str, args: Args<'_>, line: &mut Line) {
     }
 }
 
-/// The octets that are written for a value, and its details; or why there is none.
+/// Prints the encoding of a value, and its details; or why there is none.
 fn print_made<T: Structure + Details>(alloc: Global, value: Result<T, NoValue>, line: &mut Line) {
     match value {
         Ok(value) => print_value(alloc, &value, line),
@@ -66,7 +66,8 @@ fn ed25519_key(alloc: Global, bits: &[u8]) -> Result<SubjectPublicKeyInfo, NoVal
     })
 }
 
-/// A key of bits with an algorithm, `None` where the algorithm isn't one for keys of its kind.
+/// Prints a key with these bits and an algorithm, `None` if the algorithm isn't one for keys of its
+/// kind.
 fn print_public_key(
     alloc: Global,
     words: &[&str],
@@ -94,7 +95,7 @@ fn public_key(
     Ok(SubjectPublicKeyInfo::new(algorithm, key_of_kind(words, bits)?))
 }
 
-/// The key of bits by the first word.
+/// The key with these bits, of the kind in the first word.
 fn key_of_kind(words: &[&str], bits: BitString) -> Result<SubjectKey, Unanswered> {
     match words {
         ["Ec", ..] => Ok(SubjectKey::Ec(bits)),
@@ -109,7 +110,7 @@ fn common_name(alloc: Global, text: &[u8]) -> Result<DirectoryName, NoValue> {
     Ok(DirectoryName::new_common_name(alloc, text)?)
 }
 
-/// A name of attributes, each a type by its contents octets, `=`, and a text.
+/// A name with attributes, each the contents octets of its type, `=`, and a text.
 fn name(alloc: Global, attributes: &[&str]) -> Result<DirectoryName, NoValue> {
     let mut name = DirectoryName::new(alloc);
     for word in attributes {
@@ -121,7 +122,7 @@ fn name(alloc: Global, attributes: &[&str]) -> Result<DirectoryName, NoValue> {
     Ok(name)
 }
 
-/// Adds an attribute, an email address where the type is none of `NameAttr`.
+/// Adds an attribute, an email address if the type isn't in `NameAttr`.
 fn add_attribute(
     alloc: Global,
     name: &mut DirectoryName,

@@ -1,4 +1,4 @@
-//! Curves and algorithms on the curve 25519 by their identifiers, and points by their coordinates.
+//! Curves and Curve25519 algorithms by OID, and points by their coordinates.
 
 use crate::keys::print_made;
 use asn1_types::ObjectIdentifier;
@@ -6,7 +6,7 @@ use golden::Line;
 use key_core::{EcCurve, EdAlgorithm, PublicKey};
 use std::alloc::{AllocError, Global};
 
-/// What a curve, an algorithm or a point is.
+/// Prints a curve, an algorithm or a point.
 pub fn print(alloc: Global, call: &str, args: &[Option<Vec<u8>>], line: &mut Line) {
     match (call, args) {
         ("curve", [Some(oid)]) => print_curve(alloc, oid, line),
@@ -16,7 +16,7 @@ pub fn print(alloc: Global, call: &str, args: &[Option<Vec<u8>>], line: &mut Lin
     }
 }
 
-/// The name of the curve that an identifier names, and the identifier that is written for it.
+/// Prints the name of the curve with an OID, and the OID that is written for it.
 fn print_curve(alloc: Global, oid: &[u8], line: &mut Line) {
     match EcCurve::named(oid) {
         Some(curve) => {
@@ -27,7 +27,7 @@ fn print_curve(alloc: Global, oid: &[u8], line: &mut Line) {
     }
 }
 
-/// The name of the algorithm that an identifier names, and the identifier that is written for it.
+/// Prints the name of the algorithm with an OID, and the OID that is written for it.
 fn print_algorithm(alloc: Global, oid: &[u8], line: &mut Line) {
     match EdAlgorithm::named(oid) {
         Some(algorithm) => {
@@ -45,7 +45,7 @@ fn print_contents(oid: Result<ObjectIdentifier, AllocError>, line: &mut Line) {
     }
 }
 
-/// The point of these coordinates on the curve that the identifier names.
+/// Prints the point with these coordinates on the curve with the OID.
 fn print_point(alloc: Global, oid: &[u8], (x, y): (&[u8], &[u8]), line: &mut Line) {
     match EcCurve::named(oid) {
         Some(curve) => {

@@ -1,5 +1,4 @@
-//! Private keys that are read or put together, under the demonstration scheme, and their public
-//! keys.
+//! Private keys that are read or made, under the demonstration scheme, and their public keys.
 
 use asn1_types::ObjectIdentifier;
 use der_core::DerError;
@@ -21,10 +20,10 @@ impl From<Unanswered> for NoKey {
     }
 }
 
-/// No call reads or makes a key of such words.
+/// No call reads or makes a key from such words.
 const NO_CALL: NoKey = NoKey::Unanswered(Unanswered::NoCall);
 
-/// What is read or made.
+/// Prints what is read or made.
 pub fn print(alloc: Global, call: &str, args: Args<'_>, line: &mut Line) {
     match key_of(alloc, call, args) {
         Ok(key) => print_key(alloc, &key, line),
@@ -67,7 +66,7 @@ fn told(key: Result<PrivateKey, KeyError>) -> Result<PrivateKey, NoKey> {
     }
 }
 
-/// The key of octets in SEC 1 on a curve that is given.
+/// The SEC 1 key in octets on a given curve.
 fn on_curve(alloc: Global, call: &str, curve: &[u8], octets: &[u8]) -> Result<PrivateKey, NoKey> {
     match call {
         "sec1_on" => {
@@ -91,7 +90,7 @@ fn on_known_curve<S: Scheme>(
     told(PrivateKey::from_ec_der_with_curve(alloc, octets, curve, scheme))
 }
 
-/// The key on a known curve under a scheme that derives nothing.
+/// The key on a supported curve under a scheme that derives nothing.
 fn refused(alloc: Global, curve: &[u8], octets: &[u8]) -> Result<PrivateKey, NoKey> {
     match VerdictTable::parse(alloc, &[]) {
         Ok(table) => on_known_curve(alloc, curve, octets, &table),
@@ -99,7 +98,7 @@ fn refused(alloc: Global, curve: &[u8], octets: &[u8]) -> Result<PrivateKey, NoK
     }
 }
 
-/// The key of an identifier, a secret and what is given of its public key.
+/// The key with an OID, a secret and what is given of its public key.
 fn of_parts(
     alloc: Global,
     call: &str,
@@ -161,8 +160,8 @@ fn known_curve(contents: &[u8]) -> Result<EcCurve, NoKey> {
     }
 }
 
-/// The kind of a key, its octets in PKCS #8, whether it is equal to a copy and to what is read of
-/// these, its octets in PKCS #1, and its public key.
+/// The kind of a key, its PKCS #8 octets, whether it is equal to a copy and to what is read from
+/// them, its PKCS #1 octets, and its public key.
 fn print_key(alloc: Global, key: &PrivateKey, line: &mut Line) {
     line.named(&key.kind());
     match key.to_pkcs8(alloc) {
@@ -180,7 +179,7 @@ fn print_octets(alloc: Global, key: &PrivateKey, octets: &[u8], line: &mut Line)
     print_told(is_read_of(alloc, key, octets), line);
 }
 
-/// Whether it is so, or the text of the refusal.
+/// Prints the flag, or the text of the refusal.
 fn print_told(told: Result<bool, KeyError>, line: &mut Line) {
     match told {
         Ok(told) => line.shown(&told),
@@ -192,7 +191,7 @@ fn is_copied(alloc: Global, key: &PrivateKey) -> Result<bool, KeyError> {
     Ok(equals(key.try_clone(alloc)?, key))
 }
 
-/// Whether the octets are read as the key. Those of a key that is written without a test may be
+/// Whether the octets are read as the key. Those of a key that is made without checks may be
 /// refused.
 fn is_read_of(alloc: Global, key: &PrivateKey, octets: &[u8]) -> Result<bool, KeyError> {
     match PrivateKey::from_pkcs8(alloc, octets, &DemoScheme::new()) {

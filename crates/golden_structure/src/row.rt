@@ -1,10 +1,10 @@
-//! Rows, and who answers them.
+//! Dispatching test vectors.
 
 use crate::{keys, making, points, private_keys, signatures, structures, views};
 use golden::{Args, Line};
 use std::alloc::Global;
 
-/// The answer to a row.
+/// Prints the output for a vector.
 pub fn print(alloc: Global, args: Args<'_>, line: &mut Line) {
     match args.split() {
         Some((subject, args)) => print_subject(alloc, subject, args, line),

@@ -1,5 +1,5 @@
-//! Algorithms of signatures by their identifiers, what private keys sign, what is told of
-//! signatures, and identifiers of keys.
+//! Signature algorithms by OID, signing with private keys, verifying signatures, and key
+//! identifiers.
 
 use crate::private_keys::{key_of, print_refusal};
 use asn1_types::BitString;
@@ -12,7 +12,7 @@ use key_core::{
 use sig_core::{DemoScheme, HashAlgorithm, Scheme, VerdictTable};
 use std::alloc::Global;
 
-/// What is answered of algorithms, keys and signatures.
+/// Prints the output about algorithms, keys and signatures.
 pub fn print(alloc: Global, call: &str, args: Args<'_>, line: &mut Line) {
     match (call, args.words, args.octets) {
         ("named", _, [Some(octets)]) => print_named(alloc, octets, line),
@@ -27,7 +27,8 @@ pub fn print(alloc: Global, call: &str, args: Args<'_>, line: &mut Line) {
     }
 }
 
-/// The identifier of an algorithm, what is signed by it, or what is told of a signature.
+/// Prints the AlgorithmIdentifier of an algorithm, a signature by it, or the verdict on a
+/// signature.
 fn print_use(
     alloc: Global,
     (call, algorithm): (&str, SignatureAlgorithm),
@@ -54,7 +55,7 @@ fn print_use(
     }
 }
 
-/// The algorithm and its digest by an identifier, and the identifier that is written for it; or the
+/// The algorithm and its digest by AlgorithmIdentifier, and the one that is written for it; or the
 /// text of the refusal.
 fn print_named(alloc: Global, octets: &[u8], line: &mut Line) {
     match AlgorithmIdentifier::from_der(alloc, octets) {
@@ -74,7 +75,7 @@ fn print_identified(alloc: Global, id: &AlgorithmIdentifier, line: &mut Line) {
     }
 }
 
-/// The octets of the identifier of an algorithm, or the text of the refusal.
+/// The octets of the AlgorithmIdentifier of an algorithm, or the text of the refusal.
 fn print_written(alloc: Global, algorithm: SignatureAlgorithm, line: &mut Line) {
     match algorithm.to_algorithm_identifier(alloc) {
         Ok(id) => line.made(id.to_der(alloc)),
@@ -82,7 +83,7 @@ fn print_written(alloc: Global, algorithm: SignatureAlgorithm, line: &mut Line) 
     }
 }
 
-/// The identifier of a key, or the text of the refusal.
+/// A key identifier, or the text of the refusal.
 fn print_key_id(
     alloc: Global,
     (method, hash): (&str, &str),
@@ -113,8 +114,8 @@ fn print_id(alloc: Global, method: KeyIdGenMethod, octets: &[u8], line: &mut Lin
     }
 }
 
-/// The same of a key on a curve 25519 or 448 by the octets of its algorithm and its bits, which can
-/// also be one that isn't written.
+/// The same for a Curve25519 or Curve448 key by the octets of its algorithm and its bits, which
+/// needn't be one that can be written.
 fn print_id_of_bits(
     alloc: Global,
     method: KeyIdGenMethod,
@@ -134,7 +135,7 @@ fn key_of_bits(alloc: Global, algorithm: &[u8], bits: &[u8]) -> Result<PublicKey
     Ok(PublicKey::from(info.ok_or(Unanswered::NoCall)?))
 }
 
-/// What the key signs under the demonstration scheme, and what is told under a table of no rows.
+/// Prints the signature by the key under the demonstration scheme, and under an empty table.
 fn print_sign(
     alloc: Global,
     algorithm: SignatureAlgorithm,
@@ -164,7 +165,7 @@ fn print_signatures(
     }
 }
 
-/// The signature, and what is told of it under the public key; or the text of the refusal.
+/// The signature, and the verdict on it under the public key; or the text of the refusal.
 fn print_signed<S: Scheme>(
     alloc: Global,
     algorithm: SignatureAlgorithm,
@@ -182,7 +183,7 @@ fn print_signed<S: Scheme>(
     }
 }
 
-/// What is told of a signature under the public key of its private one.
+/// The verdict on a signature under the public key of its private key.
 fn print_own<S: Scheme>(
     alloc: Global,
     algorithm: SignatureAlgorithm,
@@ -197,7 +198,7 @@ fn print_own<S: Scheme>(
     }
 }
 
-/// What is told of a signature under the demonstration scheme, and under a table of no rows.
+/// The verdicts on a signature under the demonstration scheme, and under an empty table.
 fn print_verify(
     alloc: Global,
     algorithm: SignatureAlgorithm,
@@ -241,7 +242,7 @@ fn print_told<S: Scheme>(
     }
 }
 
-/// An algorithm by `rsa` or `ecdsa`, a colon and its digest, or by `ed25519`.
+/// An algorithm as `rsa` or `ecdsa`, a colon and its digest, or as `ed25519`.
 fn algorithm_of(word: &str) -> Option<SignatureAlgorithm> {
     match word.split_once(':') {
         Some(("rsa", hash)) => Some(SignatureAlgorithm::RsaPkcs1v15(hash_of(hash)?)),

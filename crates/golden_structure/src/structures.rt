@@ -1,4 +1,4 @@
-//! Structures that are read of elements, copied and written again.
+//! Structures that are read from elements, copied and written again.
 
 use crate::details::Details;
 use asn1_types::{BitString, Ia5String, IntegerAsn1, ObjectIdentifier};
@@ -13,7 +13,7 @@ use x509_types::{
     RelativeDistinguishedName, RsaPublicKey, SubjectPublicKeyInfo,
 };
 
-/// What is read of an element.
+/// Prints what is read from an element.
 pub fn print(alloc: Global, kind: &str, args: &[Option<Vec<u8>>], line: &mut Line) {
     let [Some(element)] = args else {
         return line.no_call();
@@ -32,7 +32,7 @@ pub fn print(alloc: Global, kind: &str, args: &[Option<Vec<u8>>], line: &mut Lin
     }
 }
 
-/// The same of keys and their algorithms.
+/// The same for keys and their algorithms.
 fn print_key(alloc: Global, kind: &str, element: &[u8], line: &mut Line) {
     match kind {
         "algorithm" => read_of::<AlgorithmIdentifier>(alloc, element, line),
@@ -45,7 +45,7 @@ fn print_key(alloc: Global, kind: &str, element: &[u8], line: &mut Line) {
     }
 }
 
-/// Whether two elements spell equal values.
+/// Whether two elements encode equal values.
 pub fn print_unlike(alloc: Global, kind: &str, args: &[Option<Vec<u8>>], line: &mut Line) {
     let [Some(one), Some(other)] = args else {
         return line.no_call();
@@ -66,7 +66,7 @@ pub fn print_unlike(alloc: Global, kind: &str, args: &[Option<Vec<u8>>], line: &
     line.equal(equal);
 }
 
-/// Whether the value comes back as it was read, and its details; or that there is none.
+/// Whether the value round-trips, and its details; or that there is none.
 fn read_of<T: Structure + PartialEq + Details>(alloc: Global, element: &[u8], line: &mut Line) {
     match value_of::<T>(alloc, element) {
         Ok(value) => print_value(alloc, element, &value, line),

@@ -1,4 +1,4 @@
-//! What is lent of keys of curves.
+//! Views of curve keys.
 
 use crate::private_keys::{key_of, print_refusal};
 use asn1_types::ObjectIdentifier;
@@ -9,7 +9,7 @@ use key_core::{
 };
 use std::alloc::{AllocError, Global};
 
-/// What is lent of a key as one of an elliptic curve, and as one of a curve 25519 or 448.
+/// Prints the view of a key as an EC key, and as a Curve25519 or Curve448 key.
 pub fn print(alloc: Global, call: &str, args: Args<'_>, line: &mut Line) {
     match (call, args.octets, args.split()) {
         ("public", [Some(octets)], _) => print_public(alloc, octets, line),
@@ -38,7 +38,7 @@ fn print_private(alloc: Global, call: &str, args: Args<'_>, line: &mut Line) {
     }
 }
 
-/// What is lent of a private key, and how it is shown.
+/// Prints the views of a private key, and its `Debug` text.
 fn print_pair(alloc: Global, key: &PrivateKey, line: &mut Line) {
     line.named(key);
     line.mark(";");
@@ -93,13 +93,13 @@ fn print_ed(alloc: Global, key: Result<EdPublicKey<'_>, KeyError>, line: &mut Li
     }
 }
 
-/// What a curve is called, and its identifier.
+/// The name of a curve, and its OID.
 fn print_curve(alloc: Global, named: NamedEcCurve<'_>, line: &mut Line) {
     line.shown(&named);
     print_oid(named.to_oid(alloc), line);
 }
 
-/// What an algorithm is called, and its identifier.
+/// The name of an algorithm, and its OID.
 fn print_algorithm(alloc: Global, named: NamedEdAlgorithm<'_>, line: &mut Line) {
     line.shown(&named);
     print_oid(named.to_oid(alloc), line);
