@@ -1,4 +1,4 @@
-//! Object identifiers, their table, and the attribute types among them.
+//! OIDs, their table, and the attribute types among them.
 
 use asn1_types::oids::{self, KnownOid};
 use asn1_types::{ObjectIdentifier, TextError};
@@ -6,7 +6,7 @@ use golden::{Line, text_of};
 use std::alloc::Global;
 use x509_types::NameAttr;
 
-/// The answer to a call on identifiers.
+/// Prints the output for a call on OIDs.
 pub fn print(alloc: Global, call: &str, octets: &[u8], line: &mut Line) {
     match (call, text_of(octets)) {
         ("from_content", _) => print_text(alloc, octets, line),
@@ -42,7 +42,7 @@ fn print_own_text(alloc: Global, identifier: &ObjectIdentifier, line: &mut Line)
     }
 }
 
-/// A row of the table.
+/// An entry of the table.
 fn print_known(found: Option<KnownOid>, line: &mut Line) {
     match found {
         Some(known) => {

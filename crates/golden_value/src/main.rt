@@ -1,13 +1,13 @@
-//! What is answered to rows of a file on identifiers, integers, strings, times and dates, for a
-//! comparison with other answers.
+//! Output for a file of test vectors about OIDs, integers, strings, times and dates, for comparison
+//! with golden output.
 //!
 //! ```text
 //! golden_value FILE
 //! ```
 //!
-//! A row is a subject, a call and its arguments, a space between. Octets and texts stand in
-//! hexadecimal digits, `-` for none, other numbers in decimal digits. A line is printed for each
-//! row. `tools/golden/golden_value.py` makes rows and lines.
+//! A vector is a subject, a call and its arguments, separated by spaces. Octets and texts are in
+//! hexadecimal, `-` for none, other numbers in decimal. A line is printed for each vector.
+//! `tools/golden/golden_value.py` makes vectors and golden output.
 #![tactic(auto)]
 
 mod errors;

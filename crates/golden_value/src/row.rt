@@ -1,10 +1,10 @@
-//! Rows, and who answers them.
+//! Dispatching test vectors.
 
 use crate::{errors, identifiers, strings, times};
 use golden::{Args, Line};
 use std::alloc::Global;
 
-/// The answer to a row.
+/// Prints the output for a vector.
 pub fn print(alloc: Global, args: Args<'_>, line: &mut Line) {
     match (args.words, args.octets) {
         (["identifier", call, _], [_, _, Some(octets)]) => {

@@ -4,7 +4,7 @@ use asn1_types::{BitString, CharSetError, Ia5String, IntegerAsn1};
 use golden::{Line, text_of};
 use std::alloc::Global;
 
-/// The answer to a call on integers, bit strings and IA5 strings.
+/// Prints the output for a call on integers, bit strings and IA5 strings.
 pub fn print(alloc: Global, call: &str, octets: &[u8], line: &mut Line) {
     match call {
         "integer" => print_integer(alloc, octets, line),
@@ -20,7 +20,7 @@ pub fn print(alloc: Global, call: &str, octets: &[u8], line: &mut Line) {
     }
 }
 
-/// The integer of contents octets.
+/// The integer with these contents octets.
 fn print_integer(alloc: Global, contents: &[u8], line: &mut Line) {
     match IntegerAsn1::from_content(alloc, contents) {
         Ok(integer) => print_octets_of(&integer, line),
@@ -28,7 +28,7 @@ fn print_integer(alloc: Global, contents: &[u8], line: &mut Line) {
     }
 }
 
-/// The integer of a number without a sign.
+/// The unsigned integer.
 fn print_number(alloc: Global, octets: &[u8], line: &mut Line) {
     match IntegerAsn1::from_bytes_be_unsigned(alloc, octets) {
         Ok(integer) => print_octets_of(&integer, line),
@@ -36,13 +36,13 @@ fn print_number(alloc: Global, octets: &[u8], line: &mut Line) {
     }
 }
 
-/// The octets of an integer with a sign, and of one without.
+/// The octets of an integer as signed, and as unsigned.
 fn print_octets_of(integer: &IntegerAsn1, line: &mut Line) {
     line.octets(integer.as_signed_bytes_be());
     line.octets(integer.as_unsigned_bytes_be());
 }
 
-/// The bit string of contents octets.
+/// The bit string with these contents octets.
 fn print_bits(alloc: Global, contents: &[u8], line: &mut Line) {
     match BitString::from_content(alloc, contents) {
         Ok(bits) => print_parts_of(alloc, &bits, line),
@@ -50,7 +50,7 @@ fn print_bits(alloc: Global, contents: &[u8], line: &mut Line) {
     }
 }
 
-/// The bit string of all bits of octets.
+/// The bit string without unused bits.
 fn print_whole_bits(alloc: Global, octets: &[u8], line: &mut Line) {
     match BitString::with_bytes(alloc, octets) {
         Ok(bits) => print_parts_of(alloc, &bits, line),
@@ -58,7 +58,7 @@ fn print_whole_bits(alloc: Global, octets: &[u8], line: &mut Line) {
     }
 }
 
-/// How many bits of a bit string aren't used, its octets, and its contents octets.
+/// The number of unused bits of a bit string, its octets, and its contents octets.
 fn print_parts_of(alloc: Global, bits: &BitString, line: &mut Line) {
     line.shown(&bits.unused());
     line.octets(bits.payload_view());
@@ -68,7 +68,7 @@ fn print_parts_of(alloc: Global, bits: &BitString, line: &mut Line) {
     }
 }
 
-/// The IA5String of contents octets.
+/// The IA5String with these contents octets.
 fn print_ia5_content(alloc: Global, contents: &[u8], line: &mut Line) {
     match Ia5String::from_content(alloc, contents) {
         Ok(string) => line.octets(string.as_str().as_bytes()),
@@ -76,7 +76,7 @@ fn print_ia5_content(alloc: Global, contents: &[u8], line: &mut Line) {
     }
 }
 
-/// The IA5String of a text.
+/// The IA5String with this text.
 fn print_ia5_text(alloc: Global, text: &str, line: &mut Line) {
     match Ia5String::from_string(alloc, text) {
         Ok(string) => line.octets(string.as_str().as_bytes()),

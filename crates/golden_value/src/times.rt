@@ -7,7 +7,7 @@ use names_core::UtcDate;
 use std::alloc::Global;
 use x509_types::Time;
 
-/// The fields of a moment, which may not exist.
+/// The fields of a date and time, which may not exist.
 #[derive(Clone, Copy)]
 struct Fields {
     year: u16,
@@ -67,7 +67,7 @@ impl Fields {
     }
 }
 
-/// The answer to a call on times and dates.
+/// Prints the output for a call on times and dates.
 pub fn print(alloc: Global, call: &str, args: Args<'_>, line: &mut Line) {
     match (call, args.octets) {
         ("generalized_content", [Some(contents)]) => print_generalized(
@@ -83,7 +83,7 @@ pub fn print(alloc: Global, call: &str, args: Args<'_>, line: &mut Line) {
     }
 }
 
-/// The answer to a call on fields of moments.
+/// Prints the output for a call on fields of dates and times.
 fn print_fields_of(
     alloc: Global,
     call: &str,
@@ -109,7 +109,7 @@ fn day(words: &[&str]) -> Result<Option<UtcDate>, Unanswered> {
     Ok(UtcDate::ymd(number_of(year)?, number_of(month)?, number_of(day)?))
 }
 
-/// The date of an element, which is a time in a certificate.
+/// The date of an element, which is a Time in a certificate.
 fn print_date_at(alloc: Global, element: &[u8], line: &mut Line) {
     match Time::from_der(alloc, element) {
         Ok(time) => print_date(alloc, Some(UtcDate::from(time)), line),
@@ -141,7 +141,7 @@ fn print_fields(time: GeneralizedTime, line: &mut Line) {
 }
 
 /// The text, the fields and the contents octets of a time, and the contents octets of the
-/// GeneralizedTime of the same moment.
+/// GeneralizedTime of the same second.
 fn print_utc(time: Option<UTCTime>, line: &mut Line) {
     let Some(time) = time else {
         return line.word("none");
@@ -152,7 +152,7 @@ fn print_utc(time: Option<UTCTime>, line: &mut Line) {
     line.octets(GeneralizedTime::from(time).to_content().as_slice());
 }
 
-/// The text of a date, its GeneralizedTime, the contents octets of its UTCTime, and its time in a
+/// The text of a date, its GeneralizedTime, the contents octets of its UTCTime, and its Time in a
 /// certificate.
 fn print_date(alloc: Global, date: Option<UtcDate>, line: &mut Line) {
     let Some(date) = date else {
@@ -167,7 +167,7 @@ fn print_date(alloc: Global, date: Option<UtcDate>, line: &mut Line) {
     print_certificate_time(alloc, date, line);
 }
 
-/// The octets of the time that a certificate has for a date, and the date that is read of them.
+/// The octets of a certificate's Time for a date, and the date that is read from them.
 fn print_certificate_time(alloc: Global, date: UtcDate, line: &mut Line) {
     match Time::from(date).to_der(alloc) {
         Ok(octets) => {
@@ -185,7 +185,7 @@ fn print_time_at(alloc: Global, octets: &[u8], line: &mut Line) {
     }
 }
 
-/// How the first of two dates stands to the second, and the second to the first.
+/// The order of two dates, both ways.
 fn print_order(fields: &[&str], line: &mut Line) -> Result<(), Unanswered> {
     let (first, second) = fields.split_at_checked(6).ok_or(Unanswered::NoCall)?;
     let (first, second) = (date_of(first)?, date_of(second)?);
