@@ -1,6 +1,6 @@
-//! Tests of the public calls of `authenticode_core` over a signature file of the plain form, made
-//! by `tools/cases/first_path.py` with Python's standard library. What becomes of it where one part
-//! of it is another, `golden_basic` has as data.
+//! Tests of the public calls of `authenticode_core` with a signature file of the plain form, made
+//! by `tools/cases/first_path.py` with Python's standard library. `golden_basic` has the results
+//! for changes of its parts as data.
 #![tactic(auto)]
 
 #[cfg(test)]

@@ -1,12 +1,12 @@
-//! What is told of a refusal. The texts and the names of all have a clause, and `golden_basic`
-//! prints each that signature files can have.
+//! The texts of refusals. A clause has the texts and the names of all, and `golden_basic` prints
+//! each that signature files can have.
 
 use crate::made::{FILE, FILE_HASH, basic_policy, table, table_saying};
 use authenticode_core::{Accepted, AuthenticodeError, CheckError, check_wincert};
 use std::alloc::{AllocError, Global};
 use std::test::Fail;
 
-/// The digest that is asked for.
+/// The expected digest.
 const ASKED: [u8; 2] = [0, 0xFF];
 
 /// The text of a mismatch.
@@ -21,7 +21,7 @@ fn text_of(alloc: Global, answer: &Result<Accepted, CheckError>) -> Result<Strin
     }
 }
 
-/// Whether the answer is a mismatch of this digest of the file and the one that is asked for.
+/// Whether the result is a mismatch of this digest of the file and the expected one.
 fn has_digests(answer: &Result<Accepted, CheckError>, hash: &[u8]) -> bool {
     match answer {
         Err(CheckError::Authenticode(AuthenticodeError::FileHashMismatch { actual, expected })) => {
@@ -31,7 +31,7 @@ fn has_digests(answer: &Result<Accepted, CheckError>, hash: &[u8]) -> bool {
     }
 }
 
-/// Whether the answer is told so, with these digests.
+/// Whether the result is a mismatch with these digests, as values and as text.
 fn is_told(alloc: Global, answer: &Result<Accepted, CheckError>, hash: &[u8]) -> bool {
     match text_of(alloc, answer) {
         Ok(text) => text.as_str() == MISMATCH && has_digests(answer, hash),
@@ -39,7 +39,7 @@ fn is_told(alloc: Global, answer: &Result<Accepted, CheckError>, hash: &[u8]) ->
     }
 }
 
-/// Whether another digest than that of the file is answered so.
+/// Whether the file is refused for another digest than its own.
 fn is_mismatch(alloc: Global, file: &[u8], hash: &[u8]) -> Result<bool, Fail> {
     let table = table(alloc, &[])?;
     let policy = basic_policy(alloc, &ASKED)?;
@@ -47,7 +47,7 @@ fn is_mismatch(alloc: Global, file: &[u8], hash: &[u8]) -> Result<bool, Fail> {
     Ok(is_told(alloc, &answer, hash))
 }
 
-/// What is told of a mismatch: both digests, as values and as text.
+/// A mismatch reports both digests, as values and as text.
 #[test]
 fn mismatch(rt: HostRuntime) -> Result<(), Fail> {
     let file = hex::decode(rt.alloc(), FILE)?;
@@ -56,7 +56,8 @@ fn mismatch(rt: HostRuntime) -> Result<(), Fail> {
     Ok(())
 }
 
-/// What is told where a table says so of the file's signature, in this order.
+/// The text of the result for the file, if a table has these verdicts on its signature, in this
+/// order.
 fn told(alloc: Global, file: &[u8], hash: &[u8], verdicts: &[&str]) -> Result<String, Fail> {
     let table = table_saying(alloc, verdicts)?;
     let policy = basic_policy(alloc, hash)?;
@@ -64,7 +65,7 @@ fn told(alloc: Global, file: &[u8], hash: &[u8], verdicts: &[&str]) -> Result<St
     Ok(text_of(alloc, &answer)?)
 }
 
-/// Verdicts on the file's signature, and what is told of the file.
+/// Verdicts on the file's signature, and the text of the result.
 const VERDICTS: [(&[&str], &str); 4] = [
     (&["accept", "reject"], ""),
     (&["reject", "accept"], "signature error: invalid signature"),
@@ -75,7 +76,7 @@ const VERDICTS: [(&[&str], &str); 4] = [
     (&[], "signature error: invalid signature"),
 ];
 
-/// A signature that is malformed by the first row is told so, and no other.
+/// The first row decides: a signature is malformed only if it says so.
 #[test]
 fn verdicts(rt: HostRuntime) -> Result<(), Fail> {
     let file = hex::decode(rt.alloc(), FILE)?;

@@ -1,4 +1,4 @@
-//! Places, and what is said of a signature that is accepted.
+//! Indices, and the fields of an accepted signature.
 
 use crate::made::{FILE, FILE_HASH, basic_policy, table};
 use authenticode_core::{Accepted, Excuse, Places, check_wincert};
