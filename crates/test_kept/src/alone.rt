@@ -1,4 +1,4 @@
-//! Signed data of certificates alone.
+//! Signed data with certificates only.
 
 use crate::samples::{EMPTY, ONE, is_written, signed_data};
 use authenticode_signature::Pkcs7;
@@ -6,7 +6,7 @@ use std::alloc::Global;
 use std::test::Fail;
 use x509_core::Cert;
 
-/// Whether octets are written for signed data of the certificates that they carry.
+/// Whether signed data made with the certificates in the octets is written as them.
 fn is_made_again(alloc: Global, octets: &[u8]) -> bool {
     match signed_data(alloc, octets) {
         Some(signed) => is_made_of_its_own(alloc, &signed, octets),

@@ -1,4 +1,4 @@
-//! Contents at the depth up to which the builder of signatures writes them, under the demonstration
+//! Contents at the maximal depth that the builder of signatures writes, under the demonstration
 //! scheme.
 
 use crate::samples::{KEY, ONE, signed_data};
@@ -18,16 +18,16 @@ use x509_core::Cert;
 #[rattlefmt::skip]
 const NESTED: &str = "307c307a30783076307430723070306e306c306a30683066306430623060305e305c305a30583056305430523050304e304c304a30483046304430423040303e303c303a30383036303430323030302e302c302a30283026302430223020301e301c301a30183016301430123010300e300c300a30083006300430023000";
 
-/// What comes of building a signature.
+/// The result of building a signature.
 #[derive(Clone, Copy, Debug, PartialEq, Eq)]
 enum Outcome {
     Built,
-    /// Refused for a content that is too deep.
+    /// Refused because the content is too deep.
     TooDeep,
     Other,
 }
 
-/// The element that octets are, as a content with its type, which is two levels deeper (RFC 5652
+/// The element in the octets, as a content with its type, which is two levels deeper (RFC 5652
 /// 5.2).
 fn content_of(alloc: Global, octets: &[u8]) -> Option<EncapsulatedContentInfo> {
     let elem = whole_element(octets)?;
@@ -42,7 +42,7 @@ fn content_of(alloc: Global, octets: &[u8]) -> Option<EncapsulatedContentInfo> {
     }
 }
 
-/// What names the first of the certificates.
+/// The issuer and the serial number of the first certificate.
 fn name_of(alloc: Global, certificates: &[Cert]) -> Option<(DirectoryName, IntegerAsn1)> {
     let first = certificates.first()?;
     match (
@@ -63,7 +63,7 @@ fn certificates_of(alloc: Global, octets: &[u8]) -> Option<Vec<Cert>> {
     }
 }
 
-/// What comes of building a signature over the content by the first of the certificates.
+/// The result of building a signature over the content with the first certificate.
 fn outcome_of(
     alloc: Global,
     content: EncapsulatedContentInfo,
@@ -98,7 +98,7 @@ fn refusal(error: &AuthenticodeSignatureBuilderError) -> Outcome {
     }
 }
 
-/// What comes of the octets as a content.
+/// The result for the octets as a content.
 fn outcome_over(alloc: Global, octets: &[u8], sample: &[u8], key: &PrivateKey) -> Outcome {
     match (content_of(alloc, octets), certificates_of(alloc, sample)) {
         (Some(content), Some(certificates)) => outcome_of(alloc, content, certificates, key),
@@ -106,11 +106,12 @@ fn outcome_over(alloc: Global, octets: &[u8], sample: &[u8], key: &PrivateKey) -
     }
 }
 
-/// Whether a content of 62 levels is signed, with its type 64 of them, and one of 63 is too deep.
+/// Whether a content of 62 levels is signed, which makes 64 with its type, and one of 63 is too
+/// deep.
 fn is_each_with(alloc: Global, key: &PrivateKey) -> Result<bool, Fail> {
     let sample = hex::decode(alloc, ONE)?;
     let nested = hex::decode(alloc, NESTED)?;
-    // The outermost sequence has its contents behind two octets.
+    // The contents of the outermost sequence are after two octets.
     match nested.get(2..) {
         Some(inner) => Ok(
             outcome_over(alloc, inner, &sample, key) == Outcome::Built
@@ -120,7 +121,7 @@ fn is_each_with(alloc: Global, key: &PrivateKey) -> Result<bool, Fail> {
     }
 }
 
-/// The same by the private key that octets are.
+/// The same with the private key in the octets.
 fn is_each_by(alloc: Global, octets: &[u8]) -> Result<bool, Fail> {
     match PrivateKey::from_pkcs8(alloc, octets, &DemoScheme::new()) {
         Ok(key) => is_each_with(alloc, &key),

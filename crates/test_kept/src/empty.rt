@@ -28,7 +28,7 @@ fn has_no_certificates(alloc: Global, signed: &Pkcs7) -> bool {
     }
 }
 
-/// Whether octets are a signature by nobody of nothing.
+/// Whether octets are a signature without a signer and without a content.
 fn is_unsigned(alloc: Global, octets: &[u8]) -> bool {
     match signature(alloc, octets) {
         Some(signature) => signs_nothing(alloc, &signature) && has_no_signer(alloc, &signature),
@@ -52,7 +52,7 @@ fn has_no_signer(alloc: Global, signature: &AuthenticodeSignature) -> bool {
     )
 }
 
-/// Whether a copy and every conversion of the signed data that octets are is written so.
+/// Whether a copy and every conversion of the signed data in the octets is written as them.
 fn is_kept(alloc: Global, octets: &[u8]) -> bool {
     match signed_data(alloc, octets) {
         Some(signed) => is_copied(alloc, &signed, octets),

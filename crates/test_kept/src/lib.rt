@@ -1,5 +1,5 @@
-//! Tests of signed data and signatures that a caller keeps: read, written, asked, made and stamped.
-//! What their validator answers, `golden_check` has as data.
+//! Tests of owned signed data and signatures: reading, writing, accessors, making and timestamping.
+//! `golden_check` has the results of their validator as data.
 #![tactic(auto)]
 
 #[cfg(test)]

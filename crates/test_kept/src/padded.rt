@@ -9,7 +9,7 @@ use std::test::Fail;
 use wincert_core::{CertificateType, WinCertificate};
 use x509_core::CertError;
 
-/// What is answered to octets.
+/// The result for octets.
 #[derive(Clone, Copy, Debug, PartialEq, Eq)]
 enum Answer {
     Read,
@@ -18,7 +18,7 @@ enum Answer {
     Other,
 }
 
-/// What stands after the signed data, and what is answered.
+/// The octets after the signed data, and the result.
 #[rattlefmt::skip]
 const AFTER: [(&str, Answer); 6] = [
     ("", Answer::Read),

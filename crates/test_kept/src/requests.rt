@@ -1,4 +1,4 @@
-//! The octets of a request, by the grammar of Authenticode, counted by hand.
+//! The encoding of a timestamp request, by the grammar of Authenticode, counted by hand.
 
 use crate::samples::{EMPTY, timestamper};
 use authenticode_signature::{TimestampRequest, TokenTimestamper};
@@ -6,14 +6,14 @@ use cms_types::TimestampRequest as RequestValue;
 use std::alloc::Global;
 use std::test::Fail;
 
-/// What a timestamp is asked for.
+/// The octets to be timestamped.
 const ASKED: [u8; 2] = [0xAA, 0xBB];
 
 /// The request for these octets.
 const REQUEST: &[u8] =
     b"\x30\x1F\x06\x0A\x2B\x06\x01\x04\x01\x82\x37\x03\x02\x01\x30\x11\x06\x09\x2A\x86\x48\x86\xF7\x0D\x01\x07\x01\xA0\x04\x04\x02\xAA\xBB";
 
-/// Whether the request is written for the octets.
+/// Whether the encoding of the request is the expected one.
 fn is_asked(alloc: Global) -> bool {
     match TimestampRequest::new(alloc, &ASKED) {
         Ok(request) => {
@@ -32,7 +32,7 @@ fn is_written(alloc: Global, request: &TimestampRequest) -> bool {
     }
 }
 
-/// Whether the request is read, asks for the octets, and is the same as its copy.
+/// Whether the request is read, has the octets, and is equal to its copy.
 fn is_read(alloc: Global) -> bool {
     match TimestampRequest::from_der(alloc, REQUEST) {
         Ok(request) => {
@@ -60,7 +60,7 @@ fn has_its_content(copy: TimestampRequest, request: &TimestampRequest) -> bool {
     same
 }
 
-/// Whether a timestamper with this token asks so.
+/// Whether a timestamper with this token makes the same request.
 fn is_asked_by(alloc: Global, token: &[u8]) -> bool {
     match timestamper(alloc, token) {
         Some(timestamper) => asks(alloc, &timestamper),

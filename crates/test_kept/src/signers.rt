@@ -1,4 +1,4 @@
-//! What a signature says of its signer and of what is signed.
+//! The signer and the signed contents of a signature.
 
 use crate::samples::{FILE_HASH, SIGNATURE, signature};
 use authenticode_signature::AuthenticodeSignature;
@@ -6,7 +6,7 @@ use std::alloc::Global;
 use std::test::Fail;
 use x509_core::Cert;
 
-/// Whether octets are a signature of the digest, by its one certificate.
+/// Whether octets are a signature over the digest, by its only certificate.
 fn is_told(alloc: Global, octets: &[u8], hash: &[u8]) -> bool {
     match signature(alloc, octets) {
         Some(signature) => signs(alloc, &signature, hash) && is_by_its_own(alloc, &signature),
@@ -14,7 +14,7 @@ fn is_told(alloc: Global, octets: &[u8], hash: &[u8]) -> bool {
     }
 }
 
-/// Whether the digest is signed, with three attributes, and nothing is added.
+/// Whether the digest is signed, with three signed attributes and no unsigned ones.
 fn signs(alloc: Global, signature: &AuthenticodeSignature, hash: &[u8]) -> bool {
     let signed = matches!(signature.authenticated_attributes(), Some([_, _, _]));
     let unstamped = matches!(signature.unauthenticated_attributes(), Some([]));

@@ -1,4 +1,4 @@
-//! Signatures that are stamped by tokens at hand.
+//! Timestamping signatures with fixed tokens.
 
 use crate::samples::{EMPTY, SIGNATURE, is_spelled, signature, timestamper};
 use authenticode_core::{AuthenticodeError, TimestampError};
@@ -8,10 +8,10 @@ use sig_core::HashAlgorithm;
 use std::alloc::Global;
 use std::test::Fail;
 
-/// What comes of stamping.
+/// The result of timestamping.
 #[derive(Clone, Copy, Debug, PartialEq, Eq)]
 enum Outcome {
-    /// One certificate more, and a counter-signature where there was no unsigned attribute.
+    /// One more certificate, and a counter-signature where there was no unsigned attribute.
     Stamped,
     /// Refused as a token without signers, and nothing changed.
     EmptyToken,
@@ -20,7 +20,7 @@ enum Outcome {
     Other,
 }
 
-/// What comes of stamping the signature that octets are by a token.
+/// The result of timestamping the signature in the octets with a token.
 fn outcome_by(alloc: Global, octets: &[u8], token: &[u8]) -> Outcome {
     match signature(alloc, octets) {
         Some(mut signature) => outcome_of(alloc, &mut signature, octets, token),
@@ -43,7 +43,7 @@ fn outcome_of(
     if as_told { answer } else { Outcome::Other }
 }
 
-/// How many certificates a signature has, and how many counter-signatures; 9 for what it hasn't.
+/// The number of certificates of a signature, and of its counter-signatures; 9 if there is none.
 fn counts(alloc: Global, signature: &AuthenticodeSignature) -> (usize, usize) {
     (certificate_count(alloc, signature), stamp_count(signature))
 }
@@ -63,7 +63,7 @@ fn stamp_count(signature: &AuthenticodeSignature) -> usize {
     }
 }
 
-/// What is answered where the signature is stamped by a copy of a timestamper with the token.
+/// The result of timestamping the signature with a copy of a timestamper with the token.
 fn stamped(alloc: Global, signature: &mut AuthenticodeSignature, token: &[u8]) -> Outcome {
     match timestamper(alloc, token) {
         Some(timestamper) => stamped_by_copy(alloc, signature, &timestamper),
@@ -103,7 +103,7 @@ fn refusal(error: &AuthenticodeError) -> Outcome {
     }
 }
 
-/// A signature, a token, and what comes of stamping the one by the other.
+/// A signature, a token, and the result of timestamping the one with the other.
 const STAMPS: [(&str, &str, Outcome); 3] = [
     (SIGNATURE, SIGNATURE, Outcome::Stamped),
     (SIGNATURE, EMPTY, Outcome::EmptyToken),

@@ -4,7 +4,7 @@ use authenticode_signature::{Pkcs7, Pkcs7Error};
 use std::alloc::Global;
 use std::test::Fail;
 
-/// Whether octets are refused with a text that begins so.
+/// Whether octets are refused with a text that begins with this one.
 fn is_refused_so(alloc: Global, octets: &[u8], text: &str) -> bool {
     match Pkcs7::from_der(alloc, octets) {
         Ok(_) => false,
