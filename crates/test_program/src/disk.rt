@@ -50,7 +50,7 @@ impl Print for Closed {
     }
 }
 
-// An output that takes nothing.
+// An output that accepts nothing.
 struct Full;
 
 impl Print for Full {

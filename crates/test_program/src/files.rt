@@ -3,7 +3,7 @@
 use picky_check::{Failed, FileError, MemShelf, MemSink, Shelf, read_file, write_report};
 use std::alloc::{AllocError, Global};
 
-// Files of a shelf; of two of one name the later is read.
+// Files of a shelf; of two with the same name the later is read.
 #[rattlefmt::skip]
 const FILES: [(&str, &[u8]); 5] = [
     ("a",  b"octets"),
@@ -13,7 +13,7 @@ const FILES: [(&str, &[u8]); 5] = [
     ("b",  b"new"),
 ];
 
-// A name, the call that is set to fail, and what is read of it.
+// A name, the call that is set to fail, and the result of reading.
 #[rattlefmt::skip]
 const READS: [(&str, &str, u64, Result<&[u8], FileError>); 11] = [
     ("a file",                       "a",  9, Ok(b"octets")),
@@ -29,7 +29,7 @@ const READS: [(&str, &str, u64, Result<&[u8], FileError>); 11] = [
     ("the call after the last",      "a",  3, Ok(b"octets")),
 ];
 
-// Octets of a file, and whether it is read.
+// The length of a file, and whether it is read.
 #[rattlefmt::skip]
 const SIZES: [(usize, bool); 4] = [
     (16_384,     true),
@@ -40,7 +40,7 @@ const SIZES: [(usize, bool); 4] = [
 
 const TEXT: &str = "accepted signer=0 path= excuse=none\n";
 
-// Room of a sink, whether the text of 36 octets is written, and what is held then.
+// Room of a sink, whether the text of 36 octets is written, and the contents after it.
 #[rattlefmt::skip]
 const WRITES: [(usize, bool, &str); 5] = [
     (0,  false, ""),
@@ -68,7 +68,7 @@ fn shelf_of_files(alloc: Global, failing: u64) -> Result<MemShelf, AllocError> {
     Ok(shelf)
 }
 
-/// Whether that is what is read of a name.
+/// Whether reading the file with a name gives this.
 pub(crate) fn reads<F: Shelf>(
     alloc: Global,
     shelf: &mut F,

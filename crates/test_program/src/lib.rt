@@ -1,6 +1,6 @@
-//! What the library of the program does, call by call, as tables: words, lines of reports, whole
-//! files, shelves and sinks in memory, over readers and writers and of the system, and the texts of
-//! errors. What a whole run answers stands in `test_vectors`.
+//! Tests of the program's library, call by call, as tables: words, report lines, whole files,
+//! shelves and sinks in memory, over readers and writers and of the system, and the texts of
+//! errors. `test_vectors` has whole runs.
 #![tactic(auto)]
 
 #[cfg(test)]

@@ -1,4 +1,4 @@
-//! Shelves over readers that give a few octets a call, and sinks over writers that take a few.
+//! Shelves over readers that return a few octets a call, and sinks over writers that accept a few.
 
 use crate::files::reads;
 use picky_check::{Failed, FileError, Opener, ReaderShelf, WriterSink, run, write_report};
@@ -6,7 +6,7 @@ use std::alloc::{AllocError, Global};
 use std::io;
 use std::io::{ErrorKind, Read, Write};
 
-/// Octets that are given two at a time. At their end, a call is an error where the reader breaks.
+/// Octets that are returned two at a time. At their end, a call is an error if the reader breaks.
 #[derive(Drop)]
 struct Dripping {
     rest: &'static [u8],
@@ -29,7 +29,7 @@ impl Read for Dripping {
 #[derive(Drop)]
 struct Cans;
 
-// A name, the octets, and whether the reader breaks behind them.
+// A name, the octets, and whether the reader breaks after them.
 #[rattlefmt::skip]
 const CANS: [(&str, &[u8], bool); 6] = [
     ("seven", b"octets.", false),
@@ -53,7 +53,7 @@ impl Opener for Cans {
     }
 }
 
-// A name, and what is read of it.
+// A name, and the result of reading.
 #[rattlefmt::skip]
 const READS: [(&str, Result<&[u8], FileError>); 9] = [
     ("seven", Ok(b"octets.")),
@@ -75,8 +75,8 @@ fn whole_files_are_read(rt: HostRuntime) {
     }
 }
 
-/// A writer that takes three octets a call until its room is used up. Then a call is an error, or
-/// takes nothing.
+/// A writer that accepts three octets a call until its room is used up. Then a call is an error, or
+/// accepts nothing.
 #[derive(Drop)]
 struct Narrow {
     held: Vec<u8>,
@@ -110,7 +110,7 @@ impl Write for Narrow {
     }
 }
 
-// The room of a writer, whether it fails then, what is answered, and what it holds.
+// The room of a writer, whether it fails then, the result, and its contents.
 #[rattlefmt::skip]
 const WRITES: [(usize, bool, Result<(), Failed>, &str); 6] = [
     (9, true,  Ok(()),      "12345678"),

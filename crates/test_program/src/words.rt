@@ -1,5 +1,5 @@
-//! Which words ask for a job, on an empty signature file `s`, another named `--until`, and an empty
-//! table `t`.
+//! Which words request a job, for an empty signature file `s`, another named `--until`, and an
+//! empty table `t`.
 
 use picky_check::{MemShelf, MemSink, REFUSED, USAGE, run};
 use std::alloc::{AllocError, Global};
@@ -10,7 +10,7 @@ const OCTETS_64: &str = "000102030405060708090a0b0c0d0e0f101112131415161718191a1
 const OCTETS_65: &str = "000102030405060708090a0b0c0d0e0f101112131415161718191a1b1c1d1e1f\
     202122232425262728292a2b2c2d2e2f303132333435363738393a3b3c3d3e3f40";
 
-// Words, and whether they ask for a job.
+// Words, and whether they request a job.
 #[rattlefmt::skip]
 const WORDS: [(&str, &[&str], bool); 52] = [
     ("no words",            &[],                              false),
