@@ -1,4 +1,4 @@
-//! Names and kinds of the algorithms of signatures.
+//! Names and kinds of signature algorithms.
 
 use crate::rows::{KEY, MSG, SIG, joined};
 use sig_core::{Scheme as _, SchemeKind, SigAlg, TableError, Verdict, VerdictTable};

@@ -22,7 +22,7 @@ fn own_verdict<S: Scheme>(
     Ok(scheme.verify(alloc, alg, &key, msg, &sig)?)
 }
 
-/// Whether the scheme gives the key and the signature of a row, and accepts what it signs.
+/// Whether the scheme derives the key and makes the signature of a row, and accepts what it signs.
 fn makes<S: Scheme>(alloc: Global, scheme: &S, row: &DemoRow) -> Result<bool, Fail> {
     let (alg, secret, key, sig) = row;
     let secret = hex::decode(alloc, secret)?;
@@ -33,7 +33,7 @@ fn makes<S: Scheme>(alloc: Global, scheme: &S, row: &DemoRow) -> Result<bool, Fa
     )
 }
 
-/// Whether the scheme gives this key.
+/// Whether the scheme derives this key.
 fn gives_key<S: Scheme>(
     alloc: Global,
     scheme: &S,
@@ -45,7 +45,7 @@ fn gives_key<S: Scheme>(
     Ok(hex::encode(alloc, made.as_slice())?.as_str() == key)
 }
 
-/// Whether the scheme gives this signature of `message`.
+/// Whether the scheme makes this signature of `message`.
 fn signs<S: Scheme>(
     alloc: Global,
     scheme: &S,
@@ -71,10 +71,10 @@ fn signatures(rt: HostRuntime) -> Result<(), Fail> {
     Ok(())
 }
 
-/// The signature of `message` under the RSA key of modulus 17 and exponent 3, as rows have it.
+/// The signature of `message` under the RSA key with modulus 17 and exponent 3, as in the rows.
 const SIG: &str = "387296ab30c30dc5969134fbbf5bcc6818e878ba18ae4739e780697573b372a7";
 
-/// What the scheme says of a signature, in hexadecimal as the key is.
+/// The scheme's verdicts on signatures, in hexadecimal like the key.
 #[rattlefmt::skip]
 const VERDICTS: [(&str, SigAlg, &str, &[u8], &str, Verdict); 8] = [
     ("as it was made", SigAlg::RsaSha256, "3006020111020103", b"message", SIG, Verdict::Accept),
@@ -98,7 +98,7 @@ fn verdicts(rt: HostRuntime) -> Result<(), Fail> {
     Ok(())
 }
 
-/// What the scheme says of a signature.
+/// The scheme's verdict on a signature.
 fn verdict_on(
     alloc: Global,
     alg: SigAlg,
@@ -144,7 +144,7 @@ fn secrets_without_keys(rt: HostRuntime) -> Result<(), Fail> {
     Ok(())
 }
 
-/// Whether the scheme refuses to give the key of a secret.
+/// Whether the scheme refuses to derive a key from a secret.
 fn has_no_key(alloc: Global, kind: SchemeKind, secret: &str) -> Result<bool, Fail> {
     let secret = hex::decode(alloc, secret)?;
     let key = DemoScheme::new().public_of(alloc, kind, &secret);
@@ -159,7 +159,7 @@ fn keys_of_x25519(rt: HostRuntime) -> Result<(), Fail> {
     Ok(())
 }
 
-/// Whether the secret of a row has the same key on the curve for agreement.
+/// Whether the secret of a row has the same key on the curve for key agreement.
 fn gives_agreement_key(alloc: Global, row: &DemoRow) -> Result<bool, Fail> {
     let (_, secret, key, _) = row;
     let secret = hex::decode(alloc, secret)?;

@@ -1,11 +1,11 @@
-//! Secrets, keys and signatures of the demonstration scheme, of `tools/cases/demo_signatures.py`.
+//! Secrets, keys and signatures of the demonstration scheme, by `tools/cases/demo_signatures.py`.
 
 use sig_core::SigAlg;
 
 /// An algorithm, a secret, its key, and the signature of `message`, in hexadecimal.
 pub(crate) type DemoRow = (SigAlg, &'static str, &'static str, &'static str);
 
-/// A row for each algorithm. The table stands in this function alone, so that it is proved once.
+/// A row for each algorithm. The table is in this function alone, so that it is proved once.
 pub(crate) fn signed() -> [DemoRow; 10] {
     SIGNED
 }

@@ -4,7 +4,7 @@ use sig_core::HashAlgorithm;
 use std::alloc::{AllocError, Global};
 use std::test::Fail;
 
-/// The digests of `abc` as RFC 1321 and FIPS 180-4 have them, and `openssl dgst` prints them.
+/// The digests of `abc` in RFC 1321 and FIPS 180-4, as `openssl dgst` prints them.
 #[rattlefmt::skip]
 const DIGESTS: [(HashAlgorithm, &str); 6] = [
     (HashAlgorithm::MD5, "900150983cd24fb0d6963f7d28e17f72"),
@@ -25,7 +25,7 @@ fn digests(rt: HostRuntime) -> Result<(), Fail> {
     Ok(())
 }
 
-/// Whether this is the digest of `abc`, and as long as the algorithm's digests are.
+/// Whether this is the digest of `abc`, and has the size of the algorithm.
 fn gives(alloc: Global, algorithm: HashAlgorithm, want: &str) -> Result<bool, AllocError> {
     let digest = algorithm.digest(alloc, b"abc")?;
     let digits = hex::encode(alloc, digest.as_slice())?;

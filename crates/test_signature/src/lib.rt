@@ -1,5 +1,5 @@
-//! Tests of the public calls of `sig_core`: digests, algorithms of signatures, schemes; and of what
-//! `key_core` signs and accepts under a scheme of the caller's own, and of its texts.
+//! Tests of the public calls of `sig_core`: digests, signature algorithms, schemes; and of what
+//! `key_core` signs and accepts under a caller's own scheme, and of its texts.
 #![tactic(auto)]
 
 #[cfg(test)]

@@ -1,4 +1,4 @@
-//! A row of a table, and texts that are put together from pieces.
+//! A row of a verdict table, and texts in pieces.
 
 use std::alloc::{AllocError, Global};
 
@@ -9,11 +9,11 @@ pub(crate) const MSG: &str = "ab530a13e45914982b79f9b7e3fba994cfd1f3fb22f71cea1a
 
 pub(crate) const SIG: &str = "1a2fc26dc7ea5a2a4748b7cb2b1ef193d96ab2c99f93092f69e63075b28d1278";
 
-/// The row of these for RSA with SHA-256.
+/// The row with these for RSA with SHA-256.
 #[rattlefmt::skip]
 pub(crate) const ROW: &str = "rsa-sha256 2c70e12b7a0646f92279f427c7b38e7334d8e5389cff167a1dc30e73f826b683 ab530a13e45914982b79f9b7e3fba994cfd1f3fb22f71cea1afbf02b460c6d1d 1a2fc26dc7ea5a2a4748b7cb2b1ef193d96ab2c99f93092f69e63075b28d1278\n";
 
-/// How a table of version 2 begins.
+/// The first line of a table of version 2.
 pub(crate) const VERSION_2: &str = "picky-verdicts 2\n";
 
 /// The pieces, one after another.

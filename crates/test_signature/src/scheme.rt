@@ -8,14 +8,14 @@ use sig_core::{Scheme, SchemeError, SchemeKind, SigAlg, Verdict};
 use std::alloc::{AllocError, Global};
 
 /// One secret with its key, the algorithm `rsa-sha256` and the message `message`. Of the signatures
-/// `good` is accepted and `odd` has no form; all else is rejected. It signs with `good`.
+/// `good` is accepted and `odd` is malformed; all others are rejected. It signs with `good`.
 #[derive(Drop)]
 pub(crate) struct ThreeRows {
     pub key: Octets,
     pub secret: Octets,
 }
 
-/// Whether the rows speak of this algorithm, these octets and this message.
+/// Whether the rows are about this algorithm, these octets and this message.
 fn is_asked(octets: &Octets, alg: SigAlg, given: &[u8], msg: &[u8]) -> bool
     ensures { result ≡ is_asked octets.now alg given.now msg.now }
 {

@@ -7,18 +7,18 @@ use sig_core::{HashAlgorithm, Scheme};
 use std::alloc::Global;
 use std::test::Fail;
 
-/// RSA with this digest.
+/// RSA with this digest algorithm.
 fn rsa(hash: HashAlgorithm) -> SignatureAlgorithm {
     SignatureAlgorithm::RsaPkcs1v15(hash)
 }
 
-/// A private key of RSA, its modulus 17, its exponent 3.
+/// An RSA private key with modulus 17 and exponent 3.
 const PRIVATE: &str = "301b02010002011102010302010502010702010b020101020102020104";
 
 /// Its public key.
 const PUBLIC: &str = "3006020111020103";
 
-/// That of another one.
+/// The public key of another one.
 const OTHER: &str = "3006020112020103";
 
 fn rows(alloc: Global) -> Result<ThreeRows, Fail> {
@@ -32,7 +32,7 @@ fn public_key(alloc: Global, octets: &str) -> Result<PublicKey, Fail> {
     Ok(PublicKey::from_pkcs1(alloc, &hex::decode(alloc, octets)?)?)
 }
 
-/// Whether this is answered to a signature.
+/// Whether this is the text of the result for a signature.
 fn is_told<S: Scheme>(
     alloc: Global,
     hash: HashAlgorithm,
@@ -48,7 +48,8 @@ fn is_told<S: Scheme>(
     Ok(told.as_str() == want)
 }
 
-/// A digest, a key, a message, a signature, what is told, and why the row is there.
+/// A digest algorithm, a key, a message, a signature, the text of the result, and why the case is
+/// there.
 type Row = (
     HashAlgorithm,
     &'static str,
@@ -69,7 +70,7 @@ const ROWS: [Row; 7] = [
     (HashAlgorithm::SHA2_256, OTHER, "message", "good", "invalid signature", "another key"),
 ];
 
-/// Whether what is answered to a row is what the row says.
+/// Whether the result for a case is the expected one.
 fn is_as_told(alloc: Global, row: Row, rows: &ThreeRows) -> Result<bool, Fail> {
     let (hash, key, message, signature, want, _why) = row;
     let key = public_key(alloc, key)?;

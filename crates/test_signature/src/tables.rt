@@ -1,4 +1,4 @@
-//! Texts of verdict tables, and the first bad lines of others.
+//! Texts of verdict tables, and the first bad lines of bad ones.
 
 use crate::rows::{KEY, MSG, ROW, SIG, VERSION_2, joined};
 use sig_core::{SigAlg, TableError, VerdictTable};
@@ -72,7 +72,7 @@ fn bad_line_of(alloc: Global, pieces: &[&str]) -> Result<Option<u64>, AllocError
     }
 }
 
-/// A line for each algorithm, the one at this place spoiled, behind the first line of its version.
+/// The first line of the version, then a line for each algorithm, the one at this index spoiled.
 fn ten_rows(alloc: Global, verdicts: &[&str], spoiled: usize) -> Result<String, AllocError> {
     let mut text = String::new(alloc);
     if !verdicts.is_empty() {
@@ -88,7 +88,7 @@ fn ten_rows(alloc: Global, verdicts: &[&str], spoiled: usize) -> Result<String, 
     Ok(text)
 }
 
-/// Whether each spoiled line is told by its number, of these.
+/// Whether each spoiled line is reported by its number, of these.
 fn tells_each_bad_line(
     alloc: Global,
     verdicts: &[&str],
@@ -129,7 +129,7 @@ fn texts(rt: HostRuntime) -> Result<(), Fail> {
     Ok(())
 }
 
-/// Whether this is the text of version 2 of a table, and is read as the same table.
+/// Whether a table is written as this text of version 2, which is read as the same table.
 fn is_written_as(alloc: Global, pieces: &[&str], want: &[&str]) -> Result<bool, TableError> {
     let (text, want) = (joined(alloc, pieces)?, joined(alloc, want)?);
     let table = VerdictTable::parse(alloc, text.as_bytes())?;
@@ -167,7 +167,7 @@ fn rows(rt: HostRuntime) -> Result<(), Fail> {
     Ok(())
 }
 
-/// Whether a table has as many rows as its text has lines of rows, and its copy is equal to it.
+/// Whether a table has as many rows as its text has lines with rows, and is equal to its copy.
 fn has_its_rows(alloc: Global, pieces: &[&str]) -> Result<bool, TableError> {
     let text = joined(alloc, pieces)?;
     let table = VerdictTable::parse(alloc, text.as_bytes())?;

@@ -1,11 +1,11 @@
-//! Texts of errors that tell of an element that isn't written. No row shows them, since most come
-//! of contents past 4,294,967,295 octets alone.
+//! Texts of errors for elements that aren't written. No test vector reaches them, since most need
+//! contents of more than 4,294,967,295 octets.
 
 use der_core::DerError;
 use key_core::{Element, KeyError, KeyIdGenError, SignatureError};
 use std::test::Fail;
 
-/// What structures are called.
+/// The names of structures.
 #[rattlefmt::skip]
 const CALLED: [(Element, &str); 11] = [
     (Element::Certificate, "x509 certificate"),

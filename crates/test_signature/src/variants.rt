@@ -1,4 +1,4 @@
-//! Digest algorithms by their identifiers, and which of them are converted.
+//! Digest algorithms by OID, and which of them are converted.
 
 use asn1_types::ObjectIdentifier;
 use sig_core::{
@@ -7,7 +7,7 @@ use sig_core::{
 use std::alloc::{AllocError, Global};
 use std::test::Fail;
 
-/// The identifiers as RFC 8017 appendix B.1 has them.
+/// The OIDs in RFC 8017 appendix B.1.
 #[rattlefmt::skip]
 const VARIANTS: [(ShaVariant, HashAlgorithm, &str); 6] = [
     (ShaVariant::MD5, HashAlgorithm::MD5, "1.2.840.113549.2.5"),
@@ -29,7 +29,7 @@ fn identifiers(rt: HostRuntime) -> Result<(), Fail> {
     Ok(())
 }
 
-/// Whether the algorithm and the identifier of this text lead to each other.
+/// Whether the algorithm and the OID with this text correspond to each other.
 fn is_identified(alloc: Global, variant: ShaVariant, text: &str) -> Result<bool, AllocError> {
     let oid = variant.to_oid(alloc)?;
     let is_found = ShaVariant::from_oid(&oid) == Ok(variant)
@@ -38,7 +38,8 @@ fn is_identified(alloc: Global, variant: ShaVariant, text: &str) -> Result<bool,
     Ok(is_found && is_lent && oid.to_text(alloc)?.as_str() == text)
 }
 
-/// Identifiers of no digest algorithm here: SHA-512/256, an arc less, an arc more, a signature.
+/// OIDs of no digest algorithm here: SHA-512/256, one arc less, one arc more, a signature
+/// algorithm.
 const NO_VARIANTS: [&str; 5] = [
     "2.16.840.1.101.3.4.2.6",
     "2.16.840.1.101.3.4.2",
@@ -68,7 +69,7 @@ fn conversions(rt: HostRuntime) -> Result<(), Fail> {
     Ok(())
 }
 
-/// Whether both are converted into each other, or neither, as SHA-224 alone is not.
+/// Whether both are converted into each other, or neither, as for SHA-224 alone.
 fn converts(variant: ShaVariant, hash: HashAlgorithm) -> bool {
     let refused = UnsupportedHashAlgorithmError { algorithm: hash };
     let (to, from) = (ShaVariant::try_from(hash), HashAlgorithm::try_from(variant));

@@ -1,11 +1,11 @@
-//! What a verdict table says of signatures.
+//! The verdicts of a verdict table.
 
 use crate::rows::{KEY, MSG, ROW, SIG, VERSION_2};
 use sig_core::{Scheme as _, SchemeError, SchemeKind, SigAlg, TableError, Verdict, VerdictTable};
 use std::alloc::{AllocError, Global};
 use std::test::Fail;
 
-/// What the table of `ROW` says of signatures.
+/// The verdicts of the table with `ROW`.
 #[rattlefmt::skip]
 const VERDICTS: [(&str, SigAlg, &[u8], &[u8], &[u8], Verdict); 7] = [
     ("the row", SigAlg::RsaSha256, b"key", b"message", b"signature", Verdict::Accept),
@@ -41,7 +41,7 @@ fn verdicts_of_a_copy(rt: HostRuntime) -> Result<(), Fail> {
     Ok(())
 }
 
-/// Rows of version 2 on one signature, and what their table says of it.
+/// Rows of version 2 about one signature, and the verdict of their table.
 #[rattlefmt::skip]
 const FIRST: [(&[&str], Verdict); 9] = [
     (&[], Verdict::Reject),
@@ -68,8 +68,8 @@ fn first_rows(rt: HostRuntime) -> Result<(), Fail> {
     Ok(())
 }
 
-/// What a table says whose rows on the signature have these words, a row on another one, if it has
-/// a word, before them and behind them.
+/// The verdict of a table whose rows about the signature have these verdicts, with a row about
+/// another one before and after them, if it has a verdict.
 fn verdict_among(
     alloc: Global,
     words: &[&str],
@@ -87,7 +87,7 @@ fn verdict_among(
     Ok(table.verify(alloc, SigAlg::RsaSha256, b"key", b"message", b"signature")?)
 }
 
-/// Adds a row of another algorithm with this word.
+/// Adds a row for another algorithm with this verdict.
 fn push_other(text: &mut String, word: &str) -> Result<(), AllocError> {
     if word.is_empty() {
         return Ok(());
