@@ -1,4 +1,4 @@
-//! Identifiers of algorithms that are made, and leaves that are put together.
+//! AlgorithmIdentifiers that are made, and primitive elements that are put together.
 
 use asn1_types::{IntegerAsn1, ObjectIdentifier, oids};
 use der_core::{DerError, Raw, Structure, leaf, tag};
@@ -13,7 +13,7 @@ fn sha256(alloc: Global) -> Result<Vec<u8>, DerError> {
     algorithm.to_der(alloc)
 }
 
-/// The integer of these contents octets, by the element around them.
+/// The integer with these contents octets, by the element around them.
 fn integer(alloc: Global, contents: &[u8]) -> Result<IntegerAsn1, DerError> {
     let tree = leaf(alloc, tag::INTEGER, contents)?;
     let kept = Raw::from_tree(alloc, &tree)?;

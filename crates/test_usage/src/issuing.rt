@@ -1,5 +1,5 @@
-//! Certificates that are issued: a root, an intermediate, a request, a leaf for it; and whether the
-//! leaf is valid over both.
+//! Issuing certificates: a root, an intermediate, a request, a leaf for it; and whether the leaf is
+//! valid with both as its issuers.
 
 use key_core::{PrivateKey, PublicKey, SignatureAlgorithm};
 use names_core::{DirectoryName, UtcDate};
@@ -77,7 +77,7 @@ fn leaf(
     builder.build(alloc, word, &DemoScheme::new())
 }
 
-/// Whether a certificate is valid at a date over its parents, the nearest first, up to a root.
+/// Whether a certificate is valid at a date with its parents, the nearest first, up to a root.
 fn verified(
     alloc: Global,
     certificate: &Cert,
@@ -102,7 +102,7 @@ const CA_KEY: &str = "3031020100300d06092a864886f70d0101010500041d301b0201000201
 #[rattlefmt::skip]
 const LEAF_KEY: &str = "3031020100300d06092a864886f70d0101010500041d301b02010002011302010302010502010702010b020101020102020104";
 
-/// The request, by RFC 2986 4 and the rules of the demonstration scheme, written in Python as the
+/// The request, by RFC 2986 4 and the rules of the demonstration scheme, written in Python like the
 /// leaf.
 #[rattlefmt::skip]
 const REQUEST: &str = "3071303d020100301a3118301606035504030c0f7777772e6578616d706c652e6f7267301a300d06092a864886f70d01010105000309003006020113020103a000300d06092a864886f70d01010b0500032100b3936d3b0d244026058074ee021d9df7bcbafda082a39fbae49d43ab2434659e";
@@ -111,13 +111,13 @@ const REQUEST: &str = "3071303d020100301a3118301606035504030c0f7777772e6578616d7
 #[rattlefmt::skip]
 const LEAF: &str = "308201273081f2a003020102020103300d06092a864886f70d01010b050030173115301306035504030c0c496e7465726d656469617465301e170d3235303130313030303030305a170d3236303130313030303030305a301a3118301606035504030c0f7777772e6578616d706c652e6f7267301a300d06092a864886f70d01010105000309003006020113020103a3683066300c0603551d130405300301010030290603551d0e04220420de8606760a0841dc6cafcb03f08df1a353973c7db79586cc161ad8b36423256a302b0603551d230424302280201e6383debd86ab793aeb6cd5b1291ab0d1dce5d42a40fd194ccd5ef8f6fafaac300d06092a864886f70d01010b05000321009dc7bb7bfd914786f36a95a8d9a2b8f74dc456014c38fcf1edd259c1fa97e5b5";
 
-/// The private key of RSA in octets of PKCS #8, in hexadecimal.
+/// The RSA private key in PKCS #8 octets, in hexadecimal.
 fn key_of(alloc: Global, digits: &str) -> Result<PrivateKey, Fail> {
     let octets = hex::decode(alloc, digits)?;
     Ok(PrivateKey::from_pkcs8(alloc, &octets, &DemoScheme::new())?)
 }
 
-/// The first moments of two years.
+/// The first seconds of two years.
 fn years(from: u16, to: u16) -> Result<(UtcDate, UtcDate), Fail> {
     match (UtcDate::ymd(from, 1, 1), UtcDate::ymd(to, 1, 1)) {
         (Some(from), Some(to)) => Ok((from, to)),
@@ -137,7 +137,7 @@ fn issuers(alloc: Global, root_key: &PrivateKey, key: &PrivateKey) -> Result<Vec
     Ok(both)
 }
 
-/// The request, where it has the wanted octets.
+/// The request, if it has the expected octets.
 fn wanted_request(alloc: Global) -> Result<Csr, Fail> {
     let key = key_of(alloc, LEAF_KEY)?;
     let csr = request(alloc, "www.example.org", &key)?;
@@ -150,7 +150,7 @@ fn wanted_request(alloc: Global) -> Result<Csr, Fail> {
     }
 }
 
-/// The leaf, under the first of the parents.
+/// The leaf, issued by the first of the parents.
 fn issued(alloc: Global, parents: &[Cert], key: &PrivateKey) -> Result<Cert, Fail> {
     match parents.first() {
         Some(issuer) => {
@@ -161,7 +161,7 @@ fn issued(alloc: Global, parents: &[Cert], key: &PrivateKey) -> Result<Cert, Fai
     }
 }
 
-/// Whether the leaf has the wanted octets, and is valid in 2025 and not in 2027.
+/// Whether the leaf has the expected octets, and is valid in 2025 and not in 2027.
 fn is_wanted(alloc: Global, certificate: &Cert, parents: &[Cert]) -> Result<bool, Fail> {
     let wanted = hex::decode(alloc, LEAF)?;
     let (begins, late) = years(2025, 2027)?;

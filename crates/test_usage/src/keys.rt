@@ -1,4 +1,4 @@
-//! Public keys: the modulus of a key of RSA.
+//! Public keys: the modulus of an RSA key.
 
 use der_core::{DerError, Structure};
 use std::alloc::Global;
@@ -17,7 +17,7 @@ fn modulus(alloc: Global, octets: &[u8]) -> Result<Option<Vec<u8>>, DerError> {
     }
 }
 
-/// How many octets the modulus of an RSA key has, None for a key of another kind.
+/// The size of an RSA key's modulus in octets, None for a key of another kind.
 fn modulus_length(alloc: Global, octets: &[u8]) -> Result<Option<usize>, DerError> {
     let info = SubjectPublicKeyInfo::from_der(alloc, octets)?;
     match &info.subject_public_key {
@@ -26,7 +26,7 @@ fn modulus_length(alloc: Global, octets: &[u8]) -> Result<Option<usize>, DerErro
     }
 }
 
-/// A key of RSA that OpenSSL made.
+/// An RSA key that OpenSSL made.
 #[rattlefmt::skip]
 const RSA: &str = "305c300d06092a864886f70d0101010500034b003048024100d9ab8621470ac2c49a8b15db29712117ab566b3d47861a5bfa83a41cf42151c75a712a7959e7413a5d8d929b6ad720fe18b3cb5cb0577d95bcaa119d061b0a550203010001";
 

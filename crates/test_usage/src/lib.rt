@@ -1,6 +1,6 @@
-//! The callers of `docs/USING.md` and of the libraries' READMEs, with tests. What they give is
-//! compared with OpenSSL, Python's `hashlib`, and what the scripts of `tools/` put together from the
-//! standards.
+//! The callers of `docs/USING.md` and of the libraries' READMEs, with tests. Their results are
+//! compared with OpenSSL, Python's `hashlib`, and what the scripts of `tools/` put together from
+//! the standards.
 #![tactic(auto)]
 
 #[cfg(test)]

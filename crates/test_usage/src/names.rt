@@ -1,17 +1,17 @@
-//! Names: how one prints, and whether two are the same.
+//! Names: how a name prints, and whether two are the same.
 
 use der_core::{DerError, Structure};
 use std::alloc::Global;
 use std::test::Fail;
 use x509_types::Name;
 
-/// The text of the name that octets hold.
+/// The text of the name in octets.
 fn printed(alloc: Global, octets: &[u8]) -> Result<String, DerError> {
     let name = Name::from_der(alloc, octets)?;
     Ok(name.to_string(alloc)?)
 }
 
-/// Whether octets hold the same name.
+/// Whether octets encode the same name.
 fn same_name(alloc: Global, a: &[u8], b: &[u8]) -> Result<bool, DerError> {
     let a = Name::from_der(alloc, a)?;
     let b = Name::from_der(alloc, b)?;

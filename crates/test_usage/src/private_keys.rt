@@ -5,13 +5,13 @@ use sig_core::{DemoScheme, HashAlgorithm};
 use std::alloc::Global;
 use std::test::Fail;
 
-/// The public key of a private one in octets of PKCS #8.
+/// The public key of a private key in PKCS #8 octets.
 fn public_half(alloc: Global, octets: &[u8]) -> Result<PublicKey, SignatureError> {
     let key = PrivateKey::from_pkcs8(alloc, octets, &DemoScheme::new())?;
     Ok(key.to_public_key(alloc)?)
 }
 
-/// A signature of the message by a private key of RSA in octets of PKCS #8.
+/// A signature of the message by an RSA private key in PKCS #8 octets.
 fn signed(alloc: Global, octets: &[u8], msg: &[u8]) -> Result<Vec<u8>, SignatureError> {
     let key = PrivateKey::from_pkcs8(alloc, octets, &DemoScheme::new())?;
     let algorithm = SignatureAlgorithm::RsaPkcs1v15(HashAlgorithm::SHA2_256);
@@ -33,14 +33,14 @@ fn is_signed(
     }
 }
 
-/// A key of RSA, its modulus 17, its exponent 3.
+/// An RSA key with modulus 17 and exponent 3.
 #[rattlefmt::skip]
 const KEY: &str = "3031020100300d06092a864886f70d0101010500041d301b02010002011102010302010502010702010b020101020102020104";
 
 /// Its signature of `message`, by `tools/cases/demo_signatures.py`.
 const SIGNATURE: &str = "387296ab30c30dc5969134fbbf5bcc6818e878ba18ae4739e780697573b372a7";
 
-/// Whether the signature is one of `message`, and of no longer text.
+/// Whether the signature is one of `message`, and not of a longer text.
 fn is_of_message_alone(
     alloc: Global,
     key: &PublicKey,

@@ -1,4 +1,4 @@
-//! Values of what is read: the signer and the digest of a signature, the path length of a CA.
+//! Fields of what is read: the signer and the digest of a signature, the path length of a CA.
 
 use authenticode_core::AuthenticodeError;
 use authenticode_signature::AuthenticodeSignature;
@@ -6,7 +6,7 @@ use std::alloc::Global;
 use std::test::Fail;
 use x509_core::Cert;
 
-/// The subject of the certificate that the signer names, as text.
+/// The subject of the signer's certificate, as text.
 fn signer_name(
     alloc: Global,
     signature: &AuthenticodeSignature,

@@ -1,4 +1,4 @@
-//! A signature file that is checked with a scheme of one's own.
+//! Checking a signature file with a scheme of one's own.
 
 ghost use Rattle.std.specs.Prelude.{bytes_eq, if◌then◌else◌};
 ghost use Rattle.sig_core.specs.declared.scheme.Verdict.TheVariants.{Accept, Reject};
@@ -9,7 +9,7 @@ use sig_core::{Scheme, SchemeError, SchemeKind, SigAlg, Verdict};
 use std::alloc::{AllocError, Global};
 use std::test::Fail;
 
-/// A scheme that only compares keys: it accepts whatever is said to be signed under this one.
+/// A scheme that only compares keys: it accepts everything under this key.
 #[derive(Drop)]
 struct OneKey {
     key: Octets,
@@ -84,7 +84,7 @@ fn is_signed_under(
     }
 }
 
-/// The file, and what it signs: the digest of `abc`.
+/// The file, which signs the digest of `abc`.
 #[rattlefmt::skip]
 const FILE: &str = "be01000000020200308201b206092a864886f70d010702a08201a33082019f020101310f300d06096086480165030402010500305c060a2b060104018237020104a04e304c3017060a2b06010401823702010f3009030100a004a20280003031300d060960864801650304020105000420ba7816bf8f01cfea414140de5dae2223b00361a396177a9cb410ff61f20015ada08187308184306fa003020102020101300d06092a864886f70d01010b0500300c310a300806035504030c0141301e170d3230303130313030303030305a170d3330303130313030303030305a300c310a300806035504030c0141301a300d06092a864886f70d01010105000309003006020111020103300d06092a864886f70d01010b0500030200bba10031819e30819b0201013011300c310a300806035504030c0141020101300d06096086480165030402010500a062301906092a864886f70d010903310c060a2b0601040182370201043014060a2b06010401823702010c31063004a1028000302f06092a864886f70d010904312204206b00646e9ba32b38bcdfe80a0e22b4671c4d01316d815cc7bb60626b24aa2832300d06092a864886f70d01010105000401aa";
 

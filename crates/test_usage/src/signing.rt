@@ -1,4 +1,4 @@
-//! A program's signature that is made, asked a time stamp for, and stamped.
+//! Making the signature of a program, requesting a time stamp for it, and adding that.
 
 use authenticode_core::{AuthenticodeError, CheckError};
 use authenticode_signature::{
@@ -53,11 +53,11 @@ fn stamp(
     signature.timestamp(alloc, token, HashAlgorithm::SHA2_256)
 }
 
-/// A key of RSA, its modulus 17, its exponent 3.
+/// An RSA key with modulus 17 and exponent 3.
 #[rattlefmt::skip]
 const KEY: &str = "3031020100300d06092a864886f70d0101010500041d301b02010002011102010302010502010702010b020101020102020104";
 
-/// Signed data with the certificate of that key alone.
+/// Signed data with the certificate of that key only.
 #[rattlefmt::skip]
 const CERTIFICATES: &str = "3081b106092a864886f70d010702a081a33081a00201013100300b06092a864886f70d010701a08187308184306fa003020102020101300d06092a864886f70d01010b0500300c310a300806035504030c0141301e170d3230303130313030303030305a170d3330303130313030303030305a300c310a300806035504030c0141301a300d06092a864886f70d01010105000309003006020111020103300d06092a864886f70d01010b0500030200bba1003100";
 
@@ -68,7 +68,7 @@ const DIGEST: &str = "ba7816bf8f01cfea414140de5dae2223b00361a396177a9cb410ff61f2
 #[rattlefmt::skip]
 const FILE: &str = "f801000000020200308201eb06092a864886f70d010702a08201dc308201d8020101310f300d06096086480165030402010500305c060a2b060104018237020104a04e304c3017060a2b06010401823702010f3009030100a004a20280003031300d060960864801650304020105000420ba7816bf8f01cfea414140de5dae2223b00361a396177a9cb410ff61f20015ada08187308184306fa003020102020101300d06092a864886f70d01010b0500300c310a300806035504030c0141301e170d3230303130313030303030305a170d3330303130313030303030305a300c310a300806035504030c0141301a300d06092a864886f70d01010105000309003006020111020103300d06092a864886f70d01010b0500030200bba1003181d73081d40201013011300c310a300806035504030c0141020101300d06096086480165030402010500a07c301906092a864886f70d010903310c060a2b060104018237020104302e060a2b06010401823702010c3120301ea0188016004e0069006e0065006200610072006b006200690074a1028000302f06092a864886f70d010904312204206b00646e9ba32b38bcdfe80a0e22b4671c4d01316d815cc7bb60626b24aa2832300d06092a864886f70d0101010500042092b9a0b9c7bf474ab7048e1602f7cc44b77e7930c169709b9b5c5dbef28c08be00";
 
-/// The request for its time stamp: the octets of the signature in a content of type data.
+/// The request for its time stamp: the signature octets in a content of type data.
 #[rattlefmt::skip]
 const REQUEST: &str = "303d060a2b060104018237030201302f06092a864886f70d010701a022042092b9a0b9c7bf474ab7048e1602f7cc44b77e7930c169709b9b5c5dbef28c08be";
 
@@ -86,14 +86,14 @@ fn made(alloc: Global) -> Result<AuthenticodeSignature, Fail> {
     Ok(signed_program(alloc, &certificates, &key, &digest, &scheme)?)
 }
 
-/// Whether the signature has the wanted file.
+/// Whether the signature has the expected file.
 fn has_file(alloc: Global, signature: &AuthenticodeSignature) -> Result<bool, Fail> {
     let wanted = hex::decode(alloc, FILE)?;
     let file = signature_file(alloc, signature)?;
     Ok(file.as_slice() == wanted.as_slice())
 }
 
-/// Whether the wanted time stamp is asked for.
+/// Whether the expected time stamp is requested.
 fn has_request(alloc: Global, signature: &AuthenticodeSignature) -> Result<bool, Fail> {
     let wanted = hex::decode(alloc, REQUEST)?;
     match stamp_request(alloc, signature)? {
@@ -102,7 +102,7 @@ fn has_request(alloc: Global, signature: &AuthenticodeSignature) -> Result<bool,
     }
 }
 
-/// Whether the signature that is stamped by itself has the wanted octets.
+/// Whether the signature, timestamped by itself, has the expected octets.
 fn is_stamped(alloc: Global, signature: &mut AuthenticodeSignature) -> Result<bool, Fail> {
     let wanted = hex::decode(alloc, STAMPED)?;
     let mut token = TokenTimestamper::from_der(alloc, &signature.to_der(alloc)?)?;

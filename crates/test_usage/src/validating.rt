@@ -1,4 +1,4 @@
-//! The validator of an Authenticode signature, under a scheme that the caller hands in.
+//! The validator of an Authenticode signature, under a caller's scheme.
 
 use authenticode_core::{Accepted, CheckError, Excuse};
 use authenticode_signature::AuthenticodeSignature;
@@ -32,7 +32,7 @@ fn validated<S: Scheme>(
     Ok(verifier.verify(alloc, scheme)?)
 }
 
-/// Whether the path ends at the certificate that the caller trusts, and nothing is excused.
+/// Whether the path ends at the certificate that the caller trusts, without an excuse.
 fn is_trusted(
     alloc: Global,
     signature: &AuthenticodeSignature,
@@ -67,7 +67,7 @@ const SIGNER: &str = "3082010e3081d9a003020102020101300d06092a864886f70d01010b05
 #[rattlefmt::skip]
 const ISSUER: &str = "3082010e3081d9a003020102020101300d06092a864886f70d01010b0500300c310a300806035504030c0152301e170d3230303130313030303030305a170d3430303130313030303030305a300c310a300806035504030c0149301a300d06092a864886f70d01010105000309003006020112020103a3683066300c0603551d13040530030101ff30290603551d0e042204201e6383debd86ab793aeb6cd5b1291ab0d1dce5d42a40fd194ccd5ef8f6fafaac302b0603551d23042430228020de8606760a0841dc6cafcb03f08df1a353973c7db79586cc161ad8b36423256a300d06092a864886f70d01010b05000321001709591a59f5022bb3d887ea87e3a96f951a3b4b8a317ae6915c962a592f6c3b";
 
-/// What is answered to the file at the first second of a year.
+/// The result for the file at the first second of a year.
 fn outcome_in(
     alloc: Global,
     signature: &AuthenticodeSignature,
@@ -81,7 +81,7 @@ fn outcome_in(
     }
 }
 
-/// Whether what is accepted ends at the certificate in these digits.
+/// Whether the path of what is accepted ends at the certificate in this hexadecimal.
 fn ends_at(
     alloc: Global,
     signature: &AuthenticodeSignature,

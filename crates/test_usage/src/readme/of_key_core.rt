@@ -1,4 +1,4 @@
-//! The identifier of a public key.
+//! The key identifier of a public key.
 
 use key_core::{KeyIdGenError, KeyIdGenMethod, PublicKey};
 use sig_core::HashAlgorithm;

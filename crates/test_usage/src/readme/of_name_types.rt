@@ -27,5 +27,5 @@ fn a_host(rt: HostRuntime) -> Result<(), Fail> {
 /// `DNS:www.example.org` in a subjectAltName that OpenSSL wrote.
 const HOST: &str = "820f7777772e6578616d706c652e6f7267";
 
-/// `IP:192.0.2.1` behind it.
+/// `IP:192.0.2.1` after it.
 const ADDRESS: &str = "8704c0000201";
