@@ -1,8 +1,8 @@
-//! Elements read one after another where they lie.
+//! Borrowed elements, read one after another.
 
 use der_core::{Cursor, DerFault, Malformed};
 
-/// Whether a cursor gives an element of a tag and contents.
+/// Whether a cursor yields an element with a tag and contents.
 fn gives(cursor: &mut Cursor<'_>, tag: u8, content: &[u8]) -> bool {
     match cursor.next() {
         Ok(Some(elem)) => elem.tag == tag && elem.content == content,
@@ -10,12 +10,12 @@ fn gives(cursor: &mut Cursor<'_>, tag: u8, content: &[u8]) -> bool {
     }
 }
 
-/// Whether a cursor stands at a place of a level.
+/// Whether a cursor is at an offset and a level.
 fn is_at(cursor: &Cursor<'_>, level: u8, place: usize) -> bool {
     cursor.level() == level && cursor.place() == place
 }
 
-/// The elements within the next one, where it has any.
+/// The elements within the next one, if it is constructed.
 fn next_kids<'a>(cursor: &mut Cursor<'a>) -> Option<Cursor<'a>> {
     match cursor.next() {
         Ok(Some(elem)) => elem.kids(),

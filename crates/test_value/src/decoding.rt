@@ -1,10 +1,10 @@
-//! What octets hold.
+//! What octets decode to.
 
 use std::alloc::Global;
 use std::test::Fail;
 use wincert_core::{WinCertificate, certificate_of};
 
-/// Octets, and what they hold.
+/// Octets, and what they decode to.
 struct Decoded {
     name: &'static str,
     octets: &'static str,
@@ -32,7 +32,7 @@ fn decoding(rt: HostRuntime) -> Result<(), Fail> {
     Ok(())
 }
 
-/// Whether octets hold what the row says, as a value and where they lie.
+/// Whether octets decode to what the case says, as a value and borrowed.
 fn is_decoded(alloc: Global, row: &Decoded) -> Result<bool, Fail> {
     let octets = hex::decode(alloc, row.octets)?;
     let certificate = hex::decode(alloc, row.certificate)?;

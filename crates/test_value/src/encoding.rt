@@ -36,7 +36,8 @@ fn encoding(rt: HostRuntime) -> Result<(), Fail> {
     Ok(())
 }
 
-/// Whether these octets are written, read as the certificate with its padding, and written again.
+/// Whether a certificate is written as these octets, which are read with the padding as part of it,
+/// and written again.
 fn is_written(
     alloc: Global,
     made: WinCertificate,

@@ -1,4 +1,4 @@
-//! Lists of general names that grow.
+//! Growing lists of general names.
 
 use asn1_types::{CharSetError, Ia5String};
 use der_core::{DerError, Structure};
@@ -7,7 +7,7 @@ use names_core::{DirectoryName, GeneralName, GeneralNames};
 use std::alloc::{AllocError, Global};
 use std::test::Fail;
 
-/// A host, a resource, another host, a name of the directory and a mailbox.
+/// A host, a URI, another host, a directory name and a mailbox.
 fn five_names(alloc: Global) -> Result<GeneralNames, CharSetError> {
     let names = GeneralNames::new(alloc, GeneralName::new_dns_name(alloc, "localhost")?)?;
     let names = names.with_name(GeneralName::new_uri(alloc, "u")?)?;
@@ -17,7 +17,7 @@ fn five_names(alloc: Global) -> Result<GeneralNames, CharSetError> {
     Ok(names)
 }
 
-/// These five, by RFC 5280 A.2.
+/// These five, as in RFC 5280 A.2.
 #[rattlefmt::skip]
 const FIVE: &[u8] = &[
     0x30, 0x24,
@@ -28,7 +28,7 @@ const FIVE: &[u8] = &[
     0x81, 0x01, b'a',
 ];
 
-/// The name of the directory alone.
+/// The directory name alone.
 #[rattlefmt::skip]
 const DIRECTORY: &[u8] = &[
     0x30, 0x10,

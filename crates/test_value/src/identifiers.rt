@@ -1,4 +1,4 @@
-//! Identifiers of the table are printed, and hash by their octets.
+//! OIDs of the table print, and hash by their octets.
 
 use asn1_types::{ObjectIdentifier, oids};
 use std::hash::{DefaultHasher, Hash, Hasher};

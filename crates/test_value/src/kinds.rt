@@ -1,4 +1,4 @@
-//! Numbers of revisions and types, and values that differ in one part alone.
+//! Numbers of revisions and types, and values that differ in one part only.
 
 use std::alloc::Global;
 use std::test::Fail;
@@ -61,7 +61,7 @@ fn equality(rt: HostRuntime) -> Result<(), Fail> {
     Ok(())
 }
 
-/// Whether what two texts of digits hold is equal.
+/// Whether the values in two texts of hexadecimal are equal.
 fn are_equal(alloc: Global, one: &str, other: &str) -> Result<bool, Fail> {
     let one = WinCertificate::decode(alloc, &hex::decode(alloc, one)?)?;
     let other = WinCertificate::decode(alloc, &hex::decode(alloc, other)?)?;

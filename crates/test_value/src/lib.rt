@@ -1,6 +1,6 @@
-//! Tests of what rows of data can't show, a hash, lists that grow and values that callers make; of
-//! the public calls of `der_core`, beside the rows of `golden_der`; and of those of `wincert_core`.
-//! The rows of `golden_value` and `golden_structure` are the others.
+//! Tests of what test vectors can't show, a hash, growing lists and values made by callers; of the
+//! public calls of `der_core`, beside the vectors of `golden_der`; and of those of `wincert_core`.
+//! The vectors of `golden_value` and `golden_structure` are the others.
 #![tactic(auto)]
 
 #[cfg(test)]

@@ -19,7 +19,7 @@ fn known_strings_are_not_taken(rt: HostRuntime) -> Result<(), Fail> {
     Ok(())
 }
 
-/// A NumericString, and an IA5String with an octet past 127, which is none.
+/// A NumericString, and an IA5String with an octet past 127, which is invalid.
 #[test]
 fn other_strings_are_taken(rt: HostRuntime) -> Result<(), Fail> {
     assert!(rt; is_taken(rt.alloc(), &[0x12, 0x01, b'1'])?);

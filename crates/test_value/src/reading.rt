@@ -1,4 +1,4 @@
-//! An element that is read, and written again.
+//! Reading an element, and writing it again.
 
 ghost use Rattle.der_core.specs.Encoding.{IsWellFormed};
 

@@ -1,9 +1,9 @@
-//! Octets that hold no WIN_CERTIFICATE.
+//! Octets that contain no WIN_CERTIFICATE.
 
 use std::test::Fail;
 use wincert_core::{WinCertificate, WinCertificateError, certificate_of};
 
-/// Octets that hold nothing, why, and how that is told.
+/// Octets, why they are refused, and the text of the error.
 struct Refused {
     name: &'static str,
     octets: &'static str,

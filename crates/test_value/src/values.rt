@@ -1,4 +1,4 @@
-//! Trees, octets and kept elements as values: what is copied, compared and kept.
+//! Trees, octets and raw elements as values: copying, comparing and storing them.
 
 use crate::reading::is_written;
 use der_core::{DerError, Octets, Raw, Tree, Trees, read_back, read_exact};
