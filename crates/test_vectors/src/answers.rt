@@ -1,4 +1,4 @@
-//! What a whole run answers to words, to tables and to signature files.
+//! Whole runs for words, for tables and for signature files.
 
 use crate::signature::{
     ACCEPTED, HASH, HEADER, ROW, VALUE, accepted_file, is_answered, octets, shelf_of,
@@ -8,7 +8,7 @@ use std::alloc::{AllocError, Global};
 
 const ROOM: usize = 100;
 
-/// The signed data without certificates and signers, as RFC 2315 and RFC 5652 have it.
+/// Signed data without certificates and signers, as in RFC 2315 and RFC 5652.
 const CERTIFICATES_ALONE: &[&str] = &[
     "302706092a864886f70d010702a01a30180201013100300b06092a864886f70d010701a000a1003100",
 ];
@@ -103,7 +103,7 @@ const OCTETS_64: &str =
 const OCTETS_65: &str =
     "ba7816bf8f01cfea414140de5dae2223b00361a396177a9cb410ff61f20015adba7816bf8f01cfea414140de5dae2223b00361a396177a9cb410ff61f20015ad00";
 
-// Words on the accepted file `s` and its table `t`, the status and the line.
+// Words for the accepted file `s` and its table `t`, the status and the line.
 #[rattlefmt::skip]
 const WORDS: &[(&str, &[&str], u8, &str)] = &[
     ("the accepted words",        &["basic", "s", "t", HASH],               0, ACCEPTED),

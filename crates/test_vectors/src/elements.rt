@@ -1,5 +1,4 @@
-//! Elements whose length needs several octets, and elements at the greatest depth, read and
-//! written.
+//! Elements whose length needs several octets, and elements at the maximal depth, read and written.
 
 ghost use Rattle.std.specs.Prelude.{IfOk};
 ghost use Rattle.der_core.specs.Encoding.{IsWellFormed};
@@ -8,7 +7,7 @@ use der_core::{DerError, Raw, Tree, Trees, read_exact, read_first, write};
 use std::alloc::{AllocError, Global};
 use std::test::Fail;
 
-// The identifier and the length of an element, and how many octets are in it.
+// The identifier octet and the length of an element, and how many octets are in it.
 #[rattlefmt::skip]
 const LONG: [(&[u8], usize); 8] = [
     (&[4, 0x7F],                    127),
@@ -36,7 +35,7 @@ fn is_read_and_written(alloc: Global, head: &[u8], size: usize) -> Result<bool, 
     Ok(taken == octets.len() && write(alloc, &tree)?.as_slice() == octets.as_slice())
 }
 
-// 64 levels, the most that are read and written: each element has the next alone.
+// 64 levels, the most that are read and written: each element contains only the next.
 const DEEPEST: &str =
     "307e307c307a30783076307430723070306e306c306a30683066306430623060305e305c305a30583056305430523050304e304c304a30483046304430423040303e303c303a30383036303430323030302e302c302a30283026302430223020301e301c301a30183016301430123010300e300c300a30083006300430023000";
 

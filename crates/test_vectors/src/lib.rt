@@ -1,6 +1,5 @@
-//! Rows of inputs and what is answered to them: words and files for a whole run, octets for the
-//! readers of elements. The expected values come from the standards and from the tools beside the
-//! crates.
+//! Test vectors: words and files for a whole run, octets for the readers of elements. The expected
+//! values are from the standards and from the tools beside the crates.
 #![tactic(auto)]
 
 #[cfg(test)]

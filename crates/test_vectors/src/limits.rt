@@ -1,4 +1,4 @@
-//! Calls that fail, sinks without room, and files of the greatest length.
+//! Failing calls, sinks without room, and files of the maximal length.
 
 use crate::signature::{ACCEPTED, HASH, ROW, accepted_file, is_answered, shelf_of};
 use hex::FromHexError;
@@ -10,10 +10,10 @@ const OTHER_HASH: &str = "00";
 
 const OTHER: &str = "refused FileHashMismatch\n";
 
-/// No run over two short files makes as many calls of its shelf.
+/// More calls of the shelf than any run on two short files makes.
 const MANY_CALLS: u64 = 20;
 
-// How many zeros the signature file has, and how many newlines the table, the status and the line.
+// The number of zeros in the signature file, and of newlines in the table, the status and the line.
 #[rattlefmt::skip]
 const SIZES: [(usize, usize, u8, &str); 5] = [
     (LONGEST,     0,           1, "refused CertificateDataIsEmpty\n"),
@@ -74,7 +74,7 @@ fn a_line_is_cut_where_the_room_ends(rt: HostRuntime) -> Result<(), FromHexError
     Ok(())
 }
 
-/// Whether a run writes what fits of a line, and ends with the status of a whole line or with 5.
+/// Whether a run writes what fits of a line, and ends with the status for a whole line or with 5.
 fn is_cut(
     alloc: Global,
     file: &[u8],

@@ -1,4 +1,4 @@
-//! A signature that is accepted, as `tools/cases/first_path.py` writes it, and runs over it.
+//! An accepted signature, as `tools/cases/first_path.py` writes it, and runs on it.
 
 use hex::FromHexError;
 use picky_check::{MemShelf, MemSink, run};
@@ -44,7 +44,7 @@ pub(crate) const VALUE: &[&str] = &[
     "300d06092a864886f70d0101010500", "0401aa", // the signature
 ];
 
-/// The octets that pieces of hexadecimal digits stand for.
+/// The octets in pieces of hexadecimal.
 pub(crate) fn octets(alloc: Global, pieces: &[&str]) -> Result<Vec<u8>, FromHexError> {
     let mut octets = Vec::new(alloc);
     for digits in pieces {
@@ -72,8 +72,8 @@ pub(crate) fn shelf_of(
     Ok(shelf)
 }
 
-/// Whether a run over a shelf ends with a status, and has written so much to a sink with room for
-/// so many octets.
+/// Whether a run with a shelf ends with a status, and has written this to a sink with this much
+/// room.
 pub(crate) fn is_answered(
     alloc: Global,
     words: &[&str],
