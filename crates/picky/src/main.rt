@@ -1,4 +1,4 @@
-//! The program: the words of its command line, files by their paths, standard output.
+//! The program: its command line, files by path, standard output.
 #![tactic(auto)]
 
 use picky_check::{DirShelf, OutSink, run, status_without_words};
