@@ -1,6 +1,8 @@
 -- Why the expiry of a signer's certificate is excused: a certificate for time stamping in the bag,
 -- or a token that has one and whose first certificate is linked (Windows Authenticode Portable
--- Executable Signature Format). The signature and the time of a stamp aren't checked.
+-- Executable Signature Format). The signature and the time of a stamp aren't checked. An excuse
+-- waives the not-after date of the signer's certificate alone: its issuer path is asked for as
+-- without one.
 use Rattle.std.specs.Prelude.{◌≡◌, ◌⊎◌, ℕ, zero, suc, List, [], ◌∷◌, length, false}
 use Rattle.asn1_types.specs.declared.oids.TheConstants.{KP_LIFETIME_SIGNING, KP_TIME_STAMPING, RFC3161_COUNTER_SIGN}
 use Rattle.cms_types.specs.Pkcs7.{pkcs7}
@@ -18,14 +20,16 @@ use Rattle.x509_core.specs.declared.window.Window.{Window}
 use Rattle.x509_types.specs.CertificateElements.{CertificateElements}
 use Rattle.x509_types.specs.Purposes.{NamesPurpose}
 use Rattle.authenticode_core.specs.IssuerWalk.{AreOthers}
-use Rattle.authenticode_core.specs.LinkedPath.{AreLinkedAt, IsUnlinkedAt}
+use Rattle.authenticode_core.specs.LinkedPath.{AreLinkedAt, IsPathAsked, IsUnlinkedAt}
 use Rattle.authenticode_core.specs.Places.{StandsAt}
+use Rattle.authenticode_core.specs.Policy.{window_of}
 use Rattle.authenticode_core.specs.SignedFields.{IsAttributeOf, IsFirstSigner}
 use Rattle.authenticode_core.specs.SigningRules.{IsBagOf}
 use Rattle.authenticode_core.specs.declared.accepted.Excuse.{Excuse}
 use Rattle.authenticode_core.specs.declared.accepted.Excuse.TheVariants as excuses
 use Rattle.authenticode_core.specs.declared.error.AuthenticodeError.{AuthenticodeError}
 use Rattle.authenticode_core.specs.declared.error.AuthenticodeError.TheVariants as errors
+use Rattle.authenticode_core.specs.declared.policy.Policy.{Policy}
 
 -- some certificate of the bag names time stamping (RFC 5280 4.2.1.12)
 abbrev pub NamesTimeStamping : List CertificateElements → Type 0
@@ -101,13 +105,22 @@ pub record IsStamped (judge : Judge) (f : SignedDataElements) : Type 0 where
   pub stamping : IsForStamping t bag
   pub linked : IsLinkedToken judge bag
 
--- The expiry is excused, for this reason.
-abbrev pub IsExcused : Judge → SignedDataElements → List CertificateElements → CertificateElements
+-- There is this reason to excuse the expiry: the certificate doesn't name lifetime signing, and some
+-- certificate of the bag names time stamping, or, where none does, a token stands there that does.
+abbrev pub HasReason : Judge → SignedDataElements → List CertificateElements → CertificateElements
     → Excuse → Type 0
-IsExcused judge f bag c excuses.None = ⊥
-IsExcused judge f bag c excuses.Bag = (NamesLifetime c → ⊥) × NamesTimeStamping bag
-IsExcused judge f bag c excuses.Token =
+HasReason judge f bag c excuses.None = ⊥
+HasReason judge f bag c excuses.Bag = (NamesLifetime c → ⊥) × NamesTimeStamping bag
+HasReason judge f bag c excuses.Token =
     (NamesLifetime c → ⊥) × (NamesTimeStamping bag → ⊥) × IsStamped judge f
+
+-- The expiry is excused, for this reason: the certificates of the issuer path, where a chain is
+-- asked for, are one above the expired certificate, each of them valid as the policy asks.
+pub record IsExcused (judge : Judge) (policy : Policy) (f : SignedDataElements)
+    (bag : List CertificateElements) (signer : KeptCertificate) (path : List ℕ)
+    (excuse : Excuse) : Type 0 where
+  pub reason : HasReason judge f bag signer.elements excuse
+  pub path_is : IsPathAsked policy.chain judge (window_of policy) bag signer path
 
 -- no token stands there with a certificate that names time stamping
 abbrev pub IsUnstamped : SignedDataElements → Type 0
@@ -115,8 +128,8 @@ IsUnstamped f =
     (t : SignedDataElements) (bag : List CertificateElements) → HasToken f t → IsForStamping t bag
     → ⊥
 
--- The expiry isn't excused, and nothing else is told: the certificate names lifetime signing, or
--- none names time stamping.
+-- There is no reason, and nothing else is told: the certificate names lifetime signing, or none
+-- names time stamping.
 abbrev pub HasNoExcuse : SignedDataElements → List CertificateElements → CertificateElements
     → Type 0
 HasNoExcuse f bag c = NamesLifetime c ⊎ ((NamesTimeStamping bag → ⊥) × IsUnstamped f)

@@ -1,5 +1,6 @@
--- When the certificates at some places of a bag are a chain above another (RFC 5280 6.1).
-use Rattle.std.specs.Prelude.{◌≡◌, ⊤, ℕ, List, [], ◌∷◌, ◌++◌, length}
+-- When the certificates at some places of a bag are a chain above another, and those of the issuer
+-- path of a signer (RFC 5280 6.1).
+use Rattle.std.specs.Prelude.{◌≡◌, ⊤, Bool, ℕ, List, [], ◌∷◌, ◌++◌, length, true, false}
 use Rattle.der_core.specs.Rules.{IsFirstBroken}
 use Rattle.key_core.specs.Verifying.{Judge}
 use Rattle.x509_core.specs.Chain.{IsLinkedChain, last_of}
@@ -8,6 +9,7 @@ use Rattle.x509_core.specs.Link.{link_rules}
 use Rattle.x509_core.specs.declared.error.CertError.{CertError}
 use Rattle.x509_core.specs.declared.window.Window.{Window}
 use Rattle.x509_types.specs.CertificateElements.{CertificateElements}
+use Rattle.authenticode_core.specs.IssuerWalk.{IsIssuerPath}
 use Rattle.authenticode_core.specs.Places.{StandsAt}
 
 -- the certificates stand at these places, one at each
@@ -39,3 +41,17 @@ pub record IsUnlinkedAt (judge : Judge) (w : Window) (bag : List CertificateElem
   pub stands : StandsAt bag place parent.elements
   pub linked : IsLinkedChain judge w checked below
   pub broken : IsFirstBroken (link_rules judge w (length below) parent (last_of checked below)) e
+
+-- ---- the issuer path of a signer
+
+-- The certificates of the issuer path are a chain above that of the signer.
+pub record IsVouchedPath (judge : Judge) (w : Window) (bag : List CertificateElements)
+    (signer : KeptCertificate) (path : List ℕ) : Type 0 where
+  pub is_path : IsIssuerPath bag signer.elements path
+  pub linked : AreLinkedAt judge w bag signer path
+
+-- where a chain is asked for, this is that of the issuer path; else no place is told
+abbrev pub IsPathAsked : Bool → Judge → Window → List CertificateElements → KeptCertificate → List ℕ
+    → Type 0
+IsPathAsked true judge w bag signer path = IsVouchedPath judge w bag signer path
+IsPathAsked false judge w bag signer path = path ≡ []

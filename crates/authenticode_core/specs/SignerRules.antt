@@ -1,6 +1,6 @@
 -- What the certificate of a signer has to be, where it is asked for, rule by rule, in their order
 -- (RFC 5280 6.1; Windows Authenticode Portable Executable Signature Format).
-use Rattle.std.specs.Prelude.{◌≡◌, Bool, ℕ, List, [], ◌∷◌, Some, IsTrue, true, false}
+use Rattle.std.specs.Prelude.{◌≡◌, ℕ, List, [], ◌∷◌, Some, IsTrue}
 use Rattle.cms_types.specs.SignedDataElements.{SignedDataElements}
 use Rattle.cms_types.specs.SignerElements.{SignerElements}
 use Rattle.der_core.specs.Rules.{Rule}
@@ -8,13 +8,12 @@ use Rattle.key_core.specs.Verifying.{Judge}
 use Rattle.x509_core.specs.Chain.{IsDated, LacksDate}
 use Rattle.x509_core.specs.KeptCertificate.{KeptCertificate}
 use Rattle.x509_core.specs.Link.{IsOutside}
-use Rattle.x509_core.specs.Window.{IsExpired, IsWithinWindow}
+use Rattle.x509_core.specs.Window.{HasBegun, HasNotEnded, IsExpired, IsWithinWindow}
 use Rattle.x509_core.specs.declared.error.CertError.{CertError}
-use Rattle.x509_core.specs.declared.window.Window.{Window}
 use Rattle.x509_types.specs.CertificateElements.{CertificateElements}
-use Rattle.authenticode_core.specs.Excuses.{HasBadStamp, HasNoExcuse, IsExcused}
+use Rattle.authenticode_core.specs.Excuses.{HasBadStamp, HasNoExcuse, HasReason, IsExcused}
 use Rattle.authenticode_core.specs.IssuerWalk.{IsIssuerPath}
-use Rattle.authenticode_core.specs.LinkedPath.{AreLinkedAt, IsUnlinkedAt}
+use Rattle.authenticode_core.specs.LinkedPath.{IsPathAsked, IsUnlinkedAt}
 use Rattle.authenticode_core.specs.Policy.{policy_checks, window_of}
 use Rattle.authenticode_core.specs.SignedFields.{IsFirstSigner, signers_of}
 use Rattle.authenticode_core.specs.SigningRules.{HasNoCertificate, IsBagOf, IsNamedByKey, IsSignerCertificate}
@@ -31,28 +30,23 @@ pub record IsKeptSigner (f : SignedDataElements) (bag : List CertificateElements
   pub is_bag : IsBagOf f bag
   pub is_signer : IsSignerCertificate f bag place signer.elements
 
--- The certificates of the issuer path are a chain above that of the signer.
-pub record IsVouchedPath (judge : Judge) (w : Window) (bag : List CertificateElements)
-    (signer : KeptCertificate) (path : List ℕ) : Type 0 where
-  pub is_path : IsIssuerPath bag signer.elements path
-  pub linked : AreLinkedAt judge w bag signer path
-
--- where a chain is asked for, this is that of the issuer path; else no place is told
-abbrev pub IsPathAsked : Bool → Judge → Window → List CertificateElements → KeptCertificate → List ℕ
-    → Type 0
-IsPathAsked true judge w bag signer path = IsVouchedPath judge w bag signer path
-IsPathAsked false judge w bag signer path = path ≡ []
-
--- The certificate of the signer is valid, and a chain above it is linked; or it has expired, which
--- is excused.
-abbrev pub IsStanding : Judge → Policy → SignedDataElements → List CertificateElements
+-- without an excuse the certificate's validity hasn't ended; else it has, which is excused
+abbrev pub LastsOrIsExcused : Judge → Policy → SignedDataElements → List CertificateElements
     → KeptCertificate → List ℕ → Excuse → Type 0
-IsStanding judge policy f bag signer path excuses.None =
-    IsWithinWindow (window_of policy) signer.elements
-    × IsPathAsked policy.chain judge (window_of policy) bag signer path
-IsStanding judge policy f bag signer path excuse =
-    IsExpired (window_of policy) signer.elements × IsExcused judge f bag signer.elements excuse
-    × (path ≡ [])
+LastsOrIsExcused judge policy f bag signer path excuses.None =
+    HasNotEnded (window_of policy) signer.elements
+LastsOrIsExcused judge policy f bag signer path excuse =
+    IsExpired (window_of policy) signer.elements
+    × IsExcused judge policy f bag signer path excuse
+
+-- The certificate of the signer is valid, and where a chain is asked for, the path is that of its
+-- issuers, a chain above it. Its not-after date alone may be excused.
+pub record IsStanding (judge : Judge) (policy : Policy) (f : SignedDataElements)
+    (bag : List CertificateElements) (signer : KeptCertificate) (path : List ℕ)
+    (excuse : Excuse) : Type 0 where
+  pub begun : HasBegun (window_of policy) signer.elements
+  pub lasts : LastsOrIsExcused judge policy f bag signer path excuse
+  pub path_is : IsPathAsked policy.chain judge (window_of policy) bag signer path
 
 -- The certificate of the signer is vouched for: it stands at the place that is told, a date is
 -- given where one is asked for, and it is valid or excused.
@@ -97,7 +91,7 @@ pub record IsUnbegun (policy : Policy) (f : SignedDataElements)
   pub outside : IsOutside (window_of policy) signer cause
   pub told : e ≡ errors.CertError cause
 
--- The certificate of the signer has expired, and nothing excuses it.
+-- The certificate of the signer has expired, and there is no reason to excuse it.
 pub record IsUnexcused (policy : Policy) (f : SignedDataElements)
     (e : AuthenticodeError) : Type 0 where
   pub bag : List CertificateElements
@@ -121,15 +115,23 @@ pub record IsBadlyStamped (judge : Judge) (policy : Policy) (f : SignedDataEleme
   pub expired : IsExpired (window_of policy) signer.elements
   pub stamp : HasBadStamp judge f bag signer.elements e
 
--- The certificate of the signer is valid, a chain is asked for, and one of the issuer path isn't
--- linked.
+-- the certificate is valid; or it has expired, and there is this reason to excuse it
+abbrev pub IsValidOrExcusable : Judge → Policy → SignedDataElements → List CertificateElements
+    → CertificateElements → Excuse → Type 0
+IsValidOrExcusable judge policy f bag c excuses.None = IsWithinWindow (window_of policy) c
+IsValidOrExcusable judge policy f bag c excuse =
+    IsExpired (window_of policy) c × HasReason judge f bag c excuse
+
+-- The certificate of the signer is valid, or there is a reason to excuse its expiry; a chain is
+-- asked for, and one of the issuer path isn't linked.
 pub record IsUnvouched (judge : Judge) (policy : Policy) (f : SignedDataElements)
     (e : AuthenticodeError) : Type 0 where
   pub bag : List CertificateElements
   pub place : ℕ
   pub signer : KeptCertificate
   pub is : IsKeptSigner f bag place signer
-  pub valid : IsWithinWindow (window_of policy) signer.elements
+  pub excuse : Excuse
+  pub valid : IsValidOrExcusable judge policy f bag signer.elements excuse
   pub asked : IsTrue policy.chain
   pub path : List ℕ
   pub is_path : IsIssuerPath bag signer.elements path
@@ -137,7 +139,8 @@ pub record IsUnvouched (judge : Judge) (policy : Policy) (f : SignedDataElements
   pub unlinked : IsUnlinkedAt judge (window_of policy) bag signer path cause
   pub told : e ≡ errors.CertError cause
 
--- The rules of the certificate of a signer, in their order.
+-- The rules of the certificate of a signer, in their order. That of the issuer path is the last, of
+-- an excused signer too.
 abbrev pub signer_rules : Judge → Policy → SignedDataElements → List (Rule AuthenticodeError)
 signer_rules judge policy f =
     LacksSigner f ∷ HasKeyName f ∷ HasUnknownName f ∷ IsUndated policy ∷ IsUnbegun policy f ∷

@@ -1,5 +1,5 @@
 -- What the steps of a check under a policy answer, each by itself.
-use Rattle.std.specs.Prelude.{◌≡◌, Bool, ℕ, List, [], ◌∷◌, Option, Some, None, true, false}
+use Rattle.std.specs.Prelude.{◌≡◌, Bool, ℕ, List, [], ◌∷◌, ◌++◌, Option, Some, None, true, false}
 use Rattle.asn1_types.specs.declared.generalized_time.GeneralizedTime.{GeneralizedTime}
 use Rattle.cms_types.specs.SignedDataElements.{SignedDataElements}
 use Rattle.der_core.specs.Rules.{Rule}
@@ -49,9 +49,13 @@ abbrev pub IsUnlinkedPath : Judge → Window → List CertificateElements → Ke
 IsUnlinkedPath judge w bag signer e =
     (path : List ℕ) × IsIssuerPath bag signer.elements path × IsUnlinkedAt judge w bag signer path e
 
+-- the rules by which the certificate of the signer is valid or there is a reason to excuse it, in
+-- their order
+abbrev pub validity_rules : Judge → Policy → SignedDataElements → List (Rule AuthenticodeError)
+validity_rules judge policy f =
+    IsUnbegun policy f ∷ IsUnexcused policy f ∷ IsBadlyStamped judge policy f ∷ []
+
 -- the rules of the certificate of the signer where it is known and the dates are given, in their
 -- order
 abbrev pub standing_rules : Judge → Policy → SignedDataElements → List (Rule AuthenticodeError)
-standing_rules judge policy f =
-    IsUnbegun policy f ∷ IsUnexcused policy f ∷ IsBadlyStamped judge policy f ∷
-    IsUnvouched judge policy f ∷ []
+standing_rules judge policy f = validity_rules judge policy f ++ IsUnvouched judge policy f ∷ []
