@@ -18,9 +18,8 @@ use Rattle.authenticode_core.specs.Excuses.{AreOthersThan, IsLinkedToken, IsUnli
 use Rattle.authenticode_core.specs.Inside.Linking.{IsBrokenNext, IsLinkedSoFar, IsNextLink, IsNoLink}
 use Rattle.authenticode_core.specs.Inside.OthersCursor.{AreLeft, IsFirstOf}
 use Rattle.authenticode_core.specs.IssuerWalk.{IsIssuerPath}
-use Rattle.authenticode_core.specs.LinkedPath.{StandAt, AreLinkedAt, IsUnlinkedAt}
+use Rattle.authenticode_core.specs.LinkedPath.{StandAt, AreLinkedAt, IsUnlinkedAt, IsVouchedPath}
 use Rattle.authenticode_core.specs.Places.{StandsAt}
-use Rattle.authenticode_core.specs.SignerRules.{IsVouchedPath}
 use Rattle.authenticode_core.specs.declared.path.Linking.{Linking}
 use Rattle.authenticode_core.specs.declared.path.others.Others.{Others}
 

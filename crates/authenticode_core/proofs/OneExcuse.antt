@@ -1,4 +1,4 @@
--- The expiry of a signer's certificate is excused for one reason, or not, or for a bad stamp that is told once.
+-- There is one reason to excuse the expiry of a signer's certificate, or none, or a bad stamp that is told once.
 use Rattle.std.proofs.Common.{◌≡◌, ℕ, List, inl, inr, refl, sym, ap, subst, ◌∙◌}
 use Rattle.cms_types.specs.SignedDataElements.{SignedDataElements}
 use Rattle.der_core.specs.Optional.{members_of}
@@ -7,7 +7,7 @@ use Rattle.x509_core.specs.KeptCertificate.{KeptCertificate}
 use Rattle.x509_core.specs.declared.error.CertError.{CertError}
 use Rattle.x509_types.specs.CertificateElements.{CertificateElements}
 use Rattle.std.specs.Prelude.{length}
-use Rattle.authenticode_core.specs.Excuses.{AreOthersThan, HasBadStamp, HasNoExcuse, HasToken, IsExcused, IsForStamping, IsLinkedToken, IsUnlinkedToken, any_time, places_from}
+use Rattle.authenticode_core.specs.Excuses.{AreOthersThan, HasBadStamp, HasNoExcuse, HasReason, HasToken, IsForStamping, IsLinkedToken, IsUnlinkedToken, any_time, places_from}
 use Rattle.authenticode_core.specs.LinkedPath.{IsUnlinkedAt}
 use Rattle.authenticode_core.specs.SigningRules.{IsBagOf}
 use Rattle.authenticode_core.specs.declared.accepted.Excuse.{Excuse}
@@ -19,23 +19,23 @@ use Rattle.authenticode_core.proofs.OnePath.{kept_at_once, linked_is_not_broken,
 use Rattle.authenticode_core.proofs.Tokens.{token_once}
 use Rattle.authenticode_core.proofs.WalkSteps.{same_others}
 
--- ---- excuses
+-- ---- reasons
 
 module _ (judge : Judge) (f : SignedDataElements) (bag : List CertificateElements) (c : CertificateElements) where
-  pub excuse_once : (a b : Excuse) → IsExcused judge f bag c a → IsExcused judge f bag c b → a ≡ b
-  excuse_once excuses.None b p q = absurd p
-  excuse_once a excuses.None p q = absurd q
-  excuse_once excuses.Bag excuses.Bag p q = refl
-  excuse_once excuses.Bag excuses.Token p q = absurd (q.1 p.1)
-  excuse_once excuses.Token excuses.Bag p q = absurd (p.1 q.1)
-  excuse_once excuses.Token excuses.Token p q = refl
+  pub reason_once : (a b : Excuse) → HasReason judge f bag c a → HasReason judge f bag c b → a ≡ b
+  reason_once excuses.None b p q = absurd p
+  reason_once a excuses.None p q = absurd q
+  reason_once excuses.Bag excuses.Bag p q = refl
+  reason_once excuses.Bag excuses.Token p q = absurd (q.1 p.1)
+  reason_once excuses.Token excuses.Bag p q = absurd (p.1 q.1)
+  reason_once excuses.Token excuses.Token p q = refl
 
-  pub excused_or_not : (x : Excuse) → IsExcused judge f bag c x → HasNoExcuse f bag c → ⊥
-  excused_or_not excuses.None p none = p
-  excused_or_not excuses.Bag p (inl lifetime) = p.0 lifetime
-  excused_or_not excuses.Bag p (inr none) = none.0 p.1
-  excused_or_not excuses.Token p (inl lifetime) = p.0 lifetime
-  excused_or_not excuses.Token p (inr none) = none.1 p.2.t p.2.bag p.2.has p.2.stamping
+  pub reason_or_not : (x : Excuse) → HasReason judge f bag c x → HasNoExcuse f bag c → ⊥
+  reason_or_not excuses.None p none = p
+  reason_or_not excuses.Bag p (inl lifetime) = p.0 lifetime
+  reason_or_not excuses.Bag p (inr none) = none.0 p.1
+  reason_or_not excuses.Token p (inl lifetime) = p.0 lifetime
+  reason_or_not excuses.Token p (inr none) = none.1 p.2.t p.2.bag p.2.has p.2.stamping
 
   pub bad_stamp_is_told : (e : AuthenticodeError) → HasBadStamp judge f bag c e → HasNoExcuse f bag c → ⊥
   bad_stamp_is_told e bad (inl lifetime) = bad.mortal lifetime
@@ -76,10 +76,10 @@ module _ (judge : Judge) (f : SignedDataElements) (bag : List CertificateElement
       let cause = unlinked_token_once judge q.stamping_bag p.cause q.cause (subst (λ (other : List CertificateElements). IsUnlinkedToken judge other p.cause) bags p.unlinked) q.unlinked in
       p.told ∙ ap errors.InvalidTimestampCert cause ∙ sym q.told
 
-  pub bad_stamp_is_no_excuse : (e : AuthenticodeError) (x : Excuse) → HasBadStamp judge f bag c e → IsExcused judge f bag c x → ⊥
-  bad_stamp_is_no_excuse e excuses.None bad p = p
-  bad_stamp_is_no_excuse e excuses.Bag bad p = bad.unnamed p.1
-  bad_stamp_is_no_excuse e excuses.Token bad p =
+  pub bad_stamp_is_no_reason : (e : AuthenticodeError) (x : Excuse) → HasBadStamp judge f bag c e → HasReason judge f bag c x → ⊥
+  bad_stamp_is_no_reason e excuses.None bad p = p
+  bad_stamp_is_no_reason e excuses.Bag bad p = bad.unnamed p.1
+  bad_stamp_is_no_reason e excuses.Token bad p =
       let s = p.2 in
       let bags = same_stamping_bag f s.t bad.t s.bag bad.stamping_bag s.has bad.has s.stamping bad.stamping in
       linked_token_is_not_broken judge bad.stamping_bag bad.cause (subst (λ (other : List CertificateElements). IsLinkedToken judge other) bags s.linked) bad.unlinked

@@ -11,9 +11,8 @@ use Rattle.x509_core.specs.declared.window.Window.{Window}
 use Rattle.x509_core.proofs.OneLink.{link_once}
 use Rattle.x509_core.proofs.UnbrokenLinks.{link_is_met}
 use Rattle.x509_types.specs.CertificateElements.{CertificateElements}
-use Rattle.authenticode_core.specs.LinkedPath.{StandAt, AreLinkedAt, IsUnlinkedAt}
+use Rattle.authenticode_core.specs.LinkedPath.{StandAt, AreLinkedAt, IsUnlinkedAt, IsVouchedPath}
 use Rattle.authenticode_core.specs.Places.{StandsAt}
-use Rattle.authenticode_core.specs.SignerRules.{IsVouchedPath}
 use Rattle.authenticode_core.proofs.WalkSteps.{one_path, same_certificate}
 
 -- kept certificates of the same elements are the same

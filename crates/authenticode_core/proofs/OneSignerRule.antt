@@ -8,14 +8,13 @@ use Rattle.key_core.specs.Verifying.{Judge}
 use Rattle.x509_core.proofs.OneLink.{told_once, window_once}
 use Rattle.x509_core.specs.KeptCertificate.{KeptCertificate}
 use Rattle.x509_core.specs.Link.{IsOutside}
-use Rattle.x509_core.specs.Window.{IsExpired, window_rules}
+use Rattle.x509_core.specs.Window.{window_rules}
 use Rattle.x509_core.specs.declared.window.Window.{Window}
 use Rattle.x509_types.specs.CertificateElements.{CertificateElements}
-use Rattle.authenticode_core.specs.Excuses.{IsExcused}
-use Rattle.authenticode_core.specs.Inside.PolicySteps.{standing_rules}
-use Rattle.authenticode_core.specs.LinkedPath.{IsUnlinkedAt}
+use Rattle.authenticode_core.specs.Inside.PolicySteps.{standing_rules, validity_rules}
+use Rattle.authenticode_core.specs.LinkedPath.{IsPathAsked, IsUnlinkedAt}
 use Rattle.authenticode_core.specs.Policy.{window_of}
-use Rattle.authenticode_core.specs.SignerRules.{HasKeyName, HasUnknownName, IsBadlyStamped, IsKeptSigner, IsPathAsked, IsSignerVouched, IsStanding, IsUnbegun, IsUndated, IsUnexcused, IsUnvouched, signer_rules}
+use Rattle.authenticode_core.specs.SignerRules.{HasKeyName, HasUnknownName, IsBadlyStamped, IsKeptSigner, IsSignerVouched, IsStanding, IsUnbegun, IsUndated, IsUnexcused, IsUnvouched, IsValidOrExcusable, signer_rules}
 use Rattle.authenticode_core.specs.SigningRules.{HasNoCertificate}
 use Rattle.authenticode_core.specs.declared.accepted.Accepted.{Accepted}
 use Rattle.authenticode_core.specs.declared.accepted.Excuse.{Excuse}
@@ -23,10 +22,10 @@ use Rattle.authenticode_core.specs.declared.accepted.Excuse.TheVariants as excus
 use Rattle.authenticode_core.specs.declared.error.AuthenticodeError.TheVariants as errors
 use Rattle.authenticode_core.specs.declared.policy.Policy.{Policy}
 use Rattle.authenticode_core.proofs.FormFields.{signer_once as first_once}
-use Rattle.authenticode_core.proofs.OneExcuse.{bad_stamp_is_no_excuse, excuse_once, excused_or_not, stamp_once}
+use Rattle.authenticode_core.proofs.OneExcuse.{reason_once, stamp_once}
 use Rattle.authenticode_core.proofs.OnePath.{linked_is_not_broken, unlinked_once}
 use Rattle.authenticode_core.proofs.OneSigning.{certificate_once, signer_once}
-use Rattle.authenticode_core.proofs.SignerOrder.{begun_met, dated_met, moved, named_met, named_rules, stamped_at, unbegun_at, unexcused_at, unvouched_at, valid_met, valid_or_expired}
+use Rattle.authenticode_core.proofs.SignerOrder.{dated_met, moved, named_met, named_rules, stamped_at, standing_is_valid, unbegun_at, unexcused_at, unvouched_at, valid_or_expired, validity_met}
 use Rattle.authenticode_core.proofs.WalkSteps.{one_path}
 
 outside_once : (w : Window) (signer : KeptCertificate) → IsToldOnce (IsOutside w signer)
@@ -65,9 +64,9 @@ module _ (judge : Judge) (policy : Policy) (f : SignedDataElements) where
   unvouched_once : IsToldOnce (IsUnvouched judge policy f)
   unvouched_once = λ a b p q.
       let there = unvouched_at judge policy f p.bag p.place p.signer p.is b q in
-      let same = one_path p.bag p.signer.elements p.path there.2 p.is_path there.4 in
+      let same = one_path p.bag p.signer.elements p.path there.1 p.is_path there.3 in
       let unlinked = subst (λ (path : List ℕ). IsUnlinkedAt judge (window_of policy) p.bag p.signer path p.cause) same p.unlinked in
-      p.told ∙ ap errors.CertError (unlinked_once judge (window_of policy) p.bag p.signer there.2 p.cause there.3 unlinked there.5) ∙ sym there.6
+      p.told ∙ ap errors.CertError (unlinked_once judge (window_of policy) p.bag p.signer there.1 p.cause there.2 unlinked there.4) ∙ sym there.5
 
   pub signer_told : AreToldOnce (signer_rules judge policy f)
   signer_told =
@@ -80,28 +79,14 @@ module _ (judge : Judge) (policy : Policy) (f : SignedDataElements) where
     path_met : (path : List ℕ) (chain : Bool) → policy.chain ≡ chain → IsPathAsked chain judge (window_of policy) bag signer path → IsMet (IsUnvouched judge policy f)
     path_met path true on p = λ e broken.
         let there = unvouched_at judge policy f bag place signer is e broken in
-        let same = one_path bag signer.elements there.2 path there.4 p.is_path in
-        linked_is_not_broken judge (window_of policy) bag signer path there.3 p.linked (subst (λ (x : List ℕ). IsUnlinkedAt judge (window_of policy) bag signer x there.3) same there.5)
+        let same = one_path bag signer.elements there.1 path there.3 p.is_path in
+        linked_is_not_broken judge (window_of policy) bag signer path there.2 p.linked (subst (λ (x : List ℕ). IsUnlinkedAt judge (window_of policy) bag signer x there.2) same there.4)
     path_met path false off p = λ e broken. asked_or_not policy.chain off broken.asked
 
-    excuse_met : (x : Excuse) → IsExpired (window_of policy) signer.elements → IsExcused judge f bag signer.elements x → AreMet (standing_rules judge policy f)
-    excuse_met x expired excused = (
-      begun_met judge policy f bag place signer is expired,
-      (
-        λ e broken. excused_or_not judge f bag signer.elements x excused (unexcused_at judge policy f bag place signer is e broken).1,
-        (
-          λ e broken. bad_stamp_is_no_excuse judge f bag signer.elements e x (stamped_at judge policy f bag place signer is e broken).1 excused,
-          (λ e broken. valid_or_expired (window_of policy) signer.elements (unvouched_at judge policy f bag place signer is e broken).0 expired, tt),
-        ),
-      ),
-    )
-
     pub standing_met : (path : List ℕ) (excuse : Excuse) → IsStanding judge policy f bag signer path excuse → AreMet (standing_rules judge policy f)
-    standing_met path excuses.None stands =
-        met_together (IsUnbegun policy f ∷ IsUnexcused policy f ∷ IsBadlyStamped judge policy f ∷ []) (IsUnvouched judge policy f ∷ []) (valid_met judge policy f bag place signer is stands.0)
-        (path_met path policy.chain refl stands.1, tt)
-    standing_met path excuses.Bag stands = excuse_met excuses.Bag stands.0 stands.1
-    standing_met path excuses.Token stands = excuse_met excuses.Token stands.0 stands.1
+    standing_met path excuse stands =
+        let valid = validity_met judge policy f bag place signer is excuse (standing_is_valid judge policy f bag place signer is path excuse stands) in
+        met_together (validity_rules judge policy f) (IsUnvouched judge policy f ∷ []) valid (path_met path policy.chain refl stands.path_is, tt)
 
     -- ---- and is told once
 
@@ -109,23 +94,21 @@ module _ (judge : Judge) (policy : Policy) (f : SignedDataElements) where
     same_asked true p q a b = one_path bag signer.elements p q a.is_path b.is_path
     same_asked false p q a b = a ∙ sym b
 
-    -- an excuse, and no path, where the certificate has expired
-    abbrev IsExcusedBy : List ℕ → Excuse → Type 0
-    IsExcusedBy path x = IsExpired (window_of policy) signer.elements × IsExcused judge f bag signer.elements x × (path ≡ [])
-
-    same_excuse : (p q : List ℕ) (x y : Excuse) → IsExcusedBy p x → IsExcusedBy q y → (p ≡ q) × (x ≡ y)
-    same_excuse p q x y a b = (a.2 ∙ sym b.2, excuse_once judge f bag signer.elements x y a.1 b.1)
+    same_excuse : (x y : Excuse) → IsValidOrExcusable judge policy f bag signer.elements x → IsValidOrExcusable judge policy f bag signer.elements y → x ≡ y
+    same_excuse excuses.None excuses.None a b = refl
+    same_excuse excuses.None excuses.Bag a b = absurd (valid_or_expired (window_of policy) signer.elements a b.0)
+    same_excuse excuses.None excuses.Token a b = absurd (valid_or_expired (window_of policy) signer.elements a b.0)
+    same_excuse excuses.Bag excuses.None a b = absurd (valid_or_expired (window_of policy) signer.elements b a.0)
+    same_excuse excuses.Bag excuses.Bag a b = refl
+    same_excuse excuses.Bag excuses.Token a b = reason_once judge f bag signer.elements excuses.Bag excuses.Token a.1 b.1
+    same_excuse excuses.Token excuses.None a b = absurd (valid_or_expired (window_of policy) signer.elements b a.0)
+    same_excuse excuses.Token excuses.Bag a b = reason_once judge f bag signer.elements excuses.Token excuses.Bag a.1 b.1
+    same_excuse excuses.Token excuses.Token a b = refl
 
     pub standing_once : (p q : List ℕ) (x y : Excuse) → IsStanding judge policy f bag signer p x → IsStanding judge policy f bag signer q y → (p ≡ q) × (x ≡ y)
-    standing_once p q excuses.None excuses.None a b = (same_asked policy.chain p q a.1 b.1, refl)
-    standing_once p q excuses.None excuses.Bag a b = absurd (valid_or_expired (window_of policy) signer.elements a.0 b.0)
-    standing_once p q excuses.None excuses.Token a b = absurd (valid_or_expired (window_of policy) signer.elements a.0 b.0)
-    standing_once p q excuses.Bag excuses.None a b = absurd (valid_or_expired (window_of policy) signer.elements b.0 a.0)
-    standing_once p q excuses.Bag excuses.Bag a b = same_excuse p q excuses.Bag excuses.Bag a b
-    standing_once p q excuses.Bag excuses.Token a b = same_excuse p q excuses.Bag excuses.Token a b
-    standing_once p q excuses.Token excuses.None a b = absurd (valid_or_expired (window_of policy) signer.elements b.0 a.0)
-    standing_once p q excuses.Token excuses.Bag a b = same_excuse p q excuses.Token excuses.Bag a b
-    standing_once p q excuses.Token excuses.Token a b = same_excuse p q excuses.Token excuses.Token a b
+    standing_once p q x y a b =
+        let excuse = same_excuse x y (standing_is_valid judge policy f bag place signer is p x a) (standing_is_valid judge policy f bag place signer is q y b) in
+        (same_asked policy.chain p q a.path_is b.path_is, excuse)
 
   pub signer_met : (a : Accepted) → IsSignerVouched judge policy f a → AreMet (signer_rules judge policy f)
   signer_met a v =

@@ -5,7 +5,7 @@ use Rattle.cms_types.specs.SignerElements.{SignerElements}
 use Rattle.cms_types.specs.SignerInfo.{signer_elements}
 use Rattle.der_core.specs.DerElement.{DerElement}
 use Rattle.der_core.specs.Rules.{Rule, IsMet, IsFirstBroken}
-use Rattle.der_core.proofs.RuleLists.{AreMet, broken_behind}
+use Rattle.der_core.proofs.RuleLists.{AreMet, broken_before, broken_behind}
 use Rattle.key_core.specs.Verifying.{Judge}
 use Rattle.names_core.specs.declared.name.DirectoryName.{DirectoryName}
 use Rattle.x509_core.proofs.OneLink.{window_once}
@@ -24,14 +24,14 @@ use Rattle.x509_core.specs.declared.window.Window.{Window}
 use Rattle.x509_types.specs.CertificateElements.{CertificateElements}
 use Rattle.authenticode_core.specs.ContentRefusal.{of_certificates}
 use Rattle.authenticode_core.specs.Inside.Form.{AreSpelled}
-use Rattle.authenticode_core.specs.Excuses.{HasBadStamp, HasNoExcuse, IsExcused}
-use Rattle.authenticode_core.specs.Inside.PolicySteps.{IsExpiry, IsUnlinkedPath, TellsExpiry, standing_rules}
+use Rattle.authenticode_core.specs.Excuses.{HasBadStamp, HasNoExcuse, HasReason}
+use Rattle.authenticode_core.specs.Inside.PolicySteps.{IsExpiry, IsUnlinkedPath, TellsExpiry, standing_rules, validity_rules}
 use Rattle.authenticode_core.specs.Inside.SigningSteps.{HasSigner}
 use Rattle.authenticode_core.specs.IssuerWalk.{IsIssuerPath}
-use Rattle.authenticode_core.specs.LinkedPath.{IsUnlinkedAt}
+use Rattle.authenticode_core.specs.LinkedPath.{IsPathAsked, IsUnlinkedAt, IsVouchedPath}
 use Rattle.authenticode_core.specs.Policy.{policy_checks, window_of}
 use Rattle.authenticode_core.specs.SignedFields.{IsFirstSigner, signers_of}
-use Rattle.authenticode_core.specs.SignerRules.{HasKeyName, HasUnknownName, IsBadlyStamped, IsKeptSigner, IsPathAsked, IsSignerVouched, IsStanding, IsVouchedPath, IsUnbegun, IsUndated, IsUnexcused, IsUnvouched, LacksSigner, signer_rules}
+use Rattle.authenticode_core.specs.SignerRules.{HasKeyName, HasUnknownName, IsBadlyStamped, IsKeptSigner, IsSignerVouched, IsStanding, IsUnbegun, IsUndated, IsUnexcused, IsUnvouched, IsValidOrExcusable, LacksSigner, signer_rules}
 use Rattle.authenticode_core.specs.SigningRules.{HasNoCertificate, IsBagOf, IsNamedByKey, IsSignerCertificate, RefusesAuthenticodeBy}
 use Rattle.authenticode_core.specs.declared.accepted.Accepted.{Accepted}
 use Rattle.authenticode_core.specs.declared.accepted.Excuse.{Excuse}
@@ -40,7 +40,7 @@ use Rattle.authenticode_core.specs.declared.error.AuthenticodeError.{Authenticod
 use Rattle.authenticode_core.specs.declared.error.AuthenticodeError.TheVariants as errors
 use Rattle.authenticode_core.specs.declared.policy.Policy.{Policy}
 use Rattle.authenticode_core.proofs.FormFields.{signer_is_spelled, signer_once as first_once}
-use Rattle.authenticode_core.proofs.OneExcuse.{bad_stamp_is_told}
+use Rattle.authenticode_core.proofs.OneExcuse.{bad_stamp_is_no_reason, bad_stamp_is_told, reason_or_not}
 use Rattle.authenticode_core.proofs.OneSigning.{certificate_is_met, named_is_met, same_bag, signer_once}
 
 -- ---- the certificate of the signer is one
@@ -175,7 +175,7 @@ module _ (judge : Judge) (policy : Policy) (f : SignedDataElements) where
 
   abbrev pub UnvouchedAt : AuthenticodeError → List CertificateElements → KeptCertificate → Type 0
   UnvouchedAt e bag signer =
-      IsWithinWindow (window_of policy) signer.elements × IsTrue policy.chain × (path : List ℕ) × (cause : CertError) × IsIssuerPath bag signer.elements path × IsUnlinkedAt judge (window_of policy) bag signer path cause
+      IsTrue policy.chain × (path : List ℕ) × (cause : CertError) × IsIssuerPath bag signer.elements path × IsUnlinkedAt judge (window_of policy) bag signer path cause
       × (e ≡ errors.CertError cause)
 
   module _ (bag : List CertificateElements) (place : ℕ) (signer : KeptCertificate) (is : IsKeptSigner f bag place signer) where
@@ -192,14 +192,14 @@ module _ (judge : Judge) (policy : Policy) (f : SignedDataElements) where
 
     pub unvouched_at : (e : AuthenticodeError) → IsUnvouched judge policy f e → UnvouchedAt e bag signer
     unvouched_at e broken =
-        moved (UnvouchedAt e) f broken.bag bag broken.place place broken.signer signer broken.is is (broken.valid, broken.asked, broken.path, broken.cause, broken.is_path, broken.unlinked, broken.told)
+        moved (UnvouchedAt e) f broken.bag bag broken.place place broken.signer signer broken.is is (broken.asked, broken.path, broken.cause, broken.is_path, broken.unlinked, broken.told)
 
     -- ---- what meets them
 
     pub begun_met : IsExpired (window_of policy) signer.elements → IsMet (IsUnbegun policy f)
     begun_met expired = λ e broken. (unbegun_at e broken).0 expired
 
-    pub valid_met : IsWithinWindow (window_of policy) signer.elements → AreMet (IsUnbegun policy f ∷ IsUnexcused policy f ∷ IsBadlyStamped judge policy f ∷ [])
+    valid_met : IsWithinWindow (window_of policy) signer.elements → AreMet (validity_rules judge policy f)
     valid_met valid = (
       λ e broken. let there = unbegun_at e broken in valid_is_met (window_of policy) signer.elements there.2.cause valid there.2.broken,
       (
@@ -208,12 +208,27 @@ module _ (judge : Judge) (policy : Policy) (f : SignedDataElements) where
       ),
     )
 
+    excuse_met : (x : Excuse) → IsExpired (window_of policy) signer.elements → HasReason judge f bag signer.elements x → AreMet (validity_rules judge policy f)
+    excuse_met x expired reason = (
+      begun_met expired,
+      (
+        λ e broken. reason_or_not judge f bag signer.elements x reason (unexcused_at e broken).1,
+        (λ e broken. bad_stamp_is_no_reason judge f bag signer.elements e x (stamped_at e broken).1 reason, tt),
+      ),
+    )
+
+    -- what is valid, or may be excused, breaks no rule before that of the issuer path
+    pub validity_met : (x : Excuse) → IsValidOrExcusable judge policy f bag signer.elements x → AreMet (validity_rules judge policy f)
+    validity_met excuses.None valid = valid_met valid
+    validity_met excuses.Bag valid = excuse_met excuses.Bag valid.0 valid.1
+    validity_met excuses.Token valid = excuse_met excuses.Token valid.0 valid.1
+
     pub unexcused_met : (e : AuthenticodeError) → HasBadStamp judge f bag signer.elements e → IsMet (IsUnexcused policy f)
     unexcused_met e stamp = λ x broken. bad_stamp_is_told judge f bag signer.elements e stamp (unexcused_at x broken).1
 
     -- ---- refusals
 
-    pub unbegun : (cause : CertError) → IsOutside (window_of policy) signer cause → (TellsExpiry cause → ⊥) → RefusesAuthenticodeBy (standing_rules judge policy f) (of_certificates cause)
+    pub unbegun : (cause : CertError) → IsOutside (window_of policy) signer cause → (TellsExpiry cause → ⊥) → RefusesAuthenticodeBy (validity_rules judge policy f) (of_certificates cause)
     unbegun cause outside untold = inl (inl (record {
       bag = bag;
       place = place;
@@ -225,7 +240,7 @@ module _ (judge : Judge) (policy : Policy) (f : SignedDataElements) where
       told = outside_told (window_of policy) signer cause outside;
     }))
 
-    pub unexcused : (cause : CertError) → IsOutside (window_of policy) signer cause → IsExpired (window_of policy) signer.elements → HasNoExcuse f bag signer.elements → RefusesAuthenticodeBy (standing_rules judge policy f) (of_certificates cause)
+    pub unexcused : (cause : CertError) → IsOutside (window_of policy) signer cause → IsExpired (window_of policy) signer.elements → HasNoExcuse f bag signer.elements → RefusesAuthenticodeBy (validity_rules judge policy f) (of_certificates cause)
     unexcused cause outside expired none = inl (inr (
       begun_met expired,
       inl (record {
@@ -241,18 +256,24 @@ module _ (judge : Judge) (policy : Policy) (f : SignedDataElements) where
       }),
     ))
 
-    pub badly_stamped : (e : AuthenticodeError) → IsExpired (window_of policy) signer.elements → HasBadStamp judge f bag signer.elements e → RefusesAuthenticodeBy (standing_rules judge policy f) e
+    pub badly_stamped : (e : AuthenticodeError) → IsExpired (window_of policy) signer.elements → HasBadStamp judge f bag signer.elements e → RefusesAuthenticodeBy (validity_rules judge policy f) e
     badly_stamped e expired stamp =
         inl (inr (begun_met expired, inr (unexcused_met e stamp, inl (record { bag = bag; place = place; signer = signer; is = is; expired = expired; stamp = stamp }))))
 
-    unvouched_told : (cause : CertError) → IsWithinWindow (window_of policy) signer.elements → IsTrue policy.chain → IsUnlinkedPath judge (window_of policy) bag signer cause → (of_certificates cause ≡ errors.CertError cause) ⊎ (cause ≡ cert_errors.Memory)
+    -- a rule of these is one of the rules behind which that of the issuer path stands
+    pub before_path : (e : AuthenticodeError) → RefusesAuthenticodeBy (validity_rules judge policy f) e → RefusesAuthenticodeBy (standing_rules judge policy f) e
+    before_path e (inl broken) = inl (broken_before (validity_rules judge policy f) (IsUnvouched judge policy f ∷ []) e broken)
+    before_path e (inr memory) = inr memory
+
+    unvouched_told : (x : Excuse) (cause : CertError) → IsValidOrExcusable judge policy f bag signer.elements x → IsTrue policy.chain → IsUnlinkedPath judge (window_of policy) bag signer cause → (of_certificates cause ≡ errors.CertError cause) ⊎ (cause ≡ cert_errors.Memory)
         → RefusesAuthenticodeBy (standing_rules judge policy f) (of_certificates cause)
-    unvouched_told cause valid asked unlinked (inl told) =
-        inl (broken_behind (IsUnbegun policy f ∷ IsUnexcused policy f ∷ IsBadlyStamped judge policy f ∷ []) (IsUnvouched judge policy f ∷ []) (of_certificates cause) (valid_met valid) (inl (record {
+    unvouched_told x cause valid asked unlinked (inl told) =
+        inl (broken_behind (validity_rules judge policy f) (IsUnvouched judge policy f ∷ []) (of_certificates cause) (validity_met x valid) (inl (record {
           bag = bag;
           place = place;
           signer = signer;
           is = is;
+          excuse = x;
           valid = valid;
           asked = asked;
           path = unlinked.0;
@@ -261,10 +282,10 @@ module _ (judge : Judge) (policy : Policy) (f : SignedDataElements) where
           unlinked = unlinked.2;
           told = told;
         })))
-    unvouched_told cause valid asked unlinked (inr memory) = inr (ap of_certificates memory)
+    unvouched_told x cause valid asked unlinked (inr memory) = inr (ap of_certificates memory)
 
-    pub unvouched : (cause : CertError) → IsWithinWindow (window_of policy) signer.elements → IsTrue policy.chain → IsUnlinkedPath judge (window_of policy) bag signer cause → RefusesAuthenticodeBy (standing_rules judge policy f) (of_certificates cause)
-    unvouched cause valid asked unlinked = unvouched_told cause valid asked unlinked (told_of_certificates cause)
+    pub unvouched : (x : Excuse) (cause : CertError) → IsValidOrExcusable judge policy f bag signer.elements x → IsTrue policy.chain → IsUnlinkedPath judge (window_of policy) bag signer cause → RefusesAuthenticodeBy (standing_rules judge policy f) (of_certificates cause)
+    unvouched x cause valid asked unlinked = unvouched_told x cause valid asked unlinked (told_of_certificates cause)
 
     -- ---- what isn't valid
 
@@ -277,29 +298,40 @@ module _ (judge : Judge) (policy : Policy) (f : SignedDataElements) where
     pub has_expired : (cause : CertError) → Breaks (IsOutside (window_of policy) signer) cause → TellsExpiry cause → IsExpired (window_of policy) signer.elements
     has_expired cause breaks tells = expired_if_told (window_of policy) signer cause (expired_by cause breaks tells) tells
 
-    pub unbegun_or_memory : (cause : CertError) → Breaks (IsOutside (window_of policy) signer) cause → (TellsExpiry cause → ⊥) → RefusesAuthenticodeBy (standing_rules judge policy f) (of_certificates cause)
+    pub unbegun_or_memory : (cause : CertError) → Breaks (IsOutside (window_of policy) signer) cause → (TellsExpiry cause → ⊥) → RefusesAuthenticodeBy (validity_rules judge policy f) (of_certificates cause)
     unbegun_or_memory cause (inl outside) untold = unbegun cause outside untold
     unbegun_or_memory cause (inr memory) untold = inr (ap of_certificates memory)
 
-    pub no_excuse : (cause : CertError) → Breaks (IsOutside (window_of policy) signer) cause → TellsExpiry cause → HasNoExcuse f bag signer.elements → RefusesAuthenticodeBy (standing_rules judge policy f) (of_certificates cause)
+    pub no_excuse : (cause : CertError) → Breaks (IsOutside (window_of policy) signer) cause → TellsExpiry cause → HasNoExcuse f bag signer.elements → RefusesAuthenticodeBy (validity_rules judge policy f) (of_certificates cause)
     no_excuse cause breaks tells none = unexcused cause (expired_by cause breaks tells) (has_expired cause breaks tells) none
 
     pub stamped_or_memory : (cause : CertError) (e : AuthenticodeError) → Breaks (IsOutside (window_of policy) signer) cause → TellsExpiry cause → HasBadStamp judge f bag signer.elements e ⊎ (e ≡ errors.Memory)
-        → RefusesAuthenticodeBy (standing_rules judge policy f) e
+        → RefusesAuthenticodeBy (validity_rules judge policy f) e
     stamped_or_memory cause e breaks tells (inl stamp) = badly_stamped e (has_expired cause breaks tells) stamp
     stamped_or_memory cause e breaks tells (inr memory) = inr memory
 
-    pub unvouched_or_memory : (cause : CertError) → IsWithinWindow (window_of policy) signer.elements → (IsTrue policy.chain × IsUnlinkedPath judge (window_of policy) bag signer cause) ⊎ (cause ≡ cert_errors.Memory)
+    pub unvouched_or_memory : (x : Excuse) (cause : CertError) → IsValidOrExcusable judge policy f bag signer.elements x → (IsTrue policy.chain × IsUnlinkedPath judge (window_of policy) bag signer cause) ⊎ (cause ≡ cert_errors.Memory)
         → RefusesAuthenticodeBy (standing_rules judge policy f) (of_certificates cause)
-    unvouched_or_memory cause valid (inl (asked, unlinked)) = unvouched cause valid asked unlinked
-    unvouched_or_memory cause valid (inr memory) = inr (ap of_certificates memory)
+    unvouched_or_memory x cause valid (inl (asked, unlinked)) = unvouched x cause valid asked unlinked
+    unvouched_or_memory x cause valid (inr memory) = inr (ap of_certificates memory)
 
     -- ---- acceptance
 
-    pub excused_stands : (path : List ℕ) (excuse : Excuse) → IsExpired (window_of policy) signer.elements → IsExcused judge f bag signer.elements excuse → path ≡ [] → IsStanding judge policy f bag signer path excuse
-    excused_stands path excuses.None expired excused empty = absurd excused
-    excused_stands path excuses.Bag expired excused empty = (expired, excused, empty)
-    excused_stands path excuses.Token expired excused empty = (expired, excused, empty)
+    pub reason_is_enough : (x : Excuse) → IsExpired (window_of policy) signer.elements → HasReason judge f bag signer.elements x → IsValidOrExcusable judge policy f bag signer.elements x
+    reason_is_enough excuses.None expired reason = absurd reason
+    reason_is_enough excuses.Bag expired reason = (expired, reason)
+    reason_is_enough excuses.Token expired reason = (expired, reason)
+
+    -- the certificate stands where it is valid or may be excused, and its issuer path is linked where that is asked for
+    pub stands_over : (path : List ℕ) (x : Excuse) → IsValidOrExcusable judge policy f bag signer.elements x → IsPathAsked policy.chain judge (window_of policy) bag signer path → IsStanding judge policy f bag signer path x
+    stands_over path excuses.None valid linked = record { begun = valid.begun; lasts = valid.lasts; path_is = linked }
+    stands_over path excuses.Bag valid linked = record { begun = valid.0.0; lasts = (valid.0, record { reason = valid.1; path_is = linked }); path_is = linked }
+    stands_over path excuses.Token valid linked = record { begun = valid.0.0; lasts = (valid.0, record { reason = valid.1; path_is = linked }); path_is = linked }
+
+    pub standing_is_valid : (path : List ℕ) (x : Excuse) → IsStanding judge policy f bag signer path x → IsValidOrExcusable judge policy f bag signer.elements x
+    standing_is_valid path excuses.None stands = record { begun = stands.begun; lasts = stands.lasts }
+    standing_is_valid path excuses.Bag stands = (stands.lasts.0, stands.lasts.1.reason)
+    standing_is_valid path excuses.Token stands = (stands.lasts.0, stands.lasts.1.reason)
 
     pub vouched_or_not : IsDated (policy_checks policy) → (r : Result Accepted AuthenticodeError)
         → MatchResult r (λ a. (a.signer ≡ Some place) × IsStanding judge policy f bag signer a.path a.excuse) (RefusesAuthenticodeBy (standing_rules judge policy f)) → MatchResult r (IsSignerVouched judge policy f) (RefusesAuthenticodeBy (signer_rules judge policy f))

@@ -5,7 +5,7 @@ ghost use Rattle.cms_types.specs.SignedView.{data_elements};
 ghost use Rattle.der_core.specs.Rules.{OrMemory};
 ghost use Rattle.x509_types.specs.CertificateElements.{CertificateElements};
 ghost use Rattle.x509_types.specs.CertificateView.{view_elements};
-ghost use Rattle.authenticode_core.specs.Excuses.{HasBadStamp, HasNoExcuse, IsExcused, IsForStamping, IsLinkedToken, NamesTimeStamping};
+ghost use Rattle.authenticode_core.specs.Excuses.{HasBadStamp, HasNoExcuse, HasReason, IsForStamping, IsLinkedToken, NamesTimeStamping};
 ghost use Rattle.authenticode_core.specs.Inside.ExcuseSteps.{LeadsStamping, TellsUnlinked};
 ghost use Rattle.authenticode_core.specs.Places.{StandsAt};
 ghost use Rattle.authenticode_core.specs.SigningRules.{IsBagOf};
@@ -27,8 +27,9 @@ use std::alloc::Global;
 use x509_core::CertError;
 use x509_types::CertView;
 
-/// Why the expiry of the certificate of a signer is excused, if it is. Memory is taken only to link
-/// the certificates of a token, which are asked for last.
+/// The reason to excuse the expiry of the certificate of a signer, if there is one. Its issuer path
+/// isn't looked at. Memory is taken only to link the certificates of a token, which are asked for
+/// last.
 pub(crate) fn excuse_of<S: Scheme>(
     alloc: Global,
     signed_data: &SignedView<'_>,
@@ -39,7 +40,7 @@ pub(crate) fn excuse_of<S: Scheme>(
         → MatchResult result
         (λ found. MatchOption found
         (HasNoExcuse (data_elements signed_data.now) bag (view_elements signer.now))
-        (IsExcused (S.judge scheme.now) (data_elements signed_data.now) bag
+        (HasReason (S.judge scheme.now) (data_elements signed_data.now) bag
         (view_elements signer.now)))
         (OrMemory errors.Memory (HasBadStamp (S.judge scheme.now) (data_elements signed_data.now)
         bag (view_elements signer.now))) }

@@ -11,9 +11,8 @@ ghost use Rattle.authenticode_core.specs.Excuses.{IsLinkedToken, IsUnlinkedToken
 ghost use Rattle.authenticode_core.specs.Inside.Linking.{IsBrokenNext, IsLinkedSoFar, IsNextLink, IsNoLink};
 ghost use Rattle.authenticode_core.specs.Inside.OthersCursor.{AreLeft};
 ghost use Rattle.authenticode_core.specs.IssuerWalk.{IsIssuerPath};
-ghost use Rattle.authenticode_core.specs.LinkedPath.{AreLinkedAt, IsUnlinkedAt};
+ghost use Rattle.authenticode_core.specs.LinkedPath.{AreLinkedAt, IsUnlinkedAt, IsVouchedPath};
 ghost use Rattle.authenticode_core.specs.Places.{StandsAt};
-ghost use Rattle.authenticode_core.specs.SignerRules.{IsVouchedPath};
 ghost use Rattle.authenticode_core.specs.SigningRules.{IsBagOf};
 
 pub(crate) mod issuer_walk;

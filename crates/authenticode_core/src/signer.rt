@@ -8,17 +8,16 @@ ghost use Rattle.der_core.specs.Rules.{OrMemory};
 ghost use Rattle.x509_core.specs.KeptCertificate.{KeptCertificate};
 ghost use Rattle.x509_core.specs.Link.{IsOutside};
 ghost use Rattle.x509_core.specs.Rules.{Breaks};
-ghost use Rattle.x509_core.specs.Window.{IsExpired};
 ghost use Rattle.x509_core.specs.declared.error.CertError.TheVariants as cert_errors;
 ghost use Rattle.x509_types.specs.CertificateElements.{CertificateElements};
 ghost use Rattle.x509_types.specs.CertificateView.{view_elements};
-ghost use Rattle.authenticode_core.specs.Excuses.{IsExcused};
 ghost use Rattle.authenticode_core.specs.Inside.Form.{AreSpelled};
-ghost use Rattle.authenticode_core.specs.Inside.PolicySteps.{IsExpiry, IsUnlinkedPath, TellsExpiry, standing_rules};
+ghost use Rattle.authenticode_core.specs.Inside.PolicySteps.{IsExpiry, IsUnlinkedPath, TellsExpiry, standing_rules, validity_rules};
 ghost use Rattle.authenticode_core.specs.Inside.SigningSteps.{HasSigner, HasSignerAt};
+ghost use Rattle.authenticode_core.specs.LinkedPath.{IsPathAsked};
 ghost use Rattle.authenticode_core.specs.Policy.{window_of};
 ghost use Rattle.authenticode_core.specs.SignedFields.{IsFirstSigner};
-ghost use Rattle.authenticode_core.specs.SignerRules.{IsKeptSigner, IsPathAsked, IsSignerVouched, IsStanding, LacksSigner, signer_rules};
+ghost use Rattle.authenticode_core.specs.SignerRules.{IsKeptSigner, IsSignerVouched, IsStanding, IsValidOrExcusable, LacksSigner, signer_rules};
 ghost use Rattle.authenticode_core.specs.SigningRules.{HasNoCertificate, IsBagOf, IsNamedByKey, RefusesAuthenticodeBy};
 
 pub(crate) mod bag;
@@ -43,9 +42,9 @@ use x509_types::CertView;
 
 /// The certificate of the first signer is vouched for under a policy. The first of these is
 /// answered that doesn't hold: there is a signer; some certificate is named; a date is given where
-/// one is asked for; the certificate is valid, or its expiry is excused; where a chain is asked
-/// for, and nothing is excused, the certificates of the issuer path are linked. The place of the
-/// certificate may be known.
+/// one is asked for; the certificate is valid, or there is a reason to excuse its expiry; where a
+/// chain is asked for, the certificates of the issuer path are linked, of an excused signer too.
+/// The place of the certificate may be known.
 pub(crate) fn expect_signer<S: Scheme>(
     alloc: Global,
     signed_data: &SignedView<'_>,
@@ -111,8 +110,8 @@ fn expect_named<'a>(
     }
 }
 
-/// The certificate of the signer is valid, and those of the issuer path are linked where that is
-/// asked for; or it has expired, which is excused. What is kept of it is handed in.
+/// The certificate of the signer is valid, or its expiry is excused; and those of the issuer path
+/// are linked where that is asked for. What is kept of it is handed in.
 fn expect_standing<S: Scheme>(
     alloc: Global,
     signed_data: &SignedView<'_>,
@@ -131,24 +130,45 @@ fn expect_standing<S: Scheme>(
         (RefusesAuthenticodeBy
         (standing_rules (S.judge scheme.now) policy.now (data_elements signed_data.now))) }
 {
+    let excuse = expect_validity(
+        alloc,
+        signed_data,
+        &named.certificate,
+        &signer,
+        policy,
+        scheme,
+    )?;
+    let path = asked_path(alloc, signed_data, signer, policy, scheme)?;
+    Ok(Accepted {
+        signer: Some(named.place),
+        path,
+        excuse,
+    })
+}
+
+/// The certificate of the signer is valid, or there is a reason to excuse its expiry. It is handed
+/// in twice, where its octets lie and as it is kept.
+fn expect_validity<S: Scheme>(
+    alloc: Global,
+    signed_data: &SignedView<'_>,
+    view: &CertView<'_>,
+    signer: &Cert,
+    policy: &Policy,
+    scheme: &S,
+) -> Result<Excuse, AuthenticodeError>
+    requires { signer.now.elements ≡ view_elements view.now }
+    ensures { (bag : List CertificateElements) (place : ℕ)
+        → IsKeptSigner (data_elements signed_data.now) bag place signer.now
+        → MatchResult result
+        (IsValidOrExcusable (S.judge scheme.now) policy.now (data_elements signed_data.now) bag
+        signer.now.elements)
+        (RefusesAuthenticodeBy
+        (validity_rules (S.judge scheme.now) policy.now (data_elements signed_data.now))) }
+{
     let checks = policy.checks();
     match signer.expect_valid(alloc, &checks.window) {
-        Ok(()) => {
-            let path = asked_path(alloc, signed_data, signer, policy, scheme)?;
-            Ok(Accepted {
-                signer: Some(named.place),
-                path,
-                excuse: Excuse::None,
-            })
-        }
-        Err(error) => {
-            let excuse = expect_excuse(alloc, signed_data, &named.certificate, error, scheme)?;
-            Ok(Accepted {
-                signer: Some(named.place),
-                path: Places::new(alloc),
-                excuse,
-            })
-        }
+        Ok(()) => Ok(Excuse::None),
+        Err(error) => expect_excuse(alloc, signed_data, view, error, scheme),
     }
 }
 
@@ -173,8 +193,8 @@ fn asked_path<S: Scheme>(
     linked_path(alloc, signed_data, signer, &checks.window, scheme)
 }
 
-/// Why the expiry of the signer's certificate is excused, where this error tells that it isn't
-/// valid.
+/// The reason to excuse the expiry of the signer's certificate, where this error tells that it
+/// isn't valid.
 fn expect_excuse<S: Scheme>(
     alloc: Global,
     signed_data: &SignedView<'_>,
@@ -188,11 +208,10 @@ fn expect_excuse<S: Scheme>(
         → signer'.elements ≡ view_elements signer.now
         → Breaks (IsOutside (window_of policy) signer') error
         → MatchResult result
-        (λ excuse. IsExpired (window_of policy) signer'.elements
-        × IsExcused (S.judge scheme.now) (data_elements signed_data.now) bag signer'.elements
-        excuse)
+        (IsValidOrExcusable (S.judge scheme.now) policy (data_elements signed_data.now) bag
+        signer'.elements)
         (RefusesAuthenticodeBy
-        (standing_rules (S.judge scheme.now) policy (data_elements signed_data.now))) }
+        (validity_rules (S.judge scheme.now) policy (data_elements signed_data.now))) }
 {
     if !tells_expiry(&error) {
         return Err(AuthenticodeError::from(error));

@@ -2,8 +2,8 @@ use Rattle.std.proofs.Common.{subst, ◌⊎◌, ◌≡◌, MatchResult}
 use Rattle.x509_core.specs.declared.error.CertError.TheVariants as cert_errors
 use Rattle.x509_core.specs.declared.validator.ChainChecks.{ChainChecks}
 use Rattle.authenticode_core.specs.Inside.PolicySteps.{IsUnlinkedPath}
+use Rattle.authenticode_core.specs.LinkedPath.{IsVouchedPath}
 use Rattle.authenticode_core.specs.Policy.{window_of}
-use Rattle.authenticode_core.specs.SignerRules.{IsVouchedPath}
 use Rattle.authenticode_core.proofs.SignerOrder.{asked_path, unasked_path}
 use Rattle.authenticode_core.proofs.signer.asked_path.Goals as goal
 

@@ -3,9 +3,9 @@ use Rattle.std.proofs.lemmas.Bool.{false≢true}
 use Rattle.std.proofs.lemmas.Result.{err_from_is_err_and}
 use Rattle.cms_types.specs.SignedView.{data_elements}
 use Rattle.x509_types.specs.CertificateElements.{CertificateElements}
-use Rattle.authenticode_core.specs.Excuses.{HasBadStamp, HasNoExcuse, IsExcused}
+use Rattle.authenticode_core.specs.Excuses.{HasBadStamp, HasNoExcuse, HasReason}
 use Rattle.authenticode_core.specs.declared.error.AuthenticodeError.TheVariants as errors
-use Rattle.authenticode_core.proofs.SignerOrder.{given, has_expired, no_excuse, none_given, stamped_or_memory, unbegun_or_memory}
+use Rattle.authenticode_core.proofs.SignerOrder.{given, has_expired, no_excuse, none_given, reason_is_enough, stamped_or_memory, unbegun_or_memory}
 use Rattle.authenticode_core.proofs.signer.expect_excuse.Goals as goal
 
 pub returns-then-not-tells_expiry : goal.returns-then-not-tells_expiry
@@ -24,10 +24,9 @@ returns-in_err-excuse g c = λ policy bag place signer is same breaks.
 pub returns-in-Some : goal.returns-in-Some
 returns-in-Some g c = λ policy bag place signer is same breaks.
     let f = data_elements c.args.signed_data.now in
-    let judge = g.S.Scheme.judge c.args.scheme.now in (
-      has_expired judge policy f bag place signer is c.args.error breaks (c.if-not-tells_expiry.ensures.0 refl),
-      subst (λ (x : CertificateElements). IsExcused judge f bag x c.in-Some.excuse) (sym same) (given _ c.in-Some.excuse _ _ c.in-Some.is (c.in_ok-excuse.ensures bag is.is_bag)),
-    )
+    let judge = g.S.Scheme.judge c.args.scheme.now in
+    reason_is_enough judge policy f bag place signer is c.in-Some.excuse (has_expired judge policy f bag place signer is c.args.error breaks (c.if-not-tells_expiry.ensures.0 refl))
+    (subst (λ (x : CertificateElements). HasReason judge f bag x c.in-Some.excuse) (sym same) (given _ c.in-Some.excuse _ _ c.in-Some.is (c.in_ok-excuse.ensures bag is.is_bag)))
 
 pub returns-in-None : goal.returns-in-None
 returns-in-None g c = λ policy bag place signer is same breaks.
