@@ -205,7 +205,7 @@ WORKED = [
     Row("an expired signer, and a later member of another subject for time stamping", file(C0, STAMPED), OVER, accepted(excuse="bag")),
     Row("an expired signer for lifetime signing, and that member", file(replace(C0, extensions=(LIFETIME,)), STAMPED), OVER, expired("Signer")),
     Row("twelve kilobytes", LARGE, IN, accepted(0, "1")),
-    Row("twelve kilobytes, expired", LARGE, OVER, accepted(excuse="token")),
+    Row("twelve kilobytes, expired", LARGE, OVER, accepted(0, "1", "token")),
     Row("every flag and no date", file(SIGNER, I), ALL, NO_DATE),
     Row("every flag but those of dates, and no date", file(SIGNER, I), ALL._replace(**NO_DATES), accepted(0, "1")),
 ]
@@ -339,7 +339,7 @@ WINDOWS = [
     Row("the ends exchanged, later than both", TURNED, at("2027-01-01"), expired(ends="2024-01-01", now="2027-01-01")),
     Row("the ends exchanged, earlier than both", TURNED, at("2023-01-01"), not_yet("S", "2026-01-01", "2023-01-01")),
     Row("not yet valid and expired is no case of an excuse", TURNED_STAMPED, IN, not_yet("S", "2026-01-01", DAY)),
-    Row("with the first end left out it is", TURNED_STAMPED, at(DAY, **NO_BEFORE), accepted(excuse="bag")),
+    Row("with the first end left out it is", TURNED_STAMPED, at(DAY, **NO_BEFORE), accepted(0, "1", "bag")),
     Row("one moment alone", file(s(begins="20250101000000", ends="20250101000000"), I), IN, accepted(0, "1")),
     Row("before 1950", file(s(begins="19491231235959"), I), at("1949-12-31T23:59:59"), not_yet("I", FIRST, "1949-12-31T23:59:59")),
     Row("from 1949 on", file(s(begins="19491231235959"), i(begins="19491231235959")), at("1950-01-01"), accepted(0, "1")),
@@ -368,7 +368,7 @@ INTERVALS = [
     Row("an interval in which signer and parent are never valid together", file(s(ends="20210101000000"), i(begins="20290101000000")), at(FIRST, LAST), accepted(0, "1")),
     Row("an interval before the parent", file(S, i(begins="20290101000000")), at(FIRST, DAY), not_yet("I", "2029-01-01", DAY)),
     Row("an interval after the parent", file(S, i(ends="20210101000000")), at(DAY, LAST), expired("I", "2021-01-01", DAY)),
-    Row("an expired signer excused over an interval", file(S, I, T), at(LATE, LATER), accepted(excuse="bag")),
+    Row("an expired signer excused over an interval", file(S, I, T), at(LATE, LATER), accepted(0, "1", "bag")),
 ]
 
 # The path: places, order, the same subject twice.
@@ -545,26 +545,26 @@ def all_from(place):
 # Excuses.
 
 BAGS = [
-    Row("a member for time stamping behind", file(S, I, T), OVER, accepted(excuse="bag")),
-    Row("in front", file(T, S, I, signer=S), OVER, accepted(1, excuse="bag")),
-    Row("the signer itself, for both", file(s(extensions=(BOTH,)), I), OVER, accepted(excuse="bag")),
-    Row("the signer itself, a usage for each", file(s(extensions=(CODE, STAMP)), I), OVER, accepted(excuse="bag")),
-    Row("the issuer", file(s(extensions=(CODE,)), i(extensions=(STAMP,))), OVER, accepted(excuse="bag")),
-    Row("the second usage of a member", file(S, I, t(extensions=(CODE, STAMP))), OVER, accepted(excuse="bag")),
-    Row("one purpose among others", file(S, I, t(extensions=(usage("1.2.3", TIME_STAMPING, CODE_SIGNING),))), OVER, accepted(excuse="bag")),
-    Row("a critical usage", file(S, I, t(extensions=(usage(TIME_STAMPING, critical=True),))), OVER, accepted(excuse="bag")),
-    Row("the last of many", file(S, I, R, ALONE, ALONE, ALONE, T), OVER, accepted(excuse="bag")),
-    Row("a member expired as well", file(S, I, t(ends="20210101000000")), OVER, accepted(excuse="bag")),
-    Row("a member that isn't valid yet", file(S, I, t(begins="20400101000000", ends="20500101000000")), OVER, accepted(excuse="bag")),
-    Row("a member that nobody signed", file(S, I, t(by=K_X)), OVER, accepted(excuse="bag")),
-    Row("nothing of the path is looked at", file(S, i(ca=False, ends="20210101000000", key_id=None), T), OVER, accepted(excuse="bag")),
-    Row("a signature of the path that isn't accepted", file(s(by=K_X, authority=None), I, T), OVER, accepted(excuse="bag")),
+    Row("a member for time stamping behind", file(S, I, T), OVER, accepted(0, "1", "bag")),
+    Row("in front", file(T, S, I, signer=S), OVER, accepted(1, "2", "bag")),
+    Row("the signer itself, for both", file(s(extensions=(BOTH,)), I), OVER, accepted(0, "1", "bag")),
+    Row("the signer itself, a usage for each", file(s(extensions=(CODE, STAMP)), I), OVER, accepted(0, "1", "bag")),
+    Row("the issuer", file(s(extensions=(CODE,)), i(extensions=(STAMP,))), OVER, accepted(0, "1", "bag")),
+    Row("the second usage of a member", file(S, I, t(extensions=(CODE, STAMP))), OVER, accepted(0, "1", "bag")),
+    Row("one purpose among others", file(S, I, t(extensions=(usage("1.2.3", TIME_STAMPING, CODE_SIGNING),))), OVER, accepted(0, "1", "bag")),
+    Row("a critical usage", file(S, I, t(extensions=(usage(TIME_STAMPING, critical=True),))), OVER, accepted(0, "1", "bag")),
+    Row("the last of many", file(S, I, R, ALONE, ALONE, ALONE, T), OVER, accepted(0, "1,2", "bag")),
+    Row("a member expired as well", file(S, I, t(ends="20210101000000")), OVER, accepted(0, "1", "bag")),
+    Row("a member that isn't valid yet", file(S, I, t(begins="20400101000000", ends="20500101000000")), OVER, accepted(0, "1", "bag")),
+    Row("a member that nobody signed", file(S, I, t(by=K_X)), OVER, accepted(0, "1", "bag")),
+    Row("the path is asked", file(S, i(ca=False, ends="20210101000000", key_id=None), T), OVER, no_authority("I")),
+    Row("a signature of the path that isn't accepted", file(s(by=K_X, authority=None), I, T), OVER, bad_signature("S")),
     Row("no chain asked", file(S, I, T), at(LATER, **NO_CHAIN), accepted(excuse="bag")),
     Row("no chain, no usage", file(S, I), at(LATER, **NO_CHAIN), expired()),
     Row("the last end left out: no excuse is asked", file(S, I, T), at(LATER, **NO_AFTER), accepted(0, "1")),
     Row("within: no excuse is asked", file(S, I, T), IN, accepted(0, "1")),
     Row("not yet valid: none is looked for", file(S, I, T), at(EARLY), not_yet("S", FIRST, EARLY)),
-    Row("basic left out", file(S, I, T), at(LATER, policy=SIGNING), accepted(excuse="bag")),
+    Row("basic left out", file(S, I, T), at(LATER, policy=SIGNING), accepted(0, "1", "bag")),
     Row("a bad signature is told first", without(file(S, I, T), 0), OVER, refused("SignatureError", "signature error: invalid signature")),
     Row("no member for time stamping", file(S, I, R), OVER, expired()),
     Row("a member for any purpose", file(S, I, t(extensions=(usage("2.5.29.37.0"),))), OVER, expired()),
@@ -577,11 +577,11 @@ BAGS = [
     Row("lifetime signing", file(s(extensions=(LIFETIME,)), I, T), OVER, expired()),
     Row("lifetime signing in a second usage", file(s(extensions=(CODE, usage(LIFETIME_SIGNING))), I, T), OVER, expired()),
     Row("lifetime signing and time stamping of the signer", file(s(extensions=(usage(CODE_SIGNING, TIME_STAMPING, LIFETIME_SIGNING),)), I), OVER, expired()),
-    Row("lifetime signing of another member", file(s(extensions=(CODE,)), i(extensions=(usage(LIFETIME_SIGNING),)), T), OVER, accepted(excuse="bag")),
+    Row("lifetime signing of another member", file(s(extensions=(CODE,)), i(extensions=(usage(LIFETIME_SIGNING),)), T), OVER, accepted(0, "1", "bag")),
     Row("lifetime signing within", file(s(extensions=(LIFETIME,)), I, T), IN, accepted(0, "1")),
     Row("lifetime signing, the last end left out", file(s(extensions=(LIFETIME,)), I, T), at(LATER, **NO_AFTER), accepted(0, "1")),
     Row("lifetime signing and a token", file(s(extensions=(LIFETIME,)), I, tokens=(token(T),)), OVER, expired()),
-    Row("lifetime signing of the second of the signer's subject", file(S, s(serial=b"\x02", extensions=(LIFETIME,)), I, T), at(LATER, policy=SIGNING), accepted(excuse="bag")),
+    Row("lifetime signing of the second of the signer's subject", file(S, s(serial=b"\x02", extensions=(LIFETIME,)), I, T), at(LATER, policy=SIGNING), accepted(0, "2", "bag")),
 ]
 
 # Tokens: a stamp F, its issuer G, and the root above that.
@@ -604,7 +604,7 @@ def h(**parts):
 F, G, H = f(), g(), h()
 
 
-def stamped(*members, policy=OVER, said=accepted(excuse="token"), why, **parts):
+def stamped(*members, policy=OVER, said=accepted(0, "1", "token"), why, **parts):
     """A row with a token of these certificates."""
     return Row(f"token: {why}", file(S, I, tokens=(token(*members),), **parts), policy, said)
 
@@ -627,7 +627,7 @@ TOKENS = [
     stamped(F, H, policy=at(LATER, **NO_AFTER), said=accepted(0, "1"), why="with the last end left out nobody asks"),
     stamped(F, H, policy=at(EARLY), said=not_yet("S", FIRST, EARLY), why="not yet valid: none is looked for"),
     stamped(F, G, H, policy=at(LATER, policy=SIGNING), why="basic left out"),
-    stamped(F, G, H, policy=at(LATER, **NO_CHAIN), why="no chain asked"),
+    stamped(F, G, H, policy=at(LATER, **NO_CHAIN), said=accepted(excuse="token"), why="no chain asked"),
     stamped(F, G, H, policy=at(LATER, **NO_BEFORE), why="the first end left out"),
     stamped(F, G, H, policy=at(LATE, LATER), why="an interval"),
     # which certificate stamps
@@ -669,39 +669,93 @@ TOKENS = [
     stamped(F, g(ca=False), policy=at(LATER, **NO_CHAIN), said=bad_stamp(no_authority("G")), why="the chain of a token is asked without the chain"),
     stamped(F, g(ca=False), policy=at(LATER, policy=SIGNING), said=bad_stamp(no_authority("G")), why="and without basic"),
     Row("token: a table without the row of the stamp's certificate", without(file(S, I, tokens=(TOKEN,)), 3), OVER, bad_stamp(bad_signature("F"))),
-    Row("token: a table without the row of the last one's", without(file(S, I, tokens=(TOKEN,)), 5), OVER, accepted(excuse="token")),
+    Row("token: a table without the row of the last one's", without(file(S, I, tokens=(TOKEN,)), 5), OVER, accepted(0, "1", "token")),
     # dates aren't asked
     stamped(*OLD_STAMPS, why="expired as well"),
     stamped(*COMING_STAMPS, why="not yet valid"),
     stamped(f(begins="20260101000000", ends="20240101000000"), G, why="never valid"),
     # what comes first
-    Row("token: a member of the bag excuses, and the token is broken", file(S, I, T, tokens=(token(F, g(ca=False)),)), OVER, accepted(excuse="bag")),
-    Row("token: the path isn't looked at", file(S, i(ca=False, ends="20210101000000"), tokens=(TOKEN,)), OVER, accepted(excuse="token")),
+    Row("token: a member of the bag excuses, and the token is broken", file(S, I, T, tokens=(token(F, g(ca=False)),)), OVER, accepted(0, "1", "bag")),
+    Row("token: the path is asked", file(S, i(ca=False, ends="20210101000000"), tokens=(TOKEN,)), OVER, no_authority("I")),
     Row("token: lifetime signing of the signer, and the token is broken", file(s(extensions=(LIFETIME,)), I, tokens=(token(F, g(ca=False)),)), OVER, expired()),
     Row("token: a parent expired isn't excused", file(S, i(ends="20240101000000"), tokens=(TOKEN,)), IN, expired("I", "2024-01-01", DAY)),
     Row("token: a bad signature is told first", without(file(S, I, tokens=(token(F, g(ca=False)),)), 0), OVER, refused("SignatureError", "signature error: invalid signature")),
     Row("token: the signer behind", file(I, S, signer=S, tokens=(TOKEN,)), OVER, accepted(1, excuse="token")),
     # unsigned attributes
     with_unsigned("none"),
-    with_unsigned("a token", countersigned(TOKEN), tokens=(TOKEN,), said=accepted(excuse="token")),
+    with_unsigned("a token", countersigned(TOKEN), tokens=(TOKEN,), said=accepted(0, "1", "token")),
     with_unsigned("no value", countersigned()),
     with_unsigned("no value, then a token", countersigned(), countersigned(TOKEN), tokens=(TOKEN,)),
     with_unsigned("a counter-signature", counter_signature()),
     with_unsigned("a counter-signature, then a token", counter_signature(), countersigned(TOKEN), tokens=(TOKEN,)),
-    with_unsigned("a token, then a counter-signature", countersigned(TOKEN), counter_signature(), tokens=(TOKEN,), said=accepted(excuse="token")),
+    with_unsigned("a token, then a counter-signature", countersigned(TOKEN), counter_signature(), tokens=(TOKEN,), said=accepted(0, "1", "token")),
     with_unsigned("another kind", attribute("1.2.3", octet_string(b""))),
     with_unsigned("another kind, then a token", attribute("1.2.3", octet_string(b"")), countersigned(TOKEN), tokens=(TOKEN,)),
     with_unsigned("a token of another kind of attribute", attribute("1.2.3", TOKEN.octets()), tokens=(TOKEN,)),
-    with_unsigned("two values, the first stamps", countersigned(TOKEN, PLAIN_TOKEN), tokens=(TOKEN,), said=accepted(excuse="token")),
+    with_unsigned("two values, the first stamps", countersigned(TOKEN, PLAIN_TOKEN), tokens=(TOKEN,), said=accepted(0, "1", "token")),
     with_unsigned("two values, the second stamps", countersigned(PLAIN_TOKEN, TOKEN), tokens=(TOKEN,)),
-    with_unsigned("two values, the second's chain is broken", countersigned(TOKEN, token(F, g(ca=False))), tokens=(TOKEN,), said=accepted(excuse="token")),
+    with_unsigned("two values, the second's chain is broken", countersigned(TOKEN, token(F, g(ca=False))), tokens=(TOKEN,), said=accepted(0, "1", "token")),
     with_unsigned("two values, the first's chain is broken", countersigned(token(F, g(ca=False)), TOKEN), tokens=(TOKEN,), said=bad_stamp(no_authority("G"))),
     with_unsigned("two tokens, the first doesn't stamp", countersigned(PLAIN_TOKEN), countersigned(TOKEN), tokens=(TOKEN,)),
     with_unsigned("a token that is no signed data", attribute("1.3.6.1.4.1.311.3.3.1", sequence()), said=NO_SIGNED_DATA),
     Row("unsigned attributes: those of the second signer", file(S, I, tokens=(TOKEN,), signers=(TWO_SIGNERS[0], Signed(named=S.named(), unsigned=(countersigned(TOKEN),)).signer())),
         at(LATER, policy=SIGNING), expired()),
     Row("unsigned attributes: those of the first of two signers", file(S, I, tokens=(TOKEN,), signers=(Signed(named=S.named(), unsigned=(countersigned(TOKEN),)).signer(), TWO_SIGNERS[0])),
-        at(LATER, policy=SIGNING), accepted(excuse="token")),
+        at(LATER, policy=SIGNING), accepted(0, "1", "token")),
+]
+
+# The issuer path of an excused signer: each rule of each parent, a certificate for time stamping and a token.
+
+OTHER_SIGNER = s(by=K_X, authority=None)
+PATHS = [
+    ("all is well", (S, I, R), accepted(0, "1,2")),
+    ("no parent", (S,), accepted()),
+    ("signed by another key", (OTHER_SIGNER, I, R), bad_signature("S")),
+    ("no authority", (S, i(ca=False), R), no_authority("I")),
+    ("no constraints", (S, i(ca=None), R), no_authority("I")),
+    ("an expired parent", (S, i(ends="20210101000000"), R), expired("I", "2021-01-01")),
+    ("a parent that isn't valid yet", (S, i(begins="20350101000000"), R), not_yet("I", "2035-01-01", LATER)),
+    ("a parent that has no key identifier", (S, i(key_id=None), R), no_key_id("I")),
+    ("a parent of another key identifier", (S, i(key_id=OTHER_ID), R), other_key_id("S", K_I.identifier().hex(), "aabb")),
+    ("the parent signed by another key", (S, i(by=K_X, authority=None), R), bad_signature("I")),
+    ("no authority above", (S, I, r(ca=False)), no_authority("R")),
+    ("an expired root", (S, I, r(ends="20210101000000")), expired("R", "2021-01-01")),
+    ("a path length of 0 above", (S, I, r(length=0)), too_deep("R", 0)),
+    ("a path length of 1 above", (S, I, r(length=1)), accepted(0, "1,2")),
+    ("two parents that have expired", (S, i(ends="20210101000000"), r(ends="20220101000000")), expired("I", "2021-01-01")),
+]
+
+
+def excused(said, excuse):
+    """An answer with the excuse."""
+    return said.replace("excuse=none", f"excuse={excuse}")
+
+
+def excused_paths():
+    """Each path under both excuses, with the chain and without it."""
+    for why, bag, said in PATHS:
+        yield Row(f"bag, its path: {why}", file(*bag, T), OVER, excused(said, "bag"))
+        yield Row(f"bag, its path: {why}, no chain", file(*bag, T), at(LATER, **NO_CHAIN), accepted(excuse="bag"))
+        yield Row(f"token, its path: {why}", file(*bag, tokens=(TOKEN,)), OVER, excused(said, "token"))
+        yield Row(f"token, its path: {why}, no chain", file(*bag, tokens=(TOKEN,)), at(LATER, **NO_CHAIN), accepted(excuse="token"))
+
+
+EXCUSED = [
+    *excused_paths(),
+    # one parent, and the chain left out
+    Row("an expired signer by another key than its parent's, and a member for time stamping", file(OTHER_SIGNER, I, T), OVER, bad_signature("S")),
+    Row("by its parent's key", file(S, I, T), OVER, accepted(0, "1", "bag")),
+    Row("by another key, no chain", file(OTHER_SIGNER, I, T), at(LATER, **NO_CHAIN), accepted(excuse="bag")),
+    # what comes first
+    Row("lifetime signing, and a broken path", file(s(extensions=(LIFETIME,)), i(ca=False), T), OVER, expired()),
+    Row("no excuse, and a broken path", file(S, i(ca=False)), OVER, expired()),
+    Row("a token that isn't linked, and a broken path", file(S, i(ca=False), tokens=(token(F, g(ca=False)),)), OVER, bad_stamp(no_authority("G"))),
+    Row("a member for time stamping, a token that isn't linked, and a broken path", file(S, i(ca=False), T, tokens=(token(F, g(ca=False)),)), OVER, no_authority("I")),
+    # the other window
+    Row("excused over an interval, a parent that ends before it", file(S, i(ends="20300601000000"), T), at("2030-07-01", LATER), expired("I", "2030-06-01", "2030-07-01")),
+    Row("excused over an interval, a parent that begins in it", file(S, i(begins="20300901000000"), T), at("2030-07-01", LATER), accepted(0, "1", "bag")),
+    Row("excused over an interval, a parent that begins behind it", file(S, i(begins="20310601000000"), T), at("2030-07-01", LATER), not_yet("I", "2031-06-01", LATER)),
+    Row("excused, the first end left out, a parent that isn't valid yet", file(S, i(begins="20350101000000"), T), at(LATER, **NO_BEFORE), accepted(0, "1", "bag")),
 ]
 
 
@@ -719,3 +773,4 @@ def rows():
     yield from map(all_from, range(len(FAULTS) - 1))
     yield from BAGS
     yield from TOKENS
+    yield from EXCUSED

@@ -18,8 +18,8 @@ The header and the value are asked under every policy, steps 1 to 13 where it ha
                the one before it.
 
 The path are the certificates of the issuer walk that have another subject than the
-signer's.  Where the signer's certificate is expired, nothing of the path is looked
-at, and an excuse is looked for:
+signer's.  Where the signer's certificate is expired, an excuse is looked for; where
+there is one, the path is asked for as without one:
 
   lifetime     it names lifetime signing: there is none;
   bag          a certificate of the signed data names time stamping;
@@ -220,17 +220,18 @@ def check_signing(signed, policy, table):
     signer, one = signer_of(signed)
     refuse_unless(policy.lower or not (policy.not_before or policy.not_after), "MissingBuilderArgument", "missing required builder argument `now`")
     window = Window(policy.lower, policy.upper or policy.lower, policy.not_before, policy.not_after)
+    excuse = "none"
     try:
         dated(one).expect_valid(window)
     except Refused as refusal:
         if refusal.words[0] != EXPIRED:
             raise
-        return [], excuse_for(signed.bag, signer, one, refusal, table)
+        excuse = excuse_for(signed.bag, signer, one, refusal, table)
     if not policy.chain:
-        return [], "none"
+        return [], excuse
     path = path_of(signed.bag, one)
     expect_chain(dated(one), map(dated, path), window, table)
-    return [place_of(member, signed.bag) for member in path], "none"
+    return [place_of(member, signed.bag) for member in path], excuse
 
 
 # The excuse.
