@@ -23,12 +23,12 @@ abbrev pub window_at : GeneralizedTime → Window
 window_at date = record { date = dates.Exact date; not_before = true; not_after = true }
 
 -- The words are chain TABLE DATE CERT .. The octets of the files CERT are certificates, and the
--- text of the file TABLE is a verdict table, as far as the shelf exposes its files; and exactly
--- these octets and this text were handed out. The first certificate is valid at DATE. Each of the
--- others is, and may have issued the one before it: it is a CA certificate, its path length allows
--- those between, names and key identifiers agree, and the table accepts the signature over the
--- octets in the file. The last is a root. If the sink exposes its contents, exactly the line with
--- the number of these others has been appended.
+-- text of the file TABLE is a verdict table, as far as the shelf exposes its files; and exactly as
+-- many octets as these have together were handed out. The first certificate is valid at DATE. Each
+-- of the others is, and may have issued the one before it: it is a CA certificate, its path length
+-- allows those between, names and key identifiers agree, and the table accepts the signature over
+-- the octets in the file. The last is a root. If the sink exposes its contents, exactly the line
+-- with the number of these others has been appended.
 pub record IsVouchedChain (words : List (List ℕ)) (shelf shelf_now : ShelfState)
     (held held_now : Option (List ℕ)) : Type 0 where
   pub table : List ℕ

@@ -18,9 +18,9 @@ use Rattle.picky_check.specs.Sink.{Appends}
 use Rattle.picky_check.specs.Words.{Basic, Check, AsksFor}
 
 -- The octets of the file SIG contain one signed data, and the text of the file TABLE is a verdict
--- table, as far as the shelf exposes its files; and exactly these octets and this text were handed
--- out. By the verdicts of the table the signed data vouches for the digest HASH, under the key of
--- the signer's certificate, whose index is `accepted.signer`.
+-- table, as far as the shelf exposes its files; and exactly as many octets as these have together
+-- were handed out. By the verdicts of the table the signed data vouches for the digest HASH, under
+-- the key of the signer's certificate, whose index is `accepted.signer`.
 pub record IsVouchedFile (signature table hash : List ℕ) (shelf shelf_now : ShelfState)
     (rows : List VerdictRow) (signed_data : SignedDataElements) (accepted : Accepted)
     : Type 0 where

@@ -14,18 +14,19 @@ total_length contents = sum_by (λ octets. length octets) contents
 abbrev pub HandsOut : (number : ℕ) (before after : ShelfState) → Type 0
 HandsOut number before after = RisesBy number before.given after.given
 
--- At most one octet more than the longest file was handed out of each of this many files.
+-- Of this many files together, at most one octet more than the longest file has was handed out for
+-- each.
 abbrev pub HandsOutAtMost : (files : ℕ) (before after : ShelfState) → Type 0
 HandsOutAtMost files before after = after.given ≤ before.given + files * (longest_file + 1)
 
--- These are the whole files with these names, as far as the shelf exposes its files, and exactly
--- their octets were handed out.
+-- These are the whole files with these names, as far as the shelf exposes its files, and exactly as
+-- many octets as they have together were handed out.
 pub record AreRead (before after : ShelfState) (names contents : List (List ℕ)) : Type 0 where
   pub are_files : AreWholeFiles before.files names contents
   pub given : HandsOut (total_length contents) before after
 
--- One of the files is too long, as far as the shelf exposes its files. Exactly the octets of the
--- earlier files were handed out, and of the long file one octet more than the limit.
+-- One of the files is too long, as far as the shelf exposes its files. Exactly as many octets were
+-- handed out as the earlier files have together, and one more than the limit.
 pub record FindsLongFile (before after : ShelfState) (names : List (List ℕ)) : Type 0 where
   pub ahead : List (List ℕ)
   pub name : List ℕ

@@ -27,7 +27,8 @@ pub fn run<F: Shelf, O: Sink>(alloc: Global, words: &[String], shelf: &mut F, ou
         (O.state out.old).held (O.state out.new).held }
     // Nothing is read if the words are no command.
     ensures unread { AsksForNothing (map string_bytes words.now) → shelf.new ≡ shelf.old }
-    // Whatever the status, at most one octet more than the longest file is read of each file.
+    // Whatever the status, no more is read than one octet more than the longest file for each file
+    // of the command.
     ensures at_most { (job : Job) → AsksFor (map string_bytes words.now) job
         → HandsOutAtMost (length (files_of job)) (F.state shelf.old) (F.state shelf.new) }
     // A failed call of the shelf or of the sink is the last one, and the status reports it.
